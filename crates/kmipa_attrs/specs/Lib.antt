@@ -1,2 +1,4 @@
 pub mod Fields
 pub mod Readings
+pub mod ObjectTypes
+pub mod Sets
