@@ -1,5 +1,5 @@
 -- What the children that are written say.
-use Rattle.std.proofs.Common.{◌≡◌, ◌<◌, ◌+◌, ◌++◌, ◌==◌, ℕ, ℤ, Bool, true, false, cond, List, [], ◌∷◌, map, length, take, get_or, Some, None, Option, refl, sym, ap, ◌∙◌, subst, append_assoc, add-one, suc}
+use Rattle.std.proofs.Common.{◌≡◌, ◌<◌, ◌+◌, ◌++◌, ◌==◌, ℕ, ℤ, Bool, true, false, cond, List, [], ◌∷◌, map, length, take, get_or, Some, None, Option, refl, sym, ap, ◌∙◌, subst, append_assoc, add-one}
 use Rattle.std.proofs.lemmas.List.{append-nil, map-append}
 use Rattle.std.proofs.Math.Seq.{take-suc}
 use Rattle.kmipa_ttlv.specs.Tree.{Tree, Trees, Scalar, structure, scalar, none, more, push, forest}
@@ -9,11 +9,11 @@ use Rattle.kmipa_ttlv.proofs.StandsLemmas.{forest-push}
 use Rattle.kmipa_ttlv.specs.declared.item.Item.{Item}
 use Rattle.kmipa_attrs.specs.Sets.{NameOf, Attributes, name_of}
 use Rattle.kmipa_attrs.specs.declared.name.Name.{Name}
-use Rattle.kmipa_attrs.specs.Names.{as_name, distinct, HasNoRepeats}
+use Rattle.kmipa_attrs.specs.Names.{as_name, HasNoRepeats}
 use Rattle.kmipa_attrs.specs.Fields.{tag_of, first, every, as_structure, as_text, as_integer, as_enumeration, as_date}
-use Rattle.kmipa_attrs.specs.Attributes.{each, Single, SaysNames, SaysAttributes}
+use Rattle.kmipa_attrs.specs.Attributes.{each, Single, SaysAttributes}
 use Rattle.kmipa_attrs.specs.Writing.{name_tree, with_scalar, with_scalars, single_rows, written_children, SaysWhole, each_once}
-use Rattle.kmipa_attrs.proofs.DistinctLemmas.{distinct-same}
+use Rattle.kmipa_attrs.proofs.DistinctLemmas.{distinct-same, distinct-HasNoRepeats}
 
 -- one more at the end
 each_push : {A : Type 0} (how : Tree → Option A) (n : ℕ) (ts : Trees) (t : Tree) → each how n (push ts t) ≡ each how n ts ++ cond (tag_of t == n) (how t ∷ []) []
@@ -101,6 +101,10 @@ written_said a = record {
   destroy = dated_said 0x42_0033 a.destroy _ (each_written as_date 0x42_0033 a refl ∙ append-nil _);
   compromise = dated_said 0x42_0020 a.compromise _ (each_written as_date 0x42_0020 a refl ∙ append-nil _);
 }
+
+-- a set that children say has no repeats
+pub said-HasNoRepeats : (ts : Trees) (a : Attributes) → SaysAttributes ts a → HasNoRepeats a.names
+said-HasNoRepeats ts a h = let P : List NameOf → Type 0 = HasNoRepeats in subst P (sym h.names.1.1) (distinct-HasNoRepeats h.names.0)
 
 -- a set without repeats is itself with each name once
 pub once-same : (a : Attributes) → HasNoRepeats a.names → each_once a ≡ a

@@ -1,4 +1,4 @@
--- The names of tags (KMIP 2.1, section 11.60), those that the profile speaks of.
+-- The names of tags, as the standard writes them (KMIP 2.1, the Tag enumeration), those that the profile speaks of.
 use Rattle.std.specs.Prelude.{ℕ, ◌==◌, cond, List, [], ◌∷◌, codes}
 
 abbrev pub tag_names : List (ℕ × List ℕ)

@@ -1,5 +1,5 @@
 -- The children that say a set of attributes.
-use Rattle.std.specs.Prelude.{◌≡◌, ◌==◌, ℕ, ℤ, cond, List, [], ◌∷◌, ◌++◌, map, Option, Some, None}
+use Rattle.std.specs.Prelude.{◌≡◌, ℕ, ℤ, List, [], ◌∷◌, Option, Some, None}
 use Rattle.std.specs.Option.{option_map}
 use Rattle.kmipa_ttlv.specs.Tree.{Tree, Trees, Scalar, structure, scalar, none, more, push, forest}
 use Rattle.kmipa_ttlv.specs.Tree

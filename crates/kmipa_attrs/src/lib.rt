@@ -27,3 +27,6 @@ pub use readings::{Numbered, both, passing};
 pub use side::Side;
 pub use tags::tag_name;
 pub use writing::write_attrs;
+
+#[cfg(test)]
+mod tests;

@@ -35,7 +35,7 @@ pub(crate) const UNIQUE_IDENTIFIER: u32 = 0x42_0094;
 
 pub(crate) const ATTRIBUTES: u32 = 0x42_0125;
 
-/// The name of a tag that the profile speaks of (KMIP 2.1, section 11.60), else `-`.
+/// The name of a tag that the profile speaks of (KMIP 2.1, the Tag enumeration), else `-`.
 pub fn tag_name(tag: Tag) -> &'static str
     ensures { result.now ≡ tag_name_of tag.number }
 {

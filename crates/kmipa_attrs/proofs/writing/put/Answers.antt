@@ -1,4 +1,4 @@
-use Rattle.std.proofs.Common.{◌≡◌, ◌∙◌, sym, ap}
+use Rattle.std.proofs.Common.{◌∙◌, sym, ap}
 use Rattle.std.specs.Option.{option_map}
 use Rattle.kmipa_ttlv.specs.Tree.{push}
 use Rattle.kmipa_ttlv.specs.ItemTree.{tree, trees}

@@ -1,4 +1,4 @@
-use Rattle.std.proofs.Common.{◌≡◌, ◌∙◌, ap}
+use Rattle.std.proofs.Common.{◌∙◌, ap}
 use Rattle.kmipa_ttlv.specs.ItemTree.{trees}
 use Rattle.kmipa_attrs.proofs.WriteLemmas.{names_written}
 use Rattle.kmipa_attrs.proofs.writing.write_names.Goals as goal
