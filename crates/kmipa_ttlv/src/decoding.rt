@@ -126,7 +126,7 @@ fn read_child(
         head.kind,
         value_of(bytes, head.len),
     )?;
-    Ok((view, 8 + (head.len + 7) / 8 * 8))
+    Ok((view, head.extent()))
 }
 
 /// The item at the front of the bytes, and how many bytes it takes.
@@ -135,7 +135,7 @@ fn read_outermost(alloc: Global, bytes: &[u8]) -> Result<(View<'_>, usize), Ttlv
 {
     let head = outer_head(bytes)?;
     let view = read_value(alloc, 15, 0, head.tag, head.kind, value_of(bytes, head.len))?;
-    Ok((view, 8 + (head.len + 7) / 8 * 8))
+    Ok((view, head.extent()))
 }
 
 fn read_copy(alloc: Global, bytes: &[u8]) -> Result<(Item, usize), TtlvFault>

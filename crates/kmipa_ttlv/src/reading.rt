@@ -1,6 +1,6 @@
 //! What is read from an input: its next item, or all of its bytes.
 
-ghost use Rattle.std.specs.Prelude.{◌≡◌, ◌≤◌, ◌<◌, ◌+◌, ℕ, List, [], ◌∷◌, ◌++◌, true, false, length, vec_len, IsTrue, IfOk, IfErr, IfSome, IfNone, OnOk, ◌⊎◌};
+ghost use Rattle.std.specs.Prelude.{◌≡◌, ◌≤◌, ◌<◌, ◌+◌, ℕ, List, [], ◌∷◌, ◌++◌, true, false, Err, length, vec_len, IsTrue, IfOk, IfErr, IfSome, IfNone, OnOk, ◌⊎◌};
 ghost use Rattle.std.specs.Io.{StartsWith, appended_bytes};
 ghost use Rattle.std.specs.Io.KnownBytes.{Consumes, IsAtEnd};
 ghost use Rattle.kmipa_ttlv.specs.Input.{reader_of, taken_of, is_failed};
@@ -25,7 +25,10 @@ const CHUNK: usize = 65_536;
 /// How many bytes of an item are asked for at once.
 const PIECE: usize = 4096;
 
-/// The next item of an input, or `None` at its end.
+/// The next item of an input, or `None` at its end. The input is then just behind the item.
+///
+/// Errors: the flaw of the bytes that are left (Truncated only where the input ends inside the item), with offsets
+/// from the input's first byte; Device where the input is failed and Memory, with the item's offset.
 pub fn read_item<R: Read>(alloc: Global, input: &mut Input<R>) -> Result<Option<Item>, TtlvFault>
     // The input is left just behind the item.
     ensures item { IfOk result (λ o. IfSome o (λ item. (front : List ℕ) × Spells (tree item) front
@@ -37,12 +40,17 @@ pub fn read_item<R: Read>(alloc: Global, input: &mut Input<R>) -> Result<Option<
         → IsReading came (given ++ tree item ∷ []) (R.remaining (reader_of input.new)) (taken_of input.new))) }
     ensures end { IfOk result (λ o. IfNone o (IsAtEnd (R.remaining (reader_of input.old)))) }
     ensures fault { IfErr result (λ f. ReadTells (taken_of input.old) (R.remaining (reader_of input.old)) (is_failed input.new) f) }
+    ensures works { OnOk result (is_failed input.new ≡ false) }
+    // A failed input answers Device, and stays failed.
+    ensures failed { IsTrue (is_failed input.old) → result ≡ Err (record { offset = taken_of input.old; kind = FaultKind.Device }) }
+    ensures stays { IsTrue (is_failed input.old) → IsTrue (is_failed input.new) }
 {
     let mut bytes = Vec::new(alloc);
     read_item_into(alloc, input, &mut bytes)
 }
 
-/// The next item of an input, or `None` at its end. Its bytes are read into `bytes`.
+/// The same as `read_item`. The item's bytes are read into `bytes`, in place of what is there, so that calls in turn
+/// share one buffer.
 pub fn read_item_into<R: Read>(
     alloc: Global,
     input: &mut Input<R>,
@@ -58,6 +66,10 @@ pub fn read_item_into<R: Read>(
         → IsReading came (given ++ tree item ∷ []) (R.remaining (reader_of input.new)) (taken_of input.new))) }
     ensures end { IfOk result (λ o. IfNone o (IsAtEnd (R.remaining (reader_of input.old)))) }
     ensures fault { IfErr result (λ f. ReadTells (taken_of input.old) (R.remaining (reader_of input.old)) (is_failed input.new) f) }
+    ensures works { OnOk result (is_failed input.new ≡ false) }
+    // A failed input answers Device, and stays failed.
+    ensures failed { IsTrue (is_failed input.old) → result ≡ Err (record { offset = taken_of input.old; kind = FaultKind.Device }) }
+    ensures stays { IsTrue (is_failed input.old) → IsTrue (is_failed input.new) }
 {
     let place = input.taken();
     if !read_bytes(input, bytes)? {
@@ -75,7 +87,8 @@ pub fn read_item_into<R: Read>(
     }
 }
 
-/// Reads the bytes of the next item into `bytes`, and no byte behind them; `false` at the end of the input.
+/// Reads the bytes of the next item into `bytes`, in place of what is there, and no byte behind them; `false` at the
+/// end of the input. The header alone is tested. Errors: those of `read_item` that need no more than the header.
 pub fn read_bytes<R: Read>(input: &mut Input<R>, bytes: &mut Vec<u8>) -> Result<bool, TtlvFault>
     ensures bounded { vec_len bytes.new ≤ 0x10_0000 }
     ensures consumed { OnOk result (Consumes (R.remaining (reader_of input.old)) (R.remaining (reader_of input.new)) bytes.new.items) }
@@ -83,6 +96,10 @@ pub fn read_bytes<R: Read>(input: &mut Input<R>, bytes: &mut Vec<u8>) -> Result<
     ensures whole { IfOk result (λ some. some ≡ true → IsWhole bytes.new.items) }
     ensures end { IfOk result (λ some. some ≡ false → (bytes.new.items ≡ []) × IsAtEnd (R.remaining (reader_of input.new))) }
     ensures fault { IfErr result (λ f. ReadTells (taken_of input.old) (R.remaining (reader_of input.old)) (is_failed input.new) f) }
+    ensures works { OnOk result (is_failed input.new ≡ false) }
+    // A failed input answers Device, and stays failed.
+    ensures failed { IsTrue (is_failed input.old) → result ≡ Err (record { offset = taken_of input.old; kind = FaultKind.Device }) }
+    ensures stays { IsTrue (is_failed input.old) → IsTrue (is_failed input.new) }
 {
     let place = input.taken();
     bytes.clear();
@@ -116,7 +133,7 @@ pub fn read_bytes<R: Read>(input: &mut Input<R>, bytes: &mut Vec<u8>) -> Result<
     Ok(true)
 }
 
-// A fault so many bytes behind this place.
+/// The fault so many bytes behind this place of the input.
 fn placed(place: u64, offset: u64, kind: FaultKind) -> TtlvFault
     ensures { result ≡ record { offset = capped (place + offset); kind = kind } }
 {
@@ -126,19 +143,24 @@ fn placed(place: u64, offset: u64, kind: FaultKind) -> TtlvFault
     }
 }
 
-/// Appends the bytes of the input up to its end. After a fault the bytes that came before it are appended,
-/// and the fault's offset is their number.
+/// Appends the bytes of the input up to its end. Errors: Device where the input is failed, and Memory. The bytes that
+/// came before are then appended, and the fault's offset is their number.
 pub fn read_all<R: Read>(input: &mut Input<R>, out: &mut Vec<u8>) -> Result<(), TtlvFault>
+    // All bytes up to the end.
     ensures whole { OnOk result (IfSome (R.remaining (reader_of input.old))
         (λ xs. out.new.items ≡ out.old.items ++ xs)) }
     ensures end { OnOk result (IsAtEnd (R.remaining (reader_of input.new))) }
     ensures works { OnOk result (is_failed input.new ≡ false) }
+    // What was there stays, and what is appended is what came first, also after a fault.
     ensures appends { StartsWith out.new.items out.old.items }
     ensures front { IfSome (R.remaining (reader_of input.old))
         (λ xs. StartsWith xs (appended_bytes out.old.items out.new.items)) }
     ensures counted { IfErr result (λ fault. vec_len out.new ≡ vec_len out.old + fault.offset) }
     ensures kinds { IfErr result (λ fault. (fault.kind ≡ FaultKind.Device × IsTrue (is_failed input.new))
         ⊎ (fault.kind ≡ FaultKind.Memory)) }
+    // A failed input answers Device, and stays failed.
+    ensures failed { IsTrue (is_failed input.old) → (result ≡ Err (record { offset = 0; kind = FaultKind.Device })) × (out.new.items ≡ out.old.items) }
+    ensures stays { IsTrue (is_failed input.old) → IsTrue (is_failed input.new) }
 {
     let mut chunk = [0u8; CHUNK];
     let mut appended: u64 = 0;
@@ -162,8 +184,8 @@ pub fn read_all<R: Read>(input: &mut Input<R>, out: &mut Vec<u8>) -> Result<(), 
     }
 }
 
-/// Appends the next `most` bytes of the input, or fewer at its end, and answers how many.
-pub fn append_up_to<R: Read>(
+/// Appends the next `most` bytes of the input, or fewer at its end, and answers how many. It reads no further.
+fn append_up_to<R: Read>(
     input: &mut Input<R>,
     most: usize,
     out: &mut Vec<u8>,
@@ -177,6 +199,9 @@ pub fn append_up_to<R: Read>(
     ensures appends { StartsWith out.new.items out.old.items }
     ensures kinds { IfErr result (λ kind. (kind ≡ FaultKind.Device × IsTrue (is_failed input.new))
         ⊎ (kind ≡ FaultKind.Memory)) }
+    ensures works { OnOk result (is_failed input.new ≡ is_failed input.old) }
+    ensures failed { 0 < most → IsTrue (is_failed input.old) → result ≡ Err FaultKind.Device }
+    ensures stays { IsTrue (is_failed input.old) → IsTrue (is_failed input.new) }
 {
     let mut chunk = [0u8; PIECE];
     let mut got: usize = 0;

@@ -1,9 +1,9 @@
-use Rattle.std.proofs.Common.{rules, ◌≡◌, refl, sym, ap, subst, arith, ◌-◌, Some}
+use Rattle.std.proofs.Common.{rules, ◌≡◌, ◌+◌, ℕ, refl, sym, ap, subst, ◌∙◌, arith, ◌-◌, Some}
 use Rattle.std.proofs.lemmas.Result.{err_from_is_err_and}
 use Rattle.kmipa_ttlv.specs.Head.{number_of_kind}
 use Rattle.kmipa_ttlv.specs.ViewTree.{view_tree, view_trees}
 use Rattle.kmipa_ttlv.specs.Tree.{Tree}
-use Rattle.kmipa_ttlv.specs.Spelling.{Holds}
+use Rattle.kmipa_ttlv.specs.Spelling.{Holds, padded, extent}
 use Rattle.kmipa_ttlv.specs.Flaw.{child_flaw, ValueFlaw, FirstFlawed, Flaw}
 use Rattle.kmipa_ttlv.proofs.ViewTreeLemmas.{view_tree_of_structure, view_trees-push}
 use Rattle.kmipa_ttlv.proofs.StandsLemmas.{Tells-weaker, flaw_of_head, flaw_of_value, stands_of, Run-push}
@@ -31,11 +31,12 @@ read_child-returns-in_err-view t c =
 pub read_child-returns : goal.read_child-returns
 read_child-returns t c =
     let h = c.in_ok-head.head in
-    let is = c.in_ok-head.ensures.1 in (
+    let is = c.in_ok-head.ensures.1 in
+    let taken : c.extent.result ≡ extent c.args.bytes.now = c.extent.ensures ∙ ap (λ (n : ℕ). 8 + padded n) (sym is.len) in (
       stands_of c.args.left h.tag.number (number_of_kind h.kind) (view_tree c.in_ok-view.view) c.args.bytes.now c.value_of.result.now c.if-left-eq0.false
           (record { header = is.header; tag_is = is.tag; kind_is = is.kind; whole = is.whole }) c.value_of.ensures.value c.in_ok-view.ensures,
-      rw is.len refl,
-      rw (← is.len) is.whole,
+      taken,
+      omega (arith, taken, is.whole),
     )
 
 pub read_children-loop-rest-preserved : goal.read_children-loop-rest-preserved

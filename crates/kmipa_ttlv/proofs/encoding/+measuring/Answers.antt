@@ -10,7 +10,7 @@ pub spelled_within-returns-then-left-eq0 : goal.spelled_within-returns-then-left
 spelled_within-returns-then-left-eq0 t c = no_level c.args.left (tree c.args.item.now) c.if-left-eq0.true
 
 pub spelled_within-returns : goal.spelled_within-returns
-spelled_within-returns t c = measured_item c.args.left c.in_ok-len.len c.args.item.now.tag.number c.args.item.now.value c.if-left-eq0.false (omega arith) c.if-len.false (c.in_ok-len.ensures c.args.item.now.tag.number)
+spelled_within-returns t c = rw c.padded_len.ensures (measured_item c.args.left c.in_ok-len.len c.args.item.now.tag.number c.args.item.now.value c.if-left-eq0.false (omega arith) c.if-len.false (c.in_ok-len.ensures c.args.item.now.tag.number))
 
 pub value_len-returns-in_err-spelled_all-in-Structure : goal.value_len-returns-in_err-spelled_all-in-Structure
 value_len-returns-in_err-spelled_all-in-Structure t c = rw c.from_residual.ensures (λ tag.

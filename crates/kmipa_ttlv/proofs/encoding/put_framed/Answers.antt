@@ -1,4 +1,4 @@
-use Rattle.std.proofs.Common.{◌+◌, ◌-◌, ◌*◌, ◌/◌, ◌++◌, List, ℕ, length, replicate, ap, ◌∙◌, append_assoc, arith}
+use Rattle.std.proofs.Common.{◌≡◌, ◌+◌, ◌-◌, ◌*◌, ◌/◌, ◌++◌, List, ℕ, length, replicate, take, ap, ◌∙◌, append_assoc, arith}
 use Rattle.std.proofs.lemmas.List.{take-replicate}
 use Rattle.kmipa_ttlv.specs.Head.{number_of_kind}
 use Rattle.kmipa_ttlv.specs.Written.{header, framed}
@@ -9,7 +9,8 @@ unfolding framed header
 returns-clause-items c =
     let n = length c.args.value.now in
     let k = (n + 7) / 8 * 8 - n in
-    let zeros = c.split_at.ensures.front ∙ take-replicate k 7 0 (omega arith) in
+    let count : c.padded_len.result - n ≡ k = ap (λ (m : ℕ). m - n) c.padded_len.ensures in
+    let zeros = c.split_at.ensures.front ∙ ap (λ (m : ℕ). take m (replicate 7 0)) count ∙ take-replicate k 7 0 (omega arith) in
     let h = header c.args.tag.number (number_of_kind c.args.kind) n in
     c.put-2.ensures.items
     ∙ ap (λ (xs : List ℕ). xs ++ c.split_at.result.0.now) (c.put.ensures.items ∙ ap (λ (xs : List ℕ). xs ++ c.args.value.now) c.put_header.ensures.items)
