@@ -26,7 +26,8 @@ pub use frames::Frames;
 pub use input::Input;
 pub use item::{Item, Value};
 pub use laws::{
-    cut_short, decoded_again, joined, no_flaw, no_others, one_flaw, one_list, one_spelling, own_kinds, settled,
+    cut_short, decoded_again, joined, no_flaw, no_others, one_flaw, one_list, one_spelling,
+    own_kinds, settled,
 };
 pub use lending::lend;
 pub use reading::{read_all, read_bytes, read_item, read_item_into};

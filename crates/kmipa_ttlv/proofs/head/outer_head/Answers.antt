@@ -23,8 +23,7 @@ returns-then-bytes-extent c =
 pub returns : goal.returns
 returns c =
     let is = c.in_ok-head.ensures.1 in
-    let bytes = c.args.bytes.now in
-    (
+    let bytes = c.args.bytes.now in (
       outer_passes_whole bytes (omega arith) c.in_ok-head.ensures.0 (omega (arith, is.len)),
       record { header = omega arith; tag = is.tag; kind = is.kind; len = is.len; allowed = is.allowed; whole = omega (arith, is.len) },
       c.in_ok-head.ensures.2,
