@@ -46,14 +46,6 @@ pub child_fails : (place : ℕ) (bytes : List ℕ) (o : ℕ) (k : FaultKind) →
 child_fails place bytes o k long h =
     as_child place bytes ∙ rw (le-ltb (length bytes) 8 long) (shared_fails _ _ place o k _ (sym (as_shared place bytes) ∙ h))
 
-pub child_overruns : (place : ℕ) (bytes : List ℕ) → 8 ≤ length bytes → shared_flaw place bytes ≡ None → length bytes < extent bytes → child_flaw place bytes ≡ Some (place + 4, Overrun)
-child_overruns place bytes long h short =
-    as_child place bytes ∙ rw (le-ltb (length bytes) 8 long, lt-ltb (length bytes) (extent bytes) short) (shared_passes _ _ place (some (place + 4) Overrun) (sym (as_shared place bytes) ∙ h))
-
-pub child_passes : (place : ℕ) (bytes : List ℕ) → 8 ≤ length bytes → shared_flaw place bytes ≡ None → extent bytes ≤ length bytes → child_flaw place bytes ≡ None
-child_passes place bytes long h whole =
-    as_child place bytes ∙ rw (le-ltb (length bytes) 8 long, le-ltb (length bytes) (extent bytes) whole) (shared_passes _ _ place None (sym (as_shared place bytes) ∙ h))
-
 pub head_fails_shared : (bytes : List ℕ) (o : ℕ) (k : FaultKind) → shared_flaw 0 bytes ≡ Some (o, k) → head_flaw bytes ≡ Some (o, k)
 head_fails_shared bytes o k h = as_head bytes ∙ shared_fails _ _ 0 o k _ (sym (as_shared 0 bytes) ∙ h)
 

@@ -1,4 +1,6 @@
-//! Items from bytes.
+//! Items from bytes: what stands at the front of them, or the first test that fails.
+//!
+//! Views are read; `decode` is `decode_view` and a copy.
 
 ghost use Rattle.std.specs.Prelude.{◌≡◌, ◌≢◌, ◌≤◌, ◌<◌, ◌+◌, ℕ, [], length, take, IfOk, IfErr, MatchResult, IsTrue};
 ghost use Rattle.kmipa_ttlv.specs.Head.{number_of_kind};
@@ -138,6 +140,7 @@ fn read_outermost(alloc: Global, bytes: &[u8]) -> Result<(View<'_>, usize), Ttlv
     Ok((view, head.extent()))
 }
 
+/// The same with texts and bytes of its own.
 fn read_copy(alloc: Global, bytes: &[u8]) -> Result<(Item, usize), TtlvFault>
     ensures { MatchResult result (λ x. IsFront (tree x.0) x.1 bytes.now) (λ f. Tells f (OuterFlaw bytes.now)) }
 {
@@ -146,6 +149,9 @@ fn read_copy(alloc: Global, bytes: &[u8]) -> Result<(Item, usize), TtlvFault>
 }
 
 /// The item that the bytes begin with, and how many bytes spell it. Bytes may follow it.
+///
+/// Errors: the first flaw, read from left to right, with its offset from the first byte (Truncated at the number of
+/// bytes that are there); Memory at offset 0. Device is never told.
 pub fn decode(alloc: Global, bytes: &[u8]) -> Result<(Item, usize), TtlvFault>
     // What is read is spelled so.
     ensures found { IfOk result (λ x. (x.1 ≤ length bytes.now) × Spells (tree x.0) (take x.1 bytes.now)) }
@@ -158,7 +164,7 @@ pub fn decode(alloc: Global, bytes: &[u8]) -> Result<(Item, usize), TtlvFault>
     read_copy(alloc, bytes)
 }
 
-/// The same, with texts and bytes lent.
+/// The same item, length and faults as `decode`, with texts and bytes lent: memory is taken for lists of children alone.
 pub fn decode_view(alloc: Global, bytes: &[u8]) -> Result<(View<'_>, usize), TtlvFault>
     ensures found { IfOk result (λ x. (x.1 ≤ length bytes.now) × Spells (view_tree x.0) (take x.1 bytes.now)) }
     ensures only { (t : Tree) (n : ℕ) → n ≤ length bytes.now → Spells t (take n bytes.now)
