@@ -50,8 +50,8 @@ read_children-loop-rest-preserved t c =
 
 pub read_value-returns-in_ok-children-in-Structure : goal.read_value-returns-in_ok-children-in-Structure
 read_value-returns-in_ok-children-in-Structure t c =
-    let tag = c.args.tag.number in
-    subst (λ (tr : Tree). Holds c.args.left tag (number_of_kind c.args.kind) tr c.args.value.now) (sym (view_tree_of_structure tag c.in_ok-children-in-Structure.children)) (refl, ap number_of_kind c.in-Structure.is, c.in_ok-children-in-Structure.ensures)
+    let tag = c.args.head.tag.number in
+    subst (λ (tr : Tree). Holds c.args.left tag (number_of_kind c.args.head.kind) tr c.args.value.now) (sym (view_tree_of_structure tag c.in_ok-children-in-Structure.children)) (refl, ap number_of_kind c.in-Structure.is, c.in_ok-children-in-Structure.ensures)
 
 pub read_children-returns-in_err-child : goal.read_children-returns-in_err-child
 read_children-returns-in_err-child t c =
