@@ -13,7 +13,7 @@ ghost use Rattle.kmipa_ttlv.specs.Tree.{Tree};
 
 use crate::decoding::decode;
 use crate::fault::{FaultKind, TtlvFault};
-use crate::head::outer_extent;
+use crate::head::{HEADER, outer_extent};
 use crate::input::Input;
 use crate::item::Item;
 use std::alloc::Global;
@@ -103,32 +103,20 @@ pub fn read_bytes<R: Read>(input: &mut Input<R>, bytes: &mut Vec<u8>) -> Result<
 {
     let place = input.taken();
     bytes.clear();
-    let got = match append_up_to(input, 8, bytes) {
-        Ok(got) => got,
-        Err(kind) => return Err(TtlvFault {
-            offset: place,
-            kind,
-        }),
-    };
+    let got = append_up_to(input, place, HEADER, bytes)?;
     if got == 0 {
         return Ok(false);
     }
-    if got < 8 {
+    if got < HEADER {
         return Err(placed(place, got as u64, FaultKind::Truncated));
     }
     let all = match outer_extent(bytes) {
         Ok(all) => all,
         Err(fault) => return Err(placed(place, fault.offset, fault.kind)),
     };
-    let more = match append_up_to(input, all - 8, bytes) {
-        Ok(more) => more,
-        Err(kind) => return Err(TtlvFault {
-            offset: place,
-            kind,
-        }),
-    };
-    if more < all - 8 {
-        return Err(placed(place, 8 + more as u64, FaultKind::Truncated));
+    let more = append_up_to(input, place, all - HEADER, bytes)?;
+    if more < all - HEADER {
+        return Err(placed(place, HEADER as u64 + more as u64, FaultKind::Truncated));
     }
     Ok(true)
 }
@@ -184,12 +172,14 @@ pub fn read_all<R: Read>(input: &mut Input<R>, out: &mut Vec<u8>) -> Result<(), 
     }
 }
 
-/// Appends the next `most` bytes of the input, or fewer at its end, and answers how many. It reads no further.
+/// Appends the next `most` bytes of the input, or fewer at its end, and answers how many. It reads no further. The
+/// faults, Device and Memory, are told with this place.
 fn append_up_to<R: Read>(
     input: &mut Input<R>,
+    place: u64,
     most: usize,
     out: &mut Vec<u8>,
-) -> Result<usize, FaultKind>
+) -> Result<usize, TtlvFault>
     ensures counted { IfOk result (λ n. (vec_len out.new ≡ vec_len out.old + n) × (n ≤ most)) }
     ensures taken { IfOk result (λ n. taken_of input.new ≡ taken_of input.old + n) }
     ensures bounded { vec_len out.new ≤ vec_len out.old + most }
@@ -197,10 +187,10 @@ fn append_up_to<R: Read>(
         (R.remaining (reader_of input.new)) (appended_bytes out.old.items out.new.items)) }
     ensures end { IfOk result (λ n. n < most → IsAtEnd (R.remaining (reader_of input.new))) }
     ensures appends { StartsWith out.new.items out.old.items }
-    ensures kinds { IfErr result (λ kind. (kind ≡ FaultKind.Device × IsTrue (is_failed input.new))
-        ⊎ (kind ≡ FaultKind.Memory)) }
+    ensures kinds { IfErr result (λ f. (f.offset ≡ place) × ((f.kind ≡ FaultKind.Device × IsTrue (is_failed input.new))
+        ⊎ (f.kind ≡ FaultKind.Memory))) }
     ensures works { OnOk result (is_failed input.new ≡ is_failed input.old) }
-    ensures failed { 0 < most → IsTrue (is_failed input.old) → result ≡ Err FaultKind.Device }
+    ensures failed { 0 < most → IsTrue (is_failed input.old) → result ≡ Err (record { offset = place; kind = FaultKind.Device }) }
     ensures stays { IsTrue (is_failed input.old) → IsTrue (is_failed input.new) }
 {
     let mut chunk = [0u8; PIECE];
@@ -208,13 +198,19 @@ fn append_up_to<R: Read>(
     'reads: while got < most {
         let want = PIECE.min(most - got);
         let Some(n) = input.read_some(&mut chunk[..want]) else {
-            return Err(FaultKind::Device);
+            return Err(TtlvFault {
+                offset: place,
+                kind: FaultKind::Device,
+            });
         };
         if n == 0 {
             break;
         }
         if out.extend_from_slice(&chunk[..n]).is_err() {
-            return Err(FaultKind::Memory);
+            return Err(TtlvFault {
+                offset: place,
+                kind: FaultKind::Memory,
+            });
         }
         got += n;
     }
