@@ -1,5 +1,5 @@
 -- The tests of headers, in terms of those that outermost items and children share.
-use Rattle.std.proofs.Common.{◌≡◌, ◌≤◌, ◌<◌, ℕ, ◌+◌, List, length, Bool, true, false, cond, not, ltb, Option, None, Some, refl, sym, ◌∙◌, arith}
+use Rattle.std.proofs.Common.{◌≡◌, ◌≤◌, ◌<◌, ℕ, ◌+◌, List, length, Bool, true, false, cond, not, ltb, Option, None, Some, refl, sym, ◌∙◌}
 use Rattle.std.proofs.lemmas.Bool.{le-ltb, lt-ltb}
 use Rattle.kmipa_ttlv.specs.Spelling.{kind_at, len_at, extent}
 use Rattle.kmipa_ttlv.specs.Flaw.{is_kind, allows, child_flaw, outer_flaw, head_flaw, IsLasting, Tells}

@@ -2,7 +2,7 @@
 //!
 //! Views are read; `decode` is `decode_view` and a copy.
 
-ghost use Rattle.std.specs.Prelude.{◌≡◌, ◌≢◌, ◌≤◌, ◌<◌, ◌+◌, ℕ, [], length, take, IfOk, IfErr, MatchResult, IsTrue};
+ghost use Rattle.std.specs.Prelude.{◌≡◌, ◌≢◌, ◌≤◌, ◌+◌, ℕ, [], length, take, IfOk, IfErr, MatchResult, IsTrue};
 ghost use Rattle.kmipa_ttlv.specs.Head.{number_of_kind};
 ghost use Rattle.kmipa_ttlv.specs.ItemTree.{tree};
 ghost use Rattle.kmipa_ttlv.specs.ViewTree.{view_tree, view_trees};

@@ -1,4 +1,4 @@
-use Rattle.std.proofs.Common.{rules, ◌≡◌, ◌≢◌, ◌≤◌, ◌<◌, ◌^◌, ◌+◌, ◌-◌, List, ℕ, length, take, vec_len, arith, sym, refl, subst, ◌∙◌, ap}
+use Rattle.std.proofs.Common.{rules, ◌≡◌, ◌≤◌, ◌+◌, List, ℕ, length, take, vec_len, arith, refl, subst, ◌∙◌, ap}
 use Rattle.kmipa_ttlv.specs.Input.{reader_of, taken_of, is_failed}
 use Rattle.kmipa_ttlv.specs.Spelling.{Spells}
 use Rattle.kmipa_ttlv.specs.ItemTree.{tree}

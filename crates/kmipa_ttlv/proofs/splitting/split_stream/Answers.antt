@@ -1,12 +1,11 @@
-use Rattle.std.proofs.Common.{rules, ◌≡◌, ◌≤◌, ◌+◌, ℕ, List, [], ◌∷◌, ◌++◌, Vec, Global, map, length, take, sym, subst, ap, ◌∙◌, arith, take_all, refl}
+use Rattle.std.proofs.Common.{◌≡◌, ◌+◌, ℕ, List, [], ◌∷◌, ◌++◌, Vec, Global, map, take, sym, subst, ap, ◌∙◌, arith, take_all}
 use Rattle.std.specs.Prelude.{flat_map}
 use Rattle.std.proofs.lemmas.List.{map-append}
 use Rattle.kmipa_ttlv.specs.ItemTree.{tree}
 use Rattle.kmipa_ttlv.specs.Frames.{rest_of, IsAfter}
-use Rattle.kmipa_ttlv.specs.Stream.{Begins, IsBeginningOf, IsCutShort}
+use Rattle.kmipa_ttlv.specs.Stream.{Begins, IsCutShort}
 use Rattle.kmipa_ttlv.specs.Tree.{Tree}
 use Rattle.kmipa_ttlv.specs.declared.fault.FaultKind.TheVariants.{Truncated}
-use Rattle.kmipa_ttlv.specs.declared.item.Item.{Item}
 use Rattle.kmipa_ttlv.proofs.StreamLemmas.{all_given}
 use Rattle.kmipa_ttlv.proofs.ReadLemmas.{no_header}
 use Rattle.kmipa_ttlv.proofs.splitting.split_stream.Goals as goal

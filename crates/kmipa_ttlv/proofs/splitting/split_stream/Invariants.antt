@@ -1,4 +1,4 @@
-use Rattle.std.proofs.Common.{◌≡◌, ◌+◌, length, take, map}
+use Rattle.std.proofs.Common.{◌+◌, length, take, map}
 use Rattle.std.specs.Prelude.{flat_map}
 use Rattle.kmipa_ttlv.specs.ItemTree.{tree}
 use Rattle.kmipa_ttlv.specs.Frames.{rest_of, IsAfter}
