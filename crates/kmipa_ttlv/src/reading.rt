@@ -143,6 +143,10 @@ pub fn read_all<R: Read>(input: &mut Input<R>, out: &mut Vec<u8>) -> Result<(), 
     ensures appends { StartsWith out.new.items out.old.items }
     ensures front { IfSome (R.remaining (reader_of input.old))
         (λ xs. StartsWith xs (appended_bytes out.old.items out.new.items)) }
+    // All bytes that came are appended, save some where memory ran out.
+    ensures taken { OnOk result (taken_of input.new + vec_len out.old ≡ taken_of input.old + vec_len out.new) }
+    ensures kept { IfErr result (λ fault. fault.kind ≡ FaultKind.Device
+        → taken_of input.new + vec_len out.old ≡ taken_of input.old + vec_len out.new) }
     ensures counted { IfErr result (λ fault. vec_len out.new ≡ vec_len out.old + fault.offset) }
     ensures kinds { IfErr result (λ fault. (fault.kind ≡ FaultKind.Device × IsTrue (is_failed input.new))
         ⊎ (fault.kind ≡ FaultKind.Memory)) }

@@ -12,6 +12,7 @@ invariant-reads g l =
     × StartsWith l.out.items l.initial.out.items
     × (is_failed l.input ≡ is_failed l.initial.input)
     × (0 < l.appended → is_failed l.initial.input ≡ false)
+    × (taken_of l.input ≡ taken_of l.initial.input + l.appended)
     × (l.appended ≤ taken_of l.input)
     × Consumes (g.R.Read.remaining (reader_of l.initial.input)) (g.R.Read.remaining (reader_of l.input)) (appended_bytes l.initial.out.items l.out.items)
 
