@@ -1,0 +1,114 @@
+-- The items of requests are read.
+use Rattle.std.proofs.Common.{◌≡◌, ℕ, List, Option, Some, None, Result, Ok, Err, refl, ap, ◌∙◌, inl, inr, ◌⊎◌}
+use Rattle.kmipa_ttlv.specs.Tree.{Tree, Trees}
+use Rattle.kmipa_attrs.specs.Fields.{first, at, inside, or_none, value_in, as_structure, as_enumeration, as_bytes}
+use Rattle.kmipa_attrs.specs.Readings.{Reads, IsWrong, NeededFault, both, map_ok, and_then}
+use Rattle.kmipa_attrs.specs.declared.fields.Field.{Field}
+use Rattle.kmipa_attrs.specs.declared.fields.Field.TheVariants.{Absent, Wrong, There}
+use Rattle.kmipa_attrs.proofs.ReadingLemmas.{reads_both, reads_as, reads_then}
+use Rattle.kmipa_msgs.specs.declared.kind.OutsideKind.{OutsideKind}
+use Rattle.kmipa_msgs.specs.declared.kind.OutsideKind
+use Rattle.kmipa_msgs.specs.declared.kind.OutsideKind.TheVariants.{Missing}
+use Rattle.kmipa_msgs.specs.declared.operation.Operation.{Operation}
+use Rattle.kmipa_msgs.specs.declared.operation.Operation.TheVariants.{Register, Get}
+use Rattle.kmipa_msgs.specs.Kinds.{kind_number}
+use Rattle.kmipa_msgs.specs.Operations.{operation_of}
+use Rattle.kmipa_msgs.specs.Messages.{RegisterOf, AskedOf, registers, gets, asked_of, AskOf}
+use Rattle.kmipa_msgs.specs.declared.request.Asked.{Asked}
+use Rattle.kmipa_msgs.specs.Tables.{children, Listed, Unlisted}
+use Rattle.kmipa_msgs.specs.Registers.{SaysRegister, register_in}
+use Rattle.kmipa_msgs.specs.Gets.{SaysGet, get_in}
+use Rattle.kmipa_msgs.specs.Asks.{SaysAsked, AskedFault, SaysAsk, AskFault, asked_in, unless_wrong, payload_asked, operation_in, ask_at, ask_in}
+use Rattle.kmipa_msgs.specs.Asks.AskFault.{in_operation, in_unread, in_payload, in_asked}
+use Rattle.kmipa_msgs.proofs.TableLemmas.{same_kind, reads_listed, apart_needed, apart_unlisted}
+use Rattle.kmipa_msgs.proofs.ViewLemmas.{seen, right_seen}
+use Rattle.kmipa_msgs.proofs.RegisterLemmas.{reads_register}
+use Rattle.kmipa_msgs.proofs.GetLemmas.{reads_get}
+
+-- what is asked: a clause for each operation
+pub reads_asked : (operation : Operation) (ts : Trees) → Reads kind_number (SaysAsked operation ts) (AskedFault operation ts) (asked_in operation ts)
+reads_asked Register ts = reads_as kind_number _ _ (SaysAsked Register ts) (AskedFault Register ts) registers (register_in ts) (λ x s. s) from (λ k f. f) (λ k f. f) (reads_register ts)
+  where
+    from : (y : AskedOf) → SaysAsked Register ts y → (x : RegisterOf) × SaysRegister ts x × (y ≡ registers x)
+    from (registers x) s = (x, s, refl)
+    from _ s = absurd s
+reads_asked Get ts = reads_as kind_number _ _ (SaysAsked Get ts) (AskedFault Get ts) gets (get_in ts) (λ x s. s) from (λ k f. f) (λ k f. f) (reads_get ts)
+  where
+    from : (y : AskedOf) → SaysAsked Get ts y → (x : Option (List ℕ)) × SaysGet ts x × (y ≡ gets x)
+    from (gets x) s = (x, s, refl)
+    from _ s = absurd s
+
+reads_unless_wrong : {A : Type 0} (f : Field A) (k : OutsideKind) → Reads kind_number (λ (u : Unit {0}). Unit {0}) (λ j. (j ≡ k) × IsWrong f) (unless_wrong f k)
+reads_unless_wrong Absent k = record { said = tt; only = λ y h. refl; right = λ j h. h.1 }
+reads_unless_wrong Wrong k = record { here = (refl, tt); least = λ j lt h. same_kind j k lt h.0 }
+reads_unless_wrong (There x) k = record { said = tt; only = λ y h. refl; right = λ j h. h.1 }
+
+abbrev PayloadFault : Operation → Trees → OutsideKind → Type 0
+PayloadFault operation ts k = ((k ≡ Missing) × IsWrong (at as_structure 0x42_0079 ts)) ⊎ AskedFault operation (inside 0x42_0079 ts) k
+
+reads_payload_asked : (operation : Operation) (ts : Trees) → Reads kind_number (SaysAsked operation (inside 0x42_0079 ts)) (PayloadFault operation ts) (payload_asked operation ts)
+reads_payload_asked operation ts =
+    reads_as kind_number _ _ (SaysAsked operation (inside 0x42_0079 ts)) (PayloadFault operation ts) (λ p. p.1) (both kind_number (unless_wrong (at as_structure 0x42_0079 ts) Missing) (asked_in operation (inside 0x42_0079 ts)))
+    (λ y s. s.1) (λ y t. ((tt, y), (tt, t), refl)) (λ k w. w) (λ k w. w)
+    (reads_both kind_number _ _ _ _ _ _ (reads_unless_wrong (at as_structure 0x42_0079 ts) Missing) (reads_asked operation (inside 0x42_0079 ts)))
+
+pub reads_ask : (t : Tree) → Reads kind_number (SaysAsk t) (AskFault t) (ask_in t)
+unfolding ask_in
+reads_ask t =
+    let ts = children t in
+    let field = at as_enumeration 0x42_005C ts in
+    let off = OutsideKind.TheVariants.Operation in
+    reads_as kind_number _ _ (SaysAsk t) (AskFault t) (ask_at ts) (and_then (λ operation. payload_asked operation ts) (operation_in ts))
+    (λ a s. record { operation = s.0; is = s.1.0; asked = s.1.1; batch_id = refl })
+    (λ y s. (y.asked, (s.operation, (s.is, s.asked)), ap (λ (b : Option (List ℕ)). item b y.asked) s.batch_id))
+    (λ k w. elim w [
+      | inl a ↦ elim a [ inl b ↦ in_operation b | inr b ↦ in_unread b.0 b.1 ]
+      | inr b ↦ elim b.1.1 [ inl c ↦ in_payload b.0 b.1.0 c.0 c.1 | inr c ↦ in_asked b.0 b.1.0 c ]
+    ])
+    (λ k w. elim w [
+      | in_operation a ↦ inl (inl a)
+      | in_unread e a ↦ inl (inr (e, a))
+      | in_payload o l e a ↦ inr (o, (l, inl (e, a)))
+      | in_asked o l a ↦ inr (o, (l, inr a))
+    ])
+    (reads_then kind_number (Listed field operation_of) (λ k. NeededFault field Missing Missing k ⊎ ((k ≡ off) × Unlisted field operation_of)) (λ operation. SaysAsked operation (inside 0x42_0079 ts)) (λ operation. PayloadFault operation ts)
+    (λ operation. payload_asked operation ts) (operation_in ts) (reads_listed field operation_of Missing off) (λ operation. reads_payload_asked operation ts)
+    (λ k x w s. elim w [ inl a ↦ apart_needed field s.number Missing Missing k a s.is | inr b ↦ apart_unlisted field operation_of x b.1 s ]))
+  where
+    item : Option (List ℕ) → AskedOf → AskOf
+    item b a = record { batch_id = b; asked = a }
+
+-- an item as the program has it: no structure, no operation, and one
+whole : Trees → Result AskOf OutsideKind
+whole ts = map_ok (ask_at ts) (and_then (λ operation. payload_asked operation ts) (operation_in ts))
+
+pub no_ask : (t : Tree) → None ≡ as_structure t → Err Missing ≡ ask_in t
+unfolding ask_in whole first
+no_ask t e = ap (λ (o : Option Trees). whole (or_none o)) e
+
+pub no_operation : (t : Tree) (ts : Trees) (k : OutsideKind) → Some ts ≡ as_structure t → Err k ≡ operation_in ts → Err k ≡ ask_in t
+unfolding ask_in whole
+no_operation t ts k e o = ap (λ (r : Result Operation OutsideKind). map_ok (ask_at ts) (and_then (λ operation. payload_asked operation ts) r)) o ∙ ap (λ (u : Option Trees). whole (or_none u)) e
+
+made : Option (List ℕ) → AskedOf → AskOf
+made b a = record { batch_id = b; asked = a }
+
+pub ask_seen : (t : Tree) (ts : Trees) (operation : Operation) (b : Option (List ℕ)) (r : Result AskedOf OutsideKind) → Some ts ≡ as_structure t → Ok operation ≡ operation_in ts
+    → b ≡ value_in (at as_bytes 0x42_0093 ts) → r ≡ payload_asked operation ts → map_ok (λ a. record { batch_id = b; asked = a }) r ≡ ask_in t
+unfolding ask_in whole made
+ask_seen t ts operation b r e o be re =
+    ap (λ (x : Option (List ℕ)). map_ok (made x) r) be
+    ∙ ap (map_ok (ask_at ts)) re
+    ∙ ap (λ (q : Result Operation OutsideKind). map_ok (ask_at ts) (and_then (λ p. payload_asked p ts) q)) o
+    ∙ ap (λ (u : Option Trees). whole (or_none u)) e
+
+-- the payload as the program has it
+abbrev pub asked_view : Unit {0} × Asked → AskedOf
+asked_view p = asked_of p.1
+
+pub seen_asked : (operation : Operation) (ts : Trees) (shape : Result (Unit {0}) OutsideKind) (us : Trees) (asked : Result Asked OutsideKind) (rows : Result (Unit {0} × Asked) OutsideKind)
+    → rows ≡ both kind_number shape asked → shape ≡ unless_wrong (at as_structure 0x42_0079 ts) Missing → map_ok asked_of asked ≡ asked_in operation us → us ≡ inside 0x42_0079 ts
+    → map_ok asked_view rows ≡ payload_asked operation ts
+seen_asked operation ts shape us asked rows e s a u =
+    seen (λ q. q.1) (λ q. (q.0, asked_of q.1)) rows (both kind_number (unless_wrong (at as_structure 0x42_0079 ts) Missing) (asked_in operation (inside 0x42_0079 ts)))
+    (right_seen kind_number asked_of shape asked rows (unless_wrong (at as_structure 0x42_0079 ts) Missing) (asked_in operation (inside 0x42_0079 ts)) e s (a ∙ ap (asked_in operation) u))

@@ -1,0 +1,23 @@
+//! KMIP 2.1 messages: requests and responses, each an item that says exactly this message.
+#![tactic(auto)]
+
+mod fault;
+mod key_block;
+mod kind;
+mod operation;
+mod reading;
+mod request;
+mod response;
+mod rules;
+mod tags;
+mod wanted;
+
+pub use fault::{Outside, ReadFault};
+pub use key_block::{KeyBlock, KeyFormat};
+pub use kind::OutsideKind;
+pub use operation::Operation;
+pub use reading::{read_payload, read_request, read_response};
+pub use request::{Ask, Asked, BatchOption, Get, Register, Request};
+pub use response::{Answer, Got, Payload, Registered, Response, Status};
+pub use rules::{Cause, Row, Rules};
+pub use wanted::is_wanted;
