@@ -1,5 +1,6 @@
 -- Complete inventories, in which each live object has bytes.
-use Rattle.std.specs.Prelude.{◌≡◌, ◌<◌, ◌*◌, ◌%◌, ◌&&◌, ◌==◌, ℕ, ℤ, pos, negsuc, Bool, true, false, nat_lt, if◌then◌else◌, List, length, All, slice_get, Option, Some, None, is_none}
+use Rattle.std.specs.Prelude.{◌≡◌, ◌<◌, ◌*◌, ◌%◌, ◌&&◌, ◌==◌, ℕ, ℤ, pos, negsuc, Bool, true, false, nat_lt, if◌then◌else◌, List, map, length, All, slice_get, bytes_eq, Option, Some, None, is_none}
+use Rattle.std.specs.List.{position_from}
 use Rattle.std.specs.String.{string_bytes}
 use Rattle.kmipa_attrs.specs.Sets.{Attributes, attributes_of}
 use Rattle.kmipa_attrs.specs.declared.object_type.ObjectType.{ObjectType}
@@ -23,6 +24,13 @@ card_of o = record { id = string_bytes o.id; kind = o.kind; given = attributes_o
 pub record Thing : Type 0 where
   pub card : Card
   pub bytes : Option (List ℕ)
+
+abbrev pub cards : List Thing → List Card
+cards things = map (λ (t : Thing). t.card) things
+
+-- the place of the first object with this identifier
+abbrev pub place_of : List ℕ → List Card → Option ℕ
+place_of id cs = position_from (λ (c : Card). bytes_eq id c.id) 0 cs
 
 -- without a Destroy Date
 abbrev pub live : Card → Bool

@@ -1,0 +1,4 @@
+pub mod Ledger
+pub mod Faults
+pub mod Calls
+pub mod Choices
