@@ -2,7 +2,9 @@
 #![tactic(auto)]
 
 mod fault;
+mod laws;
 mod ledger;
 
 pub use fault::StoreFault;
+pub use laws::every_choice_gives_an_inventory;
 pub use ledger::{Ledger, Mark};

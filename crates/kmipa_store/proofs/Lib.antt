@@ -1,0 +1,3 @@
+pub mod InventoryLemmas
+pub mod ChoiceLemmas
+pub mod SoundLemmas
