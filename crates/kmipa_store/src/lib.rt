@@ -4,6 +4,7 @@
 mod fault;
 mod laws;
 mod ledger;
+mod objects;
 
 pub use fault::StoreFault;
 pub use laws::every_choice_gives_an_inventory;
