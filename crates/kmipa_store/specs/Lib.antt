@@ -4,3 +4,6 @@ pub mod Calls
 pub mod Choices
 pub mod Objects
 pub mod Secrets
+pub mod Histories
+pub mod Journal
+pub mod States

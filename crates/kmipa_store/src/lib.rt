@@ -1,12 +1,15 @@
 //! The ledger of an audit: objects, secrets whose bytes may be unknown, and marks to go back to.
 #![tactic(auto)]
 
+mod changes;
 mod fault;
+mod journal;
 mod laws;
 mod ledger;
 mod objects;
 mod secrets;
 
 pub use fault::StoreFault;
+pub use journal::Journal;
 pub use laws::every_choice_gives_an_inventory;
 pub use ledger::{Ledger, Mark};
