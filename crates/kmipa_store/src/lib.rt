@@ -2,6 +2,7 @@
 #![tactic(auto)]
 
 mod changes;
+mod copies;
 mod fault;
 mod journal;
 mod laws;
@@ -9,6 +10,7 @@ mod ledger;
 mod objects;
 mod secrets;
 
+pub use copies::Copies;
 pub use fault::StoreFault;
 pub use journal::Journal;
 pub use laws::every_choice_gives_an_inventory;
