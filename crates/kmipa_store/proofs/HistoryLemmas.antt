@@ -95,7 +95,7 @@ module _ {X C : Type 0} (unmade : X → C → X) where
       ap (λ (n : ℕ). fits n ps) l ∙ f.1
 
   -- one step of rolling back
-  pub roll_step : (x y : X) (cs ds : List C) (c : C) (count : ℕ) → cs ≡ ds ++ c ∷ [] → count < length cs → y ≡ unmade x c
+  roll_step : (x y : X) (cs ds : List C) (c : C) (count : ℕ) → cs ≡ ds ++ c ∷ [] → count < length cs → y ≡ unmade x c
       → (rolled unmade y (take (length ds - count) (reverse ds)) ≡ rolled unmade x (take (length cs - count) (reverse cs))) × (drop (length ds - count) (reverse ds) ≡ drop (length cs - count) (reverse cs)) × (count ≤ length ds)
   roll_step x y cs ds c count e h is =
       let l : length cs ≡ length ds + 1 = ap length e ∙ length-append ds (c ∷ []) in
@@ -106,3 +106,10 @@ module _ {X C : Type 0} (unmade : X → C → X) where
         sym (ap (λ (n : ℕ). drop n (reverse cs)) k ∙ ap (λ (es : List C). drop (suc (length ds - count)) es) r),
         omega arith,
       )
+
+  -- and all steps so far
+  pub roll_on : (x y z : X) (cs ds es : List C) (c : C) (count : ℕ) → cs ≡ ds ++ c ∷ [] → count < length cs → y ≡ unmade x c
+      → rolled unmade x (take (length cs - count) (reverse cs)) ≡ rolled unmade z (take (length es - count) (reverse es))
+      → drop (length cs - count) (reverse cs) ≡ drop (length es - count) (reverse es)
+      → (rolled unmade y (take (length ds - count) (reverse ds)) ≡ rolled unmade z (take (length es - count) (reverse es))) × (drop (length ds - count) (reverse ds) ≡ drop (length es - count) (reverse es)) × (count ≤ length ds)
+  roll_on x y z cs ds es c count e h is f g = let s = roll_step x y cs ds c count e h is in (s.0 ∙ f, s.1 ∙ g, s.2)

@@ -1,22 +1,19 @@
 -- What the calls of a journal leave of its meaning.
-use Rattle.std.proofs.Common.{◌≡◌, ℕ, suc, ◌+◌, ◌-◌, ◌≤◌, Bool, true, false, List, [], ◌∷◌, ◌++◌, length, map, take, drop, reverse, slice_get, Option, Some, None, is_none, not, ◌&&◌, bytes_eq, Result, Ok, Err, MatchOption, option_to_list, refl, ap, sym, ◌∙◌, subst, arith, append-nil}
+use Rattle.std.proofs.Common.{◌≡◌, ℕ, suc, ◌+◌, ◌-◌, ◌≤◌, true, List, [], ◌∷◌, ◌++◌, length, map, take, drop, reverse, slice_get, Option, Some, None, Result, Ok, Err, MatchOption, option_to_list, refl, ap, sym, ◌∙◌, subst, arith, append-nil}
 use Rattle.std.proofs.lemmas.List.{reverse-append, length-reverse}
-use Rattle.std.proofs.lemmas.Bool.{not-false}
-use Rattle.std.proofs.lemmas.Slice.Eq.{bytes_eq-Decides}
-use Rattle.kmipa_object.specs.Inventory.{admits}
-use Rattle.kmipa_object.specs.declared.rule.Rule.{Rule}
-use Rattle.kmipa_object.proofs.ListLemmas.{updated-same}
 use Rattle.kmipa_object.specs.declared.life.Life.{Life}
 use Rattle.kmipa_store.specs.Ledger.{Held, Known, LedgerState, relived, told, changed, marked, kept, undone, undone_from, gone_back, back_from}
-use Rattle.kmipa_store.specs.Calls.{Replaces, Learns, RefusedForMemory, is_unknown, differs, differs_from, breaks}
+use Rattle.kmipa_store.specs.Memory.{RefusedForMemory}
+use Rattle.kmipa_store.specs.Calls.{Replaces, Learns}
 use Rattle.kmipa_store.specs.Secrets.{Judges}
 use Rattle.kmipa_store.specs.Histories.{history, rolled, fits, Logged, Logs, RolledTo}
 use Rattle.kmipa_store.specs.Journal.{object_unmade, secret_unmade, object_places, secret_places, paired, journal_state}
 use Rattle.kmipa_store.specs.declared.fault.StoreFault.{StoreFault}
-use Rattle.kmipa_store.specs.declared.secrets.Lesson.TheVariants.{Old, New}
+use Rattle.kmipa_store.specs.declared.secrets.Lesson.TheVariants.{New}
 use Rattle.kmipa_store.specs.declared.changes.Place.{Place}
 use Rattle.kmipa_store.specs.declared.changes.ObjectChange.{ObjectChange}
 use Rattle.kmipa_store.specs.declared.changes.SecretChange.{SecretChange}
+use Rattle.kmipa_store.proofs.LearnLemmas.{unknown_differs}
 use Rattle.kmipa_store.proofs.HistoryLemmas.{fits_head, fits_rest, fits_rolled, history_logged, history_mark, history_keep, history_rolled}
 
 -- the newest place stands first
@@ -163,14 +160,6 @@ journal_replaces os os1 cs cs1 ks ds ps place life (Err fault) l f =
     let P : StoreFault → Type 0 = λ x. RefusedForMemory x (journal_state os cs ks ds ps) (journal_state os1 cs1 ks ds ps) in
     subst P (sym l.0) (objects_same os os1 cs cs1 ks ds ps l.1 l.2)
 
-none_differs : (known : Option (List ℕ)) (bytes : List ℕ) → is_none known ≡ true → differs_from known bytes ≡ false
-none_differs None bytes h = refl
-none_differs (Some b) bytes h = cc
-
-unknown_differs : (k : Option Known) (bytes : List ℕ) → is_unknown k ≡ true → differs k bytes ≡ false
-unknown_differs None bytes h = refl
-unknown_differs (Some k) bytes h = none_differs k.bytes bytes h
-
 -- what `learn` answers, of bytes that are new
 pub journal_tells : (os : List Held) (cs : List ObjectChange) (ks ks1 : List Known) (ds ds1 : List SecretChange) (ps : List Place) (number : ℕ) (b bytes : List ℕ) (r : Result (Unit {0}) StoreFault)
     → Logs secret_unmade ks ds (told ks number b) r ks1 ds1 → b ≡ bytes → Judges (slice_get ks number) bytes (Ok New) → fits (length ds) (secret_places ps) ≡ true
@@ -180,29 +169,3 @@ journal_tells os cs ks ks1 ds ds1 ps number b bytes (Ok u) l e j f =
 journal_tells os cs ks ks1 ds ds1 ps number b bytes (Err fault) l e j f =
     let P : StoreFault → Type 0 = λ x. Learns (journal_state os cs ks ds ps) number bytes (Err x) (journal_state os cs ks1 ds1 ps) in
     subst P (sym l.0) (j.0, j.1, secrets_same os cs ks ks1 ds ds1 ps l.1 l.2)
-
-known_same : (rule : Rule) (known : Option (List ℕ)) (bytes : List ℕ) → is_none known ≡ false → differs_from known bytes ≡ false
-    → ◌≡◌ {A = Known} (record { rule = rule; bytes = Some bytes }) (record { rule = rule; bytes = known })
-known_same rule None bytes h d = cc
-known_same rule (Some b) bytes h d =
-    let same : bytes_eq b bytes ≡ true = not-false (bytes_eq b bytes) d in
-    let is : b ≡ bytes = (bytes_eq-Decides b bytes).0 same in
-    ap (λ (x : List ℕ). record { rule = rule; bytes = Some x }) (sym is)
-
--- bytes that are known already leave the secrets as they are
-pub told_known : (ks : List Known) (number : ℕ) (bytes : List ℕ) → Judges (slice_get ks number) bytes (Ok Old) → told ks number bytes ≡ ks
-told_known ks number bytes j =
-    updated-same ks number (λ k. record { rule = k.rule; bytes = Some bytes })
-    (λ k e. known_same k.rule k.bytes bytes (ap is_unknown (sym e) ∙ j.0) (ap (λ (o : Option Known). differs o bytes) (sym e) ∙ j.1))
-
-known_breaks : (k : Option Known) (bytes : List ℕ) → is_unknown k ≡ false → breaks k bytes ≡ false
-known_breaks None bytes h = refl
-known_breaks (Some k) bytes h = ap (λ (b : Bool). b && not (admits k.rule bytes)) h
-
--- what `learn` answers, of bytes that are known already
-pub learns_known : (s : LedgerState) (number : ℕ) (bytes : List ℕ) → Judges (slice_get s.now.secrets number) bytes (Ok Old) → Learns s number bytes (Ok tt) s
-learns_known s number bytes j = (
-  j.1,
-  known_breaks (slice_get s.now.secrets number) bytes j.0,
-  ap (λ (ks : List Known). record { now = record { objects = s.now.objects; secrets = ks }; marks = s.marks }) (sym (told_known s.now.secrets number bytes j)),
-)

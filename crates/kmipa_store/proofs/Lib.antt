@@ -4,4 +4,5 @@ pub mod SoundLemmas
 pub mod ObjectLemmas
 pub mod HistoryLemmas
 pub mod ChangeLemmas
+pub mod LearnLemmas
 pub mod JournalLemmas

@@ -1,5 +1,6 @@
 pub mod Ledger
 pub mod Faults
+pub mod Memory
 pub mod Calls
 pub mod Choices
 pub mod Objects

@@ -15,3 +15,6 @@ pub use fault::StoreFault;
 pub use journal::Journal;
 pub use laws::every_choice_gives_an_inventory;
 pub use ledger::{Ledger, Mark};
+
+#[cfg(test)]
+mod tests;

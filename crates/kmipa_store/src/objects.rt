@@ -27,7 +27,7 @@ impl Model for Objects {
 impl Objects {
     ghost use Rattle.std.specs.Prelude.{◌≡◌, ◌-◌, ◌<◌, [], length, take, slice_get, string_bytes, Some, None, IfSome, IfOk, IfErr};
     ghost use Rattle.kmipa_store.specs.Ledger.{held, cards_of, place_of, relived};
-    ghost use Rattle.kmipa_store.specs.Objects.{Pushes};
+    ghost use Rattle.kmipa_store.specs.Memory.{Pushes};
 
     /// No objects.
     pub fn new(alloc: Global) -> Objects

@@ -82,7 +82,7 @@ impl Model for Secrets {
 impl Secrets {
     ghost use Rattle.std.specs.Prelude.{◌≡◌, ◌<◌, ◌-◌, [], length, take, slice_get, None, Some, IfOk, IfErr, option_map};
     ghost use Rattle.kmipa_store.specs.Ledger.{bytes_at, told};
-    ghost use Rattle.kmipa_store.specs.Objects.{Pushes};
+    ghost use Rattle.kmipa_store.specs.Memory.{Pushes};
     ghost use Rattle.kmipa_store.specs.Secrets.{forgotten, Judges};
 
     /// No secrets.

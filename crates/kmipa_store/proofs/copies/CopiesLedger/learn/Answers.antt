@@ -2,7 +2,7 @@ use Rattle.std.proofs.Common.{Ok, slice_get, subst}
 use Rattle.kmipa_store.specs.Secrets.{Judges}
 use Rattle.kmipa_store.specs.States.{state_of_copies}
 use Rattle.kmipa_store.specs.declared.secrets.Lesson.{Lesson}
-use Rattle.kmipa_store.proofs.JournalLemmas.{learns_known}
+use Rattle.kmipa_store.proofs.LearnLemmas.{learns_known}
 use Rattle.kmipa_store.proofs.copies.CopiesLedger.learn.Goals as goal
 
 pub returns-in-Ok-Old : goal.returns-in-Ok-Old

@@ -5,7 +5,8 @@ use Rattle.kmipa_store.specs.Journal.{secret_unmade, secret_places}
 use Rattle.kmipa_store.specs.States.{state_of_journal}
 use Rattle.kmipa_store.specs.declared.secrets.Lesson.{Lesson}
 use Rattle.kmipa_store.proofs.HistoryLemmas.{fits_logs}
-use Rattle.kmipa_store.proofs.JournalLemmas.{journal_tells, learns_known}
+use Rattle.kmipa_store.proofs.LearnLemmas.{learns_known}
+use Rattle.kmipa_store.proofs.JournalLemmas.{journal_tells}
 use Rattle.kmipa_store.proofs.journal.JournalLedger.learn.Goals as goal
 
 pub invariant_of-self : goal.invariant_of-self

@@ -1,4 +1,4 @@
-use Rattle.std.proofs.Common.{◌≡◌, ◌∙◌, ◌++◌, ◌∷◌, [], None, ap, sym, take, string_bytes, add-one}
+use Rattle.std.proofs.Common.{◌≡◌, ◌∙◌, ◌++◌, ◌∷◌, [], ap, sym, take, string_bytes, add-one}
 use Rattle.kmipa_object.specs.Inventory.{Card, place_of}
 use Rattle.kmipa_store.specs.Ledger.{Held, held, cards_of}
 use Rattle.kmipa_store.proofs.ObjectLemmas.{free_before, held_same, take-next}
