@@ -1,6 +1,7 @@
 pub mod InventoryLemmas
 pub mod ChoiceLemmas
 pub mod SoundLemmas
+pub mod CallLemmas
 pub mod ObjectLemmas
 pub mod HistoryLemmas
 pub mod ChangeLemmas

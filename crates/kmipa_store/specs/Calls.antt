@@ -1,5 +1,5 @@
 -- What the calls of a ledger answer and leave: an Ok and each fault exactly where its condition holds. A fault changes nothing.
-use Rattle.std.specs.Prelude.{◌≡◌, ◌<◌, ◌+◌, ◌&&◌, ℕ, Bool, true, false, not, List, length, Option, Some, None, Result, Ok, Err, is_none, is_some, bytes_eq, slice_get}
+use Rattle.std.specs.Prelude.{◌≡◌, ◌&&◌, ℕ, Bool, true, false, not, List, length, Option, Some, None, Result, Ok, Err, is_none, is_some, bytes_eq, slice_get}
 use Rattle.kmipa_object.specs.Inventory.{admits, possible}
 use Rattle.kmipa_object.specs.declared.life.Life.{Life}
 use Rattle.kmipa_object.specs.declared.life.SecretNo.{SecretNo}
@@ -68,6 +68,3 @@ Learns s number bytes (Err Memory) t =
 abbrev pub SetsMark : LedgerState → Result Mark StoreFault → LedgerState → Type 0
 SetsMark s (Ok mark) t = (mark.depth ≡ length t.marks) × (t ≡ marked s)
 SetsMark s (Err fault) t = RefusedForMemory fault s t
-
-abbrev pub TwoMarks : SecretNo → Mark → Mark → LedgerState → Type 0
-TwoMarks first older newer s = (first.number < length s.now.secrets) × (newer.depth ≡ length s.marks) × (older.depth + 1 ≡ length s.marks)

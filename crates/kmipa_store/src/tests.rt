@@ -1,9 +1,8 @@
 //! The calls of a ledger, through the trait, on each ledger.
 
 ghost use Rattle.std.specs.Prelude.{◌<◌, length};
-ghost use Rattle.kmipa_store.specs.Calls.{TwoMarks};
 
-use crate::{Copies, Journal, Ledger, Mark, StoreFault, every_choice_gives_an_inventory};
+use crate::{Copies, Journal, Ledger, StoreFault, every_choice_gives_an_inventory};
 use kmipa_attrs::{AttrSet, ObjectType};
 use kmipa_object::{Life, Material, Object, Rule, SecretNo};
 use std::alloc::{AllocError, Global};
@@ -41,26 +40,35 @@ fn is_known<L: Ledger>(ledger: &L, secret: SecretNo, bytes: &[u8]) -> bool
     }
 }
 
-/// What stands between the marks: two marks over one object with an unknown secret, then the secret is learned, and another object with a
-/// secret of its own is added.
-struct Story {
-    first: SecretNo,
-    older: Mark,
-    newer: Mark,
-}
-
-fn begin<L: Ledger>(rt: &impl Abort, alloc: Global, ledger: &mut L) -> Story
-    ensures { TwoMarks result.first result.older result.newer (L.state ledger.new) }
-{
+/// Ledger calls in turn, with what stands after each.
+fn calls_in_turn<L: Ledger>(rt: &impl Abort, alloc: Global, ledger: &mut L) {
     let first = ledger.new_secret(Rule::Bits(128)).expect(rt, "memory");
     let a = key(alloc, "a", first).expect(rt, "memory");
-    let place = ledger.add(a).expect(rt, "memory");
-    assert_eq!(rt; place, 0);
+    assert_eq!(rt; ledger.add(a), Ok(0));
     let older = ledger.mark().expect(rt, "memory");
     let newer = ledger.mark().expect(rt, "memory");
-    Story {
-        first,
-        older,
-        newer,
-    }
+    assert!(rt; ledger.secret(first).is_none());
+
+    assert_eq!(rt; ledger.learn(first, &K), Ok(()));
+    let second = ledger.new_secret(Rule::Any).expect(rt, "memory");
+    let b = key(alloc, "b", second).expect(rt, "memory");
+    assert_eq!(rt; ledger.add(b), Ok(1));
+    assert_eq!(rt; ledger.len(), 2);
+    assert!(rt; is_known(ledger, first, &K));
+
+    ledger.undo(newer);
+    assert_eq!(rt; ledger.find("a"), Some(0));
+    assert_eq!(rt; ledger.find("b"), None);
+    assert!(rt; is_known(ledger, first, &K));
+    assert!(rt; ledger.secret(second).is_none());
+
+    assert_eq!(rt; ledger.learn(first, &J), Err(StoreFault::BytesDiffer));
+    assert!(rt; is_known(ledger, first, &K));
+
+    ledger.back(older);
+    assert_eq!(rt; ledger.find("a"), Some(0));
+    assert_eq!(rt; ledger.len(), 1);
+    assert!(rt; ledger.secret(first).is_none());
+    assert_eq!(rt; ledger.learn(first, &J), Ok(()));
+    assert!(rt; is_known(ledger, first, &J));
 }
