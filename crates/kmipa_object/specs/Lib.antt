@@ -1,0 +1,4 @@
+pub mod Lists
+pub mod Life
+pub mod Table
+pub mod Inventory

@@ -1,0 +1,80 @@
+//! What every ledger promises.
+
+use crate::fault::StoreFault;
+use kmipa_object::{Life, Object, Rule, SecretNo};
+
+/// A place in the history of a ledger. It must be spent, by `keep`, `undo` or `back`, the newest first.
+pub struct Mark {
+    /// How many marks stood when it was set, itself counted.
+    pub depth: usize,
+}
+
+/// Objects in the order of arrival, secrets whose bytes may be unknown, and marks to go back to.
+///
+/// # Laws
+/// Each call is one equation on the ledger's meaning. A refused call changes nothing, and of several faults the lowest is told. `find`,
+/// `len`, `at`, `secret`, `keep`, `undo`, `back` and `learn` of bytes already known take no memory.
+pub trait Ledger {
+    ghost use Rattle.std.specs.Prelude.{◌≡◌, ◌<◌, length, slice_get, Some, IfSome, option_map};
+    ghost use Rattle.kmipa_store.specs.Ledger.{LedgerState, held, cards_of, place_of, bytes_at, kept, undone, gone_back};
+    ghost use Rattle.kmipa_store.specs.Calls.{Adds, Replaces, MakesSecret, Learns, SetsMark};
+
+    /// Its objects, secrets and marks.
+    ghost state: { Self → LedgerState };
+
+    /// The place of the object with this identifier.
+    fn find(&self, id: &str) -> Option<usize>
+        ensures place { result ≡ place_of id.now (cards_of (state self.now).now.objects) }
+        ensures within { IfSome result (λ place. place < length (state self.now).now.objects) };
+
+    /// How many objects there are.
+    fn len(&self) -> usize
+        ensures { result ≡ length (state self.now).now.objects };
+
+    /// The object at a place.
+    fn at(&self, place: usize) -> &Object
+        requires { place < length (state self.now).now.objects }
+        ensures { slice_get (state self.now).now.objects place ≡ Some (held result.now) };
+
+    /// Adds an object behind the others, and answers its place. Refused with IdentifierTaken or for memory; the object is then let go.
+    fn add(&mut self, object: Object) -> Result<usize, StoreFault>
+        ensures { Adds (state self.old) (held object) result (state self.new) };
+
+    /// Gives the object at a place other dates and other material. Refused for memory alone.
+    fn replace(&mut self, place: usize, life: Life) -> Result<(), StoreFault>
+        requires { place < length (state self.old).now.objects }
+        ensures { Replaces (state self.old) place life result (state self.new) };
+
+    /// A new secret of unknown bytes under this rule. Refused with LengthImpossible or for memory.
+    fn new_secret(&mut self, rule: Rule) -> Result<SecretNo, StoreFault>
+        ensures { MakesSecret (state self.old) rule result (state self.new) };
+
+    /// The bytes of a secret, where they are known.
+    fn secret(&self, secret: SecretNo) -> Option<&[u8]>
+        requires { secret.number < length (state self.now).now.secrets }
+        ensures { bytes_at (state self.now).now.secrets secret.number ≡ Some (option_map (λ bytes. bytes.now) result) };
+
+    /// From now on a secret has these bytes. Refused with BytesDiffer, LengthImpossible or, where they were unknown, for memory.
+    fn learn(&mut self, secret: SecretNo, bytes: &[u8]) -> Result<(), StoreFault>
+        requires { secret.number < length (state self.old).now.secrets }
+        ensures { Learns (state self.old) secret.number bytes.now result (state self.new) };
+
+    /// A new mark at this moment. Refused for memory alone.
+    fn mark(&mut self) -> Result<Mark, StoreFault>
+        ensures { SetsMark (state self.old) result (state self.new) };
+
+    /// Spends the newest mark: nothing goes back.
+    fn keep(&mut self, mark: Mark)
+        requires { mark.depth ≡ length (state self.old).marks }
+        ensures { state self.new ≡ kept (state self.old) };
+
+    /// Spends the newest mark: objects go back to it, secrets and what was learned stay.
+    fn undo(&mut self, mark: Mark)
+        requires { mark.depth ≡ length (state self.old).marks }
+        ensures { state self.new ≡ undone (state self.old) };
+
+    /// Spends the newest mark: objects, secrets and what was learned go back to it.
+    fn back(&mut self, mark: Mark)
+        requires { mark.depth ≡ length (state self.old).marks }
+        ensures { state self.new ≡ gone_back (state self.old) };
+}
