@@ -17,3 +17,6 @@ pub use declaration::{Declaration, read_declaration};
 pub use fault::{RecordFault, RecordKind};
 pub use transcript::{Begin, End, Mark, Transcript, read_transcript};
 pub use witness::{Turn, Witness, read_witness};
+
+#[cfg(test)]
+mod tests;
