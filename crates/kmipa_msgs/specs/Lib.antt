@@ -15,3 +15,5 @@ pub mod Payloads
 pub mod Replies
 pub mod Responses
 pub mod Wanted
+pub mod Written
+pub mod Fields

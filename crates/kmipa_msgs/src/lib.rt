@@ -8,6 +8,8 @@ mod operation;
 mod request;
 mod response;
 mod rules;
+mod tags;
+mod writing;
 
 pub use fault::{Outside, ReadFault};
 pub use key_block::{KeyBlock, KeyFormat};
