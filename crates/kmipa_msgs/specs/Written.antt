@@ -45,3 +45,90 @@ block_fields b =
 
 abbrev pub written_block : BlockOf → Tree
 written_block b = structure 0x42_0040 (in_order (block_fields b))
+
+-- the tag of an object
+abbrev pub object_tag : ObjectType → ℕ
+object_tag SymmetricKey = 0x42_008F
+object_tag SecretData = 0x42_0085
+
+abbrev pub written_object : ObjectType → BlockOf → Tree
+written_object shape b = structure (object_tag shape) (in_order (Some (written_block b) ∷ []))
+
+-- PAYLOADS
+
+abbrev pub get_fields : Option (List ℕ) → List (Option Tree)
+get_fields id = field Tree.text 0x42_0094 id ∷ []
+
+abbrev pub got_fields : GotOf → List (Option Tree)
+got_fields g =
+    field Tree.enumeration 0x42_0057 (option_map type_number g.object_type) ∷
+    field Tree.text 0x42_0094 g.id ∷
+    Some (written_object g.shape g.block) ∷
+    []
+
+abbrev pub registered_fields : RegisteredOf → List (Option Tree)
+registered_fields r = field Tree.enumeration 0x42_0057 r.object_type ∷ field Tree.text 0x42_0094 (Some r.id) ∷ []
+
+abbrev pub payload_fields : PayloadOf → List (Option Tree)
+payload_fields (registered r) = registered_fields r
+payload_fields (got g) = got_fields g
+
+abbrev pub written_payload : PayloadOf → Tree
+written_payload p = structure 0x42_007C (in_order (payload_fields p))
+
+-- RESPONSES
+
+abbrev pub answer_fields : AnswerOf → List (Option Tree)
+answer_fields x =
+    field Tree.enumeration 0x42_005C x.operation ∷
+    field Tree.byte_string 0x42_0093 x.batch_id ∷
+    field Tree.enumeration 0x42_007F (Some (status_number x.status)) ∷
+    field Tree.enumeration 0x42_007E x.reason ∷
+    option_map written_payload x.payload ∷
+    []
+
+abbrev pub written_answer : AnswerOf → Tree
+written_answer x = structure 0x42_000F (in_order (answer_fields x))
+
+abbrev pub version_fields : List (Option Tree)
+version_fields = field Tree.integer 0x42_006A (Some (pos 2)) ∷ field Tree.integer 0x42_006B (Some (pos 1)) ∷ []
+
+abbrev pub written_version : Tree
+written_version = structure 0x42_0069 (in_order version_fields)
+
+abbrev pub response_header_fields : ResponseOf → List (Option Tree)
+response_header_fields r =
+    Some written_version ∷
+    field Tree.date_time 0x42_0092 (Some r.stamp) ∷
+    field Tree.integer 0x42_000D (Some (pos (length r.items))) ∷
+    []
+
+abbrev pub written_response_header : ResponseOf → Tree
+written_response_header r = structure 0x42_007A (in_order (response_header_fields r))
+
+abbrev pub written_response : ResponseOf → Tree
+written_response r = structure 0x42_007B (more (written_response_header r) (forest written_answer r.items))
+
+-- REQUESTS
+
+-- Stop is what an absent option means
+abbrev pub told_option : BatchOption → Option ℕ
+told_option Continue = Some (option_number Continue)
+told_option Stop = None
+told_option Undo = Some (option_number Undo)
+
+-- true is what an absent order means
+abbrev pub told_order : Bool → Option Bool
+told_order true = None
+told_order false = Some false
+
+abbrev pub request_header_fields : RequestOf → List (Option Tree)
+request_header_fields r =
+    Some written_version ∷
+    field Tree.enumeration 0x42_000E (told_option r.option) ∷
+    field Tree.boolean 0x42_0010 (told_order r.ordered) ∷
+    field Tree.integer 0x42_000D (Some (pos (length r.items))) ∷
+    []
+
+abbrev pub written_request_header : RequestOf → Tree
+written_request_header r = structure 0x42_0077 (in_order (request_header_fields r))

@@ -18,3 +18,4 @@ pub use operation::Operation;
 pub use request::{Ask, Asked, BatchOption, Get, Register, Request};
 pub use response::{Answer, Got, Payload, Registered, Response, Status};
 pub use rules::{Cause, Row, Rules};
+pub use writing::write_response;
