@@ -16,4 +16,4 @@ pub mod Replies
 pub mod Responses
 pub mod Wanted
 pub mod Written
-pub mod Fields
+pub mod Writing

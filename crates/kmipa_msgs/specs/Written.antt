@@ -4,6 +4,7 @@ use Rattle.std.specs.Option.{option_map}
 use Rattle.kmipa_ttlv.specs.Tree.{Tree, Trees, Scalar, structure, scalar, none, more, push, forest}
 use Rattle.kmipa_ttlv.specs.Tree
 use Rattle.kmipa_attrs.specs.ObjectTypes.{type_number}
+use Rattle.kmipa_attrs.specs.Writing.{written_children}
 use Rattle.kmipa_attrs.specs.declared.object_type.ObjectType.{ObjectType}
 use Rattle.kmipa_attrs.specs.declared.object_type.ObjectType.TheVariants.{SymmetricKey, SecretData}
 use Rattle.kmipa_msgs.specs.declared.request.BatchOption.{BatchOption}
@@ -132,3 +133,31 @@ request_header_fields r =
 
 abbrev pub written_request_header : RequestOf → Tree
 written_request_header r = structure 0x42_0077 (in_order (request_header_fields r))
+
+-- the algorithm and the length of a key stand in its attributes, in its block or in both, as they are given
+abbrev pub register_fields : RegisterOf → List (Option Tree)
+register_fields r =
+    field Tree.enumeration 0x42_0057 (Some (type_number r.object_type)) ∷
+    Some (structure 0x42_0125 (written_children r.attributes)) ∷
+    Some (written_object r.object_type r.block) ∷
+    []
+
+abbrev pub asked_fields : AskedOf → List (Option Tree)
+asked_fields (registers r) = register_fields r
+asked_fields (gets id) = get_fields id
+
+abbrev pub written_asked : AskedOf → Tree
+written_asked asked = structure 0x42_0079 (in_order (asked_fields asked))
+
+abbrev pub ask_fields : AskOf → List (Option Tree)
+ask_fields a =
+    field Tree.enumeration 0x42_005C (Some (operation_number (operation_asked a.asked))) ∷
+    field Tree.byte_string 0x42_0093 a.batch_id ∷
+    Some (written_asked a.asked) ∷
+    []
+
+abbrev pub written_ask : AskOf → Tree
+written_ask a = structure 0x42_000F (in_order (ask_fields a))
+
+abbrev pub written_request : RequestOf → Tree
+written_request r = structure 0x42_0078 (more (written_request_header r) (forest written_ask r.items))

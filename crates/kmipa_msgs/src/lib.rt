@@ -1,6 +1,7 @@
 //! KMIP 2.1 messages: requests and responses, each an item that says exactly this message.
 #![tactic(auto)]
 
+mod copying;
 mod fault;
 mod key_block;
 mod kind;
@@ -18,4 +19,4 @@ pub use operation::Operation;
 pub use request::{Ask, Asked, BatchOption, Get, Register, Request};
 pub use response::{Answer, Got, Payload, Registered, Response, Status};
 pub use rules::{Cause, Row, Rules};
-pub use writing::write_response;
+pub use writing::{write_request, write_response};

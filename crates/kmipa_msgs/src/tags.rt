@@ -1,4 +1,4 @@
-//! The tags of messages (KMIP 2.1, section 11.60).
+//! The tags of messages (KMIP 2.1, section 11).
 
 pub(crate) const BATCH_COUNT: u32 = 0x42_000D;
 
@@ -19,6 +19,10 @@ pub(crate) const KEY_FORMAT_TYPE: u32 = 0x42_0042;
 pub(crate) const KEY_MATERIAL: u32 = 0x42_0043;
 
 pub(crate) const KEY_VALUE: u32 = 0x42_0045;
+
+pub(crate) const KEY_WRAPPING_DATA: u32 = 0x42_0046;
+
+pub(crate) const KEY_WRAPPING_SPECIFICATION: u32 = 0x42_0047;
 
 pub(crate) const OBJECT_TYPE: u32 = 0x42_0057;
 
@@ -55,3 +59,5 @@ pub(crate) const TIME_STAMP: u32 = 0x42_0092;
 pub(crate) const UNIQUE_BATCH_ITEM_ID: u32 = 0x42_0093;
 
 pub(crate) const UNIQUE_IDENTIFIER: u32 = 0x42_0094;
+
+pub(crate) const ATTRIBUTES: u32 = 0x42_0125;

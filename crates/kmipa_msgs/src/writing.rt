@@ -6,6 +6,8 @@ mod header;
 mod key_block;
 mod object;
 mod register;
+mod request;
 mod response;
 
+pub use request::write_request;
 pub use response::write_response;

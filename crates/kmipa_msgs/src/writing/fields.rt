@@ -19,7 +19,7 @@ pub(super) struct Fields {
 }
 
 impl Fields {
-    ghost use Rattle.kmipa_msgs.specs.Fields.{fields_of};
+    ghost use Rattle.kmipa_msgs.specs.Writing.{fields_of};
 
     /// No children.
     pub(super) fn new(alloc: Global) -> Fields

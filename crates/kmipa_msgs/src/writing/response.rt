@@ -2,7 +2,9 @@
 
 ghost use Rattle.std.specs.Prelude.{◌≡◌, ◌<◌, IfOk, length};
 ghost use Rattle.kmipa_ttlv.specs.ItemTree.{tree};
-ghost use Rattle.kmipa_msgs.specs.Messages.{payload_of, answer_of, response_of};
+ghost use Rattle.kmipa_ttlv.specs.Tree.{Tree};
+ghost use Rattle.kmipa_msgs.specs.Messages.{payload_of, answer_of, RequestOf, response_of};
+ghost use Rattle.kmipa_msgs.specs.Responses.{SaysResponse};
 ghost use Rattle.kmipa_msgs.specs.Written.{written_payload, written_answer, written_response_header, written_response};
 
 use super::fields::Fields;
@@ -17,10 +19,13 @@ use crate::tags::{
 use kmipa_ttlv::Item;
 use std::alloc::{AllocError, Global};
 
-/// The item that says the response, where any item does.
+/// The item that says the response beside each request beside which some item does: the response has an item, and
+/// payloads only where they are read.
 pub fn write_response(alloc: Global, response: &Response) -> Result<Item, AllocError>
     requires { length response.now.items.items < 0x8000_0000 }
-    ensures { IfOk result (λ item. tree item ≡ written_response (response_of response.now)) }
+    ensures order { IfOk result (λ item. tree item ≡ written_response (response_of response.now)) }
+    ensures said { IfOk result (λ item. (t : Tree) (request : RequestOf)
+        → SaysResponse t request (response_of response.now) → SaysResponse (tree item) request (response_of response.now)) }
 {
     let mut fields = Fields::new(alloc);
     fields.item(write_header(alloc, response)?)?;
