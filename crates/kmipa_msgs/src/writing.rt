@@ -11,3 +11,6 @@ mod response;
 
 pub use request::write_request;
 pub use response::write_response;
+
+#[cfg(test)]
+mod tests;
