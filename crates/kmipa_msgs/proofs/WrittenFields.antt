@@ -1,12 +1,11 @@
 -- A field that was written is found.
 use Rattle.std.proofs.Common.{◌≡◌, ◌==◌, ℕ, Bool, true, false, cond, List, [], ◌∷◌, Option, Some, None, refl, sym, ap, ◌∙◌, subst}
-use Rattle.std.specs.Option.{option_map}
 use Rattle.kmipa_ttlv.specs.Tree.{Tree, Trees, Scalar, structure, scalar, none, more, push}
 use Rattle.kmipa_attrs.specs.Fields.{tag_of, first, as_structure, field_of, typed, at, in_field, inside, value_in}
 use Rattle.kmipa_attrs.specs.Readings.{Optional}
 use Rattle.kmipa_attrs.specs.declared.fields.Field.{Field}
-use Rattle.kmipa_attrs.specs.declared.fields.Field.TheVariants.{Absent, Wrong, There}
-use Rattle.kmipa_msgs.specs.Written.{with_field, with_fields, in_order, field}
+use Rattle.kmipa_attrs.specs.declared.fields.Field.TheVariants.{There}
+use Rattle.kmipa_msgs.specs.Written.{with_fields, in_order, field}
 
 -- the first of the fields that is there with the tag
 abbrev pub find : ℕ → List (Option Tree) → Option Tree

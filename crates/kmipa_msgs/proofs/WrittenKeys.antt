@@ -1,9 +1,9 @@
 -- Keys that were written say what was written.
-use Rattle.std.proofs.Common.{◌≡◌, ◌==◌, ℕ, Bool, true, false, cond, List, [], ◌∷◌, Option, Some, None, refl, sym, ap, ◌∙◌, subst}
+use Rattle.std.proofs.Common.{◌≡◌, ℕ, cond, List, [], ◌∷◌, Option, Some, refl, sym, ap, ◌∙◌, subst}
 use Rattle.kmipa_ttlv.specs.Tree.{Tree, Trees, structure, scalar, none, more, push}
 use Rattle.kmipa_ttlv.specs.Tree
-use Rattle.kmipa_attrs.specs.Fields.{tag_of, first, as_structure, as_bytes, as_integer, as_enumeration, typed, at, in_field, inside}
-use Rattle.kmipa_attrs.specs.declared.fields.Field.TheVariants.{Absent, Wrong, There}
+use Rattle.kmipa_attrs.specs.Fields.{as_structure, as_bytes, as_integer, as_enumeration, typed, at, in_field, inside}
+use Rattle.kmipa_attrs.specs.declared.fields.Field.TheVariants.{There}
 use Rattle.kmipa_attrs.specs.declared.object_type.ObjectType.{ObjectType}
 use Rattle.kmipa_attrs.specs.declared.object_type.ObjectType.TheVariants.{SymmetricKey, SecretData}
 use Rattle.kmipa_msgs.specs.declared.key_block.KeyFormat.{KeyFormat}
@@ -12,8 +12,8 @@ use Rattle.kmipa_msgs.specs.Numbers.{format_number, format_of}
 use Rattle.kmipa_msgs.specs.Messages.{BlockOf}
 use Rattle.kmipa_msgs.specs.KeyBlocks.{SaysBlock}
 use Rattle.kmipa_msgs.specs.Objects.{is_object, object_in, shape_of, as_shape, shape_in, block_inside}
-use Rattle.kmipa_msgs.specs.Written.{in_order, field, written_value, block_fields, written_block, object_tag, written_object}
-use Rattle.kmipa_msgs.proofs.WrittenFields.{find, found, skipped, optional_written, required_written, inside_written}
+use Rattle.kmipa_msgs.specs.Written.{in_order, field, block_fields, written_block, object_tag, written_object}
+use Rattle.kmipa_msgs.proofs.WrittenFields.{skipped, optional_written, required_written, inside_written}
 
 format_listed : (f : KeyFormat) → format_of (format_number f) ≡ Some f
 format_listed Raw = refl

@@ -1,8 +1,7 @@
 -- What requests and responses share: the version, the count, and the items one after the other.
-use Rattle.std.proofs.Common.{◌≡◌, ◌==◌, ◌&&◌, nat_lt, ℕ, suc, pos, Bool, true, false, cond, List, [], ◌∷◌, map, length, Option, Some, None, refl, sym, ap, ◌∙◌, eq-eqb}
-use Rattle.kmipa_ttlv.specs.Tree.{Tree, Trees, structure, scalar, none, more, push, forest}
-use Rattle.kmipa_ttlv.specs.Tree
-use Rattle.kmipa_attrs.specs.Fields.{tag_of, first, every, as_structure, as_integer, at, inside}
+use Rattle.std.proofs.Common.{◌≡◌, ◌==◌, ◌&&◌, nat_lt, ℕ, suc, pos, Bool, true, false, cond, List, [], ◌∷◌, map, length, Option, Some, refl, sym, ap, ◌∙◌, eq-eqb}
+use Rattle.kmipa_ttlv.specs.Tree.{Tree, Trees, forest}
+use Rattle.kmipa_attrs.specs.Fields.{tag_of, first, every, as_integer, at}
 use Rattle.kmipa_attrs.specs.declared.fields.Field.TheVariants.{There}
 use Rattle.kmipa_msgs.specs.Headers.{is_number, is_version, is_count}
 use Rattle.kmipa_msgs.specs.Outside.{SaysEach}

@@ -1,13 +1,13 @@
 -- Payloads that were written say what was written.
-use Rattle.std.proofs.Common.{◌≡◌, ℕ, true, false, cond, List, [], ◌∷◌, Option, Some, None, refl, sym, ap, ◌∙◌, subst}
+use Rattle.std.proofs.Common.{◌≡◌, ℕ, List, [], ◌∷◌, Option, Some, None, refl, sym, ◌∙◌, subst}
 use Rattle.std.specs.Option.{option_map}
 use Rattle.kmipa_ttlv.specs.Tree.{Tree, Trees, structure, scalar, none, more, push}
 use Rattle.kmipa_ttlv.specs.Tree
-use Rattle.kmipa_attrs.specs.Fields.{first, as_structure, as_text, as_enumeration, typed, at}
+use Rattle.kmipa_attrs.specs.Fields.{as_structure, as_text, as_enumeration, at}
 use Rattle.kmipa_attrs.specs.Sets.{Attributes}
 use Rattle.kmipa_attrs.specs.Names.{HasNoRepeats}
 use Rattle.kmipa_attrs.specs.Attributes.{SaysAttributes}
-use Rattle.kmipa_attrs.specs.Writing.{written_children, each_once}
+use Rattle.kmipa_attrs.specs.Writing.{written_children}
 use Rattle.kmipa_attrs.specs.ObjectTypes.{type_number, type_of}
 use Rattle.kmipa_attrs.specs.Readings.{Optional}
 use Rattle.kmipa_attrs.specs.declared.fields.Field.{Field}
@@ -23,9 +23,9 @@ use Rattle.kmipa_msgs.specs.Objects.{object_in}
 use Rattle.kmipa_msgs.specs.Gets.{SaysGet, SaysGot}
 use Rattle.kmipa_msgs.specs.Registers.{SaysGiven, SaysRegister, SaysRegistered}
 use Rattle.kmipa_msgs.specs.Asks.{SaysAsked}
-use Rattle.kmipa_msgs.specs.Payloads.{SaysDone, SaysPayloadOf}
-use Rattle.kmipa_msgs.specs.Written.{in_order, field, written_object, get_fields, got_fields, register_fields, registered_fields, asked_fields, payload_fields, written_payload}
-use Rattle.kmipa_msgs.proofs.WrittenFields.{find, found, skipped, optional_written, required_written}
+use Rattle.kmipa_msgs.specs.Payloads.{SaysDone}
+use Rattle.kmipa_msgs.specs.Written.{in_order, field, written_object, get_fields, got_fields, register_fields, registered_fields, asked_fields, payload_fields}
+use Rattle.kmipa_msgs.proofs.WrittenFields.{find, skipped, optional_written, required_written}
 use Rattle.kmipa_msgs.proofs.WrittenKeys.{object_here, shape_written, block_found}
 
 type_listed : (x : ObjectType) → type_of (type_number x) ≡ Some x

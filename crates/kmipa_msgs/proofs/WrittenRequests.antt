@@ -1,8 +1,8 @@
 -- A request that was written is said by its item.
-use Rattle.std.proofs.Common.{◌≡◌, ◌==◌, ◌&&◌, ℕ, suc, pos, Bool, true, false, cond, List, [], ◌∷◌, map, length, Option, Some, None, refl, sym, ap, ◌∙◌, subst}
+use Rattle.std.proofs.Common.{◌≡◌, ℕ, pos, Bool, true, false, List, [], ◌∷◌, map, length, Some, refl, sym, ap, ◌∙◌, subst}
 use Rattle.kmipa_ttlv.specs.Tree.{Tree, Trees, structure, scalar, none, more, push, forest}
 use Rattle.kmipa_ttlv.specs.Tree
-use Rattle.kmipa_attrs.specs.Fields.{tag_of, first, every, as_structure, as_integer, as_enumeration, as_boolean, as_bytes, at, inside}
+use Rattle.kmipa_attrs.specs.Fields.{first, every, as_structure, as_integer, as_enumeration, as_boolean, as_bytes, at, inside}
 use Rattle.kmipa_attrs.specs.Readings.{Optional}
 use Rattle.kmipa_attrs.specs.declared.fields.Field.{Field}
 use Rattle.kmipa_attrs.specs.declared.fields.Field.TheVariants.{There}
@@ -13,12 +13,12 @@ use Rattle.kmipa_msgs.specs.declared.request.BatchOption.TheVariants.{Continue, 
 use Rattle.kmipa_msgs.specs.Operations.{operation_number, operation_of}
 use Rattle.kmipa_msgs.specs.Messages.{AskOf, operation_asked, RequestOf}
 use Rattle.kmipa_msgs.specs.Tables.{children}
-use Rattle.kmipa_msgs.specs.Headers.{is_message, is_version, is_count, batch}
+use Rattle.kmipa_msgs.specs.Headers.{is_message, is_version, batch}
 use Rattle.kmipa_msgs.specs.Outside.{SaysEach}
 use Rattle.kmipa_msgs.specs.Asks.{SaysAsked, SaysAsk}
 use Rattle.kmipa_msgs.specs.Requests.{SaysOption, SaysOrder, SaysHeader, header_of, request_header, SaysRequest}
-use Rattle.kmipa_msgs.specs.Written.{in_order, field, told_option, told_order, written_asked, asked_fields, ask_fields, written_ask, request_header_fields, written_request_header, written_request}
-use Rattle.kmipa_msgs.proofs.WrittenFields.{find, skipped, optional_written, required_written, inside_written, value_written}
+use Rattle.kmipa_msgs.specs.Written.{in_order, field, told_option, told_order, written_asked, asked_fields, ask_fields, written_ask, request_header_fields, written_request}
+use Rattle.kmipa_msgs.proofs.WrittenFields.{skipped, optional_written, required_written, inside_written, value_written}
 use Rattle.kmipa_msgs.proofs.WrittenPayloads.{asked_written}
 use Rattle.kmipa_msgs.proofs.WrittenMessages.{each_length, each_written, every_written, map_length, version_written, count_written}
 

@@ -1,10 +1,10 @@
 -- A response that was written is said by its item, beside each request beside which some item says it.
-use Rattle.std.proofs.Common.{◌≡◌, ◌==◌, ◌&&◌, ℕ, suc, pos, Bool, true, false, cond, List, [], ◌∷◌, map, length, Option, Some, None, refl, sym, ap, ◌∙◌, subst}
+use Rattle.std.proofs.Common.{◌≡◌, ◌==◌, ℕ, pos, Bool, true, false, cond, List, [], ◌∷◌, map, length, Option, Some, None, refl, sym, ap, ◌∙◌, subst}
 use Rattle.std.specs.List.{slice_get}
 use Rattle.std.specs.Option.{option_map}
 use Rattle.kmipa_ttlv.specs.Tree.{Tree, Trees, structure, scalar, none, more, push, forest}
 use Rattle.kmipa_ttlv.specs.Tree
-use Rattle.kmipa_attrs.specs.Fields.{tag_of, first, every, as_structure, as_integer, as_enumeration, as_bytes, as_date, at, inside}
+use Rattle.kmipa_attrs.specs.Fields.{first, every, as_structure, as_integer, as_enumeration, as_bytes, as_date, at}
 use Rattle.kmipa_attrs.specs.Readings.{Optional}
 use Rattle.kmipa_attrs.specs.declared.fields.Field.{Field}
 use Rattle.kmipa_attrs.specs.declared.fields.Field.TheVariants.{There}
@@ -15,13 +15,13 @@ use Rattle.kmipa_msgs.specs.declared.response.Status.TheVariants.{Success, Faile
 use Rattle.kmipa_msgs.specs.Numbers.{status_number, status_of}
 use Rattle.kmipa_msgs.specs.Messages.{AskOf, RequestOf, PayloadOf, registered, got, AnswerOf, ResponseOf}
 use Rattle.kmipa_msgs.specs.Tables.{children}
-use Rattle.kmipa_msgs.specs.Headers.{is_message, is_version, is_count, batch}
+use Rattle.kmipa_msgs.specs.Headers.{is_message, is_version, batch}
 use Rattle.kmipa_msgs.specs.Outside.{SaysEach}
-use Rattle.kmipa_msgs.specs.Payloads.{SaysDone, SaysPayloadOf}
+use Rattle.kmipa_msgs.specs.Payloads.{SaysPayloadOf}
 use Rattle.kmipa_msgs.specs.Replies.{own, filled, SaysRequired, SaysMaybe, SaysShown, SaysAnswer}
-use Rattle.kmipa_msgs.specs.Responses.{SaysStamp, response_header, SaysResponse}
-use Rattle.kmipa_msgs.specs.Written.{in_order, field, written_object, payload_fields, written_payload, answer_fields, written_answer, response_header_fields, written_response_header, written_response}
-use Rattle.kmipa_msgs.proofs.WrittenFields.{find, found, skipped, optional_written, required_written, inside_written, value_written}
+use Rattle.kmipa_msgs.specs.Responses.{response_header, SaysResponse}
+use Rattle.kmipa_msgs.specs.Written.{in_order, field, written_payload, answer_fields, written_answer, response_header_fields, written_response}
+use Rattle.kmipa_msgs.proofs.WrittenFields.{find, found, skipped, optional_written, required_written, value_written}
 use Rattle.kmipa_msgs.proofs.WrittenPayloads.{done_written}
 use Rattle.kmipa_msgs.proofs.WrittenMessages.{each_length, each_written, every_written, map_length, version_written, count_written}
 

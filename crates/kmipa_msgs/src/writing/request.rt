@@ -19,8 +19,9 @@ use crate::tags::{
 use kmipa_ttlv::Item;
 use std::alloc::{AllocError, Global};
 
-/// The item that says the request, where some item does: one that has an item, and whose Registers bring names
-/// without repeats and what a client may give, equal in attributes and Key Block.
+/// The Request Message that says the request, as far as any does: it has an item, no Register brings a name twice,
+/// and type, algorithm and length of each Register agree. Of more items than an Integer counts none does.
+/// Stop and an order of true are left out, which means the same. Only want of memory is an error.
 pub fn write_request(alloc: Global, request: &Request) -> Result<Item, AllocError>
     requires { length request.now.items.items < 0x8000_0000 }
     ensures order { IfOk result (λ item. tree item ≡ written_request (request_of request.now)) }

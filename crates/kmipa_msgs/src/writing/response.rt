@@ -19,8 +19,9 @@ use crate::tags::{
 use kmipa_ttlv::Item;
 use std::alloc::{AllocError, Global};
 
-/// The item that says the response beside each request beside which some item does: the response has an item, and
-/// payloads only where they are read.
+/// The Response Message that says the response beside each request beside which any does: it has an item, and a
+/// payload where one is to be there, of the operation asked for, and nowhere else. Of more items than an Integer counts
+/// none does. Only want of memory is an error.
 pub fn write_response(alloc: Global, response: &Response) -> Result<Item, AllocError>
     requires { length response.now.items.items < 0x8000_0000 }
     ensures order { IfOk result (λ item. tree item ≡ written_response (response_of response.now)) }
