@@ -5,3 +5,13 @@ pub mod WrittenPayloads
 pub mod WrittenMessages
 pub mod WrittenRequests
 pub mod WrittenResponses
+pub mod TableLemmas
+pub mod OutsideLemmas
+pub mod BlockLemmas
+pub mod GetLemmas
+pub mod RegisterLemmas
+pub mod AskLemmas
+pub mod PayloadLemmas
+pub mod ReplyLemmas
+pub mod RequestLemmas
+pub mod ResponseLemmas

@@ -65,6 +65,11 @@ headed make (Err k) rest = Err (0, k)
 headed make (Ok h) (Ok xs) = Ok (make h xs)
 headed make (Ok h) (Err p) = Err (suc p.0, p.1)
 
+-- a reading that has no items
+abbrev pub alone : {M : Type 0} → Result M OutsideKind → Result M (ℕ × OutsideKind)
+alone (Ok m) = Ok m
+alone (Err k) = Err (0, k)
+
 -- what the program's readers give of a reading
 abbrev pub Gives : {X M : Type 0} → (X → M) → Result X ReadFault → Result M (ℕ × OutsideKind) → Type 0
 Gives meaning (Ok x) r = r ≡ Ok (meaning x)

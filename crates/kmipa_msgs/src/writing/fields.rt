@@ -1,10 +1,9 @@
 //! The fields of a structure that is written.
 
 ghost use Rattle.std.specs.Prelude.{◌≡◌, ◌<◌, OnOk, Some};
-ghost use Rattle.std.specs.Option.{option_map};
-ghost use Rattle.kmipa_ttlv.specs.Tree.{Trees, none, structure};
+ghost use Rattle.kmipa_ttlv.specs.Tree.{none, structure};
 ghost use Rattle.kmipa_ttlv.specs.Tree;
-ghost use Rattle.kmipa_ttlv.specs.ItemTree.{tree, trees};
+ghost use Rattle.kmipa_ttlv.specs.ItemTree.{tree};
 ghost use Rattle.kmipa_msgs.specs.Messages.{maybe_lent};
 ghost use Rattle.kmipa_msgs.specs.Written.{with_field, field};
 

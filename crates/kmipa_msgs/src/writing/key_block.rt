@@ -2,7 +2,7 @@
 
 ghost use Rattle.std.specs.Prelude.{◌≡◌, IfOk};
 ghost use Rattle.kmipa_ttlv.specs.ItemTree.{tree};
-ghost use Rattle.kmipa_msgs.specs.Messages.{lent, block_of};
+ghost use Rattle.kmipa_msgs.specs.Messages.{block_of};
 ghost use Rattle.kmipa_msgs.specs.Written.{written_value, written_block};
 
 use super::fields::Fields;
