@@ -1,10 +1,10 @@
 pub mod WritingLemmas
-pub mod WrittenFields
-pub mod WrittenKeys
-pub mod WrittenPayloads
-pub mod WrittenMessages
-pub mod WrittenRequests
-pub mod WrittenResponses
+pub mod WrittenFieldLemmas
+pub mod WrittenKeyLemmas
+pub mod WrittenPayloadLemmas
+pub mod WrittenMessageLemmas
+pub mod WrittenRequestLemmas
+pub mod WrittenResponseLemmas
 pub mod TableLemmas
 pub mod OutsideLemmas
 pub mod BlockLemmas

@@ -7,7 +7,7 @@ use Rattle.kmipa_msgs.specs.Messages.{ask_of, request_of}
 use Rattle.kmipa_msgs.specs.Written.{written_ask, written_request_header, written_request}
 use Rattle.kmipa_msgs.specs.Requests.{SaysRequest}
 use Rattle.kmipa_msgs.proofs.WritingLemmas.{one_more}
-use Rattle.kmipa_msgs.proofs.WrittenRequests.{request_written}
+use Rattle.kmipa_msgs.proofs.WrittenRequestLemmas.{request_written}
 use Rattle.kmipa_msgs.proofs.writing.request.write_request.Goals as goal
 
 pub loop-ask-preserved : goal.loop-ask-preserved

@@ -8,7 +8,7 @@ use Rattle.kmipa_msgs.specs.Messages.{answer_of, response_of}
 use Rattle.kmipa_msgs.specs.Written.{written_answer, written_response_header, written_response}
 use Rattle.kmipa_msgs.specs.Responses.{SaysResponse}
 use Rattle.kmipa_msgs.proofs.WritingLemmas.{one_more}
-use Rattle.kmipa_msgs.proofs.WrittenResponses.{response_written}
+use Rattle.kmipa_msgs.proofs.WrittenResponseLemmas.{response_written}
 use Rattle.kmipa_msgs.proofs.writing.response.write_response.Goals as goal
 
 pub loop-answer-preserved : goal.loop-answer-preserved

@@ -6,7 +6,7 @@ use Rattle.kmipa_attrs.specs.declared.fields.Field.TheVariants.{There}
 use Rattle.kmipa_msgs.specs.Headers.{is_number, is_version, is_count}
 use Rattle.kmipa_msgs.specs.Outside.{SaysEach}
 use Rattle.kmipa_msgs.specs.Written.{in_order, version_fields, written_version}
-use Rattle.kmipa_msgs.proofs.WrittenFields.{find, inside_written}
+use Rattle.kmipa_msgs.proofs.WrittenFieldLemmas.{find, inside_written}
 
 both_true : (a b : Bool) → (a && b) ≡ true → a ≡ true
 both_true true b e = refl

@@ -13,7 +13,7 @@ use Rattle.kmipa_msgs.specs.Messages.{BlockOf}
 use Rattle.kmipa_msgs.specs.KeyBlocks.{SaysBlock}
 use Rattle.kmipa_msgs.specs.Objects.{is_object, object_in, shape_of, as_shape, shape_in, block_inside}
 use Rattle.kmipa_msgs.specs.Written.{in_order, field, block_fields, written_block, object_tag, written_object}
-use Rattle.kmipa_msgs.proofs.WrittenFields.{skipped, optional_written, required_written, inside_written}
+use Rattle.kmipa_msgs.proofs.WrittenFieldLemmas.{skipped, optional_written, required_written, inside_written}
 
 format_listed : (f : KeyFormat) → format_of (format_number f) ≡ Some f
 format_listed Raw = refl

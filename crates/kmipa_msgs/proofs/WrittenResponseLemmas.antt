@@ -21,9 +21,9 @@ use Rattle.kmipa_msgs.specs.Payloads.{SaysPayloadOf}
 use Rattle.kmipa_msgs.specs.Replies.{own, filled, SaysRequired, SaysMaybe, SaysShown, SaysAnswer}
 use Rattle.kmipa_msgs.specs.Responses.{response_header, SaysResponse}
 use Rattle.kmipa_msgs.specs.Written.{in_order, field, written_payload, answer_fields, written_answer, response_header_fields, written_response}
-use Rattle.kmipa_msgs.proofs.WrittenFields.{find, found, skipped, optional_written, required_written, value_written}
-use Rattle.kmipa_msgs.proofs.WrittenPayloads.{done_written}
-use Rattle.kmipa_msgs.proofs.WrittenMessages.{each_length, each_written, every_written, map_length, version_written, count_written}
+use Rattle.kmipa_msgs.proofs.WrittenFieldLemmas.{find, found, skipped, optional_written, required_written, value_written}
+use Rattle.kmipa_msgs.proofs.WrittenPayloadLemmas.{done_written}
+use Rattle.kmipa_msgs.proofs.WrittenMessageLemmas.{each_length, each_written, every_written, map_length, version_written, count_written}
 
 -- PAYLOADS
 

@@ -25,8 +25,8 @@ use Rattle.kmipa_msgs.specs.Registers.{SaysGiven, SaysRegister, SaysRegistered}
 use Rattle.kmipa_msgs.specs.Asks.{SaysAsked}
 use Rattle.kmipa_msgs.specs.Payloads.{SaysDone}
 use Rattle.kmipa_msgs.specs.Written.{in_order, field, written_object, get_fields, got_fields, register_fields, registered_fields, asked_fields, payload_fields}
-use Rattle.kmipa_msgs.proofs.WrittenFields.{find, skipped, optional_written, required_written}
-use Rattle.kmipa_msgs.proofs.WrittenKeys.{object_here, shape_written, block_found}
+use Rattle.kmipa_msgs.proofs.WrittenFieldLemmas.{find, skipped, optional_written, required_written}
+use Rattle.kmipa_msgs.proofs.WrittenKeyLemmas.{object_here, shape_written, block_found}
 
 type_listed : (x : ObjectType) → type_of (type_number x) ≡ Some x
 type_listed SymmetricKey = refl

@@ -18,9 +18,9 @@ use Rattle.kmipa_msgs.specs.Outside.{SaysEach}
 use Rattle.kmipa_msgs.specs.Asks.{SaysAsked, SaysAsk}
 use Rattle.kmipa_msgs.specs.Requests.{SaysOption, SaysOrder, SaysHeader, header_of, request_header, SaysRequest}
 use Rattle.kmipa_msgs.specs.Written.{in_order, field, told_option, told_order, written_asked, asked_fields, ask_fields, written_ask, request_header_fields, written_request}
-use Rattle.kmipa_msgs.proofs.WrittenFields.{skipped, optional_written, required_written, inside_written, value_written}
-use Rattle.kmipa_msgs.proofs.WrittenPayloads.{asked_written}
-use Rattle.kmipa_msgs.proofs.WrittenMessages.{each_length, each_written, every_written, map_length, version_written, count_written}
+use Rattle.kmipa_msgs.proofs.WrittenFieldLemmas.{skipped, optional_written, required_written, inside_written, value_written}
+use Rattle.kmipa_msgs.proofs.WrittenPayloadLemmas.{asked_written}
+use Rattle.kmipa_msgs.proofs.WrittenMessageLemmas.{each_length, each_written, every_written, map_length, version_written, count_written}
 
 -- ITEMS
 
