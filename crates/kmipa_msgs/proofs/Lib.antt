@@ -1,10 +1,7 @@
-pub mod WritingLemmas
-pub mod WrittenFieldLemmas
-pub mod WrittenKeyLemmas
-pub mod WrittenPayloadLemmas
-pub mod WrittenMessageLemmas
-pub mod WrittenRequestLemmas
-pub mod WrittenResponseLemmas
+pub mod ViewLemmas
+pub mod ItemLemmas
+pub mod HeaderLemmas
+pub mod ObjectLemmas
 pub mod TableLemmas
 pub mod OutsideLemmas
 pub mod BlockLemmas
@@ -15,3 +12,10 @@ pub mod PayloadLemmas
 pub mod ReplyLemmas
 pub mod RequestLemmas
 pub mod ResponseLemmas
+pub mod WritingLemmas
+pub mod WrittenFieldLemmas
+pub mod WrittenKeyLemmas
+pub mod WrittenPayloadLemmas
+pub mod WrittenMessageLemmas
+pub mod WrittenRequestLemmas
+pub mod WrittenResponseLemmas

@@ -1,5 +1,6 @@
 -- A request that was written is said by its item.
 use Rattle.std.proofs.Common.{◌≡◌, ℕ, pos, Bool, true, false, List, [], ◌∷◌, map, length, Some, refl, sym, ap, ◌∙◌, subst}
+use Rattle.std.proofs.lemmas.List.{length-map}
 use Rattle.kmipa_ttlv.specs.Tree.{Tree, Trees, structure, scalar, none, more, push, forest}
 use Rattle.kmipa_ttlv.specs.Tree
 use Rattle.kmipa_attrs.specs.Fields.{first, every, as_structure, as_integer, as_enumeration, as_boolean, as_bytes, at, inside}
@@ -20,7 +21,7 @@ use Rattle.kmipa_msgs.specs.Requests.{SaysOption, SaysOrder, SaysHeader, header_
 use Rattle.kmipa_msgs.specs.Written.{in_order, field, told_option, told_order, written_asked, asked_fields, ask_fields, written_ask, request_header_fields, written_request}
 use Rattle.kmipa_msgs.proofs.WrittenFieldLemmas.{skipped, optional_written, required_written, inside_written, value_written}
 use Rattle.kmipa_msgs.proofs.WrittenPayloadLemmas.{asked_written}
-use Rattle.kmipa_msgs.proofs.WrittenMessageLemmas.{each_length, each_written, every_written, map_length, version_written, count_written}
+use Rattle.kmipa_msgs.proofs.WrittenMessageLemmas.{each_length, each_written, every_written, version_written, count_written}
 
 -- ITEMS
 
@@ -99,7 +100,7 @@ header_written t r h = record {
   message = is_request r;
   version = ap is_version (header_inside r) ∙ version_written (request_header_fields r) refl;
   count = count_written (request_header (written_request r)) (request_header t) (batch (written_request r)) (batch t) r.items h.header.count
-      (each_length (λ place. SaysAsk) (batch t) r.items h.items) (ap length (batch_written r) ∙ map_length written_ask r.items)
+      (each_length (λ place. SaysAsk) (batch t) r.items h.items) (ap length (batch_written r) ∙ length-map r.items written_ask)
       (ap (at as_integer 0x42_000D) (header_inside r) ∙ counted r);
   option = option_said (at as_enumeration 0x42_000E (request_header (written_request r))) r.option
       (subst (λ (hs : Trees). Optional (at as_enumeration 0x42_000E hs) (told_option r.option)) (sym (header_inside r)) (option_written r));

@@ -2,6 +2,7 @@
 use Rattle.std.proofs.Common.{◌≡◌, ◌==◌, ℕ, pos, Bool, true, false, cond, List, [], ◌∷◌, map, length, Option, Some, None, refl, sym, ap, ◌∙◌, subst}
 use Rattle.std.specs.List.{slice_get}
 use Rattle.std.specs.Option.{option_map}
+use Rattle.std.proofs.lemmas.List.{length-map}
 use Rattle.kmipa_ttlv.specs.Tree.{Tree, Trees, structure, scalar, none, more, push, forest}
 use Rattle.kmipa_ttlv.specs.Tree
 use Rattle.kmipa_attrs.specs.Fields.{first, every, as_structure, as_integer, as_enumeration, as_bytes, as_date, at}
@@ -23,7 +24,7 @@ use Rattle.kmipa_msgs.specs.Responses.{response_header, SaysResponse}
 use Rattle.kmipa_msgs.specs.Written.{in_order, field, written_payload, answer_fields, written_answer, response_header_fields, written_response}
 use Rattle.kmipa_msgs.proofs.WrittenFieldLemmas.{find, found, skipped, optional_written, required_written, value_written}
 use Rattle.kmipa_msgs.proofs.WrittenPayloadLemmas.{done_written}
-use Rattle.kmipa_msgs.proofs.WrittenMessageLemmas.{each_length, each_written, every_written, map_length, version_written, count_written}
+use Rattle.kmipa_msgs.proofs.WrittenMessageLemmas.{each_length, each_written, every_written, version_written, count_written}
 
 -- PAYLOADS
 
@@ -162,7 +163,7 @@ response_written t request r h = record {
     message = is_response r;
     version = ap is_version (header_inside r) ∙ version_written (response_header_fields r) refl;
     count = count_written (response_header (written_response r)) (response_header t) (batch (written_response r)) (batch t) r.items h.header.count
-        (each_length (λ place. SaysAnswer (slice_get request.items place)) (batch t) r.items h.items) (ap length (batch_written r) ∙ map_length written_answer r.items)
+        (each_length (λ place. SaysAnswer (slice_get request.items place)) (batch t) r.items h.items) (ap length (batch_written r) ∙ length-map r.items written_answer)
         (ap (at as_integer 0x42_000D) (header_inside r) ∙ counted r);
     stamp = ap (at as_date 0x42_0092) (header_inside r) ∙ stamped r;
   };
