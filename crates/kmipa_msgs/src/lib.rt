@@ -1,6 +1,7 @@
 //! KMIP 2.1 messages: requests and responses, each an item that says exactly this message.
 #![tactic(auto)]
 
+mod copying;
 mod fault;
 mod key_block;
 mod kind;
@@ -11,6 +12,7 @@ mod response;
 mod rules;
 mod tags;
 mod wanted;
+mod writing;
 
 pub use fault::{Outside, ReadFault};
 pub use key_block::{KeyBlock, KeyFormat};
@@ -21,3 +23,4 @@ pub use request::{Ask, Asked, BatchOption, Get, Register, Request};
 pub use response::{Answer, Got, Payload, Registered, Response, Status};
 pub use rules::{Cause, Row, Rules};
 pub use wanted::is_wanted;
+pub use writing::{write_request, write_response};
