@@ -1,0 +1,9 @@
+pub mod Whys
+pub mod Placeholders
+pub mod Objects
+pub mod Founded
+pub mod Does
+pub mod Completes
+pub mod Chains
+pub mod Blame
+pub mod Explains
