@@ -1,6 +1,6 @@
 -- Choices of the bytes of every secret, and the inventory of a ledger under a choice.
 use Rattle.std.specs.Prelude.{◌≡◌, ◌<◌, ℕ, List, map, Option, Some, None, Bool, true, false, slice_get}
-use Rattle.kmipa_object.specs.Inventory.{Thing, Admitted, live, rule_of}
+use Rattle.kmipa_object.specs.Inventory.{Thing, Admitted, IsInventory, live, rule_of}
 use Rattle.kmipa_object.specs.declared.life.Material.{Material}
 use Rattle.kmipa_object.specs.declared.life.Material.TheVariants.{Gone, Secret}
 use Rattle.kmipa_object.specs.declared.life.SecretNo.{SecretNo}
@@ -57,3 +57,6 @@ pub record IsSound (m : Meaning) : Type 0 where
 pub record Extends (before after : List Known) : Type 0 where
   pub there : (number : ℕ) (secret : Known) → slice_get before number ≡ Some secret
       → (known : Option (List ℕ)) × (slice_get after number ≡ Some (record { rule = secret.rule; bytes = known }))
+
+abbrev pub EveryChoiceGivesAnInventory : Type 0
+EveryChoiceGivesAnInventory = (m : Meaning) (c : Choice) → IsSound m → Chooses m.secrets c → IsInventory (inv c m.objects)

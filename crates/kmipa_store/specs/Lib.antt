@@ -2,3 +2,4 @@ pub mod Ledger
 pub mod Faults
 pub mod Calls
 pub mod Choices
+pub mod Objects

@@ -2,7 +2,10 @@
 #![tactic(auto)]
 
 mod fault;
+mod laws;
 mod ledger;
+mod objects;
 
 pub use fault::StoreFault;
+pub use laws::every_choice_gives_an_inventory;
 pub use ledger::{Ledger, Mark};

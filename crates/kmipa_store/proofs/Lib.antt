@@ -1,0 +1,4 @@
+pub mod InventoryLemmas
+pub mod ChoiceLemmas
+pub mod SoundLemmas
+pub mod ObjectLemmas

@@ -1,0 +1,93 @@
+//! Objects in the order of arrival, found by their identifiers.
+
+use crate::fault::StoreFault;
+use indexmap::IndexMap;
+use kmipa_object::{Life, Object};
+use std::alloc::Global;
+use std::marker::Model;
+
+/// Objects by their identifiers, in the order of arrival.
+#[derive(Drop)]
+pub struct Objects {
+    by_id: IndexMap<String, Object>,
+}
+
+impl Model for Objects {
+    ghost use Rattle.std.specs.Prelude.{List};
+    ghost use Rattle.kmipa_store.specs.Ledger.{Held};
+    ghost use Rattle.kmipa_store.specs.Objects.{objects_of, IsKeyed};
+
+    ghost Value = { List Held };
+
+    ghost view = { λ o. objects_of o.by_id.entries };
+
+    ghost invariant = { λ o. IsKeyed o.by_id.entries };
+}
+
+impl Objects {
+    ghost use Rattle.std.specs.Prelude.{◌≡◌, ◌-◌, ◌<◌, [], length, take, slice_get, string_bytes, Some, None, IfSome};
+    ghost use Rattle.kmipa_store.specs.Ledger.{held, cards_of, place_of, relived};
+    ghost use Rattle.kmipa_store.specs.Objects.{Pushes};
+
+    /// No objects.
+    pub fn new(alloc: Global) -> Objects
+        ensures { result ≡ [] }
+    {
+        Objects {
+            by_id: IndexMap::new(alloc),
+        }
+    }
+
+    /// The place of the object with this identifier.
+    pub fn find(&self, id: &str) -> Option<usize>
+        ensures place { result ≡ place_of id.now (cards_of self.now) }
+        ensures within { IfSome result (λ place. place < length self.now) }
+    {
+        self.by_id.get_index_of(id)
+    }
+
+    /// How many there are.
+    pub fn len(&self) -> usize
+        ensures { result ≡ length self.now }
+    {
+        self.by_id.len()
+    }
+
+    /// The object at a place.
+    pub fn at(&self, place: usize) -> &Object
+        requires { place < length self.now }
+        ensures { slice_get self.now place ≡ Some (held result.now) }
+    {
+        match self.by_id.get_index(place) {
+            Some((_, object)) => object,
+            None => unreachable!(),
+        }
+    }
+
+    /// Adds an object, whose identifier no other has, behind the others.
+    pub fn push(&mut self, object: Object) -> Result<(), StoreFault>
+        requires { place_of (string_bytes object.id) (cards_of self.old) ≡ None }
+        ensures { Pushes self.old (held object) result self.new }
+    {
+        let id = object.id.clone()?;
+        self.by_id.insert(id, object)?;
+        Ok(())
+    }
+
+    /// The object at a place, if there is one, leads this life.
+    pub fn set_life(&mut self, place: usize, life: Life)
+        ensures { self.new ≡ relived self.old place life }
+    {
+        let Some(object) = self.by_id.get_index_mut(place) else {
+            return;
+        };
+        object.life = life;
+    }
+
+    /// Takes the last object away, if there is one.
+    pub fn pop(&mut self)
+        ensures { self.new ≡ take (length self.old - 1) self.old }
+    {
+        let _ = self.by_id.pop();
+    }
+}
