@@ -1,5 +1,5 @@
 -- One item of a batch, whatever its operation: where nothing speaks against it the ledger goes on, and what speaks against it allows no choice.
-use Rattle.std.proofs.Common.{◌≡◌, ◌||◌, ◌<◌, ◌==◌, ◌⊎◌, ℕ, zero, suc, ℤ, Bool, true, false, not, List, [], ◌∷◌, ◌++◌, slice_get, All, is_none, bytes_eq, option_map, Option, Some, None, refl, ap, sym, ◌∙◌, subst, inl, inr}
+use Rattle.std.proofs.Common.{◌≡◌, ◌||◌, ◌==◌, ◌⊎◌, ℕ, zero, suc, ℤ, Bool, true, false, not, List, [], ◌∷◌, ◌++◌, slice_get, bytes_eq, option_map, Option, Some, None, refl, ap, sym, ◌∙◌, subst, inl, inr}
 use Rattle.std.proofs.lemmas.Bool.{or_parts}
 use Rattle.std.proofs.lemmas.Bool.Decides.{Decides-eqb}
 use Rattle.std.proofs.lemmas.Slice.Eq.{bytes_eq-Decides}
@@ -18,15 +18,14 @@ use Rattle.kmipa_msgs.specs.Operations.{operation_number}
 use Rattle.kmipa_msgs.specs.Messages.{RulesOf, AskedOf, registers, gets, AskOf, operation_asked, GotOf, PayloadOf, registered, got, AnswerOf}
 use Rattle.kmipa_ops.specs.declared.why.Why.{Why}
 use Rattle.kmipa_ops.specs.declared.why.Why.TheVariants.{OperationDiffers, NoSuchObject, WrongState, ReasonUnfounded, EchoDiffers}
-use Rattle.kmipa_ops.specs.Whys.{whys}
-use Rattle.kmipa_ops.specs.Objects.{meant, Echoes, Agree, is_other, clash, same_type}
+use Rattle.kmipa_ops.specs.Objects.{meant, Echoes, Agree, is_other, same_type}
 use Rattle.kmipa_ops.specs.Founded.{founded}
-use Rattle.kmipa_ops.specs.Does.{newborn, Registers, Gets, Succeeds, Fails, Outcome, Does}
-use Rattle.kmipa_ops.specs.Completes.{IsFill, Fills, CompletesAnswer, DoesSome, can_judge}
+use Rattle.kmipa_ops.specs.Does.{newborn, Gets, Succeeds, Fails, Outcome}
+use Rattle.kmipa_ops.specs.Completes.{IsFill, Fills, DoesSome, can_judge}
 use Rattle.kmipa_ops.specs.Blame.{object_meant, is_other_id, shows_other, get_speaks, done_speaks, outcome_speaks, frame_speaks, speaks, lowest}
 use Rattle.kmipa_ops.specs.After.{with_registered, taught, taught_at, after, placeholder_after}
-use Rattle.kmipa_ops.specs.Explains.{brings, shows, Tells, AreBytes, TellsBytes, is_readable}
-use Rattle.kmipa_ops.proofs.TestLemmas.{not_false, or_cases, echoes_if, echoes_not, agree_if, agree_not, find_holds, none_holds}
+use Rattle.kmipa_ops.specs.Explains.{brings, shows, AreBytes, TellsBytes, is_readable}
+use Rattle.kmipa_ops.proofs.TestLemmas.{not_false, or_cases, echoes_if, echoes_not, agree_if, agree_not, none_holds}
 use Rattle.kmipa_ops.proofs.StepLemmas.{Step, step_as, still_step}
 use Rattle.kmipa_ops.proofs.RegisterLemmas.{register_step, register_never}
 use Rattle.kmipa_ops.proofs.GetLemmas.{finds, meant_is, links, get_step, get_never, same_type-Decides}

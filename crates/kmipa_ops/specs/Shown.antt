@@ -1,5 +1,5 @@
 -- The reasons against a Get of a live object, in their order, as they are looked at one after the other.
-use Rattle.std.specs.Prelude.{◌≡◌, ℕ, Bool, List, cond, slice_get, Option, Some, None}
+use Rattle.std.specs.Prelude.{◌≡◌, ℕ, List, cond, slice_get, Option, Some, None}
 use Rattle.std.specs.Option.{option_or}
 use Rattle.kmipa_object.specs.Inventory.{rule_of}
 use Rattle.kmipa_object.specs.declared.life.SecretNo.{SecretNo}
@@ -28,3 +28,7 @@ abbrev pub shown_speak : Meaning → Option (List ℕ) → Held → SecretNo →
 shown_speak m about h secret a =
     option_or (bytes_speak (slice_get m.secrets secret.number) a.block.material)
     (cond (shows_other a (Some h)) (Some AttributeDiffers) (cond (is_other_id a.id about) (Some EchoDiffers) None))
+
+abbrev pub live_speak : Meaning → Option (List ℕ) → Held → SecretNo → Option GotOf → Option Why
+live_speak m about h secret None = None
+live_speak m about h secret (Some a) = shown_speak m about h secret a

@@ -1,16 +1,20 @@
 //! Failed answers: which of their reasons are founded.
 
-ghost use Rattle.std.specs.Prelude.{◌≡◌, ◌&&◌, ◌==◌};
+ghost use Rattle.std.specs.Prelude.{◌≡◌, ◌&&◌, ◌==◌, not};
+ghost use Rattle.std.specs.List.{list_any};
+ghost use Rattle.kmipa_object.specs.Inventory.{card_of};
+ghost use Rattle.kmipa_object.specs.Life.{state};
+ghost use Rattle.kmipa_object.specs.Table.{allowed};
 ghost use Rattle.kmipa_store.specs.Ledger.{cards_of};
 ghost use Rattle.kmipa_msgs.specs.Messages.{asked_of, maybe_lent, rules_of};
-ghost use Rattle.kmipa_ops.specs.Founded.{founded, has_cause, has_row, holds_cause, is_about_nothing, is_live_there, is_refusable};
+ghost use Rattle.kmipa_ops.specs.Founded.{founded, has_cause, has_row, holds_cause, is_about_nothing, is_live_there, is_must, is_refusable};
 ghost use Rattle.kmipa_ops.specs.Objects.{card_meant};
 ghost use Rattle.kmipa_ops.specs.Placeholders.{placeholder_of};
 
 use crate::objects::{any_named, is_live, object_meant};
 use crate::placeholder::Placeholder;
 use kmipa_msgs::{Asked, Cause, Row, Rules};
-use kmipa_object::{Act, Allow, allows, state_at};
+use kmipa_object::{Act, Allow, Object, allows, state_at};
 use kmipa_store::Ledger;
 
 /// Whether a failed answer's reason is founded.
@@ -37,12 +41,13 @@ pub(crate) fn is_founded<L: Ledger>(
 fn has_row(rules: &Rules, reason: u32) -> bool
     ensures { result ≡ has_row (rules_of rules.now) reason }
 {
-    for row in &rules.rows {
-        if row.reason == reason {
-            return true;
-        }
-    }
-    false
+    any_reason(rules.rows.as_slice(), reason)
+}
+
+fn any_reason(rows: &[Row], reason: u32) -> bool
+    ensures { result ≡ list_any (λ (row : Row). row.reason == reason) rows.now }
+{
+    rows.iter().any(|row| row.reason == reason)
 }
 
 fn is_about_nothing(placeholder: &Placeholder, asked: &Asked) -> bool
@@ -65,7 +70,20 @@ fn has_cause<L: Ledger>(
 ) -> bool
     ensures { result ≡ has_cause (rules_of rules.now) (cards_of (L.state ledger.now).now.objects) (placeholder_of placeholder.now) t (asked_of asked.now) reason }
 {
-    for row in &rules.rows {
+    any_cause(ledger, rules.rows.as_slice(), placeholder, t, asked, reason)
+}
+
+fn any_cause<L: Ledger>(
+    ledger: &L,
+    rows: &[Row],
+    placeholder: &Placeholder,
+    t: i64,
+    asked: &Asked,
+    reason: u32,
+) -> bool
+    ensures { result ≡ list_any (λ (row : Row). (row.reason == reason) && holds_cause (cards_of (L.state ledger.now).now.objects) (placeholder_of placeholder.now) t (asked_of asked.now) row.cause) rows.now }
+{
+    for row in rows {
         if is_cause(ledger, placeholder, t, asked, reason, *row) {
             return true;
         }
@@ -123,7 +141,16 @@ fn is_refusable<L: Ledger>(ledger: &L, act: Act, t: i64, about: Option<&str>) ->
     ensures { result ≡ is_refusable act t (card_meant (cards_of (L.state ledger.now).now.objects) (maybe_lent about.entry)) }
 {
     match object_meant(ledger, about) {
-        Some(object) => allows(act, state_at(&object.life, t)) != Allow::Must,
+        Some(object) => is_doubted(object, act, t),
         None => false,
+    }
+}
+
+fn is_doubted(object: &Object, act: Act, t: i64) -> bool
+    ensures { result ≡ not (is_must (allowed act (state (card_of object.now).dates t))) }
+{
+    match allows(act, state_at(&object.life, t)) {
+        Allow::Must => false,
+        Allow::May | Allow::Not => true,
     }
 }

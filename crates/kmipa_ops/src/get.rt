@@ -7,7 +7,7 @@ ghost use Rattle.kmipa_store.specs.Ledger.{held};
 ghost use Rattle.kmipa_msgs.specs.Messages.{got_of, maybe_lent};
 ghost use Rattle.kmipa_ops.specs.After.{Changes, taught};
 ghost use Rattle.kmipa_ops.specs.Blame.{get_speaks, is_other_id, object_meant, shows_other};
-ghost use Rattle.kmipa_ops.specs.Shown.{HasRule, IsSecretOf, bytes_speak, shown_speak};
+ghost use Rattle.kmipa_ops.specs.Shown.{HasRule, IsSecretOf, bytes_speak, live_speak, shown_speak};
 ghost use Rattle.kmipa_ops.specs.Whys.{whys};
 
 use crate::echo::{clash_lengths, clash_numbers, is_other_text, is_other_type};
@@ -31,9 +31,23 @@ pub(crate) fn why_not_got<L: Ledger>(
     let Some(object) = object_meant(ledger, about) else {
         return Some(Why::NoSuchObject);
     };
-    let Material::Secret(secret) = object.life.material else {
-        return Some(Why::WrongState);
-    };
+    match object.life.material {
+        Material::Gone => Some(Why::WrongState),
+        Material::Secret(secret) => why_not_live(ledger, about, object, secret, shown),
+    }
+}
+
+/// The lowest reason against a Get of a live object.
+fn why_not_live<L: Ledger>(
+    ledger: &L,
+    about: Option<&str>,
+    object: &Object,
+    secret: SecretNo,
+    shown: Option<&Got>,
+) -> Option<Why>
+    requires { IsSecretOf (L.state ledger.now).now (held object.now) secret }
+    ensures { result ≡ live_speak (L.state ledger.now).now (maybe_lent about.entry) (held object.now) secret (option_map (λ got. got_of got.now) shown.entry) }
+{
     match shown {
         Some(got) => why_not_shown(ledger, about, object, secret, got),
         None => None,

@@ -1,11 +1,12 @@
 //! One item of a batch, taken over any ledger.
 
-ghost use Rattle.std.specs.Prelude.{◌≡◌, ◌<◌, All, find, option_map, true};
+ghost use Rattle.std.specs.Prelude.{◌≡◌, ◌<◌, All, bytes_eq, cond, find, option_map, true};
 ghost use Rattle.kmipa_store.specs.Choices.{IsSound};
 ghost use Rattle.kmipa_msgs.specs.Messages.{answer_of, ask_of, asked_of, payload_of, rules_of};
 ghost use Rattle.kmipa_ops.specs.After.{Leaves, after, after_done, placeholder_after, placeholder_done};
 ghost use Rattle.kmipa_ops.specs.Blame.{done_speaks, failure_speaks, lowest, outcome_speaks};
 ghost use Rattle.kmipa_ops.specs.Explains.{AreBytes, Taken, TellsBytes, brings, is_readable, shows};
+ghost use Rattle.kmipa_ops.specs.Objects.{clash};
 ghost use Rattle.kmipa_ops.specs.Placeholders.{placeholder_of};
 ghost use Rattle.kmipa_ops.specs.Whys.{whys};
 
@@ -37,13 +38,15 @@ pub fn take<L: Ledger>(
     requires readable { is_readable (ask_of ask.now) (answer_of answer.now) ≡ true }
     ensures { Taken (rules_of rules.now) (L.state ledger.old) (placeholder_of placeholder.old) t (ask_of ask.now) (answer_of answer.now) result (L.state ledger.new) (placeholder_of placeholder.new) }
 {
-    if let Some(why) = lowest_why(alloc, ledger, rules, placeholder, t, ask, answer) {
-        return Err(Refusal::Impossible(why));
-    }
-    tells_bytes(ask, answer);
-    match leave(alloc, ledger, placeholder, t, ask, answer) {
-        Ok(()) => Ok(()),
-        Err(_) => Err(Refusal::Memory),
+    match lowest_why(alloc, ledger, rules, placeholder, t, ask, answer) {
+        Some(why) => Err(Refusal::Impossible(why)),
+        None => {
+            tells_bytes(ask, answer);
+            match leave(alloc, ledger, placeholder, t, ask, answer) {
+                Ok(()) => Ok(()),
+                Err(_) => Err(Refusal::Memory),
+            }
+        }
     }
 }
 
@@ -63,13 +66,20 @@ fn lowest_why<L: Ledger>(
     if is_other_number(answer.operation, ask.number()) {
         return Some(Why::OperationDiffers);
     }
-    if let Some(why) = outcome_why(alloc, ledger, rules, placeholder, t, ask, answer) {
-        return Some(why);
+    match outcome_why(alloc, ledger, rules, placeholder, t, ask, answer) {
+        Some(why) => Some(why),
+        None => echo_why(ask, answer),
     }
+}
+
+fn echo_why(ask: &Ask, answer: &Answer) -> Option<Why>
+    ensures { result ≡ cond (clash bytes_eq (answer_of answer.now).batch_id (ask_of ask.now).batch_id) (Some Why.EchoDiffers) None }
+{
     if clash_bytes(answer.batch_id, ask.batch_id) {
-        return Some(Why::EchoDiffers);
+        Some(Why::EchoDiffers)
+    } else {
+        None
     }
-    None
 }
 
 /// The lowest reason against what the answer says was done.
