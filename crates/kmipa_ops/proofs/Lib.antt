@@ -1,6 +1,7 @@
 mod TestLemmas
 mod ScanLemmas
 mod StepLemmas
+pub mod AddLemmas
 mod RegisterLemmas
 mod GetLemmas
 mod MeantLemmas

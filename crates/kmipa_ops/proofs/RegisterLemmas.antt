@@ -20,6 +20,7 @@ use Rattle.kmipa_ops.specs.Does.{newborn, name_taken, Registers}
 use Rattle.kmipa_ops.specs.Blame.{register_speaks}
 use Rattle.kmipa_ops.specs.After.{with_registered}
 use Rattle.kmipa_ops.proofs.TestLemmas.{not_false, not_some, echoes_if, echoes_not}
+use Rattle.kmipa_ops.proofs.AddLemmas.{own_sound}
 use Rattle.kmipa_ops.proofs.StepLemmas.{Step}
 
 module _ (rules : RulesOf) (m : Meaning) (t : ℤ) (r : RegisterOf) (a : RegisteredOf) where
@@ -65,47 +66,8 @@ module _ (rules : RulesOf) (m : Meaning) (t : ℤ) (r : RegisterOf) (a : Registe
         x.placeholder,
       )
 
-  -- no object has the new identifier
-  is_new : place_of a.id (cards_of m.objects) ≡ None → (p : ℕ) (h : Held) → slice_get m.objects p ≡ Some h → a.id ≡ h.card.id → ⊥
-  is_new free p h at same =
-      let e : bytes_eq a.id h.card.id ≡ false = place_none (cards_of m.objects) a.id free p h.card (get-cards_of m.objects p ∙ ap (λ (o : Option Held). option_map (λ (g : Held). g.card) o) at) in
-      let f : bytes_eq a.id h.card.id ≡ true = (bytes_eq-Decides a.id h.card.id).1 same in
-      cc
-
   stays_sound : IsSound m → place_of a.id (cards_of m.objects) ≡ None → Admitted (rule_of card) r.block.material → IsSound n
-  stays_sound sound free admitted = record {
-    in_range = record {
-      there = λ p h s at mat. elim (get-append_cases m.objects object p h at) [
-        | inl old ↦ let q = sound.in_range.there p h s old mat in (q.0, get-append_old m.secrets known s.number _ q.1)
-        | inr new ↦
-            let same : Secret s ≡ Secret own = sym mat ∙ ap (λ (x : Held). x.material) new.1 in
-            let number : s.number ≡ length m.secrets = cc in
-            let rule : rule_of card ≡ rule_of h.card = ap (λ (x : Held). rule_of x.card) (sym new.1) in (
-              Some r.block.material,
-              ap (slice_get (m.secrets ++ known ∷ [])) number ∙ get-append_last m.secrets known
-                  ∙ ap (λ (x : Rule). Some (record { rule = x; bytes = Some r.block.material })) rule,
-            )
-      ];
-    };
-    gone = λ p h at. elim (get-append_cases m.objects object p h at) [
-      | inl old ↦ sound.gone p h old
-      | inr new ↦ subst (λ (x : Held). GoneIfDestroyed (live x.card) x.material) (sym new.1) tt
-    ];
-    distinct = λ p q g h x y same. elim (get-append_cases m.objects object p g x) [
-      | inl old ↦ (elim (get-append_cases m.objects object q h y) [
-        | inl too ↦ sound.distinct p q g h old too same
-        | inr new ↦ absurd (is_new free p g old (sym (same ∙ ap (λ (z : Held). z.card.id) new.1)))
-      ])
-      | inr new ↦ (elim (get-append_cases m.objects object q h y) [
-        | inl old ↦ absurd (is_new free q h old (sym (ap (λ (z : Held). z.card.id) new.1) ∙ same))
-        | inr too ↦ new.0 ∙ sym too.0
-      ])
-    ];
-    choice = (
-      override sound.choice.0 (length m.secrets) r.block.material,
-      Chooses-more m.secrets known sound.choice.0 r.block.material sound.choice.1 (record { admitted = admitted; known = λ k q. cc }),
-    );
-  }
+  stays_sound sound free admitted = own_sound m card (Some r.block.material) r.block.material sound free refl (record { admitted = admitted; known = λ k q. cc })
 
   pub register_step : IsSound m → All (λ b. b < 256) r.block.material → ((w : Why) → register_speaks rules (cards_of m.objects) r a w ≡ false)
       → Step (λ V V' p. Registers rules V t r a V' p) m n (Some a.id)

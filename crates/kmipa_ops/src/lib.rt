@@ -7,11 +7,13 @@ mod get;
 mod laws;
 mod objects;
 mod placeholder;
+mod readable;
 mod register;
 mod taking;
 mod why;
 
 pub use laws::{blame_is_exact, chains_complete};
 pub use placeholder::Placeholder;
+pub use readable::is_readable;
 pub use taking::take;
 pub use why::{Refusal, Why};
