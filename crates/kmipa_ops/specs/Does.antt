@@ -1,0 +1,99 @@
+-- What one item of a batch does: the inventory and the ID Placeholder before it, the moment, what was asked and answered, and the
+-- inventory and the placeholder after it (KMIP 2.1, section 6; what an answer may show and leave out: profile).
+use Rattle.std.specs.Prelude.{◌≡◌, ◌&&◌, ℕ, ℤ, Bool, true, false, List, [], ◌∷◌, ◌++◌, Option, Some, None}
+use Rattle.kmipa_attrs.specs.Sets.{Attributes, NameOf, no_attributes}
+use Rattle.kmipa_attrs.specs.ObjectTypes.{type_number}
+use Rattle.kmipa_object.specs.Inventory.{Card, Thing, cards, place_of, live, rule_of, Admitted}
+use Rattle.kmipa_msgs.specs.declared.response.Status.{Status}
+use Rattle.kmipa_msgs.specs.declared.response.Status.TheVariants.{Success, Failed, Undone}
+use Rattle.kmipa_msgs.specs.Operations.{operation_number}
+use Rattle.kmipa_msgs.specs.Messages.{RulesOf, RegisterOf, AskedOf, registers, gets, AskOf, operation_asked, RegisteredOf, GotOf, PayloadOf, registered, got, AnswerOf}
+use Rattle.kmipa_ops.specs.Objects.{meant, HasObject, Echoes, Agree, any_live_named}
+use Rattle.kmipa_ops.specs.Founded.{founded}
+
+-- the value that is there, of two of which one may be missing
+abbrev pub either_of : {A : Type 0} → Option A → Option A → Option A
+either_of None other = other
+either_of (Some x) other = Some x
+
+-- the attributes that a Register brings: an algorithm or a length may stand in its Attributes, in its Key Block or in both
+abbrev pub brought : RegisterOf → Attributes
+brought r = record no_attributes {
+  names = r.attributes.names;
+  algorithm = either_of r.attributes.algorithm r.block.algorithm;
+  length = either_of r.attributes.length r.block.length;
+  mask = r.attributes.mask;
+}
+
+-- the object that a Register makes, but for its bytes: its Initial Date is the moment
+abbrev pub newborn : ℤ → List ℕ → RegisterOf → Card
+newborn t id r = record {
+  id = id;
+  kind = r.object_type;
+  given = brought r;
+  dates = record {
+    initial = Some t;
+    activation = r.attributes.activation;
+    deactivation = r.attributes.deactivation;
+    destroy = None;
+    compromise = None;
+  };
+}
+
+-- names are declared unique, and a live object has one that is asked for
+abbrev pub name_taken : RulesOf → List Card → List NameOf → Bool
+name_taken rules cs names = rules.unique_names && any_live_named cs names
+
+-- Register succeeds
+pub record Registers (rules : RulesOf) (V : List Thing) (t : ℤ) (r : RegisterOf) (a : RegisteredOf) (V' : List Thing) (after : Option (List ℕ)) : Type 0 where
+  -- no object has the answered identifier, destroyed or not
+  pub free : place_of a.id (cards V) ≡ None
+  pub names : name_taken rules (cards V) r.attributes.names ≡ false
+  pub admitted : Admitted (rule_of (newborn t a.id r)) r.block.material
+  pub echo : Echoes a.object_type (type_number r.object_type)
+  pub leaves : V' ≡ V ++ record { card = newborn t a.id r; bytes = Some r.block.material } ∷ []
+  pub placeholder : after ≡ Some a.id
+
+-- Get succeeds: what it shows is the object's, and its bytes are these
+pub record Gets (V : List Thing) (before : Option (List ℕ)) (asked : Option (List ℕ)) (a : GotOf) (V' : List Thing) (after : Option (List ℕ)) : Type 0 where
+  pub id : List ℕ
+  pub place : ℕ
+  pub object : Thing
+  pub about : meant asked before ≡ Some id
+  pub there : HasObject V id place object
+  pub alive : live object.card ≡ true
+  pub bytes : object.bytes ≡ Some a.block.material
+  pub kind : Echoes a.object_type object.card.kind
+  pub shape : a.shape ≡ object.card.kind
+  pub algorithm : Agree a.block.algorithm object.card.given.algorithm
+  pub length : Agree a.block.length object.card.given.length
+  pub echo : Echoes a.id id
+  pub leaves : V' ≡ V
+  pub placeholder : after ≡ before
+
+-- an operation succeeds with this payload
+abbrev pub Succeeds : RulesOf → List Thing → Option (List ℕ) → ℤ → AskedOf → Option PayloadOf → List Thing → Option (List ℕ) → Type 0
+Succeeds rules V before t (registers r) (Some (registered a)) V' after = Registers rules V t r a V' after
+Succeeds rules V before t (registers r) (Some (got a)) V' after = ⊥
+Succeeds rules V before t (registers r) None V' after = ⊥
+Succeeds rules V before t (gets id) (Some (got a)) V' after = Gets V before id a V' after
+Succeeds rules V before t (gets id) (Some (registered a)) V' after = ⊥
+Succeeds rules V before t (gets id) None V' after = ⊥
+
+-- a failed answer changes nothing, and is possible where its reason is founded
+pub record Fails (rules : RulesOf) (V : List Thing) (before : Option (List ℕ)) (t : ℤ) (asked : AskedOf) (reason : Option ℕ) (V' : List Thing) (after : Option (List ℕ)) : Type 0 where
+  pub founded : founded rules (cards V) before t asked reason ≡ true
+  pub leaves : V' ≡ V
+  pub placeholder : after ≡ before
+
+-- by the status: an Undone item was done at its place, and is judged as Success
+abbrev pub Outcome : Status → RulesOf → List Thing → Option (List ℕ) → ℤ → AskedOf → Option ℕ → Option PayloadOf → List Thing → Option (List ℕ) → Type 0
+Outcome Success rules V before t asked reason payload V' after = Succeeds rules V before t asked payload V' after
+Outcome Undone rules V before t asked reason payload V' after = Succeeds rules V before t asked payload V' after
+Outcome Failed rules V before t asked reason payload V' after = Fails rules V before t asked reason V' after
+
+-- one item: Operation and Unique Batch Item ID, where they are there, are those of the request
+pub record Does (rules : RulesOf) (V : List Thing) (before : Option (List ℕ)) (t : ℤ) (ask : AskOf) (answer : AnswerOf) (V' : List Thing) (after : Option (List ℕ)) : Type 0 where
+  pub operation : Echoes answer.operation (operation_number (operation_asked ask.asked))
+  pub batch_id : Agree answer.batch_id ask.batch_id
+  pub outcome : Outcome answer.status rules V before t ask.asked answer.reason answer.payload V' after

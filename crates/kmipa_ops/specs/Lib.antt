@@ -1,0 +1,11 @@
+pub mod Whys
+pub mod Placeholders
+pub mod Objects
+pub mod Founded
+pub mod Does
+pub mod Completes
+pub mod Chains
+pub mod Blame
+pub mod Explains
+pub mod After
+pub mod Shown
