@@ -71,7 +71,7 @@ reads_single {A} (Some x ∷ Some y ∷ held) = let P : Result (Option A) AttrFa
     again no_wrong NotForClients lt h = h
     again no_wrong Memory lt h = h
 
--- no fault at all where ClientFault has none
+-- a child that no client may give
 pub reads_client : (side : Side) (there : Option Tree) → Reads attr_number (λ (u : Unit {0}). Unit {0}) (ClientFault side there) (server_only side there)
 reads_client Server there = record { said = tt; only = λ y h. refl; right = right }
   where
@@ -281,3 +281,29 @@ pub reads_no_structure : (side : Side) (t : Tree) → None ≡ as_structure t �
 unfolding as_structure
 reads_no_structure side (structure n us) e = cc
 reads_no_structure side (scalar n s) e = record { here = refl; least = λ j lt h. below_wrong j lt }
+
+-- memory is no fault of attributes
+client_memory : (side : Side) (there : Option Tree) → ClientFault side there Memory → ⊥
+client_memory Server there h = h
+client_memory Client None h = h
+client_memory Client (Some t) h = h
+
+pub never_memory : (side : Side) (ts : Trees) → AttributesFault side ts Memory → ⊥
+never_memory side ts f = elim f [
+  | in_names w ↦ w
+  | in_object_type w ↦ w
+  | in_algorithm w ↦ w
+  | in_length w ↦ w
+  | in_mask w ↦ w
+  | in_state w ↦ w
+  | in_initial w ↦ w
+  | in_activation w ↦ w
+  | in_deactivation w ↦ w
+  | in_destroy w ↦ w
+  | in_compromise w ↦ w
+  | of_client_state w ↦ client_memory side _ w
+  | of_client_initial w ↦ client_memory side _ w
+  | of_client_destroy w ↦ client_memory side _ w
+  | of_client_compromise w ↦ client_memory side _ w
+  | of_client_identifier w ↦ client_memory side _ w
+]
