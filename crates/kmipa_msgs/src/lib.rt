@@ -4,6 +4,7 @@
 mod fault;
 mod key_block;
 mod kind;
+mod laws;
 mod operation;
 mod reading;
 mod request;
@@ -15,6 +16,7 @@ mod wanted;
 pub use fault::{Outside, ReadFault};
 pub use key_block::{KeyBlock, KeyFormat};
 pub use kind::OutsideKind;
+pub use laws::{one_payload, one_request, one_response};
 pub use operation::Operation;
 pub use reading::{read_payload, read_request, read_response};
 pub use request::{Ask, Asked, BatchOption, Get, Register, Request};
