@@ -1,5 +1,5 @@
 -- A message says one thing, or is outside the profile at some item.
-use Rattle.std.specs.Prelude.{◌≡◌, ◌<◌, ℕ, zero, suc, List, [], ◌∷◌, Result, Ok, Err}
+use Rattle.std.specs.Prelude.{◌⊎◌, ◌≡◌, ◌<◌, ℕ, zero, suc, List, [], ◌∷◌, Result, Ok, Err}
 use Rattle.kmipa_ttlv.specs.Tree.{Tree}
 use Rattle.kmipa_attrs.specs.Readings.{map_ok}
 use Rattle.kmipa_msgs.specs.declared.fault.ReadFault.{ReadFault}
@@ -18,6 +18,10 @@ pub record OutsideAt (Fault : ℕ → OutsideKind → Type 0) (item : ℕ) (kind
   pub here : Fault item kind
   pub least : (j : OutsideKind) → kind_number j < kind_number kind → Fault item j → ⊥
   pub first : (i : ℕ) (j : OutsideKind) → i < item → Fault i j → ⊥
+
+-- one or the other, whatever the item
+abbrev pub Decided : {M : Type 0} → (M → Type 0) → (ℕ → OutsideKind → Type 0) → Type 0
+Decided {M} Said Fault = ((m : M) × Inside Said Fault m) ⊎ ((item : ℕ) × (kind : OutsideKind) × OutsideAt Fault item kind)
 
 -- what a reader tells: the one message that is said, or where it is outside; want of memory tells nothing of it
 abbrev pub Tells : {X M : Type 0} → (X → M) → (M → Type 0) → (ℕ → OutsideKind → Type 0) → Result X ReadFault → Type 0

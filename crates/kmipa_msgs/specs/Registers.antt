@@ -1,12 +1,12 @@
 -- Register: the request { Object Type, Attributes?, the object } and its answer { Object Type?, Unique Identifier } (KMIP 2.1, section 6.1).
-use Rattle.std.specs.Prelude.{◌≡◌, ℕ, Bool, true, false, ◌==◌, ◌&&◌, List, [], Option, Some, None, Result, Ok, Err}
+use Rattle.std.specs.Prelude.{◌≡◌, ℕ, Bool, true, false, ◌==◌, ◌&&◌, List, Option, Some, None, Result, Ok, Err}
 use Rattle.std.specs.Ordering.{int_eq}
 use Rattle.kmipa_ttlv.specs.Tree.{Trees}
 use Rattle.kmipa_attrs.specs.Attributes.{SaysAttributes, AttributesFault, attributes_in}
 use Rattle.kmipa_attrs.specs.Fields.{at, inside, as_structure, as_text, as_enumeration}
 use Rattle.kmipa_attrs.specs.ObjectTypes.{type_number, type_of}
 use Rattle.kmipa_attrs.specs.Readings.{Optional, IsWrong, NeededFault, needed, optional, both, map_ok, passing}
-use Rattle.kmipa_attrs.specs.Sets.{Attributes}
+use Rattle.kmipa_attrs.specs.Sets.{Attributes, no_attributes}
 use Rattle.kmipa_attrs.specs.declared.fault.AttrFault.{AttrFault}
 use Rattle.kmipa_attrs.specs.declared.fields.Field.{Field}
 use Rattle.kmipa_attrs.specs.declared.fields.Field.TheVariants.{Absent, Wrong, There}
@@ -23,21 +23,6 @@ use Rattle.kmipa_msgs.specs.Objects.{shape_in, block_inside}
 -- THE REQUEST
 
 -- the attributes of a client, absent meaning none
-abbrev pub no_attributes : Attributes
-no_attributes = record {
-  names = [];
-  object_type = None;
-  algorithm = None;
-  length = None;
-  mask = None;
-  state = None;
-  initial = None;
-  activation = None;
-  deactivation = None;
-  destroy = None;
-  compromise = None;
-}
-
 abbrev pub SaysGiven : Field Trees → Attributes → Type 0
 SaysGiven Absent a = a ≡ no_attributes
 SaysGiven Wrong a = ⊥

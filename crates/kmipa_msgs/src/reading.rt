@@ -22,3 +22,6 @@ pub use response::read_response;
 
 /// What a part of a message says, or why it is outside; want of memory stands apart.
 type Read<T> = Result<Result<T, OutsideKind>, AllocError>;
+
+#[cfg(test)]
+mod tests;

@@ -9,7 +9,7 @@ ghost use Rattle.kmipa_attrs.specs.Sets.{attributes_of};
 ghost use Rattle.kmipa_msgs.specs.Messages.{register_of, registered_of, block_of};
 ghost use Rattle.kmipa_msgs.specs.Tables.{listed};
 ghost use Rattle.kmipa_msgs.specs.Brought.{brought_of};
-ghost use Rattle.kmipa_msgs.specs.Registers.{given_in, unless_unlisted, no_attributes, brought_in, register_in, registered_in};
+ghost use Rattle.kmipa_msgs.specs.Registers.{given_in, unless_unlisted, brought_in, register_in, registered_in};
 
 use crate::kind::OutsideKind;
 use crate::reading::Read;
@@ -23,7 +23,6 @@ use crate::tags::{ATTRIBUTES, OBJECT_TYPE, UNIQUE_IDENTIFIER};
 use kmipa_attrs::fields::{enumeration_at, inside, structure_at, text_at};
 use kmipa_attrs::{AttrFault, AttrSet, Field, ObjectType, Side, both, read_children};
 use kmipa_ttlv::View;
-use smallvec::SmallVec;
 use std::alloc::{AllocError, Global};
 
 /// What the children of a Register's Request Payload bring.
@@ -98,26 +97,8 @@ fn attributes(alloc: Global, payload: &[View]) -> Read<AttrSet>
             Err(AttrFault::Memory) => Err(AllocError),
             Err(_) => Ok(Err(OutsideKind::Attribute)),
         },
-        Field::Absent => Ok(Ok(no_attributes(alloc))),
+        Field::Absent => Ok(Ok(AttrSet::new(alloc))),
         Field::Wrong => Ok(Err(OutsideKind::Missing)),
-    }
-}
-
-fn no_attributes(alloc: Global) -> AttrSet
-    ensures { attributes_of result ≡ no_attributes }
-{
-    AttrSet {
-        names: SmallVec::new(alloc),
-        object_type: None,
-        algorithm: None,
-        length: None,
-        mask: None,
-        state: None,
-        initial: None,
-        activation: None,
-        deactivation: None,
-        destroy: None,
-        compromise: None,
     }
 }
 
