@@ -1,9 +1,10 @@
 use super::*;
 use crate::key_block::{KeyBlock, KeyFormat};
+use crate::reading::{read_request, read_response};
 use crate::request::{Ask, Asked, BatchOption, Get, Register, Request};
 use crate::response::{Answer, Got, Payload, Registered, Response, Status};
 use kmipa_attrs::{AttrSet, Name, ObjectType};
-use kmipa_ttlv::{Item, encode, spelled_len};
+use kmipa_ttlv::{Item, decode_view, encode, spelled_len};
 use std::test::*;
 
 // A request to get `k1`, of 120 bytes.
@@ -232,5 +233,20 @@ fn optional_fields_of_responses(rt: HostRuntime) -> Result<(), Fail> {
     };
     let bytes = bytes_of(&rt, &write_response(rt.alloc(), &response)?)?;
     assert_eq!(rt; bytes.as_slice(), FOUR_ANSWERS.as_slice());
+    Ok(())
+}
+
+#[test]
+fn read_and_written_back(rt: HostRuntime) -> Result<(), Fail> {
+    let (message, _) = decode_view(rt.alloc(), &GET_K1)?;
+    let request = read_request(rt.alloc(), &message)?;
+    assert_eq!(rt; request.items.len(), 1);
+    let bytes = bytes_of(&rt, &write_request(rt.alloc(), &request)?)?;
+    assert_eq!(rt; bytes.as_slice(), GET_K1.as_slice());
+    let (message, _) = decode_view(rt.alloc(), &GOT_K1)?;
+    let response = read_response(rt.alloc(), &message, &request)?;
+    assert_eq!(rt; response.items.len(), 1);
+    let bytes = bytes_of(&rt, &write_response(rt.alloc(), &response)?)?;
+    assert_eq!(rt; bytes.as_slice(), GOT_K1.as_slice());
     Ok(())
 }
