@@ -1,13 +1,14 @@
 -- What keeps a ledger sound.
-use Rattle.std.proofs.Common.{◌≡◌, ◌<◌, ℕ, Bool, true, false, List, [], ◌∷◌, ◌++◌, length, slice_get, Option, Some, None, option_map, refl, ap, sym, ◌∙◌, subst, inl, inr}
+use Rattle.std.proofs.Common.{◌≡◌, ◌<◌, ◌⊎◌, ℕ, zero, suc, is_none, Bool, true, false, List, [], ◌∷◌, ◌++◌, length, slice_get, Option, Some, None, option_map, refl, ap, sym, ◌∙◌, subst, inl, inr}
 use Rattle.kmipa_object.specs.Inventory.{Thing, Admitted, HasBytes, IsInventory, live, rule_of, possible}
 use Rattle.kmipa_object.specs.declared.rule.Rule.{Rule}
+use Rattle.kmipa_object.specs.declared.life.Life.{Life}
 use Rattle.kmipa_object.specs.declared.life.Material.{Material}
 use Rattle.kmipa_object.specs.declared.life.Material.TheVariants.{Gone, Secret}
 use Rattle.kmipa_object.specs.declared.life.SecretNo.{SecretNo}
 use Rattle.kmipa_object.proofs.ListLemmas.{get_below, get-append_cases}
 use Rattle.kmipa_object.proofs.RuleLemmas.{possible_admits}
-use Rattle.kmipa_store.specs.Ledger.{Held, Known, Meaning, told}
+use Rattle.kmipa_store.specs.Ledger.{Held, Known, Meaning, relived, told, with_life}
 use Rattle.kmipa_store.specs.Choices.{Choice, Chooses, Suits, InRange, GoneIfDestroyed, IsSound, Extends, inv, thing, bytes_of}
 use Rattle.kmipa_store.proofs.InventoryLemmas.{get-inv}
 use Rattle.kmipa_store.proofs.ChoiceLemmas.{override, override_same, Chooses-none, Chooses-more, Chooses-override, Chooses-told, extends_push, extends_told}
@@ -113,5 +114,47 @@ sound_added m h sound fresh fit = record {
       | inr d ↦ e.0 ∙ sym d.0
     ]
   ];
+  choice = sound.choice;
+}
+
+-- an object after one led another life
+relived_from : (hs : List Held) (place p : ℕ) (life : Life) (g : Held) → slice_get (relived hs place life) p ≡ Some g
+    → (h : Held) × (slice_get hs p ≡ Some h) × ((g ≡ h) ⊎ ((p ≡ place) × (g ≡ with_life h life)))
+relived_from [] place p life g e = let bad : ⊥ = cc in absurd bad
+relived_from (x ∷ hs) zero zero life g e = (x, refl, inr (refl, cc))
+relived_from (x ∷ hs) zero (suc p) life g e = (g, e, inl refl)
+relived_from (x ∷ hs) (suc place) zero life g e = (x, refl, inl cc)
+relived_from (x ∷ hs) (suc place) (suc p) life g e =
+    let r = relived_from hs place p life g e in
+    (r.0, r.1, elim r.2 [ inl a ↦ inl a | inr b ↦ inr (ap suc b.0, b.1) ])
+
+same_id : (life : Life) (place p : ℕ) (g h : Held) → (g ≡ h) ⊎ ((p ≡ place) × (g ≡ with_life h life)) → g.card.id ≡ h.card.id
+same_id life place p g h (inl a) = ap (λ (x : Held). x.card.id) a
+same_id life place p g h (inr b) = ap (λ (x : Held). x.card.id) b.1
+
+-- an object leads another life, with its own secret or none
+pub sound_relived : (m : Meaning) (place : ℕ) (h : Held) (life : Life) → IsSound m → slice_get m.objects place ≡ Some h → GoneIfDestroyed (is_none life.destroy) life.material
+    → ((secret : SecretNo) → life.material ≡ Secret secret → h.material ≡ Secret secret) → IsSound (record { objects = relived m.objects place life; secrets = m.secrets })
+sound_relived m place h life sound at gone own = record {
+  in_range = record {
+    there = λ p g n e mat.
+        let r = relived_from m.objects place p life g e in
+        elim r.2 [
+          | inl a ↦ let P : Held → Type 0 = λ x. (known : Option (List ℕ)) × (slice_get m.secrets n.number ≡ Some (record { rule = rule_of x.card; bytes = known })) in subst P (sym a) (sound.in_range.there p r.0 n r.1 (ap (λ (x : Held). x.material) (sym a) ∙ mat))
+          | inr b ↦
+              let there : Some r.0 ≡ Some h = sym r.1 ∙ ap (slice_get m.objects) b.0 ∙ at in
+              let is : r.0 ≡ h = cc in
+              let P : Held → Type 0 = λ x. (known : Option (List ℕ)) × (slice_get m.secrets n.number ≡ Some (record { rule = rule_of x.card; bytes = known })) in
+              subst P (sym b.1) (sound.in_range.there p r.0 n r.1 (ap (λ (x : Held). x.material) is ∙ own n (ap (λ (x : Held). x.material) (sym b.1) ∙ mat)))
+        ];
+  };
+  gone = λ p g e.
+      let r = relived_from m.objects place p life g e in
+      let P : Held → Type 0 = λ x. GoneIfDestroyed (live x.card) x.material in
+      elim r.2 [ inl a ↦ subst P (sym a) (sound.gone p r.0 r.1) | inr b ↦ subst P (sym b.1) gone ];
+  distinct = λ p q f g e d same.
+      let r = relived_from m.objects place p life f e in
+      let s = relived_from m.objects place q life g d in
+      sound.distinct p q r.0 s.0 r.1 s.1 (sym (same_id life place p f r.0 r.2) ∙ same ∙ same_id life place q g s.0 s.2);
   choice = sound.choice;
 }
