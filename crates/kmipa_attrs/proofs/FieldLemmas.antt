@@ -1,14 +1,14 @@
 -- Views and the trees that they are, field by field.
-use Rattle.std.proofs.Common.{◌≡◌, ◌<◌, ◌≤◌, ◌+◌, ℕ, ℤ, Bool, true, false, ◌==◌, cond, List, [], ◌∷◌, length, drop, get_or, Some, None, Option, Vec, Global, refl, sym, ap, ◌∙◌, add-one, subst, arith, suc, eq-eqb}
+use Rattle.std.proofs.Common.{◌≡◌, ◌<◌, ◌≤◌, ◌+◌, ℕ, ℤ, Bool, true, false, ◌==◌, cond, List, length, drop, get_or, Some, None, Vec, Global, refl, sym, ap, ◌∙◌, add-one, suc, eq-eqb}
 use Rattle.std.proofs.lemmas.Bool.{ne_eqb}
-use Rattle.std.proofs.Math.Seq.{drop-cons, drop-length}
+use Rattle.std.proofs.Math.Seq.{drop-cons}
 use Rattle.std.proofs.lemmas.List.{drop_all}
-use Rattle.kmipa_ttlv.specs.Tree.{Tree, Trees, structure, scalar, none, more, forest}
+use Rattle.kmipa_ttlv.specs.Tree.{Trees, more}
 use Rattle.kmipa_ttlv.specs.ViewTree.{view_value_tree, view_tree, view_trees}
 use Rattle.kmipa_ttlv.proofs.ViewTreeLemmas.{view_tree_of_structure}
 use Rattle.kmipa_ttlv.specs.declared.view.View.{View}
-use Rattle.kmipa_ttlv.specs.declared.view.ViewValue.{ViewValue, Structure, Structure', Integer, LongInteger, BigInteger, Enumeration, Boolean, Text, Bytes, DateTime, Interval, DateTimeExtended}
-use Rattle.kmipa_attrs.specs.Fields.{tag_of, first, every, as_structure, as_integer, as_enumeration, as_boolean, as_text, as_bytes, as_date}
+use Rattle.kmipa_ttlv.specs.declared.view.ViewValue.{ViewValue, Structure, Structure', Integer, Enumeration, Boolean, Text, Bytes, DateTime}
+use Rattle.kmipa_attrs.specs.Fields.{tag_of, first, as_structure, as_integer, as_enumeration, as_boolean, as_text, as_bytes, as_date}
 use denote.Bor.{Bor}
 
 pub tag_of-view : (n : ℕ) (v : ViewValue) → tag_of (view_value_tree n v) ≡ n

@@ -1,2 +1,6 @@
 pub mod FieldLemmas
 pub mod ReadingLemmas
+pub mod ViewLemmas
+pub mod NameLemmas
+pub mod DistinctLemmas
+pub mod AttrLemmas

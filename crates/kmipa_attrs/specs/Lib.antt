@@ -2,3 +2,5 @@ pub mod Fields
 pub mod Readings
 pub mod ObjectTypes
 pub mod Sets
+pub mod Names
+pub mod Attributes

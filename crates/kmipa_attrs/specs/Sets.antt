@@ -1,6 +1,7 @@
 -- A set of attributes, without where it lies in memory.
-use Rattle.std.specs.Prelude.{ℕ, ℤ, List, map, Option}
+use Rattle.std.specs.Prelude.{ℕ, ℤ, List, [], map, Option, None}
 use Rattle.std.specs.String.{string_bytes}
+use Rattle.smallvec.specs.SmallVec.{SmallVec}
 use Rattle.kmipa_attrs.specs.declared.name.Name.{Name}
 use Rattle.kmipa_attrs.specs.declared.attr_set.AttrSet.{AttrSet}
 
@@ -26,10 +27,13 @@ pub record Attributes : Type 0 where
 abbrev pub name_of : Name → NameOf
 name_of n = record { value = string_bytes n.value; kind = n.kind }
 
+abbrev pub names_of : SmallVec Name → List NameOf
+names_of names = map name_of names.items
+
 -- what the program's set means
 abbrev pub attributes_of : AttrSet → Attributes
 attributes_of s = record {
-  names = map name_of s.names.items;
+  names = names_of s.names;
   object_type = s.object_type;
   algorithm = s.algorithm;
   length = s.length;
@@ -40,4 +44,20 @@ attributes_of s = record {
   deactivation = s.deactivation;
   destroy = s.destroy;
   compromise = s.compromise;
+}
+
+-- the set that says nothing
+abbrev pub no_attributes : Attributes
+no_attributes = record {
+  names = [];
+  object_type = None;
+  algorithm = None;
+  length = None;
+  mask = None;
+  state = None;
+  initial = None;
+  activation = None;
+  deactivation = None;
+  destroy = None;
+  compromise = None;
 }

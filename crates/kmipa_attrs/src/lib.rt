@@ -2,13 +2,25 @@
 #![tactic(auto)]
 
 mod attr_set;
+mod fault;
 pub mod fields;
+mod held;
+mod laws;
 mod name;
+mod names;
 mod object_type;
+mod reading;
 pub mod readings;
+mod side;
+mod single;
+mod tags;
 
 pub use attr_set::{AttrSet, NAMES};
+pub use fault::AttrFault;
 pub use fields::Field;
+pub use laws::{attributes_are_read, distinct_names_are_the_same, distinct_names_do_not_repeat};
 pub use name::Name;
 pub use object_type::ObjectType;
+pub use reading::{read_attrs, read_children};
 pub use readings::{Numbered, both, passing};
+pub use side::Side;

@@ -1,0 +1,98 @@
+-- Each name once: the same names, none twice; and a list without repeats stays as it is.
+use Rattle.std.proofs.Common.{◌≡◌, ◌<◌, ◌↔◌, ℕ, zero, suc, length, get_or, Bool, true, false, not, cond, List, [], ◌∷◌, refl, sym, ap, ◌∙◌, subst, inl, inr, ◌⊎◌, arith}
+use Rattle.std.proofs.lemmas.List.Elements.{Contains-append_right}
+use Rattle.std.specs.List.{Contains}
+use Rattle.kmipa_attrs.specs.Sets.{NameOf}
+use Rattle.kmipa_attrs.specs.Names.{same_name, without, distinct, HasNoRepeats}
+use Rattle.kmipa_attrs.proofs.NameLemmas.{same_name-true, same_name-self}
+
+true_false : {b : Bool} → b ≡ true → b ≡ false → ⊥
+true_false e h = let q : true ≡ false = sym e ∙ h in cc
+
+-- an element is the first, or one behind it
+contains_first : (x : NameOf) (xs : List NameOf) → Contains (x ∷ xs) x
+contains_first x xs = (0, omega arith, refl)
+
+contains_behind : (x : NameOf) (xs : List NameOf) (n : NameOf) → Contains xs n → Contains (x ∷ xs) n
+contains_behind x xs n h = Contains-append_right (x ∷ []) xs n h
+
+contains_cases : (x : NameOf) (xs : List NameOf) (n : NameOf) → Contains (x ∷ xs) n → (x ≡ n) ⊎ Contains xs n
+contains_cases x xs n h = by h.0 h.1 h.2
+  where
+    by : (k : ℕ) → k < length (x ∷ xs) → get_or (x ∷ xs) k n ≡ n → (x ≡ n) ⊎ Contains xs n
+    by zero lt e = inl e
+    by (suc k) lt e = inr (k, omega arith, e)
+
+contains_nothing : (n : NameOf) → Contains [] n → ⊥
+contains_nothing n h = let lt : h.0 < 0 = h.1 in omega arith
+
+without-other : (x n : NameOf) (names : List NameOf) → Contains names n → same_name n x ≡ false → Contains (without x names) n
+without-other x n [] h e = absurd (contains_nothing n h)
+without-other x n (m ∷ names) h e = by (without-other x n names) (same_name m x) refl (contains_cases m names n h)
+  where
+    by : (Contains names n → same_name n x ≡ false → Contains (without x names) n) → (b : Bool) → same_name m x ≡ b → (m ≡ n) ⊎ Contains names n → Contains (cond (not b) (m ∷ without x names) (without x names)) n
+    by rest true g (inl p) = absurd (true_false (ap (λ k. same_name k x) (sym p) ∙ g) e)
+    by rest true g (inr p) = rest p e
+    by rest false g (inl p) = let P : NameOf → Type 0 = Contains (m ∷ without x names) in subst P p (contains_first m (without x names))
+    by rest false g (inr p) = contains_behind m (without x names) n (rest p e)
+
+without-from : (x n : NameOf) (names : List NameOf) → Contains (without x names) n → Contains names n × (same_name n x ≡ false)
+without-from x n [] h = absurd (contains_nothing n h)
+without-from x n (m ∷ names) h = by (without-from x n names) (same_name m x) refl h
+  where
+    by : (Contains (without x names) n → Contains names n × (same_name n x ≡ false)) → (b : Bool) → same_name m x ≡ b → Contains (cond (not b) (m ∷ without x names) (without x names)) n
+        → Contains (m ∷ names) n × (same_name n x ≡ false)
+    by rest true g h = let w = rest h in (contains_behind m names n w.0, w.1)
+    by rest false g h = elim (contains_cases m (without x names) n h) [
+      | inl p ↦ (let P : NameOf → Type 0 = Contains (m ∷ names) in subst P p (contains_first m names), ap (λ k. same_name k x) (sym p) ∙ g)
+      | inr p ↦ let w = rest p in (contains_behind m names n w.0, w.1)
+    ]
+
+distinct-to : (names : List NameOf) (n : NameOf) → Contains (distinct names) n → Contains names n
+unfolding distinct
+distinct-to [] n h = h
+distinct-to (x ∷ names) n h = elim (contains_cases x (without x (distinct names)) n h) [
+  | inl p ↦ let P : NameOf → Type 0 = Contains (x ∷ names) in subst P p (contains_first x names)
+  | inr p ↦ contains_behind x names n (distinct-to names n (without-from x n (distinct names) p).0)
+]
+
+distinct-from : (names : List NameOf) (n : NameOf) → Contains names n → Contains (distinct names) n
+unfolding distinct
+distinct-from [] n h = h
+distinct-from (x ∷ names) n h = by (distinct-from names n) (same_name n x) refl (contains_cases x names n h)
+  where
+    by : (Contains names n → Contains (distinct names) n) → (b : Bool) → same_name n x ≡ b → (x ≡ n) ⊎ Contains names n → Contains (x ∷ without x (distinct names)) n
+    by rest b e (inl p) = let P : NameOf → Type 0 = Contains (x ∷ without x (distinct names)) in subst P p (contains_first x (without x (distinct names)))
+    by rest true e (inr p) = let P : NameOf → Type 0 = Contains (x ∷ without x (distinct names)) in subst P (sym (same_name-true n x e)) (contains_first x (without x (distinct names)))
+    by rest false e (inr p) = contains_behind x (without x (distinct names)) n (without-other x n (distinct names) (rest p) e)
+
+pub distinct-Contains : (names : List NameOf) (n : NameOf) → Contains (distinct names) n ↔ Contains names n
+distinct-Contains names n = (distinct-to names n, distinct-from names n)
+
+without-HasNoRepeats : (x : NameOf) (names : List NameOf) → HasNoRepeats names → HasNoRepeats (without x names)
+without-HasNoRepeats x [] h = tt
+without-HasNoRepeats x (m ∷ names) h = by (without-HasNoRepeats x names h.1) (same_name m x)
+  where
+    by : HasNoRepeats (without x names) → (b : Bool) → HasNoRepeats (cond (not b) (m ∷ without x names) (without x names))
+    by rest true = rest
+    by rest false = (λ g. h.0 (without-from x m names g).0, rest)
+
+pub distinct-HasNoRepeats : (names : List NameOf) → HasNoRepeats (distinct names)
+unfolding distinct
+distinct-HasNoRepeats [] = tt
+distinct-HasNoRepeats (x ∷ names) =
+    (λ g. true_false (same_name-self x) (without-from x x (distinct names) g).1, without-HasNoRepeats x (distinct names) (distinct-HasNoRepeats names))
+
+-- without a name that isn't there
+without-absent : (x : NameOf) (names : List NameOf) → (Contains names x → ⊥) → without x names ≡ names
+without-absent x [] h = refl
+without-absent x (m ∷ names) h = by (same_name m x) refl (without-absent x names (λ g. h (contains_behind m names x g)))
+  where
+    by : (b : Bool) → same_name m x ≡ b → without x names ≡ names → cond (not b) (m ∷ without x names) (without x names) ≡ m ∷ names
+    by true e r = absurd (h (let P : NameOf → Type 0 = Contains (m ∷ names) in subst P (same_name-true m x e) (contains_first m names)))
+    by false e r = ap (λ us. m ∷ us) r
+
+pub distinct-same : (names : List NameOf) → HasNoRepeats names → distinct names ≡ names
+unfolding distinct
+distinct-same [] h = refl
+distinct-same (x ∷ names) h = ap (λ us. x ∷ without x us) (distinct-same names h.1) ∙ ap (λ us. x ∷ us) (without-absent x names h.0)

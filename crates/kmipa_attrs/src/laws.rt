@@ -1,0 +1,25 @@
+//! Laws of the definitions.
+
+ghost use Rattle.std.specs.Prelude.{◌↔◌, List};
+ghost use Rattle.std.specs.List.{Contains};
+ghost use Rattle.kmipa_ttlv.specs.Tree.{Trees};
+ghost use Rattle.kmipa_attrs.specs.Sets.{NameOf};
+ghost use Rattle.kmipa_attrs.specs.Names.{distinct, HasNoRepeats};
+ghost use Rattle.kmipa_attrs.specs.Attributes.{attr_number, SaysAttributes, AttributesFault, attributes_in};
+ghost use Rattle.kmipa_attrs.specs.Readings.{Reads};
+ghost use Rattle.kmipa_attrs.specs.declared.side.Side.{Side};
+
+/// What is read of attributes is said, nothing else is, and the fault is the lowest that holds.
+pub fn attributes_are_read()
+    ensures { (side : Side) (ts : Trees) → Reads attr_number (SaysAttributes ts) (AttributesFault side ts) (attributes_in side ts) }
+{}
+
+/// Names that stand once each are the same names.
+pub fn distinct_names_are_the_same()
+    ensures { (names : List NameOf) (n : NameOf) → Contains (distinct names) n ↔ Contains names n }
+{}
+
+/// They have no repeats.
+pub fn distinct_names_do_not_repeat()
+    ensures { (names : List NameOf) → HasNoRepeats (distinct names) }
+{}

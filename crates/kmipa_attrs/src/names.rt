@@ -1,0 +1,62 @@
+//! The names of an object, each once.
+
+ghost use Rattle.std.specs.Prelude.{◌≡◌, OnOk};
+ghost use Rattle.kmipa_ttlv.specs.ViewTree.{view_tree, view_trees};
+ghost use Rattle.kmipa_attrs.specs.Names.{as_name, with_name};
+ghost use Rattle.kmipa_attrs.specs.Sets.{name_of, names_of};
+ghost use Rattle.kmipa_attrs.specs.Attributes.{Gives, named, names_in};
+
+use crate::attr_set::NAMES;
+use crate::fault::AttrFault;
+use crate::fields::{Field, as_structure, enumeration_at, text_at};
+use crate::name::Name;
+use crate::tags::{NAME, NAME_TYPE, NAME_VALUE};
+use kmipa_ttlv::View;
+use smallvec::SmallVec;
+use std::alloc::{AllocError, Global};
+
+/// The names that children say, in the order of first appearance.
+pub(crate) fn read_names(
+    alloc: Global,
+    children: &[View],
+) -> Result<SmallVec<Name, NAMES>, AttrFault>
+    ensures { Gives names_of result (names_in (view_trees children.now)) }
+{
+    let mut names = SmallVec::new(alloc);
+    for child in children {
+        if child.tag.number == NAME {
+            let name = read_name(alloc, child)?;
+            add_name(&mut names, name)?;
+        }
+    }
+    Ok(names)
+}
+
+fn read_name(alloc: Global, view: &View) -> Result<Name, AttrFault>
+    ensures { Gives name_of result (named (as_name (view_tree view.now))) }
+{
+    let Some(children) = as_structure(view) else {
+        return Err(AttrFault::WrongType);
+    };
+    let Field::There(value) = text_at(children, NAME_VALUE) else {
+        return Err(AttrFault::WrongType);
+    };
+    let kind = match enumeration_at(children, NAME_TYPE) {
+        Field::There(kind) => kind,
+        Field::Absent => 1,
+        Field::Wrong => return Err(AttrFault::WrongType),
+    };
+    Ok(Name {
+        value: String::from_str(alloc, value)?,
+        kind,
+    })
+}
+
+fn add_name(names: &mut SmallVec<Name, NAMES>, name: Name) -> Result<(), AllocError>
+    ensures { OnOk result (names_of names.new ≡ with_name (names_of names.old) (name_of name)) }
+{
+    if !names.as_slice().contains(&name) {
+        names.push(name)?;
+    }
+    Ok(())
+}

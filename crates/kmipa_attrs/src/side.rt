@@ -1,0 +1,8 @@
+//! Who gives attributes.
+
+/// Who gives a set of attributes: a client may not give all of them.
+#[derive(Clone, Copy, Debug, PartialEq, Eq)]
+pub enum Side {
+    Client,
+    Server,
+}

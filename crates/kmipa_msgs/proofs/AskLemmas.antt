@@ -1,0 +1,77 @@
+-- The items of requests are read.
+use Rattle.std.proofs.Common.{◌≡◌, ℕ, List, Option, Some, None, Result, Ok, Err, refl, sym, ap, ◌∙◌, inl, inr, ◌⊎◌}
+use Rattle.kmipa_ttlv.specs.Tree.{Tree, Trees}
+use Rattle.kmipa_attrs.specs.Fields.{at, inside, in_field, value_in, as_structure, as_enumeration, as_bytes}
+use Rattle.kmipa_attrs.specs.Readings.{Reads, IsWrong, NeededFault, both, and_then}
+use Rattle.kmipa_attrs.specs.declared.fields.Field.{Field}
+use Rattle.kmipa_attrs.specs.declared.fields.Field.TheVariants.{Absent, Wrong, There}
+use Rattle.kmipa_attrs.proofs.ReadingLemmas.{reads_both, reads_as, reads_then}
+use Rattle.kmipa_msgs.specs.declared.kind.OutsideKind.{OutsideKind}
+use Rattle.kmipa_msgs.specs.declared.kind.OutsideKind
+use Rattle.kmipa_msgs.specs.declared.kind.OutsideKind.TheVariants.{Missing}
+use Rattle.kmipa_msgs.specs.declared.operation.Operation.{Operation}
+use Rattle.kmipa_msgs.specs.declared.operation.Operation.TheVariants.{Register, Get}
+use Rattle.kmipa_msgs.specs.Kinds.{kind_number}
+use Rattle.kmipa_msgs.specs.Operations.{operation_of}
+use Rattle.kmipa_msgs.specs.Messages.{RegisterOf, AskedOf, registers, gets, AskOf}
+use Rattle.kmipa_msgs.specs.Tables.{children, Listed, Unlisted}
+use Rattle.kmipa_msgs.specs.Registers.{SaysRegister, register_in}
+use Rattle.kmipa_msgs.specs.Gets.{SaysGet, get_in}
+use Rattle.kmipa_msgs.specs.Asks.{SaysAsked, AskedFault, SaysAsk, AskFault, asked_in, unless_wrong, payload_asked, operation_in, ask_at, ask_in}
+use Rattle.kmipa_msgs.specs.Asks.AskFault.{in_operation, in_unread, in_payload, in_asked}
+use Rattle.kmipa_msgs.proofs.TableLemmas.{same_kind, reads_listed, apart_needed, apart_unlisted}
+use Rattle.kmipa_msgs.proofs.RegisterLemmas.{reads_register}
+use Rattle.kmipa_msgs.proofs.GetLemmas.{reads_get}
+
+-- what is asked: a clause for each operation
+pub reads_asked : (operation : Operation) (ts : Trees) → Reads kind_number (SaysAsked operation ts) (AskedFault operation ts) (asked_in operation ts)
+reads_asked Register ts = reads_as kind_number _ _ (SaysAsked Register ts) (AskedFault Register ts) registers (register_in ts) (λ x s. s) from (λ k f. f) (λ k f. f) (reads_register ts)
+  where
+    from : (y : AskedOf) → SaysAsked Register ts y → (x : RegisterOf) × SaysRegister ts x × (y ≡ registers x)
+    from (registers x) s = (x, s, refl)
+    from _ s = absurd s
+reads_asked Get ts = reads_as kind_number _ _ (SaysAsked Get ts) (AskedFault Get ts) gets (get_in ts) (λ x s. s) from (λ k f. f) (λ k f. f) (reads_get ts)
+  where
+    from : (y : AskedOf) → SaysAsked Get ts y → (x : Option (List ℕ)) × SaysGet ts x × (y ≡ gets x)
+    from (gets x) s = (x, s, refl)
+    from _ s = absurd s
+
+reads_unless_wrong : {A : Type 0} (f : Field A) (k : OutsideKind) → Reads kind_number (λ (u : Unit {0}). Unit {0}) (λ j. (j ≡ k) × IsWrong f) (unless_wrong f k)
+reads_unless_wrong Absent k = record { said = tt; only = λ y h. refl; right = λ j h. h.1 }
+reads_unless_wrong Wrong k = record { here = (refl, tt); least = λ j lt h. same_kind j k lt h.0 }
+reads_unless_wrong (There x) k = record { said = tt; only = λ y h. refl; right = λ j h. h.1 }
+
+abbrev PayloadFault : Operation → Trees → OutsideKind → Type 0
+PayloadFault operation ts k = ((k ≡ Missing) × IsWrong (at as_structure 0x42_0079 ts)) ⊎ AskedFault operation (inside 0x42_0079 ts) k
+
+reads_payload_asked : (operation : Operation) (ts : Trees) → Reads kind_number (SaysAsked operation (inside 0x42_0079 ts)) (PayloadFault operation ts) (payload_asked operation ts)
+reads_payload_asked operation ts =
+    reads_as kind_number _ _ (SaysAsked operation (inside 0x42_0079 ts)) (PayloadFault operation ts) (λ p. p.1) (both kind_number (unless_wrong (at as_structure 0x42_0079 ts) Missing) (asked_in operation (inside 0x42_0079 ts)))
+    (λ y s. s.1) (λ y t. ((tt, y), (tt, t), refl)) (λ k w. w) (λ k w. w)
+    (reads_both kind_number _ _ _ _ _ _ (reads_unless_wrong (at as_structure 0x42_0079 ts) Missing) (reads_asked operation (inside 0x42_0079 ts)))
+
+pub reads_ask : (t : Tree) → Reads kind_number (SaysAsk t) (AskFault t) (ask_in t)
+unfolding ask_in
+reads_ask t =
+    let ts = children t in
+    let field = at as_enumeration 0x42_005C ts in
+    let off = OutsideKind.TheVariants.Operation in
+    reads_as kind_number _ _ (SaysAsk t) (AskFault t) (ask_at ts) (and_then (λ operation. payload_asked operation ts) (operation_in ts))
+    (λ a s. record { operation = s.0; is = s.1.0; asked = s.1.1; batch_id = refl })
+    (λ y s. (y.asked, (s.operation, (s.is, s.asked)), ap (λ (b : Option (List ℕ)). item b y.asked) s.batch_id))
+    (λ k w. elim w [
+      | inl a ↦ elim a [ inl b ↦ in_operation b | inr b ↦ in_unread b.0 b.1 ]
+      | inr b ↦ elim b.1.1 [ inl c ↦ in_payload b.0 b.1.0 c.0 c.1 | inr c ↦ in_asked b.0 b.1.0 c ]
+    ])
+    (λ k w. elim w [
+      | in_operation a ↦ inl (inl a)
+      | in_unread e a ↦ inl (inr (e, a))
+      | in_payload o l e a ↦ inr (o, (l, inl (e, a)))
+      | in_asked o l a ↦ inr (o, (l, inr a))
+    ])
+    (reads_then kind_number (Listed field operation_of) (λ k. NeededFault field Missing Missing k ⊎ ((k ≡ off) × Unlisted field operation_of)) (λ operation. SaysAsked operation (inside 0x42_0079 ts)) (λ operation. PayloadFault operation ts)
+    (λ operation. payload_asked operation ts) (operation_in ts) (reads_listed field operation_of Missing off) (λ operation. reads_payload_asked operation ts)
+    (λ k x w s. elim w [ inl a ↦ apart_needed field s.number Missing Missing k a s.is | inr b ↦ apart_unlisted field operation_of x b.1 s ]))
+  where
+    item : Option (List ℕ) → AskedOf → AskOf
+    item b a = record { batch_id = b; asked = a }

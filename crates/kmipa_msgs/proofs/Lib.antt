@@ -1,0 +1,10 @@
+pub mod TableLemmas
+pub mod OutsideLemmas
+pub mod BlockLemmas
+pub mod GetLemmas
+pub mod RegisterLemmas
+pub mod AskLemmas
+pub mod PayloadLemmas
+pub mod ReplyLemmas
+pub mod RequestLemmas
+pub mod ResponseLemmas

@@ -1,0 +1,177 @@
+-- Registers and their answers are read.
+use Rattle.std.proofs.Common.{◌≡◌, ◌≤◌, ◌<◌, ℕ, Bool, true, false, ◌==◌, ◌&&◌, List, Option, Some, None, Result, Ok, Err, refl, sym, ap, ◌∙◌, subst, inl, inr, ◌⊎◌, arith, eqb-true}
+use Rattle.kmipa_ttlv.specs.Tree.{Trees}
+use Rattle.kmipa_attrs.specs.Attributes.{attr_number, SaysAttributes, AttributesFault, attributes_in}
+use Rattle.kmipa_attrs.specs.Fields.{first, at, inside, as_structure, as_enumeration, as_integer, as_bytes, as_text}
+use Rattle.kmipa_attrs.specs.ObjectTypes.{type_number, type_of}
+use Rattle.kmipa_attrs.specs.Readings.{Reads, Says, Lowest, NeededFault, IsWrong, map_ok, passing}
+use Rattle.kmipa_attrs.specs.Sets.{Attributes}
+use Rattle.kmipa_attrs.specs.declared.fault.AttrFault.{AttrFault}
+use Rattle.kmipa_attrs.specs.declared.fields.Field.{Field}
+use Rattle.kmipa_attrs.specs.declared.fields.Field.TheVariants.{Absent, Wrong, There}
+use Rattle.kmipa_attrs.specs.declared.object_type.ObjectType
+use Rattle.kmipa_attrs.specs.declared.side.Side.TheVariants.{Client}
+use Rattle.kmipa_attrs.proofs.ReadingLemmas.{reads_both, reads_as, reads_optional, reads_needed, reads_passing}
+use Rattle.kmipa_attrs.proofs.AttrLemmas.{reads_attributes}
+use Rattle.kmipa_msgs.specs.declared.kind.OutsideKind.{OutsideKind}
+use Rattle.kmipa_msgs.specs.declared.kind.OutsideKind.TheVariants.{ObjectType, IdentifierForm, Wrapped, Format, Missing, Attribute, Disagree}
+use Rattle.kmipa_msgs.specs.Kinds.{kind_number}
+use Rattle.kmipa_msgs.specs.Messages.{RegisterOf, RegisteredOf}
+use Rattle.kmipa_msgs.specs.Tables.{Listed, Unlisted}
+use Rattle.kmipa_msgs.specs.KeyBlocks.{BlockFault}
+use Rattle.kmipa_msgs.specs.KeyBlocks.BlockFault.{in_wrapping, in_format, in_format_number, in_value, in_material, in_algorithm, in_length}
+use Rattle.kmipa_msgs.specs.Objects.{shape_in, block_inside}
+use Rattle.kmipa_msgs.specs.Registers.{SaysGiven, GivenFault, Brought, SaysBrought, agree, agrees, brought_by, SaysRegister, Disagreeing, RegisterFault, attribute_kind, given_in, known, unless_unlisted, brought_rows, brought_at, register_at, register_in, SaysRegistered, RegisteredFault, registered_rows, registered_at, registered_in}
+use Rattle.kmipa_msgs.specs.Registers.RegisterFault.{in_object_type, in_type_number, in_attributes, in_attribute_type, in_object, in_block, in_brought}
+use Rattle.kmipa_msgs.specs.Registers.RegisteredFault.{in_type, in_identifier}
+use Rattle.kmipa_msgs.proofs.TableLemmas.{same_kind, reads_listed}
+use Rattle.kmipa_msgs.proofs.BlockLemmas.{reads_block}
+
+-- attributes
+reads_kind : (ts : Trees) (r : Result Attributes AttrFault) → Reads attr_number (SaysAttributes ts) (AttributesFault Client ts) r → Reads kind_number (SaysAttributes ts) (GivenFault (There ts)) (attribute_kind r)
+reads_kind ts (Ok a) h = record { said = h.said; only = h.only; right = λ k w. h.right w.1.0 w.1.1 }
+reads_kind ts (Err told) h = record { here = (refl, (told, h.here)); least = λ j lt w. same_kind j Attribute lt w.0 }
+
+pub reads_given : (f : Field Trees) → Reads kind_number (SaysGiven f) (GivenFault f) (given_in f)
+reads_given Absent = record { said = refl; only = λ y e. e; right = λ k w. w }
+reads_given Wrong = record { here = refl; least = λ j lt w. same_kind j Missing lt w }
+reads_given (There ts) = reads_kind ts (attributes_in Client ts) (reads_attributes Client ts)
+
+known_at : {A : Type 0} (n : ℕ) (table : ℕ → Option A) (off : OutsideKind) (o : Option A) → table n ≡ o
+    → Reads kind_number (λ (u : Unit {0}). Unit {0}) (λ k. (k ≡ off) × Unlisted (There n) table) (known o off)
+known_at n table off None e = record { here = (refl, record { number = n; is = refl; unlisted = e }); least = λ j lt w. same_kind j off lt w.0 }
+known_at n table off (Some x) e = record { said = tt; only = λ y h. refl; right = right }
+  where
+    right : (k : OutsideKind) → (k ≡ off) × Unlisted (There n) table → ⊥
+    right k w =
+        let same : There n ≡ There w.1.number = w.1.is in
+        let m : n ≡ w.1.number = cc in
+        let h : None ≡ Some x = sym w.1.unlisted ∙ ap table (sym m) ∙ e in
+        cc
+
+reads_unless_unlisted : {A : Type 0} (f : Field ℕ) (table : ℕ → Option A) (off : OutsideKind) → Reads kind_number (λ (u : Unit {0}). Unit {0}) (λ k. (k ≡ off) × Unlisted f table) (unless_unlisted f table off)
+reads_unless_unlisted Absent table off = record { said = tt; only = λ y h. refl; right = λ k w. let e = w.1.is in cc }
+reads_unless_unlisted Wrong table off = record { said = tt; only = λ y h. refl; right = λ k w. let e = w.1.is in cc }
+reads_unless_unlisted (There n) table off = known_at n table off (table n) refl
+
+-- the parts
+abbrev PartFault : Trees → OutsideKind → Type 0
+PartFault ts k = ((((NeededFault (at as_enumeration 0x42_0057 ts) Missing Missing k ⊎ ((k ≡ ObjectType) × Unlisted (at as_enumeration 0x42_0057 ts) type_of)) ⊎ NeededFault (shape_in ts) Missing Missing k) ⊎ ((k ≡ ObjectType) × Unlisted (at as_enumeration 0x42_0057 (inside 0x42_0125 ts)) type_of)) ⊎ GivenFault (at as_structure 0x42_0125 ts) k) ⊎ BlockFault (block_inside ts) k
+
+reads_brought : (ts : Trees) → Reads kind_number (SaysBrought ts) (PartFault ts) (map_ok brought_at (brought_rows ts))
+reads_brought ts =
+    reads_as kind_number _ _ (SaysBrought ts) (PartFault ts) brought_at (brought_rows ts)
+    (λ p s. record { object_type = s.0.0.0.0; shape = s.0.0.0.1; attributes = s.0.1; block = s.1 })
+    (λ y t. (((((y.object_type, y.shape), tt), y.attributes), y.block), ((((t.object_type, t.shape), tt), t.attributes), t.block), refl))
+    (λ k f. f)
+    (λ k f. f)
+    (reads_both kind_number _ _ _ _ _ _
+    (reads_both kind_number _ _ _ _ _ _
+    (reads_both kind_number _ _ _ _ _ _ (reads_both kind_number _ _ _ _ _ _ (reads_listed (at as_enumeration 0x42_0057 ts) type_of Missing ObjectType) (reads_needed kind_number Missing Missing (shape_in ts))) (reads_unless_unlisted (at as_enumeration 0x42_0057 (inside 0x42_0125 ts)) type_of ObjectType))
+    (reads_given (at as_structure 0x42_0125 ts)))
+    (reads_block (block_inside ts)))
+
+-- no part is of a kind above Disagree
+low : (k j : OutsideKind) → kind_number j ≤ 12 → k ≡ j → kind_number k ≤ 12
+low k j h e = subst (λ (i : OutsideKind). kind_number i ≤ 12) (sym e) h
+
+low_needed : {A : Type 0} (f : Field A) (absent wrong k : OutsideKind) → kind_number absent ≤ 12 → kind_number wrong ≤ 12 → NeededFault f absent wrong k → kind_number k ≤ 12
+low_needed Absent absent wrong k a w h = low k absent a h
+low_needed Wrong absent wrong k a w h = low k wrong w h
+low_needed (There x) absent wrong k a w h = absurd h
+
+low_given : (f : Field Trees) (k : OutsideKind) → GivenFault f k → kind_number k ≤ 12
+low_given Absent k h = absurd h
+low_given Wrong k h = low k Missing (omega arith) h
+low_given (There ts) k h = low k Attribute (omega arith) h.0
+
+low_block : (ts : Trees) (k : OutsideKind) → BlockFault ts k → kind_number k ≤ 12
+low_block ts k f = elim f [
+  | in_wrapping e w ↦ low k Wrapped (omega arith) e
+  | in_format w ↦ low_needed (at as_enumeration 0x42_0042 ts) Missing Missing k (omega arith) (omega arith) w
+  | in_format_number e w ↦ low k Format (omega arith) e
+  | in_value w ↦ low_needed (at as_structure 0x42_0045 ts) Missing Format k (omega arith) (omega arith) w
+  | in_material w ↦ low_needed (at as_bytes 0x42_0043 (inside 0x42_0045 ts)) Missing Format k (omega arith) (omega arith) w
+  | in_algorithm e w ↦ low k Missing (omega arith) e
+  | in_length e w ↦ low k Missing (omega arith) e
+]
+
+low_part : (ts : Trees) (k : OutsideKind) → PartFault ts k → kind_number k ≤ 12
+low_part ts k f = elim f [
+  | inl h ↦ elim h [
+    | inl m ↦ elim m [
+      | inl n ↦ elim n [
+        | inl o ↦ elim o [ inl w ↦ low_needed (at as_enumeration 0x42_0057 ts) Missing Missing k (omega arith) (omega arith) w | inr w ↦ low k ObjectType (omega arith) w.0 ]
+        | inr w ↦ low_needed (shape_in ts) Missing Missing k (omega arith) (omega arith) w
+      ]
+      | inr w ↦ low k ObjectType (omega arith) w.0
+    ]
+    | inr w ↦ low_given (at as_structure 0x42_0125 ts) k w
+  ]
+  | inr w ↦ low_block (block_inside ts) k w
+]
+
+-- types with one number are one
+type_back : (t : ObjectType.ObjectType) → type_of (type_number t) ≡ Some t
+type_back ObjectType.TheVariants.SymmetricKey = refl
+type_back ObjectType.TheVariants.SecretData = refl
+
+same_type : (s t : ObjectType.ObjectType) → type_number s ≡ type_number t → s ≡ t
+same_type s t e = let h : Some s ≡ Some t = sym (type_back s) ∙ ap type_of e ∙ type_back t in cc
+
+-- parts that agree are those of what they bring
+and_left : (x y : Bool) → (x && y) ≡ true → x ≡ true
+and_left true y e = refl
+and_left false y e = e
+
+same_shape : (b : Brought) → agrees b ≡ true → b ≡ brought_by (register_at b)
+same_shape b e =
+    let n : (type_number b.object_type == type_number b.shape) ≡ true = and_left _ _ (and_left _ _ (and_left _ _ e)) in
+    ap (λ (t : ObjectType.ObjectType). record { object_type = b.object_type; shape = t; attributes = b.attributes; block = b.block }) (sym (same_type b.object_type b.shape (eqb-true _ _ n)))
+
+pub reads_register : (ts : Trees) → Reads kind_number (SaysRegister ts) (RegisterFault ts) (register_in ts)
+unfolding register_in
+reads_register ts =
+    reads_as kind_number (λ b. SaysBrought ts b × (agrees b ≡ true)) (λ k. PartFault ts k ⊎ ((k ≡ Disagree) × ((b : Brought) × SaysBrought ts b × (agrees b ≡ false)))) (SaysRegister ts) (RegisterFault ts) register_at
+    (passing agrees Disagree (map_ok brought_at (brought_rows ts)))
+    (λ b s. record { brought = subst (SaysBrought ts) (same_shape b s.1) s.0; agrees = ap agrees (sym (same_shape b s.1)) ∙ s.1 })
+    (λ y t. (brought_by y, (t.brought, t.agrees), refl))
+    told back
+    (reads_passing kind_number (SaysBrought ts) (PartFault ts) agrees Disagree (map_ok brought_at (brought_rows ts)) (λ k b w s. low_part ts k w) (reads_brought ts))
+  where
+    told : (k : OutsideKind) → PartFault ts k ⊎ ((k ≡ Disagree) × ((b : Brought) × SaysBrought ts b × (agrees b ≡ false))) → RegisterFault ts k
+    told k f = elim f [
+      | inl g ↦ elim g [
+        | inl h ↦ elim h [
+          | inl m ↦ elim m [
+            | inl n ↦ elim n [ inl o ↦ elim o [ inl w ↦ in_object_type w | inr w ↦ in_type_number w.0 w.1 ] | inr w ↦ in_object w ]
+            | inr w ↦ in_attribute_type w.0 w.1
+          ]
+          | inr w ↦ in_attributes w
+        ]
+        | inr w ↦ in_block w
+      ]
+      | inr g ↦ in_brought g.0 (record { brought = g.1.0; said = g.1.1; differ = g.1.2 })
+    ]
+
+    back : (k : OutsideKind) → RegisterFault ts k → PartFault ts k ⊎ ((k ≡ Disagree) × ((b : Brought) × SaysBrought ts b × (agrees b ≡ false)))
+    back k f = elim f [
+      | in_object_type w ↦ inl (inl (inl (inl (inl (inl w)))))
+      | in_type_number e w ↦ inl (inl (inl (inl (inl (inr (e, w))))))
+      | in_attributes w ↦ inl (inl (inr w))
+      | in_attribute_type e w ↦ inl (inl (inl (inr (e, w))))
+      | in_object w ↦ inl (inl (inl (inl (inr w))))
+      | in_block w ↦ inl (inr w)
+      | in_brought e w ↦ inr (e, (w.brought, w.said, w.differ))
+    ]
+
+-- the answer
+pub reads_registered : (ts : Trees) → Reads kind_number (SaysRegistered ts) (RegisteredFault ts) (registered_in ts)
+unfolding registered_in
+reads_registered ts =
+    reads_as kind_number _ _ (SaysRegistered ts) (RegisteredFault ts) registered_at (registered_rows ts)
+    (λ p s. record { object_type = s.0; id = s.1 })
+    (λ y t. ((y.object_type, y.id), (t.object_type, t.id), refl))
+    (λ k f. elim f [ inl w ↦ in_type w.0 w.1 | inr w ↦ in_identifier w ])
+    (λ k f. elim f [ in_type e w ↦ inl (e, w) | in_identifier w ↦ inr w ])
+    (reads_both kind_number _ _ _ _ _ _ (reads_optional kind_number Missing (at as_enumeration 0x42_0057 ts)) (reads_needed kind_number Missing IdentifierForm (at as_text 0x42_0094 ts)))

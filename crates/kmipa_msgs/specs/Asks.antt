@@ -1,0 +1,66 @@
+-- The items of a request: Operation, Unique Batch Item ID?, Request Payload (KMIP 2.1, section 9).
+use Rattle.std.specs.Prelude.{◌≡◌, Result, Ok, Err}
+use Rattle.kmipa_ttlv.specs.Tree.{Tree, Trees}
+use Rattle.kmipa_attrs.specs.Fields.{at, inside, value_in, as_structure, as_enumeration, as_bytes}
+use Rattle.kmipa_attrs.specs.Readings.{NeededFault, IsWrong, both, map_ok, and_then}
+use Rattle.kmipa_attrs.specs.declared.fields.Field.{Field}
+use Rattle.kmipa_attrs.specs.declared.fields.Field.TheVariants.{Absent, Wrong, There}
+use Rattle.kmipa_msgs.specs.declared.kind.OutsideKind.{OutsideKind}
+use Rattle.kmipa_msgs.specs.declared.kind.OutsideKind
+use Rattle.kmipa_msgs.specs.declared.kind.OutsideKind.TheVariants.{Missing}
+use Rattle.kmipa_msgs.specs.declared.operation.Operation.{Operation}
+use Rattle.kmipa_msgs.specs.declared.operation.Operation.TheVariants.{Register, Get}
+use Rattle.kmipa_msgs.specs.Kinds.{kind_number}
+use Rattle.kmipa_msgs.specs.Operations.{operation_of}
+use Rattle.kmipa_msgs.specs.Messages.{AskedOf, registers, gets, AskOf}
+use Rattle.kmipa_msgs.specs.Tables.{children, Listed, Unlisted, listed}
+use Rattle.kmipa_msgs.specs.Registers.{SaysRegister, RegisterFault, register_in}
+use Rattle.kmipa_msgs.specs.Gets.{SaysGet, GetFault, get_in}
+
+-- the children of a Request Payload say what the operation asks for: a row for each operation
+abbrev pub SaysAsked : Operation → Trees → AskedOf → Type 0
+SaysAsked Register ts (registers r) = SaysRegister ts r
+SaysAsked Get ts (gets id) = SaysGet ts id
+SaysAsked _ ts _ = ⊥
+
+abbrev pub AskedFault : Operation → Trees → OutsideKind → Type 0
+AskedFault Register ts k = RegisterFault ts k
+AskedFault Get ts k = GetFault ts k
+
+-- an absent Request Payload is read as empty; a Unique Batch Item ID of another type is read over
+pub record SaysAsk (t : Tree) (a : AskOf) : Type 0 where
+  pub operation : Operation
+  pub is : Listed (at as_enumeration 0x42_005C (children t)) operation_of operation
+  pub asked : SaysAsked operation (inside 0x42_0079 (children t)) a.asked
+  pub batch_id : a.batch_id ≡ value_in (at as_bytes 0x42_0093 (children t))
+
+-- in_unread is there until every operation is read
+pub data AskFault (t : Tree) (k : OutsideKind) : Type 0 where
+  in_operation : NeededFault (at as_enumeration 0x42_005C (children t)) Missing Missing k → AskFault t k
+  in_unread : k ≡ OutsideKind.TheVariants.Operation → Unlisted (at as_enumeration 0x42_005C (children t)) operation_of → AskFault t k
+  in_payload : (operation : Operation) → Listed (at as_enumeration 0x42_005C (children t)) operation_of operation
+      → k ≡ Missing → IsWrong (at as_structure 0x42_0079 (children t)) → AskFault t k
+  in_asked : (operation : Operation) → Listed (at as_enumeration 0x42_005C (children t)) operation_of operation
+      → AskedFault operation (inside 0x42_0079 (children t)) k → AskFault t k
+
+-- the readings
+abbrev pub asked_in : Operation → Trees → Result AskedOf OutsideKind
+asked_in Register ts = map_ok registers (register_in ts)
+asked_in Get ts = map_ok gets (get_in ts)
+
+abbrev pub unless_wrong : {A : Type 0} → Field A → OutsideKind → Result (Unit {0}) OutsideKind
+unless_wrong Absent k = Ok tt
+unless_wrong Wrong k = Err k
+unless_wrong (There x) k = Ok tt
+
+abbrev pub payload_asked : Operation → Trees → Result AskedOf OutsideKind
+payload_asked operation ts = map_ok (λ p. p.1) (both kind_number (unless_wrong (at as_structure 0x42_0079 ts) Missing) (asked_in operation (inside 0x42_0079 ts)))
+
+abbrev pub operation_in : Trees → Result Operation OutsideKind
+operation_in ts = listed (at as_enumeration 0x42_005C ts) operation_of Missing OutsideKind.TheVariants.Operation
+
+abbrev pub ask_at : Trees → AskedOf → AskOf
+ask_at ts asked = record { batch_id = value_in (at as_bytes 0x42_0093 ts); asked = asked }
+
+unfoldable pub ask_in : Tree → Result AskOf OutsideKind
+ask_in t = map_ok (ask_at (children t)) (and_then (λ operation. payload_asked operation (children t)) (operation_in (children t)))

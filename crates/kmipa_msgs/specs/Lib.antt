@@ -1,0 +1,17 @@
+pub mod Kinds
+pub mod Numbers
+pub mod Operations
+pub mod Messages
+pub mod Outside
+pub mod Tables
+pub mod KeyBlocks
+pub mod Objects
+pub mod Registers
+pub mod Gets
+pub mod Asks
+pub mod Headers
+pub mod Requests
+pub mod Payloads
+pub mod Replies
+pub mod Responses
+pub mod Wanted

@@ -1,0 +1,161 @@
+-- Messages without where they lie in memory, and what the program's messages mean.
+use Rattle.std.specs.Prelude.{ℕ, ℤ, Bool, false, List, [], ◌∷◌, map, Option}
+use Rattle.std.specs.Option.{option_map}
+use Rattle.kmipa_attrs.specs.Sets.{Attributes, attributes_of}
+use Rattle.kmipa_attrs.specs.declared.object_type.ObjectType.{ObjectType}
+use Rattle.kmipa_msgs.specs.declared.key_block.KeyFormat.{KeyFormat}
+use Rattle.kmipa_msgs.specs.declared.key_block.KeyBlock.{KeyBlock}
+use Rattle.kmipa_msgs.specs.declared.operation.Operation.{Operation}
+use Rattle.kmipa_msgs.specs.declared.operation.Operation
+use Rattle.kmipa_msgs.specs.declared.request.BatchOption.{BatchOption}
+use Rattle.kmipa_msgs.specs.declared.request.Register.{Register}
+use Rattle.kmipa_msgs.specs.declared.request.Asked.{Asked}
+use Rattle.kmipa_msgs.specs.declared.request.Asked
+use Rattle.kmipa_msgs.specs.declared.request.Ask.{Ask}
+use Rattle.kmipa_msgs.specs.declared.request.Request.{Request}
+use Rattle.kmipa_msgs.specs.declared.response.Status.{Status}
+use Rattle.kmipa_msgs.specs.declared.response.Registered.{Registered}
+use Rattle.kmipa_msgs.specs.declared.response.Got.{Got}
+use Rattle.kmipa_msgs.specs.declared.response.Payload.{Payload}
+use Rattle.kmipa_msgs.specs.declared.response.Payload
+use Rattle.kmipa_msgs.specs.declared.response.Answer.{Answer}
+use Rattle.kmipa_msgs.specs.declared.response.Response.{Response}
+use Rattle.kmipa_msgs.specs.declared.rules.Cause.{Cause}
+use Rattle.kmipa_msgs.specs.declared.rules.Cause.TheVariants.{NotFound}
+use Rattle.kmipa_msgs.specs.declared.rules.Row.{Row}
+use Rattle.kmipa_msgs.specs.declared.rules.Rules.{Rules}
+use denote.Bor.{Bor}
+
+-- texts and byte strings are lists of their bytes
+abbrev pub lent : Bor (List ℕ) → List ℕ
+lent s = s.now
+
+abbrev pub maybe_lent : Option (Bor (List ℕ)) → Option (List ℕ)
+maybe_lent = option_map lent
+
+-- a key: its form, its bytes, its algorithm and its bits
+pub record BlockOf : Type 0 where
+  pub format : KeyFormat
+  pub material : List ℕ
+  pub algorithm : Option ℕ
+  pub length : Option ℤ
+
+abbrev pub block_of : KeyBlock → BlockOf
+block_of b = record { format = b.format; material = lent b.material; algorithm = b.algorithm; length = b.length }
+
+-- REQUESTS
+
+-- what a Register brings
+pub record RegisterOf : Type 0 where
+  pub object_type : ObjectType
+  pub attributes : Attributes
+  pub block : BlockOf
+
+abbrev pub register_of : Register → RegisterOf
+register_of r = record { object_type = r.object_type; attributes = attributes_of r.attributes; block = block_of r.block }
+
+-- what an item asks for; a Get brings an identifier, or means the placeholder
+pub data AskedOf : Type 0 where
+  registers : RegisterOf → AskedOf
+  gets : Option (List ℕ) → AskedOf
+
+abbrev pub asked_of : Asked → AskedOf
+asked_of (Asked.TheVariants.Register r) = registers (register_of r)
+asked_of (Asked.TheVariants.Get g) = gets (maybe_lent g.id)
+
+-- an item of a request
+pub record AskOf : Type 0 where
+  pub batch_id : Option (List ℕ)
+  pub asked : AskedOf
+
+abbrev pub ask_of : Ask → AskOf
+ask_of a = record { batch_id = maybe_lent a.batch_id; asked = asked_of a.asked }
+
+-- the operation that is asked for
+abbrev pub operation_asked : AskedOf → Operation
+operation_asked (registers r) = Operation.TheVariants.Register
+operation_asked (gets id) = Operation.TheVariants.Get
+
+-- a request
+pub record RequestOf : Type 0 where
+  pub option : BatchOption
+  pub ordered : Bool
+  pub items : List AskOf
+
+abbrev pub request_of : Request → RequestOf
+request_of r = record { option = r.option; ordered = r.ordered; items = map ask_of r.items.items }
+
+-- RESPONSES
+
+-- the answer of a Register
+pub record RegisteredOf : Type 0 where
+  pub object_type : Option ℕ
+  pub id : List ℕ
+
+abbrev pub registered_of : Registered → RegisteredOf
+registered_of r = record { object_type = r.object_type; id = lent r.id }
+
+-- the answer of a Get: the type that it tells, and the type and the block of the object that it shows
+pub record GotOf : Type 0 where
+  pub object_type : Option ObjectType
+  pub id : Option (List ℕ)
+  pub shape : ObjectType
+  pub block : BlockOf
+
+abbrev pub got_of : Got → GotOf
+got_of g = record { object_type = g.object_type; id = maybe_lent g.id; shape = g.shape; block = block_of g.block }
+
+-- the payload of an answer
+pub data PayloadOf : Type 0 where
+  registered : RegisteredOf → PayloadOf
+  got : GotOf → PayloadOf
+
+abbrev pub payload_of : Payload → PayloadOf
+payload_of (Payload.TheVariants.Register r) = registered (registered_of r)
+payload_of (Payload.TheVariants.Get g) = got (got_of g)
+
+-- an item of a response
+pub record AnswerOf : Type 0 where
+  pub operation : Option ℕ
+  pub batch_id : Option (List ℕ)
+  pub status : Status
+  pub reason : Option ℕ
+  pub payload : Option PayloadOf
+
+abbrev pub answer_of : Answer → AnswerOf
+answer_of a = record {
+  operation = a.operation;
+  batch_id = maybe_lent a.batch_id;
+  status = a.status;
+  reason = a.reason;
+  payload = option_map payload_of a.payload;
+}
+
+-- a response
+pub record ResponseOf : Type 0 where
+  pub stamp : ℤ
+  pub items : List AnswerOf
+
+abbrev pub response_of : Response → ResponseOf
+response_of r = record { stamp = r.stamp; items = map answer_of r.items.items }
+
+-- RULES
+
+-- a reason and a cause that it may have
+pub record RowOf : Type 0 where
+  pub reason : ℕ
+  pub cause : Cause
+
+abbrev pub row_of : Row → RowOf
+row_of r = record { reason = r.reason; cause = r.cause }
+
+pub record RulesOf : Type 0 where
+  pub unique_names : Bool
+  pub rows : List RowOf
+
+abbrev pub rules_of : Rules → RulesOf
+rules_of r = record { unique_names = r.unique_names; rows = map row_of r.rows.items }
+
+-- the rules of a server that declares none: Item Not Found is for what isn't there, and names may be shared
+abbrev pub default_rules : RulesOf
+default_rules = record { unique_names = false; rows = record { reason = 1; cause = NotFound } ∷ [] }

@@ -1,0 +1,131 @@
+-- The items of a response: Operation?, Unique Batch Item ID?, Result Status, Result Reason?, Response Payload? (KMIP 2.1, section 9).
+use Rattle.std.specs.Prelude.{◌≡◌, ◌<◌, ℕ, ◌==◌, if◌then◌else◌, Option, Some, None, Result, Ok, Err}
+use Rattle.kmipa_ttlv.specs.Tree.{Tree, Trees, structure, scalar, none, more}
+use Rattle.kmipa_attrs.specs.Fields.{first, at, value_in, as_enumeration, as_bytes}
+use Rattle.kmipa_attrs.specs.Readings.{Optional, NeededFault, IsWrong, optional, both, map_ok, and_then}
+use Rattle.kmipa_attrs.specs.declared.fields.Field.{Field}
+use Rattle.kmipa_attrs.specs.declared.fields.Field.TheVariants.{Absent, Wrong, There}
+use Rattle.kmipa_msgs.specs.declared.kind.OutsideKind.{OutsideKind}
+use Rattle.kmipa_msgs.specs.declared.kind.OutsideKind.TheVariants.{Missing, Pending}
+use Rattle.kmipa_msgs.specs.declared.operation.Operation.{Operation}
+use Rattle.kmipa_msgs.specs.declared.response.Status.{Status}
+use Rattle.kmipa_msgs.specs.declared.response.Status.TheVariants.{Success, Failed, Undone}
+use Rattle.kmipa_msgs.specs.Kinds.{kind_number}
+use Rattle.kmipa_msgs.specs.Numbers.{status_of}
+use Rattle.kmipa_msgs.specs.Operations.{operation_number}
+use Rattle.kmipa_msgs.specs.Messages.{AskOf, operation_asked, PayloadOf, AnswerOf}
+use Rattle.kmipa_msgs.specs.Tables.{children, Listed, of_table}
+use Rattle.kmipa_msgs.specs.Payloads.{SaysPayloadOf, PayloadOfFault, payload_in}
+
+-- the operation that is answered, where it is the place's own: the request item's, where the answer names none or the same
+abbrev pub named : ℕ → Operation → Option Operation
+named n operation = if n == operation_number operation then Some operation else None
+
+abbrev pub own : Option AskOf → Field ℕ → Option Operation
+own None field = None
+own (Some a) Absent = Some (operation_asked a.asked)
+own (Some a) Wrong = None
+own (Some a) (There n) = named n (operation_asked a.asked)
+
+-- a payload that is to be there
+abbrev pub SaysRequired : Operation → Option Tree → Option PayloadOf → Type 0
+SaysRequired operation (Some t) (Some p) = SaysPayloadOf operation t p
+SaysRequired operation _ _ = ⊥
+
+abbrev pub RequiredFault : Operation → Option Tree → OutsideKind → Type 0
+RequiredFault operation None k = k ≡ Missing
+RequiredFault operation (Some t) k = PayloadOfFault operation t k
+
+-- a payload that may be absent
+abbrev pub SaysMaybe : Operation → Option Tree → Option PayloadOf → Type 0
+SaysMaybe operation None None = Unit {0}
+SaysMaybe operation (Some t) (Some p) = SaysPayloadOf operation t p
+SaysMaybe operation _ _ = ⊥
+
+abbrev pub MaybeFault : Operation → Option Tree → OutsideKind → Type 0
+MaybeFault operation None k = ⊥
+MaybeFault operation (Some t) k = PayloadOfFault operation t k
+
+-- a payload without children is read as absent
+abbrev pub filled : Option Tree → Option Tree
+filled None = None
+filled (Some (structure n none)) = None
+filled (Some (structure n (more t ts))) = Some (structure n (more t ts))
+filled (Some (scalar n s)) = Some (scalar n s)
+
+-- a payload is read only at the place's own operation, and only where it was done
+abbrev pub SaysShown : Option Operation → Status → Option Tree → Option PayloadOf → Type 0
+SaysShown None status t p = p ≡ None
+SaysShown (Some operation) Success t p = SaysRequired operation t p
+SaysShown (Some operation) Failed t p = p ≡ None
+SaysShown (Some operation) Undone t p = SaysMaybe operation (filled t) p
+
+abbrev pub ShownFault : Option Operation → Status → Option Tree → OutsideKind → Type 0
+ShownFault None status t k = ⊥
+ShownFault (Some operation) Success t k = RequiredFault operation t k
+ShownFault (Some operation) Failed t k = ⊥
+ShownFault (Some operation) Undone t k = MaybeFault operation (filled t) k
+
+-- Result Status: 0, 1 or 3; 2 is Pending
+pub data StatusFault (field : Field ℕ) (k : OutsideKind) : Type 0 where
+  unread : NeededFault field Missing Missing k → StatusFault field k
+  pending : k ≡ Pending → field ≡ There 2 → StatusFault field k
+  unknown : (n : ℕ) → k ≡ Missing → field ≡ There n → 3 < n → StatusFault field k
+
+-- the answer at the place of this request item, if there is one
+pub record SaysAnswer (a : Option AskOf) (t : Tree) (x : AnswerOf) : Type 0 where
+  pub operation : Optional (at as_enumeration 0x42_005C (children t)) x.operation
+  pub batch_id : x.batch_id ≡ value_in (at as_bytes 0x42_0093 (children t))
+  pub status : Listed (at as_enumeration 0x42_007F (children t)) status_of x.status
+  pub reason : Optional (at as_enumeration 0x42_007E (children t)) x.reason
+  pub payload : SaysShown (own a (at as_enumeration 0x42_005C (children t))) x.status (first 0x42_007C (children t)) x.payload
+
+pub data AnswerFault (a : Option AskOf) (t : Tree) (k : OutsideKind) : Type 0 where
+  in_operation : k ≡ Missing → IsWrong (at as_enumeration 0x42_005C (children t)) → AnswerFault a t k
+  in_status : StatusFault (at as_enumeration 0x42_007F (children t)) k → AnswerFault a t k
+  in_reason : k ≡ Missing → IsWrong (at as_enumeration 0x42_007E (children t)) → AnswerFault a t k
+  in_payload : (status : Status) → Listed (at as_enumeration 0x42_007F (children t)) status_of status
+      → ShownFault (own a (at as_enumeration 0x42_005C (children t))) status (first 0x42_007C (children t)) k → AnswerFault a t k
+
+-- the readings
+abbrev pub status_in : Field ℕ → Result Status OutsideKind
+status_in Absent = Err Missing
+status_in Wrong = Err Missing
+status_in (There n) = if n == 2 then Err Pending else of_table (status_of n) Missing
+
+abbrev pub required_in : Operation → Option Tree → Result (Option PayloadOf) OutsideKind
+required_in operation None = Err Missing
+required_in operation (Some t) = map_ok Some (payload_in operation t)
+
+abbrev pub maybe_in : Operation → Option Tree → Result (Option PayloadOf) OutsideKind
+maybe_in operation None = Ok None
+maybe_in operation (Some t) = map_ok Some (payload_in operation t)
+
+abbrev pub shown_in : Option Operation → Status → Option Tree → Result (Option PayloadOf) OutsideKind
+shown_in None status t = Ok None
+shown_in (Some operation) Success t = required_in operation t
+shown_in (Some operation) Failed t = Ok None
+shown_in (Some operation) Undone t = maybe_in operation (filled t)
+
+-- the status, and the payload that is read by it
+abbrev pub beside : Status → Result (Option PayloadOf) OutsideKind → Result (Status × Option PayloadOf) OutsideKind
+beside status shown = map_ok (λ p. (status, p)) shown
+
+abbrev pub done_at : Option AskOf → Trees → Result (Status × Option PayloadOf) OutsideKind
+done_at a ts =
+    and_then (λ status. beside status (shown_in (own a (at as_enumeration 0x42_005C ts)) status (first 0x42_007C ts))) (status_in (at as_enumeration 0x42_007F ts))
+
+abbrev pub answer_rows : Option AskOf → Trees → Result ((Option ℕ × Option ℕ) × (Status × Option PayloadOf)) OutsideKind
+answer_rows a ts = both kind_number (both kind_number (optional (at as_enumeration 0x42_005C ts) Missing) (optional (at as_enumeration 0x42_007E ts) Missing)) (done_at a ts)
+
+abbrev pub answer_at : Trees → (Option ℕ × Option ℕ) × (Status × Option PayloadOf) → AnswerOf
+answer_at ts p = record {
+  operation = p.0.0;
+  batch_id = value_in (at as_bytes 0x42_0093 ts);
+  status = p.1.0;
+  reason = p.0.1;
+  payload = p.1.1;
+}
+
+unfoldable pub answer_in : Option AskOf → Tree → Result AnswerOf OutsideKind
+answer_in a t = map_ok (answer_at (children t)) (answer_rows a (children t))

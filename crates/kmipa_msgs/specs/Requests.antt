@@ -1,0 +1,116 @@
+-- Request Message { Request Header, Batch Items } (KMIP 2.1, section 8).
+use Rattle.std.specs.Prelude.{◌≡◌, ◌<◌, ℕ, Bool, true, false, nat_lt, List, length, Some, None, Result, Ok, Err}
+use Rattle.kmipa_ttlv.specs.Tree.{Tree, Trees}
+use Rattle.kmipa_attrs.specs.Fields.{at, inside, as_enumeration, as_boolean}
+use Rattle.kmipa_attrs.specs.Readings.{IsWrong, both, kept_if, map_ok}
+use Rattle.kmipa_attrs.specs.declared.fields.Field.{Field}
+use Rattle.kmipa_attrs.specs.declared.fields.Field.TheVariants.{Absent, Wrong, There}
+use Rattle.kmipa_msgs.specs.declared.fault.ReadFault.{ReadFault}
+use Rattle.kmipa_msgs.specs.declared.kind.OutsideKind.{OutsideKind}
+use Rattle.kmipa_msgs.specs.declared.kind.OutsideKind.TheVariants.{NotAMessage, Version, Count, Missing, Unordered}
+use Rattle.kmipa_msgs.specs.declared.request.BatchOption.{BatchOption}
+use Rattle.kmipa_msgs.specs.declared.request.BatchOption.TheVariants.{Stop}
+use Rattle.kmipa_msgs.specs.declared.request.Request.{Request}
+use Rattle.kmipa_msgs.specs.Kinds.{kind_number}
+use Rattle.kmipa_msgs.specs.Numbers.{option_of}
+use Rattle.kmipa_msgs.specs.Messages.{AskOf, RequestOf, request_of}
+use Rattle.kmipa_msgs.specs.Tables.{children, of_table}
+use Rattle.kmipa_msgs.specs.Headers.{is_message, is_version, is_count, batch}
+use Rattle.kmipa_msgs.specs.Outside.{SaysEach, EachFault, ByItem, Tells, each_in, headed}
+use Rattle.kmipa_msgs.specs.Asks.{SaysAsk, AskFault, ask_in}
+
+abbrev pub request_header : Tree → Trees
+request_header t = inside 0x42_0077 (children t)
+
+-- an absent Batch Error Continuation Option means Stop
+abbrev pub SaysOption : Field ℕ → BatchOption → Type 0
+SaysOption Absent option = option ≡ Stop
+SaysOption Wrong option = ⊥
+SaysOption (There n) option = option_of n ≡ Some option
+
+abbrev pub OptionFault : Field ℕ → OutsideKind → Type 0
+OptionFault Absent k = ⊥
+OptionFault Wrong k = k ≡ Missing
+OptionFault (There n) k = (k ≡ Missing) × (option_of n ≡ None)
+
+-- an absent Batch Order Option is read as true
+abbrev pub SaysOrder : Field Bool → Bool → Type 0
+SaysOrder Absent ordered = ordered ≡ true
+SaysOrder Wrong ordered = ⊥
+SaysOrder (There b) ordered = ordered ≡ b
+
+-- what a request's header says
+pub record HeaderOf : Type 0 where
+  pub option : BatchOption
+  pub ordered : Bool
+
+pub record SaysHeader (t : Tree) (h : HeaderOf) : Type 0 where
+  pub message : is_message 0x42_0078 0x42_0077 t ≡ true
+  pub version : is_version (request_header t) ≡ true
+  pub count : is_count (request_header t) (length (batch t)) ≡ true
+  pub option : SaysOption (at as_enumeration 0x42_000E (request_header t)) h.option
+  pub ordered : SaysOrder (at as_boolean 0x42_0010 (request_header t)) h.ordered
+
+pub data HeaderFault (t : Tree) (k : OutsideKind) : Type 0 where
+  in_message : k ≡ NotAMessage → is_message 0x42_0078 0x42_0077 t ≡ false → HeaderFault t k
+  in_version : k ≡ Version → is_version (request_header t) ≡ false → HeaderFault t k
+  in_count : k ≡ Count → is_count (request_header t) (length (batch t)) ≡ false → HeaderFault t k
+  in_option : OptionFault (at as_enumeration 0x42_000E (request_header t)) k → HeaderFault t k
+  in_ordered : k ≡ Missing → IsWrong (at as_boolean 0x42_0010 (request_header t)) → HeaderFault t k
+  in_batch : k ≡ Unordered → at as_boolean 0x42_0010 (request_header t) ≡ There false → 1 < length (batch t) → HeaderFault t k
+
+abbrev pub header_of : RequestOf → HeaderOf
+header_of r = record { option = r.option; ordered = r.ordered }
+
+-- THE DEFINITIONS
+
+-- the item says this request
+pub record SaysRequest (t : Tree) (r : RequestOf) : Type 0 where
+  pub header : SaysHeader t (header_of r)
+  pub items : SaysEach (λ place. SaysAsk) (batch t) r.items
+
+-- a condition of this kind holds at this item, 0 being the message itself
+abbrev pub RequestFault : Tree → ℕ → OutsideKind → Type 0
+RequestFault t = ByItem (HeaderFault t) (EachFault (λ place. AskFault) (batch t))
+
+-- what the reader of requests tells
+abbrev pub TellsRequest : Tree → Result Request ReadFault → Type 0
+TellsRequest t result = Tells request_of (SaysRequest t) (RequestFault t) result
+
+-- THE READINGS
+
+abbrev pub option_in : Field ℕ → Result BatchOption OutsideKind
+option_in Absent = Ok Stop
+option_in Wrong = Err Missing
+option_in (There n) = of_table (option_of n) Missing
+
+abbrev pub order_in : Field Bool → Result Bool OutsideKind
+order_in Absent = Ok true
+order_in Wrong = Err Missing
+order_in (There b) = Ok b
+
+abbrev pub in_order : Field Bool → ℕ → Bool
+in_order Absent n = true
+in_order Wrong n = true
+in_order (There true) n = true
+in_order (There false) n = nat_lt n 2
+
+abbrev pub header_rows : Tree → Result (((Unit {0} × Unit {0}) × (Unit {0} × Unit {0})) × (BatchOption × Bool)) OutsideKind
+header_rows t =
+    both kind_number
+    (both kind_number
+    (both kind_number (kept_if (is_message 0x42_0078 0x42_0077 t) tt NotAMessage) (kept_if (is_version (request_header t)) tt Version))
+    (both kind_number (kept_if (is_count (request_header t) (length (batch t))) tt Count) (kept_if (in_order (at as_boolean 0x42_0010 (request_header t)) (length (batch t))) tt Unordered)))
+    (both kind_number (option_in (at as_enumeration 0x42_000E (request_header t))) (order_in (at as_boolean 0x42_0010 (request_header t))))
+
+abbrev pub header_at : ((Unit {0} × Unit {0}) × (Unit {0} × Unit {0})) × (BatchOption × Bool) → HeaderOf
+header_at p = record { option = p.1.0; ordered = p.1.1 }
+
+unfoldable pub header_in : Tree → Result HeaderOf OutsideKind
+header_in t = map_ok header_at (header_rows t)
+
+abbrev pub request_at : HeaderOf → List AskOf → RequestOf
+request_at h items = record { option = h.option; ordered = h.ordered; items = items }
+
+unfoldable pub request_in : Tree → Result RequestOf (ℕ × OutsideKind)
+request_in t = headed request_at (header_in t) (each_in (λ place. ask_in) (batch t))

@@ -1,0 +1,19 @@
+-- The payloads that a witness has to give.
+use Rattle.std.specs.Prelude.{◌≡◌, ◌⊎◌, Some, None}
+use Rattle.kmipa_msgs.specs.declared.operation.Operation.{Operation}
+use Rattle.kmipa_msgs.specs.declared.operation.Operation.TheVariants.{Register, Get}
+use Rattle.kmipa_msgs.specs.declared.response.Status.TheVariants.{Undone}
+use Rattle.kmipa_msgs.specs.Operations.{operation_number}
+use Rattle.kmipa_msgs.specs.Messages.{AskOf, operation_asked, AnswerOf}
+
+-- what it did can't be judged without its payload
+abbrev pub NeedsPayload : Operation → Type 0
+NeedsPayload Register = Unit {0}
+NeedsPayload Get = ⊥
+
+-- the item was undone, at its own operation, and its payload isn't there
+pub record Wanted (a : AskOf) (x : AnswerOf) : Type 0 where
+  pub asks : NeedsPayload (operation_asked a.asked)
+  pub own : (x.operation ≡ None) ⊎ (x.operation ≡ Some (operation_number (operation_asked a.asked)))
+  pub undone : x.status ≡ Undone
+  pub absent : x.payload ≡ None

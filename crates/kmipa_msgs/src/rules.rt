@@ -1,0 +1,74 @@
+//! What a server declares of its refusals and of its names.
+
+ghost use Rattle.std.specs.Prelude.{◌≡◌};
+
+use std::alloc::{AllocError, Global};
+
+/// What may be behind a Result Reason.
+#[derive(Clone, Copy, Debug, PartialEq, Eq)]
+pub enum Cause {
+    /// The object isn't there, or is destroyed.
+    NotFound = 1,
+    /// The object's state lets the operation be refused.
+    WrongState = 2,
+    /// Some object has one of the names asked for.
+    TakenName = 3,
+}
+
+impl Cause {
+    ghost use Rattle.kmipa_msgs.specs.Numbers.{cause_number, cause_of};
+
+    /// The number in a declaration.
+    pub fn number(self) -> u32
+        ensures { result ≡ cause_number self }
+    {
+        self as u32
+    }
+
+    /// The cause with this number, if there is one.
+    pub fn of(number: u32) -> Option<Cause>
+        ensures { result ≡ cause_of number }
+    {
+        match number {
+            1 => Some(Cause::NotFound),
+            2 => Some(Cause::WrongState),
+            3 => Some(Cause::TakenName),
+            _ => None,
+        }
+    }
+}
+
+/// A Result Reason, by its number, and a cause that it may have.
+#[derive(Clone, Copy, Debug, PartialEq, Eq)]
+pub struct Row {
+    pub reason: u32,
+    pub cause: Cause,
+}
+
+/// What a server declares. A reason may have several rows; one without rows is never judged.
+#[derive(Debug, Drop)]
+pub struct Rules {
+    /// Whether no two live objects share a name.
+    pub unique_names: bool,
+    pub rows: Vec<Row>,
+}
+
+impl Rules {
+    ghost use Rattle.std.specs.Prelude.{IfOk, false};
+    ghost use Rattle.kmipa_msgs.specs.Messages.{rules_of, default_rules};
+
+    /// The rules of a server that declares none: Item Not Found is for what isn't there, and names may be shared.
+    pub fn default_rules(alloc: Global) -> Result<Rules, AllocError>
+        ensures { IfOk result (λ rules. rules_of rules ≡ default_rules) }
+    {
+        let mut rows = Vec::new(alloc);
+        rows.push(Row {
+            reason: 1,
+            cause: Cause::NotFound,
+        })?;
+        Ok(Rules {
+            unique_names: false,
+            rows,
+        })
+    }
+}
