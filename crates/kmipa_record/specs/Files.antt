@@ -1,0 +1,46 @@
+-- Files of items: a header and records, one behind the other.
+use Rattle.std.specs.Prelude.{◌≡◌, ◌<◌, ℕ, ◌+◌, ◌-◌, List, [], ◌++◌, length, Bool, IsTrue, Option, IfSome}
+use Rattle.kmipa_ttlv.specs.Tree.{Tree}
+use Rattle.kmipa_ttlv.specs.Spelling.{Spells}
+use Rattle.kmipa_ttlv.specs.Flaw.{OuterFlaw}
+use Rattle.kmipa_ttlv.specs.Stream.{Begins, capped}
+use Rattle.kmipa_ttlv.specs.declared.fault.FaultKind.{FaultKind}
+use Rattle.kmipa_record.specs.Kinds.{ByCause}
+use Rattle.kmipa_record.specs.declared.fault.RecordFault.{RecordFault}
+use Rattle.kmipa_record.specs.declared.fault.RecordKind.{RecordKind}
+use Rattle.kmipa_record.specs.declared.fault.RecordKind.TheVariants.{Ttlv}
+
+-- the place in a file at which this rest of it begins
+abbrev pub place_of : List ℕ → List ℕ → ℕ
+place_of bytes rest = capped (length bytes - length rest)
+
+-- The file begins with the spellings of these items, and the rest is behind them; by the word none of them is faulty.
+pub record IsUpTo (AreRight : List Tree → Type 0) (bytes : List ℕ) (items : List Tree) (rest : List ℕ) : Type 0 where
+  pub right : AreRight items
+  pub begins : Begins items bytes rest
+
+-- up to this place no item of the file is faulty
+pub record IsRightUpTo (AreRight : List Tree → Type 0) (bytes : List ℕ) (place : ℕ) : Type 0 where
+  pub items : List Tree
+  pub rest : List ℕ
+  pub up_to : IsUpTo AreRight bytes items rest
+  pub placed : place ≡ place_of bytes rest
+
+-- The first fault of a file: up to it no item is faulty, and there
+--   come bytes, but none that spell an item: the flaw of these bytes;
+--   or comes an item that is faulty behind those before it: its first byte;
+--   or the file ends, and may not end so.
+pub data FirstFault (AreRight : List Tree → Type 0) (ItemFault : List Tree → Tree → RecordKind → Type 0) (EndFault : List ℕ → List Tree → ℕ → RecordKind → Type 0)
+    (bytes : List ℕ) (offset : ℕ) (kind : RecordKind) : Type 0 where
+  in_bytes : (items : List Tree) (rest : List ℕ) (from : ℕ) (flaw : FaultKind) → IsUpTo AreRight bytes items rest → 0 < length rest → OuterFlaw rest from flaw
+      → offset ≡ capped (place_of bytes rest + from) → kind ≡ Ttlv flaw → FirstFault AreRight ItemFault EndFault bytes offset kind
+  in_item : (items : List Tree) (item : Tree) (front rest : List ℕ) → IsUpTo AreRight bytes items (front ++ rest) → Spells item front → ItemFault items item kind
+      → offset ≡ place_of bytes (front ++ rest) → FirstFault AreRight ItemFault EndFault bytes offset kind
+  at_end : (items : List Tree) → IsUpTo AreRight bytes items [] → EndFault bytes items offset kind → FirstFault AreRight ItemFault EndFault bytes offset kind
+
+-- The fault that a reader tells of bytes that are known is their first; or the input is failed, or memory ran out, behind what
+-- is right.
+abbrev pub Tells : (List ℕ → ℕ → RecordKind → Type 0) → (List ℕ → ℕ → Type 0) → Option (List ℕ) → Bool → RecordFault → Type 0
+Tells Fault RightUpTo known failed f =
+    ByCause f.kind (IsTrue failed × IfSome known (λ bytes. RightUpTo bytes f.offset)) (IfSome known (λ bytes. RightUpTo bytes f.offset))
+    (IfSome known (λ bytes. Fault bytes f.offset f.kind))

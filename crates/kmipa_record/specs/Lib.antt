@@ -1,0 +1,10 @@
+pub mod Kinds
+pub mod Files
+pub mod Marks
+pub mod Transcripts
+pub mod Declarations
+pub mod Witnesses
+pub mod Reading
+pub mod Calls
+pub mod TranscriptReading
+pub mod WitnessReading

@@ -1,0 +1,54 @@
+-- How a file is read item by item. Not promised: the readers' contracts stand in the words of the files.
+use Rattle.std.specs.Prelude.{◌≡◌, ◌≤◌, ◌<◌, ℕ, ◌+◌, List, [], ◌++◌, length, Bool, IsTrue, Option, IfSome}
+use Rattle.std.specs.Io.KnownBytes.{Consumes, IsAtEnd}
+use Rattle.kmipa_ttlv.specs.Tree.{Tree}
+use Rattle.kmipa_ttlv.specs.Spelling.{Spells}
+use Rattle.kmipa_ttlv.specs.Flaw.{OuterFlaw}
+use Rattle.kmipa_ttlv.specs.Stream.{capped}
+use Rattle.kmipa_ttlv.specs.declared.fault.FaultKind.{FaultKind}
+use Rattle.kmipa_record.specs.Kinds.{ByCause}
+use Rattle.kmipa_record.specs.declared.fault.RecordFault.{RecordFault}
+use Rattle.kmipa_record.specs.declared.fault.RecordKind.TheVariants.{Ttlv, Header}
+use Rattle.kmipa_record.specs.declared.record.Next.{Next}
+use Rattle.kmipa_record.specs.declared.record.Next.TheVariants.{End, Other, Record}
+
+-- the item was at the front of what was left, and the rest is left behind it
+pub record Takes (item : Tree) (known after : Option (List ℕ)) (place place' : ℕ) : Type 0 where
+  pub front : List ℕ
+  pub spelled : Spells item front
+  pub consumed : Consumes known after front
+  pub taken : place' ≡ place + length front
+  pub small : place' ≤ 0x100_0000_0000
+
+-- the fault is the flaw of the rest at this place, which is more than nothing
+pub record TellsFlawOf (place : ℕ) (rest : List ℕ) (f : RecordFault) : Type 0 where
+  pub some : 0 < length rest
+  pub from : ℕ
+  pub flaw : FaultKind
+  pub wrong : OuterFlaw rest from flaw
+  pub placed : f.offset ≡ capped (place + from)
+  pub kind_is : f.kind ≡ Ttlv flaw
+
+abbrev pub ReadFails : ℕ → Option (List ℕ) → Bool → RecordFault → Type 0
+ReadFails place known failed f =
+    ByCause f.kind (IsTrue failed × (f.offset ≡ place)) (f.offset ≡ place) (IfSome known (λ rest. TellsFlawOf place rest f))
+
+-- a fault of bytes that are as many as their header says
+abbrev pub WholeFails : ℕ → List ℕ → RecordFault → Type 0
+WholeFails place bytes f = ByCause f.kind ⊥ (f.offset ≡ place) (TellsFlawOf place bytes f)
+
+abbrev pub NextIs : {T : Type 0} → (T → Tree) → (Tree → Type 0) → Option (List ℕ) → Option (List ℕ) → ℕ → ℕ → Next T → Type 0
+NextIs item_of is_record known after place place' End = IsAtEnd known
+NextIs item_of is_record known after place place' Other = (item : Tree) × Takes item known after place place' × ¬ (is_record item)
+NextIs item_of is_record known after place place' (Record x) = Takes (item_of x) known after place place'
+
+-- what is wrong with the header, where this rest is left
+pub data HeaderFault (is_header : Tree → Type 0) (place : ℕ) (rest : List ℕ) (f : RecordFault) : Type 0 where
+  torn : TellsFlawOf place rest f → HeaderFault is_header place rest f
+  absent : rest ≡ [] → f.offset ≡ place → f.kind ≡ Header → HeaderFault is_header place rest f
+  other : (item : Tree) (front behind : List ℕ) → rest ≡ front ++ behind → Spells item front → ¬ (is_header item) → f.offset ≡ place → f.kind ≡ Header
+      → HeaderFault is_header place rest f
+
+abbrev pub HeaderFails : (Tree → Type 0) → ℕ → Option (List ℕ) → Bool → RecordFault → Type 0
+HeaderFails is_header place known failed f =
+    ByCause f.kind (IsTrue failed × (f.offset ≡ place)) (f.offset ≡ place) (IfSome known (λ rest. HeaderFault is_header place rest f))

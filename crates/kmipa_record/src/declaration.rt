@@ -1,0 +1,55 @@
+//! Declarations: what a server held before the first call.
+
+ghost use Rattle.std.specs.Prelude.{◌≡◌, IfOk, IfErr, IfSome};
+ghost use Rattle.kmipa_ttlv.specs.Input.{reader_of, taken_of, is_failed};
+ghost use Rattle.kmipa_record.specs.Files.{Tells};
+ghost use Rattle.kmipa_record.specs.Declarations.{declaration_of, IsDeclaration, DeclarationFault, IsDeclarationUpTo};
+
+use crate::fault::{RecordFault, RecordKind};
+use crate::header::DeclarationHeader;
+use crate::record::{Next, read_header, read_next};
+use kmipa_ttlv::Input;
+use std::alloc::Global;
+use std::io::Read;
+
+/// What is declared of a server. For now a declaration is its header alone, without unique names: rows and entries,
+/// and a header with unique names, are refused by `Entry`.
+#[derive(Debug, Drop)]
+pub struct Declaration {
+    /// Whether no two live objects may have a name in common.
+    pub unique_names: bool,
+}
+
+/// Reads a declaration of whose bytes none was read.
+///
+/// `Device` and `Memory` are told with the place of the item that was being read.
+pub fn read_declaration<R: Read>(
+    alloc: Global,
+    input: &mut Input<R>,
+) -> Result<Declaration, RecordFault>
+    requires { taken_of input.old ≡ 0 }
+    // What is read is what the bytes are.
+    ensures found { IfOk result (λ declaration. IfSome (R.remaining (reader_of input.old)) (λ bytes. IsDeclaration bytes (declaration_of declaration))) }
+    // Else the first fault is told, unless a read failed or memory ran out.
+    ensures fault { IfErr result (Tells DeclarationFault IsDeclarationUpTo (R.remaining (reader_of input.old)) (is_failed input.new)) }
+{
+    let mut bytes = Vec::new(alloc);
+    let header: DeclarationHeader = read_header(alloc, input, &mut bytes)?;
+    if header.unique_names {
+        return Err(RecordFault {
+            offset: 0,
+            kind: RecordKind::Entry,
+        });
+    }
+    let offset = input.taken();
+    let next: Next<DeclarationHeader> = read_next(alloc, input, &mut bytes)?;
+    match next {
+        Next::End => Ok(Declaration {
+            unique_names: false,
+        }),
+        Next::Record(_) | Next::Other => Err(RecordFault {
+            offset,
+            kind: RecordKind::Entry,
+        }),
+    }
+}

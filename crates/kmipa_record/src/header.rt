@@ -1,0 +1,88 @@
+//! The headers of the three files.
+
+ghost use Rattle.std.specs.Prelude.{◌≡◌, Bool};
+ghost use Rattle.kmipa_record.specs.Transcripts.{transcript_header};
+ghost use Rattle.kmipa_record.specs.Declarations.{declaration_header};
+ghost use Rattle.kmipa_record.specs.Witnesses.{witness_header};
+
+use crate::record::Record;
+use crate::shape::{boolean_of, children_of, integer_of};
+use kmipa_ttlv::View;
+use std::alloc::{AllocError, Global};
+
+const TRANSCRIPT: u32 = 0x54_0001;
+
+const VERSION: u32 = 0x54_0002;
+
+const DECLARATION: u32 = 0x54_0030;
+
+const UNIQUE_NAMES: u32 = 0x54_0031;
+
+const WITNESS: u32 = 0x54_0040;
+
+/// The header of a transcript.
+#[derive(Drop)]
+pub struct TranscriptHeader;
+
+impl Record for TranscriptHeader {
+    ghost item_of = { λ _. transcript_header };
+
+    ghost is_record = { λ item. item ≡ transcript_header };
+
+    fn of(_alloc: Global, item: &View) -> Result<Option<TranscriptHeader>, AllocError> {
+        let Some([version]) = children_of(item, TRANSCRIPT) else {
+            return Ok(None);
+        };
+        let header = match integer_of(version, VERSION) {
+            Some(1) => Some(TranscriptHeader),
+            _ => None,
+        };
+        Ok(header)
+    }
+}
+
+/// The header of a declaration.
+#[derive(Drop)]
+pub struct DeclarationHeader {
+    pub unique_names: bool,
+}
+
+impl Record for DeclarationHeader {
+    ghost item_of = { λ h. declaration_header h.unique_names };
+
+    ghost is_record = { λ item. (unique : Bool) × (item ≡ declaration_header unique) };
+
+    fn of(_alloc: Global, item: &View) -> Result<Option<DeclarationHeader>, AllocError> {
+        let Some([version, unique_names]) = children_of(item, DECLARATION) else {
+            return Ok(None);
+        };
+        let Some(1) = integer_of(version, VERSION) else {
+            return Ok(None);
+        };
+        let Some(unique_names) = boolean_of(unique_names, UNIQUE_NAMES) else {
+            return Ok(None);
+        };
+        Ok(Some(DeclarationHeader { unique_names }))
+    }
+}
+
+/// The header of a witness.
+#[derive(Drop)]
+pub struct WitnessHeader;
+
+impl Record for WitnessHeader {
+    ghost item_of = { λ _. witness_header };
+
+    ghost is_record = { λ item. item ≡ witness_header };
+
+    fn of(_alloc: Global, item: &View) -> Result<Option<WitnessHeader>, AllocError> {
+        let Some([version]) = children_of(item, WITNESS) else {
+            return Ok(None);
+        };
+        let header = match integer_of(version, VERSION) {
+            Some(1) => Some(WitnessHeader),
+            _ => None,
+        };
+        Ok(header)
+    }
+}

@@ -1,0 +1,63 @@
+//! Items of an exact shape.
+
+ghost use Rattle.std.specs.Prelude.{◌≡◌, ◌≢◌, ℤ, ℕ, Bool, List, MatchOption};
+ghost use Rattle.kmipa_ttlv.specs.Tree.{Trees, structure, scalar, integer, boolean, text, byte_string};
+ghost use Rattle.kmipa_ttlv.specs.ViewTree.{view_tree, view_trees};
+
+use kmipa_attrs::fields::{as_boolean, as_bytes, as_integer, as_structure, as_text};
+use kmipa_ttlv::View;
+
+/// The children of a Structure with this tag.
+pub fn children_of<'a, 'b>(item: &'b View<'a>, tag: u32) -> Option<&'b [View<'a>]>
+    ensures { MatchOption result ((children : Trees) → view_tree item.now ≢ structure tag children)
+        (λ children. view_tree item.now ≡ structure tag (view_trees children.now)) }
+{
+    if item.tag.number != tag {
+        return None;
+    }
+    as_structure(item)
+}
+
+/// The number of an Integer with this tag.
+pub fn integer_of(item: &View, tag: u32) -> Option<i32>
+    ensures { MatchOption result ((number : ℤ) → view_tree item.now ≢ scalar tag (integer number))
+        (λ number. view_tree item.now ≡ scalar tag (integer number)) }
+{
+    if item.tag.number != tag {
+        return None;
+    }
+    as_integer(item)
+}
+
+/// The truth of a Boolean with this tag.
+pub fn boolean_of(item: &View, tag: u32) -> Option<bool>
+    ensures { MatchOption result ((truth : Bool) → view_tree item.now ≢ scalar tag (boolean truth))
+        (λ truth. view_tree item.now ≡ scalar tag (boolean truth)) }
+{
+    if item.tag.number != tag {
+        return None;
+    }
+    as_boolean(item)
+}
+
+/// The text of a Text String with this tag.
+pub fn text_of<'a, 'b>(item: &'b View<'a>, tag: u32) -> Option<&'a str>
+    ensures { MatchOption result ((bytes : List ℕ) → view_tree item.now ≢ scalar tag (text bytes))
+        (λ bytes. view_tree item.now ≡ scalar tag (text bytes.now)) }
+{
+    if item.tag.number != tag {
+        return None;
+    }
+    as_text(item)
+}
+
+/// The bytes of a Byte String with this tag.
+pub fn bytes_of<'a, 'b>(item: &'b View<'a>, tag: u32) -> Option<&'a [u8]>
+    ensures { MatchOption result ((bytes : List ℕ) → view_tree item.now ≢ scalar tag (byte_string bytes))
+        (λ bytes. view_tree item.now ≡ scalar tag (byte_string bytes.now)) }
+{
+    if item.tag.number != tag {
+        return None;
+    }
+    as_bytes(item)
+}

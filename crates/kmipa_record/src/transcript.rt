@@ -1,0 +1,188 @@
+//! Transcripts: which calls were made, and what was answered.
+
+ghost use Rattle.std.specs.Prelude.{◌≡◌, ◌<◌, ◌≢◌, ℕ, ℤ, List, true, map, Option, IfOk, IfErr, IfSome, MatchOption, MatchResult};
+ghost use Rattle.std.specs.String.{string_bytes};
+ghost use Rattle.kmipa_ttlv.specs.Input.{reader_of, taken_of, is_failed};
+ghost use Rattle.kmipa_ttlv.specs.Tree.{Tree};
+ghost use Rattle.kmipa_ttlv.specs.ViewTree.{view_tree, view_trees};
+ghost use Rattle.kmipa_record.specs.Files.{Tells};
+ghost use Rattle.kmipa_record.specs.Marks.{MarkOf, mark_of, mark_item, begin_fields, end_fields};
+ghost use Rattle.kmipa_record.specs.Transcripts.{transcript_of, IsTranscript, TranscriptFault, IsTranscriptUpTo};
+ghost use Rattle.kmipa_record.specs.TranscriptReading.{IsReadSoFar, GoesOn};
+
+use crate::calls::Calls;
+use crate::fault::{RecordFault, RecordKind};
+use crate::header::TranscriptHeader;
+use crate::record::{Next, Record, read_header, read_next};
+use crate::shape::{bytes_of, children_of, integer_of, text_of};
+use kmipa_ttlv::{Input, View};
+use std::alloc::{AllocError, Global};
+use std::io::Read;
+
+const BEGIN: u32 = 0x54_0010;
+
+const CALL: u32 = 0x54_0011;
+
+const CLIENT: u32 = 0x54_0012;
+
+const MESSAGE: u32 = 0x54_0013;
+
+const END: u32 = 0x54_0020;
+
+/// What a laboratory saw of the calls to a server: marks in the order in which it saw them.
+#[derive(Debug, Drop)]
+pub struct Transcript {
+    pub marks: Vec<Mark>,
+}
+
+/// One thing that was seen of a call.
+#[derive(Debug, Drop)]
+pub enum Mark {
+    Begin(Begin),
+    End(End),
+}
+
+/// A call began: its number, who made it, and its request message as it came.
+#[derive(Debug, Drop)]
+pub struct Begin {
+    pub call: i32,
+    pub client: String,
+    pub message: Vec<u8>,
+}
+
+/// A call ended: its number, and its response message as it came.
+#[derive(Debug, Drop)]
+pub struct End {
+    pub call: i32,
+    pub message: Vec<u8>,
+}
+
+impl Record for Mark {
+    ghost item_of = { λ mark. mark_item (mark_of mark) };
+
+    ghost is_record = { λ item. (mark : MarkOf) × (item ≡ mark_item mark) };
+
+    fn of(alloc: Global, item: &View) -> Result<Option<Mark>, AllocError> {
+        if let Some(children) = children_of(item, BEGIN) {
+            return match begin_in(alloc, children)? {
+                Some(begin) => Ok(Some(Mark::Begin(begin))),
+                None => Ok(None),
+            };
+        }
+        if let Some(children) = children_of(item, END) {
+            return match end_in(alloc, children)? {
+                Some(end) => Ok(Some(Mark::End(end))),
+                None => Ok(None),
+            };
+        }
+        Ok(None)
+    }
+}
+
+/// What the children of a begin mark say.
+fn begin_in(alloc: Global, children: &[View]) -> Result<Option<Begin>, AllocError>
+    ensures { IfOk result (λ o. MatchOption o ((call : ℤ) (client message : List ℕ) → view_trees children.now ≢ begin_fields call client message)
+        (λ begin. view_trees children.now ≡ begin_fields begin.call (string_bytes begin.client) begin.message.items)) }
+{
+    let [call, client, message] = children else {
+        return Ok(None);
+    };
+    let Some(call) = integer_of(call, CALL) else {
+        return Ok(None);
+    };
+    let Some(client) = text_of(client, CLIENT) else {
+        return Ok(None);
+    };
+    let Some(message) = bytes_of(message, MESSAGE) else {
+        return Ok(None);
+    };
+    Ok(Some(Begin {
+        call,
+        client: String::from_str(alloc, client)?,
+        message: Vec::from_slice(alloc, message)?,
+    }))
+}
+
+/// What the children of an end mark say.
+fn end_in(alloc: Global, children: &[View]) -> Result<Option<End>, AllocError>
+    ensures { IfOk result (λ o. MatchOption o ((call : ℤ) (message : List ℕ) → view_trees children.now ≢ end_fields call message)
+        (λ end. view_trees children.now ≡ end_fields end.call end.message.items)) }
+{
+    let [call, message] = children else {
+        return Ok(None);
+    };
+    let Some(call) = integer_of(call, CALL) else {
+        return Ok(None);
+    };
+    let Some(message) = bytes_of(message, MESSAGE) else {
+        return Ok(None);
+    };
+    Ok(Some(End {
+        call,
+        message: Vec::from_slice(alloc, message)?,
+    }))
+}
+
+/// Reads a transcript of whose bytes none was read.
+///
+/// `Device` and `Memory` are told with the place of the item that was being read.
+pub fn read_transcript<R: Read>(
+    alloc: Global,
+    input: &mut Input<R>,
+) -> Result<Transcript, RecordFault>
+    requires { taken_of input.old ≡ 0 }
+    // What is read is what the bytes are.
+    ensures found { IfOk result (λ transcript. IfSome (R.remaining (reader_of input.old)) (λ bytes. IsTranscript bytes (transcript_of transcript))) }
+    // Else the first fault is told, unless a read failed or memory ran out.
+    ensures fault { IfErr result (Tells TranscriptFault IsTranscriptUpTo (R.remaining (reader_of input.old)) (is_failed input.new)) }
+{
+    let mut bytes = Vec::new(alloc);
+    let _: TranscriptHeader = read_header(alloc, input, &mut bytes)?;
+    let mut calls = Calls::new(alloc);
+    let mut marks = Vec::new(alloc);
+    'marks: while read_mark(alloc, input, &mut bytes, &mut calls, &mut marks)? {}
+    match calls.first_open(&marks) {
+        Some(offset) => Err(RecordFault {
+            offset,
+            kind: RecordKind::OpenCall,
+        }),
+        None => Ok(Transcript { marks }),
+    }
+}
+
+/// Reads the next mark of a transcript onto those before it; `false` at the end.
+fn read_mark<R: Read>(
+    alloc: Global,
+    input: &mut Input<R>,
+    bytes: &mut Vec<u8>,
+    calls: &mut Calls,
+    marks: &mut Vec<Mark>,
+) -> Result<bool, RecordFault>
+    ensures read { (known : Option (List ℕ))
+        → IfSome known (λ file. IsReadSoFar file (map mark_of marks.old.items) calls.old (R.remaining (reader_of input.old)) (taken_of input.old))
+        → MatchResult result
+        (λ more. GoesOn known more (map mark_of marks.new.items) calls.new (R.remaining (reader_of input.new)) (taken_of input.new))
+        (Tells TranscriptFault IsTranscriptUpTo known (is_failed input.new)) }
+    ensures nearer { IfOk result (λ more. more ≡ true → taken_of input.old < taken_of input.new) }
+{
+    let offset = input.taken();
+    let next: Next<Mark> = read_next(alloc, input, bytes)?;
+    let mark = match next {
+        Next::Record(mark) => mark,
+        Next::End => return Ok(false),
+        Next::Other => return Err(RecordFault {
+            offset,
+            kind: RecordKind::Entry,
+        }),
+    };
+    if let Err(kind) = calls.take(&mark, offset) {
+        return Err(RecordFault { offset, kind });
+    }
+    if marks.push(mark).is_err() {
+        return Err(RecordFault {
+            offset,
+            kind: RecordKind::Memory,
+        });
+    }
+    Ok(true)
+}

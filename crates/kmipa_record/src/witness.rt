@@ -1,0 +1,104 @@
+//! Witnesses: an order in which the calls may have been taken.
+
+ghost use Rattle.std.specs.Prelude.{◌≡◌, ◌<◌, ℕ, List, true, map, Option, IfOk, IfErr, IfSome, MatchResult};
+ghost use Rattle.kmipa_ttlv.specs.Input.{reader_of, taken_of, is_failed};
+ghost use Rattle.kmipa_ttlv.specs.Tree.{Tree};
+ghost use Rattle.kmipa_record.specs.Files.{Tells};
+ghost use Rattle.kmipa_record.specs.Witnesses.{TurnOf, turn_of, turn_item, witness_of, IsWitness, WitnessFault, IsWitnessUpTo};
+ghost use Rattle.kmipa_record.specs.WitnessReading.{IsReadSoFar, GoesOn};
+
+use crate::fault::{RecordFault, RecordKind};
+use crate::header::WitnessHeader;
+use crate::record::{Next, Record, read_header, read_next};
+use crate::shape::{children_of, integer_of};
+use kmipa_ttlv::{Input, View};
+use std::alloc::{AllocError, Global};
+use std::io::Read;
+
+const CALL: u32 = 0x54_0011;
+
+const TURN: u32 = 0x54_0041;
+
+/// Calls in the order in which they are to be taken, one at a time.
+#[derive(Debug, Drop)]
+pub struct Witness {
+    pub turns: Vec<Turn>,
+}
+
+/// The turn of one call. For now a turn holds its call alone: one with fills is refused by `Entry`.
+#[derive(Debug, Drop)]
+pub struct Turn {
+    pub call: i32,
+}
+
+impl Record for Turn {
+    ghost item_of = { λ turn. turn_item (turn_of turn) };
+
+    ghost is_record = { λ item. (turn : TurnOf) × (item ≡ turn_item turn) };
+
+    fn of(_alloc: Global, item: &View) -> Result<Option<Turn>, AllocError> {
+        let Some([call]) = children_of(item, TURN) else {
+            return Ok(None);
+        };
+        let Some(call) = integer_of(call, CALL) else {
+            return Ok(None);
+        };
+        Ok(Some(Turn { call }))
+    }
+}
+
+/// Reads a witness of whose bytes none was read.
+///
+/// `Device` and `Memory` are told with the place of the item that was being read.
+pub fn read_witness<R: Read>(alloc: Global, input: &mut Input<R>) -> Result<Witness, RecordFault>
+    requires { taken_of input.old ≡ 0 }
+    // What is read is what the bytes are.
+    ensures found { IfOk result (λ witness. IfSome (R.remaining (reader_of input.old)) (λ bytes. IsWitness bytes (witness_of witness))) }
+    // Else the first fault is told, unless a read failed or memory ran out.
+    ensures fault { IfErr result (Tells WitnessFault IsWitnessUpTo (R.remaining (reader_of input.old)) (is_failed input.new)) }
+{
+    let mut bytes = Vec::new(alloc);
+    let _: WitnessHeader = read_header(alloc, input, &mut bytes)?;
+    let mut turns = Vec::new(alloc);
+    'turns: while read_turn(alloc, input, &mut bytes, &mut turns)? {}
+    Ok(Witness { turns })
+}
+
+/// Reads the next turn of a witness onto those before it; `false` at the end.
+fn read_turn<R: Read>(
+    alloc: Global,
+    input: &mut Input<R>,
+    bytes: &mut Vec<u8>,
+    turns: &mut Vec<Turn>,
+) -> Result<bool, RecordFault>
+    ensures read { (known : Option (List ℕ))
+        → IfSome known (λ file. IsReadSoFar file (map turn_of turns.old.items) (R.remaining (reader_of input.old)) (taken_of input.old))
+        → MatchResult result
+        (λ more. GoesOn known more (map turn_of turns.new.items) (R.remaining (reader_of input.new)) (taken_of input.new))
+        (Tells WitnessFault IsWitnessUpTo known (is_failed input.new)) }
+    ensures nearer { IfOk result (λ more. more ≡ true → taken_of input.old < taken_of input.new) }
+{
+    let offset = input.taken();
+    let next: Next<Turn> = read_next(alloc, input, bytes)?;
+    let turn = match next {
+        Next::Record(turn) => turn,
+        Next::End => return Ok(false),
+        Next::Other => return Err(RecordFault {
+            offset,
+            kind: RecordKind::Entry,
+        }),
+    };
+    if turn.call < 1 {
+        return Err(RecordFault {
+            offset,
+            kind: RecordKind::Number,
+        });
+    }
+    if turns.push(turn).is_err() {
+        return Err(RecordFault {
+            offset,
+            kind: RecordKind::Memory,
+        });
+    }
+    Ok(true)
+}
