@@ -7,3 +7,4 @@ pub mod Completes
 pub mod Chains
 pub mod Blame
 pub mod Explains
+pub mod After

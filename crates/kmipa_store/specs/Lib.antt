@@ -3,3 +3,4 @@ pub mod Faults
 pub mod Calls
 pub mod Choices
 pub mod Objects
+pub mod Secrets

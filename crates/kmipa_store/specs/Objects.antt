@@ -1,5 +1,5 @@
 -- Objects kept by their identifiers, as the list that they are.
-use Rattle.std.specs.Prelude.{◌≡◌, ◌++◌, ◌∷◌, [], ℕ, List, map, String, string_bytes, Result, Ok, Err}
+use Rattle.std.specs.Prelude.{◌≡◌, ◌++◌, ◌∷◌, [], List, map, String, string_bytes, Result, Ok, Err}
 use Rattle.std.specs.declared.alloc.Global.{Global}
 use Rattle.kmipa_object.specs.declared.object.Object.{Object}
 use Rattle.kmipa_store.specs.Ledger.{Held, held}

@@ -5,6 +5,7 @@ mod fault;
 mod laws;
 mod ledger;
 mod objects;
+mod secrets;
 
 pub use fault::StoreFault;
 pub use laws::every_choice_gives_an_inventory;
