@@ -1,20 +1,18 @@
 -- Lists of items, one after the other, and what taking one comes to.
-use Rattle.std.proofs.Common.{◌≡◌, ◌≤◌, ◌⊎◌, ◌↔◌, ℕ, ℤ, Bool, true, false, List, [], ◌∷◌, ◌++◌, length, find, Option, Some, None, Result, Ok, Err, refl, ap, sym, ◌∙◌, subst, inl, inr, arith}
+use Rattle.std.proofs.Common.{◌≡◌, ◌≤◌, ℕ, ℤ, true, List, [], ◌∷◌, ◌++◌, length, Option, Some, None, refl, sym, ◌∙◌, subst, inl, inr, arith}
 use Rattle.kmipa_object.specs.Inventory.{Thing}
-use Rattle.kmipa_store.specs.Ledger.{Meaning, LedgerState, changed, bytes_at}
-use Rattle.kmipa_store.specs.Choices.{Choice, Chooses, Agrees, inv, IsSound, Extends}
+use Rattle.kmipa_store.specs.Ledger.{Meaning, LedgerState, changed}
+use Rattle.kmipa_store.specs.Choices.{inv, IsSound}
 use Rattle.kmipa_store.proofs.ChoiceLemmas.{agrees_same, agrees_more, extends_same, extends_more}
 use Rattle.kmipa_msgs.specs.Messages.{RulesOf, AskOf, AnswerOf}
 use Rattle.kmipa_ops.specs.declared.why.Why.{Why}
 use Rattle.kmipa_ops.specs.Whys.{whys}
 use Rattle.kmipa_ops.specs.Does.{Does}
-use Rattle.kmipa_ops.specs.Completes.{CompletesAnswer, DoesSome}
 use Rattle.kmipa_ops.specs.Chains.{Chain, ChainSome, CompletesEach, ChainsComplete}
 use Rattle.kmipa_ops.specs.Blame.{speaks, lowest}
 use Rattle.kmipa_ops.specs.After.{after, placeholder_after}
 use Rattle.kmipa_ops.specs.Explains.{Tells, TellsBytes, Explains, Refuted, Took, is_readable, IsPossible, BlameIsExact}
 use Rattle.kmipa_ops.proofs.TestLemmas.{find_holds}
-use Rattle.kmipa_ops.proofs.StepLemmas.{Step}
 use Rattle.kmipa_ops.proofs.ItemLemmas.{item_step, never, learns_after}
 
 module _ (rules : RulesOf) (t : ℤ) where

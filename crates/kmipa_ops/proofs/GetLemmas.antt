@@ -1,19 +1,17 @@
 -- Get: what a ledger leaves that was shown an object's bytes.
-use Rattle.std.proofs.Common.{◌≡◌, ◌≢◌, ◌||◌, ◌&&◌, ◌==◌, ◌<◌, ◌≤◌, ℕ, ℤ, Bool, true, false, not, List, length, slice_get, All, is_none, bytes_eq, option_map, Option, Some, None, refl, ap, sym, ◌∙◌, subst, inl, inr, arith}
+use Rattle.std.proofs.Common.{◌≡◌, ◌&&◌, ◌==◌, ◌<◌, ℕ, ℤ, Bool, true, false, not, List, length, slice_get, All, is_none, bytes_eq, option_map, Option, Some, None, refl, ap, sym, ◌∙◌, subst, inl, inr, arith}
 use Rattle.std.specs.Ordering.{int_eq}
 use Rattle.std.specs.Option.{option_and_then}
-use Rattle.std.specs.Prelude.{cond, if◌then◌else◌}
+use Rattle.std.specs.Prelude.{if◌then◌else◌}
 use Rattle.std.proofs.lemmas.Slice.Eq.{bytes_eq-Decides}
 use Rattle.std.proofs.lemmas.Bool.{or_parts}
 use Rattle.std.proofs.lemmas.Bool.Decides.{Decides-eqb, Decides-int_eq}
-use Rattle.kmipa_attrs.specs.ObjectTypes.{type_number}
 use Rattle.kmipa_attrs.specs.declared.object_type.ObjectType.{ObjectType}
 use Rattle.kmipa_attrs.specs.declared.object_type.ObjectType.TheVariants.{SymmetricKey, SecretData}
 use Rattle.std.specs.Bool.{Decides}
-use Rattle.kmipa_object.specs.Inventory.{Card, Thing, Admitted, place_of, rule_of, admits, live, cards}
+use Rattle.kmipa_object.specs.Inventory.{Card, Thing, Admitted, place_of, rule_of, admits, live}
 use Rattle.kmipa_object.specs.Life.{state, has_come}
 use Rattle.kmipa_object.specs.Table.{allowed}
-use Rattle.kmipa_object.specs.declared.allow.Act.{Act}
 use Rattle.kmipa_object.specs.declared.allow.Act.TheVariants as act
 use Rattle.kmipa_object.specs.declared.state.State.TheVariants.{PreActive, Active, Deactivated}
 use Rattle.kmipa_object.specs.declared.life.Material.{Material}
@@ -21,19 +19,19 @@ use Rattle.kmipa_object.specs.declared.life.Material.TheVariants.{Gone, Secret}
 use Rattle.kmipa_object.specs.declared.life.SecretNo.{SecretNo}
 use Rattle.kmipa_store.specs.Ledger.{Held, Known, Meaning, cards_of, told}
 use Rattle.kmipa_store.specs.Calls.{differs, differs_from, breaks}
-use Rattle.kmipa_store.specs.Choices.{Choice, Suits, Chooses, Agrees, inv, thing, bytes_of, InRange, IsSound, GoneIfDestroyed}
-use Rattle.kmipa_store.proofs.ChoiceLemmas.{override, override_same, agrees_same, Chooses-told, told_bytes, Chooses-override, extends_told, extends_same, length-told, get-told_same}
+use Rattle.kmipa_store.specs.Choices.{Choice, Suits, Chooses, inv, thing, bytes_of, IsSound, GoneIfDestroyed}
+use Rattle.kmipa_store.proofs.ChoiceLemmas.{override, override_same, agrees_same, Chooses-told, told_bytes, Chooses-override, extends_told, length-told}
 use Rattle.kmipa_store.proofs.InventoryLemmas.{cards-inv, get-inv}
 use Rattle.kmipa_store.proofs.SoundLemmas.{inv_found, InRange-extends}
 use Rattle.kmipa_msgs.specs.Messages.{GotOf}
 use Rattle.kmipa_ops.specs.declared.why.Why.{Why}
 use Rattle.kmipa_ops.specs.declared.why.Why.TheVariants.{NoSuchObject, WrongState, BytesDiffer, LengthImpossible, AttributeDiffers, EchoDiffers}
-use Rattle.kmipa_ops.specs.Objects.{meant, HasObject, Echoes, Agree, is_other, clash, same_type}
+use Rattle.kmipa_ops.specs.Objects.{meant, Echoes, Agree, is_other, clash, same_type}
 use Rattle.kmipa_ops.specs.Does.{Gets}
 use Rattle.kmipa_ops.specs.Blame.{object_meant, secret_at, secret_meant, is_not, is_excluded, shows_other, is_other_id, get_speaks}
 use Rattle.kmipa_ops.specs.After.{taught, taught_at}
 use Rattle.kmipa_ops.proofs.TestLemmas.{not_false, not_none, echoes_if, echoes_not, agree_if, agree_not, or_cases}
-use Rattle.kmipa_ops.proofs.StepLemmas.{Step, still_step, chose_before}
+use Rattle.kmipa_ops.proofs.StepLemmas.{Step, chose_before}
 
 pub same_type-Decides : (x y : ObjectType) → Decides (same_type x y) (x ≡ y)
 same_type-Decides SymmetricKey SymmetricKey = (λ h. refl, λ h. refl)
@@ -42,12 +40,12 @@ same_type-Decides SecretData SymmetricKey = (λ h. let bad : ⊥ = cc in absurd 
 same_type-Decides SecretData SecretData = (λ h. refl, λ h. refl)
 
 -- the state excludes a Get exactly where the Destroy Date is set
-alive_if : (i a d e c : Option ℤ) (t : ℤ) → is_not (allowed act.Get (state (record { initial = i; activation = a; deactivation = d; destroy = e; compromise = c }) t)) ≡ false → is_none e ≡ true
+pub alive_if : (i a d e c : Option ℤ) (t : ℤ) → is_not (allowed act.Get (state (record { initial = i; activation = a; deactivation = d; destroy = e; compromise = c }) t)) ≡ false → is_none e ≡ true
 alive_if i a d None c t h = refl
 alive_if i a d (Some x) None t h = cc
 alive_if i a d (Some x) (Some y) t h = cc
 
-alive_not : (i a d e c : Option ℤ) (t : ℤ) → is_none e ≡ true → is_not (allowed act.Get (state (record { initial = i; activation = a; deactivation = d; destroy = e; compromise = c }) t)) ≡ true → ⊥
+pub alive_not : (i a d e c : Option ℤ) (t : ℤ) → is_none e ≡ true → is_not (allowed act.Get (state (record { initial = i; activation = a; deactivation = d; destroy = e; compromise = c }) t)) ≡ true → ⊥
 alive_not i a d None (Some y) t h x = cc
 alive_not i a d None None t h x =
     (elim (has_come a t) as (λ b. is_not (allowed act.Get (if not b then PreActive else if has_come d t then Deactivated else Active)) ≡ true → ⊥) [

@@ -1,5 +1,5 @@
 -- One item of a batch, whatever its operation: where nothing speaks against it the ledger goes on, and what speaks against it allows no choice.
-use Rattle.std.proofs.Common.{◌≡◌, ◌||◌, ◌<◌, ◌==◌, ◌⊎◌, ℕ, zero, suc, ℤ, Bool, true, false, not, List, [], ◌∷◌, ◌++◌, slice_get, All, is_none, bytes_eq, option_map, Option, Some, None, refl, ap, sym, ◌∙◌, subst, inl, inr}
+use Rattle.std.proofs.Common.{◌≡◌, ◌||◌, ◌==◌, ◌⊎◌, ℕ, zero, suc, ℤ, Bool, true, false, not, List, [], ◌∷◌, ◌++◌, slice_get, bytes_eq, option_map, Option, Some, None, refl, ap, sym, ◌∙◌, subst, inl, inr}
 use Rattle.std.proofs.lemmas.Bool.{or_parts}
 use Rattle.std.proofs.lemmas.Bool.Decides.{Decides-eqb}
 use Rattle.std.proofs.lemmas.Slice.Eq.{bytes_eq-Decides}
@@ -18,15 +18,14 @@ use Rattle.kmipa_msgs.specs.Operations.{operation_number}
 use Rattle.kmipa_msgs.specs.Messages.{RulesOf, AskedOf, registers, gets, AskOf, operation_asked, GotOf, PayloadOf, registered, got, AnswerOf}
 use Rattle.kmipa_ops.specs.declared.why.Why.{Why}
 use Rattle.kmipa_ops.specs.declared.why.Why.TheVariants.{OperationDiffers, NoSuchObject, WrongState, ReasonUnfounded, EchoDiffers}
-use Rattle.kmipa_ops.specs.Whys.{whys}
-use Rattle.kmipa_ops.specs.Objects.{meant, Echoes, Agree, is_other, clash, same_type}
+use Rattle.kmipa_ops.specs.Objects.{meant, Echoes, Agree, is_other, same_type}
 use Rattle.kmipa_ops.specs.Founded.{founded}
-use Rattle.kmipa_ops.specs.Does.{newborn, Registers, Gets, Succeeds, Fails, Outcome, Does}
-use Rattle.kmipa_ops.specs.Completes.{IsFill, Fills, CompletesAnswer, DoesSome, can_judge}
+use Rattle.kmipa_ops.specs.Does.{newborn, Gets, Succeeds, Fails, Outcome}
+use Rattle.kmipa_ops.specs.Completes.{IsFill, Fills, DoesSome, can_judge}
 use Rattle.kmipa_ops.specs.Blame.{object_meant, is_other_id, shows_other, get_speaks, done_speaks, outcome_speaks, frame_speaks, speaks, lowest}
 use Rattle.kmipa_ops.specs.After.{with_registered, taught, taught_at, after, placeholder_after}
-use Rattle.kmipa_ops.specs.Explains.{brings, shows, Tells, TellsBytes, is_readable}
-use Rattle.kmipa_ops.proofs.TestLemmas.{not_false, or_cases, echoes_if, echoes_not, agree_if, agree_not, find_holds, none_holds}
+use Rattle.kmipa_ops.specs.Explains.{brings, shows, AreBytes, TellsBytes, is_readable}
+use Rattle.kmipa_ops.proofs.TestLemmas.{not_false, or_cases, echoes_if, echoes_not, agree_if, agree_not, none_holds}
 use Rattle.kmipa_ops.proofs.StepLemmas.{Step, step_as, still_step}
 use Rattle.kmipa_ops.proofs.RegisterLemmas.{register_step, register_never}
 use Rattle.kmipa_ops.proofs.GetLemmas.{finds, meant_is, links, get_step, get_never, same_type-Decides}
@@ -92,26 +91,26 @@ module _ (rules : RulesOf) (m : Meaning) (before : Option (List ℕ)) (t : ℤ) 
 
   -- nothing speaks against the outcome
   pub outcome_step : (status : Status) (asked : AskedOf) (reason : Option ℕ) (payload : Option PayloadOf) → IsSound m → can_judge status asked payload ≡ true
-      → ((bytes : List ℕ) → brings asked ≡ Some bytes → All (λ b. b < 256) bytes) → ((bytes : List ℕ) → shows payload ≡ Some bytes → All (λ b. b < 256) bytes)
+      → AreBytes (brings asked) → AreBytes (shows payload)
       → ((w : Why) → outcome_speaks status rules m before t asked reason payload w ≡ false)
       → Step (OutcomeSome status asked reason payload) m (after status m before t asked payload) (placeholder_after status before asked payload)
   outcome_step Failed asked reason payload sound readable brought shown silent =
       step_as (λ V V' p. Fails rules V before t asked reason V' p) (OutcomeSome Failed asked reason payload) m m before
       (λ V V' p x. (payload, refl, x)) (λ V V' p x. x.2) (fail_step asked reason sound (silent ReasonUnfounded))
   outcome_step Success (registers r) reason (Some (registered a)) sound readable brought shown silent =
-      done_as Success (registers r) reason (registered a) (with_registered m t r a.id) (Some a.id) (register_step rules m t r a sound (brought r.block.material refl) silent)
+      done_as Success (registers r) reason (registered a) (with_registered m t r a.id) (Some a.id) (register_step rules m t r a sound brought silent)
   outcome_step Success (registers r) reason (Some (got a)) sound readable brought shown silent = let bad : ⊥ = cc in absurd bad
   outcome_step Success (registers r) reason None sound readable brought shown silent = let bad : ⊥ = cc in absurd bad
   outcome_step Success (gets id) reason (Some (got a)) sound readable brought shown silent =
-      done_as Success (gets id) reason (got a) (taught m (object_meant m.objects (meant id before)) a.block.material) before (get_step m before id t a sound (shown a.block.material refl) silent)
+      done_as Success (gets id) reason (got a) (taught m (object_meant m.objects (meant id before)) a.block.material) before (get_step m before id t a sound shown silent)
   outcome_step Success (gets id) reason (Some (registered a)) sound readable brought shown silent = let bad : ⊥ = cc in absurd bad
   outcome_step Success (gets id) reason None sound readable brought shown silent = let bad : ⊥ = cc in absurd bad
   outcome_step Undone (registers r) reason (Some (registered a)) sound readable brought shown silent =
-      done_as Undone (registers r) reason (registered a) (with_registered m t r a.id) (Some a.id) (register_step rules m t r a sound (brought r.block.material refl) silent)
+      done_as Undone (registers r) reason (registered a) (with_registered m t r a.id) (Some a.id) (register_step rules m t r a sound brought silent)
   outcome_step Undone (registers r) reason (Some (got a)) sound readable brought shown silent = let bad : ⊥ = cc in absurd bad
   outcome_step Undone (registers r) reason None sound readable brought shown silent = let bad : ⊥ = cc in absurd bad
   outcome_step Undone (gets id) reason (Some (got a)) sound readable brought shown silent =
-      done_as Undone (gets id) reason (got a) (taught m (object_meant m.objects (meant id before)) a.block.material) before (get_step m before id t a sound (shown a.block.material refl) silent)
+      done_as Undone (gets id) reason (got a) (taught m (object_meant m.objects (meant id before)) a.block.material) before (get_step m before id t a sound shown silent)
   outcome_step Undone (gets id) reason (Some (registered a)) sound readable brought shown silent = let bad : ⊥ = cc in absurd bad
   outcome_step Undone (gets id) reason None sound readable brought shown silent = hidden_step id sound silent
 
@@ -213,7 +212,7 @@ module _ (rules : RulesOf) (m : Meaning) (before : Option (List ℕ)) (t : ℤ) 
       step_as (OutcomeSome answer.status ask.asked answer.reason answer.payload) (λ V V' q. DoesSome rules V before t ask answer V' q) m n p
       (λ V V' q x. does_some ask answer V V' q framed x)
       (λ V V' q x. (some_does ask answer V V' q x).1)
-      (outcome_step answer.status ask.asked answer.reason answer.payload sound judged (λ b e. bytes b (inl e)) (λ b e. bytes b (inr (inl e))) (λ w. (parts w).1))
+      (outcome_step answer.status ask.asked answer.reason answer.payload sound judged bytes.0 bytes.1 (λ w. (parts w).1))
 
 -- what is known afterwards
 known_at : (o : Option Known) (bytes : List ℕ) → option_map (λ (k : Known). k.bytes) o ≡ Some (Some bytes) → (k : Known) × (o ≡ Some k) × (k.bytes ≡ Some bytes)

@@ -1,21 +1,21 @@
 -- Register: what a ledger leaves that stored its object.
-use Rattle.std.proofs.Common.{◌≡◌, ◌≢◌, ◌||◌, ◌<◌, ℕ, ℤ, Bool, true, false, not, List, [], ◌∷◌, ◌++◌, length, slice_get, All, is_some, bytes_eq, option_map, ◌==◌, Option, Some, None, refl, ap, sym, ◌∙◌, subst, inl, inr, arith, length-append}
+use Rattle.std.proofs.Common.{◌≡◌, ◌<◌, ℕ, ℤ, true, false, not, List, [], ◌∷◌, ◌++◌, length, slice_get, All, is_some, bytes_eq, option_map, ◌==◌, Option, Some, None, refl, ap, sym, ◌∙◌, subst, inl, inr, arith, length-append}
 use Rattle.std.proofs.lemmas.Slice.Eq.{bytes_eq-Decides}
 use Rattle.std.proofs.lemmas.Bool.Decides.{Decides-eqb}
 use Rattle.kmipa_attrs.specs.ObjectTypes.{type_number}
 use Rattle.kmipa_object.specs.Inventory.{Card, Thing, Admitted, place_of, rule_of, admits, live}
 use Rattle.kmipa_object.specs.declared.rule.Rule.{Rule}
-use Rattle.kmipa_object.specs.declared.life.Material.TheVariants.{Gone, Secret}
+use Rattle.kmipa_object.specs.declared.life.Material.TheVariants.{Secret}
 use Rattle.kmipa_object.specs.declared.life.SecretNo.{SecretNo}
-use Rattle.kmipa_object.proofs.ListLemmas.{get-append_old, get-append_last, get-append_cases, get_below, get-map}
+use Rattle.kmipa_object.proofs.ListLemmas.{get-append_old, get-append_last, get-append_cases}
 use Rattle.kmipa_store.specs.Ledger.{Held, Known, Meaning, cards_of}
-use Rattle.kmipa_store.specs.Choices.{Choice, Suits, Chooses, Agrees, inv, thing, IsSound, GoneIfDestroyed}
+use Rattle.kmipa_store.specs.Choices.{Choice, Chooses, Agrees, inv, thing, IsSound, GoneIfDestroyed}
 use Rattle.kmipa_store.proofs.ChoiceLemmas.{override, override_same, override_agrees, Chooses-fewer, Chooses-last, Chooses-more, extends_push}
 use Rattle.kmipa_store.proofs.InventoryLemmas.{cards-inv, inv-append, inv-same, place_none, get-cards_of}
 use Rattle.kmipa_msgs.specs.Messages.{RulesOf, RegisterOf, RegisteredOf}
 use Rattle.kmipa_ops.specs.declared.why.Why.{Why}
 use Rattle.kmipa_ops.specs.declared.why.Why.TheVariants.{IdentifierTaken, NameTaken, LengthImpossible, EchoDiffers}
-use Rattle.kmipa_ops.specs.Objects.{Echoes, is_other}
+use Rattle.kmipa_ops.specs.Objects.{Echoes}
 use Rattle.kmipa_ops.specs.Does.{newborn, name_taken, Registers}
 use Rattle.kmipa_ops.specs.Blame.{register_speaks}
 use Rattle.kmipa_ops.specs.After.{with_registered}

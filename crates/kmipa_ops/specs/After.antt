@@ -1,9 +1,11 @@
 -- The ledger and the placeholder after an item against which nothing speaks: of an unknown secret that a Get shows the bytes are known then.
-use Rattle.std.specs.Prelude.{ℕ, ℤ, List, [], ◌∷◌, ◌++◌, length, Option, Some, None}
+use Rattle.std.specs.Prelude.{ℕ, ℤ, List, [], ◌∷◌, ◌++◌, ◌≡◌, length, Option, Some, None, Result, Ok, Err}
 use Rattle.kmipa_object.specs.Inventory.{rule_of}
 use Rattle.kmipa_object.specs.declared.life.Material.{Material}
 use Rattle.kmipa_object.specs.declared.life.Material.TheVariants.{Gone, Secret}
-use Rattle.kmipa_store.specs.Ledger.{Held, Meaning, told}
+use Rattle.kmipa_object.specs.declared.life.SecretNo.{SecretNo}
+use Rattle.kmipa_object.specs.declared.rule.Rule.{Rule}
+use Rattle.kmipa_store.specs.Ledger.{Held, Meaning, LedgerState, changed, told}
 use Rattle.kmipa_msgs.specs.declared.response.Status.{Status}
 use Rattle.kmipa_msgs.specs.declared.response.Status.TheVariants.{Success, Failed, Undone}
 use Rattle.kmipa_msgs.specs.Messages.{RegisterOf, AskedOf, registers, gets, PayloadOf, registered, got}
@@ -51,3 +53,20 @@ abbrev pub placeholder_after : Status → Option (List ℕ) → AskedOf → Opti
 placeholder_after Success before asked payload = placeholder_done before asked payload
 placeholder_after Undone before asked payload = placeholder_done before asked payload
 placeholder_after Failed before asked payload = before
+
+-- what a step leaves that only want of memory refuses: the ledger and the placeholder, and after a refusal the marks
+abbrev pub Leaves : {E : Type 0} → LedgerState → Meaning → Option (List ℕ) → Result (Unit {0}) E → LedgerState → Option (List ℕ) → Type 0
+Leaves s n after (Ok done) u p = (u ≡ changed s n) × (p ≡ after)
+Leaves s n after (Err e) u p = u.marks ≡ s.marks
+
+-- a new secret of known bytes has the next number
+abbrev pub MakesKnown : {E : Type 0} → LedgerState → Rule → List ℕ → Result SecretNo E → LedgerState → Type 0
+MakesKnown s rule bytes (Ok secret) u =
+    (secret.number ≡ length s.now.secrets)
+    × (u ≡ changed s (record { objects = s.now.objects; secrets = s.now.secrets ++ record { rule = rule; bytes = Some bytes } ∷ [] }))
+MakesKnown s rule bytes (Err e) u = u.marks ≡ s.marks
+
+-- what a step does to the ledger alone
+abbrev pub Changes : {E : Type 0} → LedgerState → Meaning → Result (Unit {0}) E → LedgerState → Type 0
+Changes s n (Ok done) u = u ≡ changed s n
+Changes s n (Err e) u = u.marks ≡ s.marks

@@ -8,3 +8,4 @@ pub mod Chains
 pub mod Blame
 pub mod Explains
 pub mod After
+pub mod Shown

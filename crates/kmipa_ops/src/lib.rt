@@ -1,8 +1,17 @@
 //! One item of a batch: Ok exactly where some inventory allows it, or the lowest reason why none does.
 #![tactic(auto)]
 
+mod echo;
+mod failed;
+mod get;
+mod laws;
+mod objects;
 mod placeholder;
+mod register;
+mod taking;
 mod why;
 
+pub use laws::{blame_is_exact, chains_complete};
 pub use placeholder::Placeholder;
+pub use taking::take;
 pub use why::{Refusal, Why};

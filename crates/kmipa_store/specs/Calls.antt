@@ -1,9 +1,10 @@
 -- What the calls of a ledger answer and leave: an Ok and each fault exactly where its condition holds. A fault changes nothing.
-use Rattle.std.specs.Prelude.{◌≡◌, ◌&&◌, ℕ, Bool, true, false, not, List, length, Option, Some, None, Result, Ok, Err, is_none, is_some, bytes_eq, slice_get}
+use Rattle.std.specs.Prelude.{◌≡◌, ◌<◌, ◌+◌, ◌&&◌, ℕ, Bool, true, false, not, List, length, Option, Some, None, Result, Ok, Err, is_none, is_some, bytes_eq, slice_get}
 use Rattle.kmipa_object.specs.Inventory.{admits, possible}
 use Rattle.kmipa_object.specs.declared.life.Life.{Life}
 use Rattle.kmipa_object.specs.declared.life.SecretNo.{SecretNo}
 use Rattle.kmipa_object.specs.declared.rule.Rule.{Rule}
+use Rattle.kmipa_store.specs.Memory.{RefusedForMemory}
 use Rattle.kmipa_store.specs.Ledger.{LedgerState, Held, Known, cards_of, place_of, added, replaced, with_secret, learned, marked}
 use Rattle.kmipa_store.specs.declared.fault.StoreFault.{StoreFault}
 use Rattle.kmipa_store.specs.declared.fault.StoreFault.TheVariants.{IdentifierTaken, BytesDiffer, LengthImpossible, Memory}
@@ -20,13 +21,6 @@ Adds s h (Err IdentifierTaken) t = (is_taken s h.card.id ≡ true) × (t ≡ s)
 Adds s h (Err BytesDiffer) t = ⊥
 Adds s h (Err LengthImpossible) t = ⊥
 Adds s h (Err Memory) t = (is_taken s h.card.id ≡ false) × (t ≡ s)
-
--- where want of memory is the only fault
-abbrev pub RefusedForMemory : StoreFault → LedgerState → LedgerState → Type 0
-RefusedForMemory IdentifierTaken s t = ⊥
-RefusedForMemory BytesDiffer s t = ⊥
-RefusedForMemory LengthImpossible s t = ⊥
-RefusedForMemory Memory s t = t ≡ s
 
 -- `replace`
 abbrev pub Replaces : LedgerState → ℕ → Life → Result (Unit {0}) StoreFault → LedgerState → Type 0
@@ -74,3 +68,6 @@ Learns s number bytes (Err Memory) t =
 abbrev pub SetsMark : LedgerState → Result Mark StoreFault → LedgerState → Type 0
 SetsMark s (Ok mark) t = (mark.depth ≡ length t.marks) × (t ≡ marked s)
 SetsMark s (Err fault) t = RefusedForMemory fault s t
+
+abbrev pub TwoMarks : SecretNo → Mark → Mark → LedgerState → Type 0
+TwoMarks first older newer s = (first.number < length s.now.secrets) × (newer.depth ≡ length s.marks) × (older.depth + 1 ≡ length s.marks)

@@ -22,7 +22,7 @@ pub enum Lesson {
 }
 
 impl Secret {
-    ghost use Rattle.std.specs.Prelude.{◌≡◌, Some, option_map};
+    ghost use Rattle.std.specs.Prelude.{◌≡◌, Some, IfOk, IfErr, option_map};
     ghost use Rattle.kmipa_store.specs.Secrets.{known_of, Judges};
 
     /// The bytes, where they are known.
@@ -33,6 +33,21 @@ impl Secret {
             Some(bytes) => Some(bytes.as_slice()),
             None => None,
         }
+    }
+
+    /// An equal secret, with memory of its own.
+    fn copy(&self, alloc: Global) -> Result<Secret, StoreFault>
+        ensures same { IfOk result (λ copy. known_of copy ≡ known_of self.now) }
+        ensures err { IfErr result (λ fault. fault ≡ StoreFault.Memory) }
+    {
+        let bytes = match self.known() {
+            Some(bytes) => Some(Vec::from_slice(alloc, bytes)?),
+            None => None,
+        };
+        Ok(Secret {
+            rule: self.rule,
+            bytes,
+        })
     }
 
     /// What it is to learn these bytes.
@@ -65,9 +80,9 @@ impl Model for Secrets {
 }
 
 impl Secrets {
-    ghost use Rattle.std.specs.Prelude.{◌≡◌, ◌<◌, ◌-◌, [], length, take, slice_get, None, Some, option_map};
+    ghost use Rattle.std.specs.Prelude.{◌≡◌, ◌<◌, ◌-◌, [], length, take, slice_get, None, Some, IfOk, IfErr, option_map};
     ghost use Rattle.kmipa_store.specs.Ledger.{bytes_at, told};
-    ghost use Rattle.kmipa_store.specs.Objects.{Pushes};
+    ghost use Rattle.kmipa_store.specs.Memory.{Pushes};
     ghost use Rattle.kmipa_store.specs.Secrets.{forgotten, Judges};
 
     /// No secrets.
@@ -134,5 +149,17 @@ impl Secrets {
         ensures { self.new ≡ take (length self.old - 1) self.old }
     {
         let _ = self.by_number.pop();
+    }
+
+    /// Equal secrets, with memory of their own.
+    pub fn copy(&self, alloc: Global) -> Result<Secrets, StoreFault>
+        ensures same { IfOk result (λ copy. copy ≡ self.now) }
+        ensures err { IfErr result (λ fault. fault ≡ StoreFault.Memory) }
+    {
+        let mut by_number = Vec::new(alloc);
+        for secret in &self.by_number {
+            by_number.push(secret.copy(alloc)?)?;
+        }
+        Ok(Secrets { by_number })
     }
 }
