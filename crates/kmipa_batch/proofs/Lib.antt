@@ -1,5 +1,5 @@
 pub mod ShapeLemmas
 pub mod CompletionLemmas
 pub mod PlaceLemmas
-pub mod Running
-pub mod Taking
+pub mod RunLemmas
+pub mod EndLemmas

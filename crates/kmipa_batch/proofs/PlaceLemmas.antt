@@ -1,6 +1,7 @@
 -- The pairs of asks and answers up to a place.
-use Rattle.std.proofs.Common.{◌≡◌, ◌≤◌, ◌<◌, ℕ, zero, suc, ◌+◌, true, List, [], ◌∷◌, ◌++◌, length, take, Option, Some, None, slice_get, refl, sym, ap, ◌∙◌, subst, arith, add-one}
+use Rattle.std.proofs.Common.{◌≡◌, ◌≤◌, ◌<◌, ℕ, zero, suc, ◌+◌, true, List, [], ◌∷◌, ◌++◌, length, take, Option, Some, None, option_map, slice_get, get_or, map, refl, sym, ap, ◌∙◌, subst, arith, add-one}
 use Rattle.std.specs.List.{zip}
+use Rattle.std.proofs.lemmas.Option.{slice_get_past, slice_get_read, slice_get-map}
 use Rattle.kmipa_msgs.specs.Messages.{AskOf, AnswerOf}
 use Rattle.kmipa_ops.specs.Explains.{is_readable}
 use Rattle.kmipa_batch.specs.Readable.{AreReadable}
@@ -55,3 +56,10 @@ readable_at (p ∷ pairs) zero ask answer r e =
     let is : p ≡ (ask, answer) = cc in
     ap (λ (x : AskOf × AnswerOf). is_readable x.0 x.1) (sym is) ∙ r.0
 readable_at (p ∷ pairs) (suc n) ask answer r e = readable_at pairs n ask answer r.1 e
+
+-- what a list has at a place, and what it means
+pub got_some : {A B : Type 0} (f : A → B) (lent items : List A) (n : ℕ) (x : A) → lent ≡ items → n < length lent → x ≡ get_or lent n x → slice_get (map f items) n ≡ Some (f x)
+got_some f lent items n x same h is = slice_get-map f items n ∙ ap (λ xs. option_map f (slice_get xs n)) (sym same) ∙ ap (option_map f) (slice_get_read lent (length lent) n x refl h is)
+
+pub got_none : {A B : Type 0} (f : A → B) (lent items : List A) (n : ℕ) → lent ≡ items → length lent ≤ n → slice_get (map f items) n ≡ None
+got_none f lent items n same h = slice_get-map f items n ∙ ap (λ xs. option_map f (slice_get xs n)) (sym same) ∙ ap (option_map f) (slice_get_past lent n h)

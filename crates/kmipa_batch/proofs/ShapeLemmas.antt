@@ -1,12 +1,14 @@
 -- Shapes: their computing form, and answers of the same statuses.
-use Rattle.std.proofs.Common.{◌≡◌, ◌≢◌, ◌≤◌, ◌<◌, ◌⊎◌, inl, inr, ℕ, ◌+◌, Bool, true, false, not, if◌then◌else◌, nat_lt, List, [], ◌∷◌, length, Option, Some, None, option_map, slice_get, refl, sym, ap, ◌∙◌, subst, arith, ltb-true}
+use Rattle.std.proofs.Common.{◌≡◌, ◌≢◌, ◌≤◌, ◌<◌, ◌⊎◌, inl, inr, ℕ, ◌+◌, Bool, true, false, not, if◌then◌else◌, nat_lt, List, [], ◌∷◌, length, Option, Some, None, option_map, slice_get, get_or, map, IsTrue, refl, sym, ap, ◌∙◌, subst, arith, ltb-true}
 use Rattle.std.proofs.lemmas.Bool.{ltb-false}
-use Rattle.std.proofs.lemmas.Option.{slice_get_past}
+use Rattle.std.proofs.lemmas.Option.{slice_get_past, slice_get-get_or, slice_get_within, slice_get-map}
+use Rattle.std.proofs.lemmas.List.{length-map}
 use Rattle.kmipa_msgs.specs.declared.request.BatchOption.{BatchOption}
 use Rattle.kmipa_msgs.specs.declared.request.BatchOption.TheVariants.{Continue, Stop, Undo}
 use Rattle.kmipa_msgs.specs.declared.response.Status.{Status}
 use Rattle.kmipa_msgs.specs.declared.response.Status.TheVariants.{Success, Failed, Undone}
-use Rattle.kmipa_msgs.specs.Messages.{RequestOf, AnswerOf, ResponseOf}
+use Rattle.kmipa_msgs.specs.declared.response.Answer.{Answer}
+use Rattle.kmipa_msgs.specs.Messages.{RequestOf, AnswerOf, answer_of, ResponseOf}
 use Rattle.kmipa_batch.specs.Shapes.{is_failed, IsFirstFailed, NoneFailed, AnswerShape, NoAnswerShape, HasShape, IsShapedAt, IsShapedBelow, IsShaped}
 use Rattle.kmipa_batch.specs.Fits.{FailedAt, is_behind, is_undone, is_success, fits_undo, fits_answer, fits_none, fits, undoes}
 
@@ -79,7 +81,7 @@ not_false : (b : Bool) → not b ≡ false → b ≡ true
 not_false true e = refl
 not_false false e = cc
 
-clash : false ≡ true → ⊥
+pub clash : false ≡ true → ⊥
 clash e = cc
 
 module _ (asks : ℕ) (answers : List AnswerOf) (place : ℕ) where
@@ -269,3 +271,49 @@ has_shape_alike option asks xs ys place (Some x) (Some y) h e r =
 
 pub shape_alike : (option : BatchOption) (asks : ℕ) (xs ys : List AnswerOf) (place : ℕ) → Alike xs ys → HasShape option asks xs place (slice_get xs place) → HasShape option asks ys place (slice_get ys place)
 shape_alike option asks xs ys place h r = has_shape_alike option asks xs ys place (slice_get xs place) (slice_get ys place) h (h.same place) r
+
+-- none failed before a place
+pub record NoneBelow (answers : List AnswerOf) (count : ℕ) : Type 0 where
+  pub none : (earlier : ℕ) (other : AnswerOf) → earlier < count → slice_get answers earlier ≡ Some other → other.status ≢ Failed
+
+pub none_at_start : (answers : List AnswerOf) → NoneBelow answers 0
+none_at_start answers = record { none = λ earlier other h. absurd (omega arith) }
+
+-- an answer of a list by its place
+answer_there : (answers : List Answer) (place : ℕ) (d : Answer) → place < length answers → slice_get (map answer_of answers) place ≡ Some (answer_of (get_or answers place d))
+answer_there answers place d h = slice_get-map answer_of answers place ∙ ap (option_map answer_of) (slice_get-get_or answers place d h)
+
+pub none_more : (answers : List Answer) (place : ℕ) (d : Answer) → NoneBelow (map answer_of answers) place → place < length answers → (get_or answers place d).status ≢ Failed → NoneBelow (map answer_of answers) (place + 1)
+none_more answers place d n h kept = record {
+  none = λ earlier other lt e. elim (less_or_not earlier place) [
+    | inl x ↦ n.none earlier other x.0 e
+    | inr x ↦ (λ f.
+        let at : place ≡ earlier = (let u : place ≤ earlier = x.0 in omega arith) in
+        let two : Some (answer_of (get_or answers place d)) ≡ Some other = sym (answer_there answers place d h) ∙ ap (slice_get (map answer_of answers)) at ∙ e in
+        let one : answer_of (get_or answers place d) ≡ other = cc in
+        kept (ap (λ (y : AnswerOf). y.status) one ∙ f))
+  ];
+}
+
+pub first_found : (answers : List Answer) (place : ℕ) (d : Answer) → NoneBelow (map answer_of answers) place → place < length answers → (get_or answers place d).status ≡ Failed → IsFirstFailed (map answer_of answers) place
+first_found answers place d n h failed = record { answer = answer_of (get_or answers place d); there = answer_there answers place d h; failed = failed; first = n.none }
+
+pub none_found : (answers : List Answer) (place : ℕ) → NoneBelow (map answer_of answers) place → length answers ≤ place → NoneFailed (map answer_of answers)
+none_found answers place n h p other e =
+    let within : p < length (map answer_of answers) = slice_get_within (map answer_of answers) p other e in
+    n.none p other (omega (arith, length-map answers answer_of)) e
+
+-- what is computed of a place is whether it has its shape
+pub shape_told : (request : RequestOf) (response : ResponseOf) (place : ℕ) (failed : Option ℕ) (status : Option Status) (told : Bool) → FailedAt response.items failed
+    → status ≡ option_map (λ (a : AnswerOf). a.status) (slice_get response.items place) → told ≡ fits request.option failed place (nat_lt place (length request.items)) status
+    → (IsTrue told → IsShapedAt request response place) × (IsShapedAt request response place → IsTrue told)
+shape_told request response place failed status true at is e =
+    let asks : ℕ = length request.items in (
+      λ h. shape_fits asks response.items place request.option failed (slice_get response.items place) at (sym (e ∙ ap (fits request.option failed place (nat_lt place asks)) is)),
+      λ r. refl,
+    )
+shape_told request response place failed status false at is e =
+    let asks : ℕ = length request.items in (
+      λ h. absurd (clash h),
+      λ r. absurd (shape_misfits asks response.items place request.option failed (slice_get response.items place) at (sym (e ∙ ap (fits request.option failed place (nat_lt place asks)) is)) r),
+    )

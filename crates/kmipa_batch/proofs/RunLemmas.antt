@@ -10,7 +10,7 @@ use Rattle.kmipa_ops.specs.declared.why.Refusal.{Refusal}
 use Rattle.kmipa_ops.specs.declared.why.Refusal.TheVariants as item
 use Rattle.kmipa_ops.specs.Completes.{DoesSome}
 use Rattle.kmipa_ops.specs.Chains.{ChainSome}
-use Rattle.kmipa_ops.specs.Explains.{Tells, Explains, Refuted}
+use Rattle.kmipa_ops.specs.Explains.{Tells, Explains, Refuted, Taken}
 use Rattle.kmipa_ops.proofs.ExplainLemmas.{chain_split, explains_none, explains_more}
 use Rattle.kmipa_batch.specs.declared.refusal.CallRefusal.{CallRefusal}
 use Rattle.kmipa_batch.specs.declared.refusal.CallRefusal.TheVariants.{Impossible, Memory}
@@ -20,6 +20,26 @@ use Rattle.kmipa_batch.specs.Refusals.{IsPossibleUpTo, SpeaksAt, CallRefuted}
 use Rattle.kmipa_batch.specs.Running.{one_of, PairRefuted, PairCame, PairTaken, refused_at, AllTaken, Came, Ran}
 use Rattle.kmipa_batch.proofs.ShapeLemmas.{shaped_all, shaped_more}
 use Rattle.kmipa_batch.proofs.PlaceLemmas.{take_one_more, take_past, zip_short}
+
+-- where there is no pair nothing is done
+pub pair_absent : (rules : RulesOf) (s : LedgerState) (p : Option (List ℕ)) (t : ℤ) (pair : Option (AskOf × AnswerOf)) → pair ≡ None → IsSound s.now → PairTaken rules s p t pair (Ok tt) s p
+pair_absent rules s p t pair is sound =
+    let P : Option (AskOf × AnswerOf) → Type 0 = λ o. PairTaken rules s p t o (Ok tt) s p in
+    subst P (sym is) ((explains_none rules t s.now p, sound), refl)
+
+-- and else what its item comes to
+taken_there : (rules : RulesOf) (s : LedgerState) (p : Option (List ℕ)) (t : ℤ) (ask : AskOf) (answer : AnswerOf) (result : Result (Unit {0}) Refusal) (u : LedgerState) (q : Option (List ℕ))
+    → Taken rules s p t ask answer result u q → PairTaken rules s p t (Some (ask, answer)) result u q
+taken_there rules s p t ask answer (Ok done) u q r = ((r.explains, r.sound), r.marks)
+taken_there rules s p t ask answer (Err (item.Impossible why)) u q r = (record { ask = ask; answer = answer; there = refl; refuted = r.0 }, ap (λ (x : LedgerState). x.marks) r.1)
+taken_there rules s p t ask answer (Err item.Memory) u q r = (tt, r)
+
+pub pair_taken : (rules : RulesOf) (s : LedgerState) (p : Option (List ℕ)) (moment t : ℤ) (ask : AskOf) (answer : AnswerOf) (pair : Option (AskOf × AnswerOf)) → moment ≡ t → pair ≡ Some (ask, answer)
+    → (result : Result (Unit {0}) Refusal) (u : LedgerState) (q : Option (List ℕ)) → Taken rules s p moment ask answer result u q → PairTaken rules s p t pair result u q
+pair_taken rules s p moment t ask answer pair at is result u q r =
+    let P : Option (AskOf × AnswerOf) → Type 0 = λ o. PairTaken rules s p t o result u q in
+    let Q : ℤ → Type 0 = λ x. PairTaken rules s p x (Some (ask, answer)) result u q in
+    subst P (sym is) (subst Q at (taken_there rules s p moment ask answer result u q r))
 
 -- as far as the items have come: the first so many, from a ledger `s` to `u`
 pub record Along (rules : RulesOf) (s : LedgerState) (request : RequestOf) (response : ResponseOf) (count : ℕ) (u : LedgerState) (placeholder : Option (List ℕ)) : Type 0 where
