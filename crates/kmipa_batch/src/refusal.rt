@@ -1,0 +1,12 @@
+//! Why a call was not taken.
+
+use kmipa_ops::Why;
+
+/// Why a call was not taken. The ledger is then as before.
+#[derive(Clone, Copy, Debug, PartialEq, Eq)]
+pub enum CallRefusal {
+    /// The item at this place, counted from 1, is the first that is impossible, for this reason, the lowest.
+    Impossible(usize, Why),
+    /// Memory ran out.
+    Memory,
+}

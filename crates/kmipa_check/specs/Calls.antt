@@ -1,0 +1,79 @@
+-- The calls of a transcript: what their messages say, and which message is the first that is outside the profile.
+use Rattle.std.specs.Prelude.{◌≡◌, ◌<◌, ℕ, ℤ, List, map, length, take, All, slice_get, Some}
+use Rattle.kmipa_ttlv.specs.Tree.{Tree}
+use Rattle.kmipa_ttlv.specs.Spelling.{Spells}
+use Rattle.kmipa_record.specs.Marks.{MarkOf, begins, ends, begun}
+use Rattle.kmipa_msgs.specs.declared.kind.OutsideKind.{OutsideKind}
+use Rattle.kmipa_msgs.specs.declared.kind.OutsideKind.TheVariants.{NotAMessage}
+use Rattle.kmipa_msgs.specs.Messages.{RequestOf, ResponseOf}
+use Rattle.kmipa_msgs.specs.Outside.{Inside, OutsideAt}
+use Rattle.kmipa_msgs.specs.Requests.{SaysRequest, RequestFault}
+use Rattle.kmipa_msgs.specs.Responses.{SaysResponse, ResponseFault}
+use Rattle.kmipa_check.specs.declared.fault.Side.{Side}
+use Rattle.kmipa_check.specs.declared.fault.Side.TheVariants.{Client, Server}
+
+-- the bytes spell one item, which says this message and no other
+pub record AreMessage {M : Type 0} (Said : Tree → M → Type 0) (Fault : Tree → ℕ → OutsideKind → Type 0) (bytes : List ℕ) (message : M) : Type 0 where
+  pub item : Tree
+  pub spelled : Spells item bytes
+  pub inside : Inside (Said item) (Fault item) message
+
+-- the bytes spell no item, or one that is outside at this place for this reason
+pub data AreOutside (Fault : Tree → ℕ → OutsideKind → Type 0) (bytes : List ℕ) (place : ℕ) (kind : OutsideKind) : Type 0 where
+  no_item : ((item : Tree) → Spells item bytes → ⊥) → place ≡ 0 → kind ≡ NotAMessage → AreOutside Fault bytes place kind
+  outside : (item : Tree) → Spells item bytes → OutsideAt (Fault item) place kind → AreOutside Fault bytes place kind
+
+abbrev pub AreRequest : List ℕ → RequestOf → Type 0
+AreRequest = AreMessage SaysRequest RequestFault
+
+abbrev pub AreResponse : RequestOf → List ℕ → ResponseOf → Type 0
+AreResponse request = AreMessage (λ t. SaysResponse t request) (λ t. ResponseFault t request)
+
+-- a recorded call: its number, the places of its two marks among the marks, and what its messages say
+pub record CallOf : Type 0 where
+  pub number : ℤ
+  pub begin : ℕ
+  pub end : ℕ
+  pub request : RequestOf
+  pub response : ResponseOf
+
+-- the marks of a call of this number stand at these places, and carry these messages
+pub record HasMarks (marks : List MarkOf) (number : ℤ) (begin end : ℕ) (asked answered : List ℕ) : Type 0 where
+  pub client : List ℕ
+  pub begins : slice_get marks begin ≡ Some (begins number client asked)
+  pub ends : slice_get marks end ≡ Some (ends number answered)
+
+-- the call is recorded so
+pub record IsRecorded (marks : List MarkOf) (c : CallOf) : Type 0 where
+  pub asked : List ℕ
+  pub answered : List ℕ
+  pub carried : HasMarks marks c.number c.begin c.end asked answered
+  pub request : AreRequest asked c.request
+  pub response : AreResponse c.request answered c.response
+
+-- these are the first calls of a transcript, in the order of their begin marks
+pub record AreFirstCalls (marks : List MarkOf) (calls : List CallOf) : Type 0 where
+  pub numbers : map (λ (c : CallOf). c.number) calls ≡ take (length calls) (begun marks)
+  pub recorded : All (IsRecorded marks) calls
+
+-- these are all its calls
+pub record AreCalls (marks : List MarkOf) (calls : List CallOf) : Type 0 where
+  pub numbers : map (λ (c : CallOf). c.number) calls ≡ begun marks
+  pub recorded : All (IsRecorded marks) calls
+
+-- a call's request is outside; or it isn't, and its response is
+abbrev pub IsOutsideOn : Side → List ℕ → List ℕ → ℕ → OutsideKind → Type 0
+IsOutsideOn Client asked answered item kind = AreOutside RequestFault asked item kind
+IsOutsideOn Server asked answered item kind = (request : RequestOf) × AreRequest asked request × AreOutside (λ t. ResponseFault t request) answered item kind
+
+-- the messages of these calls are inside, and the next call, by begin marks, is this one, whose message on this side is outside
+pub record IsFirstOutside (marks : List MarkOf) (number : ℤ) (side : Side) (item : ℕ) (kind : OutsideKind) : Type 0 where
+  pub before : List CallOf
+  pub inside : AreFirstCalls marks before
+  pub next : slice_get (begun marks) (length before) ≡ Some number
+  pub begin : ℕ
+  pub end : ℕ
+  pub asked : List ℕ
+  pub answered : List ℕ
+  pub carried : HasMarks marks number begin end asked answered
+  pub outside : IsOutsideOn side asked answered item kind

@@ -1,0 +1,53 @@
+//! Why a check gives no verdict.
+
+use kmipa_msgs::Outside;
+use thiserror::Error;
+
+/// Whose message it is.
+#[derive(Clone, Copy, Debug, PartialEq, Eq)]
+pub enum Side {
+    /// The request.
+    Client,
+    /// The response.
+    Server,
+}
+
+/// Why a check gives no verdict.
+#[derive(Clone, Copy, Debug, PartialEq, Eq, Error)]
+pub enum CheckFault {
+    /// A message of the call of this number is outside the profile: the first, by begin marks, request before response.
+    #[error("call {0}, {1:?}: {2}")]
+    Outside(i32, Side, Outside),
+    /// The witness isn't an order of the calls.
+    #[error("{0}")]
+    Witness(WitnessFault),
+    /// Memory ran out.
+    #[error("memory ran out")]
+    Memory,
+}
+
+/// What is wrong with a witness for a transcript.
+#[derive(Clone, Copy, Debug, PartialEq, Eq, Error)]
+#[error("{kind:?} at {at}")]
+pub struct WitnessFault {
+    /// The first faulty turn, counted from 1; for `LeftOut` the number of the first call without a turn.
+    pub at: usize,
+    pub kind: WitnessKind,
+}
+
+/// The kinds of faults of a witness. In one turn the lowest is told, and `LeftOut` behind all others.
+#[derive(Clone, Copy, Debug, PartialEq, Eq)]
+pub enum WitnessKind {
+    /// The turn names no call of the transcript.
+    UnknownCall = 1,
+    /// An earlier turn names the same call.
+    Twice = 2,
+    /// No turn names the call.
+    LeftOut = 3,
+    /// A fill is given where none is wanted, or a second one.
+    FillNotWanted = 4,
+    /// A payload is wanted, and no fill gives it.
+    FillMissing = 5,
+    /// A fill isn't of the form of its operation's payload.
+    FillForm = 6,
+}

@@ -1,0 +1,8 @@
+//! The replay of a witness: whether the calls of a transcript, taken one at a time in its order, can give every recorded answer.
+#![tactic(auto)]
+
+mod fault;
+mod verdict;
+
+pub use fault::{CheckFault, Side, WitnessFault, WitnessKind};
+pub use verdict::{Refused, Verdict};
