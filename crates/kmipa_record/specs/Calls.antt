@@ -4,7 +4,7 @@ use Rattle.std.specs.Ordering.{int_eq}
 use Rattle.std.specs.HashMap.{get, hash_map_len}
 use Rattle.kmipa_ttlv.specs.Stream.{Begins}
 use Rattle.kmipa_record.specs.Files.{place_of}
-use Rattle.kmipa_record.specs.Marks.{MarkOf, begins, ends, mark_item, begun, ended}
+use Rattle.kmipa_record.specs.Marks.{MarkOf, begins, ends, mark_item, begun, ended, IsCallNumber}
 use Rattle.kmipa_record.specs.Transcripts.{transcript_header}
 use Rattle.kmipa_record.specs.declared.calls.Calls.{Calls}
 use Rattle.kmipa_record.specs.declared.calls.Progress.{Progress}
@@ -33,7 +33,7 @@ pub record HasNone (calls : Calls) : Type 0 where
 -- ---- what a mark does
 
 pub record BeginsCall (old new : Calls) (call : ℤ) (place : ℕ) : Type 0 where
-  pub least : pos 1 ≤ℤ call
+  pub number : IsCallNumber call
   pub unused : progress_of old call ≡ None
   pub few : count_of old < 100_000
   pub puts : Puts old new call (Open place)
@@ -46,14 +46,14 @@ pub data RefusesBegin (old : Calls) (call : ℤ) (kind : RecordKind) : Type 0 wh
   many : pos 1 ≤ℤ call → progress_of old call ≡ None → 100_000 ≤ count_of old → kind ≡ TheVariants.Calls → RefusesBegin old call kind
 
 pub record EndsCall (old new : Calls) (call : ℤ) : Type 0 where
-  pub least : pos 1 ≤ℤ call
+  pub number : IsCallNumber call
   pub place : ℕ
   pub is_open : progress_of old call ≡ Some (Open place)
   pub puts : Puts old new call Ended
   pub count : count_of new ≡ count_of old
 
 pub data RefusesEnd (old : Calls) (call : ℤ) (kind : RecordKind) : Type 0 where
-  low : call <ℤ pos 1 → kind ≡ Number → RefusesEnd old call kind
+  end_low : call <ℤ pos 1 → kind ≡ Number → RefusesEnd old call kind
   unknown : pos 1 ≤ℤ call → progress_of old call ≡ None → kind ≡ EndWithoutBegin → RefusesEnd old call kind
   second : pos 1 ≤ℤ call → progress_of old call ≡ Some Ended → kind ≡ SecondEnd → RefusesEnd old call kind
 
@@ -88,21 +88,20 @@ first_place place (mark ∷ marks) = or_else (place mark) (first_place place mar
 
 -- ---- the calls that were begun by these marks of a file
 
--- the begin mark of this call stands at this place
-pub record IsBegunAt (file : List ℕ) (marks : List MarkOf) (call : ℤ) (place : ℕ) : Type 0 where
-  pub before : List MarkOf
-  pub client : List ℕ
-  pub message : List ℕ
-  pub after : List MarkOf
-  pub are : marks ≡ before ++ begins call client message ∷ after
+-- these marks end at this place of the file
+pub record EndAt (file : List ℕ) (marks : List MarkOf) (place : ℕ) : Type 0 where
   pub rest : List ℕ
-  pub behind : Begins (transcript_header ∷ map mark_item before) file rest
+  pub behind : Begins (transcript_header ∷ map mark_item marks) file rest
   pub placed : place ≡ place_of file rest
+
+-- each begin mark of this call stands at this place
+abbrev pub IsBegunAt : List ℕ → List MarkOf → ℤ → ℕ → Type 0
+IsBegunAt file marks call place = (before after : List MarkOf) (client message : List ℕ) → marks ≡ before ++ begins call client message ∷ after → EndAt file before place
 
 -- a call stands so behind these marks
 abbrev pub StandsSo : List ℕ → List MarkOf → ℤ → Option Progress → Type 0
-StandsSo file marks call None = ¬ (Contains (begun marks) call)
-StandsSo file marks call (Some (Open place)) = IsBegunAt file marks call place × ¬ (Contains (ended marks) call)
+StandsSo file marks call None = ¬ (Contains (begun marks) call) × ¬ (Contains (ended marks) call)
+StandsSo file marks call (Some (Open place)) = Contains (begun marks) call × ¬ (Contains (ended marks) call) × IsBegunAt file marks call place
 StandsSo file marks call (Some Ended) = Contains (begun marks) call × Contains (ended marks) call
 
 pub record Follow (file : List ℕ) (marks : List MarkOf) (calls : Calls) : Type 0 where

@@ -8,9 +8,25 @@ use Rattle.kmipa_ttlv.specs.Stream.{capped}
 use Rattle.kmipa_ttlv.specs.declared.fault.FaultKind.{FaultKind}
 use Rattle.kmipa_record.specs.Kinds.{ByCause}
 use Rattle.kmipa_record.specs.declared.fault.RecordFault.{RecordFault}
+use Rattle.kmipa_ttlv.specs.declared.fault.FaultKind.TheVariants as flaw
+use Rattle.kmipa_record.specs.declared.fault.RecordKind.{RecordKind}
+use Rattle.kmipa_record.specs.declared.fault.RecordKind.TheVariants as kinds
 use Rattle.kmipa_record.specs.declared.fault.RecordKind.TheVariants.{Ttlv, Header}
 use Rattle.kmipa_record.specs.declared.record.Next.{Next}
 use Rattle.kmipa_record.specs.declared.record.Next.TheVariants.{End, Other, Record}
+
+-- a fault of a read, as one of a file
+abbrev pub record_kind : FaultKind → RecordKind
+record_kind flaw.Device = kinds.Device
+record_kind flaw.Memory = kinds.Memory
+record_kind flaw.Truncated = Ttlv flaw.Truncated
+record_kind flaw.UnknownType = Ttlv flaw.UnknownType
+record_kind flaw.BadLength = Ttlv flaw.BadLength
+record_kind flaw.BadBoolean = Ttlv flaw.BadBoolean
+record_kind flaw.BadText = Ttlv flaw.BadText
+record_kind flaw.Overrun = Ttlv flaw.Overrun
+record_kind flaw.TooDeep = Ttlv flaw.TooDeep
+record_kind flaw.TooLong = Ttlv flaw.TooLong
 
 -- the item was at the front of what was left, and the rest is left behind it
 pub record Takes (item : Tree) (known after : Option (List ℕ)) (place place' : ℕ) : Type 0 where

@@ -30,7 +30,10 @@ impl Record for TranscriptHeader {
     ghost is_record = { λ item. item ≡ transcript_header };
 
     fn of(_alloc: Global, item: &View) -> Result<Option<TranscriptHeader>, AllocError> {
-        let Some([version]) = children_of(item, TRANSCRIPT) else {
+        let Some(children) = children_of(item, TRANSCRIPT) else {
+            return Ok(None);
+        };
+        let [version] = children else {
             return Ok(None);
         };
         let header = match integer_of(version, VERSION) {
@@ -53,7 +56,10 @@ impl Record for DeclarationHeader {
     ghost is_record = { λ item. (unique : Bool) × (item ≡ declaration_header unique) };
 
     fn of(_alloc: Global, item: &View) -> Result<Option<DeclarationHeader>, AllocError> {
-        let Some([version, unique_names]) = children_of(item, DECLARATION) else {
+        let Some(children) = children_of(item, DECLARATION) else {
+            return Ok(None);
+        };
+        let [version, unique_names] = children else {
             return Ok(None);
         };
         let Some(1) = integer_of(version, VERSION) else {
@@ -76,7 +82,10 @@ impl Record for WitnessHeader {
     ghost is_record = { λ item. item ≡ witness_header };
 
     fn of(_alloc: Global, item: &View) -> Result<Option<WitnessHeader>, AllocError> {
-        let Some([version]) = children_of(item, WITNESS) else {
+        let Some(children) = children_of(item, WITNESS) else {
+            return Ok(None);
+        };
+        let [version] = children else {
             return Ok(None);
         };
         let header = match integer_of(version, VERSION) {

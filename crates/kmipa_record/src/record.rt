@@ -1,16 +1,16 @@
 //! The next item of a file, as a header or a record.
 
-ghost use Rattle.std.specs.Prelude.{◌≡◌, ◌+◌, true, false, vec_len, IfOk, IfErr, OnOk, MatchOption, MatchResult};
+ghost use Rattle.std.specs.Prelude.{◌≡◌, ◌↔◌, ◌+◌, IsTrue, true, false, vec_len, IfOk, IfErr, OnOk, MatchOption, MatchResult};
 ghost use Rattle.std.specs.Io.KnownBytes.{Consumes, IsAtEnd};
 ghost use Rattle.kmipa_ttlv.specs.Input.{reader_of, taken_of, is_failed};
 ghost use Rattle.kmipa_ttlv.specs.Reading.{IsWhole};
 ghost use Rattle.kmipa_ttlv.specs.Spelling.{Spells};
 ghost use Rattle.kmipa_ttlv.specs.Tree.{Tree};
 ghost use Rattle.kmipa_ttlv.specs.ViewTree.{view_tree};
-ghost use Rattle.kmipa_record.specs.Reading.{ReadFails, WholeFails, HeaderFails, NextIs, Takes};
+ghost use Rattle.kmipa_record.specs.Reading.{record_kind, ReadFails, WholeFails, HeaderFails, NextIs, Takes};
 
 use crate::fault::{RecordFault, RecordKind};
-use kmipa_ttlv::{FaultKind, Input, View, decode_view, read_bytes};
+use kmipa_ttlv::{FaultKind, Input, TtlvFault, View, decode_view, read_bytes};
 use std::alloc::{AllocError, Global};
 use std::io::Read;
 
@@ -70,7 +70,10 @@ pub fn read_next<R: Read, T: Record + Drop>(
     if !next_bytes(input, bytes)? {
         return Ok(Next::End);
     }
-    let view = view_of(alloc, offset, bytes)?;
+    let view = match view_of(alloc, offset, bytes) {
+        Ok(view) => view,
+        Err(fault) => return Err(fault),
+    };
     match T::of(alloc, &view) {
         Ok(Some(record)) => Ok(Next::Record(record)),
         Ok(None) => Ok(Next::Other),
@@ -92,22 +95,31 @@ fn next_bytes<R: Read>(input: &mut Input<R>, bytes: &mut Vec<u8>) -> Result<bool
     let place = input.taken();
     match read_bytes(input, bytes) {
         Ok(some) => Ok(some),
-        Err(fault) => match fault.kind {
-            FaultKind::Device => Err(RecordFault {
-                offset: fault.offset,
-                kind: RecordKind::Device,
-            }),
-            FaultKind::Memory => Err(RecordFault {
-                offset: fault.offset,
-                kind: RecordKind::Memory,
-            }),
-            // Cut short before its first byte: there is no item.
-            FaultKind::Truncated if fault.offset == place => Ok(false),
-            kind => Err(RecordFault {
-                offset: fault.offset,
-                kind: RecordKind::Ttlv(kind),
-            }),
-        },
+        // Cut short before its first byte: there is no item.
+        Err(fault) if is_cut_at(fault, place) => Ok(false),
+        Err(fault) => Err(fault_of(fault)),
+    }
+}
+
+/// Whether the fault is that the bytes end at this place.
+fn is_cut_at(fault: TtlvFault, place: u64) -> bool
+    ensures { IsTrue result ↔ ((fault.kind ≡ FaultKind.Truncated) × (fault.offset ≡ place)) }
+{
+    fault.kind == FaultKind::Truncated && fault.offset == place
+}
+
+/// The fault of a read, as one of a file.
+fn fault_of(fault: TtlvFault) -> RecordFault
+    ensures { result ≡ record { offset = fault.offset; kind = record_kind fault.kind } }
+{
+    let kind = match fault.kind {
+        FaultKind::Device => RecordKind::Device,
+        FaultKind::Memory => RecordKind::Memory,
+        kind => RecordKind::Ttlv(kind),
+    };
+    RecordFault {
+        offset: fault.offset,
+        kind,
     }
 }
 

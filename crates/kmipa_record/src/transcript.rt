@@ -1,10 +1,11 @@
 //! Transcripts: which calls were made, and what was answered.
 
-ghost use Rattle.std.specs.Prelude.{◌≡◌, ◌<◌, ◌≢◌, ℕ, ℤ, List, true, map, Option, IfOk, IfErr, IfSome, MatchOption, MatchResult};
+ghost use Rattle.std.specs.Prelude.{◌≡◌, ◌<◌, ◌≢◌, ◌⊎◌, ℕ, ℤ, List, [], ◌∷◌, ◌++◌, true, map, Option, IfOk, IfErr, IfSome, MatchOption, MatchResult};
 ghost use Rattle.std.specs.String.{string_bytes};
 ghost use Rattle.kmipa_ttlv.specs.Input.{reader_of, taken_of, is_failed};
 ghost use Rattle.kmipa_ttlv.specs.Tree.{Tree};
 ghost use Rattle.kmipa_ttlv.specs.ViewTree.{view_tree, view_trees};
+ghost use Rattle.kmipa_record.specs.Calls.{Takes, Refuses};
 ghost use Rattle.kmipa_record.specs.Files.{Tells};
 ghost use Rattle.kmipa_record.specs.Marks.{MarkOf, mark_of, mark_item, begin_fields, end_fields};
 ghost use Rattle.kmipa_record.specs.Transcripts.{transcript_of, IsTranscript, TranscriptFault, IsTranscriptUpTo};
@@ -84,23 +85,28 @@ fn begin_in(alloc: Global, children: &[View]) -> Result<Option<Begin>, AllocErro
     ensures { IfOk result (λ o. MatchOption o ((call : ℤ) (client message : List ℕ) → view_trees children.now ≢ begin_fields call client message)
         (λ begin. view_trees children.now ≡ begin_fields begin.call (string_bytes begin.client) begin.message.items)) }
 {
-    let [call, client, message] = children else {
-        return Ok(None);
-    };
-    let Some(call) = integer_of(call, CALL) else {
-        return Ok(None);
-    };
-    let Some(client) = text_of(client, CLIENT) else {
-        return Ok(None);
-    };
-    let Some(message) = bytes_of(message, MESSAGE) else {
-        return Ok(None);
-    };
-    Ok(Some(Begin {
-        call,
-        client: String::from_str(alloc, client)?,
-        message: Vec::from_slice(alloc, message)?,
-    }))
+    match begin_parts(children) {
+        Some((call, client, message)) => Ok(Some(Begin {
+            call,
+            client: String::from_str(alloc, client)?,
+            message: Vec::from_slice(alloc, message)?,
+        })),
+        None => Ok(None),
+    }
+}
+
+/// The number, the client and the message of a begin mark with these children.
+fn begin_parts<'a, 'b>(children: &'b [View<'a>]) -> Option<(i32, &'a str, &'a [u8])>
+    ensures { MatchOption result ((call : ℤ) (client message : List ℕ) → view_trees children.now ≢ begin_fields call client message)
+        (λ parts. view_trees children.now ≡ begin_fields parts.0 parts.1.now parts.2.now) }
+{
+    if children.len() != 3 {
+        return None;
+    }
+    let call = integer_of(&children[0], CALL)?;
+    let client = text_of(&children[1], CLIENT)?;
+    let message = bytes_of(&children[2], MESSAGE)?;
+    Some((call, client, message))
 }
 
 /// What the children of an end mark say.
@@ -108,19 +114,26 @@ fn end_in(alloc: Global, children: &[View]) -> Result<Option<End>, AllocError>
     ensures { IfOk result (λ o. MatchOption o ((call : ℤ) (message : List ℕ) → view_trees children.now ≢ end_fields call message)
         (λ end. view_trees children.now ≡ end_fields end.call end.message.items)) }
 {
-    let [call, message] = children else {
-        return Ok(None);
-    };
-    let Some(call) = integer_of(call, CALL) else {
-        return Ok(None);
-    };
-    let Some(message) = bytes_of(message, MESSAGE) else {
-        return Ok(None);
-    };
-    Ok(Some(End {
-        call,
-        message: Vec::from_slice(alloc, message)?,
-    }))
+    match end_parts(children) {
+        Some((call, message)) => Ok(Some(End {
+            call,
+            message: Vec::from_slice(alloc, message)?,
+        })),
+        None => Ok(None),
+    }
+}
+
+/// The number and the message of an end mark with these children.
+fn end_parts<'a, 'b>(children: &'b [View<'a>]) -> Option<(i32, &'a [u8])>
+    ensures { MatchOption result ((call : ℤ) (message : List ℕ) → view_trees children.now ≢ end_fields call message)
+        (λ parts. view_trees children.now ≡ end_fields parts.0 parts.1.now) }
+{
+    if children.len() != 2 {
+        return None;
+    }
+    let call = integer_of(&children[0], CALL)?;
+    let message = bytes_of(&children[1], MESSAGE)?;
+    Some((call, message))
 }
 
 /// Reads a transcript of whose bytes none was read.
@@ -167,22 +180,38 @@ fn read_mark<R: Read>(
 {
     let offset = input.taken();
     let next: Next<Mark> = read_next(alloc, input, bytes)?;
-    let mark = match next {
-        Next::Record(mark) => mark,
-        Next::End => return Ok(false),
-        Next::Other => return Err(RecordFault {
+    match next {
+        Next::End => Ok(false),
+        Next::Other => Err(RecordFault {
             offset,
             kind: RecordKind::Entry,
         }),
-    };
-    if let Err(kind) = calls.take(&mark, offset) {
-        return Err(RecordFault { offset, kind });
+        Next::Record(mark) => {
+            keep_mark(calls, marks, mark, offset)?;
+            Ok(true)
+        }
     }
-    if marks.push(mark).is_err() {
-        return Err(RecordFault {
+}
+
+/// Puts a mark that stands at this place behind the others.
+fn keep_mark(
+    calls: &mut Calls,
+    marks: &mut Vec<Mark>,
+    mark: Mark,
+    offset: u64,
+) -> Result<(), RecordFault>
+    ensures { MatchResult result (λ _. Takes calls.old calls.new (mark_of mark) offset × (marks.new.items ≡ marks.old.items ++ mark ∷ []))
+        (λ f. (f.offset ≡ offset) × ((f.kind ≡ RecordKind.Memory) ⊎ Refuses calls.old (mark_of mark) f.kind)) }
+{
+    match calls.take(&mark, offset) {
+        Ok(()) => {}
+        Err(kind) => return Err(RecordFault { offset, kind }),
+    }
+    match marks.push(mark) {
+        Ok(()) => Ok(()),
+        Err(_) => Err(RecordFault {
             offset,
             kind: RecordKind::Memory,
-        });
+        }),
     }
-    Ok(true)
 }

@@ -1,9 +1,10 @@
 //! Witnesses: an order in which the calls may have been taken.
 
-ghost use Rattle.std.specs.Prelude.{◌≡◌, ◌<◌, ℕ, List, true, map, Option, IfOk, IfErr, IfSome, MatchResult};
+ghost use Rattle.std.specs.Prelude.{◌≡◌, ◌<◌, ◌<ℤ◌, pos, ◌⊎◌, ℕ, List, [], ◌∷◌, ◌++◌, true, map, Option, IfOk, IfErr, IfSome, MatchResult};
 ghost use Rattle.kmipa_ttlv.specs.Input.{reader_of, taken_of, is_failed};
 ghost use Rattle.kmipa_ttlv.specs.Tree.{Tree};
 ghost use Rattle.kmipa_record.specs.Files.{Tells};
+ghost use Rattle.kmipa_record.specs.Marks.{IsCallNumber};
 ghost use Rattle.kmipa_record.specs.Witnesses.{TurnOf, turn_of, turn_item, witness_of, IsWitness, WitnessFault, IsWitnessUpTo};
 ghost use Rattle.kmipa_record.specs.WitnessReading.{IsReadSoFar, GoesOn};
 
@@ -37,7 +38,10 @@ impl Record for Turn {
     ghost is_record = { λ item. (turn : TurnOf) × (item ≡ turn_item turn) };
 
     fn of(_alloc: Global, item: &View) -> Result<Option<Turn>, AllocError> {
-        let Some([call]) = children_of(item, TURN) else {
+        let Some(children) = children_of(item, TURN) else {
+            return Ok(None);
+        };
+        let [call] = children else {
             return Ok(None);
         };
         let Some(call) = integer_of(call, CALL) else {
@@ -80,25 +84,35 @@ fn read_turn<R: Read>(
 {
     let offset = input.taken();
     let next: Next<Turn> = read_next(alloc, input, bytes)?;
-    let turn = match next {
-        Next::Record(turn) => turn,
-        Next::End => return Ok(false),
-        Next::Other => return Err(RecordFault {
+    match next {
+        Next::End => Ok(false),
+        Next::Other => Err(RecordFault {
             offset,
             kind: RecordKind::Entry,
         }),
-    };
+        Next::Record(turn) => {
+            keep_turn(turns, turn, offset)?;
+            Ok(true)
+        }
+    }
+}
+
+/// Puts a turn that stands at this place behind the others.
+fn keep_turn(turns: &mut Vec<Turn>, turn: Turn, offset: u64) -> Result<(), RecordFault>
+    ensures { MatchResult result (λ _. IsCallNumber turn.call × (turns.new.items ≡ turns.old.items ++ turn ∷ []))
+        (λ f. (f.offset ≡ offset) × ((f.kind ≡ RecordKind.Memory) ⊎ ((f.kind ≡ RecordKind.Number) × (turn.call <ℤ pos 1)))) }
+{
     if turn.call < 1 {
         return Err(RecordFault {
             offset,
             kind: RecordKind::Number,
         });
     }
-    if turns.push(turn).is_err() {
-        return Err(RecordFault {
+    match turns.push(turn) {
+        Ok(()) => Ok(()),
+        Err(_) => Err(RecordFault {
             offset,
             kind: RecordKind::Memory,
-        });
+        }),
     }
-    Ok(true)
 }

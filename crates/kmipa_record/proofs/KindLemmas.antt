@@ -1,0 +1,62 @@
+-- Facts by the cause of a fault.
+use Rattle.std.proofs.Common.{◌≡◌, ◌≢◌, ℕ, List, Option, None, Some, IfSome, refl, subst, sym}
+use Rattle.kmipa_ttlv.specs.Reading as read
+use Rattle.kmipa_ttlv.specs.declared.fault.FaultKind.{FaultKind}
+use Rattle.kmipa_ttlv.specs.declared.fault.FaultKind.TheVariants as flaw
+use Rattle.kmipa_record.specs.Kinds.{ByCause}
+use Rattle.kmipa_record.specs.Reading.{record_kind}
+use Rattle.kmipa_record.specs.declared.fault.RecordKind.{RecordKind}
+use Rattle.kmipa_record.specs.declared.fault.RecordKind.TheVariants.{Ttlv, Header, Number, EndWithoutBegin, SecondEnd, OpenCall, Identifier, Entry, Calls, Device, Memory}
+
+pub ByCause-map : (k : RecordKind) (D D' M M' P P' : Type 0) → (D → D') → (M → M') → (P → P') → ByCause k D M P → ByCause k D' M' P'
+ByCause-map Device D D' M M' P P' d m p h = d h
+ByCause-map Memory D D' M M' P P' d m p h = m h
+ByCause-map (Ttlv x) D D' M M' P P' d m p h = p h
+ByCause-map Header D D' M M' P P' d m p h = p h
+ByCause-map Number D D' M M' P P' d m p h = p h
+ByCause-map EndWithoutBegin D D' M M' P P' d m p h = p h
+ByCause-map SecondEnd D D' M M' P P' d m p h = p h
+ByCause-map OpenCall D D' M M' P P' d m p h = p h
+ByCause-map Identifier D D' M M' P P' d m p h = p h
+ByCause-map Entry D D' M M' P P' d m p h = p h
+ByCause-map Calls D D' M M' P P' d m p h = p h
+
+-- what is told of bytes
+pub told_of_bytes : (k : FaultKind) (D M P : Type 0) → k ≢ flaw.Device → k ≢ flaw.Memory → read.ByCause k D M P → P
+told_of_bytes flaw.Device D M P d m h = absurd (d refl)
+told_of_bytes flaw.Memory D M P d m h = absurd (m refl)
+told_of_bytes flaw.Truncated D M P d m h = h
+told_of_bytes flaw.UnknownType D M P d m h = h
+told_of_bytes flaw.BadLength D M P d m h = h
+told_of_bytes flaw.BadBoolean D M P d m h = h
+told_of_bytes flaw.BadText D M P d m h = h
+told_of_bytes flaw.Overrun D M P d m h = h
+told_of_bytes flaw.TooDeep D M P d m h = h
+told_of_bytes flaw.TooLong D M P d m h = h
+
+pub IfSome-map : {A : Type 0} (o : Option A) (P Q : A → Type 0) → ((x : A) → P x → Q x) → IfSome o P → IfSome o Q
+IfSome-map None P Q f h = tt
+IfSome-map (Some x) P Q f h = f x h
+
+-- a fault of a read, as one of a file
+pub cause_same : (k : FaultKind) (D M P : Type 0) (Q : RecordKind → Type 0) → (k ≢ flaw.Device → k ≢ flaw.Memory → P → Q (Ttlv k)) → read.ByCause k D M P → ByCause (record_kind k) D M (Q (record_kind k))
+cause_same flaw.Device D M P Q f h = h
+cause_same flaw.Memory D M P Q f h = h
+cause_same flaw.Truncated D M P Q f h = f (λ e. absurd cc) (λ e. absurd cc) h
+cause_same flaw.UnknownType D M P Q f h = f (λ e. absurd cc) (λ e. absurd cc) h
+cause_same flaw.BadLength D M P Q f h = f (λ e. absurd cc) (λ e. absurd cc) h
+cause_same flaw.BadBoolean D M P Q f h = f (λ e. absurd cc) (λ e. absurd cc) h
+cause_same flaw.BadText D M P Q f h = f (λ e. absurd cc) (λ e. absurd cc) h
+cause_same flaw.Overrun D M P Q f h = f (λ e. absurd cc) (λ e. absurd cc) h
+cause_same flaw.TooDeep D M P Q f h = f (λ e. absurd cc) (λ e. absurd cc) h
+cause_same flaw.TooLong D M P Q f h = f (λ e. absurd cc) (λ e. absurd cc) h
+
+pub memory_cause : (k : RecordKind) (D M P : Type 0) → k ≡ Memory → M → ByCause k D M P
+memory_cause k D M P e m = subst (λ (x : RecordKind). ByCause x D M P) (sym e) m
+
+pub number_cause : (k : RecordKind) (D M P : Type 0) → k ≡ Number → P → ByCause k D M P
+number_cause k D M P e p = subst (λ (x : RecordKind). ByCause x D M P) (sym e) p
+
+pub IfSome-always : {A : Type 0} (o : Option A) (P : A → Type 0) → ((x : A) → P x) → IfSome o P
+IfSome-always None P f = tt
+IfSome-always (Some x) P f = f x

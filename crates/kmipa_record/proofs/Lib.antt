@@ -1,0 +1,9 @@
+pub mod ShapeLemmas
+pub mod KindLemmas
+pub mod NextLemmas
+pub mod FileLemmas
+pub mod MarkLemmas
+pub mod CallLemmas
+pub mod TranscriptLemmas
+pub mod WitnessLemmas
+pub mod DeclarationLemmas

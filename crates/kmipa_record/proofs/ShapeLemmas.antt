@@ -1,0 +1,66 @@
+-- The shapes of items.
+use Rattle.std.proofs.Common.{◌≡◌, ◌≢◌, ℕ, ◌+◌, ℤ, Bool, List, [], ◌∷◌, length, Option, None, Some, MatchOption, refl, sym, ap, subst, ◌∙◌, arith, zero}
+use Rattle.std.specs.Option.{option_map}
+use Rattle.kmipa_ttlv.specs.Tree.{Tree, Trees, structure, scalar, none, more, integer, boolean, text, byte_string}
+use Rattle.kmipa_ttlv.specs.ViewTree.{view_tree, view_trees}
+use Rattle.kmipa_ttlv.specs.declared.view.View.{View}
+use Rattle.kmipa_attrs.specs.Fields.{tag_of, as_structure, as_integer, as_boolean, as_text, as_bytes}
+use Rattle.kmipa_attrs.proofs.FieldLemmas.{tag_of-view}
+
+-- an item with another tag
+pub other_tag : (item : View) (tag : ℕ) (t : Tree) → (item.tag.number ≡ tag → ⊥) → tag_of t ≡ tag → view_tree item ≡ t → ⊥
+other_tag item tag t ne is e = ne (sym (tag_of-view item.tag.number item.value) ∙ ap tag_of e ∙ is)
+
+pub tag_is : (item : View) (tag : ℕ) → item.tag.number ≡ tag → tag_of (view_tree item) ≡ tag
+tag_is item tag e = tag_of-view item.tag.number item.value ∙ e
+
+-- what an item is by its type
+pub match_map : {A B : Type 0} (f : A → B) (o : Option A) (P : Type 0) (Q : B → Type 0) → MatchOption (option_map f o) P Q → MatchOption o P (λ x. Q (f x))
+match_map f None P Q h = h
+match_map f (Some x) P Q h = h
+
+pub structure_shape : (tag : ℕ) (t : Tree) → tag_of t ≡ tag → MatchOption (as_structure t) ((ts : Trees) → t ≢ structure tag ts) (λ ts. t ≡ structure tag ts)
+unfolding as_structure
+structure_shape tag (structure n ts) e = ap (λ (k : ℕ). structure k ts) e
+structure_shape tag (scalar n s) e = λ ts h. absurd cc
+
+pub integer_shape : (tag : ℕ) (t : Tree) → tag_of t ≡ tag → MatchOption (as_integer t) ((z : ℤ) → t ≢ scalar tag (integer z)) (λ z. t ≡ scalar tag (integer z))
+unfolding as_integer
+integer_shape tag (scalar n (integer z)) e = ap (λ (k : ℕ). scalar k (integer z)) e
+integer_shape tag _ e = λ z h. absurd cc
+
+pub boolean_shape : (tag : ℕ) (t : Tree) → tag_of t ≡ tag → MatchOption (as_boolean t) ((b : Bool) → t ≢ scalar tag (boolean b)) (λ b. t ≡ scalar tag (boolean b))
+unfolding as_boolean
+boolean_shape tag (scalar n (boolean b)) e = ap (λ (k : ℕ). scalar k (boolean b)) e
+boolean_shape tag _ e = λ b h. absurd cc
+
+pub text_shape : (tag : ℕ) (t : Tree) → tag_of t ≡ tag → MatchOption (as_text t) ((bs : List ℕ) → t ≢ scalar tag (text bs)) (λ bs. t ≡ scalar tag (text bs))
+unfolding as_text
+text_shape tag (scalar n (text bs)) e = ap (λ (k : ℕ). scalar k (text bs)) e
+text_shape tag _ e = λ bs h. absurd cc
+
+pub bytes_shape : (tag : ℕ) (t : Tree) → tag_of t ≡ tag → MatchOption (as_bytes t) ((bs : List ℕ) → t ≢ scalar tag (byte_string bs)) (λ bs. t ≡ scalar tag (byte_string bs))
+unfolding as_bytes
+bytes_shape tag (scalar n (byte_string bs)) e = ap (λ (k : ℕ). scalar k (byte_string bs)) e
+bytes_shape tag _ e = λ bs h. absurd cc
+
+-- how many trees
+abbrev pub count : Trees → ℕ
+count none = 0
+count (more t ts) = 1 + count ts
+
+count-views : (views : List View) → count (view_trees views) ≡ length views
+count-views [] = refl
+count-views (v ∷ vs) = omega (arith, count-views vs)
+
+inner : Tree → Trees
+inner (structure tag ts) = ts
+inner (scalar tag s) = none
+
+-- as many children as the item has
+pub same_count : (t : Tree) (tag : ℕ) (views : List View) (ts : Trees) → t ≡ structure tag (view_trees views) → t ≡ structure tag ts → length views ≡ count ts
+unfolding inner
+same_count t tag views ts e f = sym (count-views views) ∙ ap (λ (u : Tree). count (inner u)) (sym e ∙ f)
+
+pub fields_count : (views : List View) (ts : Trees) → view_trees views ≡ ts → length views ≡ count ts
+fields_count views ts e = sym (count-views views) ∙ ap count e

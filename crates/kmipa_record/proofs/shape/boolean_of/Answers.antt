@@ -1,0 +1,14 @@
+use Rattle.std.proofs.Common.{◌≡◌, ◌≢◌, ℕ, ℤ, Bool, List, refl, sym, subst, Option, MatchOption}
+use Rattle.kmipa_ttlv.specs.Tree.{Tree, Trees, structure, scalar, integer, boolean, text, byte_string}
+use Rattle.kmipa_ttlv.specs.ViewTree.{view_tree, view_trees}
+use Rattle.kmipa_record.proofs.ShapeLemmas.{other_tag, tag_is, match_map, boolean_shape}
+use Rattle.kmipa_record.proofs.shape.boolean_of.Goals as goal
+
+pub returns-then-item-tag : goal.returns-then-item-tag
+returns-then-item-tag c = λ x e. other_tag c.args.item.now c.args.tag (scalar c.args.tag (boolean x)) c.if-item-tag.true refl e
+
+pub returns : goal.returns
+returns c =
+    let t = view_tree c.args.item.now in
+    let shape = boolean_shape c.args.tag t (tag_is c.args.item.now c.args.tag c.if-item-tag.false) in
+    subst (λ (o : Option Bool). MatchOption o ((b : Bool) → t ≢ scalar c.args.tag (boolean b)) (λ b. t ≡ scalar c.args.tag (boolean b))) (sym c.as_boolean.ensures) shape
