@@ -71,7 +71,7 @@ reads_single {A} (Some x ∷ Some y ∷ held) = let P : Result (Option A) AttrFa
     again no_wrong NotForClients lt h = h
     again no_wrong Memory lt h = h
 
--- no fault at all where ClientFault has none
+-- a child that no client may give
 pub reads_client : (side : Side) (there : Option Tree) → Reads attr_number (λ (u : Unit {0}). Unit {0}) (ClientFault side there) (server_only side there)
 reads_client Server there = record { said = tt; only = λ y h. refl; right = right }
   where

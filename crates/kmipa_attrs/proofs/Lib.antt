@@ -4,3 +4,4 @@ pub mod ViewLemmas
 pub mod NameLemmas
 pub mod DistinctLemmas
 pub mod AttrLemmas
+pub mod WriteLemmas

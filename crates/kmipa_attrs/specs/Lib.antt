@@ -4,3 +4,5 @@ pub mod ObjectTypes
 pub mod Sets
 pub mod Names
 pub mod Attributes
+pub mod Tags
+pub mod Writing

@@ -20,7 +20,7 @@ abbrev pub name_inside : Option Trees → Option NameOf
 name_inside None = None
 name_inside (Some ts) = name_from (at as_text 0x42_0055 ts) (at as_enumeration 0x42_0054 ts)
 
--- the name that a tree says (KMIP 2.1, section 4.38): a structure of Name Value and Name Type, where other children are read over
+-- the name that a tree says (KMIP 2.1, the attribute Name): a structure of Name Value and Name Type, where other children are read over
 unfoldable pub as_name : Tree → Option NameOf
 as_name t = name_inside (as_structure t)
 

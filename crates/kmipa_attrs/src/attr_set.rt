@@ -1,7 +1,9 @@
 //! The judged attributes of an object, as a set.
 
 use crate::name::Name;
+use crate::names::copy_names;
 use smallvec::SmallVec;
+use std::alloc::{AllocError, Global};
 
 /// How many names are kept without memory of their own: nearly every object has one.
 pub const NAMES: usize = 1;
@@ -31,4 +33,47 @@ pub struct AttrSet {
     pub destroy: Option<i64>,
     /// Compromise Date.
     pub compromise: Option<i64>,
+}
+
+impl AttrSet {
+    ghost use Rattle.std.specs.Prelude.{◌≡◌, IfOk};
+    ghost use Rattle.kmipa_attrs.specs.Sets.{attributes_of, no_attributes};
+
+    /// The set that says nothing.
+    pub fn new(alloc: Global) -> AttrSet
+        ensures { attributes_of result ≡ no_attributes }
+    {
+        AttrSet {
+            names: SmallVec::new(alloc),
+            object_type: None,
+            algorithm: None,
+            length: None,
+            mask: None,
+            state: None,
+            initial: None,
+            activation: None,
+            deactivation: None,
+            destroy: None,
+            compromise: None,
+        }
+    }
+
+    /// The same set, with names of its own.
+    pub fn copy(&self, alloc: Global) -> Result<AttrSet, AllocError>
+        ensures { IfOk result (λ set. attributes_of set ≡ attributes_of self.now) }
+    {
+        Ok(AttrSet {
+            names: copy_names(alloc, self.names.as_slice())?,
+            object_type: self.object_type,
+            algorithm: self.algorithm,
+            length: self.length,
+            mask: self.mask,
+            state: self.state,
+            initial: self.initial,
+            activation: self.activation,
+            deactivation: self.deactivation,
+            destroy: self.destroy,
+            compromise: self.compromise,
+        })
+    }
 }

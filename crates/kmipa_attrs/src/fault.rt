@@ -52,7 +52,7 @@ impl Numbered for AttrFault {
     ghost number = { attr_number };
 
     fn number(self) -> u8 {
-        self as u8
+        AttrFault::number(self)
     }
 }
 

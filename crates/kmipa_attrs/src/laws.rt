@@ -3,7 +3,7 @@
 ghost use Rattle.std.specs.Prelude.{◌↔◌, List};
 ghost use Rattle.std.specs.List.{Contains};
 ghost use Rattle.kmipa_ttlv.specs.Tree.{Trees};
-ghost use Rattle.kmipa_attrs.specs.Sets.{NameOf};
+ghost use Rattle.kmipa_attrs.specs.Sets.{NameOf, Attributes};
 ghost use Rattle.kmipa_attrs.specs.Names.{distinct, HasNoRepeats};
 ghost use Rattle.kmipa_attrs.specs.Attributes.{attr_number, SaysAttributes, AttributesFault, attributes_in};
 ghost use Rattle.kmipa_attrs.specs.Readings.{Reads};
@@ -22,4 +22,9 @@ pub fn distinct_names_are_the_same()
 /// They have no repeats.
 pub fn distinct_names_do_not_repeat()
     ensures { (names : List NameOf) → HasNoRepeats (distinct names) }
+{}
+
+/// Nor do those of a set that is said, so it is written whole.
+pub fn said_names_do_not_repeat()
+    ensures { (ts : Trees) (a : Attributes) → SaysAttributes ts a → HasNoRepeats a.names }
 {}

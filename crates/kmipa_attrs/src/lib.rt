@@ -14,6 +14,7 @@ pub mod readings;
 mod side;
 mod single;
 mod tags;
+mod writing;
 
 pub use attr_set::{AttrSet, NAMES};
 pub use fault::AttrFault;
@@ -24,3 +25,8 @@ pub use object_type::ObjectType;
 pub use reading::{read_attrs, read_children};
 pub use readings::{Numbered, both, passing};
 pub use side::Side;
+pub use tags::tag_name;
+pub use writing::write_attrs;
+
+#[cfg(test)]
+mod tests;

@@ -1,6 +1,6 @@
 //! The names of an object, each once.
 
-ghost use Rattle.std.specs.Prelude.{◌≡◌, OnOk};
+ghost use Rattle.std.specs.Prelude.{◌≡◌, IfOk, OnOk, map};
 ghost use Rattle.kmipa_ttlv.specs.ViewTree.{view_tree, view_trees};
 ghost use Rattle.kmipa_attrs.specs.Names.{as_name, with_name};
 ghost use Rattle.kmipa_attrs.specs.Sets.{name_of, names_of};
@@ -59,4 +59,15 @@ fn add_name(names: &mut SmallVec<Name, NAMES>, name: Name) -> Result<(), AllocEr
         names.push(name)?;
     }
     Ok(())
+}
+
+/// The same names, each with a value of its own.
+pub(crate) fn copy_names(alloc: Global, names: &[Name]) -> Result<SmallVec<Name, NAMES>, AllocError>
+    ensures { IfOk result (λ copies. names_of copies ≡ map name_of names.now) }
+{
+    let mut copies = SmallVec::new(alloc);
+    for name in names {
+        copies.push(name.copy(alloc)?)?;
+    }
+    Ok(copies)
 }

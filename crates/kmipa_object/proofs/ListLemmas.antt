@@ -1,5 +1,5 @@
 -- Elements of longer lists, and of lists with one element changed.
-use Rattle.std.proofs.Common.{◌≡◌, ◌≢◌, ◌<◌, ◌⊎◌, ℕ, zero, suc, List, [], ◌∷◌, ◌++◌, length, map, slice_get, Option, Some, option_map, refl, ap, ◌∙◌, sym, inl, inr, arith}
+use Rattle.std.proofs.Common.{◌≡◌, ◌≢◌, ◌<◌, ◌≤◌, ◌⊎◌, ℕ, zero, suc, List, [], ◌∷◌, ◌++◌, length, map, get_or, set, slice_get, Option, Some, None, option_map, refl, ap, ◌∙◌, sym, inl, inr, arith}
 use Rattle.kmipa_object.specs.Lists.{updated}
 
 module _ {X : Type 0} where
@@ -85,3 +85,26 @@ module _ {X Y : Type 0} where
   pub map-push : (f : X → Y) (xs : List X) (x : X) → map f (xs ++ x ∷ []) ≡ map f xs ++ f x ∷ []
   map-push f [] x = refl
   map-push f (z ∷ xs) x = ap (λ ys. f z ∷ ys) (map-push f xs x)
+
+-- elements as an index reads and writes them
+module _ {X : Type 0} where
+  pub get-at : (xs : List X) (n : ℕ) (x : X) → n < length xs → x ≡ get_or xs n x → slice_get xs n ≡ Some x
+  get-at [] n x h e = absurd (omega arith)
+  get-at (z ∷ xs) zero x h e = ap Some (sym e)
+  get-at (z ∷ xs) (suc n) x h e = get-at xs n x (omega arith) e
+
+  pub map-set : {Y : Type 0} (f : X → Y) (g : Y → Y) (xs : List X) (n : ℕ) (x w : X) → x ≡ get_or xs n x → f w ≡ g (f x) → map f (set xs n w) ≡ updated (map f xs) n g
+  map-set f g [] n x w e h = refl
+  map-set f g (z ∷ xs) zero x w e h = ap (λ y. y ∷ map f xs) (h ∙ ap (λ (u : X). g (f u)) e)
+  map-set f g (z ∷ xs) (suc n) x w e h = ap (λ ys. f z ∷ ys) (map-set f g xs n x w e h)
+
+  pub get_past : (xs : List X) (n : ℕ) → length xs ≤ n → slice_get xs n ≡ None
+  get_past [] n h = refl
+  get_past (z ∷ xs) zero h = absurd (omega arith)
+  get_past (z ∷ xs) (suc n) h = get_past xs n (omega arith)
+
+  -- where there is no element nothing changes
+  pub updated-none : (xs : List X) (n : ℕ) (f : X → X) → slice_get xs n ≡ None → updated xs n f ≡ xs
+  updated-none [] n f e = refl
+  updated-none (z ∷ xs) zero f e = cc
+  updated-none (z ∷ xs) (suc n) f e = ap (λ ys. z ∷ ys) (updated-none xs n f e)

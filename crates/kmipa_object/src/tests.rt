@@ -5,7 +5,6 @@ use crate::{
     destroyed, possible_rules_admit, revoked, rules_admit_only_if_possible, state_at,
 };
 use kmipa_attrs::{AttrSet, ObjectType};
-use smallvec::SmallVec;
 use std::test::Fail;
 
 const NOW: i64 = 1_700_000_000;
@@ -146,19 +145,9 @@ fn destroy_of_active_deactivates(rt: HostRuntime) -> Result<(), Fail> {
 #[test]
 fn rules_of_keys(rt: HostRuntime) -> Result<(), Fail> {
     let alloc = rt.alloc();
-    let given = AttrSet {
-        names: SmallVec::new(alloc),
-        object_type: None,
-        algorithm: Some(3),
-        length: Some(128),
-        mask: Some(12),
-        state: None,
-        initial: None,
-        activation: None,
-        deactivation: None,
-        destroy: None,
-        compromise: None,
-    };
+    let mut given = AttrSet::new(alloc);
+    given.algorithm = Some(3);
+    given.length = Some(128);
     assert_eq!(rt; Rule::of(ObjectType::SecretData, &given), Rule::Any);
     let key = Object {
         id: String::from_str(alloc, "k1")?,

@@ -4,6 +4,7 @@ use Rattle.kmipa_object.specs.Inventory.{admits, possible}
 use Rattle.kmipa_object.specs.declared.life.Life.{Life}
 use Rattle.kmipa_object.specs.declared.life.SecretNo.{SecretNo}
 use Rattle.kmipa_object.specs.declared.rule.Rule.{Rule}
+use Rattle.kmipa_store.specs.Memory.{RefusedForMemory}
 use Rattle.kmipa_store.specs.Ledger.{LedgerState, Held, Known, cards_of, place_of, added, replaced, with_secret, learned, marked}
 use Rattle.kmipa_store.specs.declared.fault.StoreFault.{StoreFault}
 use Rattle.kmipa_store.specs.declared.fault.StoreFault.TheVariants.{IdentifierTaken, BytesDiffer, LengthImpossible, Memory}
@@ -20,13 +21,6 @@ Adds s h (Err IdentifierTaken) t = (is_taken s h.card.id ≡ true) × (t ≡ s)
 Adds s h (Err BytesDiffer) t = ⊥
 Adds s h (Err LengthImpossible) t = ⊥
 Adds s h (Err Memory) t = (is_taken s h.card.id ≡ false) × (t ≡ s)
-
--- where want of memory is the only fault
-abbrev pub RefusedForMemory : StoreFault → LedgerState → LedgerState → Type 0
-RefusedForMemory IdentifierTaken s t = ⊥
-RefusedForMemory BytesDiffer s t = ⊥
-RefusedForMemory LengthImpossible s t = ⊥
-RefusedForMemory Memory s t = t ≡ s
 
 -- `replace`
 abbrev pub Replaces : LedgerState → ℕ → Life → Result (Unit {0}) StoreFault → LedgerState → Type 0

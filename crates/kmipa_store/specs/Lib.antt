@@ -1,5 +1,10 @@
 pub mod Ledger
 pub mod Faults
+pub mod Memory
 pub mod Calls
 pub mod Choices
 pub mod Objects
+pub mod Secrets
+pub mod Histories
+pub mod Journal
+pub mod States

@@ -1,11 +1,20 @@
 //! The ledger of an audit: objects, secrets whose bytes may be unknown, and marks to go back to.
 #![tactic(auto)]
 
+mod changes;
+mod copies;
 mod fault;
+mod journal;
 mod laws;
 mod ledger;
 mod objects;
+mod secrets;
 
+pub use copies::Copies;
 pub use fault::StoreFault;
+pub use journal::Journal;
 pub use laws::every_choice_gives_an_inventory;
 pub use ledger::{Ledger, Mark};
+
+#[cfg(test)]
+mod tests;

@@ -25,9 +25,9 @@ impl Model for Objects {
 }
 
 impl Objects {
-    ghost use Rattle.std.specs.Prelude.{◌≡◌, ◌-◌, ◌<◌, [], length, take, slice_get, string_bytes, Some, None, IfSome};
+    ghost use Rattle.std.specs.Prelude.{◌≡◌, ◌-◌, ◌<◌, [], length, take, slice_get, string_bytes, Some, None, IfSome, IfOk, IfErr};
     ghost use Rattle.kmipa_store.specs.Ledger.{held, cards_of, place_of, relived};
-    ghost use Rattle.kmipa_store.specs.Objects.{Pushes};
+    ghost use Rattle.kmipa_store.specs.Memory.{Pushes};
 
     /// No objects.
     pub fn new(alloc: Global) -> Objects
@@ -89,5 +89,18 @@ impl Objects {
         ensures { self.new ≡ take (length self.old - 1) self.old }
     {
         let _ = self.by_id.pop();
+    }
+    /// Equal objects, with memory of their own.
+    pub fn copy(&self, alloc: Global) -> Result<Objects, StoreFault>
+        ensures same { IfOk result (λ copy. copy ≡ self.now) }
+        ensures err { IfErr result (λ fault. fault ≡ StoreFault.Memory) }
+    {
+        let count = self.by_id.len();
+        let mut copy = Objects::new(alloc);
+        for place in 0..count {
+            let object = self.at(place).copy(alloc)?;
+            copy.push(object)?;
+        }
+        Ok(copy)
     }
 }

@@ -1,0 +1,57 @@
+-- The children that say a set of attributes.
+use Rattle.std.specs.Prelude.{◌≡◌, ℕ, ℤ, List, [], ◌∷◌, Option, Some, None}
+use Rattle.std.specs.Option.{option_map}
+use Rattle.kmipa_ttlv.specs.Tree.{Tree, Trees, Scalar, structure, scalar, none, more, push, forest}
+use Rattle.kmipa_ttlv.specs.Tree
+use Rattle.kmipa_attrs.specs.Sets.{NameOf, Attributes}
+use Rattle.kmipa_attrs.specs.Names.{distinct}
+use Rattle.kmipa_attrs.specs.Attributes.{SaysAttributes}
+
+-- a Name: its value and its type, written out
+abbrev pub name_tree : NameOf → Tree
+name_tree n = structure 0x42_0053 (more (scalar 0x42_0055 (Tree.text n.value)) (more (scalar 0x42_0054 (Tree.enumeration n.kind)) none))
+
+-- the children with one more, if it is there
+abbrev pub with_scalar : Trees → ℕ → Option Scalar → Trees
+with_scalar ts n None = ts
+with_scalar ts n (Some s) = push ts (scalar n s)
+
+abbrev pub with_scalars : Trees → List (ℕ × Option Scalar) → Trees
+with_scalars ts [] = ts
+with_scalars ts (row ∷ rows) = with_scalars (with_scalar ts row.0 row.1) rows
+
+abbrev pub enumerated : Option ℕ → Option Scalar
+enumerated v = option_map Tree.enumeration v
+
+abbrev pub counted : Option ℤ → Option Scalar
+counted v = option_map Tree.integer v
+
+abbrev pub dated : Option ℤ → Option Scalar
+dated v = option_map Tree.date_time v
+
+-- the attributes that have one value, each with its tag, in the order in which they are written
+abbrev pub single_rows : Attributes → List (ℕ × Option Scalar)
+single_rows a =
+    (0x42_0057, enumerated a.object_type) ∷
+    (0x42_0028, enumerated a.algorithm) ∷
+    (0x42_002A, counted a.length) ∷
+    (0x42_002C, counted a.mask) ∷
+    (0x42_008D, enumerated a.state) ∷
+    (0x42_0039, dated a.initial) ∷
+    (0x42_0001, dated a.activation) ∷
+    (0x42_002F, dated a.deactivation) ∷
+    (0x42_0033, dated a.destroy) ∷
+    (0x42_0020, dated a.compromise) ∷
+    []
+
+-- names first, then each other attribute that is there
+abbrev pub written_children : Attributes → Trees
+written_children a = with_scalars (forest name_tree a.names) (single_rows a)
+
+-- the item is Attributes, and its children say the set
+abbrev pub SaysWhole : Tree → Attributes → Type 0
+SaysWhole t a = (ts : Trees) × ((t ≡ structure 0x42_0125 ts) × SaysAttributes ts a)
+
+-- the set with each of its names once
+abbrev pub each_once : Attributes → Attributes
+each_once a = record a { names = distinct a.names }

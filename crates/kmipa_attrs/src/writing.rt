@@ -1,0 +1,73 @@
+//! Items from sets of attributes.
+
+ghost use Rattle.std.specs.Prelude.{◌≡◌, ◌<◌, IfOk, OnOk, map};
+ghost use Rattle.std.specs.Option.{option_map};
+ghost use Rattle.kmipa_ttlv.specs.Tree.{structure, forest};
+ghost use Rattle.kmipa_ttlv.specs.ItemTree.{tree, trees};
+ghost use Rattle.kmipa_attrs.specs.Sets.{name_of, attributes_of};
+ghost use Rattle.kmipa_attrs.specs.Names.{HasNoRepeats};
+ghost use Rattle.kmipa_attrs.specs.Writing.{name_tree, with_scalar, written_children, SaysWhole, each_once};
+
+use crate::attr_set::AttrSet;
+use crate::held::Held;
+use crate::name::Name;
+use crate::tags::{
+    ACTIVATION_DATE, ATTRIBUTES, COMPROMISE_DATE, CRYPTOGRAPHIC_ALGORITHM, CRYPTOGRAPHIC_LENGTH,
+    CRYPTOGRAPHIC_USAGE_MASK, DEACTIVATION_DATE, DESTROY_DATE, INITIAL_DATE, NAME, NAME_TYPE,
+    NAME_VALUE, OBJECT_TYPE, STATE,
+};
+use kmipa_ttlv::{Item, Tag};
+use std::alloc::{AllocError, Global};
+
+/// The Attributes item that says the set: names first, then each other attribute that is there.
+/// A name that stands in the set twice is said once.
+pub fn write_attrs(alloc: Global, set: &AttrSet) -> Result<Item, AllocError>
+    ensures order { IfOk result (λ item. tree item ≡ structure 0x42_0125 (written_children (attributes_of set.now))) }
+    ensures once { IfOk result (λ item. SaysWhole (tree item) (each_once (attributes_of set.now))) }
+    ensures exact { IfOk result (λ item. HasNoRepeats (attributes_of set.now).names → SaysWhole (tree item) (attributes_of set.now)) }
+{
+    let mut children = write_names(alloc, set.names.as_slice())?;
+    put(&mut children, OBJECT_TYPE, set.object_type)?;
+    put(&mut children, CRYPTOGRAPHIC_ALGORITHM, set.algorithm)?;
+    put(&mut children, CRYPTOGRAPHIC_LENGTH, set.length)?;
+    put(&mut children, CRYPTOGRAPHIC_USAGE_MASK, set.mask)?;
+    put(&mut children, STATE, set.state)?;
+    put(&mut children, INITIAL_DATE, set.initial)?;
+    put(&mut children, ACTIVATION_DATE, set.activation)?;
+    put(&mut children, DEACTIVATION_DATE, set.deactivation)?;
+    put(&mut children, DESTROY_DATE, set.destroy)?;
+    put(&mut children, COMPROMISE_DATE, set.compromise)?;
+    Ok(Item::structure(Tag { number: ATTRIBUTES }, children))
+}
+
+/// One more child, where the attribute is there.
+fn put<T: Held>(children: &mut Vec<Item>, tag: u32, value: Option<T>) -> Result<(), AllocError>
+    requires { tag < 0x100_0000 }
+    ensures { OnOk result (trees children.new.items ≡ with_scalar (trees children.old.items) tag (option_map T.made value)) }
+{
+    if let Some(value) = value {
+        children.push(value.item(Tag { number: tag }))?;
+    }
+    Ok(())
+}
+
+fn write_names(alloc: Global, names: &[Name]) -> Result<Vec<Item>, AllocError>
+    ensures { IfOk result (λ items. trees items.items ≡ forest name_tree (map name_of names.now)) }
+{
+    let mut items = Vec::new(alloc);
+    for name in names {
+        items.push(write_name(alloc, name)?)?;
+    }
+    Ok(items)
+}
+
+fn write_name(alloc: Global, name: &Name) -> Result<Item, AllocError>
+    ensures { IfOk result (λ item. tree item ≡ name_tree (name_of name.now)) }
+{
+    let value = Item::text(alloc, Tag { number: NAME_VALUE }, &name.value)?;
+    let kind = Item::enumeration(Tag { number: NAME_TYPE }, name.kind);
+    let mut parts = Vec::with_capacity(alloc, 2)?;
+    parts.push(value)?;
+    parts.push(kind)?;
+    Ok(Item::structure(Tag { number: NAME }, parts))
+}

@@ -1,0 +1,32 @@
+use Rattle.std.proofs.Common.{Ok, slice_get, subst}
+use Rattle.kmipa_store.specs.Ledger.{told}
+use Rattle.kmipa_store.specs.Secrets.{Judges}
+use Rattle.kmipa_store.specs.Journal.{secret_unmade, secret_places}
+use Rattle.kmipa_store.specs.States.{state_of_journal}
+use Rattle.kmipa_store.specs.declared.secrets.Lesson.{Lesson}
+use Rattle.kmipa_store.proofs.HistoryLemmas.{fits_logs}
+use Rattle.kmipa_store.proofs.LearnLemmas.{learns_known}
+use Rattle.kmipa_store.proofs.JournalLemmas.{journal_tells}
+use Rattle.kmipa_store.proofs.journal.JournalLedger.learn.Goals as goal
+
+pub invariant_of-self : goal.invariant_of-self
+invariant_of-self c =
+    let j = c.args.self.now in
+    let p = c.tell_secret in
+    record {
+      objects_fit = j.objects_fit;
+      secrets_fit = fits_logs secret_unmade (told j.secrets c.args.secret.number c.in_ok-bytes-in-Ok-New.bytes.items) j.secrets p.new.secrets j.secret_changes.items p.new.changes.items (secret_places j.places.items) p.result p.ensures j.secrets_fit;
+    }
+
+pub returns-in-Ok-Old : goal.returns-in-Ok-Old
+returns-in-Ok-Old c =
+    let P : Lesson → Type 0 = λ x. Judges (slice_get c.args.self.now.secrets c.args.secret.number) c.args.bytes.now (Ok x) in
+    learns_known (state_of_journal c.args.self.now) c.args.secret.number c.args.bytes.now (subst P c.in-Ok-Old.field-0-is c.in-Ok-Old.ensures)
+
+pub returns-in_ok-bytes-in-Ok-New : goal.returns-in_ok-bytes-in-Ok-New
+returns-in_ok-bytes-in-Ok-New c =
+    let j = c.args.self.now in
+    let p = c.tell_secret in
+    let P : Lesson → Type 0 = λ x. Judges (slice_get j.secrets c.args.secret.number) c.args.bytes.now (Ok x) in
+    journal_tells j.objects j.object_changes.items j.secrets p.new.secrets j.secret_changes.items p.new.changes.items j.places.items c.args.secret.number
+    c.in_ok-bytes-in-Ok-New.bytes.items c.args.bytes.now p.result p.ensures c.in_ok-bytes-in-Ok-New.ensures.items (subst P c.in-Ok-New.field-0-is c.in-Ok-New.ensures) j.secrets_fit

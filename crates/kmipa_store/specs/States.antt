@@ -1,0 +1,20 @@
+-- What the ledgers in memory mean.
+use Rattle.std.specs.Prelude.{List, map, reverse}
+use Rattle.kmipa_store.specs.Ledger.{LedgerState, Meaning}
+use Rattle.kmipa_store.specs.Journal.{journal_state}
+use Rattle.kmipa_store.specs.declared.copies.Copies.{Copies}
+use Rattle.kmipa_store.specs.declared.copies.Saved.{Saved}
+use Rattle.kmipa_store.specs.declared.journal.Journal.{Journal}
+
+abbrev pub state_of_journal : Journal → LedgerState
+state_of_journal j = journal_state j.objects j.object_changes.items j.secrets j.secret_changes.items j.places.items
+
+abbrev pub meaning_of : Saved → Meaning
+meaning_of s = record { objects = s.objects; secrets = s.secrets }
+
+-- the marks, the newest first
+abbrev pub marks_of : List Saved → List Meaning
+marks_of saved = map meaning_of (reverse saved)
+
+abbrev pub state_of_copies : Copies → LedgerState
+state_of_copies c = record { now = record { objects = c.objects; secrets = c.secrets }; marks = marks_of c.marks.items }

@@ -1,0 +1,129 @@
+//! A ledger of which each mark is a whole copy.
+
+use crate::fault::StoreFault;
+use crate::ledger::{Ledger, Mark};
+use crate::objects::Objects;
+use crate::secrets::{Lesson, Secrets};
+use kmipa_object::{Life, Object, Rule, SecretNo};
+use std::alloc::Global;
+
+/// A ledger of which each mark is a whole copy: the plainest that keeps the laws.
+#[derive(Drop)]
+pub struct Copies {
+    alloc: Global,
+    objects: Objects,
+    secrets: Secrets,
+    marks: Vec<Saved>,
+}
+
+/// A whole copy of a ledger, its marks aside.
+#[derive(Drop)]
+pub struct Saved {
+    objects: Objects,
+    secrets: Secrets,
+}
+
+impl Copies {
+    ghost use Rattle.std.specs.Prelude.{◌≡◌, []};
+    ghost use Rattle.kmipa_store.specs.States.{state_of_copies};
+
+    /// A ledger without objects, secrets and marks.
+    pub fn new(alloc: Global) -> Copies
+        ensures { state_of_copies result ≡ record { now = record { objects = []; secrets = [] }; marks = [] } }
+    {
+        Copies {
+            alloc,
+            objects: Objects::new(alloc),
+            secrets: Secrets::new(alloc),
+            marks: Vec::new(alloc),
+        }
+    }
+}
+
+impl Ledger for Copies {
+    ghost use Rattle.kmipa_store.specs.States.{state_of_copies};
+
+    ghost state = { state_of_copies };
+
+    fn find(&self, id: &str) -> Option<usize> {
+        self.objects.find(id)
+    }
+
+    fn len(&self) -> usize {
+        self.objects.len()
+    }
+
+    fn at(&self, place: usize) -> &Object {
+        self.objects.at(place)
+    }
+
+    fn add(&mut self, object: Object) -> Result<usize, StoreFault> {
+        if let Some(_taken) = self.objects.find(object.id.as_str()) {
+            return Err(StoreFault::IdentifierTaken);
+        }
+        let place = self.objects.len();
+        self.objects.push(object)?;
+        Ok(place)
+    }
+
+    fn replace(&mut self, place: usize, life: Life) -> Result<(), StoreFault> {
+        self.objects.set_life(place, life);
+        Ok(())
+    }
+
+    fn new_secret(&mut self, rule: Rule) -> Result<SecretNo, StoreFault> {
+        if !rule.is_possible() {
+            return Err(StoreFault::LengthImpossible);
+        }
+        let number = self.secrets.len();
+        self.secrets.push(rule)?;
+        Ok(SecretNo { number })
+    }
+
+    fn secret(&self, secret: SecretNo) -> Option<&[u8]> {
+        self.secrets.known(secret.number)
+    }
+
+    fn learn(&mut self, secret: SecretNo, bytes: &[u8]) -> Result<(), StoreFault> {
+        match self.secrets.lesson(secret.number, bytes) {
+            Ok(Lesson::Old) => Ok(()),
+            Ok(Lesson::New) => {
+                let bytes = Vec::from_slice(self.alloc, bytes)?;
+                self.secrets.tell(secret.number, bytes);
+                Ok(())
+            }
+            Err(fault) => Err(fault),
+        }
+    }
+
+    fn mark(&mut self) -> Result<Mark, StoreFault> {
+        let objects = self.objects.copy(self.alloc)?;
+        let secrets = self.secrets.copy(self.alloc)?;
+        self.marks.push(Saved { objects, secrets })?;
+        Ok(Mark {
+            depth: self.marks.len(),
+        })
+    }
+
+    fn keep(&mut self, mark: Mark) {
+        let Mark { depth: _ } = mark;
+        let _ = self.marks.pop();
+    }
+
+    fn undo(&mut self, mark: Mark) {
+        let Mark { depth: _ } = mark;
+        let Some(saved) = self.marks.pop() else {
+            return;
+        };
+        self.objects = saved.objects;
+    }
+
+    fn back(&mut self, mark: Mark) {
+        let Mark { depth: _ } = mark;
+        let Some(saved) = self.marks.pop() else {
+            return;
+        };
+        self.objects = saved.objects;
+        self.secrets = saved.secrets;
+    }
+}

@@ -1,0 +1,146 @@
+//! A ledger that writes down what changes.
+
+ghost use Rattle.std.specs.Prelude.{◌≡◌, true, length};
+ghost use Rattle.kmipa_store.specs.Histories.{fits};
+ghost use Rattle.kmipa_store.specs.Journal.{object_places, secret_places};
+
+use crate::changes::{
+    ObjectChange, Place, SecretChange, push_object, push_secret, roll_back, set_life, tell_secret,
+};
+use crate::fault::StoreFault;
+use crate::ledger::{Ledger, Mark};
+use crate::objects::Objects;
+use crate::secrets::{Lesson, Secrets};
+use kmipa_object::{Life, Object, Rule, SecretNo};
+use std::alloc::Global;
+
+/// A ledger that writes down each change.
+///
+/// # What a mark costs
+/// A mark is how many changes there were. Going back takes back what was done since then; no call costs as much as the inventory.
+/// Each change has its place in the journal before it is made, so that `keep`, `undo` and `back` take no memory. `undo` takes the
+/// objects back and leaves what was written of the secrets to the marks below.
+#[derive(Drop)]
+pub struct Journal {
+    alloc: Global,
+    objects: Objects,
+    object_changes: Vec<ObjectChange>,
+    secrets: Secrets,
+    secret_changes: Vec<SecretChange>,
+    places: Vec<Place>,
+    ghost objects_fit: { fits (length object_changes.items) (object_places places.items) ≡ true },
+    ghost secrets_fit: { fits (length secret_changes.items) (secret_places places.items) ≡ true },
+}
+
+impl Journal {
+    ghost use Rattle.std.specs.Prelude.{[]};
+    ghost use Rattle.kmipa_store.specs.Ledger.{LedgerState};
+    ghost use Rattle.kmipa_store.specs.States.{state_of_journal};
+
+    /// A ledger without objects, secrets and marks.
+    pub fn new(alloc: Global) -> Journal
+        ensures { state_of_journal result ≡ record { now = record { objects = []; secrets = [] }; marks = [] } }
+    {
+        Journal {
+            alloc,
+            objects: Objects::new(alloc),
+            object_changes: Vec::new(alloc),
+            secrets: Secrets::new(alloc),
+            secret_changes: Vec::new(alloc),
+            places: Vec::new(alloc),
+        }
+    }
+}
+
+impl Ledger for Journal {
+    ghost use Rattle.kmipa_store.specs.States.{state_of_journal};
+
+    ghost state = { state_of_journal };
+
+    fn find(&self, id: &str) -> Option<usize> {
+        self.objects.find(id)
+    }
+
+    fn len(&self) -> usize {
+        self.objects.len()
+    }
+
+    fn at(&self, place: usize) -> &Object {
+        self.objects.at(place)
+    }
+
+    fn add(&mut self, object: Object) -> Result<usize, StoreFault> {
+        if let Some(_taken) = self.objects.find(object.id.as_str()) {
+            return Err(StoreFault::IdentifierTaken);
+        }
+        let place = self.objects.len();
+        push_object(&mut self.objects, &mut self.object_changes, object)?;
+        Ok(place)
+    }
+
+    fn replace(&mut self, place: usize, life: Life) -> Result<(), StoreFault> {
+        set_life(&mut self.objects, &mut self.object_changes, place, life)
+    }
+
+    fn new_secret(&mut self, rule: Rule) -> Result<SecretNo, StoreFault> {
+        if !rule.is_possible() {
+            return Err(StoreFault::LengthImpossible);
+        }
+        let number = self.secrets.len();
+        push_secret(&mut self.secrets, &mut self.secret_changes, rule)?;
+        Ok(SecretNo { number })
+    }
+
+    fn secret(&self, secret: SecretNo) -> Option<&[u8]> {
+        self.secrets.known(secret.number)
+    }
+
+    fn learn(&mut self, secret: SecretNo, bytes: &[u8]) -> Result<(), StoreFault> {
+        match self.secrets.lesson(secret.number, bytes) {
+            Ok(Lesson::Old) => Ok(()),
+            Ok(Lesson::New) => {
+                let bytes = Vec::from_slice(self.alloc, bytes)?;
+                tell_secret(
+                    &mut self.secrets,
+                    &mut self.secret_changes,
+                    secret.number,
+                    bytes,
+                )
+            }
+            Err(fault) => Err(fault),
+        }
+    }
+
+    fn mark(&mut self) -> Result<Mark, StoreFault> {
+        let place = Place {
+            objects: self.object_changes.len(),
+            secrets: self.secret_changes.len(),
+        };
+        self.places.push(place)?;
+        Ok(Mark {
+            depth: self.places.len(),
+        })
+    }
+
+    fn keep(&mut self, mark: Mark) {
+        let Mark { depth: _ } = mark;
+        let _ = self.places.pop();
+    }
+
+    fn undo(&mut self, mark: Mark) {
+        let Mark { depth: _ } = mark;
+        let Some(place) = self.places.pop() else {
+            return;
+        };
+        roll_back(&mut self.objects, &mut self.object_changes, place.objects);
+    }
+
+    fn back(&mut self, mark: Mark) {
+        let Mark { depth: _ } = mark;
+        let Some(place) = self.places.pop() else {
+            return;
+        };
+        roll_back(&mut self.objects, &mut self.object_changes, place.objects);
+        roll_back(&mut self.secrets, &mut self.secret_changes, place.secrets);
+    }
+}
