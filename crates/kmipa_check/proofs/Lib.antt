@@ -1,3 +1,6 @@
+pub mod PlaceLemmas
 pub mod RunLemmas
 pub mod ReplayLemmas
 pub mod PermutationLemmas
+pub mod NumberLemmas
+pub mod LateLemmas

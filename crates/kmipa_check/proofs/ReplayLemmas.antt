@@ -23,17 +23,8 @@ use Rattle.kmipa_check.specs.Runs.{Linked, Describes, rules_declared, Before, Is
 use Rattle.kmipa_check.specs.Verdicts.{IsLate, RunsBack, IsPlacedAt, ArePlaced, ArePossible, ArePossibleUpTo, AreKnown, RefusedItem, RefusedPlace, late, runs_back, RefusedAt, in_place, in_item, IsRefused, GoesUpTo}
 use Rattle.kmipa_check.specs.declared.verdict.Refused.{Refused}
 use Rattle.kmipa_check.specs.Replays.{Replayed}
+use Rattle.kmipa_check.proofs.PlaceLemmas.{below_suc}
 use Rattle.kmipa_check.proofs.RunLemmas.{linked_join, linked_split}
-
-below_suc : (t n : ℕ) → t < suc n → (t < n) ⊎ (t ≡ n)
-below_suc zero zero h = inr refl
-below_suc zero (suc n) h = inl (omega arith)
-below_suc (suc t) zero h = absurd (omega (arith, h))
-below_suc (suc t) (suc n) h = up (below_suc t n (omega (arith, h)))
-  where
-    up : (t < n) ⊎ (t ≡ n) → (suc t < suc n) ⊎ (suc t ≡ suc n)
-    up (inl b) = inl (omega (arith, b))
-    up (inr e) = inr (ap suc e)
 
 -- an opened ledger has replayed nothing yet
 pub replayed_none : (declared : DeclarationOf) (order : List CallOf) (m : Meaning) → AreKnown declared [] m → IsSound m → Replayed declared order 0 m

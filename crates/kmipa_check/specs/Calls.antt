@@ -5,12 +5,14 @@ use Rattle.kmipa_ttlv.specs.Spelling.{Spells}
 use Rattle.kmipa_record.specs.Marks.{MarkOf, begins, ends, begun}
 use Rattle.kmipa_msgs.specs.declared.kind.OutsideKind.{OutsideKind}
 use Rattle.kmipa_msgs.specs.declared.kind.OutsideKind.TheVariants.{NotAMessage}
-use Rattle.kmipa_msgs.specs.Messages.{RequestOf, ResponseOf}
+use Rattle.kmipa_msgs.specs.Messages.{RequestOf, ResponseOf, request_of, response_of}
 use Rattle.kmipa_msgs.specs.Outside.{Inside, OutsideAt}
 use Rattle.kmipa_msgs.specs.Requests.{SaysRequest, RequestFault}
 use Rattle.kmipa_msgs.specs.Responses.{SaysResponse, ResponseFault}
+use Rattle.kmipa_check.specs.declared.call.Call.{Call}
 use Rattle.kmipa_check.specs.declared.fault.Side.{Side}
 use Rattle.kmipa_check.specs.declared.fault.Side.TheVariants.{Client, Server}
+use denote.Bor.{Bor}
 
 -- the bytes spell one item, which says this message and no other
 pub record AreMessage {M : Type 0} (Said : Tree → M → Type 0) (Fault : Tree → ℕ → OutsideKind → Type 0) (bytes : List ℕ) (message : M) : Type 0 where
@@ -77,3 +79,11 @@ pub record IsFirstOutside (marks : List MarkOf) (number : ℤ) (side : Side) (it
   pub answered : List ℕ
   pub carried : HasMarks marks number begin end asked answered
   pub outside : IsOutsideOn side asked answered item kind
+
+-- what a call of the program means
+abbrev pub call_of : Call → CallOf
+call_of c = record { number = c.number; begin = c.begin; end = c.end; request = request_of c.request; response = response_of c.response }
+
+-- the same of calls that are lent
+abbrev pub lent_calls : List (Bor Call) → List CallOf
+lent_calls calls = map (λ (c : Bor Call). call_of c.now) calls

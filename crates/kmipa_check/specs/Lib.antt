@@ -3,3 +3,5 @@ pub mod Runs
 pub mod Orders
 pub mod Verdicts
 pub mod Replays
+pub mod Numbers
+pub mod Late
