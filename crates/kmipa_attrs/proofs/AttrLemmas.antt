@@ -281,3 +281,29 @@ pub reads_no_structure : (side : Side) (t : Tree) → None ≡ as_structure t �
 unfolding as_structure
 reads_no_structure side (structure n us) e = cc
 reads_no_structure side (scalar n s) e = record { here = refl; least = λ j lt h. below_wrong j lt }
+
+-- memory is no fault of attributes
+client_memory : (side : Side) (there : Option Tree) → ClientFault side there Memory → ⊥
+client_memory Server there h = h
+client_memory Client None h = h
+client_memory Client (Some t) h = h
+
+pub never_memory : (side : Side) (ts : Trees) → AttributesFault side ts Memory → ⊥
+never_memory side ts f = elim f [
+  | in_names w ↦ w
+  | in_object_type w ↦ w
+  | in_algorithm w ↦ w
+  | in_length w ↦ w
+  | in_mask w ↦ w
+  | in_state w ↦ w
+  | in_initial w ↦ w
+  | in_activation w ↦ w
+  | in_deactivation w ↦ w
+  | in_destroy w ↦ w
+  | in_compromise w ↦ w
+  | of_client_state w ↦ client_memory side _ w
+  | of_client_initial w ↦ client_memory side _ w
+  | of_client_destroy w ↦ client_memory side _ w
+  | of_client_compromise w ↦ client_memory side _ w
+  | of_client_identifier w ↦ client_memory side _ w
+]

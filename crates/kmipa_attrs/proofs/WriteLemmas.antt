@@ -129,3 +129,7 @@ names_written i names n items item lt is e h =
     ∙ ap (map name_of) (take-suc names i n lt)
     ∙ map-append name_of (take i names) (get_or names i n ∷ [])
     ∙ ap (λ m. firsts ++ name_of m ∷ []) (sym is)))
+
+-- one more attribute is written
+pub put_one : (tag : ℕ) (items : List Item) (item : Item) (v : Option Scalar) (s : Scalar) → tree item ≡ scalar tag s → v ≡ Some s → trees (items ++ item ∷ []) ≡ with_scalar (trees items) tag v
+put_one tag items item v s e is = forest-push tree items item ∙ ap (push (trees items)) e ∙ ap (with_scalar (trees items) tag) (sym is)

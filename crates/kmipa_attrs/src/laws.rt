@@ -7,11 +7,17 @@ ghost use Rattle.kmipa_attrs.specs.Sets.{NameOf, Attributes};
 ghost use Rattle.kmipa_attrs.specs.Names.{distinct, HasNoRepeats};
 ghost use Rattle.kmipa_attrs.specs.Attributes.{attr_number, SaysAttributes, AttributesFault, attributes_in};
 ghost use Rattle.kmipa_attrs.specs.Readings.{Reads};
+ghost use Rattle.kmipa_attrs.specs.declared.fault.AttrFault.TheVariants.{Memory};
 ghost use Rattle.kmipa_attrs.specs.declared.side.Side.{Side};
 
 /// What is read of attributes is said, nothing else is, and the fault is the lowest that holds.
 pub fn attributes_are_read()
     ensures { (side : Side) (ts : Trees) → Reads attr_number (SaysAttributes ts) (AttributesFault side ts) (attributes_in side ts) }
+{}
+
+/// Memory is no fault of attributes.
+pub fn memory_is_no_fault()
+    ensures { (side : Side) (ts : Trees) → AttributesFault side ts Memory → ⊥ }
 {}
 
 /// Names that stand once each are the same names.

@@ -19,7 +19,10 @@ mod writing;
 pub use attr_set::{AttrSet, NAMES};
 pub use fault::AttrFault;
 pub use fields::Field;
-pub use laws::{attributes_are_read, distinct_names_are_the_same, distinct_names_do_not_repeat};
+pub use laws::{
+    attributes_are_read, distinct_names_are_the_same, distinct_names_do_not_repeat,
+    memory_is_no_fault, said_names_do_not_repeat,
+};
 pub use name::Name;
 pub use object_type::ObjectType;
 pub use reading::{read_attrs, read_children};

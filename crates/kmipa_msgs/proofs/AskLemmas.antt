@@ -1,8 +1,8 @@
 -- The items of requests are read.
-use Rattle.std.proofs.Common.{◌≡◌, ℕ, List, Option, Some, None, Result, Ok, Err, refl, sym, ap, ◌∙◌, inl, inr, ◌⊎◌}
+use Rattle.std.proofs.Common.{◌≡◌, ℕ, List, Option, Some, None, Result, Ok, Err, refl, ap, ◌∙◌, inl, inr, ◌⊎◌}
 use Rattle.kmipa_ttlv.specs.Tree.{Tree, Trees}
-use Rattle.kmipa_attrs.specs.Fields.{at, inside, in_field, value_in, as_structure, as_enumeration, as_bytes}
-use Rattle.kmipa_attrs.specs.Readings.{Reads, IsWrong, NeededFault, both, and_then}
+use Rattle.kmipa_attrs.specs.Fields.{first, at, inside, or_none, value_in, as_structure, as_enumeration, as_bytes}
+use Rattle.kmipa_attrs.specs.Readings.{Reads, IsWrong, NeededFault, both, map_ok, and_then}
 use Rattle.kmipa_attrs.specs.declared.fields.Field.{Field}
 use Rattle.kmipa_attrs.specs.declared.fields.Field.TheVariants.{Absent, Wrong, There}
 use Rattle.kmipa_attrs.proofs.ReadingLemmas.{reads_both, reads_as, reads_then}
@@ -13,13 +13,15 @@ use Rattle.kmipa_msgs.specs.declared.operation.Operation.{Operation}
 use Rattle.kmipa_msgs.specs.declared.operation.Operation.TheVariants.{Register, Get}
 use Rattle.kmipa_msgs.specs.Kinds.{kind_number}
 use Rattle.kmipa_msgs.specs.Operations.{operation_of}
-use Rattle.kmipa_msgs.specs.Messages.{RegisterOf, AskedOf, registers, gets, AskOf}
+use Rattle.kmipa_msgs.specs.Messages.{RegisterOf, AskedOf, registers, gets, asked_of, AskOf}
+use Rattle.kmipa_msgs.specs.declared.request.Asked.{Asked}
 use Rattle.kmipa_msgs.specs.Tables.{children, Listed, Unlisted}
 use Rattle.kmipa_msgs.specs.Registers.{SaysRegister, register_in}
 use Rattle.kmipa_msgs.specs.Gets.{SaysGet, get_in}
 use Rattle.kmipa_msgs.specs.Asks.{SaysAsked, AskedFault, SaysAsk, AskFault, asked_in, unless_wrong, payload_asked, operation_in, ask_at, ask_in}
 use Rattle.kmipa_msgs.specs.Asks.AskFault.{in_operation, in_unread, in_payload, in_asked}
 use Rattle.kmipa_msgs.proofs.TableLemmas.{same_kind, reads_listed, apart_needed, apart_unlisted}
+use Rattle.kmipa_msgs.proofs.ViewLemmas.{seen, right_seen}
 use Rattle.kmipa_msgs.proofs.RegisterLemmas.{reads_register}
 use Rattle.kmipa_msgs.proofs.GetLemmas.{reads_get}
 
@@ -75,3 +77,38 @@ reads_ask t =
   where
     item : Option (List ℕ) → AskedOf → AskOf
     item b a = record { batch_id = b; asked = a }
+
+-- an item as the program has it: no structure, no operation, and one
+whole : Trees → Result AskOf OutsideKind
+whole ts = map_ok (ask_at ts) (and_then (λ operation. payload_asked operation ts) (operation_in ts))
+
+pub no_ask : (t : Tree) → None ≡ as_structure t → Err Missing ≡ ask_in t
+unfolding ask_in whole first
+no_ask t e = ap (λ (o : Option Trees). whole (or_none o)) e
+
+pub no_operation : (t : Tree) (ts : Trees) (k : OutsideKind) → Some ts ≡ as_structure t → Err k ≡ operation_in ts → Err k ≡ ask_in t
+unfolding ask_in whole
+no_operation t ts k e o = ap (λ (r : Result Operation OutsideKind). map_ok (ask_at ts) (and_then (λ operation. payload_asked operation ts) r)) o ∙ ap (λ (u : Option Trees). whole (or_none u)) e
+
+made : Option (List ℕ) → AskedOf → AskOf
+made b a = record { batch_id = b; asked = a }
+
+pub ask_seen : (t : Tree) (ts : Trees) (operation : Operation) (b : Option (List ℕ)) (r : Result AskedOf OutsideKind) → Some ts ≡ as_structure t → Ok operation ≡ operation_in ts
+    → b ≡ value_in (at as_bytes 0x42_0093 ts) → r ≡ payload_asked operation ts → map_ok (λ a. record { batch_id = b; asked = a }) r ≡ ask_in t
+unfolding ask_in whole made
+ask_seen t ts operation b r e o be re =
+    ap (λ (x : Option (List ℕ)). map_ok (made x) r) be
+    ∙ ap (map_ok (ask_at ts)) re
+    ∙ ap (λ (q : Result Operation OutsideKind). map_ok (ask_at ts) (and_then (λ p. payload_asked p ts) q)) o
+    ∙ ap (λ (u : Option Trees). whole (or_none u)) e
+
+-- the payload as the program has it
+abbrev pub asked_view : Unit {0} × Asked → AskedOf
+asked_view p = asked_of p.1
+
+pub seen_asked : (operation : Operation) (ts : Trees) (shape : Result (Unit {0}) OutsideKind) (us : Trees) (asked : Result Asked OutsideKind) (rows : Result (Unit {0} × Asked) OutsideKind)
+    → rows ≡ both kind_number shape asked → shape ≡ unless_wrong (at as_structure 0x42_0079 ts) Missing → map_ok asked_of asked ≡ asked_in operation us → us ≡ inside 0x42_0079 ts
+    → map_ok asked_view rows ≡ payload_asked operation ts
+seen_asked operation ts shape us asked rows e s a u =
+    seen (λ q. q.1) (λ q. (q.0, asked_of q.1)) rows (both kind_number (unless_wrong (at as_structure 0x42_0079 ts) Missing) (asked_in operation (inside 0x42_0079 ts)))
+    (right_seen kind_number asked_of shape asked rows (unless_wrong (at as_structure 0x42_0079 ts) Missing) (asked_in operation (inside 0x42_0079 ts)) e s (a ∙ ap (asked_in operation) u))

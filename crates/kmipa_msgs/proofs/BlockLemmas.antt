@@ -1,20 +1,23 @@
 -- Key blocks are read.
-use Rattle.std.proofs.Common.{◌≡◌, ℕ, ℤ, List, Option, Result, refl, inl, inr, ◌⊎◌}
+use Rattle.std.proofs.Common.{◌≡◌, ℕ, ℤ, List, Option, Result, refl, ap, ◌∙◌, inl, inr}
 use Rattle.kmipa_ttlv.specs.Tree.{Trees}
-use Rattle.kmipa_attrs.specs.Fields.{first, at, inside, in_field, as_structure, as_enumeration, as_integer, as_bytes}
-use Rattle.kmipa_attrs.specs.Readings.{Reads, Optional, IsWrong, NeededFault, needed, optional, both, map_ok}
+use Rattle.kmipa_attrs.specs.Fields.{first, at, inside, in_field, map_field, as_structure, as_enumeration, as_integer, as_bytes}
+use Rattle.kmipa_attrs.specs.Readings.{Reads, needed, optional, both, map_ok}
 use Rattle.kmipa_attrs.specs.declared.fields.Field.{Field}
 use Rattle.kmipa_attrs.specs.declared.fields.Field.TheVariants.{Absent, Wrong, There}
 use Rattle.kmipa_attrs.proofs.ReadingLemmas.{reads_both, reads_as, reads_optional, reads_needed}
+use Rattle.kmipa_msgs.specs.declared.key_block.KeyFormat.{KeyFormat}
 use Rattle.kmipa_msgs.specs.declared.kind.OutsideKind.{OutsideKind}
 use Rattle.kmipa_msgs.specs.declared.kind.OutsideKind.TheVariants.{Wrapped, Format, Missing}
 use Rattle.kmipa_msgs.specs.Kinds.{kind_number}
 use Rattle.kmipa_msgs.specs.Numbers.{format_of}
-use Rattle.kmipa_msgs.specs.Messages.{BlockOf}
-use Rattle.kmipa_msgs.specs.Tables.{Listed, Unlisted, IsThere}
+use Rattle.kmipa_msgs.specs.Messages.{lent, BlockOf}
+use Rattle.kmipa_msgs.specs.Tables.{listed, there, unless_there}
 use Rattle.kmipa_msgs.specs.KeyBlocks.{SaysBlock, BlockFault, block_rows, block_at, block_in}
 use Rattle.kmipa_msgs.specs.KeyBlocks.BlockFault.{in_wrapping, in_format, in_format_number, in_value, in_material, in_algorithm, in_length}
+use Rattle.kmipa_msgs.proofs.ViewLemmas.{seen, right_seen, needed_seen}
 use Rattle.kmipa_msgs.proofs.TableLemmas.{reads_unless, reads_there, reads_listed}
+use denote.Bor.{Bor}
 
 -- where the material is said, the value is a structure
 value_of_material : (ts : Trees) (bs : List ℕ) → at as_bytes 0x42_0043 (inside 0x42_0045 ts) ≡ There bs → (us : Trees) × (at as_structure 0x42_0045 ts ≡ There us)
@@ -54,3 +57,26 @@ reads_block ts =
       | in_length e w ↦ inl (inl (inr (e, w)))
     ])
     rows
+
+-- the rows but for the material
+abbrev pub Plain : Type 0
+Plain = ((KeyFormat × Option ℕ) × Option ℤ) × (Unit {0} × Unit {0})
+
+abbrev pub plain_rows : Trees → Result Plain OutsideKind
+plain_rows ts =
+    both kind_number
+    (both kind_number (both kind_number (listed (at as_enumeration 0x42_0042 ts) format_of Missing Format) (optional (at as_enumeration 0x42_0028 ts) Missing)) (optional (at as_integer 0x42_002A ts) Missing))
+    (both kind_number (unless_there (first 0x42_0046 ts) Wrapped) (there (at as_structure 0x42_0045 ts) Missing Format))
+
+abbrev pub block_view : Plain × Bor (List ℕ) → BlockOf
+block_view p = block_at (p.0, lent p.1)
+
+-- the rows as the program has them
+pub seen_block : (ts us : Trees) (plain : Result Plain OutsideKind) (field : Field (Bor (List ℕ))) (material : Result (Bor (List ℕ)) OutsideKind) (rows : Result (Plain × Bor (List ℕ)) OutsideKind)
+    → rows ≡ both kind_number plain material → plain ≡ plain_rows ts → us ≡ inside 0x42_0045 ts → map_field lent field ≡ at as_bytes 0x42_0043 us → material ≡ needed field Missing Format
+    → map_ok block_view rows ≡ block_in ts
+unfolding block_in
+seen_block ts us plain field material rows e p u f m =
+    seen block_at (λ q. (q.0, lent q.1)) rows (block_rows ts)
+    (right_seen kind_number lent plain material rows (plain_rows ts) (needed (at as_bytes 0x42_0043 (inside 0x42_0045 ts)) Missing Format) e p
+    (needed_seen lent field (at as_bytes 0x42_0043 (inside 0x42_0045 ts)) Missing Format material m (f ∙ ap (at as_bytes 0x42_0043) u)))

@@ -1,3 +1,7 @@
+pub mod ViewLemmas
+pub mod ItemLemmas
+pub mod HeaderLemmas
+pub mod ObjectLemmas
 pub mod TableLemmas
 pub mod OutsideLemmas
 pub mod BlockLemmas

@@ -1,12 +1,12 @@
 -- Items and messages are read.
-use Rattle.std.proofs.Common.{◌≡◌, ◌<◌, ◌+◌, ℕ, zero, suc, List, [], ◌∷◌, Result, Ok, Err, refl, sym, ap, ◌∙◌, subst, arith}
+use Rattle.std.proofs.Common.{inl, inr, ◌≡◌, ◌<◌, ℕ, zero, suc, List, [], ◌∷◌, Result, Ok, Err, refl, sym, ap, ◌∙◌, subst, arith}
 use Rattle.kmipa_ttlv.specs.Tree.{Tree}
-use Rattle.kmipa_attrs.specs.Readings.{Reads}
+use Rattle.kmipa_attrs.specs.Readings.{Reads, map_ok}
 use Rattle.kmipa_msgs.specs.declared.fault.ReadFault.{ReadFault}
 use Rattle.kmipa_msgs.specs.declared.fault.ReadFault
 use Rattle.kmipa_msgs.specs.declared.kind.OutsideKind.{OutsideKind}
 use Rattle.kmipa_msgs.specs.Kinds.{kind_number}
-use Rattle.kmipa_msgs.specs.Outside.{Inside, OutsideAt, Tells, SaysEach, EachFault, ByItem, ReadsAt, before, each_in, headed, alone, Gives}
+use Rattle.kmipa_msgs.specs.Outside.{Decided, Inside, OutsideAt, Tells, SaysEach, EachFault, ByItem, ReadsAt, before, each_in, headed, alone, Gives}
 
 -- one item before the others
 reads_before : {X : Type 0} (Said : ℕ → Tree → X → Type 0) (Fault : ℕ → Tree → OutsideKind → Type 0) (t : Tree) (ts : List Tree) (r : Result X OutsideKind) (rest : Result (List X) (ℕ × OutsideKind))
@@ -78,3 +78,21 @@ pub tells : {X M : Type 0} (meaning : X → M) (Said : M → Type 0) (Fault : �
 tells {X} {M} meaning Said Fault (Ok x) r e h = let P : Result M (ℕ × OutsideKind) → Type 0 = ReadsAt Said Fault in subst P e h
 tells {X} {M} meaning Said Fault (Err (ReadFault.TheVariants.Outside o)) r e h = let P : Result M (ℕ × OutsideKind) → Type 0 = ReadsAt Said Fault in subst P e h
 tells meaning Said Fault (Err ReadFault.TheVariants.Memory) r e h = tt
+
+-- items that are at fault, in a message whose header is not
+pub gives_items : {X Y M N : Type 0} (meaning : Y → N) (read : X → M) (make : M → N) (fault : ReadFault) (rest : Result M (ℕ × OutsideKind)) (whole : Result N (ℕ × OutsideKind))
+    → Gives read (Err fault) rest → whole ≡ map_ok make rest → Gives meaning (Err fault) whole
+gives_items meaning read make (ReadFault.TheVariants.Outside o) rest whole e h = h ∙ ap (map_ok make) e
+gives_items meaning read make ReadFault.TheVariants.Memory rest whole e h = tt
+
+-- a part that stands alone
+pub inside_alone : {M : Type 0} (Said : M → Type 0) (Fault : OutsideKind → Type 0) (r : Result M OutsideKind) (m : M) → Ok m ≡ r → Reads kind_number Said Fault r → Inside Said (ByItem Fault (λ i k. ⊥)) m
+inside_alone {M} Said Fault r m e h = let P : Result M OutsideKind → Type 0 = λ q. ReadsAt Said (ByItem Fault (λ i k. ⊥)) (alone q) in subst P (sym e) (reads_alone Said Fault r h)
+
+pub outside_alone : {M : Type 0} (Said : M → Type 0) (Fault : OutsideKind → Type 0) (r : Result M OutsideKind) (k : OutsideKind) → Err k ≡ r → Reads kind_number Said Fault r → OutsideAt (ByItem Fault (λ i k. ⊥)) 0 k
+outside_alone {M} Said Fault r k e h = let P : Result M OutsideKind → Type 0 = λ q. ReadsAt Said (ByItem Fault (λ i k. ⊥)) (alone q) in subst P (sym e) (reads_alone Said Fault r h)
+
+-- every reading decides
+pub decided : {M : Type 0} (Said : M → Type 0) (Fault : ℕ → OutsideKind → Type 0) (r : Result M (ℕ × OutsideKind)) → ReadsAt Said Fault r → Decided Said Fault
+decided Said Fault (Ok m) h = inl (m, h)
+decided Said Fault (Err p) h = inr (p.0, p.1, h)

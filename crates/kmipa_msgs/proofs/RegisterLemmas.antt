@@ -1,11 +1,12 @@
 -- Registers and their answers are read.
-use Rattle.std.proofs.Common.{◌≡◌, ◌≤◌, ◌<◌, ℕ, Bool, true, false, ◌==◌, ◌&&◌, List, Option, Some, None, Result, Ok, Err, refl, sym, ap, ◌∙◌, subst, inl, inr, ◌⊎◌, arith, eqb-true}
+use Rattle.std.proofs.Common.{◌≡◌, ◌≤◌, ℕ, Bool, true, false, ◌==◌, ◌&&◌, List, Option, Some, None, Result, Ok, Err, refl, sym, ap, ◌∙◌, subst, inl, inr, ◌⊎◌, arith, eqb-true}
 use Rattle.kmipa_ttlv.specs.Tree.{Trees}
 use Rattle.kmipa_attrs.specs.Attributes.{attr_number, SaysAttributes, AttributesFault, attributes_in}
-use Rattle.kmipa_attrs.specs.Fields.{first, at, inside, as_structure, as_enumeration, as_integer, as_bytes, as_text}
+use Rattle.kmipa_attrs.specs.Fields.{at, inside, map_field, as_structure, as_enumeration, as_bytes, as_text}
 use Rattle.kmipa_attrs.specs.ObjectTypes.{type_number, type_of}
-use Rattle.kmipa_attrs.specs.Readings.{Reads, Says, Lowest, NeededFault, IsWrong, map_ok, passing}
-use Rattle.kmipa_attrs.specs.Sets.{Attributes}
+use Rattle.kmipa_attrs.specs.Readings.{Reads, NeededFault, needed, optional, both, map_ok, kept_if, passing}
+use Rattle.kmipa_attrs.specs.Sets.{Attributes, attributes_of}
+use Rattle.kmipa_attrs.specs.declared.attr_set.AttrSet.{AttrSet}
 use Rattle.kmipa_attrs.specs.declared.fault.AttrFault.{AttrFault}
 use Rattle.kmipa_attrs.specs.declared.fields.Field.{Field}
 use Rattle.kmipa_attrs.specs.declared.fields.Field.TheVariants.{Absent, Wrong, There}
@@ -16,16 +17,19 @@ use Rattle.kmipa_attrs.proofs.AttrLemmas.{reads_attributes}
 use Rattle.kmipa_msgs.specs.declared.kind.OutsideKind.{OutsideKind}
 use Rattle.kmipa_msgs.specs.declared.kind.OutsideKind.TheVariants.{ObjectType, IdentifierForm, Wrapped, Format, Missing, Attribute, Disagree}
 use Rattle.kmipa_msgs.specs.Kinds.{kind_number}
-use Rattle.kmipa_msgs.specs.Messages.{RegisterOf, RegisteredOf}
-use Rattle.kmipa_msgs.specs.Tables.{Listed, Unlisted}
-use Rattle.kmipa_msgs.specs.KeyBlocks.{BlockFault}
+use Rattle.kmipa_msgs.specs.Messages.{lent, block_of, RegisterOf, RegisteredOf}
+use Rattle.kmipa_msgs.specs.declared.key_block.KeyBlock.{KeyBlock}
+use Rattle.kmipa_msgs.specs.Tables.{Unlisted, listed}
+use Rattle.kmipa_msgs.specs.KeyBlocks.{BlockFault, block_in}
 use Rattle.kmipa_msgs.specs.KeyBlocks.BlockFault.{in_wrapping, in_format, in_format_number, in_value, in_material, in_algorithm, in_length}
 use Rattle.kmipa_msgs.specs.Objects.{shape_in, block_inside}
-use Rattle.kmipa_msgs.specs.Registers.{SaysGiven, GivenFault, Brought, SaysBrought, agree, agrees, brought_by, SaysRegister, Disagreeing, RegisterFault, attribute_kind, given_in, known, unless_unlisted, brought_rows, brought_at, register_at, register_in, SaysRegistered, RegisteredFault, registered_rows, registered_at, registered_in}
+use Rattle.kmipa_msgs.specs.Registers.{SaysGiven, GivenFault, BroughtOf, SaysBrought, agrees, brought_by, SaysRegister, RegisterFault, attribute_kind, given_in, known, unless_unlisted, brought_rows, brought_at, brought_in, register_at, register_in, SaysRegistered, RegisteredFault, registered_rows, registered_at, registered_in}
 use Rattle.kmipa_msgs.specs.Registers.RegisterFault.{in_object_type, in_type_number, in_attributes, in_attribute_type, in_object, in_block, in_brought}
 use Rattle.kmipa_msgs.specs.Registers.RegisteredFault.{in_type, in_identifier}
 use Rattle.kmipa_msgs.proofs.TableLemmas.{same_kind, reads_listed}
 use Rattle.kmipa_msgs.proofs.BlockLemmas.{reads_block}
+use Rattle.kmipa_msgs.proofs.ViewLemmas.{seen, both_seen, right_seen, needed_seen}
+use denote.Bor.{Bor}
 
 -- attributes
 reads_kind : (ts : Trees) (r : Result Attributes AttrFault) → Reads attr_number (SaysAttributes ts) (AttributesFault Client ts) r → Reads kind_number (SaysAttributes ts) (GivenFault (There ts)) (attribute_kind r)
@@ -56,20 +60,21 @@ reads_unless_unlisted (There n) table off = known_at n table off (table n) refl
 
 -- the parts
 abbrev PartFault : Trees → OutsideKind → Type 0
-PartFault ts k = ((((NeededFault (at as_enumeration 0x42_0057 ts) Missing Missing k ⊎ ((k ≡ ObjectType) × Unlisted (at as_enumeration 0x42_0057 ts) type_of)) ⊎ NeededFault (shape_in ts) Missing Missing k) ⊎ ((k ≡ ObjectType) × Unlisted (at as_enumeration 0x42_0057 (inside 0x42_0125 ts)) type_of)) ⊎ GivenFault (at as_structure 0x42_0125 ts) k) ⊎ BlockFault (block_inside ts) k
+PartFault ts k = ((((NeededFault (at as_enumeration 0x42_0057 ts) Missing Missing k ⊎ ((k ≡ ObjectType) × Unlisted (at as_enumeration 0x42_0057 ts) type_of)) ⊎ NeededFault (shape_in ts) Missing Missing k) ⊎ ((k ≡ ObjectType) × Unlisted (at as_enumeration 0x42_0057 (inside 0x42_0125 ts)) type_of)) ⊎ BlockFault (block_inside ts) k) ⊎ GivenFault (at as_structure 0x42_0125 ts) k
 
-reads_brought : (ts : Trees) → Reads kind_number (SaysBrought ts) (PartFault ts) (map_ok brought_at (brought_rows ts))
+reads_brought : (ts : Trees) → Reads kind_number (SaysBrought ts) (PartFault ts) (brought_in ts)
+unfolding brought_in
 reads_brought ts =
     reads_as kind_number _ _ (SaysBrought ts) (PartFault ts) brought_at (brought_rows ts)
-    (λ p s. record { object_type = s.0.0.0.0; shape = s.0.0.0.1; attributes = s.0.1; block = s.1 })
-    (λ y t. (((((y.object_type, y.shape), tt), y.attributes), y.block), ((((t.object_type, t.shape), tt), t.attributes), t.block), refl))
+    (λ p s. record { object_type = s.0.0.0.0; shape = s.0.0.0.1; attributes = s.1; block = s.0.1 })
+    (λ y t. (((((y.object_type, y.shape), tt), y.block), y.attributes), ((((t.object_type, t.shape), tt), t.block), t.attributes), refl))
     (λ k f. f)
     (λ k f. f)
     (reads_both kind_number _ _ _ _ _ _
     (reads_both kind_number _ _ _ _ _ _
     (reads_both kind_number _ _ _ _ _ _ (reads_both kind_number _ _ _ _ _ _ (reads_listed (at as_enumeration 0x42_0057 ts) type_of Missing ObjectType) (reads_needed kind_number Missing Missing (shape_in ts))) (reads_unless_unlisted (at as_enumeration 0x42_0057 (inside 0x42_0125 ts)) type_of ObjectType))
-    (reads_given (at as_structure 0x42_0125 ts)))
     (reads_block (block_inside ts)))
+    (reads_given (at as_structure 0x42_0125 ts)))
 
 -- no part is of a kind above Disagree
 low : (k j : OutsideKind) → kind_number j ≤ 12 → k ≡ j → kind_number k ≤ 12
@@ -106,9 +111,9 @@ low_part ts k f = elim f [
       ]
       | inr w ↦ low k ObjectType (omega arith) w.0
     ]
-    | inr w ↦ low_given (at as_structure 0x42_0125 ts) k w
+    | inr w ↦ low_block (block_inside ts) k w
   ]
-  | inr w ↦ low_block (block_inside ts) k w
+  | inr w ↦ low_given (at as_structure 0x42_0125 ts) k w
 ]
 
 -- types with one number are one
@@ -124,7 +129,7 @@ and_left : (x y : Bool) → (x && y) ≡ true → x ≡ true
 and_left true y e = refl
 and_left false y e = e
 
-same_shape : (b : Brought) → agrees b ≡ true → b ≡ brought_by (register_at b)
+same_shape : (b : BroughtOf) → agrees b ≡ true → b ≡ brought_by (register_at b)
 same_shape b e =
     let n : (type_number b.object_type == type_number b.shape) ≡ true = and_left _ _ (and_left _ _ (and_left _ _ e)) in
     ap (λ (t : ObjectType.ObjectType). record { object_type = b.object_type; shape = t; attributes = b.attributes; block = b.block }) (sym (same_type b.object_type b.shape (eqb-true _ _ n)))
@@ -132,14 +137,14 @@ same_shape b e =
 pub reads_register : (ts : Trees) → Reads kind_number (SaysRegister ts) (RegisterFault ts) (register_in ts)
 unfolding register_in
 reads_register ts =
-    reads_as kind_number (λ b. SaysBrought ts b × (agrees b ≡ true)) (λ k. PartFault ts k ⊎ ((k ≡ Disagree) × ((b : Brought) × SaysBrought ts b × (agrees b ≡ false)))) (SaysRegister ts) (RegisterFault ts) register_at
-    (passing agrees Disagree (map_ok brought_at (brought_rows ts)))
+    reads_as kind_number (λ b. SaysBrought ts b × (agrees b ≡ true)) (λ k. PartFault ts k ⊎ ((k ≡ Disagree) × ((b : BroughtOf) × SaysBrought ts b × (agrees b ≡ false)))) (SaysRegister ts) (RegisterFault ts) register_at
+    (passing agrees Disagree (brought_in ts))
     (λ b s. record { brought = subst (SaysBrought ts) (same_shape b s.1) s.0; agrees = ap agrees (sym (same_shape b s.1)) ∙ s.1 })
     (λ y t. (brought_by y, (t.brought, t.agrees), refl))
     told back
-    (reads_passing kind_number (SaysBrought ts) (PartFault ts) agrees Disagree (map_ok brought_at (brought_rows ts)) (λ k b w s. low_part ts k w) (reads_brought ts))
+    (reads_passing kind_number (SaysBrought ts) (PartFault ts) agrees Disagree (brought_in ts) (λ k b w s. low_part ts k w) (reads_brought ts))
   where
-    told : (k : OutsideKind) → PartFault ts k ⊎ ((k ≡ Disagree) × ((b : Brought) × SaysBrought ts b × (agrees b ≡ false))) → RegisterFault ts k
+    told : (k : OutsideKind) → PartFault ts k ⊎ ((k ≡ Disagree) × ((b : BroughtOf) × SaysBrought ts b × (agrees b ≡ false))) → RegisterFault ts k
     told k f = elim f [
       | inl g ↦ elim g [
         | inl h ↦ elim h [
@@ -147,21 +152,21 @@ reads_register ts =
             | inl n ↦ elim n [ inl o ↦ elim o [ inl w ↦ in_object_type w | inr w ↦ in_type_number w.0 w.1 ] | inr w ↦ in_object w ]
             | inr w ↦ in_attribute_type w.0 w.1
           ]
-          | inr w ↦ in_attributes w
+          | inr w ↦ in_block w
         ]
-        | inr w ↦ in_block w
+        | inr w ↦ in_attributes w
       ]
       | inr g ↦ in_brought g.0 (record { brought = g.1.0; said = g.1.1; differ = g.1.2 })
     ]
 
-    back : (k : OutsideKind) → RegisterFault ts k → PartFault ts k ⊎ ((k ≡ Disagree) × ((b : Brought) × SaysBrought ts b × (agrees b ≡ false)))
+    back : (k : OutsideKind) → RegisterFault ts k → PartFault ts k ⊎ ((k ≡ Disagree) × ((b : BroughtOf) × SaysBrought ts b × (agrees b ≡ false)))
     back k f = elim f [
       | in_object_type w ↦ inl (inl (inl (inl (inl (inl w)))))
       | in_type_number e w ↦ inl (inl (inl (inl (inl (inr (e, w))))))
-      | in_attributes w ↦ inl (inl (inr w))
+      | in_attributes w ↦ inl (inr w)
       | in_attribute_type e w ↦ inl (inl (inl (inr (e, w))))
       | in_object w ↦ inl (inl (inl (inl (inr w))))
-      | in_block w ↦ inl (inr w)
+      | in_block w ↦ inl (inl (inr w))
       | in_brought e w ↦ inr (e, (w.brought, w.said, w.differ))
     ]
 
@@ -175,3 +180,53 @@ reads_registered ts =
     (λ k f. elim f [ inl w ↦ in_type w.0 w.1 | inr w ↦ in_identifier w ])
     (λ k f. elim f [ in_type e w ↦ inl (e, w) | in_identifier w ↦ inr w ])
     (reads_both kind_number _ _ _ _ _ _ (reads_optional kind_number Missing (at as_enumeration 0x42_0057 ts)) (reads_needed kind_number Missing IdentifierForm (at as_text 0x42_0094 ts)))
+
+-- the parts as the program has them
+abbrev pub Types : Type 0
+Types = (ObjectType.ObjectType × ObjectType.ObjectType) × Unit {0}
+
+abbrev pub types_rows : Trees → Result Types OutsideKind
+types_rows ts = both kind_number (both kind_number (listed (at as_enumeration 0x42_0057 ts) type_of Missing ObjectType) (needed (shape_in ts) Missing Missing)) (unless_unlisted (at as_enumeration 0x42_0057 (inside 0x42_0125 ts)) type_of ObjectType)
+
+abbrev pub brought_view : (Types × KeyBlock) × AttrSet → BroughtOf
+brought_view p = brought_at ((p.0.0, block_of p.0.1), attributes_of p.1)
+
+pub seen_brought : (ts us : Trees) (types : Result Types OutsideKind) (block : Result KeyBlock OutsideKind) (plain : Result (Types × KeyBlock) OutsideKind) (given : Result AttrSet OutsideKind) (rows : Result ((Types × KeyBlock) × AttrSet) OutsideKind)
+    → rows ≡ both kind_number plain given → plain ≡ both kind_number types block → types ≡ types_rows ts → map_ok block_of block ≡ block_in us → us ≡ block_inside ts
+    → map_ok attributes_of given ≡ given_in (at as_structure 0x42_0125 ts)
+    → map_ok brought_view rows ≡ brought_in ts
+unfolding brought_in
+seen_brought ts us types block plain given rows e p t b u g =
+    seen brought_at (λ q. ((q.0.0, block_of q.0.1), attributes_of q.1)) rows (brought_rows ts)
+    (both_seen kind_number (λ q. (q.0, block_of q.1)) attributes_of plain given rows (both kind_number (types_rows ts) (block_in (block_inside ts))) (given_in (at as_structure 0x42_0125 ts)) e
+    (right_seen kind_number block_of types block plain (types_rows ts) (block_in (block_inside ts)) p t (b ∙ ap block_in u))
+    g)
+
+-- the comparison
+made : Result BroughtOf OutsideKind → Result RegisterOf OutsideKind
+made r = map_ok register_at (passing agrees Disagree r)
+
+pub agreed : (ts : Trees) (b : BroughtOf) → Ok b ≡ brought_in ts → true ≡ agrees b → Ok (register_at b) ≡ register_in ts
+unfolding register_in made
+agreed ts b h e = ap (λ (k : Bool). map_ok register_at (kept_if k b Disagree)) e ∙ ap made h
+
+pub disagreed : (ts : Trees) (b : BroughtOf) → Ok b ≡ brought_in ts → false ≡ agrees b → Err Disagree ≡ register_in ts
+unfolding register_in made
+disagreed ts b h e = ap (λ (k : Bool). map_ok register_at (kept_if k b Disagree)) e ∙ ap made h
+
+pub unread : (ts : Trees) (k : OutsideKind) → Err k ≡ brought_in ts → Err k ≡ register_in ts
+unfolding register_in made
+unread ts k h = ap made h
+
+-- the rows of the answer
+abbrev pub registered_view : Option ℕ × Bor (List ℕ) → RegisteredOf
+registered_view p = registered_at (p.0, lent p.1)
+
+pub seen_registered : (ts : Trees) (object_type : Result (Option ℕ) OutsideKind) (field : Field (Bor (List ℕ))) (id : Result (Bor (List ℕ)) OutsideKind) (rows : Result (Option ℕ × Bor (List ℕ)) OutsideKind)
+    → rows ≡ both kind_number object_type id → object_type ≡ optional (at as_enumeration 0x42_0057 ts) Missing → map_field lent field ≡ at as_text 0x42_0094 ts → id ≡ needed field Missing IdentifierForm
+    → map_ok registered_view rows ≡ registered_in ts
+unfolding registered_in
+seen_registered ts object_type field id rows e o f i =
+    seen registered_at (λ q. (q.0, lent q.1)) rows (registered_rows ts)
+    (right_seen kind_number lent object_type id rows (optional (at as_enumeration 0x42_0057 ts) Missing) (needed (at as_text 0x42_0094 ts) Missing IdentifierForm) e o
+    (needed_seen lent field (at as_text 0x42_0094 ts) Missing IdentifierForm id i f))

@@ -1,9 +1,16 @@
 -- The items of responses are read.
-use Rattle.std.proofs.Common.{◌≡◌, ◌<◌, ℕ, zero, suc, Bool, false, ◌==◌, List, Option, Some, None, Result, Ok, Err, refl, sym, ap, ◌∙◌, subst, inl, inr, ◌⊎◌, arith}
+use Rattle.std.proofs.Common.{◌≡◌, ◌<◌, ℕ, zero, suc, false, ◌==◌, List, [], ◌∷◌, length, map, Option, Some, None, Result, Ok, Err, refl, sym, ap, ◌∙◌, subst, inl, inr, arith}
 use Rattle.std.proofs.lemmas.Bool.{ne_eqb}
-use Rattle.kmipa_ttlv.specs.Tree.{Tree, Trees}
-use Rattle.kmipa_attrs.specs.Fields.{first, at, value_in, as_enumeration, as_bytes}
-use Rattle.kmipa_attrs.specs.Readings.{Reads, IsWrong, NeededFault, map_ok}
+use Rattle.std.specs.Option.{option_map}
+use Rattle.std.specs.List.{slice_get}
+use Rattle.std.specs.Slice.{IsItemAt}
+use Rattle.std.proofs.lemmas.Option.{slice_get-map, slice_get_past, slice_get_read}
+use denote.Bor.{Bor}
+use Rattle.kmipa_ttlv.specs.Tree.{Tree, Trees, structure, scalar, none, more}
+use Rattle.kmipa_ttlv.specs.ViewTree.{view_trees}
+use Rattle.kmipa_ttlv.specs.declared.view.View.{View}
+use Rattle.kmipa_attrs.specs.Fields.{first, at, value_in, or_none, as_structure, as_enumeration, as_bytes}
+use Rattle.kmipa_attrs.specs.Readings.{Reads, optional, both, map_ok, and_then}
 use Rattle.kmipa_attrs.specs.declared.fields.Field.{Field}
 use Rattle.kmipa_attrs.specs.declared.fields.Field.TheVariants.{Absent, Wrong, There}
 use Rattle.kmipa_attrs.proofs.ReadingLemmas.{reads_both, reads_as, reads_then, reads_optional}
@@ -14,13 +21,16 @@ use Rattle.kmipa_msgs.specs.declared.response.Status.{Status}
 use Rattle.kmipa_msgs.specs.declared.response.Status.TheVariants.{Success, Failed, Undone}
 use Rattle.kmipa_msgs.specs.Kinds.{kind_number}
 use Rattle.kmipa_msgs.specs.Numbers.{status_of}
-use Rattle.kmipa_msgs.specs.Messages.{AskOf, PayloadOf, AnswerOf}
-use Rattle.kmipa_msgs.specs.Tables.{children, Listed, Unlisted, of_table}
+use Rattle.kmipa_msgs.specs.Messages.{AskOf, ask_of, PayloadOf, payload_of, AnswerOf}
+use Rattle.kmipa_msgs.specs.declared.request.Ask.{Ask}
+use Rattle.kmipa_msgs.specs.declared.response.Payload.{Payload}
+use Rattle.kmipa_msgs.specs.Tables.{children, Listed, of_table}
 use Rattle.kmipa_msgs.specs.Payloads.{SaysPayloadOf, PayloadOfFault, payload_in}
-use Rattle.kmipa_msgs.specs.Replies.{own, SaysRequired, RequiredFault, SaysMaybe, MaybeFault, filled, SaysShown, ShownFault, StatusFault, SaysAnswer, AnswerFault, status_in, required_in, maybe_in, shown_in, beside, done_at, answer_rows, answer_at, answer_in}
+use Rattle.kmipa_msgs.specs.Replies.{own, SaysRequired, RequiredFault, SaysMaybe, MaybeFault, filled, SaysShown, ShownFault, StatusFault, SaysAnswer, AnswerFault, status_in, required_in, maybe_in, shown_in, beside, outcome_in, answer_rows, answer_at, answer_in, is_bare, outcome_of}
 use Rattle.kmipa_msgs.specs.Replies.StatusFault.{unread, pending, unknown}
 use Rattle.kmipa_msgs.specs.Replies.AnswerFault.{in_operation, in_status, in_reason, in_payload}
 use Rattle.kmipa_msgs.proofs.TableLemmas.{same_kind, one_listed, apart_needed}
+use Rattle.kmipa_msgs.proofs.ViewLemmas.{seen, right_seen}
 use Rattle.kmipa_msgs.proofs.PayloadLemmas.{reads_payload}
 
 -- the status
@@ -185,3 +195,56 @@ reads_answer a t =
   where
     whole : AnswerOf → Option (List ℕ) → AnswerOf
     whole y b = record { operation = y.operation; batch_id = b; status = y.status; reason = y.reason; payload = y.payload }
+
+-- an item as the program has it: no structure, and one
+whole : Option AskOf → Trees → Result AnswerOf OutsideKind
+whole a ts = map_ok (answer_at ts) (answer_rows a ts)
+
+pub no_answer : (a : Option AskOf) (t : Tree) → None ≡ as_structure t → Err Missing ≡ answer_in a t
+unfolding answer_in whole first
+no_answer a t e = ap (λ (o : Option Trees). whole a (or_none o)) e
+
+abbrev pub answer_view : Option (List ℕ) → (Option ℕ × Option ℕ) × (Status × Option Payload) → AnswerOf
+answer_view b p = record { operation = p.0.0; batch_id = b; status = p.1.0; reason = p.0.1; payload = option_map payload_of p.1.1 }
+
+pub seen_answer : (a : Option AskOf) (t : Tree) (ts : Trees) (b : Option (List ℕ)) (plain : Result (Option ℕ × Option ℕ) OutsideKind) (outcome : Result (Status × Option Payload) OutsideKind) (rows : Result ((Option ℕ × Option ℕ) × (Status × Option Payload)) OutsideKind)
+    → Some ts ≡ as_structure t → b ≡ value_in (at as_bytes 0x42_0093 ts) → rows ≡ both kind_number plain outcome
+    → plain ≡ both kind_number (optional (at as_enumeration 0x42_005C ts) Missing) (optional (at as_enumeration 0x42_007E ts) Missing)
+    → map_ok outcome_of outcome ≡ outcome_in (own a (at as_enumeration 0x42_005C ts)) ts
+    → map_ok (answer_view b) rows ≡ answer_in a t
+unfolding answer_in whole
+seen_answer a t ts b plain outcome rows te be e p o =
+    ap (λ (x : Option (List ℕ)). map_ok (answer_view x) rows) be
+    ∙ seen (answer_at ts) (λ q. (q.0, outcome_of q.1)) rows (answer_rows a ts)
+    (right_seen kind_number outcome_of plain outcome rows (both kind_number (optional (at as_enumeration 0x42_005C ts) Missing) (optional (at as_enumeration 0x42_007E ts) Missing)) (outcome_in (own a (at as_enumeration 0x42_005C ts)) ts) e p o)
+    ∙ ap (λ (u : Option Trees). whole a (or_none u)) te
+
+-- the outcome as the program has it
+pub no_status : (operation : Option Operation) (ts : Trees) (k : OutsideKind) → Err k ≡ status_in (at as_enumeration 0x42_007F ts) → Err k ≡ outcome_in operation ts
+no_status operation ts k e = ap (and_then (λ status. beside status (shown_in operation status (first 0x42_007C ts)))) e
+
+pub outcome_seen : (operation : Option Operation) (ts : Trees) (status : Status) (t : Option Tree) (r : Result (Option PayloadOf) OutsideKind) → Ok status ≡ status_in (at as_enumeration 0x42_007F ts) → t ≡ first 0x42_007C ts
+    → r ≡ shown_in operation status t → map_ok (λ p. (status, p)) r ≡ outcome_in operation ts
+outcome_seen operation ts status t r s te re =
+    ap (beside status) re
+    ∙ ap (λ (u : Option Tree). beside status (shown_in operation status u)) te
+    ∙ ap (and_then (λ z. beside z (shown_in operation z (first 0x42_007C ts)))) s
+
+-- a structure without children
+pub bare : (t : Tree) (vs : List View) → Some (view_trees vs) ≡ as_structure t → is_bare t ≡ (length vs == 0)
+unfolding as_structure
+bare (structure n none) [] e = refl
+bare (structure n none) (v ∷ vs) e = cc
+bare (structure n (more u us)) [] e = cc
+bare (structure n (more u us)) (v ∷ vs) e = sym (ne_eqb (length (v ∷ vs)) 0 (λ h. omega (arith, h)))
+bare (scalar n s) vs e = cc
+
+pub not_bare : (t : Tree) → None ≡ as_structure t → is_bare t ≡ false
+unfolding as_structure
+not_bare (structure n us) e = cc
+not_bare (scalar n s) e = refl
+
+-- the request's item at a place
+pub asked_at : (xs : List Ask) (i : ℕ) (r : Option (Bor Ask)) → IsItemAt xs i r → option_map (λ a. ask_of a.now) r ≡ slice_get (map ask_of xs) i
+asked_at xs i None h = sym (slice_get-map ask_of xs i ∙ ap (option_map ask_of) (slice_get_past xs i h.3))
+asked_at xs i (Some x) h = sym (slice_get-map ask_of xs i ∙ ap (option_map ask_of) (slice_get_read xs (length xs) i x.now refl h.3.0 h.1))

@@ -2,8 +2,8 @@
 use Rattle.std.proofs.Common.{◌≡◌, ◌<◌, ◌≤◌, ℕ, Bool, true, false, nat_lt, List, length, Option, Some, None, Result, Ok, Err, refl, sym, ap, ◌∙◌, inl, inr, ◌⊎◌, arith, ltb-true}
 use Rattle.std.proofs.lemmas.Bool.{ltb-false}
 use Rattle.kmipa_ttlv.specs.Tree.{Tree, Trees}
-use Rattle.kmipa_attrs.specs.Fields.{at, as_enumeration, as_boolean}
-use Rattle.kmipa_attrs.specs.Readings.{Reads, IsWrong, kept_if}
+use Rattle.kmipa_attrs.specs.Fields.{every, at, inside, as_enumeration, as_boolean}
+use Rattle.kmipa_attrs.specs.Readings.{Reads, IsWrong, both, kept_if, map_ok}
 use Rattle.kmipa_attrs.specs.declared.fields.Field.{Field}
 use Rattle.kmipa_attrs.specs.declared.fields.Field.TheVariants.{Absent, Wrong, There}
 use Rattle.kmipa_attrs.proofs.ReadingLemmas.{reads_both, reads_as}
@@ -13,14 +13,15 @@ use Rattle.kmipa_msgs.specs.declared.request.BatchOption.{BatchOption}
 use Rattle.kmipa_msgs.specs.Kinds.{kind_number}
 use Rattle.kmipa_msgs.specs.Numbers.{option_of}
 use Rattle.kmipa_msgs.specs.Messages.{AskOf, RequestOf}
-use Rattle.kmipa_msgs.specs.Tables.{of_table}
-use Rattle.kmipa_msgs.specs.Headers.{is_message, is_version, is_count, batch}
-use Rattle.kmipa_msgs.specs.Outside.{SaysEach, EachFault, ReadsAt, each_in}
+use Rattle.kmipa_msgs.specs.Tables.{children, of_table}
+use Rattle.kmipa_msgs.specs.Headers.{is_message, is_version, is_count, batch, gated}
+use Rattle.kmipa_msgs.specs.Outside.{SaysEach, EachFault, ReadsAt, each_in, from_one, headed}
 use Rattle.kmipa_msgs.specs.Asks.{SaysAsk, AskFault, ask_in}
-use Rattle.kmipa_msgs.specs.Requests.{request_header, SaysOption, OptionFault, SaysOrder, HeaderOf, SaysHeader, HeaderFault, header_of, SaysRequest, RequestFault, option_in, order_in, in_order, header_rows, header_at, header_in, request_at, request_in}
+use Rattle.kmipa_msgs.specs.Requests.{request_header, SaysOption, OptionFault, SaysOrder, SaysHeader, HeaderFault, header_of, SaysRequest, RequestFault, option_in, order_in, in_order, plain_rows, said_rows, order_said, header_at, header_in, request_at, request_in}
 use Rattle.kmipa_msgs.specs.Requests.HeaderFault.{in_message, in_version, in_count, in_option, in_ordered, in_batch}
 use Rattle.kmipa_msgs.proofs.TableLemmas.{same_kind, reads_test}
 use Rattle.kmipa_msgs.proofs.OutsideLemmas.{reads_each, reads_headed}
+use Rattle.kmipa_msgs.proofs.HeaderLemmas.{reads_gated}
 use Rattle.kmipa_msgs.proofs.AskLemmas.{reads_ask}
 
 option_at : (n : ℕ) (o : Option BatchOption) → option_of n ≡ o → Reads kind_number (SaysOption (There n)) (OptionFault (There n)) (of_table o Missing)
@@ -58,20 +59,27 @@ not_several (There false) n e h = by (nat_lt n 2) refl
     by true q = let lt : n < 2 = ltb-true _ _ q in let no : ⊥ = omega arith in absurd no
     by false q = refl
 
-abbrev RowFault : Tree → OutsideKind → Type 0
-RowFault t k = ((((k ≡ NotAMessage) × (is_message 0x42_0078 0x42_0077 t ≡ false)) ⊎ ((k ≡ Version) × (is_version (request_header t) ≡ false)))
-    ⊎ (((k ≡ Count) × (is_count (request_header t) (length (batch t)) ≡ false)) ⊎ ((k ≡ Unordered) × (in_order (at as_boolean 0x42_0010 (request_header t)) (length (batch t)) ≡ false))))
-    ⊎ (OptionFault (at as_enumeration 0x42_000E (request_header t)) k ⊎ ((k ≡ Missing) × IsWrong (at as_boolean 0x42_0010 (request_header t))))
-
--- what the rows say says that the items are in order, too
-abbrev RowSaid : Tree → ((Unit {0} × Unit {0}) × (Unit {0} × Unit {0})) × (BatchOption × Bool) → Type 0
-RowSaid t p = (((is_message 0x42_0078 0x42_0077 t ≡ true) × (is_version (request_header t) ≡ true)) × ((is_count (request_header t) (length (batch t)) ≡ true) × Unit {0}))
-    × (SaysOption (at as_enumeration 0x42_000E (request_header t)) p.1.0 × SaysOrder (at as_boolean 0x42_0010 (request_header t)) p.1.1)
-
 -- a test that takes nothing away from what is said
 reads_bar : (b : Bool) (k : OutsideKind) → Reads kind_number (λ (u : Unit {0}). Unit {0}) (λ j. (j ≡ k) × (b ≡ false)) (kept_if b tt k)
 reads_bar true k = record { said = tt; only = λ y e. refl; right = λ j h. let e : true ≡ false = h.1 in cc }
 reads_bar false k = record { here = (refl, refl); least = λ j lt h. same_kind j k lt h.0 }
+
+abbrev RowFault : Trees → ℕ → OutsideKind → Type 0
+RowFault hs n k = (((k ≡ Version) × (is_version hs ≡ false)) ⊎ (((k ≡ Count) × (is_count hs n ≡ false)) ⊎ ((k ≡ Unordered) × (in_order (at as_boolean 0x42_0010 hs) n ≡ false))))
+    ⊎ (OptionFault (at as_enumeration 0x42_000E hs) k ⊎ ((k ≡ Missing) × IsWrong (at as_boolean 0x42_0010 hs)))
+
+abbrev RowSaid : Trees → ℕ → BatchOption × Bool → Type 0
+RowSaid hs n p = ((is_version hs ≡ true) × (is_count hs n ≡ true)) × (SaysOption (at as_enumeration 0x42_000E hs) p.0 × SaysOrder (at as_boolean 0x42_0010 hs) p.1)
+
+reads_said : (hs : Trees) (n : ℕ) → Reads kind_number (RowSaid hs n) (RowFault hs n) (order_said hs n)
+unfolding order_said
+reads_said hs n =
+    let order = at as_boolean 0x42_0010 hs in
+    reads_as kind_number _ _ (RowSaid hs n) (RowFault hs n) (λ p. p.1) (both kind_number (plain_rows hs n) (said_rows hs))
+    (λ p s. ((s.0.0, s.0.1.0), s.1)) (λ y s. (((tt, (tt, tt)), y), ((s.0.0, (s.0.1, tt)), s.1), refl)) (λ k w. w) (λ k w. w)
+    (reads_both kind_number _ _ _ _ _ _
+    (reads_both kind_number _ _ _ _ _ _ (reads_test (is_version hs) Version) (reads_both kind_number _ _ _ _ _ _ (reads_test (is_count hs n) Count) (reads_bar (in_order order n) Unordered)))
+    (reads_both kind_number _ _ _ _ _ _ (reads_option (at as_enumeration 0x42_000E hs)) (reads_order order)))
 
 pub reads_header : (t : Tree) → Reads kind_number (SaysHeader t) (HeaderFault t) (header_in t)
 unfolding header_in
@@ -79,27 +87,25 @@ reads_header t =
     let hs = request_header t in
     let n = length (batch t) in
     let order = at as_boolean 0x42_0010 hs in
-    reads_as kind_number (RowSaid t) (RowFault t) (SaysHeader t) (HeaderFault t) header_at (header_rows t)
-    (λ p s. record { message = s.0.0.0; version = s.0.0.1; count = s.0.1.0; option = s.1.0; ordered = s.1.1 })
-    (λ h s. ((((tt, tt), (tt, tt)), (h.option, h.ordered)), (((s.message, s.version), (s.count, tt)), (s.option, s.ordered)), refl))
+    reads_gated (is_message 0x42_0078 0x42_0077 t) (RowSaid hs n) (RowFault hs n) (SaysHeader t) (HeaderFault t) header_at (order_said hs n)
+    (λ e p s. record { message = e; version = s.0.0; count = s.0.1; option = s.1.0; ordered = s.1.1 })
+    (λ h s. ((h.option, h.ordered), s.message, ((s.version, s.count), (s.option, s.ordered)), refl))
     (λ k w. elim w [
-      | inl a ↦ elim a [
-        | inl b ↦ elim b [ inl c ↦ in_message c.0 c.1 | inr c ↦ in_version c.0 c.1 ]
-        | inr b ↦ elim b [ inl c ↦ in_count c.0 c.1 | inr c ↦ let d = several order n c.1 in in_batch c.0 d.0 d.1 ]
+      | inl c ↦ in_message c.0 c.1
+      | inr a ↦ elim a [
+        | inl b ↦ elim b [ inl c ↦ in_version c.0 c.1 | inr d ↦ elim d [ inl c ↦ in_count c.0 c.1 | inr c ↦ let d = several order n c.1 in in_batch c.0 d.0 d.1 ] ]
+        | inr b ↦ elim b [ inl c ↦ in_option c | inr c ↦ in_ordered c.0 c.1 ]
       ]
-      | inr a ↦ elim a [ inl b ↦ in_option b | inr b ↦ in_ordered b.0 b.1 ]
     ])
     (λ k w. elim w [
-      | in_message e b ↦ inl (inl (inl (e, b)))
-      | in_version e b ↦ inl (inl (inr (e, b)))
-      | in_count e b ↦ inl (inr (inl (e, b)))
-      | in_option b ↦ inr (inl b)
-      | in_ordered e b ↦ inr (inr (e, b))
-      | in_batch e b lt ↦ inl (inr (inr (e, not_several order n b lt)))
+      | in_message e b ↦ inl (e, b)
+      | in_version e b ↦ inr (inl (inl (e, b)))
+      | in_count e b ↦ inr (inl (inr (inl (e, b))))
+      | in_option b ↦ inr (inr (inl b))
+      | in_ordered e b ↦ inr (inr (inr (e, b)))
+      | in_batch e b lt ↦ inr (inl (inr (inr (e, not_several order n b lt))))
     ])
-    (reads_both kind_number _ _ _ _ _ _
-    (reads_both kind_number _ _ _ _ _ _ (reads_both kind_number _ _ _ _ _ _ (reads_test (is_message 0x42_0078 0x42_0077 t) NotAMessage) (reads_test (is_version hs) Version)) (reads_both kind_number _ _ _ _ _ _ (reads_test (is_count hs n) Count) (reads_bar (in_order order n) Unordered)))
-    (reads_both kind_number _ _ _ _ _ _ (reads_option (at as_enumeration 0x42_000E hs)) (reads_order order)))
+    (reads_said hs n)
 
 -- THE THEOREM: one request is said, or the message is outside there
 pub reads_request : (t : Tree) → ReadsAt (SaysRequest t) (RequestFault t) (request_in t)
@@ -110,3 +116,40 @@ reads_request t =
     (λ r s. (header_of r, r.items, s.header, s.items, refl))
     (reads_header t)
     (reads_each (λ place. SaysAsk) (λ place. AskFault) (λ place. ask_in) (λ place u. reads_ask u) (batch t))
+
+-- a header as the program has it
+abbrev pub said_part : (Unit {0} × (Unit {0} × Unit {0})) × (BatchOption × Bool) → BatchOption × Bool
+said_part p = p.1
+
+pub seen_order : (hs : Trees) (n : ℕ) (rows : Result ((Unit {0} × (Unit {0} × Unit {0})) × (BatchOption × Bool)) OutsideKind)
+    → rows ≡ both kind_number (plain_rows hs n) (said_rows hs) → map_ok said_part rows ≡ order_said hs n
+unfolding order_said
+seen_order hs n rows e = ap (map_ok (λ p. p.1)) e
+
+-- no message, a header at fault, items at fault, and a request
+pub no_request : (t : Tree) → is_message 0x42_0078 0x42_0077 t ≡ false → request_in t ≡ Err (0, NotAMessage)
+unfolding request_in header_in
+no_request t e = ap (λ (b : Bool). headed request_at (gated b (map_ok header_at (order_said (request_header t) (length (batch t))))) (each_in (λ place. ask_in) (batch t))) e
+
+items_in : Trees → Result (List AskOf) (ℕ × OutsideKind)
+items_in ts = each_in (λ place. ask_in) (every 0x42_000F ts)
+
+request_of_parts : Trees → Result (BatchOption × Bool) OutsideKind → Result RequestOf (ℕ × OutsideKind)
+request_of_parts ts said = headed request_at (map_ok header_at said) (items_in ts)
+
+opened : (t : Tree) (ts hs : Trees) (n : ℕ) (said : Result (BatchOption × Bool) OutsideKind) → (is_message 0x42_0078 0x42_0077 t ≡ true) × (ts ≡ children t) × (hs ≡ inside 0x42_0077 (children t))
+    → n ≡ length (every 0x42_000F ts) → said ≡ order_said hs n → request_in t ≡ request_of_parts ts said
+unfolding request_in header_in request_of_parts items_in
+opened t ts hs n said p ne se =
+    ap (λ (b : Bool). headed request_at (gated b (map_ok header_at (order_said (request_header t) (length (batch t))))) (each_in (λ place. ask_in) (batch t))) p.0
+    ∙ sym (λ i. headed request_at (map_ok header_at ((se ∙ (λ j. order_said (p.2 j) ((ne ∙ ap (λ (us : Trees). length (every 0x42_000F us)) p.1) j))) i)) (each_in (λ place. ask_in) (every 0x42_000F (p.1 i))))
+
+pub no_header : (t : Tree) (ts hs : Trees) (n : ℕ) (k : OutsideKind) → (is_message 0x42_0078 0x42_0077 t ≡ true) × (ts ≡ children t) × (hs ≡ inside 0x42_0077 (children t))
+    → n ≡ length (every 0x42_000F ts) → Err k ≡ order_said hs n → request_in t ≡ Err (0, k)
+unfolding request_of_parts
+no_header t ts hs n k p ne se = opened t ts hs n (Err k) p ne se
+
+pub whole_request : (t : Tree) (ts hs : Trees) (n : ℕ) (q : BatchOption × Bool) → (is_message 0x42_0078 0x42_0077 t ≡ true) × (ts ≡ children t) × (hs ≡ inside 0x42_0077 (children t))
+    → n ≡ length (every 0x42_000F ts) → Ok q ≡ order_said hs n → request_in t ≡ map_ok (request_at (header_at q)) (from_one (each_in (λ place. ask_in) (every 0x42_000F ts)))
+unfolding request_of_parts items_in
+whole_request t ts hs n q p ne se = opened t ts hs n (Ok q) p ne se

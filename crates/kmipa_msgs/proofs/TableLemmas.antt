@@ -1,7 +1,7 @@
 -- Fields of tables are read.
-use Rattle.std.proofs.Common.{◌≡◌, ◌<◌, ◌≤◌, ℕ, Bool, true, false, Option, Some, None, Result, Ok, Err, refl, sym, ap, ◌∙◌, inl, inr, ◌⊎◌, arith}
-use Rattle.kmipa_ttlv.specs.Tree.{Tree, Trees}
-use Rattle.kmipa_attrs.specs.Readings.{Reads, Says, Lowest, IsWrong, NeededFault, needed, map_ok, kept_if}
+use Rattle.std.proofs.Common.{◌≡◌, ◌<◌, ℕ, Bool, true, false, Option, Some, None, Result, Ok, Err, refl, sym, ap, ◌∙◌, inl, inr, ◌⊎◌, arith}
+use Rattle.kmipa_ttlv.specs.Tree.{Tree}
+use Rattle.kmipa_attrs.specs.Readings.{Reads, IsWrong, NeededFault, map_ok, kept_if}
 use Rattle.kmipa_attrs.specs.declared.fields.Field.{Field}
 use Rattle.kmipa_attrs.specs.declared.fields.Field.TheVariants.{Absent, Wrong, There}
 use Rattle.kmipa_msgs.specs.declared.kind.OutsideKind.{OutsideKind}

@@ -7,6 +7,7 @@ pub mod Tables
 pub mod KeyBlocks
 pub mod Objects
 pub mod Registers
+pub mod Brought
 pub mod Gets
 pub mod Asks
 pub mod Headers

@@ -1,5 +1,6 @@
 -- Messages without where they lie in memory, and what the program's messages mean.
 use Rattle.std.specs.Prelude.{ℕ, ℤ, Bool, false, List, [], ◌∷◌, map, Option}
+use Rattle.std.specs.Global.{Vec}
 use Rattle.std.specs.Option.{option_map}
 use Rattle.kmipa_attrs.specs.Sets.{Attributes, attributes_of}
 use Rattle.kmipa_attrs.specs.declared.object_type.ObjectType.{ObjectType}
@@ -9,6 +10,7 @@ use Rattle.kmipa_msgs.specs.declared.operation.Operation.{Operation}
 use Rattle.kmipa_msgs.specs.declared.operation.Operation
 use Rattle.kmipa_msgs.specs.declared.request.BatchOption.{BatchOption}
 use Rattle.kmipa_msgs.specs.declared.request.Register.{Register}
+use Rattle.kmipa_msgs.specs.declared.request.Get.{Get}
 use Rattle.kmipa_msgs.specs.declared.request.Asked.{Asked}
 use Rattle.kmipa_msgs.specs.declared.request.Asked
 use Rattle.kmipa_msgs.specs.declared.request.Ask.{Ask}
@@ -59,9 +61,12 @@ pub data AskedOf : Type 0 where
   registers : RegisterOf → AskedOf
   gets : Option (List ℕ) → AskedOf
 
+abbrev pub id_of : Get → Option (List ℕ)
+id_of g = maybe_lent g.id
+
 abbrev pub asked_of : Asked → AskedOf
 asked_of (Asked.TheVariants.Register r) = registers (register_of r)
-asked_of (Asked.TheVariants.Get g) = gets (maybe_lent g.id)
+asked_of (Asked.TheVariants.Get g) = gets (id_of g)
 
 -- an item of a request
 pub record AskOf : Type 0 where
@@ -82,8 +87,11 @@ pub record RequestOf : Type 0 where
   pub ordered : Bool
   pub items : List AskOf
 
+abbrev pub asks_of : Vec Ask → List AskOf
+asks_of v = map ask_of v.items
+
 abbrev pub request_of : Request → RequestOf
-request_of r = record { option = r.option; ordered = r.ordered; items = map ask_of r.items.items }
+request_of r = record { option = r.option; ordered = r.ordered; items = asks_of r.items }
 
 -- RESPONSES
 
@@ -136,8 +144,11 @@ pub record ResponseOf : Type 0 where
   pub stamp : ℤ
   pub items : List AnswerOf
 
+abbrev pub answers_of : Vec Answer → List AnswerOf
+answers_of v = map answer_of v.items
+
 abbrev pub response_of : Response → ResponseOf
-response_of r = record { stamp = r.stamp; items = map answer_of r.items.items }
+response_of r = record { stamp = r.stamp; items = answers_of r.items }
 
 -- RULES
 

@@ -1,6 +1,7 @@
 -- A message says one thing, or is outside the profile at some item.
-use Rattle.std.specs.Prelude.{◌≡◌, ◌<◌, ℕ, zero, suc, List, [], ◌∷◌, Result, Ok, Err}
+use Rattle.std.specs.Prelude.{◌⊎◌, ◌≡◌, ◌<◌, ℕ, zero, suc, List, [], ◌∷◌, Result, Ok, Err}
 use Rattle.kmipa_ttlv.specs.Tree.{Tree}
+use Rattle.kmipa_attrs.specs.Readings.{map_ok}
 use Rattle.kmipa_msgs.specs.declared.fault.ReadFault.{ReadFault}
 use Rattle.kmipa_msgs.specs.declared.fault.ReadFault
 use Rattle.kmipa_msgs.specs.declared.kind.OutsideKind.{OutsideKind}
@@ -17,6 +18,10 @@ pub record OutsideAt (Fault : ℕ → OutsideKind → Type 0) (item : ℕ) (kind
   pub here : Fault item kind
   pub least : (j : OutsideKind) → kind_number j < kind_number kind → Fault item j → ⊥
   pub first : (i : ℕ) (j : OutsideKind) → i < item → Fault i j → ⊥
+
+-- one or the other, whatever the item
+abbrev pub Decided : {M : Type 0} → (M → Type 0) → (ℕ → OutsideKind → Type 0) → Type 0
+Decided {M} Said Fault = ((m : M) × Inside Said Fault m) ⊎ ((item : ℕ) × (kind : OutsideKind) × OutsideAt Fault item kind)
 
 -- what a reader tells: the one message that is said, or where it is outside; want of memory tells nothing of it
 abbrev pub Tells : {X M : Type 0} → (X → M) → (M → Type 0) → (ℕ → OutsideKind → Type 0) → Result X ReadFault → Type 0
@@ -59,11 +64,15 @@ abbrev pub each_in : {X : Type 0} → (ℕ → Tree → Result X OutsideKind) �
 each_in read [] = Ok []
 each_in read (t ∷ ts) = before (read 0 t) (each_in (λ i. read (suc i)) ts)
 
--- a header before the items, which count from 1
+-- the items count from 1
+abbrev pub from_one : {X : Type 0} → Result X (ℕ × OutsideKind) → Result X (ℕ × OutsideKind)
+from_one (Ok x) = Ok x
+from_one (Err p) = Err (suc p.0, p.1)
+
+-- a header before the items
 abbrev pub headed : {H X M : Type 0} → (H → List X → M) → Result H OutsideKind → Result (List X) (ℕ × OutsideKind) → Result M (ℕ × OutsideKind)
 headed make (Err k) rest = Err (0, k)
-headed make (Ok h) (Ok xs) = Ok (make h xs)
-headed make (Ok h) (Err p) = Err (suc p.0, p.1)
+headed make (Ok h) rest = map_ok (make h) (from_one rest)
 
 -- a reading that has no items
 abbrev pub alone : {M : Type 0} → Result M OutsideKind → Result M (ℕ × OutsideKind)

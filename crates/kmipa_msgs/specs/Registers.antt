@@ -1,12 +1,12 @@
 -- Register: the request { Object Type, Attributes?, the object } and its answer { Object Type?, Unique Identifier } (KMIP 2.1, section 6.1).
-use Rattle.std.specs.Prelude.{◌≡◌, ℕ, Bool, true, false, ◌==◌, ◌&&◌, List, [], Option, Some, None, Result, Ok, Err}
+use Rattle.std.specs.Prelude.{◌≡◌, ℕ, Bool, true, false, ◌==◌, ◌&&◌, List, Option, Some, None, Result, Ok, Err}
 use Rattle.std.specs.Ordering.{int_eq}
 use Rattle.kmipa_ttlv.specs.Tree.{Trees}
 use Rattle.kmipa_attrs.specs.Attributes.{SaysAttributes, AttributesFault, attributes_in}
 use Rattle.kmipa_attrs.specs.Fields.{at, inside, as_structure, as_text, as_enumeration}
 use Rattle.kmipa_attrs.specs.ObjectTypes.{type_number, type_of}
 use Rattle.kmipa_attrs.specs.Readings.{Optional, IsWrong, NeededFault, needed, optional, both, map_ok, passing}
-use Rattle.kmipa_attrs.specs.Sets.{Attributes}
+use Rattle.kmipa_attrs.specs.Sets.{Attributes, no_attributes}
 use Rattle.kmipa_attrs.specs.declared.fault.AttrFault.{AttrFault}
 use Rattle.kmipa_attrs.specs.declared.fields.Field.{Field}
 use Rattle.kmipa_attrs.specs.declared.fields.Field.TheVariants.{Absent, Wrong, There}
@@ -23,21 +23,6 @@ use Rattle.kmipa_msgs.specs.Objects.{shape_in, block_inside}
 -- THE REQUEST
 
 -- the attributes of a client, absent meaning none
-abbrev pub no_attributes : Attributes
-no_attributes = record {
-  names = [];
-  object_type = None;
-  algorithm = None;
-  length = None;
-  mask = None;
-  state = None;
-  initial = None;
-  activation = None;
-  deactivation = None;
-  destroy = None;
-  compromise = None;
-}
-
 abbrev pub SaysGiven : Field Trees → Attributes → Type 0
 SaysGiven Absent a = a ≡ no_attributes
 SaysGiven Wrong a = ⊥
@@ -49,13 +34,13 @@ GivenFault Wrong k = k ≡ Missing
 GivenFault (There ts) k = (k ≡ Attribute) × ((told : AttrFault) × AttributesFault Client ts told)
 
 -- the parts of a Register, before they are compared: the type that the payload tells and that of the object's tag
-pub record Brought : Type 0 where
+pub record BroughtOf : Type 0 where
   pub object_type : ObjectType.ObjectType
   pub shape : ObjectType.ObjectType
   pub attributes : Attributes
   pub block : BlockOf
 
-pub record SaysBrought (ts : Trees) (b : Brought) : Type 0 where
+pub record SaysBrought (ts : Trees) (b : BroughtOf) : Type 0 where
   pub object_type : Listed (at as_enumeration 0x42_0057 ts) type_of b.object_type
   pub shape : shape_in ts ≡ There b.shape
   pub attributes : SaysGiven (at as_structure 0x42_0125 ts) b.attributes
@@ -67,14 +52,14 @@ agree equal (Some x) (Some y) = equal x y
 agree equal _ _ = true
 
 -- Object Type of payload, object and attribute are equal, and so are algorithm and length of Attributes and Key Block
-abbrev pub agrees : Brought → Bool
+abbrev pub agrees : BroughtOf → Bool
 agrees b =
     (type_number b.object_type == type_number b.shape)
     && agree (λ m n. m == n) b.attributes.object_type (Some (type_number b.object_type))
     && agree (λ m n. m == n) b.attributes.algorithm b.block.algorithm
     && agree int_eq b.attributes.length b.block.length
 
-abbrev pub brought_by : RegisterOf → Brought
+abbrev pub brought_by : RegisterOf → BroughtOf
 brought_by r = record { object_type = r.object_type; shape = r.object_type; attributes = r.attributes; block = r.block }
 
 pub record SaysRegister (ts : Trees) (r : RegisterOf) : Type 0 where
@@ -82,7 +67,7 @@ pub record SaysRegister (ts : Trees) (r : RegisterOf) : Type 0 where
   pub agrees : agrees (brought_by r) ≡ true
 
 pub record Disagreeing (ts : Trees) : Type 0 where
-  pub brought : Brought
+  pub brought : BroughtOf
   pub said : SaysBrought ts brought
   pub differ : agrees brought ≡ false
 
@@ -115,22 +100,25 @@ unless_unlisted Absent table off = Ok tt
 unless_unlisted Wrong table off = Ok tt
 unless_unlisted (There n) table off = known (table n) off
 
-abbrev pub brought_rows : Trees → Result ((((ObjectType.ObjectType × ObjectType.ObjectType) × Unit {0}) × Attributes) × BlockOf) OutsideKind
+abbrev pub brought_rows : Trees → Result ((((ObjectType.ObjectType × ObjectType.ObjectType) × Unit {0}) × BlockOf) × Attributes) OutsideKind
 brought_rows ts =
     both kind_number
     (both kind_number
     (both kind_number (both kind_number (listed (at as_enumeration 0x42_0057 ts) type_of Missing ObjectType) (needed (shape_in ts) Missing Missing)) (unless_unlisted (at as_enumeration 0x42_0057 (inside 0x42_0125 ts)) type_of ObjectType))
-    (given_in (at as_structure 0x42_0125 ts)))
-    (block_in (block_inside ts))
+    (block_in (block_inside ts)))
+    (given_in (at as_structure 0x42_0125 ts))
 
-abbrev pub brought_at : (((ObjectType.ObjectType × ObjectType.ObjectType) × Unit {0}) × Attributes) × BlockOf → Brought
-brought_at p = record { object_type = p.0.0.0.0; shape = p.0.0.0.1; attributes = p.0.1; block = p.1 }
+abbrev pub brought_at : (((ObjectType.ObjectType × ObjectType.ObjectType) × Unit {0}) × BlockOf) × Attributes → BroughtOf
+brought_at p = record { object_type = p.0.0.0.0; shape = p.0.0.0.1; attributes = p.1; block = p.0.1 }
 
-abbrev pub register_at : Brought → RegisterOf
+abbrev pub register_at : BroughtOf → RegisterOf
 register_at b = record { object_type = b.object_type; attributes = b.attributes; block = b.block }
 
+unfoldable pub brought_in : Trees → Result BroughtOf OutsideKind
+brought_in ts = map_ok brought_at (brought_rows ts)
+
 unfoldable pub register_in : Trees → Result RegisterOf OutsideKind
-register_in ts = map_ok register_at (passing agrees Disagree (map_ok brought_at (brought_rows ts)))
+register_in ts = map_ok register_at (passing agrees Disagree (brought_in ts))
 
 -- THE ANSWER; its Object Type may be any number
 

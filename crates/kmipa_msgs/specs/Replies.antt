@@ -1,5 +1,6 @@
 -- The items of a response: Operation?, Unique Batch Item ID?, Result Status, Result Reason?, Response Payload? (KMIP 2.1, section 9).
-use Rattle.std.specs.Prelude.{◌≡◌, ◌<◌, ℕ, ◌==◌, if◌then◌else◌, Option, Some, None, Result, Ok, Err}
+use Rattle.std.specs.Prelude.{◌≡◌, ◌<◌, ℕ, Bool, true, false, ◌==◌, if◌then◌else◌, Option, Some, None, Result, Ok, Err}
+use Rattle.std.specs.Option.{option_map}
 use Rattle.kmipa_ttlv.specs.Tree.{Tree, Trees, structure, scalar, none, more}
 use Rattle.kmipa_attrs.specs.Fields.{first, at, value_in, as_enumeration, as_bytes}
 use Rattle.kmipa_attrs.specs.Readings.{Optional, NeededFault, IsWrong, optional, both, map_ok, and_then}
@@ -10,10 +11,11 @@ use Rattle.kmipa_msgs.specs.declared.kind.OutsideKind.TheVariants.{Missing, Pend
 use Rattle.kmipa_msgs.specs.declared.operation.Operation.{Operation}
 use Rattle.kmipa_msgs.specs.declared.response.Status.{Status}
 use Rattle.kmipa_msgs.specs.declared.response.Status.TheVariants.{Success, Failed, Undone}
+use Rattle.kmipa_msgs.specs.declared.response.Payload.{Payload}
 use Rattle.kmipa_msgs.specs.Kinds.{kind_number}
 use Rattle.kmipa_msgs.specs.Numbers.{status_of}
 use Rattle.kmipa_msgs.specs.Operations.{operation_number}
-use Rattle.kmipa_msgs.specs.Messages.{AskOf, operation_asked, PayloadOf, AnswerOf}
+use Rattle.kmipa_msgs.specs.Messages.{AskOf, operation_asked, PayloadOf, payload_of, AnswerOf}
 use Rattle.kmipa_msgs.specs.Tables.{children, Listed, of_table}
 use Rattle.kmipa_msgs.specs.Payloads.{SaysPayloadOf, PayloadOfFault, payload_in}
 
@@ -46,12 +48,16 @@ abbrev pub MaybeFault : Operation → Option Tree → OutsideKind → Type 0
 MaybeFault operation None k = ⊥
 MaybeFault operation (Some t) k = PayloadOfFault operation t k
 
+-- a structure without children
+abbrev pub is_bare : Tree → Bool
+is_bare (structure n none) = true
+is_bare (structure n (more t ts)) = false
+is_bare (scalar n s) = false
+
 -- a payload without children is read as absent
 abbrev pub filled : Option Tree → Option Tree
 filled None = None
-filled (Some (structure n none)) = None
-filled (Some (structure n (more t ts))) = Some (structure n (more t ts))
-filled (Some (scalar n s)) = Some (scalar n s)
+filled (Some t) = if is_bare t then None else Some t
 
 -- a payload is read only at the place's own operation, and only where it was done
 abbrev pub SaysShown : Option Operation → Status → Option Tree → Option PayloadOf → Type 0
@@ -111,12 +117,12 @@ shown_in (Some operation) Undone t = maybe_in operation (filled t)
 abbrev pub beside : Status → Result (Option PayloadOf) OutsideKind → Result (Status × Option PayloadOf) OutsideKind
 beside status shown = map_ok (λ p. (status, p)) shown
 
-abbrev pub done_at : Option AskOf → Trees → Result (Status × Option PayloadOf) OutsideKind
-done_at a ts =
-    and_then (λ status. beside status (shown_in (own a (at as_enumeration 0x42_005C ts)) status (first 0x42_007C ts))) (status_in (at as_enumeration 0x42_007F ts))
+abbrev pub outcome_in : Option Operation → Trees → Result (Status × Option PayloadOf) OutsideKind
+outcome_in operation ts = and_then (λ status. beside status (shown_in operation status (first 0x42_007C ts))) (status_in (at as_enumeration 0x42_007F ts))
 
 abbrev pub answer_rows : Option AskOf → Trees → Result ((Option ℕ × Option ℕ) × (Status × Option PayloadOf)) OutsideKind
-answer_rows a ts = both kind_number (both kind_number (optional (at as_enumeration 0x42_005C ts) Missing) (optional (at as_enumeration 0x42_007E ts) Missing)) (done_at a ts)
+answer_rows a ts =
+    both kind_number (both kind_number (optional (at as_enumeration 0x42_005C ts) Missing) (optional (at as_enumeration 0x42_007E ts) Missing)) (outcome_in (own a (at as_enumeration 0x42_005C ts)) ts)
 
 abbrev pub answer_at : Trees → (Option ℕ × Option ℕ) × (Status × Option PayloadOf) → AnswerOf
 answer_at ts p = record {
@@ -129,3 +135,7 @@ answer_at ts p = record {
 
 unfoldable pub answer_in : Option AskOf → Tree → Result AnswerOf OutsideKind
 answer_in a t = map_ok (answer_at (children t)) (answer_rows a (children t))
+
+-- what the program's outcome means
+abbrev pub outcome_of : Status × Option Payload → Status × Option PayloadOf
+outcome_of p = (p.0, option_map payload_of p.1)

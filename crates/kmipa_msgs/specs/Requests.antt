@@ -15,7 +15,7 @@ use Rattle.kmipa_msgs.specs.Kinds.{kind_number}
 use Rattle.kmipa_msgs.specs.Numbers.{option_of}
 use Rattle.kmipa_msgs.specs.Messages.{AskOf, RequestOf, request_of}
 use Rattle.kmipa_msgs.specs.Tables.{children, of_table}
-use Rattle.kmipa_msgs.specs.Headers.{is_message, is_version, is_count, batch}
+use Rattle.kmipa_msgs.specs.Headers.{is_message, is_version, is_count, batch, gated}
 use Rattle.kmipa_msgs.specs.Outside.{SaysEach, EachFault, ByItem, Tells, each_in, headed}
 use Rattle.kmipa_msgs.specs.Asks.{SaysAsk, AskFault, ask_in}
 
@@ -95,19 +95,21 @@ in_order Wrong n = true
 in_order (There true) n = true
 in_order (There false) n = nat_lt n 2
 
-abbrev pub header_rows : Tree → Result (((Unit {0} × Unit {0}) × (Unit {0} × Unit {0})) × (BatchOption × Bool)) OutsideKind
-header_rows t =
-    both kind_number
-    (both kind_number
-    (both kind_number (kept_if (is_message 0x42_0078 0x42_0077 t) tt NotAMessage) (kept_if (is_version (request_header t)) tt Version))
-    (both kind_number (kept_if (is_count (request_header t) (length (batch t))) tt Count) (kept_if (in_order (at as_boolean 0x42_0010 (request_header t)) (length (batch t))) tt Unordered)))
-    (both kind_number (option_in (at as_enumeration 0x42_000E (request_header t))) (order_in (at as_boolean 0x42_0010 (request_header t))))
+abbrev pub plain_rows : Trees → ℕ → Result (Unit {0} × (Unit {0} × Unit {0})) OutsideKind
+plain_rows hs n = both kind_number (kept_if (is_version hs) tt Version) (both kind_number (kept_if (is_count hs n) tt Count) (kept_if (in_order (at as_boolean 0x42_0010 hs) n) tt Unordered))
 
-abbrev pub header_at : ((Unit {0} × Unit {0}) × (Unit {0} × Unit {0})) × (BatchOption × Bool) → HeaderOf
-header_at p = record { option = p.1.0; ordered = p.1.1 }
+abbrev pub said_rows : Trees → Result (BatchOption × Bool) OutsideKind
+said_rows hs = both kind_number (option_in (at as_enumeration 0x42_000E hs)) (order_in (at as_boolean 0x42_0010 hs))
+
+-- of a header before so many items
+unfoldable pub order_said : Trees → ℕ → Result (BatchOption × Bool) OutsideKind
+order_said hs n = map_ok (λ p. p.1) (both kind_number (plain_rows hs n) (said_rows hs))
+
+abbrev pub header_at : BatchOption × Bool → HeaderOf
+header_at p = record { option = p.0; ordered = p.1 }
 
 unfoldable pub header_in : Tree → Result HeaderOf OutsideKind
-header_in t = map_ok header_at (header_rows t)
+header_in t = gated (is_message 0x42_0078 0x42_0077 t) (map_ok header_at (order_said (request_header t) (length (batch t))))
 
 abbrev pub request_at : HeaderOf → List AskOf → RequestOf
 request_at h items = record { option = h.option; ordered = h.ordered; items = items }

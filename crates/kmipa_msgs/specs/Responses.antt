@@ -12,7 +12,7 @@ use Rattle.kmipa_msgs.specs.declared.response.Response.{Response}
 use Rattle.kmipa_msgs.specs.Kinds.{kind_number}
 use Rattle.kmipa_msgs.specs.Messages.{RequestOf, AnswerOf, ResponseOf, response_of}
 use Rattle.kmipa_msgs.specs.Tables.{children}
-use Rattle.kmipa_msgs.specs.Headers.{is_message, is_version, is_count, batch}
+use Rattle.kmipa_msgs.specs.Headers.{is_message, is_version, is_count, batch, gated}
 use Rattle.kmipa_msgs.specs.Outside.{SaysEach, EachFault, ByItem, Tells, each_in, headed}
 use Rattle.kmipa_msgs.specs.Replies.{SaysAnswer, AnswerFault, answer_in}
 
@@ -48,14 +48,15 @@ TellsResponse t request result = Tells response_of (SaysResponse t request) (Res
 
 -- THE READINGS
 
-abbrev pub stamp_rows : Tree → Result (((Unit {0} × Unit {0}) × Unit {0}) × ℤ) OutsideKind
-stamp_rows t =
-    both kind_number
-    (both kind_number (both kind_number (kept_if (is_message 0x42_007B 0x42_007A t) tt NotAMessage) (kept_if (is_version (response_header t)) tt Version)) (kept_if (is_count (response_header t) (length (batch t))) tt Count))
-    (needed (at as_date 0x42_0092 (response_header t)) Missing Missing)
+abbrev pub plain_rows : Trees → ℕ → Result (Unit {0} × Unit {0}) OutsideKind
+plain_rows hs n = both kind_number (kept_if (is_version hs) tt Version) (kept_if (is_count hs n) tt Count)
+
+-- of a header before so many items
+unfoldable pub stamp_said : Trees → ℕ → Result ℤ OutsideKind
+stamp_said hs n = map_ok (λ p. p.1) (both kind_number (plain_rows hs n) (needed (at as_date 0x42_0092 hs) Missing Missing))
 
 unfoldable pub stamp_in : Tree → Result ℤ OutsideKind
-stamp_in t = map_ok (λ p. p.1) (stamp_rows t)
+stamp_in t = gated (is_message 0x42_007B 0x42_007A t) (stamp_said (response_header t) (length (batch t)))
 
 abbrev pub response_at : ℤ → List AnswerOf → ResponseOf
 response_at stamp items = record { stamp = stamp; items = items }

@@ -1,5 +1,5 @@
 -- The payloads that a witness has to give.
-use Rattle.std.specs.Prelude.{◌≡◌, ◌⊎◌, Some, None}
+use Rattle.std.specs.Prelude.{◌≡◌, ℕ, Option, Some, None}
 use Rattle.kmipa_msgs.specs.declared.operation.Operation.{Operation}
 use Rattle.kmipa_msgs.specs.declared.operation.Operation.TheVariants.{Register, Get}
 use Rattle.kmipa_msgs.specs.declared.response.Status.TheVariants.{Undone}
@@ -11,9 +11,14 @@ abbrev pub NeedsPayload : Operation → Type 0
 NeedsPayload Register = Unit {0}
 NeedsPayload Get = ⊥
 
+-- an answer names no operation, or this one
+abbrev pub IsOwn : ℕ → Option ℕ → Type 0
+IsOwn number None = Unit {0}
+IsOwn number (Some named) = named ≡ number
+
 -- the item was undone, at its own operation, and its payload isn't there
 pub record Wanted (a : AskOf) (x : AnswerOf) : Type 0 where
   pub asks : NeedsPayload (operation_asked a.asked)
-  pub own : (x.operation ≡ None) ⊎ (x.operation ≡ Some (operation_number (operation_asked a.asked)))
+  pub own : IsOwn (operation_number (operation_asked a.asked)) x.operation
   pub undone : x.status ≡ Undone
   pub absent : x.payload ≡ None

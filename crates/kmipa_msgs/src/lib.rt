@@ -4,15 +4,22 @@
 mod fault;
 mod key_block;
 mod kind;
+mod laws;
 mod operation;
+mod reading;
 mod request;
 mod response;
 mod rules;
+mod tags;
+mod wanted;
 
 pub use fault::{Outside, ReadFault};
 pub use key_block::{KeyBlock, KeyFormat};
 pub use kind::OutsideKind;
+pub use laws::{one_payload, one_request, one_response};
 pub use operation::Operation;
+pub use reading::{read_payload, read_request, read_response};
 pub use request::{Ask, Asked, BatchOption, Get, Register, Request};
 pub use response::{Answer, Got, Payload, Registered, Response, Status};
 pub use rules::{Cause, Row, Rules};
+pub use wanted::is_wanted;

@@ -1,23 +1,14 @@
-use Rattle.std.proofs.Common.{◌∙◌, ◌+◌, sym, ap, drop}
-use Rattle.kmipa_ttlv.specs.ViewTree.{view_trees}
-use Rattle.kmipa_attrs.specs.Attributes.{each, folded, single_step}
-use Rattle.kmipa_attrs.proofs.ViewLemmas.{each_found, each_passed, each_none}
+use Rattle.std.proofs.Common.{◌∙◌, sym, ap}
+use Rattle.kmipa_attrs.specs.Attributes.{folded}
+use Rattle.kmipa_attrs.proofs.ViewLemmas.{each_none, folded_found, folded_passed}
 use Rattle.kmipa_attrs.proofs.single.single.Goals as goal
 use Rattle.kmipa_attrs.proofs.single.single.Goals.{then-child-tag, else-child-tag}
 
 pub loop-child-preserved : goal.loop-child-preserved
-loop-child-preserved g c =
-    let how = g.T.Held.how in
-    let i = c.loop-child.child-index in
-    let rest = each how c.args.tag (view_trees (drop (i + 1) c.args.children.now)) in
-    c.loop-child.invariant ∙ elim c.if-child-tag.branch [
-      | then-child-tag w ↦
-          ap (folded c.loop-child.found) (each_found how c.args.tag i c.args.children.now c.child-item.result c.loop-child-test.true c.child-item.is w.if-child-tag.true)
-          ∙ ap (λ r. folded r rest) (sym (w.found-is ∙ w.step-found.ensures ∙ ap (single_step c.loop-child.found) w.of.ensures))
-      | else-child-tag w ↦
-          ap (folded c.loop-child.found) (each_passed how c.args.tag i c.args.children.now c.child-item.result c.loop-child-test.true c.child-item.is w.if-child-tag.false)
-          ∙ ap (λ r. folded r rest) (sym w.found-is)
-    ]
+loop-child-preserved g c = c.loop-child.invariant ∙ (elim c.if-child-tag.branch [
+  | then-child-tag w ↦ folded_found g.T.Held.how c.args.tag c.loop-child.child-index c.args.children.now c.child-item.result c.loop-child.found c.if-child-tag.found w.of.result c.loop-child-test.true c.child-item.is w.if-child-tag.true w.of.ensures (w.found-is ∙ w.step-found.ensures)
+  | else-child-tag w ↦ folded_passed g.T.Held.how c.args.tag c.loop-child.child-index c.args.children.now c.child-item.result c.loop-child.found c.if-child-tag.found c.loop-child-test.true c.child-item.is w.if-child-tag.false w.found-is
+])
 
 pub returns : goal.returns
 returns g c = sym (c.loop-child.invariant ∙ ap (folded c.loop-child.found) (each_none g.T.Held.how c.args.tag c.loop-child.child-index c.args.children.now c.loop-child-test.false))

@@ -1,0 +1,19 @@
+use Rattle.std.proofs.Common.{◌∙◌, sym, ap}
+use Rattle.kmipa_ttlv.specs.ViewTree.{view_trees}
+use Rattle.kmipa_attrs.specs.Readings.{map_ok}
+use Rattle.kmipa_msgs.specs.Kinds.{kind_number}
+use Rattle.kmipa_msgs.proofs.ViewLemmas.{joined}
+use Rattle.kmipa_msgs.proofs.GetLemmas.{got_view, seen_got}
+use Rattle.kmipa_msgs.proofs.reading.get.read_got.Goals as goal
+
+pub returns-in-Ok : goal.returns-in-Ok
+returns-in-Ok c =
+    let types = joined kind_number _ _ c.both-types.result _ _ c.both-types.ensures c.type_shown.ensures c.read_shape.ensures in
+    ap (map_ok got_view) (sym c.in-Ok.is)
+    ∙ seen_got (view_trees c.args.payload.now) (view_trees c.block_inside.result.now) c.both-types.result c.text_at.result c.optional-id.result c.both.result c.read_key_block-block.result c.both-2.result c.both-2.ensures c.both.ensures types c.text_at.ensures c.optional-id.ensures c.read_key_block-block.ensures c.block_inside.ensures
+
+pub returns-in-Err : goal.returns-in-Err
+returns-in-Err c =
+    let types = joined kind_number _ _ c.both-types.result _ _ c.both-types.ensures c.type_shown.ensures c.read_shape.ensures in
+    ap (map_ok got_view) (sym c.in-Err.is)
+    ∙ seen_got (view_trees c.args.payload.now) (view_trees c.block_inside.result.now) c.both-types.result c.text_at.result c.optional-id.result c.both.result c.read_key_block-block.result c.both-2.result c.both-2.ensures c.both.ensures types c.text_at.ensures c.optional-id.ensures c.read_key_block-block.ensures c.block_inside.ensures

@@ -1,0 +1,27 @@
+//! Messages from views. Of several reasons to be outside at one item the lowest kind is told, in whatever order the fields are met.
+
+use crate::kind::OutsideKind;
+use std::alloc::AllocError;
+
+mod answer;
+mod ask;
+mod brought;
+mod get;
+mod header;
+mod key_block;
+mod object;
+mod payload;
+mod register;
+mod request;
+mod response;
+mod rows;
+
+pub use payload::read_payload;
+pub use request::read_request;
+pub use response::read_response;
+
+/// What a part of a message says, or why it is outside; want of memory stands apart.
+type Read<T> = Result<Result<T, OutsideKind>, AllocError>;
+
+#[cfg(test)]
+mod tests;

@@ -1,0 +1,150 @@
+//! The items of a response.
+
+ghost use Rattle.std.specs.Prelude.{◌≡◌, map};
+ghost use Rattle.std.specs.Option.{option_map};
+ghost use Rattle.std.specs.List.{slice_get};
+ghost use Rattle.kmipa_ttlv.specs.ViewTree.{view_tree, view_trees};
+ghost use Rattle.kmipa_attrs.specs.Fields.{every, first, at, as_enumeration};
+ghost use Rattle.kmipa_attrs.specs.Readings.{map_ok};
+ghost use Rattle.kmipa_msgs.specs.Messages.{ask_of, asks_of, payload_of, answer_of, answers_of};
+ghost use Rattle.kmipa_msgs.specs.Outside.{Gives, each_in, from_one};
+ghost use Rattle.kmipa_msgs.specs.Replies.{own, status_in, is_bare, shown_in, outcome_in, outcome_of, answer_in};
+
+use crate::fault::{Outside, ReadFault};
+use crate::kind::OutsideKind;
+use crate::operation::Operation;
+use crate::reading::payload::read_payload_of;
+use crate::reading::rows::of_table;
+use crate::request::Ask;
+use crate::response::{Answer, Payload, Status};
+use crate::tags::{
+    BATCH_ITEM, OPERATION, RESPONSE_PAYLOAD, RESULT_REASON, RESULT_STATUS, UNIQUE_BATCH_ITEM_ID,
+};
+use kmipa_attrs::fields::{as_structure, bytes_at, enumeration_at, first};
+use kmipa_attrs::{Field, both};
+use kmipa_ttlv::View;
+use std::alloc::Global;
+
+/// Result Status of an answer that is still to come.
+const PENDING: u32 = 2;
+
+/// The items of a message with these children, each beside the request's item at its place, up to the first that is outside.
+pub fn read_answers<'a>(
+    alloc: Global,
+    children: &[View<'a>],
+    asks: &[Ask],
+) -> Result<Vec<Answer<'a>>, ReadFault>
+    ensures { Gives answers_of result (from_one (each_in (λ place. answer_in (slice_get (map ask_of asks.now) place)) (every 0x42_000F (view_trees children.now)))) }
+{
+    let mut answers = Vec::new(alloc);
+    let mut place = 0;
+    for child in children {
+        if child.tag.number == BATCH_ITEM {
+            match read_answer(asks.get(place), child) {
+                Ok(answer) => answers.push(answer)?,
+                Err(kind) => {
+                    return Err(ReadFault::Outside(Outside {
+                        item: place + 1,
+                        kind,
+                    }));
+                }
+            }
+            place += 1;
+        }
+    }
+    Ok(answers)
+}
+
+fn read_answer<'a>(ask: Option<&Ask>, view: &View<'a>) -> Result<Answer<'a>, OutsideKind>
+    ensures { map_ok answer_of result ≡ answer_in (option_map (λ a. ask_of a.now) ask.entry) (view_tree view.now) }
+{
+    let Some(children) = as_structure(view) else {
+        return Err(OutsideKind::Missing);
+    };
+    let own = own_operation(ask, enumeration_at(children, OPERATION));
+    let operation = enumeration_at(children, OPERATION).optional(OutsideKind::Missing);
+    let reason = enumeration_at(children, RESULT_REASON).optional(OutsideKind::Missing);
+    let outcome = read_outcome(own, children);
+    match both(both(operation, reason), outcome) {
+        Ok(((operation, reason), (status, payload))) => Ok(Answer {
+            operation,
+            batch_id: bytes_at(children, UNIQUE_BATCH_ITEM_ID).value(),
+            status,
+            reason,
+            payload,
+        }),
+        Err(kind) => Err(kind),
+    }
+}
+
+/// The operation whose payload may be read: the request's, where the answer names none or the same.
+fn own_operation(ask: Option<&Ask>, field: Field<u32>) -> Option<Operation>
+    ensures { result ≡ own (option_map (λ a. ask_of a.now) ask.entry) field }
+{
+    let operation = ask?.operation();
+    match field {
+        Field::Absent => Some(operation),
+        Field::There(number) if number == operation.number() => Some(operation),
+        _ => None,
+    }
+}
+
+/// The status, and the payload where it is read.
+fn read_outcome<'a>(
+    own: Option<Operation>,
+    children: &[View<'a>],
+) -> Result<(Status, Option<Payload<'a>>), OutsideKind>
+    ensures { map_ok outcome_of result ≡ outcome_in own (view_trees children.now) }
+{
+    let status = match status(enumeration_at(children, RESULT_STATUS)) {
+        Ok(status) => status,
+        Err(kind) => return Err(kind),
+    };
+    match shown(own, status, first(children, RESPONSE_PAYLOAD)) {
+        Ok(payload) => Ok((status, payload)),
+        Err(kind) => Err(kind),
+    }
+}
+
+fn status(field: Field<u32>) -> Result<Status, OutsideKind>
+    ensures { result ≡ status_in field }
+{
+    match field {
+        Field::There(PENDING) => Err(OutsideKind::Pending),
+        Field::There(number) => of_table(Status::of(number), OutsideKind::Missing),
+        _ => Err(OutsideKind::Missing),
+    }
+}
+
+/// The payload of what was done. It may be absent where it was undone, and there one without children counts as absent.
+fn shown<'a>(
+    own: Option<Operation>,
+    status: Status,
+    payload: Option<&View<'a>>,
+) -> Result<Option<Payload<'a>>, OutsideKind>
+    ensures { map_ok (option_map payload_of) result ≡ shown_in own status (option_map (λ v. view_tree v.now) payload.entry) }
+{
+    let Some(operation) = own else {
+        return Ok(None);
+    };
+    match (status, payload) {
+        (Status::Failed, _) => Ok(None),
+        (Status::Success, None) => Err(OutsideKind::Missing),
+        (Status::Undone, None) => Ok(None),
+        (Status::Undone, Some(view)) if is_empty(view) => Ok(None),
+        (_, Some(view)) => match read_payload_of(operation, view) {
+            Ok(payload) => Ok(Some(payload)),
+            Err(kind) => Err(kind),
+        },
+    }
+}
+
+/// Whether an item is a structure without children.
+fn is_empty(view: &View) -> bool
+    ensures { result ≡ is_bare (view_tree view.now) }
+{
+    match as_structure(view) {
+        Some(children) => children.is_empty(),
+        None => false,
+    }
+}

@@ -1,0 +1,109 @@
+//! The items of a request.
+
+ghost use Rattle.std.specs.Prelude.{◌≡◌, IfOk};
+ghost use Rattle.kmipa_ttlv.specs.ViewTree.{view_tree, view_trees};
+ghost use Rattle.kmipa_attrs.specs.Fields.{every, at, as_structure};
+ghost use Rattle.kmipa_attrs.specs.Readings.{map_ok};
+ghost use Rattle.kmipa_msgs.specs.Messages.{asked_of, ask_of, asks_of};
+ghost use Rattle.kmipa_msgs.specs.Outside.{Gives, each_in, from_one};
+ghost use Rattle.kmipa_msgs.specs.Asks.{unless_wrong, operation_in, asked_in, payload_asked, ask_in};
+
+use crate::fault::{Outside, ReadFault};
+use crate::kind::OutsideKind;
+use crate::operation::Operation;
+use crate::reading::Read;
+use crate::reading::get::read_get;
+use crate::reading::register::read_register;
+use crate::reading::rows::of_table;
+use crate::request::{Ask, Asked};
+use crate::tags::{BATCH_ITEM, OPERATION, REQUEST_PAYLOAD, UNIQUE_BATCH_ITEM_ID};
+use kmipa_attrs::fields::{as_structure, bytes_at, enumeration_at, inside, structure_at};
+use kmipa_attrs::{Field, both};
+use kmipa_ttlv::View;
+use std::alloc::Global;
+
+/// The items of a message with these children, up to the first that is outside.
+pub fn read_asks<'a>(alloc: Global, children: &[View<'a>]) -> Result<Vec<Ask<'a>>, ReadFault>
+    ensures { Gives asks_of result (from_one (each_in (λ place. ask_in) (every 0x42_000F (view_trees children.now)))) }
+{
+    let mut asks = Vec::new(alloc);
+    let mut place = 0;
+    for child in children {
+        if child.tag.number == BATCH_ITEM {
+            match read_ask(alloc, child)? {
+                Ok(ask) => asks.push(ask)?,
+                Err(kind) => {
+                    return Err(ReadFault::Outside(Outside {
+                        item: place + 1,
+                        kind,
+                    }));
+                }
+            }
+            place += 1;
+        }
+    }
+    Ok(asks)
+}
+
+fn read_ask<'a>(alloc: Global, view: &View<'a>) -> Read<Ask<'a>>
+    ensures { IfOk result (λ r. map_ok ask_of r ≡ ask_in (view_tree view.now)) }
+{
+    let Some(children) = as_structure(view) else {
+        return Ok(Err(OutsideKind::Missing));
+    };
+    let operation = match operation(children) {
+        Ok(operation) => operation,
+        Err(kind) => return Ok(Err(kind)),
+    };
+    let batch_id = bytes_at(children, UNIQUE_BATCH_ITEM_ID).value();
+    match read_payload(alloc, operation, children)? {
+        Ok(asked) => Ok(Ok(Ask { batch_id, asked })),
+        Err(kind) => Ok(Err(kind)),
+    }
+}
+
+fn operation(children: &[View]) -> Result<Operation, OutsideKind>
+    ensures { result ≡ operation_in (view_trees children.now) }
+{
+    match enumeration_at(children, OPERATION) {
+        Field::There(number) => of_table(Operation::of(number), OutsideKind::Operation),
+        _ => Err(OutsideKind::Missing),
+    }
+}
+
+/// What an item's Request Payload asks for; an absent one is read as empty.
+fn read_payload<'a>(alloc: Global, operation: Operation, children: &[View<'a>]) -> Read<Asked<'a>>
+    ensures { IfOk result (λ r. map_ok asked_of r ≡ payload_asked operation (view_trees children.now)) }
+{
+    let shape = payload_shape(children);
+    let asked = read_asked(alloc, operation, inside(children, REQUEST_PAYLOAD))?;
+    match both(shape, asked) {
+        Ok((_, asked)) => Ok(Ok(asked)),
+        Err(kind) => Ok(Err(kind)),
+    }
+}
+
+fn payload_shape(children: &[View]) -> Result<(), OutsideKind>
+    ensures { result ≡ unless_wrong (at as_structure 0x42_0079 (view_trees children.now)) OutsideKind.Missing }
+{
+    match structure_at(children, REQUEST_PAYLOAD) {
+        Field::Wrong => Err(OutsideKind::Missing),
+        _ => Ok(()),
+    }
+}
+
+/// What the children of a Request Payload ask for.
+fn read_asked<'a>(alloc: Global, operation: Operation, payload: &[View<'a>]) -> Read<Asked<'a>>
+    ensures { IfOk result (λ r. map_ok asked_of r ≡ asked_in operation (view_trees payload.now)) }
+{
+    match operation {
+        Operation::Register => match read_register(alloc, payload)? {
+            Ok(register) => Ok(Ok(Asked::Register(register))),
+            Err(kind) => Ok(Err(kind)),
+        },
+        Operation::Get => match read_get(payload) {
+            Ok(get) => Ok(Ok(Asked::Get(get))),
+            Err(kind) => Ok(Err(kind)),
+        },
+    }
+}

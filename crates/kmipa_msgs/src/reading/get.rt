@@ -1,0 +1,64 @@
+//! Get and its answer.
+
+ghost use Rattle.std.specs.Prelude.{◌≡◌};
+ghost use Rattle.kmipa_ttlv.specs.ViewTree.{view_trees};
+ghost use Rattle.kmipa_attrs.specs.Fields.{at, as_enumeration};
+ghost use Rattle.kmipa_attrs.specs.ObjectTypes.{type_of};
+ghost use Rattle.kmipa_attrs.specs.Readings.{map_ok};
+ghost use Rattle.kmipa_msgs.specs.Messages.{id_of, got_of};
+ghost use Rattle.kmipa_msgs.specs.Tables.{maybe_listed};
+ghost use Rattle.kmipa_msgs.specs.Gets.{get_in, got_in};
+
+use crate::kind::OutsideKind;
+use crate::reading::key_block::read_key_block;
+use crate::reading::object::{block_inside, read_shape};
+use crate::reading::rows::unless_there;
+use crate::request::Get;
+use crate::response::Got;
+use crate::tags::{KEY_WRAPPING_SPECIFICATION, OBJECT_TYPE, UNIQUE_IDENTIFIER};
+use kmipa_attrs::fields::{enumeration_at, text_at};
+use kmipa_attrs::{Field, ObjectType, both};
+use kmipa_ttlv::View;
+
+/// What the children of a Get's Request Payload ask for.
+pub fn read_get<'a>(payload: &[View<'a>]) -> Result<Get<'a>, OutsideKind>
+    ensures { map_ok id_of result ≡ get_in (view_trees payload.now) }
+{
+    let unwrapped = unless_there(payload, KEY_WRAPPING_SPECIFICATION, OutsideKind::Wrapped);
+    let id = text_at(payload, UNIQUE_IDENTIFIER).optional(OutsideKind::IdentifierForm);
+    match both(unwrapped, id) {
+        Ok((_, id)) => Ok(Get { id }),
+        Err(kind) => Err(kind),
+    }
+}
+
+/// What the children of a Get's Response Payload show.
+pub fn read_got<'a>(payload: &[View<'a>]) -> Result<Got<'a>, OutsideKind>
+    ensures { map_ok got_of result ≡ got_in (view_trees payload.now) }
+{
+    let id = text_at(payload, UNIQUE_IDENTIFIER).optional(OutsideKind::IdentifierForm);
+    let types = both(type_shown(payload), read_shape(payload));
+    let block = read_key_block(block_inside(payload));
+    match both(both(types, id), block) {
+        Ok((((object_type, shape), id), block)) => Ok(Got {
+            object_type,
+            id,
+            shape,
+            block,
+        }),
+        Err(kind) => Err(kind),
+    }
+}
+
+fn type_shown(payload: &[View]) -> Result<Option<ObjectType>, OutsideKind>
+    ensures { result ≡ maybe_listed (at as_enumeration 0x42_0057 (view_trees payload.now)) type_of OutsideKind.Missing OutsideKind.ObjectType }
+{
+    match enumeration_at(payload, OBJECT_TYPE) {
+        Field::There(number) => match ObjectType::of(number) {
+            Some(object_type) => Ok(Some(object_type)),
+            None => Err(OutsideKind::ObjectType),
+        },
+        Field::Absent => Ok(None),
+        Field::Wrong => Err(OutsideKind::Missing),
+    }
+}

@@ -1,0 +1,76 @@
+//! What the headers of requests and responses share.
+
+ghost use Rattle.std.specs.Prelude.{◌≡◌, ◌==◌, count_by, pos};
+ghost use Rattle.kmipa_ttlv.specs.ViewTree.{view_tree, view_trees};
+ghost use Rattle.kmipa_msgs.specs.Headers.{is_number, is_version, counts, is_count, Opens};
+
+use crate::tags::{
+    BATCH_COUNT, BATCH_ITEM, PROTOCOL_VERSION, PROTOCOL_VERSION_MAJOR, PROTOCOL_VERSION_MINOR,
+};
+use kmipa_attrs::Field;
+use kmipa_attrs::fields::{as_structure, inside, integer_at, structure_at};
+use kmipa_ttlv::View;
+
+/// The children of a message and those of its header, where the item is the message with this tag.
+pub fn message_parts<'a, 'b>(
+    message: &'b View<'a>,
+    tag: u32,
+    header: u32,
+) -> Option<(&'b [View<'a>], &'b [View<'a>])>
+    ensures { Opens tag header (view_tree message.now) result }
+{
+    if message.tag.number != tag {
+        return None;
+    }
+    let Some(children) = as_structure(message) else {
+        return None;
+    };
+    match structure_at(children, header) {
+        Field::There(inner) => Some((children, inner)),
+        _ => None,
+    }
+}
+
+/// How many Batch Items there are.
+pub fn item_count(children: &[View]) -> usize
+    ensures { result ≡ count_by (λ v. v.tag.number == 0x42_000F) children.now }
+{
+    children
+        .iter()
+        .filter(|child| child.tag.number == BATCH_ITEM)
+        .count()
+}
+
+/// Whether the Protocol Version in a header is 2.1.
+pub fn is_version(header: &[View]) -> bool
+    ensures { result ≡ is_version (view_trees header.now) }
+{
+    let version = inside(header, PROTOCOL_VERSION);
+    is_number(integer_at(version, PROTOCOL_VERSION_MAJOR), 2)
+        && is_number(integer_at(version, PROTOCOL_VERSION_MINOR), 1)
+}
+
+/// Whether the Batch Count in a header is the number of items, and there are some.
+pub fn is_count(header: &[View], items: usize) -> bool
+    ensures { result ≡ is_count (view_trees header.now) items }
+{
+    match integer_at(header, BATCH_COUNT) {
+        Field::There(count) => counts(count, items),
+        _ => false,
+    }
+}
+
+fn counts(count: i32, items: usize) -> bool
+    ensures { result ≡ counts count items }
+{
+    count > 0 && count.unsigned_abs() as usize == items
+}
+
+fn is_number(field: Field<i32>, number: i32) -> bool
+    ensures { result ≡ is_number field number }
+{
+    match field {
+        Field::There(value) => value == number,
+        _ => false,
+    }
+}

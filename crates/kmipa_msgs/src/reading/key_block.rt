@@ -1,0 +1,70 @@
+//! Key blocks.
+
+ghost use Rattle.std.specs.Prelude.{◌≡◌};
+ghost use Rattle.kmipa_ttlv.specs.ViewTree.{view_trees};
+ghost use Rattle.kmipa_attrs.specs.Fields.{at, as_enumeration, as_structure};
+ghost use Rattle.kmipa_attrs.specs.Readings.{map_ok};
+ghost use Rattle.kmipa_msgs.specs.Messages.{block_of};
+ghost use Rattle.kmipa_msgs.specs.Numbers.{format_of};
+ghost use Rattle.kmipa_msgs.specs.Tables.{listed, there};
+ghost use Rattle.kmipa_msgs.specs.KeyBlocks.{block_in};
+
+use crate::key_block::{KeyBlock, KeyFormat};
+use crate::kind::OutsideKind;
+use crate::reading::rows::{of_table, unless_there};
+use crate::tags::{
+    CRYPTOGRAPHIC_ALGORITHM, CRYPTOGRAPHIC_LENGTH, KEY_FORMAT_TYPE, KEY_MATERIAL, KEY_VALUE,
+    KEY_WRAPPING_DATA,
+};
+use kmipa_attrs::fields::{bytes_at, enumeration_at, inside, integer_at, structure_at};
+use kmipa_attrs::{Field, both};
+use kmipa_ttlv::View;
+
+/// The key that the children of a Key Block say.
+pub fn read_key_block<'a>(block: &[View<'a>]) -> Result<KeyBlock<'a>, OutsideKind>
+    ensures { map_ok block_of result ≡ block_in (view_trees block.now) }
+{
+    let algorithm = enumeration_at(block, CRYPTOGRAPHIC_ALGORITHM).optional(OutsideKind::Missing);
+    let length = integer_at(block, CRYPTOGRAPHIC_LENGTH).optional(OutsideKind::Missing);
+    let unwrapped = unless_there(block, KEY_WRAPPING_DATA, OutsideKind::Wrapped);
+    let material = bytes_at(inside(block, KEY_VALUE), KEY_MATERIAL).needed(
+        OutsideKind::Missing,
+        OutsideKind::Format,
+    );
+    let rows = both(
+        both(
+            both(both(format(block), algorithm), length),
+            both(unwrapped, value_there(block)),
+        ),
+        material,
+    );
+    match rows {
+        Ok(((((format, algorithm), length), _), material)) => Ok(KeyBlock {
+            format,
+            material,
+            algorithm,
+            length,
+        }),
+        Err(kind) => Err(kind),
+    }
+}
+
+fn format(block: &[View]) -> Result<KeyFormat, OutsideKind>
+    ensures { result ≡ listed (at as_enumeration 0x42_0042 (view_trees block.now)) format_of OutsideKind.Missing OutsideKind.Format }
+{
+    match enumeration_at(block, KEY_FORMAT_TYPE) {
+        Field::There(number) => of_table(KeyFormat::of(number), OutsideKind::Format),
+        _ => Err(OutsideKind::Missing),
+    }
+}
+
+/// That there is a Key Value.
+fn value_there(block: &[View]) -> Result<(), OutsideKind>
+    ensures { result ≡ there (at as_structure 0x42_0045 (view_trees block.now)) OutsideKind.Missing OutsideKind.Format }
+{
+    match structure_at(block, KEY_VALUE) {
+        Field::There(_) => Ok(()),
+        Field::Absent => Err(OutsideKind::Missing),
+        Field::Wrong => Err(OutsideKind::Format),
+    }
+}

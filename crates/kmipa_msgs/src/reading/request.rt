@@ -1,0 +1,99 @@
+//! Requests.
+
+ghost use Rattle.std.specs.Prelude.{◌≡◌};
+ghost use Rattle.kmipa_ttlv.specs.ViewTree.{view_tree, view_trees};
+ghost use Rattle.kmipa_attrs.specs.Fields.{at, as_enumeration, as_boolean};
+ghost use Rattle.kmipa_msgs.specs.Messages.{request_of};
+ghost use Rattle.kmipa_msgs.specs.Outside.{Gives};
+ghost use Rattle.kmipa_msgs.specs.Requests.{TellsRequest, option_in, order_in, in_order, order_said, request_in};
+
+use crate::fault::{Outside, ReadFault};
+use crate::kind::OutsideKind;
+use crate::reading::ask::read_asks;
+use crate::reading::header::{is_count, is_version, item_count, message_parts};
+use crate::reading::rows::of_table;
+use crate::request::{BatchOption, Request};
+use crate::tags::{
+    BATCH_ERROR_CONTINUATION_OPTION, BATCH_ORDER_OPTION, REQUEST_HEADER, REQUEST_MESSAGE,
+};
+use kmipa_attrs::fields::{boolean_at, enumeration_at};
+use kmipa_attrs::{Field, both, passing};
+use kmipa_ttlv::View;
+use std::alloc::Global;
+
+/// The request that an item says, else where and why it is outside the profile.
+///
+/// Identifiers and key bytes are lent from what the view borrows.
+pub fn read_request<'a>(alloc: Global, message: &View<'a>) -> Result<Request<'a>, ReadFault>
+    ensures { TellsRequest (view_tree message.now) result }
+{
+    request(alloc, message)
+}
+
+fn request<'a>(alloc: Global, message: &View<'a>) -> Result<Request<'a>, ReadFault>
+    ensures { Gives request_of result (request_in (view_tree message.now)) }
+{
+    let Some((children, header)) = message_parts(message, REQUEST_MESSAGE, REQUEST_HEADER) else {
+        return Err(ReadFault::Outside(Outside {
+            item: 0,
+            kind: OutsideKind::NotAMessage,
+        }));
+    };
+    let (option, ordered) = match request_header(header, item_count(children)) {
+        Ok(said) => said,
+        Err(kind) => return Err(ReadFault::Outside(Outside { item: 0, kind })),
+    };
+    let items = read_asks(alloc, children)?;
+    Ok(Request {
+        option,
+        ordered,
+        items,
+    })
+}
+
+/// What a header says before so many items: the option, and whether they are in order.
+fn request_header(header: &[View], items: usize) -> Result<(BatchOption, bool), OutsideKind>
+    ensures { result ≡ order_said (view_trees header.now) items }
+{
+    let version = passing(is_version(header), (), OutsideKind::Version);
+    let count = passing(is_count(header, items), (), OutsideKind::Count);
+    let order = passing(in_order(header, items), (), OutsideKind::Unordered);
+    let plain = both(version, both(count, order));
+    let said = both(batch_option(header), ordered(header));
+    match both(plain, said) {
+        Ok((_, said)) => Ok(said),
+        Err(kind) => Err(kind),
+    }
+}
+
+/// Stop where no option is there.
+fn batch_option(header: &[View]) -> Result<BatchOption, OutsideKind>
+    ensures { result ≡ option_in (at as_enumeration 0x42_000E (view_trees header.now)) }
+{
+    match enumeration_at(header, BATCH_ERROR_CONTINUATION_OPTION) {
+        Field::There(number) => of_table(BatchOption::of(number), OutsideKind::Missing),
+        Field::Absent => Ok(BatchOption::Stop),
+        Field::Wrong => Err(OutsideKind::Missing),
+    }
+}
+
+/// True where no option is there.
+fn ordered(header: &[View]) -> Result<bool, OutsideKind>
+    ensures { result ≡ order_in (at as_boolean 0x42_0010 (view_trees header.now)) }
+{
+    match boolean_at(header, BATCH_ORDER_OPTION) {
+        Field::There(ordered) => Ok(ordered),
+        Field::Absent => Ok(true),
+        Field::Wrong => Err(OutsideKind::Missing),
+    }
+}
+
+/// Whether there aren't several items in no order.
+fn in_order(header: &[View], items: usize) -> bool
+    ensures { result ≡ in_order (at as_boolean 0x42_0010 (view_trees header.now)) items }
+{
+    match boolean_at(header, BATCH_ORDER_OPTION) {
+        Field::There(false) => items < 2,
+        _ => true,
+    }
+}

@@ -1,0 +1,66 @@
+//! Responses.
+
+ghost use Rattle.std.specs.Prelude.{◌≡◌};
+ghost use Rattle.kmipa_ttlv.specs.ViewTree.{view_tree, view_trees};
+ghost use Rattle.kmipa_msgs.specs.Messages.{request_of, response_of};
+ghost use Rattle.kmipa_msgs.specs.Outside.{Gives};
+ghost use Rattle.kmipa_msgs.specs.Responses.{TellsResponse, stamp_said, response_in};
+
+use crate::fault::{Outside, ReadFault};
+use crate::kind::OutsideKind;
+use crate::reading::answer::read_answers;
+use crate::reading::header::{is_count, is_version, item_count, message_parts};
+use crate::request::Request;
+use crate::response::Response;
+use crate::tags::{RESPONSE_HEADER, RESPONSE_MESSAGE, TIME_STAMP};
+use kmipa_attrs::fields::date_at;
+use kmipa_attrs::{both, passing};
+use kmipa_ttlv::View;
+use std::alloc::Global;
+
+/// The response to a request that an item says, else where and why it is outside the profile.
+///
+/// Identifiers and key bytes are lent from what the view borrows.
+pub fn read_response<'a>(
+    alloc: Global,
+    message: &View<'a>,
+    request: &Request,
+) -> Result<Response<'a>, ReadFault>
+    ensures { TellsResponse (view_tree message.now) (request_of request.now) result }
+{
+    response(alloc, message, request)
+}
+
+fn response<'a>(
+    alloc: Global,
+    message: &View<'a>,
+    request: &Request,
+) -> Result<Response<'a>, ReadFault>
+    ensures { Gives response_of result (response_in (view_tree message.now) (request_of request.now)) }
+{
+    let Some((children, header)) = message_parts(message, RESPONSE_MESSAGE, RESPONSE_HEADER) else {
+        return Err(ReadFault::Outside(Outside {
+            item: 0,
+            kind: OutsideKind::NotAMessage,
+        }));
+    };
+    let stamp = match response_header(header, item_count(children)) {
+        Ok(stamp) => stamp,
+        Err(kind) => return Err(ReadFault::Outside(Outside { item: 0, kind })),
+    };
+    let items = read_answers(alloc, children, &request.items)?;
+    Ok(Response { stamp, items })
+}
+
+/// The Time Stamp of a header before so many items.
+fn response_header(header: &[View], items: usize) -> Result<i64, OutsideKind>
+    ensures { result ≡ stamp_said (view_trees header.now) items }
+{
+    let version = passing(is_version(header), (), OutsideKind::Version);
+    let count = passing(is_count(header, items), (), OutsideKind::Count);
+    let stamp = date_at(header, TIME_STAMP).needed(OutsideKind::Missing, OutsideKind::Missing);
+    match both(both(version, count), stamp) {
+        Ok((_, stamp)) => Ok(stamp),
+        Err(kind) => Err(kind),
+    }
+}

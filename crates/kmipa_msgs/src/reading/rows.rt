@@ -1,0 +1,30 @@
+//! Rows that several structures share.
+
+ghost use Rattle.std.specs.Prelude.{◌≡◌};
+ghost use Rattle.kmipa_ttlv.specs.ViewTree.{view_trees};
+ghost use Rattle.kmipa_attrs.specs.Fields.{first};
+ghost use Rattle.kmipa_msgs.specs.Tables.{of_table, unless_there};
+
+use crate::kind::OutsideKind;
+use kmipa_attrs::fields::first;
+use kmipa_ttlv::View;
+
+/// The value that a number has in a table, else the kind.
+pub fn of_table<T: Copy>(value: Option<T>, off: OutsideKind) -> Result<T, OutsideKind>
+    ensures { result ≡ of_table value off }
+{
+    match value {
+        Some(value) => Ok(value),
+        None => Err(off),
+    }
+}
+
+/// That no child has the tag.
+pub fn unless_there(children: &[View], tag: u32, kind: OutsideKind) -> Result<(), OutsideKind>
+    ensures { result ≡ unless_there (first tag (view_trees children.now)) kind }
+{
+    if first(children, tag).is_some() {
+        return Err(kind);
+    }
+    Ok(())
+}
