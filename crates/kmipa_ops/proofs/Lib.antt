@@ -1,0 +1,10 @@
+mod TestLemmas
+mod ScanLemmas
+mod StepLemmas
+pub mod AddLemmas
+mod RegisterLemmas
+mod GetLemmas
+mod MeantLemmas
+mod LowestLemmas
+mod ItemLemmas
+pub mod ExplainLemmas

@@ -64,9 +64,13 @@ Taken rules s before t ask answer (Err Memory) u after = u.marks ≡ s.marks
 abbrev pub is_readable : AskOf → AnswerOf → Bool
 is_readable ask answer = is_other (λ (x y : ℕ). x == y) answer.operation (operation_number (operation_asked ask.asked)) || can_judge answer.status ask.asked answer.payload
 
--- the bytes that are told are numbers below 256
+-- bytes that are told are numbers below 256
+abbrev pub AreBytes : Option (List ℕ) → Type 0
+AreBytes None = Unit {0}
+AreBytes (Some bytes) = All (λ b. b < 256) bytes
+
 abbrev pub TellsBytes : AskOf → AnswerOf → Type 0
-TellsBytes ask answer = (bytes : List ℕ) → Tells ((ask, answer) ∷ []) bytes → All (λ b. b < 256) bytes
+TellsBytes ask answer = AreBytes (brings ask.asked) × AreBytes (shows answer.payload)
 
 -- an item is possible for some choice
 pub record IsPossible (rules : RulesOf) (m : Meaning) (before : Option (List ℕ)) (t : ℤ) (ask : AskOf) (answer : AnswerOf) : Type 0 where

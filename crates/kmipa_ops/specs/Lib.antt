@@ -7,3 +7,5 @@ pub mod Completes
 pub mod Chains
 pub mod Blame
 pub mod Explains
+pub mod After
+pub mod Shown

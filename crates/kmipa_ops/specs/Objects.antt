@@ -1,5 +1,5 @@
 -- What an item is about: the identifier that is meant, the object that has it, and the fields that repeat what is known.
-use Rattle.std.specs.Prelude.{◌≡◌, ◌&&◌, ◌==◌, ℕ, Bool, true, false, not, List, Option, Some, None, bytes_eq, slice_get, option_and_then}
+use Rattle.std.specs.Prelude.{◌≡◌, ◌&&◌, ◌==◌, ℕ, Bool, false, not, List, Option, Some, None, bytes_eq, slice_get, option_and_then}
 use Rattle.std.specs.List.{list_any}
 use Rattle.kmipa_attrs.specs.Sets.{NameOf}
 use Rattle.kmipa_attrs.specs.ObjectTypes.{type_number}

@@ -1,8 +1,19 @@
 //! One item of a batch: Ok exactly where some inventory allows it, or the lowest reason why none does.
 #![tactic(auto)]
 
+mod echo;
+mod failed;
+mod get;
+mod laws;
+mod objects;
 mod placeholder;
+mod readable;
+mod register;
+mod taking;
 mod why;
 
+pub use laws::{blame_is_exact, chains_complete};
 pub use placeholder::Placeholder;
+pub use readable::is_readable;
+pub use taking::take;
 pub use why::{Refusal, Why};

@@ -1,0 +1,282 @@
+-- Get: what a ledger leaves that was shown an object's bytes.
+use Rattle.std.proofs.Common.{◌≡◌, ◌&&◌, ◌==◌, ◌<◌, ℕ, ℤ, Bool, true, false, not, List, length, slice_get, All, is_none, bytes_eq, option_map, Option, Some, None, refl, ap, sym, ◌∙◌, subst, inl, inr, arith}
+use Rattle.std.specs.Ordering.{int_eq}
+use Rattle.std.specs.Option.{option_and_then}
+use Rattle.std.specs.Prelude.{if◌then◌else◌}
+use Rattle.std.proofs.lemmas.Slice.Eq.{bytes_eq-Decides}
+use Rattle.std.proofs.lemmas.Bool.{or_parts}
+use Rattle.std.proofs.lemmas.Bool.Decides.{Decides-eqb, Decides-int_eq}
+use Rattle.kmipa_attrs.specs.declared.object_type.ObjectType.{ObjectType}
+use Rattle.kmipa_attrs.specs.declared.object_type.ObjectType.TheVariants.{SymmetricKey, SecretData}
+use Rattle.std.specs.Bool.{Decides}
+use Rattle.kmipa_object.specs.Inventory.{Card, Thing, Admitted, place_of, rule_of, admits, live}
+use Rattle.kmipa_object.specs.Life.{state, has_come}
+use Rattle.kmipa_object.specs.Table.{allowed}
+use Rattle.kmipa_object.specs.declared.allow.Act.TheVariants as act
+use Rattle.kmipa_object.specs.declared.state.State.TheVariants.{PreActive, Active, Deactivated}
+use Rattle.kmipa_object.specs.declared.life.Material.{Material}
+use Rattle.kmipa_object.specs.declared.life.Material.TheVariants.{Gone, Secret}
+use Rattle.kmipa_object.specs.declared.life.SecretNo.{SecretNo}
+use Rattle.kmipa_store.specs.Ledger.{Held, Known, Meaning, cards_of, told}
+use Rattle.kmipa_store.specs.Calls.{differs, differs_from, breaks}
+use Rattle.kmipa_store.specs.Choices.{Choice, Suits, Chooses, inv, thing, bytes_of, IsSound, GoneIfDestroyed}
+use Rattle.kmipa_store.proofs.ChoiceLemmas.{override, override_same, agrees_same, Chooses-told, told_bytes, Chooses-override, extends_told, length-told}
+use Rattle.kmipa_store.proofs.InventoryLemmas.{cards-inv, get-inv}
+use Rattle.kmipa_store.proofs.SoundLemmas.{inv_found, InRange-extends}
+use Rattle.kmipa_msgs.specs.Messages.{GotOf}
+use Rattle.kmipa_ops.specs.declared.why.Why.{Why}
+use Rattle.kmipa_ops.specs.declared.why.Why.TheVariants.{NoSuchObject, WrongState, BytesDiffer, LengthImpossible, AttributeDiffers, EchoDiffers}
+use Rattle.kmipa_ops.specs.Objects.{meant, Echoes, Agree, is_other, clash, same_type}
+use Rattle.kmipa_ops.specs.Does.{Gets}
+use Rattle.kmipa_ops.specs.Blame.{object_meant, secret_at, secret_meant, is_not, is_excluded, shows_other, is_other_id, get_speaks}
+use Rattle.kmipa_ops.specs.After.{taught, taught_at}
+use Rattle.kmipa_ops.proofs.TestLemmas.{not_false, not_none, echoes_if, echoes_not, agree_if, agree_not, or_cases}
+use Rattle.kmipa_ops.proofs.StepLemmas.{Step, chose_before}
+
+pub same_type-Decides : (x y : ObjectType) → Decides (same_type x y) (x ≡ y)
+same_type-Decides SymmetricKey SymmetricKey = (λ h. refl, λ h. refl)
+same_type-Decides SymmetricKey SecretData = (λ h. let bad : ⊥ = cc in absurd bad, λ h. let bad : ⊥ = cc in absurd bad)
+same_type-Decides SecretData SymmetricKey = (λ h. let bad : ⊥ = cc in absurd bad, λ h. let bad : ⊥ = cc in absurd bad)
+same_type-Decides SecretData SecretData = (λ h. refl, λ h. refl)
+
+-- the state excludes a Get exactly where the Destroy Date is set
+pub alive_if : (i a d e c : Option ℤ) (t : ℤ) → is_not (allowed act.Get (state (record { initial = i; activation = a; deactivation = d; destroy = e; compromise = c }) t)) ≡ false → is_none e ≡ true
+alive_if i a d None c t h = refl
+alive_if i a d (Some x) None t h = cc
+alive_if i a d (Some x) (Some y) t h = cc
+
+pub alive_not : (i a d e c : Option ℤ) (t : ℤ) → is_none e ≡ true → is_not (allowed act.Get (state (record { initial = i; activation = a; deactivation = d; destroy = e; compromise = c }) t)) ≡ true → ⊥
+alive_not i a d None (Some y) t h x = cc
+alive_not i a d None None t h x =
+    (elim (has_come a t) as (λ b. is_not (allowed act.Get (if not b then PreActive else if has_come d t then Deactivated else Active)) ≡ true → ⊥) [
+      | false ↦ λ q. cc
+      | true ↦ (elim (has_come d t) as (λ b. is_not (allowed act.Get (if b then Deactivated else Active)) ≡ true → ⊥) [ false ↦ λ q. cc | true ↦ λ q. cc ])
+    ]) x
+alive_not i a d (Some z) c t h x = cc
+
+-- the object that is meant is at a place, is live, and has a secret
+pub record Finds (m : Meaning) (about : Option (List ℕ)) (id : List ℕ) (place : ℕ) (h : Held) (s : SecretNo) : Type 0 where
+  pub about_is : about ≡ Some id
+  pub named : place_of id (cards_of m.objects) ≡ Some place
+  pub stands : slice_get m.objects place ≡ Some h
+  pub alive : live h.card ≡ true
+  pub secret : h.material ≡ Secret s
+
+pub meant_is : (m : Meaning) (about : Option (List ℕ)) (id : List ℕ) (place : ℕ) (h : Held) → about ≡ Some id → place_of id (cards_of m.objects) ≡ Some place → slice_get m.objects place ≡ Some h → object_meant m.objects about ≡ Some h
+meant_is m about id place h e f g = ap (object_meant m.objects) e ∙ ap (option_and_then (slice_get m.objects)) f ∙ g
+
+there_at : (o : Option ℕ) (hs : List Held) (h : Held) → option_and_then (slice_get hs) o ≡ Some h → (p : ℕ) × (o ≡ Some p) × (slice_get hs p ≡ Some h)
+there_at None hs h e = let bad : ⊥ = cc in absurd bad
+there_at (Some p) hs h e = (p, refl, e)
+
+pub meant_at : (hs : List Held) (about : Option (List ℕ)) (h : Held) → object_meant hs about ≡ Some h → (id : List ℕ) × (about ≡ Some id) × (p : ℕ) × (place_of id (cards_of hs) ≡ Some p) × (slice_get hs p ≡ Some h)
+meant_at hs None h e = let bad : ⊥ = cc in absurd bad
+meant_at hs (Some id) h e = let r = there_at (place_of id (cards_of hs)) hs h e in (id, refl, r.0, r.1, r.2)
+
+live_secret : (b : Bool) (mat : Material) → b ≡ true → GoneIfDestroyed b mat → (s : SecretNo) × (mat ≡ Secret s)
+live_secret false mat e g = let bad : ⊥ = cc in absurd bad
+live_secret true Gone e g = absurd g
+live_secret true (Secret s) e g = (s, refl)
+
+pub finds : (m : Meaning) (about : Option (List ℕ)) (t : ℤ) → IsSound m → is_none (object_meant m.objects about) ≡ false → is_excluded act.Get t (object_meant m.objects about) ≡ false
+    → (id : List ℕ) × (place : ℕ) × (h : Held) × (s : SecretNo) × Finds m about id place h s
+finds m about t sound there fits =
+    let o = not_none (object_meant m.objects about) there in
+    let at = meant_at m.objects about o.0 o.1 in
+    let d = o.0.card.dates in
+    let alive : live o.0.card ≡ true = alive_if d.initial d.activation d.deactivation d.destroy d.compromise t (ap (is_excluded act.Get t) (sym o.1) ∙ fits) in
+    let s = live_secret (live o.0.card) o.0.material alive (sound.gone at.2 o.0 at.4) in
+    (at.0, at.2, o.0, s.0, record { about_is = at.1; named = at.3; stands = at.4; alive = alive; secret = s.1 })
+
+module _ (m : Meaning) (before asked : Option (List ℕ)) (t : ℤ) where
+  abbrev about : Option (List ℕ)
+  about = meant asked before
+
+  secret_is : (id : List ℕ) (place : ℕ) (h : Held) (s : SecretNo) → Finds m about id place h s → secret_meant m about ≡ slice_get m.secrets s.number
+  secret_is id place h s f =
+      ap (option_and_then (λ (g : Held). secret_at m.secrets g.material)) (meant_is m about id place h f.about_is f.named f.stands)
+      ∙ ap (secret_at m.secrets) f.secret
+
+  -- a Get of it, under a choice that gives it the bytes that are shown
+  pub links : (id : List ℕ) (place : ℕ) (h : Held) (s : SecretNo) (a : GotOf) → Finds m about id place h s → shows_other a (object_meant m.objects about) ≡ false → is_other_id a.id about ≡ false
+      → (c : Choice) → c s.number ≡ a.block.material → Gets (inv c m.objects) before asked a (inv c m.objects) before
+  links id place h s a f other echo c is =
+      let o : shows_other a (Some h) ≡ false = ap (shows_other a) (sym (meant_is m about id place h f.about_is f.named f.stands)) ∙ other in
+      let x = or_parts _ (clash int_eq a.block.length h.card.given.length) o in
+      let y = or_parts _ (clash (λ (i j : ℕ). i == j) a.block.algorithm h.card.given.algorithm) x.0 in
+      let z = or_parts (is_other same_type a.object_type h.card.kind) (not (same_type a.shape h.card.kind)) y.0 in
+      record {
+        id = id;
+        place = place;
+        object = thing c h;
+        about = f.about_is;
+        there = record { named = ap (place_of id) (cards-inv c m.objects) ∙ f.named; stands = get-inv c m.objects place ∙ ap (option_map (thing c)) f.stands };
+        alive = f.alive;
+        bytes = ap (bytes_of c) f.secret ∙ ap Some is;
+        kind = echoes_if same_type same_type-Decides a.object_type h.card.kind z.0;
+        shape = (same_type-Decides a.shape h.card.kind).0 (not_false (same_type a.shape h.card.kind) z.1);
+        algorithm = agree_if (λ (i j : ℕ). i == j) Decides-eqb a.block.algorithm h.card.given.algorithm y.1;
+        length = agree_if int_eq Decides-int_eq a.block.length h.card.given.length x.1;
+        echo = echoes_if bytes_eq bytes_eq-Decides a.id id (ap (is_other_id a.id) (sym f.about_is) ∙ echo);
+        leaves = refl;
+        placeholder = refl;
+      }
+
+  material_is : (c : Choice) (mat : Material) (b : List ℕ) → bytes_of c mat ≡ Some b → (s : SecretNo) × (mat ≡ Secret s) × (c s.number ≡ b)
+  material_is c Gone b e = let bad : ⊥ = cc in absurd bad
+  material_is c (Secret s) b e = (s, refl, cc)
+
+  -- what a Get of an inventory under a choice is about
+  pub found_by : (a : GotOf) (c : Choice) (V : List Thing) (p : Option (List ℕ)) (x : Gets (inv c m.objects) before asked a V p)
+      → (h : Held) × (s : SecretNo) × Finds m about x.id x.place h s × (thing c h ≡ x.object) × (c s.number ≡ a.block.material)
+  found_by a c V p x =
+      let o = inv_found c m.objects x.place x.object x.there.stands in
+      let s = material_is c o.0.material a.block.material (ap (λ (y : Thing). y.bytes) o.2 ∙ x.bytes) in (
+        o.0,
+        s.0,
+        record {
+          about_is = x.about;
+          named = ap (place_of x.id) (sym (cards-inv c m.objects)) ∙ x.there.named;
+          stands = o.1;
+          alive = ap (λ (y : Thing). live y.card) o.2 ∙ x.alive;
+          secret = s.1;
+        },
+        o.2,
+        s.2,
+      )
+
+  one_found : (i j : List ℕ) (p q : ℕ) (g h : Held) (r s : SecretNo) → Finds m about i p g r → Finds m about j q h s → r ≡ s
+  one_found i j p q g h r s e f =
+      let same : Some g ≡ Some h = sym (meant_is m about i p g e.about_is e.named e.stands) ∙ meant_is m about j q h f.about_is f.named f.stands in
+      let is : g ≡ h = cc in
+      let mats : Secret r ≡ Secret s = sym e.secret ∙ ap (λ (x : Held). x.material) is ∙ f.secret in
+      cc
+
+  -- the bytes that are shown suit the secret
+  fits_known : (k : Known) (b x : List ℕ) → differs (Some k) b ≡ false → k.bytes ≡ Some x → b ≡ x
+  fits_known k b x h e =
+      let f : not (bytes_eq x b) ≡ false = ap (λ (o : Option (List ℕ)). differs_from o b) (sym e) ∙ h in
+      sym ((bytes_eq-Decides x b).0 (not_false (bytes_eq x b) f))
+
+  fits_rule : (k : Known) (b : List ℕ) (c : List ℕ) → Suits k c → All (λ x. x < 256) b → differs (Some k) b ≡ false → breaks (Some k) b ≡ false → Admitted k.rule b
+  fits_rule k b c u small same fits =
+      (elim k.bytes as (λ o. k.bytes ≡ o → (is_none o && not (admits k.rule b)) ≡ false → Admitted k.rule b) [
+        | None ↦ λ e q. record { admitted = not_false (admits k.rule b) q; small = small }
+        | Some x ↦ λ e q. subst (λ (y : List ℕ). Admitted k.rule y) (u.known x e ∙ sym (fits_known k b x same e)) u.admitted
+      ]) refl fits
+
+  taught_is : (id : List ℕ) (place : ℕ) (h : Held) (s : SecretNo) (b : List ℕ) → Finds m about id place h s
+      → taught m (object_meant m.objects about) b ≡ record { objects = m.objects; secrets = told m.secrets s.number b }
+  taught_is id place h s b f =
+      ap (λ (o : Option Held). taught m o b) (meant_is m about id place h f.about_is f.named f.stands) ∙ ap (λ (x : Material). taught_at m x b) f.secret
+
+  told_step : (id : List ℕ) (place : ℕ) (h : Held) (s : SecretNo) (k : Known) (a : GotOf) → Finds m about id place h s → slice_get m.secrets s.number ≡ Some k → IsSound m
+      → ((x : List ℕ) → k.bytes ≡ Some x → a.block.material ≡ x) → Admitted k.rule a.block.material
+      → shows_other a (object_meant m.objects about) ≡ false → is_other_id a.id about ≡ false
+      → Step (λ V V' p. Gets V before asked a V' p) m (record { objects = m.objects; secrets = told m.secrets s.number a.block.material }) before
+  told_step id place h s k a f at sound fits admitted other echo =
+      let b : List ℕ = a.block.material in
+      let suits : Suits k b = record { admitted = admitted; known = fits } in
+      record {
+        sound = λ c ch. (chose_before m.secrets s.number k b c at fits ch, links id place h s a f other echo c (told_bytes m.secrets s.number k b c at ch));
+        complete = λ c ch V p x.
+            let r = found_by a c V p x in
+            let same : r.1 ≡ s = one_found x.id id x.place place r.0 h r.1 s r.2 f in
+            let is : c s.number ≡ b = ap (λ (y : SecretNo). c y.number) (sym same) ∙ r.4 in
+            (c, Chooses-told m.secrets s.number k b c at is ch, agrees_same (length m.secrets) c, x.leaves, x.placeholder);
+        grows = omega (arith, length-told m.secrets s.number b);
+        extends = extends_told m.secrets s.number b;
+        kept = record {
+          in_range = InRange-extends m.objects m.secrets (told m.secrets s.number b) sound.in_range (extends_told m.secrets s.number b);
+          gone = sound.gone;
+          distinct = sound.distinct;
+          choice = (
+            override sound.choice.0 s.number b,
+            Chooses-told m.secrets s.number k b (override sound.choice.0 s.number b) at (override_same sound.choice.0 s.number b)
+                (Chooses-override m.secrets s.number k b sound.choice.0 at suits sound.choice.1),
+          );
+        };
+      }
+
+  pub get_step : (a : GotOf) → IsSound m → All (λ x. x < 256) a.block.material → ((w : Why) → get_speaks m about t (Some a) w ≡ false)
+      → Step (λ V V' p. Gets V before asked a V' p) m (taught m (object_meant m.objects about) a.block.material) before
+  get_step a sound small silent =
+      let b : List ℕ = a.block.material in
+      let f = finds m about t sound (silent NoSuchObject) (silent WrongState) in
+      let r = sound.in_range.there f.1 f.2 f.3 f.4.stands f.4.secret in
+      let k : Known = record { rule = rule_of f.2.card; bytes = r.0 } in
+      let is : secret_meant m about ≡ Some k = secret_is f.0 f.1 f.2 f.3 f.4 ∙ r.1 in
+      let same : differs (Some k) b ≡ false = ap (λ (o : Option Known). differs o b) (sym is) ∙ silent BytesDiffer in
+      let fits : breaks (Some k) b ≡ false = ap (λ (o : Option Known). breaks o b) (sym is) ∙ silent LengthImpossible in
+      let admitted = fits_rule k b (sound.choice.0 f.3.number) (sound.choice.1.suits f.3.number k r.1) small same fits in
+      let P : Meaning → Type 0 = λ n. Step (λ V V' p. Gets V before asked a V' p) m n before in
+      subst P (sym (taught_is f.0 f.1 f.2 f.3 b f.4))
+      (told_step f.0 f.1 f.2 f.3 k a f.4 r.1 sound (λ x e. fits_known k b x same e) admitted (silent AttributeDiffers) (silent EchoDiffers))
+
+  -- what speaks against it allows no choice
+  not_absent : (a : GotOf) (c : Choice) (V : List Thing) (p : Option (List ℕ)) → is_none (object_meant m.objects about) ≡ true → Gets (inv c m.objects) before asked a V p → ⊥
+  not_absent a c V p h x =
+      let r = found_by a c V p x in
+      let e : is_none (object_meant m.objects about) ≡ false = ap is_none (meant_is m about x.id x.place r.0 r.2.about_is r.2.named r.2.stands) in
+      cc
+
+  not_excluded : (a : GotOf) (c : Choice) (V : List Thing) (p : Option (List ℕ)) → is_excluded act.Get t (object_meant m.objects about) ≡ true → Gets (inv c m.objects) before asked a V p → ⊥
+  not_excluded a c V p h x =
+      let r = found_by a c V p x in
+      let d = r.0.card.dates in
+      alive_not d.initial d.activation d.deactivation d.destroy d.compromise t r.2.alive
+      (ap (is_excluded act.Get t) (sym (meant_is m about x.id x.place r.0 r.2.about_is r.2.named r.2.stands)) ∙ h)
+
+  suits_differ : (o : Option Known) (n : ℕ) (b : List ℕ) (c : Choice) → o ≡ slice_get m.secrets n → Chooses m.secrets c → c n ≡ b → differs o b ≡ true → ⊥
+  suits_differ None n b c at ch is h = cc
+  suits_differ (Some k) n b c at ch is h =
+      (elim k.bytes as (λ o. k.bytes ≡ o → differs_from o b ≡ true → ⊥) [
+        | None ↦ λ e q. cc
+        | Some x ↦ λ e q.
+            let same : x ≡ b = sym ((ch.suits n k (sym at)).known x e) ∙ is in
+            let f : not (bytes_eq x b) ≡ false = ap not ((bytes_eq-Decides x b).1 same) in
+            cc
+      ]) refl h
+
+  and_right : (x y : Bool) → (x && y) ≡ true → y ≡ true
+  and_right true y h = h
+  and_right false y h = cc
+
+  suits_break : (o : Option Known) (n : ℕ) (b : List ℕ) (c : Choice) → o ≡ slice_get m.secrets n → Chooses m.secrets c → c n ≡ b → breaks o b ≡ true → ⊥
+  suits_break None n b c at ch is h = cc
+  suits_break (Some k) n b c at ch is h =
+      let fits : not (admits k.rule b) ≡ false = ap not (ap (admits k.rule) (sym is) ∙ (ch.suits n k (sym at)).admitted.admitted) in
+      let q : not (admits k.rule b) ≡ true = and_right (is_none k.bytes) (not (admits k.rule b)) h in
+      cc
+
+  not_other : (a : GotOf) (c : Choice) (V : List Thing) (p : Option (List ℕ)) → shows_other a (object_meant m.objects about) ≡ true → Gets (inv c m.objects) before asked a V p → ⊥
+  not_other a c V p h x =
+      let r = found_by a c V p x in
+      let card : x.object.card ≡ r.0.card = sym (ap (λ (y : Thing). y.card) r.3) in
+      let g : Card = r.0.card in
+      let o : shows_other a (Some r.0) ≡ true = ap (shows_other a) (sym (meant_is m about x.id x.place r.0 r.2.about_is r.2.named r.2.stands)) ∙ h in
+      elim (or_cases _ (clash int_eq a.block.length g.given.length) o) [
+        | inr q ↦ agree_not int_eq Decides-int_eq a.block.length g.given.length q (subst (λ (y : Card). Agree a.block.length y.given.length) card x.length)
+        | inl q ↦ (elim (or_cases _ (clash (λ (i j : ℕ). i == j) a.block.algorithm g.given.algorithm) q) [
+          | inr u ↦ agree_not (λ (i j : ℕ). i == j) Decides-eqb a.block.algorithm g.given.algorithm u (subst (λ (y : Card). Agree a.block.algorithm y.given.algorithm) card x.algorithm)
+          | inl u ↦ (elim (or_cases (is_other same_type a.object_type g.kind) (not (same_type a.shape g.kind)) u) [
+            | inl v ↦ echoes_not same_type same_type-Decides a.object_type g.kind v (subst (λ (y : Card). Echoes a.object_type y.kind) card x.kind)
+            | inr v ↦
+                let e : not (same_type a.shape g.kind) ≡ false = ap not ((same_type-Decides a.shape g.kind).1 (x.shape ∙ ap (λ (y : Card). y.kind) card)) in
+                cc
+          ])
+        ])
+      ]
+
+  pub get_never : (a : GotOf) (w : Why) → get_speaks m about t (Some a) w ≡ true → (c : Choice) → Chooses m.secrets c → (V : List Thing) (p : Option (List ℕ)) → Gets (inv c m.objects) before asked a V p → ⊥
+  get_never a NoSuchObject h c ch V p x = not_absent a c V p h x
+  get_never a WrongState h c ch V p x = not_excluded a c V p h x
+  get_never a BytesDiffer h c ch V p x =
+      let r = found_by a c V p x in
+      suits_differ (secret_meant m about) r.1.number a.block.material c (secret_is x.id x.place r.0 r.1 r.2) ch r.4 h
+  get_never a LengthImpossible h c ch V p x =
+      let r = found_by a c V p x in
+      suits_break (secret_meant m about) r.1.number a.block.material c (secret_is x.id x.place r.0 r.1 r.2) ch r.4 h
+  get_never a AttributeDiffers h c ch V p x = not_other a c V p h x
+  get_never a EchoDiffers h c ch V p x = echoes_not bytes_eq bytes_eq-Decides a.id x.id (ap (is_other_id a.id) (sym x.about) ∙ h) x.echo
+  get_never a w h c ch V p x = cc

@@ -1,0 +1,72 @@
+-- The ledger and the placeholder after an item against which nothing speaks: of an unknown secret that a Get shows the bytes are known then.
+use Rattle.std.specs.Prelude.{ℕ, ℤ, List, [], ◌∷◌, ◌++◌, ◌≡◌, length, Option, Some, None, Result, Ok, Err}
+use Rattle.kmipa_object.specs.Inventory.{rule_of}
+use Rattle.kmipa_object.specs.declared.life.Material.{Material}
+use Rattle.kmipa_object.specs.declared.life.Material.TheVariants.{Gone, Secret}
+use Rattle.kmipa_object.specs.declared.life.SecretNo.{SecretNo}
+use Rattle.kmipa_object.specs.declared.rule.Rule.{Rule}
+use Rattle.kmipa_store.specs.Ledger.{Held, Meaning, LedgerState, changed, told}
+use Rattle.kmipa_msgs.specs.declared.response.Status.{Status}
+use Rattle.kmipa_msgs.specs.declared.response.Status.TheVariants.{Success, Failed, Undone}
+use Rattle.kmipa_msgs.specs.Messages.{RegisterOf, AskedOf, registers, gets, PayloadOf, registered, got}
+use Rattle.kmipa_ops.specs.Objects.{meant}
+use Rattle.kmipa_ops.specs.Does.{newborn}
+use Rattle.kmipa_ops.specs.Blame.{object_meant}
+
+-- with the object of a Register, and a secret of its own
+abbrev pub with_registered : Meaning → ℤ → RegisterOf → List ℕ → Meaning
+with_registered m t r id = record {
+  objects = m.objects ++ record { card = newborn t id r; material = Secret (record { number = length m.secrets }) } ∷ [];
+  secrets = m.secrets ++ record { rule = rule_of (newborn t id r); bytes = Some r.block.material } ∷ [];
+}
+
+-- with the bytes that a Get shows
+abbrev pub taught_at : Meaning → Material → List ℕ → Meaning
+taught_at m Gone bytes = m
+taught_at m (Secret secret) bytes = record { objects = m.objects; secrets = told m.secrets secret.number bytes }
+
+abbrev pub taught : Meaning → Option Held → List ℕ → Meaning
+taught m None bytes = m
+taught m (Some h) bytes = taught_at m h.material bytes
+
+abbrev pub after_done : Meaning → Option (List ℕ) → ℤ → AskedOf → Option PayloadOf → Meaning
+after_done m before t (registers r) (Some (registered a)) = with_registered m t r a.id
+after_done m before t (registers r) (Some (got a)) = m
+after_done m before t (registers r) None = m
+after_done m before t (gets id) (Some (got a)) = taught m (object_meant m.objects (meant id before)) a.block.material
+after_done m before t (gets id) (Some (registered a)) = m
+after_done m before t (gets id) None = m
+
+abbrev pub after : Status → Meaning → Option (List ℕ) → ℤ → AskedOf → Option PayloadOf → Meaning
+after Success m before t asked payload = after_done m before t asked payload
+after Undone m before t asked payload = after_done m before t asked payload
+after Failed m before t asked payload = m
+
+-- a Register sets the placeholder
+abbrev pub placeholder_done : Option (List ℕ) → AskedOf → Option PayloadOf → Option (List ℕ)
+placeholder_done before (registers r) (Some (registered a)) = Some a.id
+placeholder_done before (registers r) (Some (got a)) = before
+placeholder_done before (registers r) None = before
+placeholder_done before (gets id) payload = before
+
+abbrev pub placeholder_after : Status → Option (List ℕ) → AskedOf → Option PayloadOf → Option (List ℕ)
+placeholder_after Success before asked payload = placeholder_done before asked payload
+placeholder_after Undone before asked payload = placeholder_done before asked payload
+placeholder_after Failed before asked payload = before
+
+-- what a step leaves that only want of memory refuses: the ledger and the placeholder, and after a refusal the marks
+abbrev pub Leaves : {E : Type 0} → LedgerState → Meaning → Option (List ℕ) → Result (Unit {0}) E → LedgerState → Option (List ℕ) → Type 0
+Leaves s n after (Ok done) u p = (u ≡ changed s n) × (p ≡ after)
+Leaves s n after (Err e) u p = u.marks ≡ s.marks
+
+-- a new secret of known bytes has the next number
+abbrev pub MakesKnown : {E : Type 0} → LedgerState → Rule → List ℕ → Result SecretNo E → LedgerState → Type 0
+MakesKnown s rule bytes (Ok secret) u =
+    (secret.number ≡ length s.now.secrets)
+    × (u ≡ changed s (record { objects = s.now.objects; secrets = s.now.secrets ++ record { rule = rule; bytes = Some bytes } ∷ [] }))
+MakesKnown s rule bytes (Err e) u = u.marks ≡ s.marks
+
+-- what a step does to the ledger alone
+abbrev pub Changes : {E : Type 0} → LedgerState → Meaning → Result (Unit {0}) E → LedgerState → Type 0
+Changes s n (Ok done) u = u ≡ changed s n
+Changes s n (Err e) u = u.marks ≡ s.marks

@@ -1,0 +1,156 @@
+//! Failed answers: which of their reasons are founded.
+
+ghost use Rattle.std.specs.Prelude.{◌≡◌, ◌&&◌, ◌==◌, not};
+ghost use Rattle.std.specs.List.{list_any};
+ghost use Rattle.kmipa_object.specs.Inventory.{card_of};
+ghost use Rattle.kmipa_object.specs.Life.{state};
+ghost use Rattle.kmipa_object.specs.Table.{allowed};
+ghost use Rattle.kmipa_store.specs.Ledger.{cards_of};
+ghost use Rattle.kmipa_msgs.specs.Messages.{asked_of, maybe_lent, rules_of};
+ghost use Rattle.kmipa_ops.specs.Founded.{founded, has_cause, has_row, holds_cause, is_about_nothing, is_live_there, is_must, is_refusable};
+ghost use Rattle.kmipa_ops.specs.Objects.{card_meant};
+ghost use Rattle.kmipa_ops.specs.Placeholders.{placeholder_of};
+
+use crate::objects::{any_named, is_live, object_meant};
+use crate::placeholder::Placeholder;
+use kmipa_msgs::{Asked, Cause, Row, Rules};
+use kmipa_object::{Act, Allow, Object, allows, state_at};
+use kmipa_store::Ledger;
+
+/// Whether a failed answer's reason is founded.
+pub(crate) fn is_founded<L: Ledger>(
+    ledger: &L,
+    rules: &Rules,
+    placeholder: &Placeholder,
+    t: i64,
+    asked: &Asked,
+    reason: Option<u32>,
+) -> bool
+    ensures { result ≡ founded (rules_of rules.now) (cards_of (L.state ledger.now).now.objects) (placeholder_of placeholder.now) t (asked_of asked.now) reason }
+{
+    match reason {
+        Some(reason) => {
+            !has_row(rules, reason)
+                || is_about_nothing(placeholder, asked)
+                || has_cause(ledger, rules, placeholder, t, asked, reason)
+        }
+        None => true,
+    }
+}
+
+fn has_row(rules: &Rules, reason: u32) -> bool
+    ensures { result ≡ has_row (rules_of rules.now) reason }
+{
+    any_reason(rules.rows.as_slice(), reason)
+}
+
+fn any_reason(rows: &[Row], reason: u32) -> bool
+    ensures { result ≡ list_any (λ (row : Row). row.reason == reason) rows.now }
+{
+    rows.iter().any(|row| row.reason == reason)
+}
+
+fn is_about_nothing(placeholder: &Placeholder, asked: &Asked) -> bool
+    ensures { result ≡ is_about_nothing (placeholder_of placeholder.now) (asked_of asked.now) }
+{
+    match asked {
+        Asked::Register(_) => false,
+        Asked::Get(get) => placeholder.meant(get.id).is_none(),
+    }
+}
+
+/// Whether a row has this reason, and its cause holds.
+fn has_cause<L: Ledger>(
+    ledger: &L,
+    rules: &Rules,
+    placeholder: &Placeholder,
+    t: i64,
+    asked: &Asked,
+    reason: u32,
+) -> bool
+    ensures { result ≡ has_cause (rules_of rules.now) (cards_of (L.state ledger.now).now.objects) (placeholder_of placeholder.now) t (asked_of asked.now) reason }
+{
+    any_cause(ledger, rules.rows.as_slice(), placeholder, t, asked, reason)
+}
+
+fn any_cause<L: Ledger>(
+    ledger: &L,
+    rows: &[Row],
+    placeholder: &Placeholder,
+    t: i64,
+    asked: &Asked,
+    reason: u32,
+) -> bool
+    ensures { result ≡ list_any (λ (row : Row). (row.reason == reason) && holds_cause (cards_of (L.state ledger.now).now.objects) (placeholder_of placeholder.now) t (asked_of asked.now) row.cause) rows.now }
+{
+    for row in rows {
+        if is_cause(ledger, placeholder, t, asked, reason, *row) {
+            return true;
+        }
+    }
+    false
+}
+
+fn is_cause<L: Ledger>(
+    ledger: &L,
+    placeholder: &Placeholder,
+    t: i64,
+    asked: &Asked,
+    reason: u32,
+    row: Row,
+) -> bool
+    ensures { result ≡ ((row.reason == reason) && holds_cause (cards_of (L.state ledger.now).now.objects) (placeholder_of placeholder.now) t (asked_of asked.now) row.cause) }
+{
+    row.reason == reason && holds_cause(ledger, placeholder, t, asked, row.cause)
+}
+
+/// Whether the cause holds. Where it isn't judged for the operation, it counts as holding.
+fn holds_cause<L: Ledger>(
+    ledger: &L,
+    placeholder: &Placeholder,
+    t: i64,
+    asked: &Asked,
+    cause: Cause,
+) -> bool
+    ensures { result ≡ holds_cause (cards_of (L.state ledger.now).now.objects) (placeholder_of placeholder.now) t (asked_of asked.now) cause }
+{
+    match asked {
+        Asked::Register(register) => match cause {
+            Cause::TakenName => any_named(ledger, register.attributes.names.as_slice()),
+            Cause::NotFound | Cause::WrongState => true,
+        },
+        Asked::Get(get) => match cause {
+            Cause::NotFound => !is_live_there(ledger, placeholder.meant(get.id)),
+            Cause::WrongState => is_refusable(ledger, Act::Get, t, placeholder.meant(get.id)),
+            Cause::TakenName => true,
+        },
+    }
+}
+
+fn is_live_there<L: Ledger>(ledger: &L, about: Option<&str>) -> bool
+    ensures { result ≡ is_live_there (card_meant (cards_of (L.state ledger.now).now.objects) (maybe_lent about.entry)) }
+{
+    match object_meant(ledger, about) {
+        Some(object) => is_live(object),
+        None => false,
+    }
+}
+
+/// Whether the object is there, and its state lets the operation be refused.
+fn is_refusable<L: Ledger>(ledger: &L, act: Act, t: i64, about: Option<&str>) -> bool
+    ensures { result ≡ is_refusable act t (card_meant (cards_of (L.state ledger.now).now.objects) (maybe_lent about.entry)) }
+{
+    match object_meant(ledger, about) {
+        Some(object) => is_doubted(object, act, t),
+        None => false,
+    }
+}
+
+fn is_doubted(object: &Object, act: Act, t: i64) -> bool
+    ensures { result ≡ not (is_must (allowed act (state (card_of object.now).dates t))) }
+{
+    match allows(act, state_at(&object.life, t)) {
+        Allow::Must => false,
+        Allow::May | Allow::Not => true,
+    }
+}

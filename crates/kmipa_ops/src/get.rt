@@ -1,0 +1,148 @@
+//! Get.
+
+ghost use Rattle.std.specs.Prelude.{◌≡◌, bytes_eq, cond, find, option_map, slice_get};
+ghost use Rattle.kmipa_object.specs.Inventory.{admits};
+ghost use Rattle.kmipa_store.specs.Choices.{IsSound};
+ghost use Rattle.kmipa_store.specs.Ledger.{held};
+ghost use Rattle.kmipa_msgs.specs.Messages.{got_of, maybe_lent};
+ghost use Rattle.kmipa_ops.specs.After.{Changes, taught};
+ghost use Rattle.kmipa_ops.specs.Blame.{get_speaks, is_other_id, object_meant, shows_other};
+ghost use Rattle.kmipa_ops.specs.Shown.{HasRule, IsSecretOf, bytes_speak, live_speak, shown_speak};
+ghost use Rattle.kmipa_ops.specs.Whys.{whys};
+
+use crate::echo::{clash_lengths, clash_numbers, is_other_text, is_other_type};
+use crate::objects::object_meant;
+use crate::why::Why;
+use kmipa_msgs::Got;
+use kmipa_object::{Material, Object, Rule, SecretNo};
+use kmipa_store::Ledger;
+use std::alloc::AllocError;
+
+/// The lowest reason against a Get that is done: of the object that is meant, which is shown so if the payload is there.
+pub(crate) fn why_not_got<L: Ledger>(
+    ledger: &L,
+    about: Option<&str>,
+    t: i64,
+    shown: Option<&Got>,
+) -> Option<Why>
+    requires { IsSound (L.state ledger.now).now }
+    ensures { result ≡ find (get_speaks (L.state ledger.now).now (maybe_lent about.entry) t (option_map (λ got. got_of got.now) shown.entry)) whys }
+{
+    let Some(object) = object_meant(ledger, about) else {
+        return Some(Why::NoSuchObject);
+    };
+    match object.life.material {
+        Material::Gone => Some(Why::WrongState),
+        Material::Secret(secret) => why_not_live(ledger, about, object, secret, shown),
+    }
+}
+
+/// The lowest reason against a Get of a live object.
+fn why_not_live<L: Ledger>(
+    ledger: &L,
+    about: Option<&str>,
+    object: &Object,
+    secret: SecretNo,
+    shown: Option<&Got>,
+) -> Option<Why>
+    requires { IsSecretOf (L.state ledger.now).now (held object.now) secret }
+    ensures { result ≡ live_speak (L.state ledger.now).now (maybe_lent about.entry) (held object.now) secret (option_map (λ got. got_of got.now) shown.entry) }
+{
+    match shown {
+        Some(got) => why_not_shown(ledger, about, object, secret, got),
+        None => None,
+    }
+}
+
+/// The lowest reason against what a Get shows of a live object.
+fn why_not_shown<L: Ledger>(
+    ledger: &L,
+    about: Option<&str>,
+    object: &Object,
+    secret: SecretNo,
+    got: &Got,
+) -> Option<Why>
+    requires { IsSecretOf (L.state ledger.now).now (held object.now) secret }
+    ensures { result ≡ shown_speak (L.state ledger.now).now (maybe_lent about.entry) (held object.now) secret (got_of got.now) }
+{
+    if let Some(why) = why_not_bytes(ledger, secret, object.rule(), got.block.material) {
+        return Some(why);
+    }
+    if shows_other(object, got) {
+        return Some(Why::AttributeDiffers);
+    }
+    if is_other_id(got.id, about) {
+        return Some(Why::EchoDiffers);
+    }
+    None
+}
+
+/// The bytes that are known, or the rule where none are.
+fn why_not_bytes<L: Ledger>(ledger: &L, secret: SecretNo, rule: Rule, bytes: &[u8]) -> Option<Why>
+    requires { HasRule (L.state ledger.now).now secret rule }
+    ensures { result ≡ bytes_speak (slice_get (L.state ledger.now).now.secrets secret.number) bytes.now }
+{
+    match ledger.secret(secret) {
+        Some(known) => differing(known, bytes),
+        None => breaking(rule, bytes),
+    }
+}
+
+fn differing(known: &[u8], bytes: &[u8]) -> Option<Why>
+    ensures { result ≡ cond (bytes_eq known.now bytes.now) None (Some Why.BytesDiffer) }
+{
+    if known == bytes {
+        None
+    } else {
+        Some(Why::BytesDiffer)
+    }
+}
+
+fn breaking(rule: Rule, bytes: &[u8]) -> Option<Why>
+    ensures { result ≡ cond (admits rule bytes.now) None (Some Why.LengthImpossible) }
+{
+    if rule.admits(bytes) {
+        None
+    } else {
+        Some(Why::LengthImpossible)
+    }
+}
+
+fn shows_other(object: &Object, got: &Got) -> bool
+    ensures { result ≡ shows_other (got_of got.now) (Some (held object.now)) }
+{
+    is_other_type(got.object_type, object.kind)
+        || is_other_type(Some(got.shape), object.kind)
+        || clash_numbers(got.block.algorithm, object.given.algorithm)
+        || clash_lengths(got.block.length, object.given.length)
+}
+
+fn is_other_id(shown: Option<&str>, about: Option<&str>) -> bool
+    ensures { result ≡ is_other_id (maybe_lent shown.entry) (maybe_lent about.entry) }
+{
+    match about {
+        Some(id) => is_other_text(shown, id),
+        None => false,
+    }
+}
+
+/// From now on the object that is meant has the bytes that were shown.
+pub(crate) fn teach<L: Ledger>(
+    ledger: &mut L,
+    about: Option<&str>,
+    bytes: &[u8],
+) -> Result<(), AllocError>
+    requires { IsSound (L.state ledger.old).now }
+    ensures { Changes (L.state ledger.old) (taught (L.state ledger.old).now (object_meant (L.state ledger.old).now.objects (maybe_lent about.entry)) bytes.now) result (L.state ledger.new) }
+{
+    let Some(object) = object_meant(ledger, about) else {
+        return Ok(());
+    };
+    let Material::Secret(secret) = object.life.material else {
+        return Ok(());
+    };
+    match ledger.learn(secret, bytes) {
+        Ok(()) => Ok(()),
+        Err(_) => Err(AllocError),
+    }
+}

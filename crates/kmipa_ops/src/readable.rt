@@ -1,0 +1,72 @@
+//! What has to be there to judge an answer.
+
+ghost use Rattle.std.specs.Prelude.{◌≡◌, option_map};
+ghost use Rattle.kmipa_msgs.specs.Messages.{answer_of, ask_of, asked_of, payload_of};
+ghost use Rattle.kmipa_ops.specs.Completes.{can_judge, is_of, may_have, may_lack, has_payload};
+ghost use Rattle.kmipa_ops.specs.Explains.{is_readable};
+
+use crate::echo::is_other_number;
+use kmipa_msgs::{Answer, Ask, Asked, Payload, Status};
+
+/// Whether an answer has what there is to judge: a Success of the operation asked for has its payload, and so has an Undone Register; an
+/// Undone Get has it or none. An answer of another operation and a failed one have nothing to judge in theirs.
+pub fn is_readable(ask: &Ask, answer: &Answer) -> bool
+    ensures { result ≡ is_readable (ask_of ask.now) (answer_of answer.now) }
+{
+    is_other_number(answer.operation, ask.number())
+        || can_judge(answer.status, &ask.asked, &answer.payload)
+}
+
+fn can_judge(status: Status, asked: &Asked, payload: &Option<Payload>) -> bool
+    ensures { result ≡ can_judge status (asked_of asked.now) (option_map payload_of payload.now) }
+{
+    match status {
+        Status::Success => has_payload(asked, payload),
+        Status::Undone => may_have(asked, payload),
+        Status::Failed => true,
+    }
+}
+
+fn has_payload(asked: &Asked, payload: &Option<Payload>) -> bool
+    ensures { result ≡ has_payload (asked_of asked.now) (option_map payload_of payload.now) }
+{
+    match payload {
+        Some(payload) => is_of(asked, payload),
+        None => false,
+    }
+}
+
+fn may_have(asked: &Asked, payload: &Option<Payload>) -> bool
+    ensures { result ≡ may_have (asked_of asked.now) (option_map payload_of payload.now) }
+{
+    match payload {
+        Some(payload) => is_of(asked, payload),
+        None => may_lack(asked),
+    }
+}
+
+/// Whether an Undone answer may leave the payload out.
+fn may_lack(asked: &Asked) -> bool
+    ensures { result ≡ may_lack (asked_of asked.now) }
+{
+    match asked {
+        Asked::Register(_) => false,
+        Asked::Get(_) => true,
+    }
+}
+
+/// Whether a payload is one of the operation asked for.
+fn is_of(asked: &Asked, payload: &Payload) -> bool
+    ensures { result ≡ is_of (asked_of asked.now) (payload_of payload.now) }
+{
+    match asked {
+        Asked::Register(_) => match payload {
+            Payload::Register(_) => true,
+            Payload::Get(_) => false,
+        },
+        Asked::Get(_) => match payload {
+            Payload::Register(_) => false,
+            Payload::Get(_) => true,
+        },
+    }
+}
