@@ -3,11 +3,10 @@ use Rattle.std.proofs.Common.{◌≡◌, ◌<◌, ◌≤◌, ◌⊎◌, inl, inr
 use Rattle.std.proofs.lemmas.Bool.Decides.{nat_tests}
 use Rattle.std.proofs.lemmas.Option.{slice_get_within}
 use Rattle.kmipa_check.specs.declared.call.Call.{Call}
-use Rattle.kmipa_check.specs.Calls.{CallOf, call_of, lent_calls}
+use Rattle.kmipa_check.specs.Calls.{CallOf, call_of, ordered}
 use Rattle.kmipa_check.specs.Verdicts.{IsLate}
 use Rattle.kmipa_check.specs.Late.{LeastEnd, LateFrom, FirstLate, ScannedFrom, is_below, next_late, lesser, is_at}
-use Rattle.kmipa_check.proofs.PlaceLemmas.{mapped_at}
-use denote.Bor.{Bor}
+use Rattle.kmipa_check.proofs.OrderedLemmas.{ordered_at}
 
 -- a place from k on is k, or one from the next on
 from_next : (k turn : ℕ) → k ≤ turn → (k ≡ turn) ⊎ (suc k ≤ turn)
@@ -22,8 +21,8 @@ from_next (suc k) (suc turn) h = up (from_next k turn (omega (arith, h)))
 
 pub scanned_none : (order : List CallOf) → ScannedFrom order (length order) None None
 scanned_none order = record {
-  least = λ turn d from at. absurd (omega (arith, from, slice_get_within order turn d at));
-  late = λ turn c from at late. absurd (omega (arith, from, slice_get_within order turn c at));
+  ends = λ turn d from at. absurd (omega (arith, from, slice_get_within order turn d at));
+  places = λ turn c from at late. absurd (omega (arith, from, slice_get_within order turn c at));
 }
 
 module _ (order : List CallOf) (k : ℕ) (c : CallOf) (at : slice_get order k ≡ Some c) where
@@ -48,13 +47,16 @@ module _ (order : List CallOf) (k : ℕ) (c : CallOf) (at : slice_get order k �
           let Q : CallOf → Type 0 = λ x. e ≤ x.end in
           subst Q (sym same) b
       bound e a b turn d there (inr next) = omega (arith, a, h.0 turn d next there)
+
       by : (b : Bool) → nat_lt least c.end ≡ b → LeastEnd order k (Some (if b then least else c.end))
-      by true e =
-          ((λ turn d from there. bound least (omega arith) (grind (arith, nat_tests)) turn d there (from_next k turn from)),
-          (h.1.0, h.1.1, omega (arith, h.1.2), h.1.3, h.1.4))
-      by false e =
-          ((λ turn d from there. bound c.end (grind (arith, nat_tests)) (omega arith) turn d there (from_next k turn from)),
-          (k, c, omega arith, at, refl))
+      by true e = (
+        (λ turn d from there. bound least (omega arith) (grind (arith, nat_tests)) turn d there (from_next k turn from)),
+        (h.1.0, h.1.1, omega (arith, h.1.2), h.1.3, h.1.4),
+      )
+      by false e = (
+        (λ turn d from there. bound c.end (grind (arith, nat_tests)) (omega arith) turn d there (from_next k turn from)),
+        (k, c, omega arith, at, refl),
+      )
 
   late_yes : (least : Option ℕ) → LeastEnd order (suc k) least → is_below least c.begin ≡ true → IsLate order k c
   late_yes None h e = absurd cc
@@ -71,9 +73,11 @@ module _ (order : List CallOf) (k : ℕ) (c : CallOf) (at : slice_get order k �
       clash end a b = grind (arith, nat_tests)
 
   late_suc : (least late : Option ℕ) (b : Bool) → is_below least c.begin ≡ b → LeastEnd order (suc k) least → LateFrom order (suc k) late → LateFrom order k (next_late late b k)
-  late_suc least late true e h l =
-      (omega arith, (λ x there. (let is : c ≡ x = cc in let P : CallOf → Type 0 = λ y. IsLate order k y in subst P is (late_yes least h e))),
-      (λ turn x from below there is. absurd (omega (arith, from, below))))
+  late_suc least late true e h l = (
+    omega arith,
+    (λ x there. (let is : c ≡ x = cc in let P : CallOf → Type 0 = λ y. IsLate order k y in subst P is (late_yes least h e))),
+    (λ turn x from below there is. absurd (omega (arith, from, below))),
+  )
   late_suc least None false e h l = λ turn x from there is. by turn x there is (from_next k turn from)
     where
       by : (turn : ℕ) (x : CallOf) → slice_get order turn ≡ Some x → IsLate order turn x → (k ≡ turn) ⊎ (suc k ≤ turn) → ⊥
@@ -98,16 +102,16 @@ module _ (order : List CallOf) (k : ℕ) (c : CallOf) (at : slice_get order k �
       by turn x below there is (inr next) = l.2 turn x next below there is
 
 -- one call more, ahead of the others
-pub scanned_more : (order : List (Bor Call)) (k place : ℕ) (c : Bor Call) (least late : Option ℕ) → place + 1 ≡ k → place < length order → c ≡ get_or order place c
-    → ScannedFrom (lent_calls order) k least late
-    → ScannedFrom (lent_calls order) place (Some (lesser least c.now.end)) (next_late late (is_below least c.now.begin) place)
-scanned_more order k place c least late e below is s =
-    let at = mapped_at (λ (x : Bor Call). call_of x.now) order place c below is in
-    let P : ℕ → Type 0 = λ n. ScannedFrom (lent_calls order) n least late in
+pub scanned_more : (calls : List Call) (order : List ℕ) (k place at : ℕ) (c : Call) (least late : Option ℕ) → place + 1 ≡ k → place < length order → at ≡ get_or order place at
+    → at < length calls → c ≡ get_or calls at c → ScannedFrom (ordered (map call_of calls) order) k least late
+    → ScannedFrom (ordered (map call_of calls) order) place (Some (lesser least c.end)) (next_late late (is_below least c.begin) place)
+scanned_more calls order k place at c least late e below is within there s =
+    let here = ordered_at calls order place at c below is within there in
+    let P : ℕ → Type 0 = λ n. ScannedFrom (ordered (map call_of calls) order) n least late in
     let t = subst P (sym e ∙ add-one place) s in
     record {
-      least = least_suc (lent_calls order) place (call_of c.now) at least t.least;
-      late = late_suc (lent_calls order) place (call_of c.now) at least late (is_below least c.now.begin) refl t.least t.late;
+      ends = least_suc (ordered (map call_of calls) order) place (call_of c) here least t.ends;
+      places = late_suc (ordered (map call_of calls) order) place (call_of c) here least late (is_below least c.begin) refl t.ends t.places;
     }
 
 -- what the scan says of a turn

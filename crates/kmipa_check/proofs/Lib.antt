@@ -4,3 +4,5 @@ pub mod ReplayLemmas
 pub mod PermutationLemmas
 pub mod NumberLemmas
 pub mod LateLemmas
+pub mod OrderedLemmas
+pub mod OrderLemmas

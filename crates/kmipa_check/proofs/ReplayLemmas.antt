@@ -63,24 +63,27 @@ module _ (declared : DeclarationOf) (order : List CallOf) (n : ℕ) (c : CallOf)
   refused_item : (item : ℕ) (why : Why) → CallRefuted (rules_declared declared) m c.request c.response item why
       → (count : ℕ) × (item ≡ count + 1) × RefusedItem declared order n c count why
   refused_item item why e =
-      let f = r.known.sound e.before.choice e.before.chooses in
-      (e.count, e.told, record {
-        before = record {
-          placed = r.placed;
-          here = here;
-          start = f.0;
-          described = f.1;
-          before = inv e.before.choice m.objects;
-          linked = f.2;
-          items = inl (e.before.shaped, (e.before.things, e.before.placeholder, e.before.chain));
-        };
-        never = λ p.
-            let q = r.known.complete p.start p.before p.described p.linked in
-            never_from e.count p.before q.0 q.1 q.2 e.never e.unrefused p.items;
-        known = m;
-        knows = r.known;
-        speaks = e.speaks;
-      })
+      let f = r.known.sound e.before.choice e.before.chooses in (
+        e.count,
+        e.told,
+        record {
+          before = record {
+            placed = r.placed;
+            here = here;
+            start = f.0;
+            described = f.1;
+            before = inv e.before.choice m.objects;
+            linked = f.2;
+            items = inl (e.before.shaped, (e.before.things, e.before.placeholder, e.before.chain));
+          };
+          never = λ p.
+              let q = r.known.complete p.start p.before p.described p.linked in
+              never_from e.count p.before q.0 q.1 q.2 e.never e.unrefused p.items;
+          known = m;
+          knows = r.known;
+          speaks = e.speaks;
+        },
+      )
     where
       never_from : (count : ℕ) (V : List Thing) (choice : Choice) → Chooses m.secrets choice → V ≡ inv choice m.objects
           → (IsPossibleUpTo (rules_declared declared) m c.request c.response (count + 1) → ⊥) → (RefusesMessage c.response → ⊥)

@@ -1,10 +1,11 @@
 -- The calls of a transcript: what their messages say, and which message is the first that is outside the profile.
-use Rattle.std.specs.Prelude.{◌≡◌, ◌<◌, ℕ, ℤ, List, map, length, take, All, slice_get, Some}
+use Rattle.std.specs.Prelude.{◌≡◌, ◌<◌, ℕ, ℤ, pos, true, List, [], map, length, take, All, slice_get, slice_index_or, Some}
 use Rattle.kmipa_ttlv.specs.Tree.{Tree}
 use Rattle.kmipa_ttlv.specs.Spelling.{Spells}
 use Rattle.kmipa_record.specs.Marks.{MarkOf, begins, ends, begun}
 use Rattle.kmipa_msgs.specs.declared.kind.OutsideKind.{OutsideKind}
 use Rattle.kmipa_msgs.specs.declared.kind.OutsideKind.TheVariants.{NotAMessage}
+use Rattle.kmipa_msgs.specs.declared.request.BatchOption.TheVariants.{Stop}
 use Rattle.kmipa_msgs.specs.Messages.{RequestOf, ResponseOf, request_of, response_of}
 use Rattle.kmipa_msgs.specs.Outside.{Inside, OutsideAt}
 use Rattle.kmipa_msgs.specs.Requests.{SaysRequest, RequestFault}
@@ -12,7 +13,6 @@ use Rattle.kmipa_msgs.specs.Responses.{SaysResponse, ResponseFault}
 use Rattle.kmipa_check.specs.declared.call.Call.{Call}
 use Rattle.kmipa_check.specs.declared.fault.Side.{Side}
 use Rattle.kmipa_check.specs.declared.fault.Side.TheVariants.{Client, Server}
-use denote.Bor.{Bor}
 
 -- the bytes spell one item, which says this message and no other
 pub record AreMessage {M : Type 0} (Said : Tree → M → Type 0) (Fault : Tree → ℕ → OutsideKind → Type 0) (bytes : List ℕ) (message : M) : Type 0 where
@@ -84,6 +84,10 @@ pub record IsFirstOutside (marks : List MarkOf) (number : ℤ) (side : Side) (it
 abbrev pub call_of : Call → CallOf
 call_of c = record { number = c.number; begin = c.begin; end = c.end; request = request_of c.request; response = response_of c.response }
 
--- the same of calls that are lent
-abbrev pub lent_calls : List (Bor Call) → List CallOf
-lent_calls calls = map (λ (c : Bor Call). call_of c.now) calls
+-- what stands at a place where no call does
+abbrev pub no_call : CallOf
+no_call = record { number = pos 0; begin = 0; end = 0; request = record { option = Stop; ordered = true; items = [] }; response = record { stamp = pos 0; items = [] } }
+
+-- the calls at these places
+abbrev pub ordered : List CallOf → List ℕ → List CallOf
+ordered calls places = map (λ place. slice_index_or calls place no_call) places

@@ -23,8 +23,8 @@ FirstLate order late = LateFrom order 0 late
 
 -- both, from a place on
 pub record ScannedFrom (order : List CallOf) (from : ℕ) (least late : Option ℕ) : Type 0 where
-  pub least : LeastEnd order from least
-  pub late : LateFrom order from late
+  pub ends : LeastEnd order from least
+  pub places : LateFrom order from late
 
 -- whether some end is below a begin
 abbrev pub is_below : Option ℕ → ℕ → Bool

@@ -5,3 +5,4 @@ pub mod Verdicts
 pub mod Replays
 pub mod Numbers
 pub mod Late
+pub mod Ordering

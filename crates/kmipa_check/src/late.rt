@@ -1,22 +1,23 @@
 //! The first call of an order that comes too late.
 
-ghost use Rattle.std.specs.Prelude.{◌≡◌, length};
-ghost use Rattle.kmipa_check.specs.Calls.{lent_calls};
+ghost use Rattle.std.specs.Prelude.{◌≡◌, ◌<◌, All, length, map};
+ghost use Rattle.kmipa_check.specs.Calls.{call_of, ordered};
 ghost use Rattle.kmipa_check.specs.Late.{FirstLate, is_at, is_below, lesser, next_late};
 
 use crate::call::Call;
 
-/// The place of the first call that stands ahead of one which ended before it began. One pass from the end: behind each place the least
+/// The place in an order, whose elements are the places of the calls, of the first call that stands ahead of one which ended before it began. One pass from the end: behind each place the least
 /// end is known.
-pub fn first_late(order: &[&Call]) -> Option<usize>
-    ensures { FirstLate (lent_calls order.now) result }
+pub fn first_late(calls: &[Call], order: &[usize]) -> Option<usize>
+    requires { All (λ place. place < length calls.now) order.now }
+    ensures { FirstLate (ordered (map call_of calls.now) order.now) result }
 {
     let mut late = None;
     let mut least = None;
     let mut place = order.len();
     'calls: while place > 0 {
         place -= 1;
-        let call = order[place];
+        let call = &calls[order[place]];
         late = later_found(late, is_below(least, call.begin), place);
         least = Some(lesser(least, call.end));
     }
@@ -45,13 +46,7 @@ fn lesser(least: Option<usize>, end: usize) -> usize
     ensures { result ≡ lesser least end }
 {
     match least {
-        Some(least) => {
-            if least < end {
-                least
-            } else {
-                end
-            }
-        }
+        Some(least) => { if least < end { least } else { end } }
         None => end,
     }
 }

@@ -5,6 +5,7 @@ mod call;
 mod fault;
 mod late;
 mod numbers;
+mod order;
 mod verdict;
 
 pub use call::Call;

@@ -1,0 +1,9 @@
+use Rattle.kmipa_check.proofs.NumberLemmas.{index_more, index_all}
+use Rattle.kmipa_check.proofs.numbers.FirstPlaces.of.Goals as goal
+
+pub items-preserved : goal.items-preserved
+items-preserved g c =
+    index_more g.T.Numbered.number_in c.args.items.now c.items.place c.index-items-place.result c.items.first c.note_any.new.self c.items-test.true c.index-items-place.is ? c.items.invariant
+
+pub returns : goal.returns
+returns g c = index_all g.T.Numbered.number_in c.args.items.now c.items.place c.items.first c.items.auto.place-end c.items-test.false c.items.invariant
