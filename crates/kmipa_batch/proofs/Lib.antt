@@ -1,0 +1,5 @@
+pub mod ShapeLemmas
+pub mod CompletionLemmas
+pub mod PlaceLemmas
+pub mod RunLemmas
+pub mod EndLemmas

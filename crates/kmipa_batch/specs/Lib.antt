@@ -1,3 +1,6 @@
 pub mod Shapes
+pub mod Fits
 pub mod Calls
+pub mod Readable
 pub mod Refusals
+pub mod Running

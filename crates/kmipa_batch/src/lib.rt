@@ -2,5 +2,9 @@
 #![tactic(auto)]
 
 mod refusal;
+mod shape;
+mod taking;
 
 pub use refusal::CallRefusal;
+pub use shape::is_refused_message;
+pub use taking::take_call;

@@ -1,0 +1,58 @@
+-- What the items of a batch come to, one place after the other.
+use Rattle.std.specs.Prelude.{◌≡◌, ℕ, ◌+◌, ℤ, List, [], ◌∷◌, Option, Some, None, Result, Ok, Err, slice_get}
+use Rattle.kmipa_store.specs.Ledger.{Meaning, LedgerState}
+use Rattle.kmipa_store.specs.Choices.{IsSound}
+use Rattle.kmipa_msgs.specs.Messages.{RulesOf, AskOf, RequestOf, AnswerOf, ResponseOf}
+use Rattle.kmipa_ops.specs.declared.why.Why.{Why}
+use Rattle.kmipa_ops.specs.declared.why.Refusal.{Refusal}
+use Rattle.kmipa_ops.specs.declared.why.Refusal.TheVariants as item
+use Rattle.kmipa_ops.specs.Explains.{Explains, Refuted}
+use Rattle.kmipa_batch.specs.Shapes.{IsShaped}
+use Rattle.kmipa_batch.specs.Calls.{pairs_of}
+use Rattle.kmipa_batch.specs.Refusals.{CallRefuted}
+use Rattle.kmipa_batch.specs.declared.refusal.CallRefusal.{CallRefusal}
+use Rattle.kmipa_batch.specs.declared.refusal.CallRefusal.TheVariants.{Impossible, Memory}
+
+-- the pair at a place, if there is one, as a list
+abbrev pub one_of : {A : Type 0} → Option A → List A
+one_of None = []
+one_of (Some x) = x ∷ []
+
+-- against the pair that is there speaks this reason
+pub record PairRefuted (rules : RulesOf) (m : Meaning) (before : Option (List ℕ)) (t : ℤ) (pair : Option (AskOf × AnswerOf)) (why : Why) : Type 0 where
+  pub ask : AskOf
+  pub answer : AnswerOf
+  pub there : pair ≡ Some (ask, answer)
+  pub refuted : Refuted rules m before t ask answer why
+
+-- what the pair at a place comes to, if there is one
+abbrev pub PairCame : RulesOf → Meaning → Option (List ℕ) → ℤ → Option (AskOf × AnswerOf) → Result (Unit {0}) Refusal → Meaning → Option (List ℕ) → Type 0
+PairCame rules m before t pair (Ok done) n after = Explains rules t m before (one_of pair) n after × IsSound n
+PairCame rules m before t pair (Err (item.Impossible why)) n after = PairRefuted rules m before t pair why
+PairCame rules m before t pair (Err item.Memory) n after = Unit {0}
+
+-- and it leaves the marks
+abbrev pub PairTaken : RulesOf → LedgerState → Option (List ℕ) → ℤ → Option (AskOf × AnswerOf) → Result (Unit {0}) Refusal → LedgerState → Option (List ℕ) → Type 0
+PairTaken rules s before t pair result u after = PairCame rules s.now before t pair result u.now after × (u.marks ≡ s.marks)
+
+-- a refusal at a place, which is told from 1
+abbrev pub refused_at : ℕ → Refusal → CallRefusal
+refused_at place (item.Impossible why) = Impossible (place + 1) why
+refused_at place item.Memory = Memory
+
+-- all items were taken, in their shape
+pub record AllTaken (rules : RulesOf) (m : Meaning) (request : RequestOf) (response : ResponseOf) (n : Meaning) : Type 0 where
+  pub shaped : IsShaped request response
+  pub placeholder : Option (List ℕ)
+  pub explains : Explains rules response.stamp m None (pairs_of request response) n placeholder
+  pub sound : IsSound n
+
+-- what the items of a batch come to
+abbrev pub Came : RulesOf → Meaning → RequestOf → ResponseOf → Result (Unit {0}) CallRefusal → Meaning → Type 0
+Came rules m request response (Ok done) n = AllTaken rules m request response n
+Came rules m request response (Err (Impossible item why)) n = CallRefuted rules m request response item why
+Came rules m request response (Err Memory) n = Unit {0}
+
+-- and they leave the marks
+abbrev pub Ran : RulesOf → LedgerState → RequestOf → ResponseOf → Result (Unit {0}) CallRefusal → LedgerState → Type 0
+Ran rules s request response result u = Came rules s.now request response result u.now × (u.marks ≡ s.marks)

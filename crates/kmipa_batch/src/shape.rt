@@ -1,0 +1,136 @@
+//! Which answers a batch may have at which places.
+
+ghost use Rattle.std.specs.Prelude.{◌≡◌, ◌↔◌, IsTrue, map, length, nat_lt, option_map};
+ghost use Rattle.kmipa_msgs.specs.Messages.{answer_of, response_of};
+ghost use Rattle.kmipa_batch.specs.Calls.{RefusesMessage};
+ghost use Rattle.kmipa_batch.specs.Fits.{FailedAt, fits, fits_answer, fits_none, fits_undo, is_behind, is_refusal, undoes};
+
+use kmipa_msgs::{Answer, BatchOption, Response, Status};
+
+/// Whether the response refuses the whole message: it has one answer, a failed one, that names no Operation.
+pub fn is_refused_message(response: &Response) -> bool
+    ensures { IsTrue result ↔ RefusesMessage (response_of response.now) }
+{
+    if response.items.len() != 1 {
+        return false;
+    }
+    is_refusal(&response.items[0])
+}
+
+/// Whether an answer, where it is the only one, refuses the whole message.
+fn is_refusal(answer: &Answer) -> bool
+    ensures { result ≡ is_refusal (answer_of answer.now) }
+{
+    match answer.status {
+        Status::Failed => answer.operation.is_none(),
+        _ => false,
+    }
+}
+
+/// The place of the first failed answer, from 0.
+pub(crate) fn first_failed(answers: &[Answer]) -> Option<usize>
+    ensures { FailedAt (map answer_of answers.now) result }
+{
+    for (place, answer) in answers.iter().enumerate() {
+        if let Status::Failed = answer.status {
+            return Some(place);
+        }
+    }
+    None
+}
+
+/// Whether a failure undoes the batch.
+pub(crate) fn is_undone(option: BatchOption, failed: Option<usize>) -> bool
+    ensures { result ≡ undoes option failed }
+{
+    match option {
+        BatchOption::Continue | BatchOption::Stop => false,
+        BatchOption::Undo => failed.is_some(),
+    }
+}
+
+/// Whether a place may have an answer of this status, or none, where `asked` says that the request has an item there.
+pub(crate) fn has_shape(
+    option: BatchOption,
+    failed: Option<usize>,
+    place: usize,
+    asked: bool,
+    status: Option<Status>,
+) -> bool
+    ensures { result ≡ fits option failed place asked status }
+{
+    match status {
+        Some(status) => {
+            if asked {
+                has_answer_shape(option, failed, place, status)
+            } else {
+                false
+            }
+        }
+        None => {
+            if asked {
+                may_be_unanswered(option, failed, place)
+            } else {
+                true
+            }
+        }
+    }
+}
+
+/// Whether an answer of this status may stand at a place that the request has.
+fn has_answer_shape(
+    option: BatchOption,
+    failed: Option<usize>,
+    place: usize,
+    status: Status,
+) -> bool
+    ensures { result ≡ fits_answer option failed place status }
+{
+    match option {
+        BatchOption::Continue => status != Status::Undone,
+        BatchOption::Stop => {
+            if is_behind(failed, place) {
+                false
+            } else {
+                status != Status::Undone
+            }
+        }
+        BatchOption::Undo => has_undo_shape(failed, place, status),
+    }
+}
+
+/// Under Undo all before the first failure is undone, and without a failure all is done.
+fn has_undo_shape(failed: Option<usize>, place: usize, status: Status) -> bool
+    ensures { result ≡ fits_undo failed place status }
+{
+    match failed {
+        None => status == Status::Success,
+        Some(failed) => {
+            if place < failed {
+                status == Status::Undone
+            } else {
+                place <= failed
+            }
+        }
+    }
+}
+
+/// Whether a place that the request has may be without an answer.
+fn may_be_unanswered(option: BatchOption, failed: Option<usize>, place: usize) -> bool
+    ensures { result ≡ fits_none option failed place }
+{
+    match option {
+        BatchOption::Continue => false,
+        BatchOption::Stop | BatchOption::Undo => is_behind(failed, place),
+    }
+}
+
+/// Whether a place is behind the first failed answer.
+fn is_behind(failed: Option<usize>, place: usize) -> bool
+    ensures { result ≡ is_behind failed place }
+{
+    match failed {
+        Some(failed) => failed < place,
+        None => false,
+    }
+}

@@ -1,0 +1,173 @@
+//! One call, taken over any ledger.
+
+ghost use Rattle.std.specs.Prelude.{◌≡◌, ◌<◌, ◌≤◌, ◌↔◌, IsTrue, if◌then◌else◌, length, option_map, slice_get};
+ghost use Rattle.kmipa_store.specs.Ledger.{kept, undone};
+ghost use Rattle.kmipa_store.specs.Choices.{IsSound};
+ghost use Rattle.kmipa_msgs.specs.Messages.{AnswerOf, request_of, response_of, rules_of};
+ghost use Rattle.kmipa_ops.specs.Placeholders.{placeholder_of};
+ghost use Rattle.kmipa_batch.specs.Shapes.{IsShapedAt};
+ghost use Rattle.kmipa_batch.specs.Fits.{FailedAt, fits, undoes};
+ghost use Rattle.kmipa_batch.specs.Calls.{RefusesMessage, pairs_of};
+ghost use Rattle.kmipa_batch.specs.Readable.{AreReadable, IsReadableCall};
+ghost use Rattle.kmipa_batch.specs.Refusals.{CallTaken};
+ghost use Rattle.kmipa_batch.specs.Running.{PairTaken, Ran, refused_at};
+
+use crate::refusal::CallRefusal;
+use crate::shape::{first_failed, has_shape, is_refused_message, is_undone};
+use kmipa_msgs::{BatchOption, Request, Response, Rules, Status};
+use kmipa_ops::{Placeholder, Refusal, Why, take};
+use kmipa_store::{Ledger, Mark};
+use std::alloc::Global;
+
+/// Takes one call: its items in their order at the Time Stamp of its response, and then what the Batch Error Continuation Option leaves of
+/// them. Where some inventory that the ledger stands for allows the whole response, the ledger then stands for what the call leaves, and
+/// knows what the answers told; else the first place at which none does is told with the lowest reason, and nothing is changed. A message
+/// that is refused as a whole changes nothing. After want of memory the ledger is as before.
+///
+/// The messages aren't outside the profile, and each wanted payload has been put in: `IsReadableCall`.
+pub fn take_call<L: Ledger>(
+    alloc: Global,
+    ledger: &mut L,
+    rules: &Rules,
+    request: &Request,
+    response: &Response,
+) -> Result<(), CallRefusal>
+    requires sound { IsSound (L.state ledger.old).now }
+    requires readable { IsReadableCall (request_of request.now) (response_of response.now) }
+    ensures { CallTaken (rules_of rules.now) (L.state ledger.old) (request_of request.now) (response_of response.now) result (L.state ledger.new) }
+{
+    if is_refused_message(response) {
+        return Ok(());
+    }
+    let Ok(mark) = ledger.mark() else {
+        return Err(CallRefusal::Memory);
+    };
+    let failed = first_failed(&response.items);
+    match take_items(alloc, ledger, rules, request, response, failed) {
+        Ok(()) => {
+            end(ledger, mark, request.option, failed);
+            Ok(())
+        }
+        Err(refusal) => {
+            ledger.back(mark);
+            Err(refusal)
+        }
+    }
+}
+
+/// Spends the mark of a call whose items were taken.
+fn end<L: Ledger>(ledger: &mut L, mark: Mark, option: BatchOption, failed: Option<usize>)
+    requires { mark.depth ≡ length (L.state ledger.old).marks }
+    ensures { L.state ledger.new ≡ (if undoes option failed then undone (L.state ledger.old) else kept (L.state ledger.old)) }
+{
+    if is_undone(option, failed) {
+        ledger.undo(mark);
+    } else {
+        ledger.keep(mark);
+    }
+}
+
+/// Takes the items of a call, place by place. The ID Placeholder is empty at its start.
+fn take_items<L: Ledger>(
+    alloc: Global,
+    ledger: &mut L,
+    rules: &Rules,
+    request: &Request,
+    response: &Response,
+    failed: Option<usize>,
+) -> Result<(), CallRefusal>
+    requires sound { IsSound (L.state ledger.old).now }
+    requires readable { AreReadable (pairs_of (request_of request.now) (response_of response.now)) }
+    requires unrefused { RefusesMessage (response_of response.now) → ⊥ }
+    requires failed_at { FailedAt (response_of response.now).items failed }
+    ensures { Ran (rules_of rules.now) (L.state ledger.old) (request_of request.now) (response_of response.now) result (L.state ledger.new) }
+{
+    let mut placeholder = Placeholder::new();
+    for place in 0..places(request, response) {
+        if !is_shaped_at(request, response, failed, place) {
+            return Err(CallRefusal::Impossible(place + 1, Why::BatchShape));
+        }
+        let taken = take_pair(
+            alloc,
+            ledger,
+            rules,
+            &mut placeholder,
+            request,
+            response,
+            place,
+        );
+        if let Err(refusal) = taken {
+            return Err(told_at(place, refusal));
+        }
+    }
+    Ok(())
+}
+
+/// How many places there are: as many as there are items, or answers, if those are more.
+fn places(request: &Request, response: &Response) -> usize
+    ensures asks { length request.now.items.items ≤ result }
+    ensures answers { length response.now.items.items ≤ result }
+{
+    usize::max(request.items.len(), response.items.len())
+}
+
+/// Whether a place of the call has its shape.
+fn is_shaped_at(request: &Request, response: &Response, failed: Option<usize>, place: usize) -> bool
+    requires { FailedAt (response_of response.now).items failed }
+    ensures { IsTrue result ↔ IsShapedAt (request_of request.now) (response_of response.now) place }
+{
+    let asked = place < request.items.len();
+    let status = status_at(response, place);
+    has_shape(request.option, failed, place, asked, status)
+}
+
+/// The status of the answer at a place, if there is one.
+fn status_at(response: &Response, place: usize) -> Option<Status>
+    ensures { result ≡ option_map (λ (a : AnswerOf). a.status) (slice_get (response_of response.now).items place) }
+{
+    match response.items.get(place) {
+        Some(answer) => Some(answer.status),
+        None => None,
+    }
+}
+
+/// Takes the pair of a place, where both an item and its answer stand there.
+fn take_pair<L: Ledger>(
+    alloc: Global,
+    ledger: &mut L,
+    rules: &Rules,
+    placeholder: &mut Placeholder,
+    request: &Request,
+    response: &Response,
+    place: usize,
+) -> Result<(), Refusal>
+    requires sound { IsSound (L.state ledger.old).now }
+    requires readable { AreReadable (pairs_of (request_of request.now) (response_of response.now)) }
+    ensures { PairTaken (rules_of rules.now) (L.state ledger.old) (placeholder_of placeholder.old) response.now.stamp (slice_get (pairs_of (request_of request.now) (response_of response.now)) place) result (L.state ledger.new) (placeholder_of placeholder.new) }
+{
+    let Some(ask) = request.items.get(place) else {
+        return Ok(());
+    };
+    let Some(answer) = response.items.get(place) else {
+        return Ok(());
+    };
+    let t = stamp_of(response);
+    take(alloc, ledger, rules, placeholder, t, ask, answer)
+}
+
+fn stamp_of(response: &Response) -> i64
+    ensures { result ≡ response.now.stamp }
+{
+    response.stamp
+}
+
+/// A refusal of the item at a place, which is told from 1.
+fn told_at(place: usize, refusal: Refusal) -> CallRefusal
+    requires { place < usize.MAX }
+    ensures { result ≡ refused_at place refusal }
+{
+    match refusal {
+        Refusal::Impossible(why) => CallRefusal::Impossible(place + 1, why),
+        Refusal::Memory => CallRefusal::Memory,
+    }
+}
