@@ -1,12 +1,13 @@
 -- The scan for late calls, one call more.
-use Rattle.std.proofs.Common.{◌≡◌, ◌<◌, ◌≤◌, ◌⊎◌, inl, inr, ℕ, zero, suc, ◌+◌, Bool, true, false, nat_lt, if◌then◌else◌, List, [], ◌∷◌, length, map, get_or, Option, Some, None, slice_get, refl, sym, ap, ◌∙◌, subst, arith, add-one}
+use Rattle.std.proofs.Common.{◌≡◌, ◌<◌, ◌≤◌, ◌⊎◌, inl, inr, ℕ, zero, suc, ◌+◌, ◌-◌, Bool, true, false, nat_lt, if◌then◌else◌, List, [], ◌∷◌, length, map, get_or, Option, Some, None, slice_get, refl, sym, ap, ◌∙◌, subst, arith, add-one}
+use Rattle.std.specs.Prelude.{All}
 use Rattle.std.proofs.lemmas.Bool.Decides.{nat_tests}
-use Rattle.std.proofs.lemmas.Option.{slice_get_within}
+use Rattle.std.proofs.lemmas.Option.{slice_get_within, slice_get-get_or}
 use Rattle.kmipa_check.specs.declared.call.Call.{Call}
 use Rattle.kmipa_check.specs.Calls.{CallOf, call_of, ordered}
 use Rattle.kmipa_check.specs.Verdicts.{IsLate}
 use Rattle.kmipa_check.specs.Late.{LeastEnd, LateFrom, FirstLate, ScannedFrom, is_below, next_late, lesser, is_at}
-use Rattle.kmipa_check.proofs.OrderedLemmas.{ordered_at}
+use Rattle.kmipa_check.proofs.OrderedLemmas.{ordered_get}
 
 -- a place from k on is k, or one from the next on
 from_next : (k turn : ℕ) → k ≤ turn → (k ≡ turn) ⊎ (suc k ≤ turn)
@@ -102,16 +103,19 @@ module _ (order : List CallOf) (k : ℕ) (c : CallOf) (at : slice_get order k �
       by turn x below there is (inr next) = l.2 turn x next below there is
 
 -- one call more, ahead of the others
-pub scanned_more : (calls : List Call) (order : List ℕ) (k place at : ℕ) (c : Call) (least late : Option ℕ) → place + 1 ≡ k → place < length order → at ≡ get_or order place at
-    → at < length calls → c ≡ get_or calls at c → ScannedFrom (ordered (map call_of calls) order) k least late
-    → ScannedFrom (ordered (map call_of calls) order) place (Some (lesser least c.end)) (next_late late (is_below least c.begin) place)
-scanned_more calls order k place at c least late e below is within there s =
-    let here = ordered_at calls order place at c below is within there in
+pub scanned_more : (calls : List Call) (order : List ℕ) (k : ℕ) (c : Call) (least late : Option ℕ) (below : Bool) (l : ℕ) (v : Option ℕ) → 0 < k → k ≤ length order
+    → All (λ p. p < length calls) order → c ≡ get_or calls (get_or order (k - 1) 0) c → below ≡ is_below least c.begin → v ≡ next_late late below (k - 1) → l ≡ lesser least c.end
+    → ScannedFrom (ordered (map call_of calls) order) k least late → ScannedFrom (ordered (map call_of calls) order) (k - 1) (Some l) v
+scanned_more calls order k c least late below l v some within all is e f g s =
+    let at = ordered_get calls order (k - 1) (get_or order (k - 1) 0) c (slice_get-get_or order (k - 1) 0 (omega (arith, some, within))) (all (k - 1) 0 (omega (arith, some, within))) is in
     let P : ℕ → Type 0 = λ n. ScannedFrom (ordered (map call_of calls) order) n least late in
-    let t = subst P (sym e ∙ add-one place) s in
+    let step : k ≡ suc (k - 1) = omega (arith, some) in
+    let t = subst P step s in
+    let Q : ℕ → Type 0 = λ n. LeastEnd (ordered (map call_of calls) order) (k - 1) (Some n) in
+    let R : Option ℕ → Type 0 = λ w. LateFrom (ordered (map call_of calls) order) (k - 1) w in
     record {
-      ends = least_suc (ordered (map call_of calls) order) place (call_of c) here least t.ends;
-      places = late_suc (ordered (map call_of calls) order) place (call_of c) here least late (is_below least c.begin) refl t.ends t.places;
+      ends = subst Q (sym g) (least_suc (ordered (map call_of calls) order) (k - 1) (call_of c) at least t.ends);
+      places = subst R (sym f) (late_suc (ordered (map call_of calls) order) (k - 1) (call_of c) at least late below (sym e) t.ends t.places);
     }
 
 -- what the scan says of a turn

@@ -6,3 +6,7 @@ pub mod NumberLemmas
 pub mod LateLemmas
 pub mod OrderedLemmas
 pub mod OrderLemmas
+pub mod WholeOrderLemmas
+pub mod OpeningLemmas
+pub mod ReadableLemmas
+pub mod TurnLemmas

@@ -5,6 +5,7 @@ use Rattle.std.proofs.lemmas.Bool.Decides.{Decides-int_eq}
 use Rattle.kmipa_check.specs.declared.numbers.FirstPlaces.{FirstPlaces}
 use Rattle.kmipa_check.specs.Numbers.{place_in, IsFirst, StandsFirst, IndexesBelow, Indexes, or_else, Noted, NotedIfAny}
 use Rattle.std.proofs.lemmas.List.{length-map}
+use Rattle.std.proofs.lemmas.Option.{slice_get_within}
 use Rattle.kmipa_check.proofs.PlaceLemmas.{below_suc, mapped_at}
 
 module _ (numbers : List (Option ℤ)) (k : ℕ) (number : ℤ) where
@@ -48,8 +49,11 @@ index_more number_in items k x old new below is noted h =
     let P : ℕ → Type 0 = λ j. IndexesBelow (map number_in items) j new in
     subst P (sym (add-one k)) (index_next (map number_in items) k old new (number_in x) (mapped_at number_in items k x below is) noted h)
 
-pub index_all : {T : Type 0} (number_in : T → Option ℤ) (items : List T) (k : ℕ) (f : FirstPlaces) → k ≤ length items → length items ≤ k
+all_within : (numbers : List (Option ℤ)) (k : ℕ) (number : ℤ) (v : Option ℕ) → length numbers ≤ k → StandsFirst numbers k number v → StandsFirst numbers (length numbers) number v
+all_within numbers k number None b h = λ place below at. h place (omega (arith, b, below)) at
+all_within numbers k number (Some place) b h = (slice_get_within numbers place (Some number) h.1.there, h.1)
+
+pub index_all : {T : Type 0} (number_in : T → Option ℤ) (items : List T) (k : ℕ) (f : FirstPlaces) → length items ≤ k
     → IndexesBelow (map number_in items) k f → Indexes (map number_in items) f
-index_all number_in items k f a b h =
-    let P : ℕ → Type 0 = λ j. IndexesBelow (map number_in items) j f in
-    subst P (omega (arith, a, b, length-map items number_in)) h
+index_all number_in items k f b h = λ number.
+    all_within (map number_in items) k number (place_in f number) (omega (arith, b, length-map items number_in)) (h number)

@@ -19,7 +19,7 @@ use Rattle.kmipa_check.specs.Calls.{CallOf, call_of, AreCalls}
 use Rattle.kmipa_check.specs.Orders.{NeedsFill, NamesAt, HasCall, NamesBefore, IsFormed, AreFormedBelow, TurnFault, unknown, twice, unfilled, IsLeftOut, WitnessFaultAt, in_turn, left_out}
 use Rattle.kmipa_check.specs.Verdicts.{IsOrder}
 use Rattle.kmipa_check.specs.Numbers.{place_in, IsFirst, StandsFirst, Indexes, is_noted}
-use Rattle.kmipa_check.specs.Ordering.{AreFilledBelow, NamesCall, AreFormed, missing_or, first_missing, AreOrdered}
+use Rattle.kmipa_check.specs.Ordering.{AreFilledBelow, NamesCall, AreFormed}
 use Rattle.kmipa_check.proofs.PlaceLemmas.{below_suc, mapped_at, mapped_from, contains_at, at_contains, same_elements, get_at, pushed_at, some_at, at_within}
 use Rattle.kmipa_check.proofs.PermutationLemmas.{IsOnce, at_most, permuted, once_mapped, once_pairs}
 
@@ -41,7 +41,7 @@ filled_none c = λ place ask answer below at wanted. omega (arith, below)
 
 pub filled_more : (c : CallOf) (place : ℕ) (ask : AskOf) (answer : AnswerOf) → slice_get c.request.items place ≡ Some ask → slice_get c.response.items place ≡ Some answer
     → (Wanted ask answer → ⊥) → AreFilledBelow c place → AreFilledBelow c (place + 1)
-filled_more c place ask answer a b no h =
+filled_more c place ask answer a b never h =
     let P : ℕ → Type 0 = λ n. AreFilledBelow c n in
     let here = pair_at c.request.items c.response.items place ask answer a b in
     subst P (sym (add-one place)) (λ other x y below at wanted. by here other x y at wanted (below_suc other place below))
@@ -53,7 +53,7 @@ filled_more c place ask answer a b no h =
         let there = subst P e at in
         let same : (x, y) ≡ (ask, answer) = cc in
         let Q : (AskOf × AnswerOf) → Type 0 = λ p. Wanted p.0 p.1 in
-        no (subst Q same wanted)
+        never (subst Q same wanted)
 
 pub filled_all : (c : CallOf) (count : ℕ) → AreFilledBelow c count → (length c.request.items ≤ count) ⊎ (length c.response.items ≤ count) → NeedsFill c → ⊥
 filled_all c count h past n =
@@ -113,20 +113,20 @@ module _ (calls : List Call) (turns : List Turn) (known named : FirstPlaces) (kn
       where
         by : (v : Option ℕ) → StandsFirst (map (λ (t : Turn). Some t.call) turns) (length (map (λ (t : Turn). Some t.call) turns)) turn.call v → is_noted v place ≡ false
             → NamesBefore (map turn_of turns) place turn.call
-        by None h no = absurd (h place (slice_get_within (map (λ (t : Turn). Some t.call) turns) place (Some turn.call) names_here) names_here)
-        by (Some q) h no =
+        by None h never = absurd (h place (slice_get_within (map (λ (t : Turn). Some t.call) turns) place (Some turn.call) names_here) names_here)
+        by (Some q) h never =
             let m = mapped_from (λ (t : Turn). Some t.call) turns q (Some turn.call) h.1.there in
             let e : m.0.call ≡ turn.call = cc in
-            (q, earlier q h.1.first no, get_at turn_of turns q m.0 m.1 ∙ ap (λ (z : ℤ). Some (record { call = z })) e)
+            (q, earlier q h.1.first never, get_at turn_of turns q m.0 m.1 ∙ ap (λ (z : ℤ). Some (record { call = z })) e)
           where
             earlier : (q : ℕ) → ((earlier : ℕ) → earlier < q → slice_get (map (λ (t : Turn). Some t.call) turns) earlier ≡ Some (Some turn.call) → ⊥) → (q == place) ≡ false → q < place
-            earlier q first no = under q (λ l. first place l names_here) no
+            earlier q first never = under q (λ l. first place l names_here) never
               where
                 under : (q : ℕ) → (place < q → ⊥) → (q == place) ≡ false → q < place
                 under q a b = grind (arith, nat_tests)
 
     first_named : is_noted (place_in named turn.call) place ≡ true → NamesBefore (map turn_of turns) place turn.call → ⊥
-    first_named yes before = by (place_in named turn.call) (names turn.call) yes
+    first_named here_first before = by (place_in named turn.call) (names turn.call) here_first
       where
         by : (v : Option ℕ) → StandsFirst (map (λ (t : Turn). Some t.call) turns) (length (map (λ (t : Turn). Some t.call) turns)) turn.call v → is_noted v place ≡ true → ⊥
         by None h e = absurd cc
@@ -149,13 +149,13 @@ module _ (calls : List Call) (turns : List Turn) (known named : FirstPlaces) (kn
       names_call = let P : ℤ → Type 0 = λ z. NamesAt (map turn_of turns) place z in subst P (sym its_number) names_at
 
       first_call : is_noted (place_in named turn.call) place ≡ true → NamesBefore (map turn_of turns) place call.number → ⊥
-      first_call yes = let P : ℤ → Type 0 = λ z. NamesBefore (map turn_of turns) place z → ⊥ in subst P (sym its_number) (first_named yes)
+      first_call here_first = let P : ℤ → Type 0 = λ z. NamesBefore (map turn_of turns) place z → ⊥ in subst P (sym its_number) (first_named here_first)
 
       pub turn_unfilled : is_noted (place_in named turn.call) place ≡ true → NeedsFill (call_of call) → TurnFault (map call_of calls) (map turn_of turns) place FillMissing
-      turn_unfilled yes needs = unfilled (call_of call) names_call known_call (first_call yes) needs refl
+      turn_unfilled here_first needs = unfilled (call_of call) names_call known_call (first_call here_first) needs refl
 
       pub turn_formed : is_noted (place_in named turn.call) place ≡ true → (NeedsFill (call_of call) → ⊥) → NamesCall (map call_of calls) (map turn_of turns) place at
-      turn_formed yes filled = (call_of call, mapped_at call_of calls at call call_within there, record { named = names_call; known = known_call; first = first_call yes; filled = filled })
+      turn_formed here_first filled = (call_of call, mapped_at call_of calls at call call_within there, record { named = names_call; known = known_call; first = first_call here_first; filled = filled })
 
 -- one turn more
 pub formed_none : (calls : List CallOf) (turns : List TurnOf) → AreFormed calls turns 0 []
@@ -184,20 +184,3 @@ formed_below calls turns count places f = λ turn below. at turn (some_at places
 -- the places are those of calls
 pub formed_within : (calls : List CallOf) (turns : List TurnOf) (count : ℕ) (places : List ℕ) → AreFormed calls turns count places → (turn place : ℕ) → slice_get places turn ≡ Some place → place < length calls
 formed_within calls turns count places f turn place at = let n = f.each turn place at in at_within calls place n.0 n.1
-
--- a call without a turn: the first
-missing_is : (named : FirstPlaces) (calls : List CallOf) (number : ℤ) → first_missing named calls ≡ Some number
-    → (place : ℕ) × (c : CallOf) × (slice_get calls place ≡ Some c) × (c.number ≡ number) × (place_in named c.number ≡ None)
-    × ((earlier : ℕ) (d : CallOf) → earlier < place → slice_get calls earlier ≡ Some d → place_in named d.number ≢ None)
-missing_is named [] number e = absurd cc
-missing_is named (c ∷ calls) number e = by (place_in named c.number) refl e
-  where
-    by : (v : Option ℕ) → place_in named c.number ≡ v → missing_or v c.number (first_missing named calls) ≡ Some number
-        → (place : ℕ) × (d : CallOf) × (slice_get (c ∷ calls) place ≡ Some d) × (d.number ≡ number) × (place_in named d.number ≡ None)
-        × ((earlier : ℕ) (x : CallOf) → earlier < place → slice_get (c ∷ calls) earlier ≡ Some x → place_in named x.number ≢ None)
-    by None is h = (0, c, refl, cc, is, λ earlier x below at. absurd (omega (arith, below)))
-    by (Some q) is h = ?
-
-missing_none : (named : FirstPlaces) (calls : List CallOf) → first_missing named calls ≡ None → (place : ℕ) (c : CallOf) → slice_get calls place ≡ Some c → (q : ℕ) × (place_in named c.number ≡ Some q)
-missing_none named [] e place c at = absurd cc
-missing_none named (x ∷ calls) e place c at = ?

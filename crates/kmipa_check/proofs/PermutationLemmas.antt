@@ -55,7 +55,7 @@ permuted (x ∷ xs) ys once inside few =
     (IsPermutation-sym ys (x ∷ w.rest) w.moved)
 
 -- keys that stand once come of elements that do
-contains_mapped : {X Y : Type 0} (f : X → Y) (xs : List X) (x : X) → Contains xs x → Contains (map f xs) (f x)
+pub contains_mapped : {X Y : Type 0} (f : X → Y) (xs : List X) (x : X) → Contains xs x → Contains (map f xs) (f x)
 contains_mapped f (y ∷ xs) x (zero, below, is) = (zero, omega arith, ap f is)
 contains_mapped f (y ∷ xs) x (suc k, below, is) = contains_tail (f y) (f x) (map f xs) (contains_mapped f xs x (k, omega (arith, below), is))
 contains_mapped f [] x (k, below, is) = absurd (omega (arith, below))

@@ -5,9 +5,10 @@ mod call;
 mod fault;
 mod late;
 mod numbers;
-mod order;
+mod opening;
 mod verdict;
 
 pub use call::Call;
 pub use fault::{CheckFault, Side, WitnessFault, WitnessKind};
+pub use opening::{open_ledger, rules_of_declaration};
 pub use verdict::{Refused, Verdict};
