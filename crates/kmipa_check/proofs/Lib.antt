@@ -1,0 +1,12 @@
+pub mod PlaceLemmas
+pub mod RunLemmas
+pub mod ReplayLemmas
+pub mod PermutationLemmas
+pub mod NumberLemmas
+pub mod LateLemmas
+pub mod OrderedLemmas
+pub mod OrderLemmas
+pub mod WholeOrderLemmas
+pub mod OpeningLemmas
+pub mod ReadableLemmas
+pub mod TurnLemmas

@@ -1,14 +1,16 @@
 -- The calls of a transcript: what their messages say, and which message is the first that is outside the profile.
-use Rattle.std.specs.Prelude.{◌≡◌, ◌<◌, ℕ, ℤ, List, map, length, take, All, slice_get, Some}
+use Rattle.std.specs.Prelude.{◌≡◌, ◌<◌, ℕ, ℤ, pos, true, List, [], map, length, take, All, slice_get, slice_index_or, Some}
 use Rattle.kmipa_ttlv.specs.Tree.{Tree}
 use Rattle.kmipa_ttlv.specs.Spelling.{Spells}
 use Rattle.kmipa_record.specs.Marks.{MarkOf, begins, ends, begun}
 use Rattle.kmipa_msgs.specs.declared.kind.OutsideKind.{OutsideKind}
 use Rattle.kmipa_msgs.specs.declared.kind.OutsideKind.TheVariants.{NotAMessage}
-use Rattle.kmipa_msgs.specs.Messages.{RequestOf, ResponseOf}
+use Rattle.kmipa_msgs.specs.declared.request.BatchOption.TheVariants.{Stop}
+use Rattle.kmipa_msgs.specs.Messages.{RequestOf, ResponseOf, request_of, response_of}
 use Rattle.kmipa_msgs.specs.Outside.{Inside, OutsideAt}
 use Rattle.kmipa_msgs.specs.Requests.{SaysRequest, RequestFault}
 use Rattle.kmipa_msgs.specs.Responses.{SaysResponse, ResponseFault}
+use Rattle.kmipa_check.specs.declared.call.Call.{Call}
 use Rattle.kmipa_check.specs.declared.fault.Side.{Side}
 use Rattle.kmipa_check.specs.declared.fault.Side.TheVariants.{Client, Server}
 
@@ -77,3 +79,15 @@ pub record IsFirstOutside (marks : List MarkOf) (number : ℤ) (side : Side) (it
   pub answered : List ℕ
   pub carried : HasMarks marks number begin end asked answered
   pub outside : IsOutsideOn side asked answered item kind
+
+-- what a call of the program means
+abbrev pub call_of : Call → CallOf
+call_of c = record { number = c.number; begin = c.begin; end = c.end; request = request_of c.request; response = response_of c.response }
+
+-- what stands at a place where no call does
+abbrev pub no_call : CallOf
+no_call = record { number = pos 0; begin = 0; end = 0; request = record { option = Stop; ordered = true; items = [] }; response = record { stamp = pos 0; items = [] } }
+
+-- the calls at these places
+abbrev pub ordered : List CallOf → List ℕ → List CallOf
+ordered calls places = map (λ place. slice_index_or calls place no_call) places

@@ -1,6 +1,7 @@
 //! Why a check gives no verdict.
 
 use kmipa_msgs::Outside;
+use std::alloc::{AllocError, AllocFailed};
 use thiserror::Error;
 
 /// Whose message it is.
@@ -50,4 +51,26 @@ pub enum WitnessKind {
     FillMissing = 5,
     /// A fill isn't of the form of its operation's payload.
     FillForm = 6,
+}
+
+impl From<AllocError> for CheckFault {
+    ghost use Rattle.std.specs.Prelude.{◌≡◌};
+    ghost use Rattle.kmipa_check.specs.declared.fault.CheckFault.TheVariants.{Memory};
+
+    ghost from_gives = { λ _ e. e ≡ Memory };
+
+    fn from(_e: AllocError) -> CheckFault {
+        CheckFault::Memory
+    }
+}
+
+impl<T: Drop> From<AllocFailed<T>> for CheckFault {
+    ghost use Rattle.std.specs.Prelude.{◌≡◌};
+    ghost use Rattle.kmipa_check.specs.declared.fault.CheckFault.TheVariants.{Memory};
+
+    ghost from_gives = { λ _ e. e ≡ Memory };
+
+    fn from(_e: AllocFailed<T>) -> CheckFault {
+        CheckFault::Memory
+    }
 }

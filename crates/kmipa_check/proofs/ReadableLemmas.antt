@@ -1,0 +1,113 @@
+-- What a call says can be judged, where no payload is wanted.
+use Rattle.std.proofs.Common.{◌≡◌, ◌⊎◌, inl, inr, ◌==◌, ◌||◌, not, if◌then◌else◌, ℕ, zero, suc, Bool, true, false, List, [], ◌∷◌, Option, Some, None, slice_get, refl, sym, ap, ◌∙◌, subst, arith}
+use Rattle.std.specs.List.{zip}
+use Rattle.std.proofs.lemmas.Bool.Decides.{nat_tests}
+use Rattle.kmipa_ttlv.specs.Tree.{Tree, Trees, structure, scalar, none, more}
+use Rattle.kmipa_attrs.specs.declared.fields.Field.{Field}
+use Rattle.kmipa_attrs.specs.declared.fields.Field.TheVariants.{Absent, Wrong, There}
+use Rattle.kmipa_attrs.specs.Readings.{Optional}
+use Rattle.kmipa_attrs.specs.Fields.{first, at, as_enumeration}
+use Rattle.kmipa_msgs.specs.declared.operation.Operation.{Operation}
+use Rattle.kmipa_msgs.specs.declared.response.Status.{Status}
+use Rattle.kmipa_msgs.specs.declared.response.Status.TheVariants.{Success, Failed, Undone}
+use Rattle.kmipa_msgs.specs.Operations.{operation_number}
+use Rattle.kmipa_msgs.specs.Messages.{AskedOf, registers, gets, AskOf, operation_asked, PayloadOf, registered, got, AnswerOf, RequestOf, ResponseOf}
+use Rattle.kmipa_msgs.specs.Tables.{children}
+use Rattle.kmipa_msgs.specs.Headers.{batch}
+use Rattle.kmipa_msgs.specs.Outside.{SaysEach}
+use Rattle.kmipa_msgs.specs.Payloads.{SaysPayloadOf}
+use Rattle.kmipa_msgs.specs.Replies.{named, own, SaysRequired, SaysMaybe, filled, SaysShown, SaysAnswer}
+use Rattle.kmipa_msgs.specs.Responses.{SaysResponse}
+use Rattle.kmipa_msgs.specs.Wanted.{NeedsPayload, IsOwn, Wanted}
+use Rattle.kmipa_ops.specs.Objects.{is_other}
+use Rattle.kmipa_ops.specs.Completes.{is_of, can_judge, has_payload, may_have, may_lack}
+use Rattle.kmipa_ops.specs.Explains.{is_readable}
+use Rattle.kmipa_batch.specs.Readable.{AreReadable, IsReadableCall}
+use Rattle.kmipa_record.specs.Marks.{MarkOf}
+use Rattle.kmipa_check.specs.Calls.{CallOf, IsRecorded}
+use Rattle.kmipa_check.specs.Orders.{NeedsFill}
+
+-- a payload that is said is one of the operation asked for
+of_asked : (asked : AskedOf) (t : Tree) (p : PayloadOf) → SaysPayloadOf (operation_asked asked) t p → is_of asked p ≡ true
+of_asked (registers r) (structure n ts) (registered a) h = refl
+of_asked (registers r) (structure n ts) (got a) h = absurd h
+of_asked (gets id) (structure n ts) (got a) h = refl
+of_asked (gets id) (structure n ts) (registered a) h = absurd h
+of_asked asked (scalar n s) p h = absurd h
+
+required : (asked : AskedOf) (t : Option Tree) (p : Option PayloadOf) → SaysRequired (operation_asked asked) t p → has_payload asked p ≡ true
+required asked (Some t) (Some p) h = of_asked asked t p h
+required asked (Some t) None h = absurd h
+required asked None p h = absurd h
+
+maybe : (asked : AskedOf) (t : Option Tree) (p : Option PayloadOf) → SaysMaybe (operation_asked asked) t p → (p ≡ None → may_lack asked ≡ true) → may_have asked p ≡ true
+maybe asked None None h lacks = lacks refl
+maybe asked None (Some p) h lacks = absurd h
+maybe asked (Some t) (Some p) h lacks = of_asked asked t p h
+maybe asked (Some t) None h lacks = absurd h
+
+shown : (asked : AskedOf) (status : Status) (t : Option Tree) (p : Option PayloadOf) → SaysShown (Some (operation_asked asked)) status t p → (status ≡ Undone → p ≡ None → may_lack asked ≡ true)
+    → can_judge status asked p ≡ true
+shown asked Success t p h lacks = required asked t p h
+shown asked Failed t p h lacks = refl
+shown asked Undone t p h lacks = maybe asked (filled t) p h (lacks refl)
+
+own_of : (number : ℕ) (operation : Option ℕ) → (operation ≡ None) ⊎ (operation ≡ Some number) → IsOwn number operation
+own_of number operation (inl e) = let P : Option ℕ → Type 0 = λ o. IsOwn number o in subst P (sym e) tt
+own_of number operation (inr e) = let P : Option ℕ → Type 0 = λ o. IsOwn number o in subst P (sym e) refl
+
+lacks_of : (asked : AskedOf) (ask : AskOf) (answer : AnswerOf) → ask.asked ≡ asked → (Wanted ask answer → ⊥)
+    → (answer.operation ≡ None) ⊎ (answer.operation ≡ Some (operation_number (operation_asked ask.asked))) → answer.status ≡ Undone → answer.payload ≡ None → may_lack asked ≡ true
+lacks_of (registers r) ask answer is never own undone absent =
+    let P : AskedOf → Type 0 = λ a. NeedsPayload (operation_asked a) in
+    absurd (never (record { asks = subst P (sym is) tt; own = own_of (operation_number (operation_asked ask.asked)) answer.operation own; undone = undone; absent = absent }))
+lacks_of (gets id) ask answer is never own undone absent = refl
+
+or_true : (a b : Bool) → b ≡ true → (a || b) ≡ true
+or_true true b e = refl
+or_true false b e = e
+
+-- at the answer's own operation there is what to judge
+own_readable : (ask : AskOf) (answer : AnswerOf) (t : Option Tree) → SaysShown (Some (operation_asked ask.asked)) answer.status t answer.payload → (Wanted ask answer → ⊥)
+    → (answer.operation ≡ None) ⊎ (answer.operation ≡ Some (operation_number (operation_asked ask.asked))) → is_readable ask answer ≡ true
+own_readable ask answer t h never own =
+    or_true (is_other (λ (x y : ℕ). x == y) answer.operation (operation_number (operation_asked ask.asked))) (can_judge answer.status ask.asked answer.payload)
+    (shown ask.asked answer.status t answer.payload h (lacks_of ask.asked ask answer refl never own))
+
+-- an answer to an item of the request, by the field of its operation
+answer_readable : (field : Field ℕ) (ask : AskOf) (answer : AnswerOf) (t : Option Tree) (operation : Option ℕ) → answer.operation ≡ operation → Optional field operation
+    → SaysShown (own (Some ask) field) answer.status t answer.payload → (Wanted ask answer → ⊥) → is_readable ask answer ≡ true
+answer_readable Absent ask answer t None is o h never = own_readable ask answer t h never (inl is)
+answer_readable Absent ask answer t (Some n) is o h never = absurd cc
+answer_readable Wrong ask answer t None is o h never = absurd cc
+answer_readable Wrong ask answer t (Some n) is o h never = absurd cc
+answer_readable (There n) ask answer t None is o h never = absurd cc
+answer_readable (There n) ask answer t (Some m) is o h never =
+    let same : n ≡ m = cc in
+    by n (n == operation_number (operation_asked ask.asked)) refl (is ∙ ap Some (sym same)) h
+  where
+    by : (n : ℕ) (b : Bool) → (n == operation_number (operation_asked ask.asked)) ≡ b → answer.operation ≡ Some n → SaysShown (if b then Some (operation_asked ask.asked) else None) answer.status t answer.payload
+        → is_readable ask answer ≡ true
+    by n true e at shows =
+        let eq : n ≡ operation_number (operation_asked ask.asked) = grind (arith, nat_tests) in
+        own_readable ask answer t shows never (inr (at ∙ ap Some eq))
+    by n false e at shows =
+        ap (λ (o : Option ℕ). is_other (λ (x y : ℕ). x == y) o (operation_number (operation_asked ask.asked)) || can_judge answer.status ask.asked answer.payload) at
+        ∙ ap (λ (b : Bool). not b || can_judge answer.status ask.asked answer.payload) e
+
+-- all answers at the places of a request's items
+each_readable : (asks : List AskOf) (ts : List Tree) (answers : List AnswerOf) → SaysEach (λ place. SaysAnswer (slice_get asks place)) ts answers
+    → ((place : ℕ) (ask : AskOf) (answer : AnswerOf) → slice_get (zip asks answers) place ≡ Some (ask, answer) → Wanted ask answer → ⊥) → AreReadable (zip asks answers)
+each_readable [] ts answers h never = tt
+each_readable (ask ∷ asks) ts [] h never = tt
+each_readable (ask ∷ asks) [] (answer ∷ answers) h never = absurd h
+each_readable (ask ∷ asks) (t ∷ ts) (answer ∷ answers) h never = (
+  answer_readable (at as_enumeration 0x42_005C (children t)) ask answer (first 0x42_007C (children t)) answer.operation refl h.0.operation h.0.payload (never 0 ask answer refl),
+  each_readable asks ts answers h.1 (λ place x y there. never (suc place) x y there),
+)
+
+-- a call that waits for no payload can be judged
+pub call_readable : (marks : List MarkOf) (c : CallOf) → IsRecorded marks c → (NeedsFill c → ⊥) → IsReadableCall c.request c.response
+call_readable marks c r filled unrefused =
+    each_readable c.request.items (batch r.response.item) c.response.items r.response.inside.said.items
+    (λ place ask answer there wanted. filled (record { place = place; ask = ask; answer = answer; there = there; wanted = wanted }))

@@ -1,0 +1,180 @@
+-- A replay, event by event: placed and taken, late, back, refused, at its end.
+use Rattle.std.proofs.Common.{◌≡◌, ◌<◌, ◌≤◌, ◌⊎◌, inl, inr, ℕ, zero, suc, ◌+◌, ℤ, ◌≤ℤ◌, ◌<ℤ◌, List, [], ◌∷◌, map, length, take, Option, Some, None, slice_get, get_or, Result, Ok, Err, refl, sym, ap, ◌∙◌, subst, arith, add-one}
+use Rattle.std.specs.Prelude.{AllPairs, IsPermutation}
+use Rattle.std.proofs.lemmas.List.{take_all}
+use Rattle.std.proofs.lemmas.Option.{slice_get-get_or}
+use Rattle.std.proofs.lemmas.Int.{by_lt_z}
+use Rattle.std.specs.Int.Signed.{clash_ℤ, <ℤ-≤ℤ_trans}
+use Rattle.kmipa_object.specs.Inventory.{Thing}
+use Rattle.kmipa_store.specs.Ledger.{Meaning, LedgerState}
+use Rattle.kmipa_store.specs.Choices.{Choice, Chooses, Agrees, inv, IsSound}
+use Rattle.kmipa_record.specs.Marks.{MarkOf}
+use Rattle.kmipa_record.specs.Declarations.{DeclarationOf}
+use Rattle.kmipa_record.specs.Witnesses.{TurnOf}
+use Rattle.kmipa_msgs.specs.Messages.{RulesOf}
+use Rattle.kmipa_ops.specs.declared.why.Why.{Why}
+use Rattle.kmipa_ops.specs.declared.why.Why.TheVariants.{EarlierCallLate, StampRunsBack}
+use Rattle.kmipa_ops.specs.Chains.{ChainSome}
+use Rattle.kmipa_batch.specs.Calls.{pairs_of, CallSome, RefusesMessage}
+use Rattle.kmipa_batch.specs.Refusals.{CallExplains, CallRefuted, CallTaken, IsPossibleUpTo}
+use Rattle.kmipa_batch.specs.declared.refusal.CallRefusal.TheVariants.{Impossible}
+use Rattle.kmipa_check.specs.Calls.{CallOf, AreCalls}
+use Rattle.kmipa_check.specs.Runs.{Linked, Describes, rules_declared, Before, IsPlaced, IsRun, IsAccepted}
+use Rattle.kmipa_check.specs.Verdicts.{IsLate, RunsBack, IsPlacedAt, ArePlaced, ArePossible, ArePossibleUpTo, AreKnown, RefusedItem, RefusedPlace, late, runs_back, RefusedAt, in_place, in_item, IsRefused, GoesUpTo}
+use Rattle.kmipa_check.specs.declared.verdict.Refused.{Refused}
+use Rattle.kmipa_check.specs.Replays.{Replayed}
+use Rattle.kmipa_check.proofs.PlaceLemmas.{below_suc}
+use Rattle.kmipa_check.proofs.RunLemmas.{linked_join, linked_split}
+
+-- an opened ledger has replayed nothing yet
+pub replayed_none : (declared : DeclarationOf) (order : List CallOf) (m : Meaning) → AreKnown declared [] m → IsSound m → Replayed declared order 0 m
+replayed_none declared order m known sound = record { placed = λ turn below. absurd (omega (arith, below)); known = known; sound = sound }
+
+module _ (declared : DeclarationOf) (order : List CallOf) (n : ℕ) (c : CallOf) (m : Meaning) (r : Replayed declared order n m) (here : IsPlacedAt order n c) where
+  placed_more : ArePlaced order (suc n)
+  placed_more turn below = by (below_suc turn n below)
+    where
+      by : (turn < n) ⊎ (turn ≡ n) → (d : CallOf) × IsPlacedAt order turn d
+      by (inl h) = r.placed turn h
+      by (inr e) = let P : ℕ → Type 0 = λ k. (d : CallOf) × IsPlacedAt order k d in subst P (sym e) (c, here)
+
+  known_more : (k : Meaning) → CallExplains (rules_declared declared) m c.request c.response k → AreKnown declared (take (suc n) order) k
+  known_more k e = record {
+    sound = λ choice h.
+        let f = e.sound choice h in
+        let g = r.known.sound choice f.0 in
+        (g.0, g.1, linked_join (rules_declared declared) n g.0 order c (inv choice m.objects) (inv choice k.objects) g.2 here.there f.1);
+    complete = λ start V d l.
+        let p = linked_split (rules_declared declared) n start order c V l here.there in
+        let q = r.known.complete start p.0 d p.1 in
+        let P : List Thing → Type 0 = λ X. CallSome (rules_declared declared) X c.request c.response V in
+        let f = e.complete q.0 q.1 V (subst P q.2 p.2) in
+        (f.0, f.1, f.3);
+  }
+
+  -- the call of this turn is taken
+  pub replayed_more : (s u : LedgerState) → s.now ≡ m → CallTaken (rules_declared declared) s c.request c.response (Ok tt) u → Replayed declared order (n + 1) u.now
+  replayed_more s u is t =
+      let P : ℕ → Type 0 = λ k. Replayed declared order k u.now in
+      let E : Meaning → Type 0 = λ x. CallExplains (rules_declared declared) x c.request c.response u.now in
+      subst P (sym (add-one n)) (record { placed = placed_more; known = known_more u.now (subst E is t.0); sound = t.1 })
+
+  -- it is refused at an item
+  refused_item : (item : ℕ) (why : Why) → CallRefuted (rules_declared declared) m c.request c.response item why
+      → (count : ℕ) × (item ≡ count + 1) × RefusedItem declared order n c count why
+  refused_item item why e =
+      let f = r.known.sound e.before.choice e.before.chooses in (
+        e.count,
+        e.told,
+        record {
+          before = record {
+            placed = r.placed;
+            here = here;
+            start = f.0;
+            described = f.1;
+            before = inv e.before.choice m.objects;
+            linked = f.2;
+            items = inl (e.before.shaped, (e.before.things, e.before.placeholder, e.before.chain));
+          };
+          never = λ p.
+              let q = r.known.complete p.start p.before p.described p.linked in
+              never_from e.count p.before q.0 q.1 q.2 e.never e.unrefused p.items;
+          known = m;
+          knows = r.known;
+          speaks = e.speaks;
+        },
+      )
+    where
+      never_from : (count : ℕ) (V : List Thing) (choice : Choice) → Chooses m.secrets choice → V ≡ inv choice m.objects
+          → (IsPossibleUpTo (rules_declared declared) m c.request c.response (count + 1) → ⊥) → (RefusesMessage c.response → ⊥)
+          → GoesUpTo (rules_declared declared) V c (count + 1) → ⊥
+      never_from count V choice h is never unrefused (inl g) =
+          let P : List Thing → Type 0 = λ X. ChainSome (rules_declared declared) c.response.stamp X None (take (count + 1) (pairs_of c.request c.response)) g.1.0 g.1.1 in
+          never (record { shaped = g.0; choice = choice; chooses = h; things = g.1.0; placeholder = g.1.1; chain = subst P is g.1.2 })
+      never_from count V choice h is never unrefused (inr g) = unrefused g
+
+-- the turns before are possible
+module _ (declared : DeclarationOf) (order : List CallOf) (n : ℕ) (m : Meaning) (r : Replayed declared order n m) where
+  pub replayed_possible : ArePossible declared order n
+  replayed_possible =
+      let c = r.sound.choice in
+      let f = r.known.sound c.0 c.1 in
+      record { placed = r.placed; start = f.0; described = f.1; last = inv c.0 m.objects; linked = f.2 }
+
+  module _ (c : CallOf) (there : slice_get order n ≡ Some c) where
+    refused : (item : ℕ) (why : Why) (v : Refused) → v.turn ≡ n + 1 → c.number ≡ v.call → v.item ≡ item → v.why ≡ why → RefusedAt declared order n c item why → IsRefused declared order v
+    refused item why v told number at is h =
+        let P : ℕ → Type 0 = λ k. RefusedAt declared order n c k why in
+        let Q : Why → Type 0 = λ w. RefusedAt declared order n c v.item w in
+        record { turn = n; told = told; call = c; there = there; number = number; before = replayed_possible; refused = subst Q (sym is) (subst P (sym at) h) }
+
+    pub refused_late : (v : Refused) → v.turn ≡ n + 1 → c.number ≡ v.call → v.item ≡ 0 → v.why ≡ EarlierCallLate → IsLate order n c → IsRefused declared order v
+    refused_late v told number at is behind = refused 0 EarlierCallLate v told number at is (in_place refl (late behind refl))
+
+    pub refused_back : (v : Refused) → v.turn ≡ n + 1 → c.number ≡ v.call → v.item ≡ 0 → v.why ≡ StampRunsBack → (IsLate order n c → ⊥) → RunsBack order n c → IsRefused declared order v
+    refused_back v told number at is kept back = refused 0 StampRunsBack v told number at is (in_place refl (runs_back kept back refl))
+
+    pub refused_call : (v : Refused) (item : ℕ) (why : Why) (s u : LedgerState) → s.now ≡ m → v.turn ≡ n + 1 → c.number ≡ v.call → v.item ≡ item → v.why ≡ why
+        → (IsLate order n c → ⊥) → (RunsBack order n c → ⊥) → CallTaken (rules_declared declared) s c.request c.response (Err (Impossible item why)) u → IsRefused declared order v
+    refused_call v item why s u same told number at is kept stamped t =
+        let E : Meaning → Type 0 = λ x. CallRefuted (rules_declared declared) x c.request c.response item why in
+        let p = refused_item declared order n c m r (record { there = there; kept = kept; stamped = stamped }) item why (subst E same t.0) in
+        refused item why v told number at is (in_item p.0 p.1 p.2)
+
+-- at the end: no turn is late, and stamps rise from turn to turn
+at_place : (order : List CallOf) (count turn : ℕ) (d : CallOf) → ArePlaced order count → turn < count → turn < length order → IsPlacedAt order turn (get_or order turn d)
+at_place order count turn d placed below within =
+    let p = placed turn below in
+    let P : CallOf → Type 0 = λ x. IsPlacedAt order turn x in
+    let q = slice_get-get_or order turn d within in
+    let r = p.1.there in
+    let e : p.0 ≡ get_or order turn d = cc in
+    subst P e p.1
+
+all_kept : (order : List CallOf) → ArePlaced order (length order) → AllPairs (λ (a b : CallOf). ¬ (Before b a)) order
+all_kept order placed i j d below within before =
+    let p = at_place order (length order) i d placed (omega (arith, below, within)) (omega (arith, below, within)) in
+    p.kept (j, get_or order j d, below, slice_get-get_or order j d within, before)
+
+step_rises : (order : List CallOf) → ArePlaced order (length order) → (j : ℕ) (d : CallOf) → suc j < length order → (get_or order j d).response.stamp ≤ℤ (get_or order (suc j) d).response.stamp
+step_rises order placed j d within =
+    let p = at_place order (length order) (suc j) d placed within within in
+    by_lt_z (get_or order (suc j) d).response.stamp (get_or order j d).response.stamp
+    (λ h. absurd (p.stamped (j, get_or order j d, add-one j, slice_get-get_or order j d (omega (arith, within)), h)))
+    (λ h. h)
+
+over : (x y z : ℤ) → x ≤ℤ y → y ≤ℤ z → x ≤ℤ z
+over x y z p q = by_lt_z z x (λ h. clash_ℤ (<ℤ-≤ℤ_trans h p) q) (λ h. h)
+
+rises_on : (order : List CallOf) (i j : ℕ) (d : CallOf) → (get_or order j d).response.stamp ≤ℤ (get_or order (suc j) d).response.stamp
+    → (i < j → (get_or order i d).response.stamp ≤ℤ (get_or order j d).response.stamp) → (i < j) ⊎ (i ≡ j)
+    → (get_or order i d).response.stamp ≤ℤ (get_or order (suc j) d).response.stamp
+rises_on order i j d step before (inl h) =
+    over (get_or order i d).response.stamp (get_or order j d).response.stamp (get_or order (suc j) d).response.stamp (before h) step
+rises_on order i j d step before (inr e) =
+    let P : ℕ → Type 0 = λ k. (get_or order k d).response.stamp ≤ℤ (get_or order (suc j) d).response.stamp in
+    subst P (sym e) step
+
+rises : (order : List CallOf) → ArePlaced order (length order) → (i j : ℕ) (d : CallOf) → i < j → j < length order → (get_or order i d).response.stamp ≤ℤ (get_or order j d).response.stamp
+rises order placed i zero d below within = absurd (omega (arith, below))
+rises order placed i (suc j) d below within =
+    rises_on order i j d (step_rises order placed j d within) (λ h. rises order placed i j d h (omega (arith, within))) (below_suc i j below)
+
+is_placed : (order : List CallOf) → ArePlaced order (length order) → IsPlaced order
+is_placed order placed = record { kept = all_kept order placed; stamped = rises order placed }
+
+pub replayed_accepts : (marks : List MarkOf) (declared : DeclarationOf) (turns : List TurnOf) (calls order : List CallOf) (m : Meaning) → AreCalls marks calls
+    → map (λ (c : CallOf). c.number) order ≡ map (λ (t : TurnOf). t.call) turns → IsPermutation calls order → Replayed declared order (length order) m → IsAccepted marks declared turns
+replayed_accepts marks declared turns calls order m are named once r =
+    let c = r.sound.choice in
+    let f = r.known.sound c.0 c.1 in
+    let P : List CallOf → Type 0 = λ o. Linked (rules_declared declared) f.0 o (inv c.0 m.objects) in
+    record {
+      calls = calls;
+      are = are;
+      order = order;
+      named = named;
+      start = f.0;
+      described = f.1;
+      run = record { once = once; placed = is_placed order r.placed; last = inv c.0 m.objects; linked = subst P (take_all (length order) order (omega arith)) f.2 };
+    }

@@ -1,0 +1,82 @@
+-- What a turn comes to.
+use Rattle.std.proofs.Common.{◌≡◌, ◌<◌, ◌≤◌, ◌⊎◌, inl, inr, ◌==◌, nat_lt, ℕ, zero, suc, ◌+◌, ℤ, ◌<ℤ◌, ◌≤ℤ◌, Bool, true, false, List, [], ◌∷◌, map, length, get_or, Contains, Option, Some, None, slice_get, Result, Ok, Err, refl, sym, ap, ◌∙◌, subst, arith}
+use Rattle.std.specs.Prelude.{All}
+use Rattle.std.specs.Int.Signed.{clash_ℤ}
+use Rattle.std.proofs.lemmas.Bool.Decides.{nat_tests}
+use Rattle.std.proofs.lemmas.Option.{get_or_from_slice_get}
+use Rattle.kmipa_store.specs.Ledger.{Meaning, LedgerState}
+use Rattle.kmipa_store.specs.Choices.{IsSound}
+use Rattle.kmipa_record.specs.Declarations.{DeclarationOf}
+use Rattle.kmipa_msgs.specs.Messages.{RulesOf}
+use Rattle.kmipa_ops.specs.declared.why.Why.{Why}
+use Rattle.kmipa_ops.specs.declared.why.Why.TheVariants.{EarlierCallLate, StampRunsBack}
+use Rattle.kmipa_batch.specs.Refusals.{CallTaken}
+use Rattle.kmipa_batch.specs.Readable.{IsReadableCall}
+use Rattle.kmipa_batch.specs.declared.refusal.CallRefusal.TheVariants.{Impossible}
+use Rattle.kmipa_check.specs.declared.verdict.Refused.{Refused}
+use Rattle.kmipa_check.specs.declared.call.Call.{Call}
+use Rattle.kmipa_check.specs.Calls.{CallOf, call_of, ordered}
+use Rattle.kmipa_check.specs.Runs.{rules_declared}
+use Rattle.kmipa_check.specs.Verdicts.{IsLate, RunsBack, IsRefused, IsPlacedAt, ArePlaced}
+use Rattle.kmipa_check.specs.Late.{FirstLate, LateFrom, is_at}
+use Rattle.kmipa_check.specs.Ordering.{Decided}
+use Rattle.kmipa_check.specs.Replays.{Replayed, TurnTold, TurnTaken, AllReadable}
+use Rattle.kmipa_check.proofs.ReplayLemmas.{replayed_more, refused_late, refused_back, refused_call}
+use Rattle.kmipa_check.proofs.PlaceLemmas.{mapped_at, contains_at}
+use Rattle.kmipa_check.proofs.OrderedLemmas.{ordered_at}
+
+-- a place of an order is one of its calls
+pub place_below : (count : ℕ) (order : List ℕ) (turn place : ℕ) → All (λ p. p < count) order → turn < length order → place ≡ get_or order turn place → place < count
+place_below count order turn place all below is = let P : ℕ → Type 0 = λ p. p < count in subst P (sym is) (all turn place below)
+
+pub late_here : (order : List CallOf) (late : Option ℕ) (turn : ℕ) (c : CallOf) → FirstLate order late → slice_get order turn ≡ Some c → is_at late turn ≡ true → IsLate order turn c
+late_here order None turn c h at e = absurd cc
+late_here order (Some late) turn c h at e =
+    let same : late ≡ turn = grind (arith, nat_tests) in
+    let P : ℕ → Type 0 = λ n. (x : CallOf) → slice_get order n ≡ Some x → IsLate order n x in
+    subst P same h.1 c at
+
+apart : (a b : ℕ) → (a < b) ⊎ ((a ≡ b) ⊎ (b < a))
+apart zero zero = inr (inl refl)
+apart zero (suc b) = inl (omega arith)
+apart (suc a) zero = inr (inr (omega arith))
+apart (suc a) (suc b) = up (apart a b)
+  where
+    up : (a < b) ⊎ ((a ≡ b) ⊎ (b < a)) → (suc a < suc b) ⊎ ((suc a ≡ suc b) ⊎ (suc b < suc a))
+    up (inl h) = inl (omega (arith, h))
+    up (inr (inl e)) = inr (inl (ap suc e))
+    up (inr (inr h)) = inr (inr (omega (arith, h)))
+
+-- where the turns before are placed and the first late turn isn't this one, it isn't late
+pub none_late : (order : List CallOf) (late : Option ℕ) (turn : ℕ) (c : CallOf) → FirstLate order late → ArePlaced order turn → slice_get order turn ≡ Some c → is_at late turn ≡ false
+    → IsLate order turn c → ⊥
+none_late order None turn c h placed at never is = h turn c (omega arith) at is
+none_late order (Some late) turn c h placed at never is = by (apart turn late)
+  where
+    by : (turn < late) ⊎ ((turn ≡ late) ⊎ (late < turn)) → ⊥
+    by (inl b) = h.2 turn c (omega arith) b at is
+    by (inr (inl e)) = grind (arith, nat_tests)
+    by (inr (inr b)) = let p = placed late b in p.1.kept (h.1 p.0 p.1.there)
+
+module _ (rules : RulesOf) (order : List CallOf) (turn : ℕ) (c : CallOf) (there : slice_get order turn ≡ Some c) (s : LedgerState) where
+  pub turn_late : (m : Meaning) (v : Refused) → v ≡ record { turn = turn + 1; call = c.number; item = 0; why = EarlierCallLate } → IsLate order turn c → TurnTaken rules order turn s.now (Ok (Some v)) m
+  turn_late m v e late = λ declared is r.
+      refused_late declared order turn s.now r c there v (ap (λ (x : Refused). x.turn) e) (sym (ap (λ (x : Refused). x.call) e)) (ap (λ (x : Refused). x.item) e) (ap (λ (x : Refused). x.why) e) late
+
+  module _ (late : Option ℕ) (first : FirstLate order late) (here : is_at late turn ≡ false) where
+    pub turn_back : (m : Meaning) (v : Refused) → v ≡ record { turn = turn + 1; call = c.number; item = 0; why = StampRunsBack } → RunsBack order turn c → TurnTaken rules order turn s.now (Ok (Some v)) m
+    turn_back m v e back = λ declared is r.
+        refused_back declared order turn s.now r c there v (ap (λ (x : Refused). x.turn) e) (sym (ap (λ (x : Refused). x.call) e)) (ap (λ (x : Refused). x.item) e) (ap (λ (x : Refused). x.why) e)
+        (none_late order late turn c first r.placed there here) back
+
+    pub turn_refused : (u : LedgerState) (item : ℕ) (why : Why) → (RunsBack order turn c → ⊥) → CallTaken rules s c.request c.response (Err (Impossible item why)) u
+        → TurnTaken rules order turn s.now (Ok (Some (record { turn = turn + 1; call = c.number; item = item; why = why }))) u.now
+    turn_refused u item why stamped t = λ declared is r.
+        let P : RulesOf → Type 0 = λ x. CallTaken x s c.request c.response (Err (Impossible item why)) u in
+        refused_call declared order turn s.now r c there (record { turn = turn + 1; call = c.number; item = item; why = why }) item why s u refl refl refl refl refl
+        (none_late order late turn c first r.placed there here) stamped (subst P is t)
+
+    pub turn_done : (u : LedgerState) → (RunsBack order turn c → ⊥) → CallTaken rules s c.request c.response (Ok tt) u → TurnTaken rules order turn s.now (Ok None) u.now
+    turn_done u stamped t = λ declared is r.
+        let P : RulesOf → Type 0 = λ x. CallTaken x s c.request c.response (Ok tt) u in
+        replayed_more declared order turn c s.now r (record { there = there; kept = none_late order late turn c first r.placed there here; stamped = stamped }) s u refl (subst P is t)

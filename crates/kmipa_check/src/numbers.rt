@@ -1,0 +1,108 @@
+//! Where the number of a call first stands in a list.
+
+ghost use Rattle.std.specs.Prelude.{◌≡◌, ℤ, Option, None, Some, OnOk, IfOk, length, map};
+ghost use Rattle.kmipa_record.specs.Marks.{mark_of};
+ghost use Rattle.kmipa_check.specs.Numbers.{Indexes, IndexesBelow, Noted, NotedIfAny, end_number, is_noted, place_in};
+
+use crate::call::Call;
+use kmipa_record::{Mark, Turn};
+use std::alloc::{AllocError, Global};
+use std::collections::HashMap;
+
+/// What may have the number of a call.
+pub trait Numbered {
+    ghost number_in: { Self → Option ℤ };
+
+    /// The number that it has.
+    fn number(&self) -> Option<i32>
+        ensures { result ≡ number_in self.now };
+}
+
+impl<'a> Numbered for Call<'a> {
+    ghost number_in = { λ call. Some call.number };
+
+    fn number(&self) -> Option<i32> {
+        Some(self.number)
+    }
+}
+
+impl Numbered for Turn {
+    ghost number_in = { λ turn. Some turn.call };
+
+    fn number(&self) -> Option<i32> {
+        Some(self.call)
+    }
+}
+
+/// An end mark has the number of its call; a begin mark has none.
+impl Numbered for Mark {
+    ghost number_in = { λ mark. end_number (mark_of mark) };
+
+    fn number(&self) -> Option<i32> {
+        match self {
+            Mark::Begin(_) => None,
+            Mark::End(end) => Some(end.call),
+        }
+    }
+}
+
+/// The first place of each number of a list.
+#[derive(Drop)]
+pub struct FirstPlaces {
+    places: HashMap<i32, usize>,
+}
+
+impl FirstPlaces {
+    /// The first place of each number.
+    pub fn of<T: Numbered>(alloc: Global, items: &[T]) -> Result<FirstPlaces, AllocError>
+        ensures { IfOk result (λ f. Indexes (map T.number_in items.now) f) }
+    {
+        let mut first = FirstPlaces {
+            places: HashMap::new(alloc),
+        };
+        let mut place = 0;
+        'items: while place < items.len() {
+            first.note_any(items[place].number(), place)?;
+            place += 1;
+        }
+        Ok(first)
+    }
+
+    /// Notes the number that stands at a place, if one does.
+    fn note_any(&mut self, number: Option<i32>, place: usize) -> Result<(), AllocError>
+        ensures { OnOk result (NotedIfAny self.old self.new number place) }
+    {
+        match number {
+            Some(number) => self.note(number, place),
+            None => Ok(()),
+        }
+    }
+
+    /// Notes that a number stands at a place, unless an earlier one is noted.
+    fn note(&mut self, number: i32, place: usize) -> Result<(), AllocError>
+        ensures { OnOk result (Noted self.old self.new number place) }
+    {
+        if self.places.contains_key(&number) {
+            return Ok(());
+        }
+        self.places.insert(number, place)?;
+        Ok(())
+    }
+
+    /// The first place of a number.
+    pub fn place(&self, number: i32) -> Option<usize>
+        ensures { result ≡ place_in self.now number }
+    {
+        self.places.get(&number).copied()
+    }
+
+    /// Whether this is the first place of a number.
+    pub fn is_first(&self, number: i32, place: usize) -> bool
+        ensures { result ≡ is_noted (place_in self.now number) place }
+    {
+        match self.places.get(&number) {
+            Some(first) => *first == place,
+            None => false,
+        }
+    }
+}
