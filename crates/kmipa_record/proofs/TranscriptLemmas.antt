@@ -1,31 +1,29 @@
 -- A transcript that is read mark by mark.
-use Rattle.std.proofs.Common.{◌≡◌, ◌≢◌, ◌<◌, ℕ, ◌+◌, ℤ, List, [], ◌∷◌, ◌++◌, length, Bool, true, false, Option, None, Some, IfSome, refl, sym, ap, subst, ◌∙◌, arith, map, drop, get_or, add-one, suc, ◌⊎◌, inl, inr}
+use Rattle.std.proofs.Common.{◌≡◌, ◌≢◌, ◌<◌, ℕ, ℤ, List, [], ◌∷◌, ◌++◌, Bool, Option, None, Some, IfSome, refl, sym, ap, subst, ◌∙◌, arith, map, ◌⊎◌, inl, inr}
 use Rattle.std.specs.Prelude.{Contains}
 use Rattle.std.proofs.lemmas.List.{map-append}
-use Rattle.std.proofs.Math.Seq.{drop-cons}
 use Rattle.std.specs.Io.KnownBytes.{IsAtEnd}
 use Rattle.kmipa_ttlv.specs.Tree.{Tree}
-use Rattle.kmipa_ttlv.specs.Stream.{Begins, IsSplit}
+use Rattle.kmipa_ttlv.specs.Stream.{IsSplit}
 use Rattle.kmipa_ttlv.specs.Items.{IsReading}
 use Rattle.kmipa_record.specs.Calls.{progress_of, place_in, open_place, first_place, Follow, EndAt, HasNone, BeginsCall, EndsCall, StandsSo}
 use Rattle.kmipa_record.specs.Calls as calls
-use Rattle.kmipa_record.specs.Files.{FirstFault, IsRightUpTo, at_end, Tells, place_of}
-use Rattle.kmipa_record.specs.Kinds.{ByCause}
-use Rattle.kmipa_record.specs.Marks.{MarkOf, begins, ends, mark_of, mark_item, begun, ended, AreInOrder, AreRecorded}
+use Rattle.kmipa_record.specs.Files.{at_end, Tells}
+use Rattle.kmipa_record.specs.Marks.{MarkOf, begins, ends, mark_of, mark_item, begun, ended, AreInOrder}
 use Rattle.kmipa_record.specs.Reading.{Takes, ReadFails, HeaderFails}
-use Rattle.kmipa_record.specs.Transcripts.{transcript_header, IsTranscript, AreRightInTranscript, TranscriptItemFault, TranscriptEndFault, MarkItemFault, no_mark, in_mark, FirstOpen, TranscriptFault, IsTranscriptUpTo}
-use Rattle.kmipa_record.specs.TranscriptReading.{IsReadSoFar, IsReadToEnd, GoesOn}
+use Rattle.kmipa_record.specs.Transcripts.{transcript_header, IsTranscript, AreRightInTranscript, TranscriptItemFault, TranscriptEndFault, MarkItemFault, no_mark, in_mark, TranscriptFault, IsTranscriptUpTo}
+use Rattle.kmipa_record.specs.TranscriptReading.{IsReadSoFar, IsReadToEnd}
 use Rattle.kmipa_record.specs.declared.calls.Calls.{Calls}
 use Rattle.kmipa_record.specs.declared.calls.Progress.{Progress}
 use Rattle.kmipa_record.specs.declared.calls.Progress.TheVariants.{Open, Ended}
 use Rattle.kmipa_record.specs.declared.fault.RecordFault.{RecordFault}
 use Rattle.kmipa_record.specs.declared.fault.RecordKind.{RecordKind}
-use Rattle.kmipa_record.specs.declared.fault.RecordKind.TheVariants.{Header, Entry, OpenCall, Memory}
+use Rattle.kmipa_record.specs.declared.fault.RecordKind.TheVariants.{Entry, OpenCall, Memory}
 use Rattle.kmipa_record.specs.declared.transcript.Mark.{Mark}
 use Rattle.kmipa_record.proofs.KindLemmas.{IfSome-map, memory_cause}
 use Rattle.kmipa_record.proofs.FileLemmas.{goes_on, ends_here, starts, Stands, tells_read, tells_item, item_told, tells_header, right_here}
 use Rattle.kmipa_record.proofs.MarkLemmas.{begun-append, in_order_begin, in_order_end}
-use Rattle.kmipa_record.proofs.CallLemmas.{at_progress, follow_none, follow_begin, follow_end, refused_mark, refused_cause, none_open, settled, first_at, FirstAt}
+use Rattle.kmipa_record.proofs.CallLemmas.{at_progress, follow_none, follow_begin, follow_end, refused_mark, refused_cause, none_open, settled, first_at}
 use Rattle.std.proofs.lemmas.List.Elements.{Contains-append_left}
 
 abbrev items_of : List MarkOf → List Tree
