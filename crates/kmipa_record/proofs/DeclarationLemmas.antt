@@ -50,6 +50,3 @@ pub record_told : (known left after : Option (List ℕ)) (item : Tree) (place pl
     → Tells DeclarationFault IsDeclarationUpTo known failed (record { offset = place; kind = Entry })
 record_told known left after item place place' failed s t =
     tells_item AreRightInDeclaration DeclarationItemFault DeclarationEndFault known header_alone item left after place place' failed Entry s t (IfSome-always known _ (λ file. λ _. refl)) (λ D M P p. p)
-
-pub all_read : (known left : Option (List ℕ)) (place : ℕ) → IsAtEnd left → Reads known left place → IfSome known (λ file. IsDeclaration file (record { unique_names = false }))
-all_read known left place e s = IfSome-map known _ _ (λ file is. record { spelled = ends_here file header_alone left place e is.reading; shared_names = refl }) s

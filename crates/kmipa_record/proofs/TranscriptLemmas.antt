@@ -139,11 +139,6 @@ mark_taken known marks more mark old new left after place place' e t b s =
 
 -- ---- the end
 
-pub marks_end : (known : Option (List ℕ)) (marks : List MarkOf) (calls : Calls) (left : Option (List ℕ)) (place : ℕ) → IsAtEnd left → IfSome known (λ file. IsReadSoFar file marks calls left place)
-    → IfSome known (λ file. IsReadToEnd file marks calls)
-marks_end known marks calls left place e s =
-    IfSome-map known _ _ (λ file is. record { spelled = ends_here file (items_of marks) left place e is.reading; in_order = is.in_order; follow = is.follow }) s
-
 closed : (file : List ℕ) (marks : List MarkOf) (calls : Calls) → first_place (open_place calls) marks ≡ None → IsReadToEnd file marks calls → IsTranscript file marks
 closed file marks calls e s = record {
   spelled = s.spelled;

@@ -82,8 +82,3 @@ pub turn_taken : (known : Option (List ℕ)) (turns more : List Turn) (turn : Tu
 turn_taken known turns more turn left after place place' e t number s =
     let same : map turn_of more ≡ map turn_of turns ++ turn_of turn ∷ [] = ap (map turn_of) e ∙ map-append turn_of turns (turn ∷ []) in
     IfSome-map known _ _ (λ file is. subst (λ (l : List TurnOf). IsReadSoFar file l after place') (sym same) (took file (map turn_of turns) (turn_of turn) left after place place' t number is)) s
-
-pub turns_end : (known : Option (List ℕ)) (turns : List TurnOf) (left : Option (List ℕ)) (place : ℕ) → IsAtEnd left → IfSome known (λ file. IsReadSoFar file turns left place)
-    → IfSome known (λ file. IsWitness file turns)
-turns_end known turns left place e s =
-    IfSome-map known _ _ (λ file is. record { spelled = ends_here file (items_of turns) left place e is.reading; numbered = is.numbered }) s
