@@ -1,11 +1,11 @@
 -- The calls of a transcript follow its marks.
-use Rattle.std.proofs.Common.{◌≡◌, ◌≢◌, ◌≤◌, ◌<◌, ℕ, ◌+◌, ℤ, List, [], ◌∷◌, ◌++◌, length, Bool, true, false, Option, None, Some, ◌⊎◌, inl, inr, refl, sym, ap, subst, ◌∙◌, arith, map}
+use Rattle.std.proofs.Common.{◌≡◌, ◌≢◌, ◌≤◌, ℕ, ℤ, List, [], ◌∷◌, ◌++◌, length, Bool, true, false, Option, None, Some, ◌⊎◌, inl, inr, refl, sym, ap, subst, ◌∙◌, arith}
 use Rattle.std.specs.Prelude.{Contains, IsSome}
 use Rattle.std.specs.Ordering.{int_eq}
 use Rattle.std.proofs.lemmas.Bool.Decides.{Decides-int_eq}
 use Rattle.std.proofs.lemmas.List.{length-append, append-nil}
 use Rattle.std.proofs.lemmas.List.Elements.{Contains-append_left, Contains-append_right, Contains-push, Contains-push_cases, Contains-append_cases}
-use Rattle.kmipa_record.specs.Marks.{MarkOf, begins, ends, call_of, begun, ended, IsCallNumber, AreInOrder, MarkFault, BeginFault, EndFault, below_one, used, one_too_many, end_below_one, not_begun, ended_before}
+use Rattle.kmipa_record.specs.Marks.{MarkOf, begins, ends, call_of, begun, ended, MarkFault, BeginFault, EndFault, below_one, used, one_too_many, end_below_one, not_begun, ended_before}
 use Rattle.kmipa_record.specs.Calls.{progress_of, count_of, Puts, HasNone, BeginsCall, EndsCall, RefusesBegin, RefusesEnd, Takes, Refuses, place_in, open_place, first_place, or_else, EndAt, IsBegunAt, StandsSo, Follow}
 use Rattle.kmipa_record.specs.Calls as calls
 use Rattle.kmipa_record.specs.Kinds.{ByCause}
@@ -13,8 +13,7 @@ use Rattle.kmipa_record.specs.declared.calls.Calls.{Calls}
 use Rattle.kmipa_record.specs.declared.calls.Progress.{Progress}
 use Rattle.kmipa_record.specs.declared.calls.Progress.TheVariants.{Open, Ended}
 use Rattle.kmipa_record.specs.declared.fault.RecordKind.{RecordKind}
-use Rattle.kmipa_record.specs.declared.fault.RecordKind.TheVariants.{Number, EndWithoutBegin, SecondEnd, Memory}
-use Rattle.kmipa_record.specs.declared.fault.RecordKind.TheVariants as kinds
+use Rattle.kmipa_record.specs.declared.fault.RecordKind.TheVariants.{Memory}
 use Rattle.kmipa_record.proofs.MarkLemmas.{begun-append, ended-append, cut_at, last, earlier}
 
 -- what is known of a call by its progress

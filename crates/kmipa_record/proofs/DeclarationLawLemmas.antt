@@ -1,5 +1,5 @@
 -- Bytes are one declaration, or have one first fault.
-use Rattle.std.proofs.Common.{◌≡◌, ℕ, ◌+◌, List, [], ◌∷◌, ◌++◌, length, Bool, true, false, inl, inr, refl, sym, ap, ◌∙◌, arith}
+use Rattle.std.proofs.Common.{◌≡◌, ℕ, List, [], ◌∷◌, ◌++◌, length, Bool, true, false, inl, inr, refl, sym, ap, ◌∙◌, arith}
 use Rattle.std.proofs.lemmas.List.{length-append}
 use Rattle.kmipa_ttlv.specs.Tree.{Tree}
 use Rattle.kmipa_record.specs.Declarations.{DeclarationOf, declaration_header, IsDeclaration, AreRightInDeclaration, DeclarationItemFault, DeclarationEndFault, DeclarationFault}

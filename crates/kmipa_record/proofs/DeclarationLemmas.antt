@@ -1,13 +1,12 @@
 -- A declaration that is read.
-use Rattle.std.proofs.Common.{◌≡◌, ℕ, List, [], ◌∷◌, Bool, true, false, Option, None, Some, IfSome, inl, inr, refl, sym, subst, ◌∙◌}
+use Rattle.std.proofs.Common.{◌≡◌, ℕ, List, [], ◌∷◌, Bool, true, false, Option, None, Some, IfSome, inl, inr, refl, subst}
 use Rattle.std.specs.Io.KnownBytes.{IsAtEnd}
 use Rattle.kmipa_ttlv.specs.Tree.{Tree}
-use Rattle.kmipa_record.specs.Declarations.{DeclarationOf, declaration_header, IsDeclaration, AreRightInDeclaration, DeclarationItemFault, DeclarationEndFault, DeclarationFault, IsDeclarationUpTo}
+use Rattle.kmipa_record.specs.Declarations.{declaration_header, IsDeclaration, AreRightInDeclaration, DeclarationItemFault, DeclarationEndFault, DeclarationFault, IsDeclarationUpTo}
 use Rattle.kmipa_record.specs.Files.{Tells}
 use Rattle.kmipa_record.specs.Reading.{Takes, ReadFails, HeaderFails}
 use Rattle.kmipa_record.specs.declared.fault.RecordFault.{RecordFault}
-use Rattle.kmipa_record.specs.declared.fault.RecordKind.{RecordKind}
-use Rattle.kmipa_record.specs.declared.fault.RecordKind.TheVariants.{Header, Entry}
+use Rattle.kmipa_record.specs.declared.fault.RecordKind.TheVariants.{Entry}
 use Rattle.kmipa_record.proofs.KindLemmas.{IfSome-map, IfSome-always}
 use Rattle.kmipa_record.proofs.FileLemmas.{goes_on, ends_here, starts, Stands, tells_read, tells_item, tells_header}
 
@@ -51,6 +50,3 @@ pub record_told : (known left after : Option (List ℕ)) (item : Tree) (place pl
     → Tells DeclarationFault IsDeclarationUpTo known failed (record { offset = place; kind = Entry })
 record_told known left after item place place' failed s t =
     tells_item AreRightInDeclaration DeclarationItemFault DeclarationEndFault known header_alone item left after place place' failed Entry s t (IfSome-always known _ (λ file. λ _. refl)) (λ D M P p. p)
-
-pub all_read : (known left : Option (List ℕ)) (place : ℕ) → IsAtEnd left → Reads known left place → IfSome known (λ file. IsDeclaration file (record { unique_names = false }))
-all_read known left place e s = IfSome-map known _ _ (λ file is. record { spelled = ends_here file header_alone left place e is.reading; shared_names = refl }) s

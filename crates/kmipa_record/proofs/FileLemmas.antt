@@ -1,18 +1,17 @@
 -- Files that are read item by item.
-use Rattle.std.proofs.Common.{◌≡◌, ◌<◌, ◌^◌, ℕ, ◌+◌, List, [], ◌∷◌, ◌++◌, length, Bool, Option, None, Some, IfSome, refl, sym, ap, subst, ◌∙◌, arith}
-use Rattle.std.proofs.lemmas.List.{length-append}
-use Rattle.std.specs.Io.KnownBytes.{Consumes, IsAtEnd}
+use Rattle.std.proofs.Common.{◌≡◌, ℕ, ◌+◌, List, [], ◌∷◌, ◌++◌, length, Bool, Option, None, Some, IfSome, refl, sym, ap, subst, ◌∙◌, arith}
+use Rattle.std.specs.Io.KnownBytes.{IsAtEnd}
 use Rattle.kmipa_ttlv.specs.Tree.{Tree}
 use Rattle.kmipa_ttlv.specs.Stream.{Begins, capped, IsSplit}
 use Rattle.kmipa_ttlv.specs.Items.{IsReading}
 use Rattle.kmipa_ttlv.proofs.StreamLemmas.{item_read}
 use Rattle.kmipa_record.specs.Kinds.{ByCause}
-use Rattle.kmipa_record.specs.Files.{IsUpTo, IsRightUpTo, FirstFault, in_bytes, in_item, at_end, Tells, place_of}
+use Rattle.kmipa_record.specs.Files.{IsRightUpTo, FirstFault, in_bytes, in_item, at_end, Tells, place_of}
 use Rattle.kmipa_record.specs.Reading.{TellsFlawOf, ReadFails, Takes, HeaderFault, torn, absent, other, HeaderFails}
 use Rattle.kmipa_record.specs.declared.fault.RecordFault.{RecordFault}
 use Rattle.kmipa_record.specs.declared.fault.RecordKind.{RecordKind}
-use Rattle.kmipa_record.specs.declared.fault.RecordKind.TheVariants.{Header, Memory}
-use Rattle.kmipa_record.proofs.KindLemmas.{ByCause-map, IfSome-map}
+use Rattle.kmipa_record.specs.declared.fault.RecordKind.TheVariants.{Header}
+use Rattle.kmipa_record.proofs.KindLemmas.{ByCause-map}
 
 -- one more item was read
 pub goes_on : (file : List ℕ) (given : List Tree) (item : Tree) (left after : Option (List ℕ)) (place place' : ℕ) → Takes item left after place place' → IsReading file given left place

@@ -1,5 +1,5 @@
 -- Facts by the cause of a fault.
-use Rattle.std.proofs.Common.{◌≡◌, ◌≢◌, ℕ, List, Option, None, Some, IfSome, refl, subst, sym}
+use Rattle.std.proofs.Common.{◌≡◌, ◌≢◌, Option, None, Some, IfSome, refl, subst, sym}
 use Rattle.kmipa_ttlv.specs.Reading as read
 use Rattle.kmipa_ttlv.specs.declared.fault.FaultKind.{FaultKind}
 use Rattle.kmipa_ttlv.specs.declared.fault.FaultKind.TheVariants as flaw

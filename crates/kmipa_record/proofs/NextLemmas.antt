@@ -1,9 +1,8 @@
 -- The next item of a file.
-use Rattle.std.proofs.Common.{◌≡◌, ◌≢◌, ◌≤◌, ◌<◌, ℕ, ◌+◌, ◌^◌, List, [], ◌∷◌, ◌++◌, length, take, Bool, Option, None, Some, IfSome, refl, sym, ap, subst, ◌∙◌, arith}
+use Rattle.std.proofs.Common.{◌≡◌, ◌≢◌, ◌≤◌, ℕ, ◌+◌, List, [], ◌∷◌, length, Bool, Option, None, Some, IfSome, refl, sym, ap, subst, ◌∙◌, arith}
 use Rattle.std.proofs.lemmas.List.{length-append}
 use Rattle.std.specs.Io.KnownBytes.{Consumes, IsAtEnd}
 use Rattle.kmipa_ttlv.specs.Tree.{Tree}
-use Rattle.kmipa_ttlv.specs.Spelling.{Spells}
 use Rattle.kmipa_ttlv.specs.Flaw.{OuterFlaw, outer_flaw, IsOwn}
 use Rattle.kmipa_ttlv.specs.Stream.{TellsFlaw, capped}
 use Rattle.kmipa_ttlv.specs.Reading.{IsWhole, ReadTells}
@@ -14,7 +13,6 @@ use Rattle.kmipa_ttlv.proofs.ReadLemmas.{told_value, cut_short_at, outer_flaw_ow
 use Rattle.kmipa_ttlv.proofs.StreamLemmas.{ByKind-lasting}
 use Rattle.kmipa_record.specs.Reading.{record_kind, TellsFlawOf, WholeFails, ReadFails, Takes, HeaderFault, absent, other}
 use Rattle.kmipa_record.specs.declared.fault.RecordFault.{RecordFault}
-use Rattle.kmipa_record.specs.declared.fault.RecordKind.{RecordKind}
 use Rattle.kmipa_record.specs.declared.fault.RecordKind.TheVariants.{Ttlv, Header}
 use Rattle.kmipa_record.proofs.KindLemmas.{ByCause-map, told_of_bytes, cause_same, IfSome-map}
 

@@ -1,9 +1,9 @@
 -- Bytes are one transcript, or have one first fault.
-use Rattle.std.proofs.Common.{◌≡◌, ◌≢◌, ◌≤◌, ◌<◌, ℕ, ◌+◌, ℤ, pos, ◌≤ℤ◌, ◌<ℤ◌, List, [], ◌∷◌, ◌++◌, length, map, get_or, ◌⊎◌, inl, inr, refl, sym, ap, subst, ◌∙◌, arith}
-use Rattle.std.specs.Prelude.{Contains, All, AllPairs}
+use Rattle.std.proofs.Common.{◌≡◌, ◌≢◌, ◌<◌, ℕ, ℤ, pos, ◌≤ℤ◌, ◌<ℤ◌, List, [], ◌∷◌, ◌++◌, length, map, refl, sym, ap, subst, ◌∙◌, arith}
+use Rattle.std.specs.Prelude.{Contains, AllPairs}
 use Rattle.std.proofs.lemmas.Int.{ints}
 use Rattle.std.proofs.lemmas.List.{length-append}
-use Rattle.std.proofs.lemmas.List.Elements.{Contains-append_left, Contains-append_right, All-contains}
+use Rattle.std.proofs.lemmas.List.Elements.{Contains-append_right, All-contains}
 use Rattle.std.proofs.Math.ListN.{get_or-append}
 use Rattle.std.proofs.Math.Seq.{get_or-append_seam}
 use Rattle.kmipa_ttlv.specs.Tree.{Tree}
@@ -12,9 +12,8 @@ use Rattle.kmipa_record.specs.Files.{place_of}
 use Rattle.kmipa_record.specs.Marks.{MarkOf, begins, ends, call_of, mark_item, begun, ended, IsCallNumber, AreInOrder, MarkFault, BeginFault, EndFault, below_one, used, one_too_many, end_below_one, not_begun, ended_before}
 use Rattle.kmipa_record.specs.Transcripts.{transcript_header, IsTranscript, AreMarksInOrder, AreRightInTranscript, MarkItemFault, no_mark, in_mark, TranscriptItemFault, FirstOpen, TranscriptEndFault, TranscriptFault}
 use Rattle.kmipa_record.specs.declared.fault.RecordKind.{RecordKind}
-use Rattle.kmipa_record.specs.declared.fault.RecordKind.TheVariants.{Header, OpenCall}
 use Rattle.kmipa_record.proofs.MarkLemmas.{begun-append}
-use Rattle.kmipa_record.proofs.FirstFaultLemmas.{no_fault, one_fault, nothing_more, cut_values, values_once, compare, Compared, same, shorter, longer}
+use Rattle.kmipa_record.proofs.FirstFaultLemmas.{no_fault, one_fault, nothing_more, cut_values, values_once, compare, same, shorter, longer}
 
 -- ---- marks and their items
 

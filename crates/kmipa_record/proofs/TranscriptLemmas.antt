@@ -1,31 +1,29 @@
 -- A transcript that is read mark by mark.
-use Rattle.std.proofs.Common.{◌≡◌, ◌≢◌, ◌<◌, ℕ, ◌+◌, ℤ, List, [], ◌∷◌, ◌++◌, length, Bool, true, false, Option, None, Some, IfSome, refl, sym, ap, subst, ◌∙◌, arith, map, drop, get_or, add-one, suc, ◌⊎◌, inl, inr}
+use Rattle.std.proofs.Common.{◌≡◌, ◌≢◌, ◌<◌, ℕ, ℤ, List, [], ◌∷◌, ◌++◌, Bool, Option, None, Some, IfSome, refl, sym, ap, subst, ◌∙◌, arith, map, ◌⊎◌, inl, inr}
 use Rattle.std.specs.Prelude.{Contains}
 use Rattle.std.proofs.lemmas.List.{map-append}
-use Rattle.std.proofs.Math.Seq.{drop-cons}
 use Rattle.std.specs.Io.KnownBytes.{IsAtEnd}
 use Rattle.kmipa_ttlv.specs.Tree.{Tree}
-use Rattle.kmipa_ttlv.specs.Stream.{Begins, IsSplit}
+use Rattle.kmipa_ttlv.specs.Stream.{IsSplit}
 use Rattle.kmipa_ttlv.specs.Items.{IsReading}
 use Rattle.kmipa_record.specs.Calls.{progress_of, place_in, open_place, first_place, Follow, EndAt, HasNone, BeginsCall, EndsCall, StandsSo}
 use Rattle.kmipa_record.specs.Calls as calls
-use Rattle.kmipa_record.specs.Files.{FirstFault, IsRightUpTo, at_end, Tells, place_of}
-use Rattle.kmipa_record.specs.Kinds.{ByCause}
-use Rattle.kmipa_record.specs.Marks.{MarkOf, begins, ends, mark_of, mark_item, begun, ended, AreInOrder, AreRecorded}
+use Rattle.kmipa_record.specs.Files.{at_end, Tells}
+use Rattle.kmipa_record.specs.Marks.{MarkOf, begins, ends, mark_of, mark_item, begun, ended, AreInOrder}
 use Rattle.kmipa_record.specs.Reading.{Takes, ReadFails, HeaderFails}
-use Rattle.kmipa_record.specs.Transcripts.{transcript_header, IsTranscript, AreRightInTranscript, TranscriptItemFault, TranscriptEndFault, MarkItemFault, no_mark, in_mark, FirstOpen, TranscriptFault, IsTranscriptUpTo}
-use Rattle.kmipa_record.specs.TranscriptReading.{IsReadSoFar, IsReadToEnd, GoesOn}
+use Rattle.kmipa_record.specs.Transcripts.{transcript_header, IsTranscript, AreRightInTranscript, TranscriptItemFault, TranscriptEndFault, MarkItemFault, no_mark, in_mark, TranscriptFault, IsTranscriptUpTo}
+use Rattle.kmipa_record.specs.TranscriptReading.{IsReadSoFar, IsReadToEnd}
 use Rattle.kmipa_record.specs.declared.calls.Calls.{Calls}
 use Rattle.kmipa_record.specs.declared.calls.Progress.{Progress}
 use Rattle.kmipa_record.specs.declared.calls.Progress.TheVariants.{Open, Ended}
 use Rattle.kmipa_record.specs.declared.fault.RecordFault.{RecordFault}
 use Rattle.kmipa_record.specs.declared.fault.RecordKind.{RecordKind}
-use Rattle.kmipa_record.specs.declared.fault.RecordKind.TheVariants.{Header, Entry, OpenCall, Memory}
+use Rattle.kmipa_record.specs.declared.fault.RecordKind.TheVariants.{Entry, OpenCall, Memory}
 use Rattle.kmipa_record.specs.declared.transcript.Mark.{Mark}
 use Rattle.kmipa_record.proofs.KindLemmas.{IfSome-map, memory_cause}
 use Rattle.kmipa_record.proofs.FileLemmas.{goes_on, ends_here, starts, Stands, tells_read, tells_item, item_told, tells_header, right_here}
 use Rattle.kmipa_record.proofs.MarkLemmas.{begun-append, in_order_begin, in_order_end}
-use Rattle.kmipa_record.proofs.CallLemmas.{at_progress, follow_none, follow_begin, follow_end, refused_mark, refused_cause, none_open, settled, first_at, FirstAt}
+use Rattle.kmipa_record.proofs.CallLemmas.{at_progress, follow_none, follow_begin, follow_end, refused_mark, refused_cause, none_open, settled, first_at}
 use Rattle.std.proofs.lemmas.List.Elements.{Contains-append_left}
 
 abbrev items_of : List MarkOf → List Tree
@@ -140,11 +138,6 @@ mark_taken known marks more mark old new left after place place' e t b s =
     IfSome-map known _ _ (λ file is. subst (λ (l : List MarkOf). IsReadSoFar file l new after place') (sym same) (took file (map mark_of marks) (mark_of mark) old new left after place place' t b is)) s
 
 -- ---- the end
-
-pub marks_end : (known : Option (List ℕ)) (marks : List MarkOf) (calls : Calls) (left : Option (List ℕ)) (place : ℕ) → IsAtEnd left → IfSome known (λ file. IsReadSoFar file marks calls left place)
-    → IfSome known (λ file. IsReadToEnd file marks calls)
-marks_end known marks calls left place e s =
-    IfSome-map known _ _ (λ file is. record { spelled = ends_here file (items_of marks) left place e is.reading; in_order = is.in_order; follow = is.follow }) s
 
 closed : (file : List ℕ) (marks : List MarkOf) (calls : Calls) → first_place (open_place calls) marks ≡ None → IsReadToEnd file marks calls → IsTranscript file marks
 closed file marks calls e s = record {

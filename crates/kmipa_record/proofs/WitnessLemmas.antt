@@ -1,6 +1,5 @@
 -- A witness that is read turn by turn.
-use Rattle.std.proofs.Common.{◌≡◌, ◌≢◌, ℕ, ℤ, pos, ◌≤ℤ◌, ◌<ℤ◌, List, [], ◌∷◌, ◌++◌, length, Bool, Option, None, Some, IfSome, ◌⊎◌, inl, inr, refl, sym, ap, subst, ◌∙◌, arith, map}
-use Rattle.std.specs.Prelude.{All}
+use Rattle.std.proofs.Common.{◌≡◌, ℕ, pos, ◌<ℤ◌, List, [], ◌∷◌, ◌++◌, Bool, Option, None, Some, IfSome, ◌⊎◌, inl, inr, refl, sym, ap, subst, ◌∙◌, map}
 use Rattle.std.proofs.lemmas.List.{map-append}
 use Rattle.std.proofs.lemmas.List.Elements.{All-push, All-nil}
 use Rattle.std.specs.Io.KnownBytes.{IsAtEnd}
@@ -9,11 +8,10 @@ use Rattle.kmipa_ttlv.specs.Tree.{Tree}
 use Rattle.kmipa_record.specs.Files.{Tells}
 use Rattle.kmipa_record.specs.Marks.{IsCallNumber}
 use Rattle.kmipa_record.specs.Reading.{Takes, ReadFails, HeaderFails}
-use Rattle.kmipa_record.specs.Witnesses.{TurnOf, turn_of, turn_item, witness_header, IsWitness, AreRightInWitness, WitnessItemFault, WitnessEndFault, TurnItemFault, no_turn, below_one, WitnessFault, IsWitnessUpTo}
-use Rattle.kmipa_record.specs.WitnessReading.{IsReadSoFar, GoesOn}
+use Rattle.kmipa_record.specs.Witnesses.{TurnOf, turn_of, turn_item, witness_header, IsWitness, AreRightInWitness, WitnessItemFault, WitnessEndFault, no_turn, below_one, WitnessFault, IsWitnessUpTo}
+use Rattle.kmipa_record.specs.WitnessReading.{IsReadSoFar}
 use Rattle.kmipa_record.specs.declared.fault.RecordFault.{RecordFault}
-use Rattle.kmipa_record.specs.declared.fault.RecordKind.{RecordKind}
-use Rattle.kmipa_record.specs.declared.fault.RecordKind.TheVariants.{Header, Entry, Number, Memory}
+use Rattle.kmipa_record.specs.declared.fault.RecordKind.TheVariants.{Entry, Number, Memory}
 use Rattle.kmipa_record.specs.declared.witness.Turn.{Turn}
 use Rattle.kmipa_record.proofs.KindLemmas.{IfSome-map, memory_cause, number_cause}
 use Rattle.kmipa_record.proofs.FileLemmas.{goes_on, ends_here, starts, Stands, tells_read, tells_item, item_told, right_here, tells_header}
@@ -84,8 +82,3 @@ pub turn_taken : (known : Option (List ℕ)) (turns more : List Turn) (turn : Tu
 turn_taken known turns more turn left after place place' e t number s =
     let same : map turn_of more ≡ map turn_of turns ++ turn_of turn ∷ [] = ap (map turn_of) e ∙ map-append turn_of turns (turn ∷ []) in
     IfSome-map known _ _ (λ file is. subst (λ (l : List TurnOf). IsReadSoFar file l after place') (sym same) (took file (map turn_of turns) (turn_of turn) left after place place' t number is)) s
-
-pub turns_end : (known : Option (List ℕ)) (turns : List TurnOf) (left : Option (List ℕ)) (place : ℕ) → IsAtEnd left → IfSome known (λ file. IsReadSoFar file turns left place)
-    → IfSome known (λ file. IsWitness file turns)
-turns_end known turns left place e s =
-    IfSome-map known _ _ (λ file is. record { spelled = ends_here file (items_of turns) left place e is.reading; numbered = is.numbered }) s

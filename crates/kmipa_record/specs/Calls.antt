@@ -1,5 +1,5 @@
 -- The calls of a transcript that is being read: where each stands. Not promised: `Marks` says what a transcript is.
-use Rattle.std.specs.Prelude.{◌≡◌, ◌≤◌, ◌<◌, ℕ, ◌+◌, ℤ, pos, ◌≤ℤ◌, ◌<ℤ◌, List, [], ◌∷◌, ◌++◌, length, map, Bool, false, Contains, Option, None, Some, IsSome}
+use Rattle.std.specs.Prelude.{◌≡◌, ◌≤◌, ◌<◌, ℕ, ◌+◌, ℤ, pos, ◌≤ℤ◌, ◌<ℤ◌, List, [], ◌∷◌, ◌++◌, length, map, false, Contains, Option, None, Some, IsSome}
 use Rattle.std.specs.Ordering.{int_eq}
 use Rattle.std.specs.HashMap.{get, hash_map_len}
 use Rattle.kmipa_ttlv.specs.Stream.{Begins}

@@ -1,5 +1,5 @@
 -- How a witness is read turn by turn. Not promised.
-use Rattle.std.specs.Prelude.{ℕ, Bool, true, false, List, [], ◌∷◌, map, All, Option, IfSome}
+use Rattle.std.specs.Prelude.{ℕ, Bool, true, false, List, ◌∷◌, map, All, Option, IfSome}
 use Rattle.kmipa_ttlv.specs.Items.{IsReading}
 use Rattle.kmipa_record.specs.Marks.{IsCallNumber}
 use Rattle.kmipa_record.specs.Witnesses.{TurnOf, turn_item, witness_header, IsWitness}

@@ -176,58 +176,55 @@ fn cut_anywhere(rt: HostRuntime) -> Result<(), Fail> {
 
 #[test]
 fn faults_of_transcripts(rt: HostRuntime) -> Result<(), Fail> {
-    let cases: [(&[&[u8]], Option<RecordFault>); 16] = [
-        (&[&WITNESS], told(0, RecordKind::Header)),
-        (&[&begin(1)], told(0, RecordKind::Header)),
-        (&[&TRANSCRIPT, &TRANSCRIPT], told(24, RecordKind::Entry)),
-        (&[&TRANSCRIPT, &turn(1)], told(24, RecordKind::Entry)),
-        (&[&TRANSCRIPT, &begin(0)], told(24, RecordKind::Number)),
-        (&[&TRANSCRIPT, &end(0)], told(24, RecordKind::Number)),
-        (&[&TRANSCRIPT, &end(u32::MAX)], told(24, RecordKind::Number)),
-        (
-            &[&TRANSCRIPT, &begin(1), &end(1), &begin(1)],
-            told(96, RecordKind::Number),
-        ),
-        (
-            &[&TRANSCRIPT, &begin(1), &begin(1)],
-            told(64, RecordKind::Number),
-        ),
-        (
-            &[&TRANSCRIPT, &end(1), &begin(1)],
-            told(24, RecordKind::EndWithoutBegin),
-        ),
-        (
-            &[&TRANSCRIPT, &begin(1), &end(1), &end(1)],
-            told(96, RecordKind::SecondEnd),
-        ),
-        (
-            &[&TRANSCRIPT, &begin(1), &begin(2), &end(2)],
-            told(24, RecordKind::OpenCall),
-        ),
-        (
-            &[&TRANSCRIPT, &begin(1), &begin(2), &end(1)],
-            told(64, RecordKind::OpenCall),
-        ),
-        (&[&TRANSCRIPT, &begin(1), &begin(2), &end(1), &end(2)], None),
-        (
-            &[
-                &TRANSCRIPT,
-                &begin(0x7FFF_FFFF),
-                &begin(1),
-                &end(0x7FFF_FFFF),
-                &end(1),
-            ],
-            None,
-        ),
-        (
-            &[&TRANSCRIPT, &begin(1), &end(2), &[0; 5]],
-            told(64, RecordKind::EndWithoutBegin),
-        ),
-    ];
-    for (parts, expected) in cases {
-        let fault = transcript_fault(rt.alloc(), parts)?;
-        assert_eq!(rt; fault, expected);
-    }
+    let fault = transcript_fault(rt.alloc(), &[&WITNESS])?;
+    assert_eq!(rt; fault, told(0, RecordKind::Header));
+    let fault = transcript_fault(rt.alloc(), &[&begin(1)])?;
+    assert_eq!(rt; fault, told(0, RecordKind::Header));
+    let fault = transcript_fault(rt.alloc(), &[&TRANSCRIPT, &TRANSCRIPT])?;
+    assert_eq!(rt; fault, told(24, RecordKind::Entry));
+    let fault = transcript_fault(rt.alloc(), &[&TRANSCRIPT, &turn(1)])?;
+    assert_eq!(rt; fault, told(24, RecordKind::Entry));
+    let fault = transcript_fault(rt.alloc(), &[&TRANSCRIPT, &begin(0)])?;
+    assert_eq!(rt; fault, told(24, RecordKind::Number));
+    let fault = transcript_fault(rt.alloc(), &[&TRANSCRIPT, &end(0)])?;
+    assert_eq!(rt; fault, told(24, RecordKind::Number));
+    let fault = transcript_fault(rt.alloc(), &[&TRANSCRIPT, &end(u32::MAX)])?;
+    assert_eq!(rt; fault, told(24, RecordKind::Number));
+    let fault = transcript_fault(rt.alloc(), &[&TRANSCRIPT, &begin(1), &end(1), &begin(1)])?;
+    assert_eq!(rt; fault, told(96, RecordKind::Number));
+    let fault = transcript_fault(rt.alloc(), &[&TRANSCRIPT, &begin(1), &begin(1)])?;
+    assert_eq!(rt; fault, told(64, RecordKind::Number));
+    let fault = transcript_fault(rt.alloc(), &[&TRANSCRIPT, &end(1), &begin(1)])?;
+    assert_eq!(rt; fault, told(24, RecordKind::EndWithoutBegin));
+    let fault = transcript_fault(rt.alloc(), &[&TRANSCRIPT, &begin(1), &end(2), &[0; 5]])?;
+    assert_eq!(rt; fault, told(64, RecordKind::EndWithoutBegin));
+    let fault = transcript_fault(rt.alloc(), &[&TRANSCRIPT, &begin(1), &end(1), &end(1)])?;
+    assert_eq!(rt; fault, told(96, RecordKind::SecondEnd));
+    Ok(())
+}
+
+#[test]
+fn calls_overlap(rt: HostRuntime) -> Result<(), Fail> {
+    let fault = transcript_fault(rt.alloc(), &[&TRANSCRIPT, &begin(1), &begin(2), &end(2)])?;
+    assert_eq!(rt; fault, told(24, RecordKind::OpenCall));
+    let fault = transcript_fault(rt.alloc(), &[&TRANSCRIPT, &begin(1), &begin(2), &end(1)])?;
+    assert_eq!(rt; fault, told(64, RecordKind::OpenCall));
+    let fault = transcript_fault(
+        rt.alloc(),
+        &[&TRANSCRIPT, &begin(1), &begin(2), &end(1), &end(2)],
+    )?;
+    assert_eq!(rt; fault, None);
+    let fault = transcript_fault(
+        rt.alloc(),
+        &[
+            &TRANSCRIPT,
+            &begin(0x7FFF_FFFF),
+            &begin(1),
+            &end(0x7FFF_FFFF),
+            &end(1),
+        ],
+    )?;
+    assert_eq!(rt; fault, None);
     Ok(())
 }
 

@@ -1,4 +1,4 @@
-use Rattle.std.proofs.Common.{rules, ◌≡◌, refl, sym, subst, ◌∙◌, ℕ, List, inl, inr}
+use Rattle.std.proofs.Common.{sym, subst, ℕ, inl, inr}
 use Rattle.std.proofs.lemmas.Result.{err_from_is_err_and}
 use Rattle.kmipa_ttlv.specs.Input.{reader_of, taken_of, is_failed}
 use Rattle.kmipa_record.specs.Declarations.{DeclarationFault, IsDeclarationUpTo, declaration_header}
@@ -6,7 +6,7 @@ use Rattle.kmipa_record.specs.Files.{Tells}
 use Rattle.kmipa_ttlv.specs.Tree.{Tree}
 use Rattle.kmipa_record.specs.Reading.{Takes}
 use Rattle.kmipa_record.specs.declared.fault.RecordKind.TheVariants.{Entry}
-use Rattle.kmipa_record.proofs.DeclarationLemmas.{header_fails, unique_names_told, header_read, read_fails, record_told, all_read}
+use Rattle.kmipa_record.proofs.DeclarationLemmas.{header_fails, unique_names_told, header_read, read_fails, record_told}
 use Rattle.kmipa_record.proofs.declaration.read_declaration.Goals as goal
 
 pub returns-in_err-header-clause-fault : goal.returns-in_err-header-clause-fault

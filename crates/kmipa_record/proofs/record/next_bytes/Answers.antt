@@ -1,4 +1,4 @@
-use Rattle.std.proofs.Common.{◌≡◌, ◌∙◌, sym, subst, refl}
+use Rattle.std.proofs.Common.{◌∙◌, sym, subst, refl}
 use Rattle.kmipa_ttlv.specs.Input.{reader_of, taken_of, is_failed}
 use Rattle.kmipa_record.specs.Reading.{ReadFails}
 use Rattle.kmipa_record.specs.declared.fault.RecordFault.{RecordFault}

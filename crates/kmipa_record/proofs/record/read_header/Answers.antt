@@ -1,4 +1,4 @@
-use Rattle.std.proofs.Common.{inl, inr, sym, subst}
+use Rattle.std.proofs.Common.{inl, inr}
 use Rattle.kmipa_ttlv.specs.Input.{reader_of, taken_of}
 use Rattle.kmipa_record.proofs.NextLemmas.{no_header_left, other_header}
 use Rattle.kmipa_record.proofs.record.read_header.Goals as goal

@@ -1,7 +1,7 @@
-use Rattle.std.proofs.Common.{◌≡◌, ◌≢◌, ℕ, ℤ, Bool, List, refl, sym, subst, Option, MatchOption}
-use Rattle.kmipa_ttlv.specs.Tree.{Tree, Trees, structure, scalar, integer, boolean, text, byte_string}
-use Rattle.kmipa_ttlv.specs.ViewTree.{view_tree, view_trees}
-use Rattle.kmipa_record.proofs.ShapeLemmas.{other_tag, tag_is, match_map, boolean_shape}
+use Rattle.std.proofs.Common.{◌≡◌, ◌≢◌, Bool, refl, sym, subst, Option, MatchOption}
+use Rattle.kmipa_ttlv.specs.Tree.{scalar, boolean}
+use Rattle.kmipa_ttlv.specs.ViewTree.{view_tree}
+use Rattle.kmipa_record.proofs.ShapeLemmas.{other_tag, tag_is, boolean_shape}
 use Rattle.kmipa_record.proofs.shape.boolean_of.Goals as goal
 
 pub returns-then-item-tag : goal.returns-then-item-tag

@@ -1,6 +1,6 @@
-use Rattle.std.proofs.Common.{◌≡◌, ◌≢◌, ℕ, ℤ, Bool, List, refl, sym, subst, Option, MatchOption}
-use Rattle.kmipa_ttlv.specs.Tree.{Tree, Trees, structure, scalar, integer, boolean, text, byte_string}
-use Rattle.kmipa_ttlv.specs.ViewTree.{view_tree, view_trees}
+use Rattle.std.proofs.Common.{◌≡◌, ◌≢◌, ℕ, List, refl, sym, subst, Option, MatchOption}
+use Rattle.kmipa_ttlv.specs.Tree.{scalar, byte_string}
+use Rattle.kmipa_ttlv.specs.ViewTree.{view_tree}
 use Rattle.kmipa_record.proofs.ShapeLemmas.{other_tag, tag_is, match_map, bytes_shape}
 use Rattle.kmipa_record.proofs.shape.bytes_of.Goals as goal
 

@@ -1,5 +1,5 @@
-use Rattle.std.proofs.Common.{◌≡◌, ◌≢◌, ℕ, ℤ, Bool, List, refl, sym, subst, Option, MatchOption}
-use Rattle.kmipa_ttlv.specs.Tree.{Tree, Trees, structure, scalar, integer, boolean, text, byte_string}
+use Rattle.std.proofs.Common.{◌≡◌, ◌≢◌, refl, sym, subst, Option, MatchOption}
+use Rattle.kmipa_ttlv.specs.Tree.{Trees, structure}
 use Rattle.kmipa_ttlv.specs.ViewTree.{view_tree, view_trees}
 use Rattle.kmipa_record.proofs.ShapeLemmas.{other_tag, tag_is, match_map, structure_shape}
 use Rattle.kmipa_record.proofs.shape.children_of.Goals as goal

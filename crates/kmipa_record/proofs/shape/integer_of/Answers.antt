@@ -1,7 +1,7 @@
-use Rattle.std.proofs.Common.{◌≡◌, ◌≢◌, ℕ, ℤ, Bool, List, refl, sym, subst, Option, MatchOption}
-use Rattle.kmipa_ttlv.specs.Tree.{Tree, Trees, structure, scalar, integer, boolean, text, byte_string}
-use Rattle.kmipa_ttlv.specs.ViewTree.{view_tree, view_trees}
-use Rattle.kmipa_record.proofs.ShapeLemmas.{other_tag, tag_is, match_map, integer_shape}
+use Rattle.std.proofs.Common.{◌≡◌, ◌≢◌, ℤ, refl, sym, subst, Option, MatchOption}
+use Rattle.kmipa_ttlv.specs.Tree.{scalar, integer}
+use Rattle.kmipa_ttlv.specs.ViewTree.{view_tree}
+use Rattle.kmipa_record.proofs.ShapeLemmas.{other_tag, tag_is, integer_shape}
 use Rattle.kmipa_record.proofs.shape.integer_of.Goals as goal
 
 pub returns-then-item-tag : goal.returns-then-item-tag

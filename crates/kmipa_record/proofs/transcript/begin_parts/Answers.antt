@@ -1,4 +1,3 @@
-use Rattle.std.proofs.Common.{arith}
 use Rattle.kmipa_record.proofs.ShapeLemmas.{fields_count}
 use Rattle.kmipa_record.proofs.transcript.begin_parts.Goals as goal
 

@@ -1,4 +1,4 @@
-use Rattle.std.proofs.Common.{rules, ◌≡◌, refl, sym, ap, subst, ◌∙◌, ℕ, List, map}
+use Rattle.std.proofs.Common.{sym, subst, ◌∙◌, ℕ, map}
 use Rattle.std.proofs.lemmas.Result.{err_from_is_err_and}
 use Rattle.kmipa_ttlv.specs.Input.{reader_of, taken_of, is_failed}
 use Rattle.kmipa_record.specs.Calls.{Takes}
@@ -6,7 +6,7 @@ use Rattle.kmipa_record.specs.Files.{Tells}
 use Rattle.kmipa_record.specs.Marks.{mark_of}
 use Rattle.kmipa_record.specs.Transcripts.{TranscriptFault, IsTranscriptUpTo}
 use Rattle.kmipa_record.specs.declared.fault.RecordKind.TheVariants.{Entry}
-use Rattle.kmipa_record.proofs.TranscriptLemmas.{read_fails, no_mark_told, refused_told, mark_taken, marks_end}
+use Rattle.kmipa_record.proofs.TranscriptLemmas.{read_fails, no_mark_told, refused_told, mark_taken}
 use Rattle.kmipa_record.proofs.transcript.read_mark.Goals as goal
 
 pub returns-in_err-next-clause-read : goal.returns-in_err-next-clause-read

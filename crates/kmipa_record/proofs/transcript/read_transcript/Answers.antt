@@ -1,4 +1,4 @@
-use Rattle.std.proofs.Common.{rules, ◌≡◌, refl, sym, ap, subst, ◌∙◌, ℕ, List, map, Option, Some, None, IfSome, Bool}
+use Rattle.std.proofs.Common.{◌≡◌, sym, ap, subst, ◌∙◌, List, map, Some, None, IfSome, Bool}
 use Rattle.std.proofs.lemmas.Result.{err_from_is_err_and}
 use Rattle.kmipa_ttlv.specs.Input.{reader_of, taken_of, is_failed}
 use Rattle.kmipa_record.specs.Calls.{first_place, open_place}

@@ -1,11 +1,11 @@
-use Rattle.std.proofs.Common.{rules, ◌≡◌, refl, sym, ap, subst, ◌∙◌, ℕ, List, map}
+use Rattle.std.proofs.Common.{sym, subst, ◌∙◌, ℕ, map}
 use Rattle.std.proofs.lemmas.Result.{err_from_is_err_and}
 use Rattle.kmipa_ttlv.specs.Input.{reader_of, taken_of, is_failed}
 use Rattle.kmipa_record.specs.Files.{Tells}
 use Rattle.kmipa_record.specs.Witnesses.{turn_of}
 use Rattle.kmipa_record.specs.Witnesses.{WitnessFault, IsWitnessUpTo}
 use Rattle.kmipa_record.specs.declared.fault.RecordKind.TheVariants.{Entry}
-use Rattle.kmipa_record.proofs.WitnessLemmas.{read_fails, no_turn_told, refused_told, turn_taken, turns_end}
+use Rattle.kmipa_record.proofs.WitnessLemmas.{read_fails, no_turn_told, refused_told, turn_taken}
 use Rattle.kmipa_record.proofs.witness.read_turn.Goals as goal
 
 pub returns-in_err-next-clause-read : goal.returns-in_err-next-clause-read

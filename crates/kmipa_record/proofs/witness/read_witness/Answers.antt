@@ -1,4 +1,3 @@
-use Rattle.std.proofs.Common.{rules, ◌≡◌, refl, sym, ap, subst, ◌∙◌, ℕ, List}
 use Rattle.std.proofs.lemmas.Result.{err_from_is_err_and}
 use Rattle.kmipa_ttlv.specs.Input.{reader_of, taken_of, is_failed}
 use Rattle.kmipa_record.proofs.WitnessLemmas.{header_fails, header_read}
