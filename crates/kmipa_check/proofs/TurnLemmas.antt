@@ -1,9 +1,9 @@
 -- What a turn comes to.
-use Rattle.std.proofs.Common.{◌≡◌, ◌<◌, ◌≤◌, ◌⊎◌, inl, inr, ◌==◌, nat_lt, ℕ, zero, suc, ◌+◌, ℤ, ◌<ℤ◌, ◌≤ℤ◌, Bool, true, false, List, [], ◌∷◌, map, length, get_or, Contains, Option, Some, None, slice_get, Result, Ok, Err, refl, sym, ap, ◌∙◌, subst, arith}
+use Rattle.std.proofs.Common.{◌≡◌, ◌≢◌, ◌<◌, ◌≤◌, ◌⊎◌, inl, inr, ◌==◌, nat_lt, ℕ, zero, suc, ◌+◌, ◌-◌, ℤ, ◌<ℤ◌, ◌≤ℤ◌, Bool, true, false, List, [], ◌∷◌, map, length, get_or, Contains, Option, Some, None, slice_get, Result, Ok, Err, refl, sym, ap, ◌∙◌, subst, arith}
 use Rattle.std.specs.Prelude.{All}
 use Rattle.std.specs.Int.Signed.{clash_ℤ}
 use Rattle.std.proofs.lemmas.Bool.Decides.{nat_tests}
-use Rattle.std.proofs.lemmas.Option.{get_or_from_slice_get}
+use Rattle.std.proofs.lemmas.Option.{slice_get-get_or}
 use Rattle.kmipa_store.specs.Ledger.{Meaning, LedgerState}
 use Rattle.kmipa_store.specs.Choices.{IsSound}
 use Rattle.kmipa_record.specs.Declarations.{DeclarationOf}
@@ -23,7 +23,7 @@ use Rattle.kmipa_check.specs.Ordering.{Decided}
 use Rattle.kmipa_check.specs.Replays.{Replayed, TurnTold, TurnTaken, AllReadable}
 use Rattle.kmipa_check.proofs.ReplayLemmas.{replayed_more, refused_late, refused_back, refused_call}
 use Rattle.kmipa_check.proofs.PlaceLemmas.{mapped_at, contains_at}
-use Rattle.kmipa_check.proofs.OrderedLemmas.{ordered_at}
+use Rattle.kmipa_check.proofs.OrderedLemmas.{ordered_get}
 
 -- a place of an order is one of its calls
 pub place_below : (count : ℕ) (order : List ℕ) (turn place : ℕ) → All (λ p. p < count) order → turn < length order → place ≡ get_or order turn place → place < count
@@ -80,3 +80,39 @@ module _ (rules : RulesOf) (order : List CallOf) (turn : ℕ) (c : CallOf) (ther
     turn_done u stamped t = λ declared is r.
         let P : RulesOf → Type 0 = λ x. CallTaken x s c.request c.response (Ok tt) u in
         replayed_more declared order turn c s.now r (record { there = there; kept = none_late order late turn c first r.placed there here; stamped = stamped }) s u refl (subst P is t)
+
+-- the call at a turn
+pub turn_at : (calls : List Call) (order : List ℕ) (turn : ℕ) (c : Call) → turn < length order → All (λ p. p < length calls) order → c ≡ get_or calls (get_or order turn 0) c
+    → slice_get (ordered (map call_of calls) order) turn ≡ Some (call_of c)
+turn_at calls order turn c below all is = ordered_get calls order turn (get_or order turn 0) c (slice_get-get_or order turn 0 below) (all turn 0 below) is
+
+pub turn_readable : (calls : List Call) (order : List ℕ) (turn : ℕ) (c : Call) → turn < length order → All (λ p. p < length calls) order → c ≡ get_or calls (get_or order turn 0) c
+    → AllReadable (map call_of calls) → IsReadableCall (call_of c).request (call_of c).response
+turn_readable calls order turn c below all is readable =
+    readable (call_of c) (contains_at (map call_of calls) (get_or order turn 0) (call_of c) (mapped_at call_of calls (get_or order turn 0) c (all turn 0 below) is))
+
+-- the stamp is less than that of the turn before, or it isn't
+module _ (calls : List Call) (order : List ℕ) (turn : ℕ) (now last : Call) (below : turn < length order) (all : All (λ p. p < length calls) order) (some : turn ≢ 0)
+    (here : now ≡ get_or calls (get_or order turn 0) now) (before : last ≡ get_or calls (get_or order (turn - 1) 0) last) where
+  last_at : slice_get (ordered (map call_of calls) order) (turn - 1) ≡ Some (call_of last)
+  last_at = turn_at calls order (turn - 1) last (omega (arith, below)) all before
+
+  same_now : (c : CallOf) → slice_get (ordered (map call_of calls) order) turn ≡ Some c → c ≡ call_of now
+  same_now c at = let there = turn_at calls order turn now below all here in cc
+
+  pub back_yes : (c : CallOf) → slice_get (ordered (map call_of calls) order) turn ≡ Some c → now.response.stamp <ℤ last.response.stamp → RunsBack (ordered (map call_of calls) order) turn c
+  back_yes c at less =
+      let P : CallOf → Type 0 = λ x. RunsBack (ordered (map call_of calls) order) turn x in
+      subst P (sym (same_now c at)) (turn - 1, call_of last, omega (arith, some), last_at, less)
+
+  pub back_no : (c : CallOf) → slice_get (ordered (map call_of calls) order) turn ≡ Some c → last.response.stamp ≤ℤ now.response.stamp → RunsBack (ordered (map call_of calls) order) turn c → ⊥
+  back_no c at least back =
+      let P : CallOf → Type 0 = λ x. RunsBack (ordered (map call_of calls) order) turn x in
+      let b = subst P (same_now c at) back in
+      let place : b.0 ≡ turn - 1 = omega (arith, b.2) in
+      let Q : ℕ → Type 0 = λ n. slice_get (ordered (map call_of calls) order) n ≡ Some b.1 in
+      let there = subst Q place b.3 in
+      let that = last_at in
+      let same : b.1 ≡ call_of last = cc in
+      let R : CallOf → Type 0 = λ x. now.response.stamp <ℤ x.response.stamp in
+      clash_ℤ (subst R same b.4) least

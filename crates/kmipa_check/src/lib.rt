@@ -6,6 +6,7 @@ mod fault;
 mod late;
 mod numbers;
 mod opening;
+mod replay;
 mod verdict;
 
 pub use call::Call;
