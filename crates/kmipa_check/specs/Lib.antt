@@ -6,3 +6,6 @@ pub mod Replays
 pub mod Numbers
 pub mod Late
 pub mod Ordering
+pub mod Audits
+pub mod CallReading
+pub mod Stamps

@@ -1,6 +1,6 @@
 //! The replay of an order: the calls one at a time, from a ledger.
 
-ghost use Rattle.std.specs.Prelude.{◌≡◌, ◌<◌, ◌^◌, ◌+◌, All, IfOk, length, map, slice_get, Some};
+ghost use Rattle.std.specs.Prelude.{◌≡◌, ◌<◌, ◌^◌, ◌+◌, All, IfOk, length, map, slice_get, ℕ, Some, Ok, Err};
 ghost use Rattle.kmipa_store.specs.Choices.{IsSound};
 ghost use Rattle.kmipa_record.specs.Declarations.{DeclarationOf};
 ghost use Rattle.kmipa_msgs.specs.Messages.{rules_of};
@@ -32,7 +32,7 @@ pub fn replay<L: Ledger>(
 ) -> Result<Verdict, CheckFault>
     requires within { All (λ place. place < length calls.now) order.now }
     requires sound { IsSound (L.state ledger.old).now }
-    requires readable { AllReadable (map call_of calls.now) }
+    requires readable { AllReadable (ordered (map call_of calls.now) order.now) }
     ensures { (declared : DeclarationOf) → rules_of rules.now ≡ rules_declared declared
         → Replayed declared (ordered (map call_of calls.now) order.now) 0 (L.state ledger.old).now
         → TellsRun declared (ordered (map call_of calls.now) order.now) result }
@@ -64,39 +64,55 @@ fn take_turn<L: Ledger>(
     requires within { All (λ place. place < length calls.now) order.now }
     requires late { FirstLate (ordered (map call_of calls.now) order.now) late }
     requires sound { IsSound (L.state ledger.old).now }
-    requires readable { AllReadable (map call_of calls.now) }
+    requires readable { AllReadable (ordered (map call_of calls.now) order.now) }
     ensures sound { IfOk result (λ refused. IsSound (L.state ledger.new).now) }
     ensures taken { TurnTaken (rules_of rules.now) (ordered (map call_of calls.now) order.now) turn (L.state ledger.old).now result (L.state ledger.new).now }
 {
     let call = &calls[order[turn]];
     if is_at(late, turn) {
-        return Ok(Some(refused_turn(turn, call.number, Why::EarlierCallLate)));
+        return Ok(Some(refused_turn(turn, call, Why::EarlierCallLate)));
     }
     if runs_back(calls, order, turn) {
-        return Ok(Some(refused_turn(turn, call.number, Why::StampRunsBack)));
+        return Ok(Some(refused_turn(turn, call, Why::StampRunsBack)));
     }
     match take_call(alloc, ledger, rules, &call.request, &call.response) {
         Ok(()) => Ok(None),
-        Err(CallRefusal::Impossible(item, why)) => Ok(Some(Refused {
+        Err(refusal) => refused_call(turn, call, refusal),
+    }
+}
+
+/// A turn, counted from 0, that is impossible itself.
+fn refused_turn(turn: usize, call: &Call, why: Why) -> Refused
+    requires { turn < 2 ^ 63 }
+    ensures { result ≡ record { turn = turn + 1; call = call.now.number; item = 0; why = why } }
+{
+    Refused {
+        turn: turn + 1,
+        call: call.number,
+        item: 0,
+        why,
+    }
+}
+
+/// A turn, counted from 0, whose call was not taken.
+fn refused_call(
+    turn: usize,
+    call: &Call,
+    refusal: CallRefusal,
+) -> Result<Option<Refused>, CheckFault>
+    requires { turn < 2 ^ 63 }
+    ensures item { (item : ℕ) (why : Why) → refusal ≡ CallRefusal.Impossible item why
+        → result ≡ Ok (Some (record { turn = turn + 1; call = call.now.number; item = item; why = why })) }
+    ensures memory { refusal ≡ CallRefusal.Memory → result ≡ Err CheckFault.Memory }
+{
+    match refusal {
+        CallRefusal::Impossible(item, why) => Ok(Some(Refused {
             turn: turn + 1,
             call: call.number,
             item,
             why,
         })),
-        Err(CallRefusal::Memory) => Err(CheckFault::Memory),
-    }
-}
-
-/// A turn, counted from 0, that is impossible itself.
-fn refused_turn(turn: usize, call: i32, why: Why) -> Refused
-    requires { turn < 2 ^ 63 }
-    ensures { result ≡ record { turn = turn + 1; call = call; item = 0; why = why } }
-{
-    Refused {
-        turn: turn + 1,
-        call,
-        item: 0,
-        why,
+        CallRefusal::Memory => Err(CheckFault::Memory),
     }
 }
 
@@ -109,10 +125,13 @@ fn runs_back(calls: &[Call], order: &[usize], turn: usize) -> bool
     if turn == 0 {
         return false;
     }
-    let now = &calls[order[turn]];
-    let last = &calls[order[turn - 1]];
-    if now.response.stamp < last.response.stamp {
-        return true;
-    }
-    false
+    let now = stamp_of(&calls[order[turn]]);
+    let last = stamp_of(&calls[order[turn - 1]]);
+    now < last
+}
+
+fn stamp_of(call: &Call) -> i64
+    ensures { result ≡ call.now.response.stamp }
+{
+    call.response.stamp
 }

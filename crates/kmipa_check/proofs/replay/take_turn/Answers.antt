@@ -3,7 +3,7 @@ use Rattle.kmipa_msgs.specs.Messages.{rules_of}
 use Rattle.kmipa_check.specs.Calls.{call_of, ordered}
 use Rattle.kmipa_check.specs.Ordering.{Decided}
 use Rattle.kmipa_check.specs.Verdicts.{RunsBack}
-use Rattle.kmipa_check.proofs.TurnLemmas.{late_here, turn_late, turn_back, turn_refused, turn_done, turn_at, turn_readable}
+use Rattle.kmipa_check.proofs.TurnLemmas.{late_here, turn_late, turn_back, turn_not_taken, turn_done, turn_at, turn_readable}
 use Rattle.kmipa_check.proofs.replay.take_turn.Goals as goal
 
 pub returns-then-is_at-clause-taken : goal.returns-then-is_at-clause-taken
@@ -35,11 +35,11 @@ returns-in-Ok-clause-taken g c =
     (sym c.is_at.ensures ∙ c.if-is_at.false) (g.L.Ledger.state c.take_call.new.ledger)
     (subst P c.if-runs_back.false (c.runs_back.ensures (call_of c.index-calls-order.result) at)) c.in-Ok.ensures
 
-pub returns-in-Err-Impossible-clause-taken : goal.returns-in-Err-Impossible-clause-taken
-returns-in-Err-Impossible-clause-taken g c =
+pub returns-in-Err-clause-taken : goal.returns-in-Err-clause-taken
+returns-in-Err-clause-taken g c =
     let order = ordered (map call_of c.args.calls.now) c.args.order.now in
     let at = turn_at c.args.calls.now c.args.order.now c.args.turn c.index-calls-order.result c.requires.below c.requires.within c.index-calls-order.is in
     let P : Bool → Type 0 = λ b. Decided b (RunsBack order c.args.turn (call_of c.index-calls-order.result)) in
-    turn_refused (rules_of c.args.rules.now) order c.args.turn (call_of c.index-calls-order.result) at (g.L.Ledger.state c.args.ledger.now) c.args.late c.requires.late
-    (sym c.is_at.ensures ∙ c.if-is_at.false) (g.L.Ledger.state c.take_call.new.ledger) c.in-Err-Impossible.item c.in-Err-Impossible.why
-    (subst P c.if-runs_back.false (c.runs_back.ensures (call_of c.index-calls-order.result) at)) c.in-Err-Impossible.ensures
+    turn_not_taken (rules_of c.args.rules.now) order c.args.turn (call_of c.index-calls-order.result) at (g.L.Ledger.state c.args.ledger.now) c.args.late c.requires.late
+    (sym c.is_at.ensures ∙ c.if-is_at.false) (g.L.Ledger.state c.take_call.new.ledger) c.in-Err.refusal c.refused_call.result
+    (subst P c.if-runs_back.false (c.runs_back.ensures (call_of c.index-calls-order.result) at)) c.refused_call.ensures.item c.refused_call.ensures.memory c.in-Err.ensures

@@ -1,10 +1,10 @@
 //! The order that a witness gives.
 
-ghost use Rattle.std.specs.Prelude.{◌≡◌, ◌≢◌, ◌<◌, pos, ◌≤ℤ◌, All, AllPairs, Some, length, map, MatchResult};
+ghost use Rattle.std.specs.Prelude.{◌≡◌, ◌≢◌, ◌<◌, pos, ◌≤ℤ◌, All, AllPairs, Some, length, map, IfOk, MatchResult};
 ghost use Rattle.kmipa_record.specs.Witnesses.{turn_of};
-ghost use Rattle.kmipa_check.specs.Calls.{call_of};
+ghost use Rattle.kmipa_check.specs.Calls.{call_of, ordered};
 ghost use Rattle.kmipa_check.specs.Orders.{NeedsFill, TurnFault};
-ghost use Rattle.kmipa_check.specs.Ordering.{AreOrdered, Decided, NamesCall, OrderFault, first_missing};
+ghost use Rattle.kmipa_check.specs.Ordering.{AreFilled, AreOrdered, Decided, NamesCall, OrderFault, first_missing};
 ghost use Rattle.kmipa_check.specs.Numbers.{Indexes};
 
 use crate::call::Call;
@@ -14,11 +14,12 @@ use kmipa_msgs::is_wanted;
 use kmipa_record::Turn;
 use std::alloc::Global;
 
-/// The places of the calls in the order of the turns, each once.
+/// The places of the calls in the order of the turns, or the first fault of the witness. Where the calls have numbers of their own, from 1 on, the order takes each once.
 pub fn order_of(alloc: Global, calls: &[Call], turns: &[Turn]) -> Result<Vec<usize>, CheckFault>
-    requires numbered { All (λ call. pos 1 ≤ℤ call.number) calls.now }
-    requires once { AllPairs (λ x y. x ≢ y) (map (λ call. call.number) (map call_of calls.now)) }
-    ensures { MatchResult result (λ order. AreOrdered (map call_of calls.now) (map turn_of turns.now) order.items)
+    ensures within { IfOk result (λ order. All (λ place. place < length calls.now) order.items) }
+    ensures filled { IfOk result (λ order. AreFilled (ordered (map call_of calls.now) order.items)) }
+    ensures ordered { All (λ call. pos 1 ≤ℤ call.number) calls.now → AllPairs (λ x y. x ≢ y) (map (λ call. call.number) (map call_of calls.now))
+        → MatchResult result (λ order. AreOrdered (map call_of calls.now) (map turn_of turns.now) order.items)
         (OrderFault (map call_of calls.now) (map turn_of turns.now)) }
 {
     let known = FirstPlaces::of(alloc, calls)?;
@@ -39,7 +40,7 @@ pub fn order_of(alloc: Global, calls: &[Call], turns: &[Turn]) -> Result<Vec<usi
     }
     match left_out(calls, &named) {
         Some(number) => Err(CheckFault::Witness(WitnessFault {
-            at: number as usize,
+            at: usize::try_from(number).unwrap_or(0),
             kind: WitnessKind::LeftOut,
         })),
         None => Ok(order),
@@ -60,11 +61,11 @@ fn call_at(
     ensures { MatchResult result (NamesCall (map call_of calls.now) (map turn_of turns.now) place)
         (TurnFault (map call_of calls.now) (map turn_of turns.now) place) }
 {
-    let number = turns[place].call;
-    let Some(at) = known.place(number) else {
+    let turn = &turns[place];
+    let Some(at) = known.place(turn.call) else {
         return Err(WitnessKind::UnknownCall);
     };
-    if !named.is_first(number, place) {
+    if !named.is_first(turn.call, place) {
         return Err(WitnessKind::Twice);
     }
     if needs_fill(&calls[at]) {
