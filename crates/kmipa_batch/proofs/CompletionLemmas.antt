@@ -1,17 +1,17 @@
 -- A batch with answers that may be completed, and the refusal of a whole message.
-use Rattle.std.proofs.Common.{◌≡◌, ◌≢◌, ◌⊎◌, inl, inr, ℕ, zero, suc, ◌+◌, ℤ, List, [], ◌∷◌, length, Option, Some, None, option_map, slice_get, refl, sym, ap, ◌∙◌, subst, arith}
+use Rattle.std.proofs.Common.{◌≡◌, inl, inr, ℕ, zero, suc, ℤ, List, [], ◌∷◌, length, Option, Some, None, option_map, slice_get, refl, sym, ap, ◌∙◌, subst}
 use Rattle.std.specs.List.{zip}
 use Rattle.kmipa_object.specs.Inventory.{Thing}
 use Rattle.kmipa_msgs.specs.declared.request.BatchOption.{BatchOption}
 use Rattle.kmipa_msgs.specs.declared.response.Status.{Status}
 use Rattle.kmipa_msgs.specs.declared.response.Status.TheVariants.{Success, Failed, Undone}
 use Rattle.kmipa_msgs.specs.Messages.{RulesOf, AskedOf, AskOf, RequestOf, PayloadOf, AnswerOf, ResponseOf}
-use Rattle.kmipa_ops.specs.Completes.{Fills, CompletesAnswer, DoesSome}
-use Rattle.kmipa_ops.specs.Does.{Does, Outcome, Fails}
+use Rattle.kmipa_ops.specs.Completes.{Fills}
+use Rattle.kmipa_ops.specs.Does.{Outcome}
 use Rattle.kmipa_ops.specs.Chains.{Chain, ChainSome}
 use Rattle.kmipa_batch.specs.Shapes.{IsShaped}
 use Rattle.kmipa_batch.specs.Calls.Leaves.{goes_back, goes_on}
-use Rattle.kmipa_batch.specs.Calls.{pairs_of, Leaves, Batch, RefusesMessage, Call, CompletesAnswers, Completes, CallSome}
+use Rattle.kmipa_batch.specs.Calls.{pairs_of, Leaves, RefusesMessage, CompletesAnswers, CallSome}
 use Rattle.kmipa_batch.proofs.ShapeLemmas.{Alike, alike_sym, none_alike, first_alike, shape_alike}
 
 -- completed answers have the same statuses

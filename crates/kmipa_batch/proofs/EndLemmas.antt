@@ -1,8 +1,8 @@
 -- A call over any ledger: its items, and what the option leaves of them.
-use Rattle.std.proofs.Common.{◌≡◌, ◌≤◌, ◌<◌, ◌⊎◌, inl, inr, ℕ, ◌+◌, ℤ, Bool, true, false, if◌then◌else◌, List, [], ◌∷◌, length, Option, Some, None, Result, Ok, Err, refl, sym, ap, ◌∙◌, subst, arith}
+use Rattle.std.proofs.Common.{◌≡◌, inl, ℕ, Bool, true, false, if◌then◌else◌, List, length, Option, Ok, Err, refl, sym, ap, ◌∙◌, subst, arith}
 use Rattle.kmipa_object.specs.Inventory.{Thing}
-use Rattle.kmipa_store.specs.Ledger.{Held, Meaning, LedgerState, bytes_at, marked, kept, undone, gone_back}
-use Rattle.kmipa_store.specs.Choices.{Choice, Chooses, Agrees, inv, InRange, IsSound}
+use Rattle.kmipa_store.specs.Ledger.{Meaning, LedgerState, marked, kept, undone, gone_back}
+use Rattle.kmipa_store.specs.Choices.{inv, IsSound}
 use Rattle.kmipa_store.proofs.ChoiceLemmas.{agrees_same, extends_same}
 use Rattle.kmipa_store.proofs.InventoryLemmas.{inv-same, kept-at, undone-at, gone_back-at}
 use Rattle.kmipa_store.proofs.SoundLemmas.{InRange-extends}
@@ -14,11 +14,11 @@ use Rattle.kmipa_batch.specs.declared.refusal.CallRefusal.TheVariants.{Impossibl
 use Rattle.kmipa_batch.specs.Shapes.{IsFirstFailed, NoneFailed}
 use Rattle.kmipa_batch.specs.Fits.{FailedAt, undoes}
 use Rattle.kmipa_batch.specs.Calls.Leaves.{goes_back, goes_on}
-use Rattle.kmipa_batch.specs.Calls.{Leaves, RefusesMessage, CallSome}
+use Rattle.kmipa_batch.specs.Calls.{Leaves, RefusesMessage}
 use Rattle.kmipa_batch.specs.Refusals.{CallExplains, CallTaken}
-use Rattle.kmipa_batch.specs.Running.{AllTaken, Came, Ran}
+use Rattle.kmipa_batch.specs.Running.{AllTaken, Ran}
 use Rattle.kmipa_batch.proofs.ShapeLemmas.{none_first, goes_on_is, goes_back_is}
-use Rattle.kmipa_batch.proofs.CompletionLemmas.{BatchSome, call_of_batch, call_of_refused, refused_leaves, batch_of_call}
+use Rattle.kmipa_batch.proofs.CompletionLemmas.{call_of_batch, call_of_refused, refused_leaves, batch_of_call}
 
 -- what a batch leaves
 leaves_on : (option : BatchOption) (answers : List AnswerOf) (V M W : List Thing) → (option ≡ Undo → NoneFailed answers) → Leaves option answers V M W → W ≡ M

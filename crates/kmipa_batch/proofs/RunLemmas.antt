@@ -1,8 +1,8 @@
 -- The items of a batch, one place after the other, over any ledger.
-use Rattle.std.proofs.Common.{◌≡◌, ◌≤◌, ◌<◌, ◌⊎◌, inl, inr, ℕ, ◌+◌, ℤ, Bool, true, false, List, [], ◌∷◌, ◌++◌, length, take, Option, Some, None, Result, Ok, Err, slice_get, refl, sym, ap, ◌∙◌, subst, arith}
+use Rattle.std.proofs.Common.{◌≡◌, ◌≤◌, ℕ, ◌+◌, ℤ, List, [], ◌∷◌, ◌++◌, length, take, Option, Some, None, Result, Ok, Err, slice_get, refl, sym, ap, ◌∙◌, subst, arith}
 use Rattle.kmipa_object.specs.Inventory.{Thing}
-use Rattle.kmipa_store.specs.Ledger.{Meaning, LedgerState, bytes_at}
-use Rattle.kmipa_store.specs.Choices.{Choice, Chooses, Agrees, inv, IsSound}
+use Rattle.kmipa_store.specs.Ledger.{LedgerState}
+use Rattle.kmipa_store.specs.Choices.{inv, IsSound}
 use Rattle.kmipa_msgs.specs.Messages.{RulesOf, AskOf, RequestOf, AnswerOf, ResponseOf}
 use Rattle.kmipa_ops.specs.declared.why.Why.{Why}
 use Rattle.kmipa_ops.specs.declared.why.Why.TheVariants.{BatchShape}
@@ -10,14 +10,12 @@ use Rattle.kmipa_ops.specs.declared.why.Refusal.{Refusal}
 use Rattle.kmipa_ops.specs.declared.why.Refusal.TheVariants as item
 use Rattle.kmipa_ops.specs.Completes.{DoesSome}
 use Rattle.kmipa_ops.specs.Chains.{ChainSome}
-use Rattle.kmipa_ops.specs.Explains.{Tells, Explains, Refuted, Taken}
+use Rattle.kmipa_ops.specs.Explains.{Explains, Taken}
 use Rattle.kmipa_ops.proofs.ExplainLemmas.{chain_split, explains_none, explains_more}
-use Rattle.kmipa_batch.specs.declared.refusal.CallRefusal.{CallRefusal}
-use Rattle.kmipa_batch.specs.declared.refusal.CallRefusal.TheVariants.{Impossible, Memory}
-use Rattle.kmipa_batch.specs.Shapes.{IsShapedAt, IsShapedBelow, IsShaped}
+use Rattle.kmipa_batch.specs.Shapes.{IsShapedAt, IsShapedBelow}
 use Rattle.kmipa_batch.specs.Calls.{pairs_of, RefusesMessage}
 use Rattle.kmipa_batch.specs.Refusals.{IsPossibleUpTo, SpeaksAt, CallRefuted}
-use Rattle.kmipa_batch.specs.Running.{one_of, PairRefuted, PairCame, PairTaken, refused_at, AllTaken, Came, Ran}
+use Rattle.kmipa_batch.specs.Running.{one_of, PairRefuted, PairTaken, refused_at, Ran}
 use Rattle.kmipa_batch.proofs.ShapeLemmas.{shaped_all, shaped_more}
 use Rattle.kmipa_batch.proofs.PlaceLemmas.{take_one_more, take_past, zip_short}
 

@@ -1,5 +1,5 @@
 -- Shapes: their computing form, and answers of the same statuses.
-use Rattle.std.proofs.Common.{◌≡◌, ◌≢◌, ◌≤◌, ◌<◌, ◌⊎◌, inl, inr, ℕ, ◌+◌, Bool, true, false, not, if◌then◌else◌, nat_lt, List, [], ◌∷◌, length, Option, Some, None, option_map, slice_get, get_or, map, IsTrue, refl, sym, ap, ◌∙◌, subst, arith, ltb-true}
+use Rattle.std.proofs.Common.{◌≡◌, ◌≢◌, ◌≤◌, ◌<◌, ◌⊎◌, inl, inr, ℕ, ◌+◌, Bool, true, false, not, if◌then◌else◌, nat_lt, List, length, Option, Some, None, option_map, slice_get, get_or, map, IsTrue, refl, sym, ap, ◌∙◌, subst, arith, ltb-true}
 use Rattle.std.proofs.lemmas.Bool.{ltb-false}
 use Rattle.std.proofs.lemmas.Option.{slice_get_past, slice_get-get_or, slice_get_within, slice_get-map}
 use Rattle.std.proofs.lemmas.List.{length-map}
@@ -10,7 +10,7 @@ use Rattle.kmipa_msgs.specs.declared.response.Status.TheVariants.{Success, Faile
 use Rattle.kmipa_msgs.specs.declared.response.Answer.{Answer}
 use Rattle.kmipa_msgs.specs.Messages.{RequestOf, AnswerOf, answer_of, ResponseOf}
 use Rattle.kmipa_batch.specs.Shapes.{is_failed, IsFirstFailed, NoneFailed, AnswerShape, NoAnswerShape, HasShape, IsShapedAt, IsShapedBelow, IsShaped}
-use Rattle.kmipa_batch.specs.Fits.{FailedAt, is_behind, is_undone, is_success, fits_undo, fits_answer, fits_none, fits, undoes}
+use Rattle.kmipa_batch.specs.Fits.{FailedAt, is_behind, is_undone, is_success, fits_answer, fits_none, fits, undoes}
 
 -- statuses
 pub failed_is : (s : Status) → is_failed s ≡ true → s ≡ Failed

@@ -1,8 +1,8 @@
 -- Which answers a batch may have at which places, under Stop, Continue and Undo (KMIP 2.1, Batch Error Continuation Option; the shape
 -- of the answer to a failed Undo batch: profile). Places are counted from 0 here, and told from 1.
-use Rattle.std.specs.Prelude.{◌≡◌, ◌≢◌, ◌≤◌, ◌<◌, ◌⊎◌, ℕ, ◌+◌, Bool, true, false, List, [], ◌∷◌, length, Option, Some, None, option_map, slice_get}
+use Rattle.std.specs.Prelude.{◌≡◌, ◌≢◌, ◌≤◌, ◌<◌, ◌⊎◌, ℕ, Bool, true, false, List, length, Option, Some, None, slice_get}
 use Rattle.kmipa_msgs.specs.declared.request.BatchOption.{BatchOption}
-use Rattle.kmipa_msgs.specs.declared.request.BatchOption.TheVariants.{Continue, Stop, Undo}
+use Rattle.kmipa_msgs.specs.declared.request.BatchOption.TheVariants.{Continue, Undo}
 use Rattle.kmipa_msgs.specs.declared.response.Status.{Status}
 use Rattle.kmipa_msgs.specs.declared.response.Status.TheVariants.{Success, Failed, Undone}
 use Rattle.kmipa_msgs.specs.Messages.{RequestOf, AnswerOf, ResponseOf}

@@ -12,3 +12,10 @@ pub mod PayloadLemmas
 pub mod ReplyLemmas
 pub mod RequestLemmas
 pub mod ResponseLemmas
+pub mod WritingLemmas
+pub mod WrittenFieldLemmas
+pub mod WrittenKeyLemmas
+pub mod WrittenPayloadLemmas
+pub mod WrittenMessageLemmas
+pub mod WrittenRequestLemmas
+pub mod WrittenResponseLemmas

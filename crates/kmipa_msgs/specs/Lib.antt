@@ -16,3 +16,5 @@ pub mod Payloads
 pub mod Replies
 pub mod Responses
 pub mod Wanted
+pub mod Written
+pub mod Writing

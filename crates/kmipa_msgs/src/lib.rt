@@ -1,6 +1,7 @@
 //! KMIP 2.1 messages: requests and responses, each an item that says exactly this message.
 #![tactic(auto)]
 
+mod copying;
 mod fault;
 mod key_block;
 mod kind;
@@ -12,6 +13,7 @@ mod response;
 mod rules;
 mod tags;
 mod wanted;
+mod writing;
 
 pub use fault::{Outside, ReadFault};
 pub use key_block::{KeyBlock, KeyFormat};
@@ -23,3 +25,4 @@ pub use request::{Ask, Asked, BatchOption, Get, Register, Request};
 pub use response::{Answer, Got, Payload, Registered, Response, Status};
 pub use rules::{Cause, Row, Rules};
 pub use wanted::is_wanted;
+pub use writing::{write_request, write_response};

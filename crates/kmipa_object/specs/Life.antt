@@ -33,7 +33,7 @@ state_by_activation d t =
     if has_come d.deactivation t then Deactivated else
     Active
 
--- State (KMIP 2.1, section 4.57) at a moment
+-- State (KMIP 2.1, section 4) at a moment
 abbrev pub state : Dates → ℤ → State
 state d t =
     if is_some d.destroy && is_some d.compromise then DestroyedCompromised else
@@ -45,7 +45,7 @@ abbrev pub is_active : State → Bool
 is_active Active = true
 is_active _ = false
 
--- Revocation Reason Code (KMIP 2.1, section 11.51): Key Compromise or CA Compromise
+-- Revocation Reason Code (KMIP 2.1, section 11): Key Compromise or CA Compromise
 abbrev pub compromises : ℕ → Bool
 compromises code = (code == 2) || (code == 3)
 
@@ -71,7 +71,7 @@ revoked_dates d code t =
 abbrev pub destroyed_dates : Dates → ℤ → Dates
 destroyed_dates d t = record (deactivated_dates d t) { destroy = Some t }
 
--- State: its number and its name (KMIP 2.1, section 11.57)
+-- State: its number and its name (KMIP 2.1, section 11)
 abbrev pub state_number : State → ℕ
 state_number PreActive = 1
 state_number Active = 2

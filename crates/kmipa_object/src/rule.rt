@@ -6,7 +6,7 @@ ghost use Rattle.kmipa_object.specs.Inventory.{admits, possible, rule_for};
 
 use kmipa_attrs::{AttrSet, ObjectType};
 
-/// Cryptographic Algorithm AES (KMIP 2.1, section 11.12).
+/// Cryptographic Algorithm AES (KMIP 2.1, section 11).
 const AES: u32 = 3;
 
 /// What the bytes of an object must be.

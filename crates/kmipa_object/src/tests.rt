@@ -155,6 +155,7 @@ fn rules_of_keys(rt: HostRuntime) -> Result<(), Fail> {
         given,
         life: new_life(),
     };
+    assert_eq!(rt; key.copy(alloc)?.life, key.life);
     assert_eq!(rt; key.rule(), Rule::Bits(128));
     assert!(rt; key.rule().admits(&[7; 16]));
     assert!(rt; !key.rule().admits(&[7; 15]));

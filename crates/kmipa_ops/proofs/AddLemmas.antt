@@ -29,6 +29,40 @@ is_new m id free p h at same =
     let f : bytes_eq id h.card.id ≡ true = (bytes_eq-Decides id h.card.id).1 same in
     cc
 
+still_distinct : (m : Meaning) (o : Held) → IsSound m → place_of o.card.id (cards_of m.objects) ≡ None
+    → (p q : ℕ) (g h : Held) → slice_get (m.objects ++ o ∷ []) p ≡ Some g → slice_get (m.objects ++ o ∷ []) q ≡ Some h → g.card.id ≡ h.card.id → p ≡ q
+still_distinct m o sound free p q g h x y same = elim (get-append_cases m.objects o p g x) [
+  | inl old ↦ (elim (get-append_cases m.objects o q h y) [
+    | inl too ↦ sound.distinct p q g h old too same
+    | inr new ↦ absurd (is_new m o.card.id free p g old (sym (same ∙ ap (λ (z : Held). z.card.id) new.1)))
+  ])
+  | inr new ↦ (elim (get-append_cases m.objects o q h y) [
+    | inl old ↦ absurd (is_new m o.card.id free q h old (sym (ap (λ (z : Held). z.card.id) new.1) ∙ same))
+    | inr too ↦ new.0 ∙ sym too.0
+  ])
+]
+
+-- the ledger with a destroyed object
+pub destroyed_sound : (m : Meaning) (o : Held) → IsSound m → place_of o.card.id (cards_of m.objects) ≡ None → live o.card ≡ false → o.material ≡ Gone
+    → IsSound (record { objects = m.objects ++ o ∷ []; secrets = m.secrets })
+destroyed_sound m o sound free dead gone = record {
+  in_range = record {
+    there = λ p h n at mat. elim (get-append_cases m.objects o p h at) [
+      | inl old ↦ sound.in_range.there p h n old mat
+      | inr new ↦ let clash : Gone ≡ Secret n = sym gone ∙ ap (λ (x : Held). x.material) (sym new.1) ∙ mat in let bad : ⊥ = cc in absurd bad
+    ];
+  };
+  gone = λ p h at. elim (get-append_cases m.objects o p h at) [
+    | inl old ↦ sound.gone p h old
+    | inr new ↦
+        let P : Bool → Type 0 = λ x. GoneIfDestroyed x Gone in
+        let Q : Material → Type 0 = λ x. GoneIfDestroyed (live o.card) x in
+        subst (λ (x : Held). GoneIfDestroyed (live x.card) x.material) (sym new.1) (subst Q (sym gone) (subst P (sym dead) tt))
+  ];
+  distinct = still_distinct m o sound free;
+  choice = sound.choice;
+}
+
 pub own_sound : (m : Meaning) (card : Card) (known : Option (List ℕ)) (b : List ℕ) → IsSound m → place_of card.id (cards_of m.objects) ≡ None → live card ≡ true
     → Suits (record { rule = rule_of card; bytes = known }) b → IsSound (with_own m card known)
 own_sound m card known b sound free alive suits =
@@ -51,16 +85,7 @@ own_sound m card known b sound free alive suits =
             let P : Bool → Type 0 = λ x. GoneIfDestroyed x (Secret (record { number = length m.secrets })) in
             subst (λ (x : Held). GoneIfDestroyed (live x.card) x.material) (sym new.1) (subst P (sym alive) tt)
       ];
-      distinct = λ p q g h x y same. elim (get-append_cases m.objects o p g x) [
-        | inl old ↦ (elim (get-append_cases m.objects o q h y) [
-          | inl too ↦ sound.distinct p q g h old too same
-          | inr new ↦ absurd (is_new m card.id free p g old (sym (same ∙ ap (λ (z : Held). z.card.id) new.1)))
-        ])
-        | inr new ↦ (elim (get-append_cases m.objects o q h y) [
-          | inl old ↦ absurd (is_new m card.id free q h old (sym (ap (λ (z : Held). z.card.id) new.1) ∙ same))
-          | inr too ↦ new.0 ∙ sym too.0
-        ])
-      ];
+      distinct = still_distinct m o sound free;
       choice = (override sound.choice.0 (length m.secrets) b, Chooses-more m.secrets s sound.choice.0 b sound.choice.1 suits);
     }
 
@@ -91,3 +116,8 @@ declared_sound s u v rule n h sound can number made free put mat is alive =
     ∙ ap (λ (r : Rule). record { objects = s.now.objects ++ h ∷ []; secrets = s.now.secrets ++ record { rule = r; bytes = None } ∷ [] }) is
     ∙ ap (λ (x : LedgerState). (added x h).now) (sym made) ∙ ap (λ (x : LedgerState). x.now) (sym put) in
     subst (λ (m : Meaning). IsSound m) rules_is (own_sound s.now h.card None b.0 sound fresh alive suits)
+
+-- a destroyed object, added by a call of a ledger
+pub buried_sound : (s v : LedgerState) (h : Held) → IsSound s.now → is_taken s h.card.id ≡ false → v ≡ added s h → h.material ≡ Gone → live h.card ≡ false → IsSound v.now
+buried_sound s v h sound free put gone dead =
+    subst (λ (x : LedgerState). IsSound x.now) (sym put) (destroyed_sound s.now h sound (not_some (place_of h.card.id (cards_of s.now.objects)) free) dead gone)

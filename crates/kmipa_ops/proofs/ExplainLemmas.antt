@@ -1,17 +1,19 @@
 -- Lists of items, one after the other, and what taking one comes to.
-use Rattle.std.proofs.Common.{◌≡◌, ◌≤◌, ℕ, ℤ, true, List, [], ◌∷◌, ◌++◌, length, Option, Some, None, refl, sym, ◌∙◌, subst, inl, inr, arith}
+use Rattle.std.proofs.Common.{◌≡◌, ◌≤◌, ℕ, ℤ, true, List, [], ◌∷◌, ◌++◌, length, Option, Some, None, Result, Ok, Err, ◌≢◌, refl, sym, ◌∙◌, subst, inl, inr, arith}
 use Rattle.kmipa_object.specs.Inventory.{Thing}
 use Rattle.kmipa_store.specs.Ledger.{Meaning, LedgerState, changed}
 use Rattle.kmipa_store.specs.Choices.{inv, IsSound}
 use Rattle.kmipa_store.proofs.ChoiceLemmas.{agrees_same, agrees_more, extends_same, extends_more}
 use Rattle.kmipa_msgs.specs.Messages.{RulesOf, AskOf, AnswerOf}
+use Rattle.kmipa_ops.specs.declared.why.Refusal.{Refusal}
+use Rattle.kmipa_ops.specs.declared.why.Refusal.TheVariants.{Impossible, Memory}
 use Rattle.kmipa_ops.specs.declared.why.Why.{Why}
 use Rattle.kmipa_ops.specs.Whys.{whys}
 use Rattle.kmipa_ops.specs.Does.{Does}
 use Rattle.kmipa_ops.specs.Chains.{Chain, ChainSome, CompletesEach, ChainsComplete}
 use Rattle.kmipa_ops.specs.Blame.{speaks, lowest}
 use Rattle.kmipa_ops.specs.After.{after, placeholder_after}
-use Rattle.kmipa_ops.specs.Explains.{Tells, TellsBytes, Explains, Refuted, Took, is_readable, IsPossible, BlameIsExact}
+use Rattle.kmipa_ops.specs.Explains.{Tells, TellsBytes, Explains, Refuted, Taken, Took, is_readable, IsPossible, BlameIsExact}
 use Rattle.kmipa_ops.proofs.TestLemmas.{find_holds}
 use Rattle.kmipa_ops.proofs.ItemLemmas.{item_step, never, learns_after}
 
@@ -125,6 +127,13 @@ took rules s p t ask answer u q sound readable bytes none is to =
       sound = (item_step rules s.now p t ask answer sound readable bytes none).kept;
       marks = refl;
     }))
+
+-- but for want of memory the ledger stays sound
+pub sound_after : (rules : RulesOf) (s : LedgerState) (p : Option (List ℕ)) (t : ℤ) (ask : AskOf) (answer : AnswerOf) (r : Result (Unit {0}) Refusal) (u : LedgerState) (q : Option (List ℕ))
+    → IsSound s.now → r ≢ Err Memory → Taken rules s p t ask answer r u q → IsSound u.now
+sound_after rules s p t ask answer (Ok done) u q sound h x = x.sound
+sound_after rules s p t ask answer (Err (Impossible why)) u q sound h x = subst (λ (y : LedgerState). IsSound y.now) (sym x.1) sound
+sound_after rules s p t ask answer (Err Memory) u q sound h x = absurd (h refl)
 
 pub refuted : (rules : RulesOf) (m : Meaning) (p : Option (List ℕ)) (t : ℤ) (ask : AskOf) (answer : AnswerOf) (w : Why) → lowest rules m p t ask answer ≡ Some w → Refuted rules m p t ask answer w
 refuted rules m p t ask answer w e = record {

@@ -7,3 +7,7 @@ pub mod CallLemmas
 pub mod TranscriptLemmas
 pub mod WitnessLemmas
 pub mod DeclarationLemmas
+pub mod FirstFaultLemmas
+pub mod TranscriptLawLemmas
+pub mod WitnessLawLemmas
+pub mod DeclarationLawLemmas

@@ -8,6 +8,7 @@ mod calls;
 mod declaration;
 mod fault;
 mod header;
+mod laws;
 mod record;
 mod shape;
 mod transcript;
@@ -15,5 +16,12 @@ mod witness;
 
 pub use declaration::{Declaration, read_declaration};
 pub use fault::{RecordFault, RecordKind};
+pub use laws::{
+    no_fault_of_declaration, no_fault_of_transcript, no_fault_of_witness, one_declaration,
+    one_declaration_fault, one_transcript, one_transcript_fault, one_witness, one_witness_fault,
+};
 pub use transcript::{Begin, End, Mark, Transcript, read_transcript};
 pub use witness::{Turn, Witness, read_witness};
+
+#[cfg(test)]
+mod tests;

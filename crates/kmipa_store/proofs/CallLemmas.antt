@@ -1,9 +1,9 @@
 -- What each call of a ledger leaves, whatever it answers.
-use Rattle.std.proofs.Common.{◌≡◌, ◌<◌, ◌≤◌, ℕ, List, [], ◌∷◌, ◌++◌, length, None, Result, Ok, Err, refl, ap, sym, ◌∙◌, subst, arith, length-append}
+use Rattle.std.proofs.Common.{◌≡◌, ◌<◌, ◌≤◌, ℕ, List, [], ◌∷◌, length, None, Result, Ok, Err, refl, ap, ◌∙◌, subst, arith, length-append}
 use Rattle.kmipa_object.specs.declared.life.Life.{Life}
 use Rattle.kmipa_object.specs.declared.life.SecretNo.{SecretNo}
 use Rattle.kmipa_object.specs.declared.rule.Rule.{Rule}
-use Rattle.kmipa_store.specs.Ledger.{Held, Known, Meaning, LedgerState, marked, undone, undone_from, gone_back}
+use Rattle.kmipa_store.specs.Ledger.{Held, Meaning, LedgerState, marked, undone, undone_from}
 use Rattle.kmipa_store.specs.Memory.{RefusedForMemory}
 use Rattle.kmipa_store.specs.Calls.{Adds, Replaces, MakesSecret, Learns, SetsMark}
 use Rattle.kmipa_store.specs.declared.fault.StoreFault.{StoreFault}

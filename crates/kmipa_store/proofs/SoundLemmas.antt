@@ -1,14 +1,17 @@
 -- What keeps a ledger sound.
-use Rattle.std.proofs.Common.{◌≡◌, ◌<◌, ℕ, Bool, true, false, List, length, slice_get, Option, Some, None, option_map, refl, ap, sym, ◌∙◌, subst}
-use Rattle.kmipa_object.specs.Inventory.{Thing, HasBytes, IsInventory, live, rule_of}
+use Rattle.std.proofs.Common.{◌≡◌, ◌<◌, ◌⊎◌, ℕ, zero, suc, is_none, Bool, true, false, List, [], ◌∷◌, ◌++◌, length, slice_get, Option, Some, None, option_map, refl, ap, sym, ◌∙◌, subst, inl, inr}
+use Rattle.kmipa_object.specs.Inventory.{Thing, Admitted, HasBytes, IsInventory, live, rule_of, possible}
 use Rattle.kmipa_object.specs.declared.rule.Rule.{Rule}
+use Rattle.kmipa_object.specs.declared.life.Life.{Life}
 use Rattle.kmipa_object.specs.declared.life.Material.{Material}
 use Rattle.kmipa_object.specs.declared.life.Material.TheVariants.{Gone, Secret}
 use Rattle.kmipa_object.specs.declared.life.SecretNo.{SecretNo}
-use Rattle.kmipa_object.proofs.ListLemmas.{get_below}
-use Rattle.kmipa_store.specs.Ledger.{Held, Known, Meaning}
-use Rattle.kmipa_store.specs.Choices.{Choice, Chooses, InRange, GoneIfDestroyed, IsSound, Extends, inv, thing, bytes_of}
+use Rattle.kmipa_object.proofs.ListLemmas.{get_below, get-append_cases}
+use Rattle.kmipa_object.proofs.RuleLemmas.{possible_admits}
+use Rattle.kmipa_store.specs.Ledger.{Held, Known, Meaning, relived, told, with_life}
+use Rattle.kmipa_store.specs.Choices.{Choice, Chooses, Suits, InRange, GoneIfDestroyed, IsSound, Extends, inv, thing, bytes_of}
 use Rattle.kmipa_store.proofs.InventoryLemmas.{get-inv}
+use Rattle.kmipa_store.proofs.ChoiceLemmas.{override, override_same, Chooses-none, Chooses-more, Chooses-override, Chooses-told, extends_push, extends_told}
 
 pub InRange-extends : (hs : List Held) (ss ts : List Known) → InRange hs ss → Extends ss ts → InRange hs ts
 InRange-extends hs ss ts r e = record {
@@ -45,4 +48,113 @@ inventory_of m c sound h = record {
       let x = inv_found c m.objects i a e in
       let P : Thing → Type 0 = λ t. HasBytes (live t.card) (rule_of t.card) t.bytes in
       subst P x.2 (has_bytes c m.secrets (live x.0.card) (rule_of x.0.card) x.0.material h (sound.gone i x.0 x.1) (λ n mat. sound.in_range.there i x.0 n x.1 mat));
+}
+
+-- a ledger without objects and secrets
+pub sound_none : IsSound (record { objects = []; secrets = [] })
+sound_none = record {
+  in_range = record { there = λ p h n at mat. let bad : ⊥ = cc in absurd bad };
+  gone = λ p h at. let bad : ⊥ = cc in absurd bad;
+  distinct = λ p q g h e f same. cc;
+  choice = ((λ n. []), Chooses-none (λ n. []));
+}
+
+-- one more secret
+pub sound_with_secret : (m : Meaning) (rule : Rule) → IsSound m → possible rule ≡ true → IsSound (record { objects = m.objects; secrets = m.secrets ++ record { rule = rule; bytes = None } ∷ [] })
+sound_with_secret m rule sound may =
+    let s : Known = record { rule = rule; bytes = None } in
+    let b = possible_admits rule may in
+    let suits : Suits s b.0 = record { admitted = b.1; known = λ k e. cc } in
+    record {
+      in_range = InRange-extends m.objects m.secrets (m.secrets ++ s ∷ []) sound.in_range (extends_push m.secrets s);
+      gone = sound.gone;
+      distinct = sound.distinct;
+      choice = (override sound.choice.0 (length m.secrets) b.0, Chooses-more m.secrets s sound.choice.0 b.0 sound.choice.1 suits);
+    }
+
+-- an unknown secret that is told bytes that its rule admits
+pub sound_told : (m : Meaning) (number : ℕ) (s : Known) (bytes : List ℕ) → IsSound m → slice_get m.secrets number ≡ Some s → s.bytes ≡ None → Admitted s.rule bytes
+    → IsSound (record { objects = m.objects; secrets = told m.secrets number bytes })
+sound_told m number s bytes sound at none admitted =
+    let suits : Suits s bytes = record { admitted = admitted; known = λ k e. let clash : None ≡ Some k = sym none ∙ e in cc } in
+    let c = override sound.choice.0 number bytes in
+    record {
+      in_range = InRange-extends m.objects m.secrets (told m.secrets number bytes) sound.in_range (extends_told m.secrets number bytes);
+      gone = sound.gone;
+      distinct = sound.distinct;
+      choice = (c, Chooses-told m.secrets number s bytes c at (override_same sound.choice.0 number bytes) (Chooses-override m.secrets number s bytes sound.choice.0 at suits sound.choice.1));
+    }
+
+-- what is asked of an object beside its identifier
+pub record Fits (h : Held) (secrets : List Known) : Type 0 where
+  pub gone : GoneIfDestroyed (live h.card) h.material
+  pub there : (secret : SecretNo) → h.material ≡ Secret secret → (known : Option (List ℕ)) × (slice_get secrets secret.number ≡ Some (record { rule = rule_of h.card; bytes = known }))
+
+-- one more object, of an identifier that no other has
+pub sound_added : (m : Meaning) (h : Held) → IsSound m → ((p : ℕ) (g : Held) → slice_get m.objects p ≡ Some g → g.card.id ≡ h.card.id → ⊥) → Fits h m.secrets
+    → IsSound (record { objects = m.objects ++ h ∷ []; secrets = m.secrets })
+sound_added m h sound fresh fit = record {
+  in_range = record {
+    there = λ p g n at mat. elim (get-append_cases m.objects h p g at) [
+      | inl e ↦ sound.in_range.there p g n e mat
+      | inr e ↦ let P : Held → Type 0 = λ x. (known : Option (List ℕ)) × (slice_get m.secrets n.number ≡ Some (record { rule = rule_of x.card; bytes = known })) in subst P (sym e.1) (fit.there n (ap (λ (x : Held). x.material) (sym e.1) ∙ mat))
+    ];
+  };
+  gone = λ p g at. elim (get-append_cases m.objects h p g at) [
+    | inl e ↦ sound.gone p g e
+    | inr e ↦ let P : Held → Type 0 = λ x. GoneIfDestroyed (live x.card) x.material in subst P (sym e.1) fit.gone
+  ];
+  distinct = λ p q f g at of same. elim (get-append_cases m.objects h p f at) [
+    | inl e ↦ elim (get-append_cases m.objects h q g of) [
+      | inl d ↦ sound.distinct p q f g e d same
+      | inr d ↦ absurd (fresh p f e (same ∙ ap (λ (x : Held). x.card.id) d.1))
+    ]
+    | inr e ↦ elim (get-append_cases m.objects h q g of) [
+      | inl d ↦ absurd (fresh q g d (sym same ∙ ap (λ (x : Held). x.card.id) e.1))
+      | inr d ↦ e.0 ∙ sym d.0
+    ]
+  ];
+  choice = sound.choice;
+}
+
+-- an object after one led another life
+relived_from : (hs : List Held) (place p : ℕ) (life : Life) (g : Held) → slice_get (relived hs place life) p ≡ Some g
+    → (h : Held) × (slice_get hs p ≡ Some h) × ((g ≡ h) ⊎ ((p ≡ place) × (g ≡ with_life h life)))
+relived_from [] place p life g e = let bad : ⊥ = cc in absurd bad
+relived_from (x ∷ hs) zero zero life g e = (x, refl, inr (refl, cc))
+relived_from (x ∷ hs) zero (suc p) life g e = (g, e, inl refl)
+relived_from (x ∷ hs) (suc place) zero life g e = (x, refl, inl cc)
+relived_from (x ∷ hs) (suc place) (suc p) life g e =
+    let r = relived_from hs place p life g e in
+    (r.0, r.1, elim r.2 [ inl a ↦ inl a | inr b ↦ inr (ap suc b.0, b.1) ])
+
+same_id : (life : Life) (place p : ℕ) (g h : Held) → (g ≡ h) ⊎ ((p ≡ place) × (g ≡ with_life h life)) → g.card.id ≡ h.card.id
+same_id life place p g h (inl a) = ap (λ (x : Held). x.card.id) a
+same_id life place p g h (inr b) = ap (λ (x : Held). x.card.id) b.1
+
+-- an object leads another life, with its own secret or none
+pub sound_relived : (m : Meaning) (place : ℕ) (h : Held) (life : Life) → IsSound m → slice_get m.objects place ≡ Some h → GoneIfDestroyed (is_none life.destroy) life.material
+    → ((secret : SecretNo) → life.material ≡ Secret secret → h.material ≡ Secret secret) → IsSound (record { objects = relived m.objects place life; secrets = m.secrets })
+sound_relived m place h life sound at gone own = record {
+  in_range = record {
+    there = λ p g n e mat.
+        let r = relived_from m.objects place p life g e in
+        elim r.2 [
+          | inl a ↦ let P : Held → Type 0 = λ x. (known : Option (List ℕ)) × (slice_get m.secrets n.number ≡ Some (record { rule = rule_of x.card; bytes = known })) in subst P (sym a) (sound.in_range.there p r.0 n r.1 (ap (λ (x : Held). x.material) (sym a) ∙ mat))
+          | inr b ↦
+              let there : Some r.0 ≡ Some h = sym r.1 ∙ ap (slice_get m.objects) b.0 ∙ at in
+              let is : r.0 ≡ h = cc in
+              let P : Held → Type 0 = λ x. (known : Option (List ℕ)) × (slice_get m.secrets n.number ≡ Some (record { rule = rule_of x.card; bytes = known })) in
+              subst P (sym b.1) (sound.in_range.there p r.0 n r.1 (ap (λ (x : Held). x.material) is ∙ own n (ap (λ (x : Held). x.material) (sym b.1) ∙ mat)))
+        ];
+  };
+  gone = λ p g e.
+      let r = relived_from m.objects place p life g e in
+      let P : Held → Type 0 = λ x. GoneIfDestroyed (live x.card) x.material in
+      elim r.2 [ inl a ↦ subst P (sym a) (sound.gone p r.0 r.1) | inr b ↦ subst P (sym b.1) gone ];
+  distinct = λ p q f g e d same.
+      let r = relived_from m.objects place p life f e in
+      let s = relived_from m.objects place q life g d in
+      sound.distinct p q r.0 s.0 r.1 s.1 (sym (same_id life place p f r.0 r.2) ∙ same ∙ same_id life place q g s.0 s.2);
+  choice = sound.choice;
 }

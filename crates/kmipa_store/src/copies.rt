@@ -112,10 +112,10 @@ impl Ledger for Copies {
 
     fn undo(&mut self, mark: Mark) {
         let Mark { depth: _ } = mark;
-        let Some(saved) = self.marks.pop() else {
+        let Some(newest) = self.marks.pop() else {
             return;
         };
-        self.objects = saved.objects;
+        self.objects = newest.objects;
     }
 
     fn back(&mut self, mark: Mark) {

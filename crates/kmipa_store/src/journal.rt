@@ -129,10 +129,10 @@ impl Ledger for Journal {
 
     fn undo(&mut self, mark: Mark) {
         let Mark { depth: _ } = mark;
-        let Some(place) = self.places.pop() else {
+        let Some(newest) = self.places.pop() else {
             return;
         };
-        roll_back(&mut self.objects, &mut self.object_changes, place.objects);
+        roll_back(&mut self.objects, &mut self.object_changes, newest.objects);
     }
 
     fn back(&mut self, mark: Mark) {

@@ -1,4 +1,4 @@
-//! Items from views.
+//! Items from views: the same tree, with texts and bytes of its own.
 
 ghost use Rattle.std.specs.Prelude.{◌≡◌, ℕ, IfOk};
 ghost use Rattle.kmipa_ttlv.specs.ItemTree.{value_tree, tree, trees};
@@ -8,7 +8,7 @@ use crate::item::{Item, Value};
 use crate::view::{View, ViewValue};
 use std::alloc::{AllocError, Global};
 
-/// The view's tree, with texts and bytes of its own.
+/// The view's tree, with copies of its texts and bytes.
 #[cycle(copying)]
 pub fn copy_item(alloc: Global, view: &View) -> Result<Item, AllocError>
     ensures { IfOk result (λ i. tree i ≡ view_tree view.now) }

@@ -1,4 +1,4 @@
-//! Items: a tag and a value, with texts and bytes of their own.
+//! Items: a tag and a value, with texts and bytes of their own (KMIP 2.1, TTLV Encoding).
 
 ghost use Rattle.std.specs.Prelude.{◌≡◌, IfOk};
 ghost use Rattle.kmipa_ttlv.specs.ItemTree.{tree, trees};
@@ -19,6 +19,7 @@ pub struct Item {
 #[derive(Debug, Drop)]
 #[cycle(item)]
 pub enum Value {
+    /// The children, in order.
     Structure(Vec<Item>),
     Integer(i32),
     LongInteger(i64),
@@ -37,7 +38,7 @@ pub enum Value {
 }
 
 impl Item {
-    /// The item with these children.
+    /// A Structure with these children.
     pub fn structure(tag: Tag, children: Vec<Item>) -> Item
         ensures { tree result ≡ Tree.structure tag.number (trees children.items) }
     {

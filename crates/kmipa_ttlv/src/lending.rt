@@ -1,4 +1,4 @@
-//! Views of items.
+//! Views of items: the same tree, with texts and bytes lent.
 
 ghost use Rattle.std.specs.Prelude.{◌≡◌, ℕ, IfOk, IfErr};
 ghost use Rattle.kmipa_ttlv.specs.ItemTree.{value_tree, tree, trees};
@@ -9,7 +9,7 @@ use crate::item::{Item, Value};
 use crate::view::{View, ViewValue};
 use std::alloc::{AllocError, Global};
 
-/// The item's tree, with its texts and bytes lent.
+/// The item's tree, with its texts and bytes lent. Only memory, for the lists of children, refuses (offset 0).
 pub fn lend(alloc: Global, item: &Item) -> Result<View<'_>, TtlvFault>
     ensures same { IfOk result (λ v. view_tree v ≡ tree item.now) }
     ensures memory { IfErr result (λ f. (f.offset ≡ 0) × (f.kind ≡ FaultKind.Memory)) }

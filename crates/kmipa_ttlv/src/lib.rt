@@ -1,38 +1,39 @@
-//! TTLV items and their bytes.
+//! TTLV, the encoding of KMIP 2.1: bytes spell exactly this item.
+//!
+//! `decode` and `decode_view` answer the item that bytes begin with, `encode` writes one. `Frames` gives the items
+//! of a stream that comes in pieces, `read_item` those of an `Input`. A `TtlvFault` says what is wrong, and where.
 #![tactic(auto)]
 
 mod copying;
+mod decoding;
+mod encoding;
 mod fault;
 mod frames;
 mod head;
 mod input;
 mod item;
-mod items;
 mod laws;
 mod lending;
-mod part;
-mod pieces;
 mod reading;
+mod splitting;
 mod tag;
 mod view;
-mod whole;
-mod writing;
 
+pub use decoding::{decode, decode_view};
+pub use encoding::{encode, spelled_len};
 pub use fault::{FaultKind, TtlvFault};
 pub use frames::Frames;
 pub use input::Input;
 pub use item::{Item, Value};
-pub use items::{read_bytes, read_item, read_item_into};
 pub use laws::{
-    cut_short, joined, no_others, one_flaw, one_list, one_spelling, own_kinds, settled,
+    cut_short, decoded_again, joined, no_flaw, no_others, one_flaw, one_list, one_spelling,
+    own_kinds, settled,
 };
 pub use lending::lend;
-pub use pieces::split_stream;
-pub use reading::{decode, decode_view};
+pub use reading::{read_all, read_bytes, read_item, read_item_into};
+pub use splitting::split_stream;
 pub use tag::Tag;
 pub use view::{View, ViewValue};
-pub use whole::read_all;
-pub use writing::{encode, spelled_len};
 
 #[cfg(test)]
 mod tests;

@@ -1,169 +1,222 @@
-//! Items from bytes.
+//! What is read from an input: its next item, or all of its bytes.
 
-ghost use Rattle.std.specs.Prelude.{◌≡◌, ◌≢◌, ◌≤◌, ◌<◌, ◌+◌, ℕ, [], length, take, IfOk, IfErr, MatchResult, IsTrue};
-ghost use Rattle.kmipa_ttlv.specs.Head.{number_of_kind};
+ghost use Rattle.std.specs.Prelude.{◌≡◌, ◌≤◌, ◌<◌, ◌+◌, ℕ, List, [], ◌∷◌, ◌++◌, true, false, Err, length, vec_len, IsTrue, IfOk, IfErr, IfSome, IfNone, OnOk, ◌⊎◌};
+ghost use Rattle.std.specs.Io.{StartsWith, appended_bytes};
+ghost use Rattle.std.specs.Io.KnownBytes.{Consumes, IsAtEnd};
+ghost use Rattle.kmipa_ttlv.specs.Input.{reader_of, taken_of, is_failed};
+ghost use Rattle.kmipa_ttlv.specs.Items.{IsReading};
 ghost use Rattle.kmipa_ttlv.specs.ItemTree.{tree};
-ghost use Rattle.kmipa_ttlv.specs.ViewTree.{view_tree, view_trees};
-ghost use Rattle.kmipa_ttlv.specs.Spelling.{extent, Holds, Stands, Run, Spells, IsFront};
+ghost use Rattle.kmipa_ttlv.specs.Reading.{IsWhole, ReadTells};
+ghost use Rattle.kmipa_ttlv.specs.Spelling.{Spells};
+ghost use Rattle.kmipa_ttlv.specs.Stream.{capped};
 ghost use Rattle.kmipa_ttlv.specs.Tree.{Tree};
-ghost use Rattle.kmipa_ttlv.specs.Flaw.{allows, ScalarFlaw, ValueFlaw, FirstFlawed, Flaw, OuterFlaw, Tells};
 
-use crate::copying::copy_item;
+use crate::decoding::decode;
 use crate::fault::{FaultKind, TtlvFault};
-use crate::head::{Kind, child_head, fault, outer_head, value_of};
+use crate::head::{HEADER, outer_extent};
+use crate::input::Input;
 use crate::item::Item;
-use crate::tag::Tag;
-use crate::view::{View, ViewValue};
-use byteorder::{BigEndian, ByteOrder};
 use std::alloc::Global;
-use std::str;
+use std::io::Read;
 
-/// The item of a kind that has no children, at this place, with this value.
-fn read_scalar(place: usize, tag: Tag, kind: Kind, value: &[u8]) -> Result<View<'_>, TtlvFault>
-    requires plain { kind ≢ Kind.Structure }
-    requires allowed { IsTrue (allows (number_of_kind kind) (length value.now)) }
-    requires room { place + 8 + length value.now ≤ 0x10_0000 }
-    ensures { MatchResult result (λ v. (left : ℕ) → Holds left tag.number (number_of_kind kind) (view_tree v) value.now)
-        (λ f. Tells f (ScalarFlaw place (number_of_kind kind) value.now)) }
+/// How many bytes `read_all` asks for at once.
+const CHUNK: usize = 65_536;
+
+/// How many bytes of an item are asked for at once.
+const PIECE: usize = 4096;
+
+/// The next item of an input, or `None` at its end. The input is then just behind the item.
+///
+/// Errors: the flaw of the bytes that are left (Truncated only where the input ends inside the item), with offsets
+/// from the input's first byte; Device where the input is failed and Memory, with the item's offset.
+pub fn read_item<R: Read>(alloc: Global, input: &mut Input<R>) -> Result<Option<Item>, TtlvFault>
+    // The input is left just behind the item.
+    ensures item { IfOk result (λ o. IfSome o (λ item. (front : List ℕ) × Spells (tree item) front
+        × Consumes (R.remaining (reader_of input.old)) (R.remaining (reader_of input.new)) front
+        × (taken_of input.new ≡ taken_of input.old + length front))) }
+    // It is the next of those that were in the input.
+    ensures next { IfOk result (λ o. IfSome o (λ item. (came : List ℕ) (given : List Tree)
+        → IsReading came given (R.remaining (reader_of input.old)) (taken_of input.old)
+        → IsReading came (given ++ tree item ∷ []) (R.remaining (reader_of input.new)) (taken_of input.new))) }
+    ensures end { IfOk result (λ o. IfNone o (IsAtEnd (R.remaining (reader_of input.old)))) }
+    ensures fault { IfErr result (λ f. ReadTells (taken_of input.old) (R.remaining (reader_of input.old)) (is_failed input.new) f) }
+    ensures works { OnOk result (is_failed input.new ≡ false) }
+    // A failed input answers Device, and stays failed.
+    ensures failed { IsTrue (is_failed input.old) → result ≡ Err (record { offset = taken_of input.old; kind = FaultKind.Device }) }
+    ensures stays { IsTrue (is_failed input.old) → IsTrue (is_failed input.new) }
 {
-    let value = match kind {
-        Kind::Structure => unreachable!(),
-        Kind::Integer => ViewValue::Integer(BigEndian::read_i32(value)),
-        Kind::LongInteger => ViewValue::LongInteger(BigEndian::read_i64(value)),
-        Kind::BigInteger => ViewValue::BigInteger(value),
-        Kind::Enumeration => ViewValue::Enumeration(BigEndian::read_u32(value)),
-        Kind::Boolean => match BigEndian::read_u64(value) {
-            0 => ViewValue::Boolean(false),
-            1 => ViewValue::Boolean(true),
-            _ => return Err(fault(place + 8, FaultKind::BadBoolean)),
+    let mut bytes = Vec::new(alloc);
+    read_item_into(alloc, input, &mut bytes)
+}
+
+/// The same as `read_item`. The item's bytes are read into `bytes`, in place of what is there, so that calls in turn
+/// share one buffer.
+pub fn read_item_into<R: Read>(
+    alloc: Global,
+    input: &mut Input<R>,
+    bytes: &mut Vec<u8>,
+) -> Result<Option<Item>, TtlvFault>
+    ensures bounded { vec_len bytes.new ≤ 0x10_0000 }
+    ensures item { IfOk result (λ o. IfSome o (λ item. (front : List ℕ) × Spells (tree item) front
+        × Consumes (R.remaining (reader_of input.old)) (R.remaining (reader_of input.new)) front
+        × (taken_of input.new ≡ taken_of input.old + length front))) }
+    // It is the next of those that were in the input.
+    ensures next { IfOk result (λ o. IfSome o (λ item. (came : List ℕ) (given : List Tree)
+        → IsReading came given (R.remaining (reader_of input.old)) (taken_of input.old)
+        → IsReading came (given ++ tree item ∷ []) (R.remaining (reader_of input.new)) (taken_of input.new))) }
+    ensures end { IfOk result (λ o. IfNone o (IsAtEnd (R.remaining (reader_of input.old)))) }
+    ensures fault { IfErr result (λ f. ReadTells (taken_of input.old) (R.remaining (reader_of input.old)) (is_failed input.new) f) }
+    ensures works { OnOk result (is_failed input.new ≡ false) }
+    // A failed input answers Device, and stays failed.
+    ensures failed { IsTrue (is_failed input.old) → result ≡ Err (record { offset = taken_of input.old; kind = FaultKind.Device }) }
+    ensures stays { IsTrue (is_failed input.old) → IsTrue (is_failed input.new) }
+{
+    let place = input.taken();
+    if !read_bytes(input, bytes)? {
+        return Ok(None);
+    }
+    match decode(alloc, bytes) {
+        Ok((item, _)) => Ok(Some(item)),
+        Err(fault) => match fault.kind {
+            FaultKind::Memory => Err(TtlvFault {
+                offset: place,
+                kind: FaultKind::Memory,
+            }),
+            kind => Err(placed(place, fault.offset, kind)),
         },
-        Kind::Text => match str::from_utf8(value) {
-            Ok(text) => ViewValue::Text(text),
-            Err(_) => return Err(fault(place + 8, FaultKind::BadText)),
-        },
-        Kind::Bytes => ViewValue::Bytes(value),
-        Kind::DateTime => ViewValue::DateTime(BigEndian::read_i64(value)),
-        Kind::Interval => ViewValue::Interval(BigEndian::read_u32(value)),
-        Kind::DateTimeExtended => ViewValue::DateTimeExtended(BigEndian::read_i64(value)),
+    }
+}
+
+/// Reads the bytes of the next item into `bytes`, in place of what is there, and no byte behind them; `false` at the
+/// end of the input. The header alone is tested. Errors: those of `read_item` that need no more than the header.
+pub fn read_bytes<R: Read>(input: &mut Input<R>, bytes: &mut Vec<u8>) -> Result<bool, TtlvFault>
+    ensures bounded { vec_len bytes.new ≤ 0x10_0000 }
+    ensures consumed { OnOk result (Consumes (R.remaining (reader_of input.old)) (R.remaining (reader_of input.new)) bytes.new.items) }
+    ensures taken { OnOk result (taken_of input.new ≡ taken_of input.old + vec_len bytes.new) }
+    ensures whole { IfOk result (λ some. some ≡ true → IsWhole bytes.new.items) }
+    ensures end { IfOk result (λ some. some ≡ false → (bytes.new.items ≡ []) × IsAtEnd (R.remaining (reader_of input.new))) }
+    ensures fault { IfErr result (λ f. ReadTells (taken_of input.old) (R.remaining (reader_of input.old)) (is_failed input.new) f) }
+    ensures works { OnOk result (is_failed input.new ≡ false) }
+    // A failed input answers Device, and stays failed.
+    ensures failed { IsTrue (is_failed input.old) → result ≡ Err (record { offset = taken_of input.old; kind = FaultKind.Device }) }
+    ensures stays { IsTrue (is_failed input.old) → IsTrue (is_failed input.new) }
+{
+    let place = input.taken();
+    bytes.clear();
+    let got = append_up_to(input, place, HEADER, bytes)?;
+    if got == 0 {
+        return Ok(false);
+    }
+    if got < HEADER {
+        return Err(placed(place, got as u64, FaultKind::Truncated));
+    }
+    let all = match outer_extent(bytes) {
+        Ok(all) => all,
+        Err(fault) => return Err(placed(place, fault.offset, fault.kind)),
     };
-    Ok(View { tag, value })
+    let more = append_up_to(input, place, all - HEADER, bytes)?;
+    if more < all - HEADER {
+        return Err(placed(place, HEADER as u64 + more as u64, FaultKind::Truncated));
+    }
+    Ok(true)
 }
 
-/// The item that a header and its value say, where so many levels are left below it.
-#[cycle(reading)]
-fn read_value(
-    alloc: Global,
-    left: usize,
-    place: usize,
-    tag: Tag,
-    kind: Kind,
-    value: &[u8],
-) -> Result<View<'_>, TtlvFault>
-    requires allowed { IsTrue (allows (number_of_kind kind) (length value.now)) }
-    requires room { place + 8 + length value.now ≤ 0x10_0000 }
-    ensures { MatchResult result (λ v. Holds left tag.number (number_of_kind kind) (view_tree v) value.now)
-        (λ f. Tells f (ValueFlaw (Flaw left) left place (number_of_kind kind) value.now)) }
+/// The fault so many bytes behind this place of the input.
+fn placed(place: u64, offset: u64, kind: FaultKind) -> TtlvFault
+    ensures { result ≡ record { offset = capped (place + offset); kind = kind } }
 {
-    match kind {
-        Kind::Structure => {
-            let children = read_children(alloc, left, place + 8, value)?;
-            Ok(View {
-                tag,
-                value: ViewValue::Structure(children),
-            })
+    TtlvFault {
+        offset: place.saturating_add(offset),
+        kind,
+    }
+}
+
+/// Appends the bytes of the input up to its end. Errors: Device where the input is failed, and Memory. The bytes that
+/// came before are then appended, and the fault's offset is their number.
+pub fn read_all<R: Read>(input: &mut Input<R>, out: &mut Vec<u8>) -> Result<(), TtlvFault>
+    // All bytes up to the end.
+    ensures whole { OnOk result (IfSome (R.remaining (reader_of input.old))
+        (λ xs. out.new.items ≡ out.old.items ++ xs)) }
+    ensures end { OnOk result (IsAtEnd (R.remaining (reader_of input.new))) }
+    ensures works { OnOk result (is_failed input.new ≡ false) }
+    // What was there stays, and what is appended is what came first, also after a fault.
+    ensures appends { StartsWith out.new.items out.old.items }
+    ensures front { IfSome (R.remaining (reader_of input.old))
+        (λ xs. StartsWith xs (appended_bytes out.old.items out.new.items)) }
+    // All bytes that came are appended, save some where memory ran out.
+    ensures taken { OnOk result (taken_of input.new + vec_len out.old ≡ taken_of input.old + vec_len out.new) }
+    ensures kept { IfErr result (λ fault. fault.kind ≡ FaultKind.Device
+        → taken_of input.new + vec_len out.old ≡ taken_of input.old + vec_len out.new) }
+    ensures counted { IfErr result (λ fault. vec_len out.new ≡ vec_len out.old + fault.offset) }
+    ensures kinds { IfErr result (λ fault. (fault.kind ≡ FaultKind.Device × IsTrue (is_failed input.new))
+        ⊎ (fault.kind ≡ FaultKind.Memory)) }
+    // A failed input answers Device, and stays failed.
+    ensures failed { IsTrue (is_failed input.old) → (result ≡ Err (record { offset = 0; kind = FaultKind.Device })) × (out.new.items ≡ out.old.items) }
+    ensures stays { IsTrue (is_failed input.old) → IsTrue (is_failed input.new) }
+{
+    let mut chunk = [0u8; CHUNK];
+    let mut appended: u64 = 0;
+    'reads: loop {
+        let Some(n) = input.read_some(&mut chunk) else {
+            return Err(TtlvFault {
+                offset: appended,
+                kind: FaultKind::Device,
+            });
+        };
+        if n == 0 {
+            return Ok(());
         }
-        _ => Ok(read_scalar(place, tag, kind, value)?),
+        if out.extend_from_slice(&chunk[..n]).is_err() {
+            return Err(TtlvFault {
+                offset: appended,
+                kind: FaultKind::Memory,
+            });
+        }
+        appended += n as u64;
     }
 }
 
-/// The items in the bytes, all of the bytes.
-#[cycle(reading)]
-fn read_children(
-    alloc: Global,
-    left: usize,
-    place: usize,
-    bytes: &[u8],
-) -> Result<Vec<View<'_>>, TtlvFault>
-    requires { place + length bytes.now ≤ 0x10_0000 }
-    ensures { MatchResult result (λ v. Run left (view_trees v.items) bytes.now [])
-        (λ f. Tells f (FirstFlawed (Flaw left) left place bytes.now)) }
+/// Appends the next `most` bytes of the input, or fewer at its end, and answers how many. It reads no further. The
+/// faults, Device and Memory, are told with this place.
+fn append_up_to<R: Read>(
+    input: &mut Input<R>,
+    place: u64,
+    most: usize,
+    out: &mut Vec<u8>,
+) -> Result<usize, TtlvFault>
+    ensures counted { IfOk result (λ n. (vec_len out.new ≡ vec_len out.old + n) × (n ≤ most)) }
+    ensures taken { IfOk result (λ n. taken_of input.new ≡ taken_of input.old + n) }
+    ensures bounded { vec_len out.new ≤ vec_len out.old + most }
+    ensures consumed { OnOk result (Consumes (R.remaining (reader_of input.old))
+        (R.remaining (reader_of input.new)) (appended_bytes out.old.items out.new.items)) }
+    ensures end { IfOk result (λ n. n < most → IsAtEnd (R.remaining (reader_of input.new))) }
+    ensures appends { StartsWith out.new.items out.old.items }
+    ensures kinds { IfErr result (λ f. (f.offset ≡ place) × ((f.kind ≡ FaultKind.Device × IsTrue (is_failed input.new))
+        ⊎ (f.kind ≡ FaultKind.Memory))) }
+    ensures works { OnOk result (is_failed input.new ≡ is_failed input.old) }
+    ensures failed { 0 < most → IsTrue (is_failed input.old) → result ≡ Err (record { offset = place; kind = FaultKind.Device }) }
+    ensures stays { IsTrue (is_failed input.old) → IsTrue (is_failed input.new) }
 {
-    let mut children = Vec::new(alloc);
-    let mut at = place;
-    let mut rest = bytes;
-    while !rest.is_empty() {
-        let (child, taken) = read_child(alloc, left, at, rest)?;
-        children.push(child)?;
-        at += taken;
-        let (_, after) = rest.split_at(taken);
-        rest = after;
+    let mut chunk = [0u8; PIECE];
+    let mut got: usize = 0;
+    'reads: while got < most {
+        let want = PIECE.min(most - got);
+        let Some(n) = input.read_some(&mut chunk[..want]) else {
+            return Err(TtlvFault {
+                offset: place,
+                kind: FaultKind::Device,
+            });
+        };
+        if n == 0 {
+            break;
+        }
+        if out.extend_from_slice(&chunk[..n]).is_err() {
+            return Err(TtlvFault {
+                offset: place,
+                kind: FaultKind::Memory,
+            });
+        }
+        got += n;
     }
-    Ok(children)
-}
-
-/// The item at this place, where so many levels are left, and the bytes go up to the structure's end.
-#[cycle(reading)]
-fn read_child(
-    alloc: Global,
-    left: usize,
-    place: usize,
-    bytes: &[u8],
-) -> Result<(View<'_>, usize), TtlvFault>
-    requires { place + length bytes.now ≤ 0x10_0000 }
-    ensures { MatchResult result
-        (λ x. Stands left (view_tree x.0) bytes.now × (x.1 ≡ extent bytes.now) × (x.1 ≤ length bytes.now))
-        (λ f. Tells f (Flaw left place bytes.now)) }
-{
-    if left == 0 {
-        return Err(fault(place, FaultKind::TooDeep));
-    }
-    let head = child_head(place, bytes)?;
-    let view = read_value(
-        alloc,
-        left - 1,
-        place,
-        head.tag,
-        head.kind,
-        value_of(bytes, head.len),
-    )?;
-    Ok((view, 8 + (head.len + 7) / 8 * 8))
-}
-
-/// The item at the front of the bytes, and how many bytes it takes.
-fn read_outermost(alloc: Global, bytes: &[u8]) -> Result<(View<'_>, usize), TtlvFault>
-    ensures { MatchResult result (λ x. IsFront (view_tree x.0) x.1 bytes.now) (λ f. Tells f (OuterFlaw bytes.now)) }
-{
-    let head = outer_head(bytes)?;
-    let view = read_value(alloc, 15, 0, head.tag, head.kind, value_of(bytes, head.len))?;
-    Ok((view, 8 + (head.len + 7) / 8 * 8))
-}
-
-fn read_copy(alloc: Global, bytes: &[u8]) -> Result<(Item, usize), TtlvFault>
-    ensures { MatchResult result (λ x. IsFront (tree x.0) x.1 bytes.now) (λ f. Tells f (OuterFlaw bytes.now)) }
-{
-    let (view, taken) = read_outermost(alloc, bytes)?;
-    Ok((copy_item(alloc, &view)?, taken))
-}
-
-/// The item that the bytes begin with, and how many bytes spell it. Bytes may follow it.
-pub fn decode(alloc: Global, bytes: &[u8]) -> Result<(Item, usize), TtlvFault>
-    // What is read is spelled so.
-    ensures found { IfOk result (λ x. (x.1 ≤ length bytes.now) × Spells (tree x.0) (take x.1 bytes.now)) }
-    // What is spelled so is read, unless memory runs out.
-    ensures only { (t : Tree) (n : ℕ) → n ≤ length bytes.now → Spells t (take n bytes.now)
-        → MatchResult result (λ x. (tree x.0 ≡ t) × (x.1 ≡ n)) (λ f. f.kind ≡ FaultKind.Memory) }
-    // Else the first test that fails is told, unless memory ran out.
-    ensures flaw { IfErr result (λ f. Tells f (OuterFlaw bytes.now)) }
-{
-    read_copy(alloc, bytes)
-}
-
-/// The same, with texts and bytes lent.
-pub fn decode_view(alloc: Global, bytes: &[u8]) -> Result<(View<'_>, usize), TtlvFault>
-    ensures found { IfOk result (λ x. (x.1 ≤ length bytes.now) × Spells (view_tree x.0) (take x.1 bytes.now)) }
-    ensures only { (t : Tree) (n : ℕ) → n ≤ length bytes.now → Spells t (take n bytes.now)
-        → MatchResult result (λ x. (view_tree x.0 ≡ t) × (x.1 ≡ n)) (λ f. f.kind ≡ FaultKind.Memory) }
-    ensures flaw { IfErr result (λ f. Tells f (OuterFlaw bytes.now)) }
-{
-    read_outermost(alloc, bytes)
+    Ok(got)
 }

@@ -1,4 +1,4 @@
-//! Views: items whose texts and bytes are lent.
+//! Views: items whose texts and bytes are lent from what they were read from.
 
 use crate::tag::Tag;
 
@@ -14,6 +14,7 @@ pub struct View<'a> {
 #[derive(Debug, Drop)]
 #[cycle(view)]
 pub enum ViewValue<'a> {
+    /// The children, in order.
     Structure(Vec<View<'a>>),
     Integer(i32),
     LongInteger(i64),

@@ -1,4 +1,4 @@
-use Rattle.std.proofs.Common.{◌≡◌, ◌∙◌, Bool, ℕ, nat_lt, map, length, ap, sym}
+use Rattle.std.proofs.Common.{◌≡◌, ◌∙◌, ℕ, nat_lt, map, length, ap, sym}
 use Rattle.std.proofs.lemmas.List.{length-map}
 use Rattle.kmipa_msgs.specs.Messages.{ask_of, request_of, response_of}
 use Rattle.kmipa_batch.specs.Fits.{fits}

@@ -1,4 +1,4 @@
-use Rattle.std.proofs.Common.{◌≡◌, ◌≤◌, sym, subst, Err, length, map, arith}
+use Rattle.std.proofs.Common.{◌≤◌, sym, subst, Err, length, map, arith}
 use Rattle.std.proofs.lemmas.List.{length-map}
 use Rattle.kmipa_store.specs.Ledger.{LedgerState}
 use Rattle.kmipa_msgs.specs.Messages.{ask_of, answer_of, request_of, response_of, rules_of}
@@ -6,7 +6,7 @@ use Rattle.kmipa_ops.specs.Placeholders.{placeholder_of}
 use Rattle.kmipa_batch.specs.declared.refusal.CallRefusal.{CallRefusal}
 use Rattle.kmipa_batch.specs.Running.{Ran}
 use Rattle.kmipa_batch.proofs.ShapeLemmas.{clash}
-use Rattle.kmipa_batch.proofs.RunLemmas.{along_none, along_more, along_broken, along_refusal, along_ends}
+use Rattle.kmipa_batch.proofs.RunLemmas.{along_more, along_broken, along_refusal, along_ends}
 use Rattle.kmipa_batch.proofs.taking.take_items.Goals as goal
 
 pub returns-then-not-is_shaped_at : goal.returns-then-not-is_shaped_at

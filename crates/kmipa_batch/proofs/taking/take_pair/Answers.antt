@@ -1,4 +1,4 @@
-use Rattle.std.proofs.Common.{rules, ◌≡◌, ◌∙◌, List, map, slice_get, Some, FitsSigned, w64}
+use Rattle.std.proofs.Common.{rules, ◌≡◌, ◌∙◌, map, slice_get, Some, FitsSigned, w64}
 use Rattle.std.proofs.lemmas.Int.{to_z-of_z}
 use Rattle.kmipa_msgs.specs.Messages.{ask_of, answer_of, request_of, response_of, rules_of}
 use Rattle.kmipa_ops.specs.Placeholders.{placeholder_of}

@@ -1,0 +1,132 @@
+-- Payloads that were written say what was written.
+use Rattle.std.proofs.Common.{◌≡◌, ℕ, List, [], ◌∷◌, Option, Some, None, refl, sym, ◌∙◌, subst}
+use Rattle.std.specs.Option.{option_map}
+use Rattle.kmipa_ttlv.specs.Tree.{Tree, Trees, structure, scalar, none, more, push}
+use Rattle.kmipa_ttlv.specs.Tree
+use Rattle.kmipa_attrs.specs.Fields.{as_structure, as_text, as_enumeration, at}
+use Rattle.kmipa_attrs.specs.Sets.{Attributes}
+use Rattle.kmipa_attrs.specs.Names.{HasNoRepeats}
+use Rattle.kmipa_attrs.specs.Attributes.{SaysAttributes}
+use Rattle.kmipa_attrs.specs.Writing.{written_children}
+use Rattle.kmipa_attrs.specs.ObjectTypes.{type_number, type_of}
+use Rattle.kmipa_attrs.specs.Readings.{Optional}
+use Rattle.kmipa_attrs.specs.declared.fields.Field.{Field}
+use Rattle.kmipa_attrs.specs.declared.fields.Field.TheVariants.{Absent, Wrong, There}
+use Rattle.kmipa_attrs.specs.declared.object_type.ObjectType.{ObjectType}
+use Rattle.kmipa_attrs.specs.declared.object_type.ObjectType.TheVariants.{SymmetricKey, SecretData}
+use Rattle.kmipa_attrs.proofs.WriteLemmas.{written_said, said-HasNoRepeats, once-same}
+use Rattle.kmipa_msgs.specs.declared.operation.Operation.{Operation}
+use Rattle.kmipa_msgs.specs.declared.operation.Operation.TheVariants.{Register, Get}
+use Rattle.kmipa_msgs.specs.Messages.{BlockOf, RegisterOf, RegisteredOf, GotOf, AskedOf, registers, gets, operation_asked, PayloadOf, registered, got}
+use Rattle.kmipa_msgs.specs.Tables.{MaybeListed}
+use Rattle.kmipa_msgs.specs.Objects.{object_in}
+use Rattle.kmipa_msgs.specs.Gets.{SaysGet, SaysGot}
+use Rattle.kmipa_msgs.specs.Registers.{SaysGiven, SaysRegister, SaysRegistered}
+use Rattle.kmipa_msgs.specs.Asks.{SaysAsked}
+use Rattle.kmipa_msgs.specs.Payloads.{SaysDone}
+use Rattle.kmipa_msgs.specs.Written.{in_order, field, written_object, get_fields, got_fields, register_fields, registered_fields, asked_fields, payload_fields}
+use Rattle.kmipa_msgs.proofs.WrittenFieldLemmas.{find, skipped, optional_written, required_written}
+use Rattle.kmipa_msgs.proofs.WrittenKeyLemmas.{object_here, shape_written, block_found}
+
+type_listed : (x : ObjectType) → type_of (type_number x) ≡ Some x
+type_listed SymmetricKey = refl
+type_listed SecretData = refl
+
+maybe_type_listed : (f : Field ℕ) (o : Option ObjectType) → Optional f (option_map type_number o) → MaybeListed f type_of o
+maybe_type_listed f None e = e
+maybe_type_listed f (Some x) e = record { number = type_number x; is = e; listed = type_listed x }
+
+-- GET
+
+pub get_written : (id : Option (List ℕ)) → SaysGet (in_order (get_fields id)) id
+unfolding as_text
+get_written id = optional_written as_text Tree.text 0x42_0094 id (get_fields id) [] refl refl (λ x. refl) refl
+
+got_object : (told : Option ℕ) (id : Option (List ℕ)) (s : ObjectType) (b : BlockOf)
+    → object_in (in_order (field Tree.enumeration 0x42_0057 told ∷ field Tree.text 0x42_0094 id ∷ Some (written_object s b) ∷ [])) ≡ Some (written_object s b)
+unfolding object_in
+got_object None None s b = object_here s (Some (written_object s b)) None
+got_object None (Some x) s b = object_here s (Some (written_object s b)) None
+got_object (Some n) None s b = object_here s (Some (written_object s b)) None
+got_object (Some n) (Some x) s b = object_here s (Some (written_object s b)) None
+
+-- the tag of the object is neither of an identifier nor of a type
+no_other : (s : ObjectType) (b : BlockOf) → find 0x42_0094 (Some (written_object s b) ∷ []) ≡ None
+no_other SymmetricKey b = refl
+no_other SecretData b = refl
+
+no_type : (s : ObjectType) (b : BlockOf) → find 0x42_0057 (Some (written_object s b) ∷ []) ≡ None
+no_type SymmetricKey b = refl
+no_type SecretData b = refl
+
+pub got_written : (g : GotOf) → SaysGot (in_order (got_fields g)) g
+unfolding as_text as_enumeration
+got_written g =
+    let told = option_map type_number g.object_type in
+    let object = Some (written_object g.shape g.block) ∷ [] in
+    let e = got_object told g.id g.shape g.block in
+    record {
+      object_type = maybe_type_listed (at as_enumeration 0x42_0057 (in_order (got_fields g))) g.object_type
+          (optional_written as_enumeration Tree.enumeration 0x42_0057 told (got_fields g) (field Tree.text 0x42_0094 g.id ∷ object)
+          refl (skipped Tree.text 0x42_0094 0x42_0057 g.id object refl ∙ no_type g.shape g.block) (λ x. refl) refl);
+      id =
+          optional_written as_text Tree.text 0x42_0094 g.id (got_fields g) object
+          (skipped Tree.enumeration 0x42_0057 0x42_0094 told (field Tree.text 0x42_0094 g.id ∷ object) refl) (no_other g.shape g.block) (λ x. refl) refl;
+      shape = shape_written (in_order (got_fields g)) g.shape g.block e;
+      block = block_found (in_order (got_fields g)) g.shape g.block e;
+    }
+
+-- REGISTER
+
+register_object : (r : RegisterOf) → object_in (in_order (register_fields r)) ≡ Some (written_object r.object_type r.block)
+unfolding object_in
+register_object r = object_here r.object_type (Some (written_object r.object_type r.block)) None
+
+given_once : (f : Field Trees) (a : Attributes) → SaysGiven f a → HasNoRepeats a.names
+given_once Absent a s = subst (λ (b : Attributes). HasNoRepeats b.names) (sym s) tt
+given_once Wrong a s = absurd s
+given_once (There ts) a s = said-HasNoRepeats ts a s
+
+given_written : (r : RegisterOf) → HasNoRepeats r.attributes.names → SaysGiven (at as_structure 0x42_0125 (in_order (register_fields r))) r.attributes
+unfolding as_structure
+given_written r h =
+    let said : SaysAttributes (written_children r.attributes) r.attributes = subst (SaysAttributes (written_children r.attributes)) (once-same r.attributes h) (written_said r.attributes) in
+    subst (λ (f : Field Trees). SaysGiven f r.attributes)
+    (sym (required_written as_structure 0x42_0125 (register_fields r) (structure 0x42_0125 (written_children r.attributes)) (written_children r.attributes) refl refl)) said
+
+pub register_written : (ts : Trees) (r : RegisterOf) → SaysRegister ts r → SaysRegister (in_order (register_fields r)) r
+unfolding as_enumeration
+register_written ts r h = record {
+  brought = record {
+    object_type = record {
+      number = type_number r.object_type;
+      is = required_written as_enumeration 0x42_0057 (register_fields r) (scalar 0x42_0057 (Tree.enumeration (type_number r.object_type))) (type_number r.object_type) refl refl;
+      listed = type_listed r.object_type;
+    };
+    shape = shape_written (in_order (register_fields r)) r.object_type r.block (register_object r);
+    attributes = given_written r (given_once (at as_structure 0x42_0125 ts) r.attributes h.brought.attributes);
+    block = block_found (in_order (register_fields r)) r.object_type r.block (register_object r);
+  };
+  agrees = h.agrees;
+}
+
+pub registered_written : (r : RegisteredOf) → SaysRegistered (in_order (registered_fields r)) r
+unfolding as_text as_enumeration
+registered_written r = record {
+  object_type =
+      optional_written as_enumeration Tree.enumeration 0x42_0057 r.object_type (registered_fields r) (field Tree.text 0x42_0094 (Some r.id) ∷ []) refl refl (λ x. refl) refl;
+  id = required_written as_text 0x42_0094 (registered_fields r) (scalar 0x42_0094 (Tree.text r.id)) r.id
+      (skipped Tree.enumeration 0x42_0057 0x42_0094 r.object_type (field Tree.text 0x42_0094 (Some r.id) ∷ []) refl) refl;
+}
+
+-- A ROW FOR EACH OPERATION
+
+pub asked_written : (operation : Operation) (ts : Trees) (a : AskedOf) → SaysAsked operation ts a → SaysAsked (operation_asked a) (in_order (asked_fields a)) a
+asked_written Register ts (registers r) s = register_written ts r s
+asked_written Get ts (gets id) s = get_written id
+asked_written _ ts _ s = absurd s
+
+pub done_written : (operation : Operation) (ts : Trees) (p : PayloadOf) → SaysDone operation ts p → SaysDone operation (in_order (payload_fields p)) p
+done_written Register ts (registered r) s = registered_written r
+done_written Get ts (got g) s = got_written g
+done_written _ ts _ s = absurd s

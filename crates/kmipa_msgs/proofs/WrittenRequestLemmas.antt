@@ -1,0 +1,119 @@
+-- A request that was written is said by its item.
+use Rattle.std.proofs.Common.{◌≡◌, ℕ, pos, Bool, true, false, List, [], ◌∷◌, map, length, Some, refl, sym, ap, ◌∙◌, subst}
+use Rattle.std.proofs.lemmas.List.{length-map}
+use Rattle.kmipa_ttlv.specs.Tree.{Tree, Trees, structure, scalar, none, more, push, forest}
+use Rattle.kmipa_ttlv.specs.Tree
+use Rattle.kmipa_attrs.specs.Fields.{first, every, as_structure, as_integer, as_enumeration, as_boolean, as_bytes, at, inside}
+use Rattle.kmipa_attrs.specs.Readings.{Optional}
+use Rattle.kmipa_attrs.specs.declared.fields.Field.{Field}
+use Rattle.kmipa_attrs.specs.declared.fields.Field.TheVariants.{There}
+use Rattle.kmipa_msgs.specs.declared.operation.Operation.{Operation}
+use Rattle.kmipa_msgs.specs.declared.operation.Operation.TheVariants.{Register, Get}
+use Rattle.kmipa_msgs.specs.declared.request.BatchOption.{BatchOption}
+use Rattle.kmipa_msgs.specs.declared.request.BatchOption.TheVariants.{Continue, Stop, Undo}
+use Rattle.kmipa_msgs.specs.Operations.{operation_number, operation_of}
+use Rattle.kmipa_msgs.specs.Messages.{AskOf, operation_asked, RequestOf}
+use Rattle.kmipa_msgs.specs.Tables.{children}
+use Rattle.kmipa_msgs.specs.Headers.{is_message, is_version, batch}
+use Rattle.kmipa_msgs.specs.Outside.{SaysEach}
+use Rattle.kmipa_msgs.specs.Asks.{SaysAsked, SaysAsk}
+use Rattle.kmipa_msgs.specs.Requests.{SaysOption, SaysOrder, SaysHeader, header_of, request_header, SaysRequest}
+use Rattle.kmipa_msgs.specs.Written.{in_order, field, told_option, told_order, written_asked, asked_fields, ask_fields, written_ask, request_header_fields, written_request}
+use Rattle.kmipa_msgs.proofs.WrittenFieldLemmas.{skipped, optional_written, required_written, inside_written, value_written}
+use Rattle.kmipa_msgs.proofs.WrittenPayloadLemmas.{asked_written}
+use Rattle.kmipa_msgs.proofs.WrittenMessageLemmas.{each_length, each_written, every_written, version_written, count_written}
+
+-- ITEMS
+
+pub operation_listed : (operation : Operation) → operation_of (operation_number operation) ≡ Some operation
+operation_listed Register = refl
+operation_listed Get = refl
+
+payload_inside : (a : AskOf) → inside 0x42_0079 (in_order (ask_fields a)) ≡ in_order (asked_fields a.asked)
+payload_inside a =
+    inside_written 0x42_0079 0x42_0079 (ask_fields a) (in_order (asked_fields a.asked)) (skipped Tree.byte_string 0x42_0093 0x42_0079 a.batch_id (Some (written_asked a.asked) ∷ []) refl)
+
+ask_written : (t : Tree) (a : AskOf) → SaysAsk t a → SaysAsk (written_ask a) a
+unfolding as_structure as_enumeration as_bytes
+ask_written t a h =
+    let number = operation_number (operation_asked a.asked) in
+    record {
+      operation = operation_asked a.asked;
+      is = record {
+        number = number;
+        is = required_written as_enumeration 0x42_005C (ask_fields a) (scalar 0x42_005C (Tree.enumeration number)) number refl refl;
+        listed = operation_listed (operation_asked a.asked);
+      };
+      asked = subst (λ (ts : Trees). SaysAsked (operation_asked a.asked) ts a.asked) (sym (payload_inside a)) (asked_written h.operation (inside 0x42_0079 (children t)) a.asked h.asked);
+      batch_id = value_written (at as_bytes 0x42_0093 (in_order (ask_fields a))) a.batch_id
+          (optional_written as_bytes Tree.byte_string 0x42_0093 a.batch_id (ask_fields a) (Some (written_asked a.asked) ∷ []) refl refl (λ x. refl) refl);
+    }
+
+-- THE HEADER
+
+option_said : (f : Field ℕ) (o : BatchOption) → Optional f (told_option o) → SaysOption f o
+option_said f Continue e = subst (λ (g : Field ℕ). SaysOption g Continue) (sym e) refl
+option_said f Stop e = subst (λ (g : Field ℕ). SaysOption g Stop) (sym e) refl
+option_said f Undo e = subst (λ (g : Field ℕ). SaysOption g Undo) (sym e) refl
+
+order_said : (f : Field Bool) (b : Bool) → Optional f (told_order b) → SaysOrder f b
+order_said f true e = subst (λ (g : Field Bool). SaysOrder g true) (sym e) refl
+order_said f false e = subst (λ (g : Field Bool). SaysOrder g false) (sym e) refl
+
+header_inside : (r : RequestOf) → request_header (written_request r) ≡ in_order (request_header_fields r)
+unfolding first as_structure
+header_inside r = refl
+
+is_request : (r : RequestOf) → is_message 0x42_0078 0x42_0077 (written_request r) ≡ true
+unfolding first as_structure
+is_request r = refl
+
+batch_written : (r : RequestOf) → batch (written_request r) ≡ map written_ask r.items
+unfolding every as_structure
+batch_written r = every_written written_ask 0x42_000F (λ a. refl) r.items
+
+counted : (r : RequestOf) → at as_integer 0x42_000D (in_order (request_header_fields r)) ≡ There (pos (length r.items))
+unfolding as_integer
+counted r =
+    let count = field Tree.integer 0x42_000D (Some (pos (length r.items))) ∷ [] in
+    required_written as_integer 0x42_000D (request_header_fields r) (scalar 0x42_000D (Tree.integer (pos (length r.items)))) (pos (length r.items))
+    (skipped Tree.enumeration 0x42_000E 0x42_000D (told_option r.option) (field Tree.boolean 0x42_0010 (told_order r.ordered) ∷ count) refl
+    ∙ skipped Tree.boolean 0x42_0010 0x42_000D (told_order r.ordered) count refl)
+    refl
+
+option_written : (r : RequestOf) → Optional (at as_enumeration 0x42_000E (in_order (request_header_fields r))) (told_option r.option)
+unfolding as_enumeration
+option_written r =
+    let count = field Tree.integer 0x42_000D (Some (pos (length r.items))) ∷ [] in
+    optional_written as_enumeration Tree.enumeration 0x42_000E (told_option r.option) (request_header_fields r) (field Tree.boolean 0x42_0010 (told_order r.ordered) ∷ count)
+    refl (skipped Tree.boolean 0x42_0010 0x42_000E (told_order r.ordered) count refl) (λ x. refl) refl
+
+order_written : (r : RequestOf) → Optional (at as_boolean 0x42_0010 (in_order (request_header_fields r))) (told_order r.ordered)
+unfolding as_boolean
+order_written r =
+    let count = field Tree.integer 0x42_000D (Some (pos (length r.items))) ∷ [] in
+    optional_written as_boolean Tree.boolean 0x42_0010 (told_order r.ordered) (request_header_fields r) count
+    (skipped Tree.enumeration 0x42_000E 0x42_0010 (told_option r.option) (field Tree.boolean 0x42_0010 (told_order r.ordered) ∷ count) refl) refl (λ x. refl) refl
+
+header_written : (t : Tree) (r : RequestOf) → SaysRequest t r → SaysHeader (written_request r) (header_of r)
+header_written t r h = record {
+  message = is_request r;
+  version = ap is_version (header_inside r) ∙ version_written (request_header_fields r) refl;
+  count = count_written (request_header (written_request r)) (request_header t) (batch (written_request r)) (batch t) r.items h.header.count
+      (each_length (λ place. SaysAsk) (batch t) r.items h.items) (ap length (batch_written r) ∙ length-map r.items written_ask)
+      (ap (at as_integer 0x42_000D) (header_inside r) ∙ counted r);
+  option = option_said (at as_enumeration 0x42_000E (request_header (written_request r))) r.option
+      (subst (λ (hs : Trees). Optional (at as_enumeration 0x42_000E hs) (told_option r.option)) (sym (header_inside r)) (option_written r));
+  ordered = order_said (at as_boolean 0x42_0010 (request_header (written_request r))) r.ordered
+      (subst (λ (hs : Trees). Optional (at as_boolean 0x42_0010 hs) (told_order r.ordered)) (sym (header_inside r)) (order_written r));
+}
+
+-- THE MESSAGE
+
+pub request_written : (t : Tree) (r : RequestOf) → SaysRequest t r → SaysRequest (written_request r) r
+request_written t r h = record {
+  header = header_written t r h;
+  items =
+      subst (λ (ts : List Tree). SaysEach (λ place. SaysAsk) ts r.items) (sym (batch_written r))
+      (each_written (λ place. SaysAsk) written_ask (λ place. ask_written) (batch t) r.items h.items);
+}

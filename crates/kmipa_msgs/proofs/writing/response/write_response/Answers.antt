@@ -1,0 +1,33 @@
+use Rattle.std.proofs.Common.{◌≡◌, ◌∙◌, sym, ap, subst, map, None}
+use Rattle.std.proofs.lemmas.List.{take_all, take_more}
+use Rattle.kmipa_ttlv.specs.Tree.{Tree, structure, more, forest}
+use Rattle.kmipa_ttlv.specs.ItemTree.{tree}
+use Rattle.kmipa_msgs.specs.declared.response.Answer.{Answer}
+use Rattle.kmipa_msgs.specs.declared.response.Status.TheVariants.{Success}
+use Rattle.kmipa_msgs.specs.Messages.{answer_of, response_of}
+use Rattle.kmipa_msgs.specs.Written.{written_answer, written_response_header, written_response}
+use Rattle.kmipa_msgs.specs.Responses.{SaysResponse}
+use Rattle.kmipa_msgs.proofs.WritingLemmas.{one_more}
+use Rattle.kmipa_msgs.proofs.WrittenResponseLemmas.{response_written}
+use Rattle.kmipa_msgs.proofs.writing.response.write_response.Goals as goal
+
+pub loop-answer-preserved : goal.loop-answer-preserved
+loop-answer-preserved c =
+    let answers = c.deref-answer-items.result.now in
+    let blank : Answer = record { operation = None; batch_id = None; status = Success; reason = None; payload = None } in
+    one_more answer_of written_answer (written_response_header (response_of c.args.response.now)) c.loop-answer.answer-index answers _ _ _ _
+    (take_more answers c.loop-answer.answer-index blank c.loop-answer-test.true) c.loop-answer.invariant c.in_ok-write_answer.ensures c.in_ok-item-2.ensures
+
+written : (c : goal.After-structure) → tree c.structure.result ≡ written_response (response_of c.args.response.now)
+written c =
+    let header = written_response_header (response_of c.args.response.now) in
+    c.structure.ensures
+    ∙ ap (structure 0x42_007B) (c.loop-answer.invariant ∙ ap (λ xs. more header (forest written_answer (map answer_of xs))) (take_all c.loop-answer.answer-index c.deref-answer-items.result.now c.loop-answer-test.false ∙ c.deref-answer-items.ensures.value))
+
+pub returns-clause-order : goal.returns-clause-order
+returns-clause-order c = written c
+
+pub returns-clause-said : goal.returns-clause-said
+returns-clause-said c = λ t request h.
+    let response = response_of c.args.response.now in
+    subst (λ (u : Tree). SaysResponse u request response) (sym (written c)) (response_written t request response h)

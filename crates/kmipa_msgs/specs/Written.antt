@@ -1,0 +1,163 @@
+-- Messages as they are written: each field in its place, an optional one only where it is there (KMIP 2.1, sections 6, 8 and 9).
+use Rattle.std.specs.Prelude.{ℕ, pos, Bool, true, false, List, [], ◌∷◌, length, Option, Some, None}
+use Rattle.std.specs.Option.{option_map}
+use Rattle.kmipa_ttlv.specs.Tree.{Tree, Trees, Scalar, structure, scalar, none, more, push, forest}
+use Rattle.kmipa_ttlv.specs.Tree
+use Rattle.kmipa_attrs.specs.ObjectTypes.{type_number}
+use Rattle.kmipa_attrs.specs.Writing.{written_children}
+use Rattle.kmipa_attrs.specs.declared.object_type.ObjectType.{ObjectType}
+use Rattle.kmipa_attrs.specs.declared.object_type.ObjectType.TheVariants.{SymmetricKey, SecretData}
+use Rattle.kmipa_msgs.specs.declared.request.BatchOption.{BatchOption}
+use Rattle.kmipa_msgs.specs.declared.request.BatchOption.TheVariants.{Continue, Stop, Undo}
+use Rattle.kmipa_msgs.specs.Numbers.{format_number, option_number, status_number}
+use Rattle.kmipa_msgs.specs.Operations.{operation_number}
+use Rattle.kmipa_msgs.specs.Messages.{BlockOf, RegisterOf, AskedOf, registers, gets, AskOf, operation_asked, RequestOf, RegisteredOf, GotOf, PayloadOf, registered, got, AnswerOf, ResponseOf}
+
+-- THE CHILDREN OF A STRUCTURE
+
+abbrev pub with_field : Trees → Option Tree → Trees
+with_field ts None = ts
+with_field ts (Some t) = push ts t
+
+-- the fields that are there, in their order, behind others
+abbrev pub with_fields : Trees → List (Option Tree) → Trees
+with_fields ts [] = ts
+with_fields ts (field ∷ fields) = with_fields (with_field ts field) fields
+
+abbrev pub in_order : List (Option Tree) → Trees
+in_order fields = with_fields none fields
+
+-- a field of a type, where it has a value
+abbrev pub field : {A : Type 0} → (A → Scalar) → ℕ → Option A → Option Tree
+field kind n value = option_map (λ x. scalar n (kind x)) value
+
+-- KEYS
+
+abbrev pub written_value : List ℕ → Tree
+written_value material = structure 0x42_0045 (in_order (field Tree.byte_string 0x42_0043 (Some material) ∷ []))
+
+abbrev pub block_fields : BlockOf → List (Option Tree)
+block_fields b =
+    field Tree.enumeration 0x42_0042 (Some (format_number b.format)) ∷
+    Some (written_value b.material) ∷
+    field Tree.enumeration 0x42_0028 b.algorithm ∷
+    field Tree.integer 0x42_002A b.length ∷
+    []
+
+abbrev pub written_block : BlockOf → Tree
+written_block b = structure 0x42_0040 (in_order (block_fields b))
+
+-- the tag of an object
+abbrev pub object_tag : ObjectType → ℕ
+object_tag SymmetricKey = 0x42_008F
+object_tag SecretData = 0x42_0085
+
+abbrev pub written_object : ObjectType → BlockOf → Tree
+written_object shape b = structure (object_tag shape) (in_order (Some (written_block b) ∷ []))
+
+-- PAYLOADS
+
+abbrev pub get_fields : Option (List ℕ) → List (Option Tree)
+get_fields id = field Tree.text 0x42_0094 id ∷ []
+
+abbrev pub got_fields : GotOf → List (Option Tree)
+got_fields g =
+    field Tree.enumeration 0x42_0057 (option_map type_number g.object_type) ∷
+    field Tree.text 0x42_0094 g.id ∷
+    Some (written_object g.shape g.block) ∷
+    []
+
+abbrev pub registered_fields : RegisteredOf → List (Option Tree)
+registered_fields r = field Tree.enumeration 0x42_0057 r.object_type ∷ field Tree.text 0x42_0094 (Some r.id) ∷ []
+
+abbrev pub payload_fields : PayloadOf → List (Option Tree)
+payload_fields (registered r) = registered_fields r
+payload_fields (got g) = got_fields g
+
+abbrev pub written_payload : PayloadOf → Tree
+written_payload p = structure 0x42_007C (in_order (payload_fields p))
+
+-- RESPONSES
+
+abbrev pub answer_fields : AnswerOf → List (Option Tree)
+answer_fields x =
+    field Tree.enumeration 0x42_005C x.operation ∷
+    field Tree.byte_string 0x42_0093 x.batch_id ∷
+    field Tree.enumeration 0x42_007F (Some (status_number x.status)) ∷
+    field Tree.enumeration 0x42_007E x.reason ∷
+    option_map written_payload x.payload ∷
+    []
+
+abbrev pub written_answer : AnswerOf → Tree
+written_answer x = structure 0x42_000F (in_order (answer_fields x))
+
+abbrev pub version_fields : List (Option Tree)
+version_fields = field Tree.integer 0x42_006A (Some (pos 2)) ∷ field Tree.integer 0x42_006B (Some (pos 1)) ∷ []
+
+abbrev pub written_version : Tree
+written_version = structure 0x42_0069 (in_order version_fields)
+
+abbrev pub response_header_fields : ResponseOf → List (Option Tree)
+response_header_fields r =
+    Some written_version ∷
+    field Tree.date_time 0x42_0092 (Some r.stamp) ∷
+    field Tree.integer 0x42_000D (Some (pos (length r.items))) ∷
+    []
+
+abbrev pub written_response_header : ResponseOf → Tree
+written_response_header r = structure 0x42_007A (in_order (response_header_fields r))
+
+abbrev pub written_response : ResponseOf → Tree
+written_response r = structure 0x42_007B (more (written_response_header r) (forest written_answer r.items))
+
+-- REQUESTS
+
+-- Stop is what an absent option means
+abbrev pub told_option : BatchOption → Option ℕ
+told_option Continue = Some (option_number Continue)
+told_option Stop = None
+told_option Undo = Some (option_number Undo)
+
+-- true is what an absent order means
+abbrev pub told_order : Bool → Option Bool
+told_order true = None
+told_order false = Some false
+
+abbrev pub request_header_fields : RequestOf → List (Option Tree)
+request_header_fields r =
+    Some written_version ∷
+    field Tree.enumeration 0x42_000E (told_option r.option) ∷
+    field Tree.boolean 0x42_0010 (told_order r.ordered) ∷
+    field Tree.integer 0x42_000D (Some (pos (length r.items))) ∷
+    []
+
+abbrev pub written_request_header : RequestOf → Tree
+written_request_header r = structure 0x42_0077 (in_order (request_header_fields r))
+
+-- the algorithm and the length of a key stand in its attributes, in its block or in both, as they are given
+abbrev pub register_fields : RegisterOf → List (Option Tree)
+register_fields r =
+    field Tree.enumeration 0x42_0057 (Some (type_number r.object_type)) ∷
+    Some (structure 0x42_0125 (written_children r.attributes)) ∷
+    Some (written_object r.object_type r.block) ∷
+    []
+
+abbrev pub asked_fields : AskedOf → List (Option Tree)
+asked_fields (registers r) = register_fields r
+asked_fields (gets id) = get_fields id
+
+abbrev pub written_asked : AskedOf → Tree
+written_asked asked = structure 0x42_0079 (in_order (asked_fields asked))
+
+abbrev pub ask_fields : AskOf → List (Option Tree)
+ask_fields a =
+    field Tree.enumeration 0x42_005C (Some (operation_number (operation_asked a.asked))) ∷
+    field Tree.byte_string 0x42_0093 a.batch_id ∷
+    Some (written_asked a.asked) ∷
+    []
+
+abbrev pub written_ask : AskOf → Tree
+written_ask a = structure 0x42_000F (in_order (ask_fields a))
+
+abbrev pub written_request : RequestOf → Tree
+written_request r = structure 0x42_0078 (more (written_request_header r) (forest written_ask r.items))

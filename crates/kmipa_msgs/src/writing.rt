@@ -1,0 +1,16 @@
+//! Items from messages, with the fields of each structure in the order of the standard's tables.
+
+mod fields;
+mod get;
+mod header;
+mod key_block;
+mod object;
+mod register;
+mod request;
+mod response;
+
+pub use request::write_request;
+pub use response::write_response;
+
+#[cfg(test)]
+mod tests;

@@ -1,0 +1,87 @@
+//! Request Message.
+
+ghost use Rattle.std.specs.Prelude.{◌≡◌, ◌<◌, IfOk, length};
+ghost use Rattle.kmipa_ttlv.specs.Tree.{Tree};
+ghost use Rattle.kmipa_ttlv.specs.ItemTree.{tree};
+ghost use Rattle.kmipa_msgs.specs.Messages.{asked_of, ask_of, request_of};
+ghost use Rattle.kmipa_msgs.specs.Requests.{SaysRequest};
+ghost use Rattle.kmipa_msgs.specs.Written.{told_option, told_order, written_asked, written_ask, written_request_header, written_request};
+
+use super::fields::Fields;
+use super::get::write_get;
+use super::header::write_version;
+use super::register::write_register;
+use crate::request::{Ask, Asked, BatchOption, Request};
+use crate::tags::{
+    BATCH_COUNT, BATCH_ERROR_CONTINUATION_OPTION, BATCH_ITEM, BATCH_ORDER_OPTION, OPERATION,
+    REQUEST_HEADER, REQUEST_MESSAGE, UNIQUE_BATCH_ITEM_ID,
+};
+use kmipa_ttlv::Item;
+use std::alloc::{AllocError, Global};
+
+/// The Request Message that says the request, as far as any does: it has an item, no Register brings a name twice,
+/// and type, algorithm and length of each Register agree. Of more items than an Integer counts none does.
+/// Stop and an order of true are left out, which means the same. Only want of memory is an error.
+pub fn write_request(alloc: Global, request: &Request) -> Result<Item, AllocError>
+    requires { length request.now.items.items < 0x8000_0000 }
+    ensures order { IfOk result (λ item. tree item ≡ written_request (request_of request.now)) }
+    ensures said { IfOk result (λ item. (t : Tree) → SaysRequest t (request_of request.now) → SaysRequest (tree item) (request_of request.now)) }
+{
+    let mut fields = Fields::new(alloc);
+    fields.item(write_header(alloc, request)?)?;
+    for ask in &request.items {
+        fields.item(write_ask(alloc, ask)?)?;
+    }
+    Ok(fields.structure(REQUEST_MESSAGE))
+}
+
+/// Request Header.
+fn write_header(alloc: Global, request: &Request) -> Result<Item, AllocError>
+    requires { length request.now.items.items < 0x8000_0000 }
+    ensures { IfOk result (λ item. tree item ≡ written_request_header (request_of request.now)) }
+{
+    let mut fields = Fields::new(alloc);
+    fields.item(write_version(alloc)?)?;
+    fields.enumeration(BATCH_ERROR_CONTINUATION_OPTION, told_option(request.option))?;
+    fields.boolean(BATCH_ORDER_OPTION, told_order(request.ordered))?;
+    fields.integer(BATCH_COUNT, Some(request.items.as_slice().len() as i32))?;
+    Ok(fields.structure(REQUEST_HEADER))
+}
+
+/// The number of an option; an absent one means Stop.
+fn told_option(option: BatchOption) -> Option<u32>
+    ensures { result ≡ told_option option }
+{
+    match option {
+        BatchOption::Stop => None,
+        BatchOption::Continue | BatchOption::Undo => Some(option.number()),
+    }
+}
+
+/// An absent order means true.
+fn told_order(ordered: bool) -> Option<bool>
+    ensures { result ≡ told_order ordered }
+{
+    if ordered { None } else { Some(false) }
+}
+
+/// A Batch Item of a request.
+fn write_ask(alloc: Global, ask: &Ask) -> Result<Item, AllocError>
+    ensures { IfOk result (λ item. tree item ≡ written_ask (ask_of ask.now)) }
+{
+    let mut fields = Fields::new(alloc);
+    fields.enumeration(OPERATION, Some(ask.number()))?;
+    fields.bytes(UNIQUE_BATCH_ITEM_ID, ask.batch_id)?;
+    fields.item(write_asked(alloc, &ask.asked)?)?;
+    Ok(fields.structure(BATCH_ITEM))
+}
+
+/// Request Payload.
+fn write_asked(alloc: Global, asked: &Asked) -> Result<Item, AllocError>
+    ensures { IfOk result (λ item. tree item ≡ written_asked (asked_of asked.now)) }
+{
+    match asked {
+        Asked::Register(register) => write_register(alloc, register),
+        Asked::Get(get) => write_get(alloc, get),
+    }
+}

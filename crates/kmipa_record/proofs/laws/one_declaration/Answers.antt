@@ -1,0 +1,5 @@
+use Rattle.kmipa_record.proofs.DeclarationLawLemmas.{one_declaration_lem}
+use Rattle.kmipa_record.proofs.laws.one_declaration.Goals as goal
+
+pub returns : goal.returns
+returns c = one_declaration_lem

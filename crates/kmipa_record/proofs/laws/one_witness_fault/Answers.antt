@@ -1,0 +1,5 @@
+use Rattle.kmipa_record.proofs.WitnessLawLemmas.{one_witness_fault_lem}
+use Rattle.kmipa_record.proofs.laws.one_witness_fault.Goals as goal
+
+pub returns : goal.returns
+returns c = one_witness_fault_lem

@@ -1,0 +1,13 @@
+use Rattle.std.proofs.lemmas.Result.{MatchResult-weaker}
+use Rattle.kmipa_ttlv.specs.ItemTree.{tree}
+use Rattle.kmipa_ttlv.proofs.FlawLemmas.{spells_front, front_spells, only_front, no_front_flaw}
+use Rattle.kmipa_ttlv.proofs.decoding.decode.Goals as goal
+
+pub returns-clause-found : goal.returns-clause-found
+returns-clause-found c =
+    MatchResult-weaker c.read_copy.result c.read_copy.ensures (λ x f. (f.whole, spells_front (tree x.0) x.1 c.args.bytes.now f)) (λ e h. tt)
+
+pub returns-clause-only : goal.returns-clause-only
+returns-clause-only c = λ t n le s.
+    let g = front_spells t n c.args.bytes.now le s in
+    MatchResult-weaker c.read_copy.result c.read_copy.ensures (λ x f. only_front t (tree x.0) x.1 n c.args.bytes.now f g) (λ e h. no_front_flaw t n c.args.bytes.now e g h)
