@@ -13,4 +13,3 @@ pub mod TurnLemmas
 pub mod CheckLemmas
 pub mod AuditLemmas
 pub mod ReadingLemmas
-pub mod StampLemmas

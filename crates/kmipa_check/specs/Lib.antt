@@ -8,4 +8,3 @@ pub mod Late
 pub mod Ordering
 pub mod Audits
 pub mod CallReading
-pub mod Stamps

@@ -11,7 +11,6 @@ mod opening;
 mod order;
 mod reading;
 mod replay;
-mod stamp;
 mod verdict;
 
 pub use auditing::{AuditFault, Audited, audit, audit_with};
@@ -20,5 +19,7 @@ pub use checking::check;
 pub use fault::{CheckFault, Side, WitnessFault, WitnessKind};
 pub use opening::{open_ledger, rules_of_declaration};
 pub use reading::read_calls;
-pub use stamp::stamp_of;
 pub use verdict::{Refused, Verdict};
+
+#[cfg(test)]
+mod tests;
