@@ -10,3 +10,6 @@ pub mod WholeOrderLemmas
 pub mod OpeningLemmas
 pub mod ReadableLemmas
 pub mod TurnLemmas
+pub mod CheckLemmas
+pub mod AuditLemmas
+pub mod ReadingLemmas

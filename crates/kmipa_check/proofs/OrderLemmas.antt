@@ -1,27 +1,22 @@
 -- The order of a witness: its turns one by one, and the calls that none names.
-use Rattle.std.proofs.Common.{◌≡◌, ◌≢◌, ◌<◌, ◌≤◌, ◌⊎◌, inl, inr, ◌==◌, ℕ, zero, suc, ◌+◌, ℤ, pos, ◌≤ℤ◌, Bool, true, false, List, [], ◌∷◌, ◌++◌, map, length, get_or, Contains, Option, Some, None, slice_get, refl, sym, ap, ◌∙◌, subst, arith, add-one}
+use Rattle.std.proofs.Common.{◌≡◌, ◌<◌, ◌≤◌, ◌⊎◌, inl, inr, ◌==◌, ℕ, zero, suc, ◌+◌, ℤ, true, false, List, [], ◌∷◌, ◌++◌, map, length, get_or, Contains, All, Option, Some, None, slice_get, refl, sym, ap, ◌∙◌, subst, arith, add-one}
 use Rattle.std.specs.List.{zip}
-use Rattle.std.specs.Prelude.{AllPairs, IsPermutation}
 use Rattle.std.proofs.lemmas.List.{length-map, length-append}
 use Rattle.std.proofs.lemmas.Bool.Decides.{nat_tests}
-use Rattle.std.proofs.lemmas.Option.{slice_get_within}
+use Rattle.std.proofs.lemmas.Option.{slice_get_within, get_or_from_slice_get}
 use Rattle.kmipa_record.specs.declared.witness.Turn.{Turn}
 use Rattle.kmipa_record.specs.Witnesses.{TurnOf, turn_of}
-use Rattle.kmipa_record.specs.Marks.{MarkOf, begun, AreRecorded}
 use Rattle.kmipa_msgs.specs.Messages.{AskOf, AnswerOf}
 use Rattle.kmipa_msgs.specs.Wanted.{Wanted}
 use Rattle.kmipa_batch.specs.Calls.{pairs_of}
 use Rattle.kmipa_check.specs.declared.call.Call.{Call}
 use Rattle.kmipa_check.specs.declared.numbers.FirstPlaces.{FirstPlaces}
-use Rattle.kmipa_check.specs.declared.fault.WitnessKind.{WitnessKind}
-use Rattle.kmipa_check.specs.declared.fault.WitnessKind.TheVariants.{UnknownCall, Twice, LeftOut, FillMissing}
-use Rattle.kmipa_check.specs.Calls.{CallOf, call_of, AreCalls}
-use Rattle.kmipa_check.specs.Orders.{NeedsFill, NamesAt, HasCall, NamesBefore, IsFormed, AreFormedBelow, TurnFault, unknown, twice, unfilled, IsLeftOut, WitnessFaultAt, in_turn, left_out}
-use Rattle.kmipa_check.specs.Verdicts.{IsOrder}
+use Rattle.kmipa_check.specs.declared.fault.WitnessKind.TheVariants.{UnknownCall, Twice, FillMissing}
+use Rattle.kmipa_check.specs.Calls.{CallOf, call_of, no_call, ordered}
+use Rattle.kmipa_check.specs.Orders.{NeedsFill, NamesAt, HasCall, NamesBefore, IsFormed, AreFormedBelow, TurnFault, unknown, twice, unfilled}
 use Rattle.kmipa_check.specs.Numbers.{place_in, IsFirst, StandsFirst, Indexes, is_noted}
-use Rattle.kmipa_check.specs.Ordering.{AreFilledBelow, NamesCall, AreFormed}
-use Rattle.kmipa_check.proofs.PlaceLemmas.{below_suc, mapped_at, mapped_from, contains_at, at_contains, same_elements, get_at, pushed_at, some_at, at_within}
-use Rattle.kmipa_check.proofs.PermutationLemmas.{IsOnce, at_most, permuted, once_mapped, once_pairs}
+use Rattle.kmipa_check.specs.Ordering.{AreFilled, AreFilledBelow, NamesCall, AreFormed}
+use Rattle.kmipa_check.proofs.PlaceLemmas.{below_suc, mapped_at, mapped_from, contains_at, at_contains, get_at, pushed_at, some_at, at_within}
 
 -- pairs by place
 pub pair_at : {X Y : Type 0} (xs : List X) (ys : List Y) (i : ℕ) (x : X) (y : Y) → slice_get xs i ≡ Some x → slice_get ys i ≡ Some y → slice_get (zip xs ys) i ≡ Some (x, y)
@@ -35,6 +30,10 @@ pair_within [] ys i p at = absurd cc
 pair_within (u ∷ xs) [] i p at = absurd cc
 pair_within (u ∷ xs) (v ∷ ys) zero p at = (omega arith, omega arith)
 pair_within (u ∷ xs) (v ∷ ys) (suc i) p at = let r = pair_within xs ys i p at in (omega (arith, r.0), omega (arith, r.1))
+
+pub fill_needed : (c : CallOf) (place : ℕ) (ask : AskOf) (answer : AnswerOf) → slice_get c.request.items place ≡ Some ask → slice_get c.response.items place ≡ Some answer → Wanted ask answer → NeedsFill c
+fill_needed c place ask answer a b wanted =
+    record { place = place; ask = ask; answer = answer; there = pair_at c.request.items c.response.items place ask answer a b; wanted = wanted }
 
 pub filled_none : (c : CallOf) → AreFilledBelow c 0
 filled_none c = λ place ask answer below at wanted. omega (arith, below)
@@ -184,3 +183,39 @@ formed_below calls turns count places f = λ turn below. at turn (some_at places
 -- the places are those of calls
 pub formed_within : (calls : List CallOf) (turns : List TurnOf) (count : ℕ) (places : List ℕ) → AreFormed calls turns count places → (turn place : ℕ) → slice_get places turn ≡ Some place → place < length calls
 formed_within calls turns count places f turn place at = let n = f.each turn place at in at_within calls place n.0 n.1
+
+pub places_within : (calls : List Call) (turns : List TurnOf) (count : ℕ) (places : List ℕ) → AreFormed (map call_of calls) turns count places → All (λ place. place < length calls) places
+places_within calls turns count places f = λ k d below. by k d (some_at places k below)
+  where
+    by : (k d : ℕ) → (p : ℕ) × (slice_get places k ≡ Some p) → get_or places k d < length calls
+    by k d p =
+        let w = formed_within (map call_of calls) turns count places f k p.0 p.1 in
+        let P : ℕ → Type 0 = λ n. n < length calls in
+        subst P (sym (get_or_from_slice_get places k p.0 d p.1)) (omega (arith, w, length-map calls call_of))
+
+-- none of those calls waits for a payload
+pub places_filled : (calls : List CallOf) (turns : List TurnOf) (count : ℕ) (places : List ℕ) → AreFormed calls turns count places → AreFilled (ordered calls places)
+places_filled calls turns count places f c has needs =
+    let p = at_contains (ordered calls places) c has in
+    let m = mapped_from (λ place. get_or calls place no_call) places p.0 c p.1 in
+    let n = f.each p.0 m.0 m.1 in
+    let same : n.0 ≡ c = sym (get_or_from_slice_get calls m.0 n.0 no_call n.1) ∙ m.2 in
+    let P : CallOf → Type 0 = λ d. NeedsFill d in
+    n.2.filled (subst P (sym same) needs)
+
+-- behind the last turn all of them are formed
+pub formed_whole : (calls : List CallOf) (turns : List Turn) (count : ℕ) (places : List ℕ) → AreFormed calls (map turn_of turns) count places → length turns ≤ count
+    → AreFormed calls (map turn_of turns) (length turns) places
+formed_whole calls turns count places f past =
+    let P : ℕ → Type 0 = λ n. AreFormed calls (map turn_of turns) n places in
+    subst P (sym (same (below_suc (length turns) count (omega (arith, past))))) f
+  where
+    none_more : length turns < count → ⊥
+    none_more below =
+        let p = some_at places (length turns) (omega (arith, below, f.counted)) in
+        let n = f.each (length turns) p.0 p.1 in
+        omega (arith, at_within (map turn_of turns) (length turns) (record { call = n.0.number }) n.2.named, length-map turns turn_of)
+
+    same : (length turns < count) ⊎ (length turns ≡ count) → length turns ≡ count
+    same (inl below) = absurd (none_more below)
+    same (inr e) = e

@@ -1,29 +1,30 @@
 -- What a turn comes to.
-use Rattle.std.proofs.Common.{◌≡◌, ◌<◌, ◌≤◌, ◌⊎◌, inl, inr, ◌==◌, nat_lt, ℕ, zero, suc, ◌+◌, ℤ, ◌<ℤ◌, ◌≤ℤ◌, Bool, true, false, List, [], ◌∷◌, map, length, get_or, Contains, Option, Some, None, slice_get, Result, Ok, Err, refl, sym, ap, ◌∙◌, subst, arith}
-use Rattle.std.specs.Prelude.{All}
+use Rattle.std.proofs.Common.{◌≡◌, ◌≢◌, ◌<◌, ◌⊎◌, inl, inr, ℕ, zero, suc, ◌+◌, ◌-◌, ℤ, ◌<ℤ◌, Bool, true, false, List, map, length, get_or, Option, Some, None, slice_get, Result, Ok, Err, refl, sym, ap, subst, arith}
+use Rattle.std.specs.Prelude.{All, int_lt}
 use Rattle.std.specs.Int.Signed.{clash_ℤ}
 use Rattle.std.proofs.lemmas.Bool.Decides.{nat_tests}
-use Rattle.std.proofs.lemmas.Option.{get_or_from_slice_get}
+use Rattle.std.proofs.lemmas.Int.{ints}
+use Rattle.std.proofs.lemmas.Option.{slice_get-get_or}
 use Rattle.kmipa_store.specs.Ledger.{Meaning, LedgerState}
-use Rattle.kmipa_store.specs.Choices.{IsSound}
-use Rattle.kmipa_record.specs.Declarations.{DeclarationOf}
 use Rattle.kmipa_msgs.specs.Messages.{RulesOf}
 use Rattle.kmipa_ops.specs.declared.why.Why.{Why}
 use Rattle.kmipa_ops.specs.declared.why.Why.TheVariants.{EarlierCallLate, StampRunsBack}
 use Rattle.kmipa_batch.specs.Refusals.{CallTaken}
 use Rattle.kmipa_batch.specs.Readable.{IsReadableCall}
-use Rattle.kmipa_batch.specs.declared.refusal.CallRefusal.TheVariants.{Impossible}
+use Rattle.kmipa_batch.specs.declared.refusal.CallRefusal.{CallRefusal}
+use Rattle.kmipa_batch.specs.declared.refusal.CallRefusal.TheVariants as refusal
+use Rattle.kmipa_check.specs.declared.fault.CheckFault.{CheckFault}
+use Rattle.kmipa_check.specs.declared.fault.CheckFault.TheVariants.{Memory}
 use Rattle.kmipa_check.specs.declared.verdict.Refused.{Refused}
 use Rattle.kmipa_check.specs.declared.call.Call.{Call}
 use Rattle.kmipa_check.specs.Calls.{CallOf, call_of, ordered}
-use Rattle.kmipa_check.specs.Runs.{rules_declared}
-use Rattle.kmipa_check.specs.Verdicts.{IsLate, RunsBack, IsRefused, IsPlacedAt, ArePlaced}
-use Rattle.kmipa_check.specs.Late.{FirstLate, LateFrom, is_at}
+use Rattle.kmipa_check.specs.Verdicts.{IsLate, RunsBack, ArePlaced}
+use Rattle.kmipa_check.specs.Late.{FirstLate, is_at}
 use Rattle.kmipa_check.specs.Ordering.{Decided}
-use Rattle.kmipa_check.specs.Replays.{Replayed, TurnTold, TurnTaken, AllReadable}
+use Rattle.kmipa_check.specs.Replays.{TurnTaken, AllReadable}
 use Rattle.kmipa_check.proofs.ReplayLemmas.{replayed_more, refused_late, refused_back, refused_call}
 use Rattle.kmipa_check.proofs.PlaceLemmas.{mapped_at, contains_at}
-use Rattle.kmipa_check.proofs.OrderedLemmas.{ordered_at}
+use Rattle.kmipa_check.proofs.OrderedLemmas.{ordered_get}
 
 -- a place of an order is one of its calls
 pub place_below : (count : ℕ) (order : List ℕ) (turn place : ℕ) → All (λ p. p < count) order → turn < length order → place ≡ get_or order turn place → place < count
@@ -69,14 +70,74 @@ module _ (rules : RulesOf) (order : List CallOf) (turn : ℕ) (c : CallOf) (ther
         refused_back declared order turn s.now r c there v (ap (λ (x : Refused). x.turn) e) (sym (ap (λ (x : Refused). x.call) e)) (ap (λ (x : Refused). x.item) e) (ap (λ (x : Refused). x.why) e)
         (none_late order late turn c first r.placed there here) back
 
-    pub turn_refused : (u : LedgerState) (item : ℕ) (why : Why) → (RunsBack order turn c → ⊥) → CallTaken rules s c.request c.response (Err (Impossible item why)) u
+    pub turn_refused : (u : LedgerState) (item : ℕ) (why : Why) → (RunsBack order turn c → ⊥) → CallTaken rules s c.request c.response (Err (refusal.Impossible item why)) u
         → TurnTaken rules order turn s.now (Ok (Some (record { turn = turn + 1; call = c.number; item = item; why = why }))) u.now
     turn_refused u item why stamped t = λ declared is r.
-        let P : RulesOf → Type 0 = λ x. CallTaken x s c.request c.response (Err (Impossible item why)) u in
+        let P : RulesOf → Type 0 = λ x. CallTaken x s c.request c.response (Err (refusal.Impossible item why)) u in
         refused_call declared order turn s.now r c there (record { turn = turn + 1; call = c.number; item = item; why = why }) item why s u refl refl refl refl refl
         (none_late order late turn c first r.placed there here) stamped (subst P is t)
+
+    -- whatever is answered, where it tells a refused item as such, and want of memory as such
+    pub turn_not_taken : (u : LedgerState) (r : CallRefusal) (result : Result (Option Refused) CheckFault) → (RunsBack order turn c → ⊥)
+        → ((item : ℕ) (why : Why) → r ≡ refusal.Impossible item why → result ≡ Ok (Some (record { turn = turn + 1; call = c.number; item = item; why = why })))
+        → (r ≡ refusal.Memory → result ≡ Err Memory) → CallTaken rules s c.request c.response (Err r) u → TurnTaken rules order turn s.now result u.now
+    turn_not_taken u (refusal.Impossible item why) result stamped told full t =
+        let P : Result (Option Refused) CheckFault → Type 0 = λ x. TurnTaken rules order turn s.now x u.now in
+        subst P (sym (told item why refl)) (turn_refused u item why stamped t)
+    turn_not_taken u refusal.Memory result stamped told full t =
+        let P : Result (Option Refused) CheckFault → Type 0 = λ x. TurnTaken rules order turn s.now x u.now in
+        subst P (sym (full refl)) (λ declared is r. tt)
 
     pub turn_done : (u : LedgerState) → (RunsBack order turn c → ⊥) → CallTaken rules s c.request c.response (Ok tt) u → TurnTaken rules order turn s.now (Ok None) u.now
     turn_done u stamped t = λ declared is r.
         let P : RulesOf → Type 0 = λ x. CallTaken x s c.request c.response (Ok tt) u in
         replayed_more declared order turn c s.now r (record { there = there; kept = none_late order late turn c first r.placed there here; stamped = stamped }) s u refl (subst P is t)
+
+-- the call at a turn
+pub turn_at : (calls : List Call) (order : List ℕ) (turn : ℕ) (c : Call) → turn < length order → All (λ p. p < length calls) order → c ≡ get_or calls (get_or order turn 0) c
+    → slice_get (ordered (map call_of calls) order) turn ≡ Some (call_of c)
+turn_at calls order turn c below all is = ordered_get calls order turn (get_or order turn 0) c (slice_get-get_or order turn 0 below) (all turn 0 below) is
+
+pub turn_readable : (calls : List Call) (order : List ℕ) (turn : ℕ) (c : Call) → turn < length order → All (λ p. p < length calls) order → c ≡ get_or calls (get_or order turn 0) c
+    → AllReadable (ordered (map call_of calls) order) → IsReadableCall (call_of c).request (call_of c).response
+turn_readable calls order turn c below all is readable =
+    readable (call_of c) (contains_at (ordered (map call_of calls) order) turn (call_of c) (turn_at calls order turn c below all is))
+
+-- the stamp is less than that of the turn before, or it isn't
+module _ (calls : List Call) (order : List ℕ) (turn : ℕ) (now last : Call) (below : turn < length order) (all : All (λ p. p < length calls) order) (some : turn ≢ 0)
+    (here : now ≡ get_or calls (get_or order turn 0) now) (before : last ≡ get_or calls (get_or order (turn - 1) 0) last) where
+  last_at : slice_get (ordered (map call_of calls) order) (turn - 1) ≡ Some (call_of last)
+  last_at = turn_at calls order (turn - 1) last (omega (arith, below)) all before
+
+  same_now : (c : CallOf) → slice_get (ordered (map call_of calls) order) turn ≡ Some c → c ≡ call_of now
+  same_now c at = let there = turn_at calls order turn now below all here in cc
+
+  pub back_decided : (c : CallOf) → slice_get (ordered (map call_of calls) order) turn ≡ Some c → (less : Bool) → Decided less (now.response.stamp <ℤ last.response.stamp)
+      → Decided less (RunsBack (ordered (map call_of calls) order) turn c)
+  back_decided c at true h =
+      let P : CallOf → Type 0 = λ x. RunsBack (ordered (map call_of calls) order) turn x in
+      subst P (sym (same_now c at)) (turn - 1, call_of last, omega (arith, some), last_at, h)
+  back_decided c at false h = λ back.
+      let P : CallOf → Type 0 = λ x. RunsBack (ordered (map call_of calls) order) turn x in
+      let b = subst P (same_now c at) back in
+      let place : b.0 ≡ turn - 1 = omega (arith, b.2) in
+      let Q : ℕ → Type 0 = λ n. slice_get (ordered (map call_of calls) order) n ≡ Some b.1 in
+      let there = subst Q place b.3 in
+      let that = last_at in
+      let same : b.1 ≡ call_of last = cc in
+      let R : CallOf → Type 0 = λ x. now.response.stamp <ℤ x.response.stamp in
+      h (subst R same b.4)
+
+less_decided : (a b : ℤ) → Decided (int_lt a b) (a <ℤ b)
+less_decided a b = by (int_lt a b) refl
+  where
+    by : (less : Bool) → int_lt a b ≡ less → Decided less (a <ℤ b)
+    by true e = omega (arith, ints)
+    by false e = λ h. clash_ℤ h (omega (arith, ints))
+
+-- a test of two numbers that are these two
+pub less_decided_of : (a b p q : ℤ) → a ≡ p → b ≡ q → Decided (int_lt a b) (p <ℤ q)
+less_decided_of a b p q e f =
+    let P : ℤ → Type 0 = λ x. Decided (int_lt x b) (p <ℤ q) in
+    let Q : ℤ → Type 0 = λ y. Decided (int_lt p y) (p <ℤ q) in
+    subst P (sym e) (subst Q (sym f) (less_decided p q))

@@ -1,6 +1,10 @@
 -- A whole order: no call is left out, and none stands twice.
-use Rattle.std.proofs.Common.{◌≡◌, ◌≢◌, ◌<◌, ◌≤◌, ◌⊎◌, inl, inr, ℕ, zero, suc, ◌+◌, ℤ, pos, List, [], ◌∷◌, map, length, get_or, Contains, Option, Some, None, slice_get, refl, sym, ap, ◌∙◌, subst, arith}
+use Rattle.std.proofs.Common.{◌≡◌, ◌≢◌, ◌<◌, ℕ, zero, suc, ℤ, pos, negsuc, ◌≤ℤ◌, All, Result, Ok, Err, OkIff, unsigned_abs, List, [], ◌∷◌, map, length, get_or, Contains, Option, Some, None, slice_get, refl, sym, ap, ◌∙◌, subst, arith}
+use mir.Val.{SFits}
+use mir.Syntax.{w32}
 use Rattle.std.specs.Prelude.{AllPairs, IsPermutation}
+use Rattle.std.specs.Int.{FitsUnsignedBits}
+use Rattle.std.specs.Result.{result_unwrap_or}
 use Rattle.std.proofs.lemmas.List.{length-map}
 use Rattle.std.proofs.lemmas.Option.{get_or_from_slice_get, slice_get_within}
 use Rattle.kmipa_record.specs.declared.witness.Turn.{Turn}
@@ -11,9 +15,9 @@ use Rattle.kmipa_check.specs.declared.fault.WitnessKind.TheVariants.{LeftOut}
 use Rattle.kmipa_check.specs.Calls.{CallOf, call_of, no_call, ordered}
 use Rattle.kmipa_check.specs.Orders.{NamesAt, IsFormed, AreFormedBelow, IsLeftOut, WitnessFaultAt, left_out}
 use Rattle.kmipa_check.specs.Verdicts.{IsOrder}
-use Rattle.kmipa_check.specs.Numbers.{place_in, IsFirst, StandsFirst, Indexes}
-use Rattle.kmipa_check.specs.Ordering.{NamesCall, AreFormed, missing_or, first_missing, AreOrdered}
-use Rattle.kmipa_check.proofs.PlaceLemmas.{mapped_from, contains_at, at_contains, same_elements, get_at, some_at, at_within}
+use Rattle.kmipa_check.specs.Numbers.{place_in, StandsFirst, Indexes}
+use Rattle.kmipa_check.specs.Ordering.{AreFormed, missing_or, first_missing, AreOrdered}
+use Rattle.kmipa_check.proofs.PlaceLemmas.{mapped_from, contains_at, at_contains, same_elements, get_at, some_at}
 use Rattle.kmipa_check.proofs.PermutationLemmas.{IsOnce, at_most, permuted, once_mapped, once_pairs, contains_mapped}
 use Rattle.kmipa_check.proofs.OrderLemmas.{formed_below}
 
@@ -48,6 +52,25 @@ missing_case named c calls number (Some q) is h rest =
 missing_is : (named : FirstPlaces) (calls : List CallOf) (number : ℤ) → first_missing named calls ≡ Some number → FirstMissing named calls number
 missing_is named [] number e = absurd cc
 missing_is named (c ∷ calls) number e = missing_case named c calls number (place_in named c.number) refl e (λ h. missing_is named calls number h)
+
+-- its number is that of a call
+pub missing_counted : (named : FirstPlaces) (calls : List Call) (number : ℤ) → first_missing named (map call_of calls) ≡ Some number → All (λ call. pos 1 ≤ℤ call.number) calls → pos 1 ≤ℤ number
+missing_counted named calls number missing numbered =
+    let r = missing_is named (map call_of calls) number missing in
+    let m = mapped_from call_of calls r.place r.call r.there in
+    let P : ℤ → Type 0 = λ z. pos 1 ≤ℤ z in
+    let Q : Call → Type 0 = λ c. pos 1 ≤ℤ c.number in
+    subst P (ap number_of m.2 ∙ r.is) (subst Q (get_or_from_slice_get calls r.place m.0 m.0 m.1) (numbered r.place m.0 (slice_get_within calls r.place m.0 m.1)))
+
+-- a number from 1 on is told as it is
+pub told_number : {E : Type 0} (r : Result ℕ E) (number : ℤ) (at : ℕ) → OkIff r (FitsUnsignedBits 64 number) (unsigned_abs number) → at ≡ result_unwrap_or r 0 → pos 1 ≤ℤ number → SFits w32 number → number ≡ pos at
+told_number (Ok x) (pos n) at told is one fits = ap pos (sym (is ∙ told.1))
+told_number (Ok x) (negsuc n) at told is one fits = absurd told.0
+told_number (Err e) (pos n) at told is one fits =
+    let small : n < 2147483648 = fits.sfits in
+    let fitting : n < 18446744073709551616 = omega (arith, small) in
+    absurd (told fitting)
+told_number (Err e) (negsuc n) at told is one fits = absurd one.le
 
 -- no call is without one
 placed_case : (named : FirstPlaces) (x : CallOf) (calls : List CallOf) (v : Option ℕ) → place_in named x.number ≡ v → missing_or v x.number (first_missing named calls) ≡ None

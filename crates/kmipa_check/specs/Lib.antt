@@ -6,3 +6,5 @@ pub mod Replays
 pub mod Numbers
 pub mod Late
 pub mod Ordering
+pub mod Audits
+pub mod CallReading

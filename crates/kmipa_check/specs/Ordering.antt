@@ -1,14 +1,13 @@
 -- What the order of a witness comes to. Not promised: `Orders` and `Verdicts` say what an order is.
-use Rattle.std.specs.Prelude.{◌≡◌, ◌<◌, ℕ, ℤ, Bool, true, false, List, [], ◌∷◌, length, Option, Some, None, slice_get, Result, Ok, Err}
+use Rattle.std.specs.Prelude.{◌≡◌, ◌<◌, ℕ, ℤ, Bool, true, false, List, [], ◌∷◌, length, Contains, Option, Some, None, slice_get}
 use Rattle.kmipa_record.specs.Witnesses.{TurnOf}
 use Rattle.kmipa_msgs.specs.Messages.{AskOf, AnswerOf}
 use Rattle.kmipa_msgs.specs.Wanted.{Wanted}
 use Rattle.kmipa_batch.specs.Calls.{pairs_of}
 use Rattle.kmipa_check.specs.Calls.{CallOf, ordered}
-use Rattle.kmipa_check.specs.Orders.{IsFormed, WitnessFaultAt}
+use Rattle.kmipa_check.specs.Orders.{NeedsFill, IsFormed, WitnessFaultAt}
 use Rattle.kmipa_check.specs.Verdicts.{IsOrder}
 use Rattle.kmipa_check.specs.Numbers.{place_in}
-use Rattle.kmipa_check.specs.declared.call.Call.{Call}
 use Rattle.kmipa_check.specs.declared.numbers.FirstPlaces.{FirstPlaces}
 use Rattle.kmipa_check.specs.declared.fault.CheckFault.{CheckFault}
 use Rattle.kmipa_check.specs.declared.fault.CheckFault.TheVariants.{Outside, Witness, Memory}
@@ -21,6 +20,10 @@ Decided false P = P → ⊥
 -- no place below this one waits for a payload
 abbrev pub AreFilledBelow : CallOf → ℕ → Type 0
 AreFilledBelow c count = (place : ℕ) (ask : AskOf) (answer : AnswerOf) → place < count → slice_get (pairs_of c.request c.response) place ≡ Some (ask, answer) → Wanted ask answer → ⊥
+
+-- none of these calls waits for a payload
+abbrev pub AreFilled : List CallOf → Type 0
+AreFilled calls = (c : CallOf) → Contains calls c → NeedsFill c → ⊥
 
 -- the turn names the call at a place, as it should
 abbrev pub NamesCall : List CallOf → List TurnOf → ℕ → ℕ → Type 0

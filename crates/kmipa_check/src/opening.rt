@@ -1,6 +1,6 @@
 //! The ledger and the rules that a declaration gives.
 
-ghost use Rattle.std.specs.Prelude.{◌≡◌, [], IfOk};
+ghost use Rattle.std.specs.Prelude.{◌≡◌, [], IfErr, IfOk};
 ghost use Rattle.kmipa_store.specs.Choices.{IsSound};
 ghost use Rattle.kmipa_store.specs.States.{state_of_journal};
 ghost use Rattle.kmipa_record.specs.Declarations.{declaration_of};
@@ -19,6 +19,7 @@ use std::alloc::{AllocError, Global};
 pub fn open_ledger(alloc: Global, declaration: &Declaration) -> Result<Journal, CheckFault>
     ensures opened { IfOk result (λ ledger. AreKnown (declaration_of declaration.now) [] (state_of_journal ledger).now) }
     ensures sound { IfOk result (λ ledger. IsSound (state_of_journal ledger).now) }
+    ensures memory { IfErr result (λ fault. fault ≡ CheckFault.Memory) }
 {
     let Declaration { unique_names: _ } = declaration;
     Ok(Journal::new(alloc))

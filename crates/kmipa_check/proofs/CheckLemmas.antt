@@ -1,0 +1,80 @@
+-- What reading, ordering and replaying the calls come to together.
+use Rattle.std.proofs.Common.{◌≡◌, ◌≢◌, ◌<◌, ◌≤◌, ℕ, ◌+◌, ℤ, pos, ◌≤ℤ◌, List, [], ◌∷◌, map, length, take, get_or, Contains, Option, Some, None, slice_get, refl, sym, ap, ◌∙◌, subst, arith, Result, Ok, Err}
+use Rattle.std.specs.Prelude.{All, AllPairs, MatchResult}
+use Rattle.std.proofs.lemmas.List.{length-map, get_or-map}
+use Rattle.std.proofs.lemmas.Option.{get_or_from_slice_get, slice_get_within}
+use Rattle.kmipa_store.specs.Ledger.{Meaning}
+use Rattle.kmipa_record.specs.Declarations.{DeclarationOf}
+use Rattle.kmipa_record.specs.Marks.{MarkOf, AreRecorded, IsCallNumber, begun}
+use Rattle.kmipa_record.specs.Marks
+use Rattle.kmipa_record.specs.Witnesses.{TurnOf}
+use Rattle.kmipa_check.specs.Calls.{CallOf, call_of, no_call, ordered, AreCalls, IsRecorded}
+use Rattle.kmipa_check.specs.Ordering.{AreFilled, AreOrdered, OrderFault}
+use Rattle.kmipa_check.specs.Replays.{Replayed, TellsRun, AllReadable}
+use Rattle.kmipa_check.specs.Verdicts.{Checks}
+use Rattle.kmipa_check.specs.CallReading.{CallsFault}
+use Rattle.kmipa_check.specs.declared.call.Call.{Call}
+use Rattle.kmipa_check.specs.declared.fault.CheckFault.{CheckFault}
+use Rattle.kmipa_check.specs.declared.fault.CheckFault.TheVariants.{Outside, Witness, Memory}
+use Rattle.kmipa_check.specs.declared.verdict.Verdict.{Verdict}
+use Rattle.kmipa_check.specs.declared.verdict.Verdict.TheVariants.{Yes, No}
+use Rattle.kmipa_check.proofs.PlaceLemmas.{mapped_from, at_contains}
+use Rattle.kmipa_check.proofs.PermutationLemmas.{once_pairs}
+use Rattle.kmipa_check.proofs.ReadableLemmas.{call_readable}
+use Rattle.kmipa_check.proofs.ReplayLemmas.{replayed_none, replayed_accepts}
+use Rattle.kmipa_check.proofs.WholeOrderLemmas.{order_permutes}
+
+-- each call of a recorded transcript has a number from 1 on
+pub calls_numbered : (marks : List MarkOf) (calls : List Call) → AreRecorded marks → AreCalls marks (map call_of calls) → All (λ (c : Call). pos 1 ≤ℤ c.number) calls
+calls_numbered marks calls r are k d below =
+    let c : Call = get_or calls k d in
+    let within : k < length (map call_of calls) = omega (arith, length-map calls call_of) in
+    let P : CallOf → Type 0 = λ x. IsRecorded marks x in
+    let here : IsRecorded marks (call_of c) = subst P (get_or-map call_of calls k d (call_of d) below) (are.recorded k (call_of d) within) in
+    let mark : MarkOf = Marks.begins c.number here.carried.client here.asked in
+    let Q : MarkOf → Type 0 = λ m. IsCallNumber (Marks.call_of m) in
+    let number : IsCallNumber c.number = subst Q (get_or_from_slice_get marks c.begin mark mark here.carried.begins)
+    (r.in_order.numbered c.begin mark (slice_get_within marks c.begin mark here.carried.begins)) in
+    number.least
+
+-- and no number stands twice
+pub calls_once : (marks : List MarkOf) (calls : List CallOf) → AreRecorded marks → AreCalls marks calls → AllPairs (λ (x y : ℤ). x ≢ y) (map (λ (c : CallOf). c.number) calls)
+calls_once marks calls r are =
+    let P : List ℤ → Type 0 = λ xs. AllPairs (λ (x y : ℤ). x ≢ y) xs in
+    subst P (sym are.numbers) r.in_order.once
+
+-- the calls of an order that waits for nothing can be judged
+pub ordered_readable : (marks : List MarkOf) (calls : List Call) (places : List ℕ) → All (IsRecorded marks) (map call_of calls) → All (λ place. place < length calls) places
+    → AreFilled (ordered (map call_of calls) places) → AllReadable (ordered (map call_of calls) places)
+ordered_readable marks calls places each within filled c there =
+    let p = at_contains (ordered (map call_of calls) places) c there in
+    let m = mapped_from (λ (place : ℕ). get_or (map call_of calls) place no_call) places p.0 c p.1 in
+    let Q : ℕ → Type 0 = λ n. n < length calls in
+    let below : m.0 < length calls = subst Q (get_or_from_slice_get places p.0 m.0 m.0 m.1) (within p.0 m.0 (slice_get_within places p.0 m.0 m.1)) in
+    let inside : m.0 < length (map call_of calls) = omega (arith, length-map calls call_of) in
+    let P : CallOf → Type 0 = λ x. IsRecorded marks x in
+    call_readable marks c (subst P m.2 (each m.0 no_call inside)) (filled c there)
+
+-- a fault of the order
+pub order_faults : (marks : List MarkOf) (declared : DeclarationOf) (turns : List TurnOf) (calls : List CallOf) (f : CheckFault) → AreCalls marks calls
+    → OrderFault calls turns f → Checks marks declared turns (Err f)
+order_faults marks declared turns calls (Outside number side o) are h = absurd h
+order_faults marks declared turns calls (Witness f) are h = (calls, are, h)
+order_faults marks declared turns calls Memory are h = tt
+
+-- a fault of a message
+pub call_faults : (marks : List MarkOf) (declared : DeclarationOf) (turns : List TurnOf) (f : CheckFault) → CallsFault marks f → Checks marks declared turns (Err f)
+call_faults marks declared turns (Outside number side o) h = h
+call_faults marks declared turns (Witness f) h = absurd h
+call_faults marks declared turns Memory h = tt
+
+-- what the replay tells
+pub run_told : (marks : List MarkOf) (declared : DeclarationOf) (turns : List TurnOf) (calls : List CallOf) (places : List ℕ) (result : Result Verdict CheckFault)
+    → AreRecorded marks → AreCalls marks calls → AreOrdered calls turns places → TellsRun declared (ordered calls places) result → Checks marks declared turns result
+run_told marks declared turns calls places (Ok Yes) r are o h =
+    replayed_accepts marks declared turns calls (ordered calls places) h.0 are o.order.named
+    (order_permutes calls (ordered calls places) turns (once_pairs (map (λ (c : CallOf). c.number) calls) (calls_once marks calls r are)) o.order) h.1
+run_told marks declared turns calls places (Ok (No refused)) r are o h = (calls, are, (ordered calls places, o.order, h))
+run_told marks declared turns calls places (Err Memory) r are o h = tt
+run_told marks declared turns calls places (Err (Outside number side o)) r are p h = absurd h
+run_told marks declared turns calls places (Err (Witness f)) r are o h = absurd h

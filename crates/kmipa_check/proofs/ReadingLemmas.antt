@@ -1,0 +1,291 @@
+-- The reading of calls, one mark more.
+use Rattle.std.proofs.Common.{◌≡◌, ◌<◌, ◌≤◌, ℕ, zero, suc, ◌+◌, ℤ, List, [], ◌∷◌, ◌++◌, length, map, take, Option, Some, None, slice_get, get_or, Contains, Result, Ok, Err, refl, sym, ap, ◌∙◌, subst, arith, add-one}
+use Rattle.std.specs.Prelude.{All, MatchResult}
+use Rattle.std.specs.String.{string_bytes}
+use Rattle.std.proofs.lemmas.List.{take_all, length-map}
+use Rattle.std.proofs.lemmas.List.Elements.{All-append, All-nil}
+use Rattle.kmipa_record.specs.Marks.{MarkOf, begins, ends, begun, ended, AreRecorded, mark_of}
+use Rattle.kmipa_record.specs.declared.transcript.Mark.{Mark}
+use Rattle.kmipa_record.specs.declared.transcript.Mark
+use Rattle.kmipa_record.specs.declared.transcript.Begin.{Begin}
+use Rattle.kmipa_record.specs.declared.transcript.End.{End}
+use Rattle.kmipa_ttlv.specs.Tree.{Tree}
+use Rattle.kmipa_ttlv.specs.Spelling.{Spells}
+use Rattle.kmipa_ttlv.specs.ViewTree.{view_tree}
+use Rattle.kmipa_ttlv.specs.declared.view.View.{View}
+use Rattle.kmipa_msgs.specs.Messages.{RequestOf, ResponseOf}
+use Rattle.kmipa_msgs.specs.Outside.{Tells}
+use Rattle.kmipa_msgs.specs.declared.fault.ReadFault
+use Rattle.kmipa_msgs.specs.declared.fault.ReadFault.{ReadFault}
+use Rattle.kmipa_msgs.specs.declared.fault.Outside.{Outside}
+use Rattle.kmipa_msgs.specs.Requests.{RequestFault}
+use Rattle.kmipa_msgs.specs.Responses.{ResponseFault}
+use Rattle.kmipa_check.specs.declared.call.Call.{Call}
+use Rattle.kmipa_check.specs.declared.numbers.FirstPlaces.{FirstPlaces}
+use Rattle.kmipa_check.specs.declared.fault.Side.TheVariants.{Client, Server}
+use Rattle.kmipa_check.specs.Numbers.{place_in, end_number, StandsFirst, Indexes}
+use Rattle.kmipa_msgs.specs.declared.kind.OutsideKind.{OutsideKind}
+use Rattle.kmipa_check.specs.declared.fault.Side.{Side}
+use Rattle.kmipa_check.specs.declared.fault.CheckFault.{CheckFault}
+use Rattle.kmipa_check.specs.declared.fault.CheckFault
+use Rattle.kmipa_check.specs.Calls.{CallOf, AreRequest, AreResponse, AreOutside, no_item, outside, HasMarks, IsRecorded, AreCalls, IsOutsideOn, IsFirstOutside, call_of}
+use Rattle.kmipa_check.specs.CallReading.{ItemRead, MessageFault, IsOutsideAt, BeginsNone, MarkFault, MarkRead, AreReadUpTo, CallsFault, no_message}
+use Rattle.kmipa_check.proofs.PlaceLemmas.{at_contains, contains_at, at_within, get_at, mapped_at, mapped_from}
+
+-- ---- the numbers that the first marks begin
+
+begun_begin : (marks : List MarkOf) (k : ℕ) (n : ℤ) (client m : List ℕ) → slice_get marks k ≡ Some (begins n client m) → begun (take (suc k) marks) ≡ begun (take k marks) ++ n ∷ []
+begun_begin [] k n client m at = absurd cc
+begun_begin (begins a b c ∷ marks) zero n client m at = cc
+begun_begin (ends a b ∷ marks) zero n client m at = absurd cc
+begun_begin (begins a b c ∷ marks) (suc k) n client m at = ap (λ (l : List ℤ). a ∷ l) (begun_begin marks k n client m at)
+begun_begin (ends a b ∷ marks) (suc k) n client m at = begun_begin marks k n client m at
+
+begun_end : (marks : List MarkOf) (k : ℕ) (n : ℤ) (m : List ℕ) → slice_get marks k ≡ Some (ends n m) → begun (take (suc k) marks) ≡ begun (take k marks)
+begun_end [] k n m at = absurd cc
+begun_end (begins a b c ∷ marks) zero n m at = absurd cc
+begun_end (ends a b ∷ marks) zero n m at = refl
+begun_end (begins a b c ∷ marks) (suc k) n m at = ap (λ (l : List ℤ). a ∷ l) (begun_end marks k n m at)
+begun_end (ends a b ∷ marks) (suc k) n m at = begun_end marks k n m at
+
+-- the next number is that of the mark behind them
+begun_next : (marks : List MarkOf) (k : ℕ) (n : ℤ) (client m : List ℕ) → slice_get marks k ≡ Some (begins n client m) → slice_get (begun marks) (length (begun (take k marks))) ≡ Some n
+begun_next [] k n client m at = absurd cc
+begun_next (begins a b c ∷ marks) zero n client m at = cc
+begun_next (ends a b ∷ marks) zero n client m at = absurd cc
+begun_next (begins a b c ∷ marks) (suc k) n client m at = begun_next marks k n client m at
+begun_next (ends a b ∷ marks) (suc k) n client m at = begun_next marks k n client m at
+
+begun_front : (marks : List MarkOf) (k : ℕ) → begun (take k marks) ≡ take (length (begun (take k marks))) (begun marks)
+begun_front [] zero = refl
+begun_front [] (suc k) = refl
+begun_front (mark ∷ marks) zero = refl
+begun_front (begins a b c ∷ marks) (suc k) = ap (λ (l : List ℤ). a ∷ l) (begun_front marks k)
+begun_front (ends a b ∷ marks) (suc k) = begun_front marks k
+
+begun_at : (marks : List MarkOf) (k : ℕ) (n : ℤ) (client m : List ℕ) → slice_get marks k ≡ Some (begins n client m) → Contains (begun marks) n
+begun_at marks k n client m at = contains_at (begun marks) (length (begun (take k marks))) n (begun_next marks k n client m at)
+
+ended_from : (marks : List MarkOf) (i : ℕ) (n : ℤ) → slice_get (ended marks) i ≡ Some n → (k : ℕ) × (m : List ℕ) × (slice_get marks k ≡ Some (ends n m))
+ended_from [] i n at = absurd cc
+ended_from (begins a b c ∷ marks) i n at = let r = ended_from marks i n at in (suc r.0, r.1, r.2)
+ended_from (ends a b ∷ marks) zero n at = (0, b, cc)
+ended_from (ends a b ∷ marks) (suc i) n at = let r = ended_from marks i n at in (suc r.0, r.1, r.2)
+
+-- a call that is begun ends
+ends_somewhere : (marks : List MarkOf) (k : ℕ) (n : ℤ) (client m : List ℕ) → AreRecorded marks → slice_get marks k ≡ Some (begins n client m)
+    → (e : ℕ) × (a : List ℕ) × (slice_get marks e ≡ Some (ends n a))
+ends_somewhere marks k n client m recorded at =
+    let there = at_contains (ended marks) n (recorded.closed n (begun_at marks k n client m at)) in
+    ended_from marks there.0 n there.1
+
+-- ---- the events of the reading
+
+pub read_none : (marks : List MarkOf) → AreReadUpTo marks 0 []
+read_none marks = record { recorded = All-nil (IsRecorded marks); numbers = λ r. refl }
+
+map_push : (calls : List CallOf) (c : CallOf) → map (λ (d : CallOf). d.number) (calls ++ c ∷ []) ≡ map (λ (d : CallOf). d.number) calls ++ c.number ∷ []
+map_push [] c = refl
+map_push (d ∷ calls) c = ap (λ (l : List ℤ). d.number ∷ l) (map_push calls c)
+
+all_one : (P : CallOf → Type 0) (x : CallOf) → P x → All P (x ∷ [])
+all_one P x p = λ i d below. by i d below
+  where
+    by : (i : ℕ) (d : CallOf) → i < 1 → P (get_or (x ∷ []) i d)
+    by zero d below = p
+    by (suc i) d below = absurd (omega (arith, below))
+
+pub read_call : (marks : List MarkOf) (k : ℕ) (calls : List CallOf) (c : CallOf) → IsRecorded marks c × (c.begin ≡ k) → AreReadUpTo marks k calls → AreReadUpTo marks (suc k) (calls ++ c ∷ [])
+read_call marks k calls c h r =
+    let P : ℕ → Type 0 = λ p. slice_get marks p ≡ Some (begins c.number h.0.carried.client h.0.asked) in
+    let at = subst P h.1 h.0.carried.begins in
+    record {
+      recorded = All-append (IsRecorded marks) calls (c ∷ []) r.recorded (all_one (IsRecorded marks) c h.0);
+      numbers = λ recorded. map_push calls c ∙ ap (λ (l : List ℤ). l ++ c.number ∷ []) (r.numbers recorded) ∙ sym (begun_begin marks k c.number h.0.carried.client h.0.asked at);
+    }
+
+begun_behind : (marks : List MarkOf) (k : ℕ) → slice_get marks k ≡ None → begun (take (suc k) marks) ≡ begun (take k marks)
+begun_behind [] zero at = refl
+begun_behind [] (suc k) at = refl
+begun_behind (mark ∷ marks) zero at = absurd cc
+begun_behind (begins a b c ∷ marks) (suc k) at = ap (λ (l : List ℤ). a ∷ l) (begun_behind marks k at)
+begun_behind (ends a b ∷ marks) (suc k) at = begun_behind marks k at
+
+pub read_other : (marks : List MarkOf) (k : ℕ) (calls : List CallOf) → BeginsNone marks k → AreReadUpTo marks k calls → AreReadUpTo marks (suc k) calls
+read_other marks k calls none r = record { recorded = r.recorded; numbers = λ recorded. r.numbers recorded ∙ sym (by recorded (slice_get marks k) refl) }
+  where
+    by : AreRecorded marks → (v : Option MarkOf) → slice_get marks k ≡ v → begun (take (suc k) marks) ≡ begun (take k marks)
+    by recorded None at = begun_behind marks k at
+    by recorded (Some (begins n client m)) at = let e = ends_somewhere marks k n client m recorded at in absurd (none n client m at e.0 e.1 e.2)
+    by recorded (Some (ends n m)) at = begun_end marks k n m at
+
+pub read_all : (marks : List MarkOf) (k : ℕ) (calls : List CallOf) → length marks ≤ k → AreReadUpTo marks k calls → AreRecorded marks → AreCalls marks calls
+read_all marks k calls within r recorded = record { numbers = r.numbers recorded ∙ ap begun (take_all k marks within); recorded = r.recorded }
+
+outside_first : (marks : List MarkOf) (k : ℕ) (calls : List CallOf) (number : ℤ) (side : Side) (item : ℕ) (kind : OutsideKind) → IsOutsideAt marks k number side item kind
+    → map (λ (c : CallOf). c.number) calls ≡ begun (take k marks) → All (IsRecorded marks) calls → IsFirstOutside marks number side item kind
+outside_first marks k calls number side item kind o same inside =
+    let long : length (begun (take k marks)) ≡ length calls = ap length (sym same) ∙ length-map calls (λ (c : CallOf). c.number) in
+    let P : ℕ → Type 0 = λ n. begun (take k marks) ≡ take n (begun marks) in
+    let Q : ℕ → Type 0 = λ n. slice_get (begun marks) n ≡ Some number in
+    record {
+      before = calls;
+      inside = record { numbers = same ∙ subst P long (begun_front marks k); recorded = inside };
+      next = subst Q long (begun_next marks k number o.carried.client o.asked o.carried.begins);
+      begin = k;
+      end = o.end;
+      asked = o.asked;
+      answered = o.answered;
+      carried = o.carried;
+      outside = o.outside;
+    }
+
+pub read_fault : (marks : List MarkOf) (k : ℕ) (calls : List CallOf) (fault : CheckFault) → MarkFault marks k fault → AreReadUpTo marks k calls → AreRecorded marks → CallsFault marks fault
+read_fault marks k calls (CheckFault.TheVariants.Outside number side o) f r recorded = outside_first marks k calls number side o.item o.kind f (r.numbers recorded) r.recorded
+read_fault marks k calls (CheckFault.TheVariants.Witness w) f r recorded = f
+read_fault marks k calls CheckFault.TheVariants.Memory f r recorded = tt
+
+-- ---- the same of the program's values
+
+pub read_err : {X : Type 0} (G : X → Type 0) (lent items : List Mark) (k : ℕ) (calls : List CallOf) (r : Result X CheckFault) (fault : CheckFault) → lent ≡ items → r ≡ Err fault
+    → MarkFault (map mark_of lent) k fault → AreReadUpTo (map mark_of items) k calls → AreRecorded (map mark_of items) → MatchResult r G (CallsFault (map mark_of items))
+read_err {X} G lent items k calls r fault same e f s recorded =
+    let P : List Mark → Type 0 = λ ms. MarkFault (map mark_of ms) k fault in
+    let Q : Result X CheckFault → Type 0 = λ x. MatchResult x G (CallsFault (map mark_of items)) in
+    subst Q (sym e) (read_fault (map mark_of items) k calls fault (subst P same f) s recorded)
+
+pushed_calls : (old : List Call) (call : Call) → map call_of (old ++ call ∷ []) ≡ map call_of old ++ call_of call ∷ []
+pushed_calls [] call = refl
+pushed_calls (c ∷ old) call = ap (λ (l : List CallOf). call_of c ∷ l) (pushed_calls old call)
+
+pub read_more : (lent items : List Mark) (k : ℕ) (old new : List Call) (found : Option Call) (call : Call) → lent ≡ items → found ≡ Some call → new ≡ old ++ call ∷ []
+    → MarkRead (map mark_of lent) k (Ok found) → AreReadUpTo (map mark_of items) k (map call_of old) → AreReadUpTo (map mark_of items) (k + 1) (map call_of new)
+read_more lent items k old new found call same is e h s =
+    let P : List Mark → Type 0 = λ ms. MarkRead (map mark_of ms) k (Ok found) in
+    let Q : Option Call → Type 0 = λ o. MarkRead (map mark_of items) k (Ok o) in
+    let R : ℕ → Type 0 = λ n. AreReadUpTo (map mark_of items) n (map call_of new) in
+    let S : List CallOf → Type 0 = λ cs. AreReadUpTo (map mark_of items) (suc k) cs in
+    let next = read_call (map mark_of items) k (map call_of old) (call_of call) (subst Q is (subst P same h)) s in
+    subst R (sym (add-one k)) (subst S (sym (ap (λ (cs : List Call). map call_of cs) e ∙ pushed_calls old call)) next)
+
+pub read_past : (lent items : List Mark) (k : ℕ) (old new : List Call) (found : Option Call) → lent ≡ items → found ≡ None → new ≡ old
+    → MarkRead (map mark_of lent) k (Ok found) → AreReadUpTo (map mark_of items) k (map call_of old) → AreReadUpTo (map mark_of items) (k + 1) (map call_of new)
+read_past lent items k old new found same is e h s =
+    let P : List Mark → Type 0 = λ ms. MarkRead (map mark_of ms) k (Ok found) in
+    let Q : Option Call → Type 0 = λ o. MarkRead (map mark_of items) k (Ok o) in
+    let R : ℕ → Type 0 = λ n. AreReadUpTo (map mark_of items) n (map call_of new) in
+    let S : List Call → Type 0 = λ cs. AreReadUpTo (map mark_of items) (suc k) (map call_of cs) in
+    let next = read_other (map mark_of items) k (map call_of old) (subst Q is (subst P same h)) s in
+    subst R (sym (add-one k)) (subst S (sym e) next)
+
+-- ---- one mark
+
+-- no end mark has the number of this begin mark
+pub none_ends : (marks : List Mark) (f : FirstPlaces) (place : ℕ) (mark : Mark) (b : Begin) (n : ℤ) → place < length marks → mark ≡ get_or marks place mark → mark ≡ Mark.TheVariants.Begin b → n ≡ b.call
+    → None ≡ place_in f n → Indexes (map (λ mark. end_number (mark_of mark)) marks) f → BeginsNone (map mark_of marks) place
+none_ends marks f place mark b n below is begin same none indexes = λ number client asked at end answered there.
+    let P : Mark → Type 0 = λ m. slice_get (map mark_of marks) place ≡ Some (mark_of m) in
+    let here : slice_get (map mark_of marks) place ≡ Some (begins b.call (string_bytes b.client) b.message.items) = subst P begin (mapped_at mark_of marks place mark below is) in
+    let equal : Some (begins b.call (string_bytes b.client) b.message.items) ≡ Some (begins number client asked) = sym here ∙ at in
+    let numbers : b.call ≡ number = cc in
+    let x = mapped_from mark_of marks end (ends number answered) there in
+    let held : slice_get (map (λ mark. end_number (mark_of mark)) marks) end ≡ Some (Some number) = get_at (λ mark. end_number (mark_of mark)) marks end x.0 x.1 ∙ ap (λ (m : MarkOf). Some (end_number m)) x.2 in
+    let Q : Option ℕ → Type 0 = λ v. StandsFirst (map (λ mark. end_number (mark_of mark)) marks) (length (map (λ mark. end_number (mark_of mark)) marks)) n v in
+    let R : ℤ → Type 0 = λ z. slice_get (map (λ mark. end_number (mark_of mark)) marks) end ≡ Some (Some z) in
+    subst Q (sym none) (indexes n) end (at_within (map (λ mark. end_number (mark_of mark)) marks) end (Some number) held) (subst R (sym (same ∙ numbers)) held)
+
+-- the mark at the noted place has the number
+noted_mark : (marks : List Mark) (f : FirstPlaces) (end : ℕ) (mark : Mark) (n : ℤ) → Some end ≡ place_in f n → Indexes (map (λ mark. end_number (mark_of mark)) marks) f → mark ≡ get_or marks end mark
+    → (end < length marks) × (end_number (mark_of mark) ≡ Some n)
+noted_mark marks f end mark n noted indexes is =
+    let Q : Option ℕ → Type 0 = λ v. StandsFirst (map (λ mark. end_number (mark_of mark)) marks) (length (map (λ mark. end_number (mark_of mark)) marks)) n v in
+    let first = subst Q (sym noted) (indexes n) in
+    let within : end < length marks = omega (arith, first.0, length-map marks (λ (mark : Mark). end_number (mark_of mark))) in
+    let there = mapped_at (λ (mark : Mark). end_number (mark_of mark)) marks end mark within is in
+    let same : Some (end_number (mark_of mark)) ≡ Some (Some n) = sym there ∙ first.1.there in
+    (within, cc)
+
+-- no begin mark stands at a noted place
+pub no_begin : (marks : List Mark) (f : FirstPlaces) (end : ℕ) (mark : Mark) (b : Begin) (n : ℤ) → Some end ≡ place_in f n → Indexes (map (λ mark. end_number (mark_of mark)) marks) f
+    → mark ≡ get_or marks end mark → mark ≡ Mark.TheVariants.Begin b → ⊥
+no_begin marks f end mark b n noted indexes is begin =
+    let P : Mark → Type 0 = λ m. end_number (mark_of m) ≡ Some n in
+    let clash : None ≡ Some n = subst P begin (noted_mark marks f end mark n noted indexes is).1 in
+    absurd cc
+
+pub same_call : (marks : List Mark) (f : FirstPlaces) (end : ℕ) (mark : Mark) (a : End) (n number : ℤ) → Some end ≡ place_in f n → Indexes (map (λ mark. end_number (mark_of mark)) marks) f
+    → mark ≡ get_or marks end mark → mark ≡ Mark.TheVariants.End a → n ≡ number → a.call ≡ number
+same_call marks f end mark a n number noted indexes is ending same =
+    let P : Mark → Type 0 = λ m. end_number (mark_of m) ≡ Some n in
+    let held : Some a.call ≡ Some n = subst P ending (noted_mark marks f end mark n noted indexes is).1 in
+    let numbers : a.call ≡ n = cc in
+    numbers ∙ same
+
+pub marks_of_call : (marks : List Mark) (f : FirstPlaces) (place end : ℕ) (mark other : Mark) (b : Begin) (a : End) (n : ℤ) → place < length marks → mark ≡ get_or marks place mark → mark ≡ Mark.TheVariants.Begin b
+    → n ≡ b.call → Some end ≡ place_in f n → Indexes (map (λ mark. end_number (mark_of mark)) marks) f → other ≡ get_or marks end other → other ≡ Mark.TheVariants.End a
+    → HasMarks (map mark_of marks) b.call place end b.message.items a.message.items
+marks_of_call marks f place end mark other b a n below is begin same noted indexes at ending =
+    let P : Mark → Type 0 = λ m. slice_get (map mark_of marks) place ≡ Some (mark_of m) in
+    let Q : Mark → Type 0 = λ m. slice_get (map mark_of marks) end ≡ Some (mark_of m) in
+    let R : ℤ → Type 0 = λ z. slice_get (map mark_of marks) end ≡ Some (ends z a.message.items) in
+    record {
+      client = string_bytes b.client;
+      begins = subst P begin (mapped_at mark_of marks place mark below is);
+      ends = subst R (same_call marks f end other a n b.call noted indexes at ending same) (subst Q ending (mapped_at mark_of marks end other (noted_mark marks f end other n noted indexes at).0 at));
+    }
+
+fault_at : (marks : List MarkOf) (place end : ℕ) (number n : ℤ) (side s : Side) (asked answered : List ℕ) (item : ℕ) (kind : OutsideKind) → HasMarks marks number place end asked answered
+    → IsOutsideOn side asked answered item kind → n ≡ number → s ≡ side → IsOutsideAt marks place n s item kind
+fault_at marks place end number n side s asked answered item kind has out e f =
+    let here : IsOutsideAt marks place number side item kind = record { end = end; asked = asked; answered = answered; carried = has; outside = out } in
+    let P : Side → Type 0 = λ x. IsOutsideAt marks place number x item kind in
+    let Q : ℤ → Type 0 = λ x. IsOutsideAt marks place x s item kind in
+    subst Q (sym e) (subst P (sym f) here)
+
+pub request_wrong : (marks : List MarkOf) (place end : ℕ) (number : ℤ) (asked answered : List ℕ) (r : Result (Option Call) CheckFault) (fault : CheckFault)
+    → HasMarks marks number place end asked answered → r ≡ Err fault → MessageFault RequestFault Client number asked fault → MarkRead marks place r
+request_wrong marks place end number asked answered r fault has e h =
+    let P : Result (Option Call) CheckFault → Type 0 = λ x. MarkRead marks place x in
+    subst P (sym e) (by fault h)
+  where
+    by : (fault : CheckFault) → MessageFault RequestFault Client number asked fault → MarkFault marks place fault
+    by (CheckFault.TheVariants.Outside n s o) h = fault_at marks place end number n Client s asked answered o.item o.kind has h.2 h.0 h.1
+    by (CheckFault.TheVariants.Witness w) h = h
+    by CheckFault.TheVariants.Memory h = tt
+
+pub response_wrong : (marks : List MarkOf) (place end : ℕ) (number a : ℤ) (asked answered : List ℕ) (request : RequestOf) (r : Result (Option Call) CheckFault) (fault : CheckFault)
+    → HasMarks marks number place end asked answered → a ≡ number → AreRequest asked request → r ≡ Err fault → MessageFault (λ t. ResponseFault t request) Server a answered fault → MarkRead marks place r
+response_wrong marks place end number a asked answered request r fault has same said e h =
+    let P : Result (Option Call) CheckFault → Type 0 = λ x. MarkRead marks place x in
+    subst P (sym e) (by fault h)
+  where
+    by : (fault : CheckFault) → MessageFault (λ t. ResponseFault t request) Server a answered fault → MarkFault marks place fault
+    by (CheckFault.TheVariants.Outside n s o) h = fault_at marks place end number n Server s asked answered o.item o.kind has (request, said, h.2) (h.0 ∙ same) h.1
+    by (CheckFault.TheVariants.Witness w) h = h
+    by CheckFault.TheVariants.Memory h = tt
+
+pub call_recorded : (marks : List MarkOf) (place end : ℕ) (number n : ℤ) (asked answered : List ℕ) (request : RequestOf) (response : ResponseOf) → HasMarks marks number place end asked answered → n ≡ number
+    → AreRequest asked request → AreResponse request answered response → IsRecorded marks (record { number = n; begin = place; end = end; request = request; response = response })
+call_recorded marks place end number n asked answered request response has same said told =
+    let P : ℤ → Type 0 = λ z. HasMarks marks z place end asked answered in
+    record { asked = asked; answered = answered; carried = subst P (sym same) has; request = said; response = told }
+
+-- ---- one message
+
+pub nothing_said : (Fault : Tree → ℕ → OutsideKind → Type 0) (side : Side) (n number : ℤ) (lent bytes : List ℕ) (found : Option View) (fault : CheckFault) → fault ≡ no_message n side → n ≡ number
+    → lent ≡ bytes → found ≡ None → ItemRead lent (Ok found) → MessageFault Fault side number bytes fault
+nothing_said Fault side n number lent bytes found fault e same f is h =
+    let P : Option View → Type 0 = λ o. ItemRead lent (Ok o) in
+    let Q : List ℕ → Type 0 = λ bs. (item : Tree) → Spells item bs → ⊥ in
+    let R : CheckFault → Type 0 = λ x. MessageFault Fault side number bytes x in
+    let none : (item : Tree) → Spells item lent → ⊥ = subst P is h in
+    subst R (sym e) (same, refl, no_item (subst Q f none) refl refl)
+
+pub wrong_said : {X M : Type 0} (meaning : X → M) (Said : M → Type 0) (Fault : Tree → ℕ → OutsideKind → Type 0) (lent bytes : List ℕ) (found : Option View) (view : View) (fault : ReadFault) (o : Outside)
+    → lent ≡ bytes → found ≡ Some view → ItemRead lent (Ok found) → fault ≡ ReadFault.TheVariants.Outside o → Tells meaning Said (Fault (view_tree view)) (Err fault)
+    → AreOutside Fault bytes o.item o.kind
+wrong_said meaning Said Fault lent bytes found view fault o f is h e told =
+    let P : Option View → Type 0 = λ x. ItemRead lent (Ok x) in
+    let Q : List ℕ → Type 0 = λ bs. Spells (view_tree view) bs in
+    let R : ReadFault → Type 0 = λ x. Tells meaning Said (Fault (view_tree view)) (Err x) in
+    outside (view_tree view) (subst Q f (subst P is h)) (subst R e told)

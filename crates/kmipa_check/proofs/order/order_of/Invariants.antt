@@ -1,0 +1,11 @@
+use Rattle.std.proofs.Common.{◌-◌, length, map}
+use Rattle.kmipa_record.specs.Witnesses.{turn_of}
+use Rattle.kmipa_check.specs.Calls.{call_of}
+use Rattle.kmipa_check.specs.Ordering.{AreFormed}
+use Rattle.kmipa_check.proofs.order.order_of.Given as goal
+
+abbrev pub invariant-turns : goal.invariant-turns
+invariant-turns l = AreFormed (map call_of l.calls) (map turn_of l.turns) l.place l.order.items
+
+abbrev pub decreases-turns : goal.decreases-turns
+decreases-turns l = length l.turns - l.place

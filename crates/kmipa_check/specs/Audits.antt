@@ -1,0 +1,61 @@
+-- What an audit of three inputs tells, as far as their bytes are known.
+use Rattle.std.specs.Prelude.{◌≡◌, ℕ, List, Bool, Option, Some, None, Result, Ok, Err}
+use Rattle.kmipa_record.specs.Marks.{MarkOf}
+use Rattle.kmipa_record.specs.Files.{Tells}
+use Rattle.kmipa_record.specs.Transcripts.{transcript_of, IsTranscript, TranscriptFault, IsTranscriptUpTo}
+use Rattle.kmipa_record.specs.Declarations.{DeclarationOf, IsDeclaration, DeclarationFault, IsDeclarationUpTo}
+use Rattle.kmipa_record.specs.Witnesses.{TurnOf, witness_of, IsWitness, WitnessFault, IsWitnessUpTo}
+use Rattle.kmipa_check.specs.Runs.{IsAccepted}
+use Rattle.kmipa_check.specs.Verdicts.{Checks, TellsVerdict}
+use Rattle.kmipa_check.specs.declared.auditing.Audited.{Audited}
+use Rattle.kmipa_check.specs.declared.auditing.AuditFault.{AuditFault}
+use Rattle.kmipa_check.specs.declared.auditing.AuditFault.TheVariants as audit
+use Rattle.kmipa_check.specs.declared.fault.CheckFault.{CheckFault}
+
+-- a fact of three lists of bytes, where all three are known
+abbrev pub IfKnown : Option (List ℕ) → Option (List ℕ) → Option (List ℕ) → (List ℕ → List ℕ → List ℕ → Type 0) → Type 0
+IfKnown (Some t) (Some d) (Some w) P = P t d w
+IfKnown (Some t) (Some d) None P = Unit {0}
+IfKnown (Some t) None w P = Unit {0}
+IfKnown None d w P = Unit {0}
+
+-- The bytes are a transcript, a declaration and a witness, and from some inventory that the declaration describes a run, one call at a
+-- time in the witness's order, gives every recorded response.
+pub record AreAccepted (t d w : List ℕ) : Type 0 where
+  pub marks : List MarkOf
+  pub transcript : IsTranscript t marks
+  pub declared : DeclarationOf
+  pub declaration : IsDeclaration d declared
+  pub turns : List TurnOf
+  pub witness : IsWitness w turns
+  pub accepted : IsAccepted marks declared turns
+
+-- the bytes are the records that the audit hands out, and the verdict is one of them
+pub record AreJudged (audited : Audited) (t d w : List ℕ) : Type 0 where
+  pub transcript : IsTranscript t (transcript_of audited.transcript)
+  pub declared : DeclarationOf
+  pub declaration : IsDeclaration d declared
+  pub witness : IsWitness w (witness_of audited.witness)
+  pub verdict : TellsVerdict (transcript_of audited.transcript) declared (witness_of audited.witness) audited.verdict
+
+-- the bytes are records of which the check tells this fault
+pub record AreUnjudged (fault : CheckFault) (t d w : List ℕ) : Type 0 where
+  pub marks : List MarkOf
+  pub transcript : IsTranscript t marks
+  pub declared : DeclarationOf
+  pub declaration : IsDeclaration d declared
+  pub turns : List TurnOf
+  pub witness : IsWitness w turns
+  pub checks : Checks marks declared turns (Err fault)
+
+-- a fault: the first of the first file that has one, or one of the check. The three truths say which inputs failed
+abbrev pub AuditFails : Option (List ℕ) → Option (List ℕ) → Option (List ℕ) → Bool → Bool → Bool → AuditFault → Type 0
+AuditFails t d w failed_t failed_d failed_w (audit.Transcript f) = Tells TranscriptFault IsTranscriptUpTo t failed_t f
+AuditFails t d w failed_t failed_d failed_w (audit.Declaration f) = Tells DeclarationFault IsDeclarationUpTo d failed_d f
+AuditFails t d w failed_t failed_d failed_w (audit.Witness f) = Tells WitnessFault IsWitnessUpTo w failed_w f
+AuditFails t d w failed_t failed_d failed_w (audit.Check f) = IfKnown t d w (AreUnjudged f)
+
+-- what an audit answers
+abbrev pub Audits : Option (List ℕ) → Option (List ℕ) → Option (List ℕ) → Bool → Bool → Bool → Result Audited AuditFault → Type 0
+Audits t d w failed_t failed_d failed_w (Ok audited) = IfKnown t d w (AreJudged audited)
+Audits t d w failed_t failed_d failed_w (Err fault) = AuditFails t d w failed_t failed_d failed_w fault

@@ -1,0 +1,79 @@
+-- What the reading of calls tells. Only CallsFault is promised.
+use Rattle.std.specs.Prelude.{◌≡◌, ℕ, ℤ, List, map, take, All, slice_get, Option, Some, None, Result, Ok, Err}
+use Rattle.kmipa_ttlv.specs.Tree.{Tree}
+use Rattle.kmipa_ttlv.specs.Spelling.{Spells}
+use Rattle.kmipa_ttlv.specs.ViewTree.{view_tree}
+use Rattle.kmipa_ttlv.specs.declared.view.View.{View}
+use Rattle.kmipa_record.specs.Marks.{MarkOf, begins, ends, begun, AreRecorded}
+use Rattle.kmipa_msgs.specs.declared.kind.OutsideKind.{OutsideKind}
+use Rattle.kmipa_msgs.specs.declared.kind.OutsideKind.TheVariants.{NotAMessage}
+use Rattle.kmipa_msgs.specs.declared.request.Request.{Request}
+use Rattle.kmipa_msgs.specs.declared.response.Response.{Response}
+use Rattle.kmipa_msgs.specs.Messages.{RequestOf, request_of, response_of}
+use Rattle.kmipa_msgs.specs.Requests.{RequestFault}
+use Rattle.kmipa_msgs.specs.Responses.{ResponseFault}
+use Rattle.kmipa_check.specs.declared.call.Call.{Call}
+use Rattle.kmipa_check.specs.declared.fault.Side.{Side}
+use Rattle.kmipa_check.specs.declared.fault.Side.TheVariants.{Client, Server}
+use Rattle.kmipa_check.specs.declared.fault.CheckFault.{CheckFault}
+use Rattle.kmipa_check.specs.declared.fault.CheckFault.TheVariants.{Outside, Witness, Memory}
+use Rattle.kmipa_check.specs.Calls.{AreRequest, AreResponse, AreOutside, HasMarks, CallOf, IsRecorded, IsOutsideOn, IsFirstOutside, call_of}
+
+-- the one item that the bytes spell, or none where they spell none
+abbrev pub ItemRead : List ℕ → Result (Option View) CheckFault → Type 0
+ItemRead bytes (Ok (Some view)) = Spells (view_tree view) bytes
+ItemRead bytes (Ok None) = (item : Tree) → Spells item bytes → ⊥
+ItemRead bytes (Err fault) = fault ≡ Memory
+
+-- the message of this call on this side is no message
+abbrev pub no_message : ℤ → Side → CheckFault
+no_message number side = Outside number side (record { item = 0; kind = NotAMessage })
+
+-- a fault of the message on this side of the call of this number
+abbrev pub MessageFault : (Tree → ℕ → OutsideKind → Type 0) → Side → ℤ → List ℕ → CheckFault → Type 0
+MessageFault Fault side number bytes (Outside n s o) = (n ≡ number) × (s ≡ side) × AreOutside Fault bytes o.item o.kind
+MessageFault Fault side number bytes (Witness w) = ⊥
+MessageFault Fault side number bytes Memory = Unit {0}
+
+abbrev pub RequestRead : ℤ → List ℕ → Result Request CheckFault → Type 0
+RequestRead number bytes (Ok request) = AreRequest bytes (request_of request)
+RequestRead number bytes (Err fault) = MessageFault RequestFault Client number bytes fault
+
+abbrev pub ResponseRead : ℤ → RequestOf → List ℕ → Result Response CheckFault → Type 0
+ResponseRead number request bytes (Ok response) = AreResponse request bytes (response_of response)
+ResponseRead number request bytes (Err fault) = MessageFault (λ t. ResponseFault t request) Server number bytes fault
+
+-- the mark at the place begins a call of this number, and the call's message on this side is outside
+pub record IsOutsideAt (marks : List MarkOf) (place : ℕ) (number : ℤ) (side : Side) (item : ℕ) (kind : OutsideKind) : Type 0 where
+  pub end : ℕ
+  pub asked : List ℕ
+  pub answered : List ℕ
+  pub carried : HasMarks marks number place end asked answered
+  pub outside : IsOutsideOn side asked answered item kind
+
+-- the mark at the place begins no call that ends
+abbrev pub BeginsNone : List MarkOf → ℕ → Type 0
+BeginsNone marks place = (number : ℤ) (client asked : List ℕ) → slice_get marks place ≡ Some (begins number client asked)
+    → (end : ℕ) (answered : List ℕ) → slice_get marks end ≡ Some (ends number answered) → ⊥
+
+abbrev pub MarkFault : List MarkOf → ℕ → CheckFault → Type 0
+MarkFault marks place (Outside number side o) = IsOutsideAt marks place number side o.item o.kind
+MarkFault marks place (Witness w) = ⊥
+MarkFault marks place Memory = Unit {0}
+
+-- the call that the mark at the place begins, if it begins one
+abbrev pub MarkRead : List MarkOf → ℕ → Result (Option Call) CheckFault → Type 0
+MarkRead marks place (Ok (Some call)) = IsRecorded marks (call_of call) × (call.begin ≡ place)
+MarkRead marks place (Ok None) = BeginsNone marks place
+MarkRead marks place (Err fault) = MarkFault marks place fault
+
+-- the calls are those that the first so many marks begin
+pub record AreReadUpTo (marks : List MarkOf) (place : ℕ) (calls : List CallOf) : Type 0 where
+  pub recorded : All (IsRecorded marks) calls
+  pub numbers : AreRecorded marks → map (λ (c : CallOf). c.number) calls ≡ begun (take place marks)
+
+-- the first message that is outside; want of memory tells nothing
+abbrev pub CallsFault : List MarkOf → CheckFault → Type 0
+CallsFault marks (Outside number side o) = IsFirstOutside marks number side o.item o.kind
+CallsFault marks (Witness w) = ⊥
+CallsFault marks Memory = Unit {0}

@@ -1,0 +1,36 @@
+//! The check of a witness.
+
+ghost use Rattle.kmipa_record.specs.Declarations.{declaration_of};
+ghost use Rattle.kmipa_record.specs.Marks.{AreRecorded};
+ghost use Rattle.kmipa_record.specs.Transcripts.{transcript_of};
+ghost use Rattle.kmipa_record.specs.Witnesses.{witness_of};
+ghost use Rattle.kmipa_check.specs.Verdicts.{Checks};
+
+use crate::fault::CheckFault;
+use crate::opening::{open_ledger, rules_of_declaration};
+use crate::order::order_of;
+use crate::reading::read_calls;
+use crate::replay::replay;
+use crate::verdict::Verdict;
+use kmipa_record::{Declaration, Transcript, Witness};
+use std::alloc::Global;
+
+/// Whether some inventory that the declaration describes has a run of all calls in the witness's order that gives every recorded
+/// response; else the first turn and item that is impossible, and why.
+///
+/// All messages are read first, by the calls' begin marks, request before response; then the witness is tested; then the turns are taken.
+/// Nothing is claimed of marks that no transcript has.
+pub fn check(
+    alloc: Global,
+    transcript: &Transcript,
+    declaration: &Declaration,
+    witness: &Witness,
+) -> Result<Verdict, CheckFault>
+    ensures { AreRecorded (transcript_of transcript.now) → Checks (transcript_of transcript.now) (declaration_of declaration.now) (witness_of witness.now) result }
+{
+    let calls = read_calls(alloc, transcript)?;
+    let order = order_of(alloc, &calls, &witness.turns)?;
+    let rules = rules_of_declaration(alloc, declaration)?;
+    let mut ledger = open_ledger(alloc, declaration)?;
+    replay(alloc, &mut ledger, &rules, &calls, &order)
+}

@@ -1,0 +1,140 @@
+//! The calls of a transcript: its marks in pairs, and their messages.
+
+ghost use Rattle.std.specs.Prelude.{◌≡◌, ◌<◌, All, IfOk, MatchResult, length, map};
+ghost use Rattle.kmipa_record.specs.Marks.{AreRecorded, mark_of};
+ghost use Rattle.kmipa_record.specs.Transcripts.{transcript_of};
+ghost use Rattle.kmipa_msgs.specs.Messages.{request_of};
+ghost use Rattle.kmipa_check.specs.Calls.{AreCalls, IsRecorded, call_of};
+ghost use Rattle.kmipa_check.specs.Numbers.{Indexes, end_number};
+ghost use Rattle.kmipa_check.specs.CallReading.{CallsFault, ItemRead, MarkRead, RequestRead, ResponseRead, no_message};
+
+use crate::call::Call;
+use crate::fault::{CheckFault, Side};
+use crate::numbers::FirstPlaces;
+use kmipa_msgs::{Outside, OutsideKind, ReadFault, Request, Response, read_request, read_response};
+use kmipa_record::{Begin, End, Mark, Transcript};
+use kmipa_ttlv::{FaultKind, View, decode_view};
+use std::alloc::Global;
+
+/// The calls of a transcript, by their begin marks; or the first message that is outside the profile, request before response.
+///
+/// A begin mark without an end mark, of which a whole transcript has none, is left out.
+pub fn read_calls<'a>(
+    alloc: Global,
+    transcript: &'a Transcript,
+) -> Result<Vec<Call<'a>>, CheckFault>
+    ensures each { IfOk result (λ calls. All (IsRecorded (transcript_of transcript.now)) (map call_of calls.items)) }
+    ensures read { AreRecorded (transcript_of transcript.now)
+        → MatchResult result (λ calls. AreCalls (transcript_of transcript.now) (map call_of calls.items)) (CallsFault (transcript_of transcript.now)) }
+{
+    let ends = FirstPlaces::of(alloc, &transcript.marks)?;
+    let mut calls = Vec::new(alloc);
+    let mut place = 0;
+    'marks: while place < transcript.marks.len() {
+        if let Some(call) = read_mark(alloc, &transcript.marks, &ends, place)? {
+            calls.push(call)?;
+        }
+        place += 1;
+    }
+    Ok(calls)
+}
+
+/// The call that the mark at a place begins, if it begins one.
+fn read_mark<'a>(
+    alloc: Global,
+    marks: &'a [Mark],
+    ends: &FirstPlaces,
+    place: usize,
+) -> Result<Option<Call<'a>>, CheckFault>
+    requires below { place < length marks.now }
+    requires indexes { Indexes (map (λ mark. end_number (mark_of mark)) marks.now) ends.now }
+    ensures { MarkRead (map mark_of marks.now) place result }
+{
+    let Mark::Begin(begin) = &marks[place] else {
+        return Ok(None);
+    };
+    let Some(end) = ends.place(begin.call) else {
+        return Ok(None);
+    };
+    let Mark::End(answered) = &marks[end] else {
+        return Ok(None);
+    };
+    let request = request_in(alloc, begin)?;
+    let response = response_in(alloc, answered, &request)?;
+    Ok(Some(Call {
+        number: begin.call,
+        begin: place,
+        end,
+        request,
+        response,
+    }))
+}
+
+/// The request of a begin mark.
+fn request_in<'a>(alloc: Global, begin: &'a Begin) -> Result<Request<'a>, CheckFault>
+    ensures { RequestRead begin.now.call begin.now.message.items result }
+{
+    let Some(view) = whole_item(alloc, &begin.message)? else {
+        return Err(not_a_message(begin.call, Side::Client));
+    };
+    match read_request(alloc, &view) {
+        Ok(request) => Ok(request),
+        Err(ReadFault::Outside(outside)) => {
+            Err(CheckFault::Outside(begin.call, Side::Client, outside))
+        }
+        Err(ReadFault::Memory) => Err(CheckFault::Memory),
+    }
+}
+
+/// The response of an end mark.
+fn response_in<'a>(
+    alloc: Global,
+    end: &'a End,
+    request: &Request,
+) -> Result<Response<'a>, CheckFault>
+    ensures { ResponseRead end.now.call (request_of request.now) end.now.message.items result }
+{
+    let Some(view) = whole_item(alloc, &end.message)? else {
+        return Err(not_a_message(end.call, Side::Server));
+    };
+    match read_response(alloc, &view, request) {
+        Ok(response) => Ok(response),
+        Err(ReadFault::Outside(outside)) => {
+            Err(CheckFault::Outside(end.call, Side::Server, outside))
+        }
+        Err(ReadFault::Memory) => Err(CheckFault::Memory),
+    }
+}
+
+/// The item that the bytes spell, all of them; `None` where they spell none.
+fn whole_item<'a>(alloc: Global, bytes: &'a [u8]) -> Result<Option<View<'a>>, CheckFault>
+    ensures { ItemRead bytes.now result }
+{
+    match decode_view(alloc, bytes) {
+        Ok((view, taken)) => {
+            if taken == bytes.len() {
+                Ok(Some(view))
+            } else {
+                Ok(None)
+            }
+        }
+        Err(fault) => {
+            if fault.kind == FaultKind::Memory {
+                Err(CheckFault::Memory)
+            } else {
+                Ok(None)
+            }
+        }
+    }
+}
+
+/// The message of this call on this side is no message.
+fn not_a_message(number: i32, side: Side) -> CheckFault
+    ensures { result ≡ no_message number side }
+{
+    let outside = Outside {
+        item: 0,
+        kind: OutsideKind::NotAMessage,
+    };
+    CheckFault::Outside(number, side, outside)
+}
