@@ -56,7 +56,7 @@ fn read_ask<'a>(alloc: Global, view: &View<'a>) -> Read<Ask<'a>>
         Err(kind) => return Ok(Err(kind)),
     };
     let batch_id = bytes_at(children, UNIQUE_BATCH_ITEM_ID).value();
-    match read_payload(alloc, operation, children)? {
+    match read_request_payload(alloc, operation, children)? {
         Ok(asked) => Ok(Ok(Ask { batch_id, asked })),
         Err(kind) => Ok(Err(kind)),
     }
@@ -72,7 +72,11 @@ fn operation(children: &[View]) -> Result<Operation, OutsideKind>
 }
 
 /// What an item's Request Payload asks for; an absent one is read as empty.
-fn read_payload<'a>(alloc: Global, operation: Operation, children: &[View<'a>]) -> Read<Asked<'a>>
+fn read_request_payload<'a>(
+    alloc: Global,
+    operation: Operation,
+    children: &[View<'a>],
+) -> Read<Asked<'a>>
     ensures { IfOk result (λ r. map_ok asked_of r ≡ payload_asked operation (view_trees children.now)) }
 {
     let shape = payload_shape(children);

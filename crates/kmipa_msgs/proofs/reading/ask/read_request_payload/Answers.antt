@@ -2,7 +2,7 @@ use Rattle.kmipa_ttlv.specs.ViewTree.{view_trees}
 use Rattle.std.proofs.Common.{◌∙◌, sym, ap}
 use Rattle.kmipa_attrs.specs.Readings.{map_ok}
 use Rattle.kmipa_msgs.proofs.AskLemmas.{asked_view, seen_asked}
-use Rattle.kmipa_msgs.proofs.reading.ask.read_payload.Goals as goal
+use Rattle.kmipa_msgs.proofs.reading.ask.read_request_payload.Goals as goal
 
 pub returns-in-Ok : goal.returns-in-Ok
 returns-in-Ok c =
