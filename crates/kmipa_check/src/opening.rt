@@ -21,7 +21,7 @@ pub fn open_ledger(alloc: Global, declaration: &Declaration) -> Result<Journal, 
     ensures sound { IfOk result (λ ledger. IsSound (state_of_journal ledger).now) }
     ensures memory { IfErr result (λ fault. fault ≡ CheckFault.Memory) }
 {
-    let Declaration { unique_names: _ } = declaration;
+    let Declaration { unique_names: _, .. } = declaration;
     Ok(Journal::new(alloc))
 }
 
