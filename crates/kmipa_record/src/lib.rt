@@ -11,6 +11,8 @@ mod fault;
 mod header;
 mod laws;
 mod record;
+mod records;
+mod row;
 mod shape;
 mod transcript;
 mod witness;
