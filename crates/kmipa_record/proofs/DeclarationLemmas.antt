@@ -1,11 +1,11 @@
 -- A declaration that is read record by record.
-use Rattle.std.proofs.Common.{◌≡◌, ◌≢◌, ℕ, List, [], ◌∷◌, ◌++◌, map, Bool, Option, None, Some, IfSome, inl, inr, refl, sym, ap, subst, ◌∙◌}
+use Rattle.std.proofs.Common.{◌≡◌, ℕ, List, [], ◌∷◌, ◌++◌, map, Bool, Option, None, Some, IfSome, inl, inr, refl, sym, ap, subst, ◌∙◌}
 use Rattle.std.proofs.lemmas.List.{append-nil, append_assoc, map-append}
 use Rattle.std.specs.Io.KnownBytes.{IsAtEnd}
 use Rattle.std.specs.List.{AllZip}
 use Rattle.kmipa_ttlv.specs.Tree.{Tree}
 use Rattle.kmipa_msgs.specs.Messages.{RowOf}
-use Rattle.kmipa_record.specs.DeclarationReading.{IsFit, SaysFit, IsRecord, rows_in, entries_in, declared_by, AreKept, Puts, Refuses, IsReadSoFar}
+use Rattle.kmipa_record.specs.DeclarationReading.{SaysFit, IsRecord, rows_in, entries_in, declared_by, AreKept, Puts, Refuses, IsReadSoFar}
 use Rattle.kmipa_record.specs.Declarations.{DeclarationOf, AreDeclared, declaration_header, RecordOf, row, entry, SaysRecord, records_of, SayDeclaration, IsDeclaration, AreRightInDeclaration, RecordItemFault, no_record, late_row, used, DeclarationItemFault, DeclarationEndFault, DeclarationFault, IsDeclarationUpTo}
 use Rattle.kmipa_record.specs.Entries.{EntryOf}
 use Rattle.kmipa_record.specs.Files.{Tells}

@@ -1,5 +1,5 @@
 -- Entries: what their items say, and what may be declared of them.
-use Rattle.std.proofs.Common.{◌≡◌, ◌≢◌, ◌≤◌, ◌<◌, ◌*◌, ◌+◌, ◌%◌, ◌==◌, ◌↔◌, ℕ, ℤ, pos, negsuc, ◌/◌, is_some, List, [], ◌∷◌, length, get_or, take, drop, map, ◌-◌, Bool, true, false, Option, None, Some, Result, Ok, Err, IfSome, IsSome, IsTrue, ◌⊎◌, inl, inr, refl, sym, ap, subst, ◌∙◌, arith}
+use Rattle.std.proofs.Common.{◌≡◌, ◌≤◌, ◌<◌, ◌*◌, ◌+◌, ◌%◌, ◌==◌, ◌↔◌, ℕ, ℤ, pos, negsuc, ◌/◌, is_some, List, [], ◌∷◌, length, get_or, take, drop, map, ◌-◌, Bool, true, false, Option, None, Some, Result, Ok, Err, IfSome, IsSome, IsTrue, ◌⊎◌, inl, inr, refl, sym, ap, subst, ◌∙◌, arith}
 use Rattle.std.proofs.Math.Seq.{take-length}
 use Rattle.std.specs.List.{list_any}
 use Rattle.std.specs.Prelude.{All}

@@ -28,4 +28,6 @@ pub use transcript::{Begin, End, Mark, Transcript, read_transcript};
 pub use witness::{Turn, Witness, read_witness};
 
 #[cfg(test)]
+mod declaration_tests;
+#[cfg(test)]
 mod tests;

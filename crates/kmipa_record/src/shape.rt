@@ -4,7 +4,9 @@ ghost use Rattle.std.specs.Prelude.{◌≡◌, ◌≢◌, ℤ, ℕ, Bool, List, 
 ghost use Rattle.kmipa_ttlv.specs.Tree.{Trees, structure, scalar, integer, enumeration, boolean, text, byte_string};
 ghost use Rattle.kmipa_ttlv.specs.ViewTree.{view_tree, view_trees};
 
-use kmipa_attrs::fields::{as_boolean, as_bytes, as_enumeration, as_integer, as_structure, as_text};
+use kmipa_attrs::fields::{
+    as_boolean, as_bytes, as_enumeration, as_integer, as_structure, as_text,
+};
 use kmipa_ttlv::View;
 
 /// The children of a Structure with this tag.

@@ -1,4 +1,4 @@
-use Rattle.std.proofs.Common.{sym, subst, ◌∙◌, ap}
+use Rattle.std.proofs.Common.{subst}
 use Rattle.kmipa_ttlv.specs.ViewTree.{view_tree, view_trees}
 use Rattle.kmipa_record.specs.Entries.{EntryOf, entry_of, SaysEntry, IsDeclarable}
 use Rattle.kmipa_record.proofs.EntryLemmas.{unlisted, one_entry}

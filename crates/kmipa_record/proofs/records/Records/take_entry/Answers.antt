@@ -1,4 +1,4 @@
-use Rattle.std.proofs.Common.{◌≡◌, inr, refl, sym, subst, ◌∙◌, string_bytes}
+use Rattle.std.proofs.Common.{◌≡◌, inr, refl, sym, ◌∙◌, string_bytes}
 use Rattle.std.proofs.lemmas.Map.Text.{hash_set_updates_text}
 use Rattle.kmipa_record.proofs.RecordsLemmas.{not_false, not_true, used_before, kept_more}
 use Rattle.kmipa_record.proofs.records.Records.take_entry.Goals.{in-Ok-push, in-Err-push}
