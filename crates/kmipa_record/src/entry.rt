@@ -40,6 +40,7 @@ const AES: u32 = 3;
 pub struct Entry {
     /// Unique Identifier.
     pub id: String,
+    /// Object Type.
     pub kind: ObjectType,
     /// Its judged attributes but Object Type and State.
     pub attrs: AttrSet,
