@@ -13,3 +13,5 @@ pub mod TurnLemmas
 pub mod CheckLemmas
 pub mod AuditLemmas
 pub mod ReadingLemmas
+pub mod RecordedLemmas
+pub mod AcceptedLemmas
