@@ -95,11 +95,11 @@ goes_up : (rules : RulesOf) (V : List Thing) (c : CallOf) (W : List Thing) (coun
 goes_up rules V c W count call = elim (refuses c.response) [
   | inl h ↦ inr h
   | inr not ↦
-    let b = batch_of_call rules V c.request c.response W not call in
-    let pairs = pairs_of c.request c.response in
-    let P : List (AskOf × AnswerOf) → Type 0 = λ ps. ChainSome rules c.response.stamp V None ps b.last b.placeholder in
-    let s = chain_split rules c.response.stamp V None (take count pairs) (drop count pairs) b.last b.placeholder (subst P (sym (take-append-drop count pairs)) b.chain) in
-    inl ((λ place below. b.shaped place), (s.0, s.1, s.2))
+      let b = batch_of_call rules V c.request c.response W not call in
+      let pairs = pairs_of c.request c.response in
+      let P : List (AskOf × AnswerOf) → Type 0 = λ ps. ChainSome rules c.response.stamp V None ps b.last b.placeholder in
+      let s = chain_split rules c.response.stamp V None (take count pairs) (drop count pairs) b.last b.placeholder (subst P (sym (take-append-drop count pairs)) b.chain) in
+      inl ((λ place below. b.shaped place), (s.0, s.1, s.2))
 ]
 
 -- ---- one order
@@ -139,16 +139,16 @@ module _ (marks : List MarkOf) (declared : DeclarationOf) (turns : List TurnOf) 
       | runs_back k l w ↦ never_back a.order h.turn h.call a.run.placed h.there l
     ]
     | in_item count is item ↦
-      let t = linked_at (rules_declared declared) a.start a.order h.turn h.call a.run.last a.run.linked h.there in
-      item.never (record {
-        placed = placed_below a.order h.turn a.run.placed (slice_get_within a.order h.turn h.call h.there);
-        here = placed_at a.order h.turn h.call a.run.placed h.there;
-        start = a.start;
-        described = a.described;
-        before = t.before;
-        linked = t.linked;
-        items = goes_up (rules_declared declared) t.before h.call t.after (count + 1) t.call;
-      })
+        let t = linked_at (rules_declared declared) a.start a.order h.turn h.call a.run.last a.run.linked h.there in
+        item.never (record {
+          placed = placed_below a.order h.turn a.run.placed (slice_get_within a.order h.turn h.call h.there);
+          here = placed_at a.order h.turn h.call a.run.placed h.there;
+          start = a.start;
+          described = a.described;
+          before = t.before;
+          linked = t.linked;
+          items = goes_up (rules_declared declared) t.before h.call t.after (count + 1) t.call;
+        })
   ]
 
   not_outside_first : (number : ℤ) (side : Side) (item : ℕ) (kind : OutsideKind) → IsFirstOutside marks number side item kind → ⊥

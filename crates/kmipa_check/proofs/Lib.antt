@@ -15,3 +15,4 @@ pub mod AuditLemmas
 pub mod ReadingLemmas
 pub mod RecordedLemmas
 pub mod AcceptedLemmas
+pub mod AcceptedAuditLemmas

@@ -18,7 +18,7 @@ pub use auditing::{AuditFault, Audited, audit, audit_with};
 pub use call::Call;
 pub use checking::check;
 pub use fault::{CheckFault, Side, WitnessFault, WitnessKind};
-pub use laws::accepted_is_yes;
+pub use laws::{accepted_audit_is_yes, accepted_is_yes};
 pub use opening::{open_ledger, rules_of_declaration};
 pub use reading::read_calls;
 pub use verdict::{Refused, Verdict};
