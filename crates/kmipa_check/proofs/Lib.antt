@@ -13,3 +13,4 @@ pub mod TurnLemmas
 pub mod CheckLemmas
 pub mod AuditLemmas
 pub mod ReadingLemmas
+pub mod StampLemmas

@@ -11,6 +11,7 @@ mod opening;
 mod order;
 mod reading;
 mod replay;
+mod stamp;
 mod verdict;
 
 pub use auditing::{AuditFault, Audited, audit, audit_with};
@@ -19,6 +20,7 @@ pub use checking::check;
 pub use fault::{CheckFault, Side, WitnessFault, WitnessKind};
 pub use opening::{open_ledger, rules_of_declaration};
 pub use reading::read_calls;
+pub use stamp::stamp_of;
 pub use verdict::{Refused, Verdict};
 
 #[cfg(test)]
