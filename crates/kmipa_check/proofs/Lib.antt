@@ -13,4 +13,7 @@ pub mod TurnLemmas
 pub mod CheckLemmas
 pub mod AuditLemmas
 pub mod ReadingLemmas
+pub mod RecordedLemmas
+pub mod AcceptedLemmas
+pub mod AcceptedAuditLemmas
 pub mod StampLemmas

@@ -63,7 +63,7 @@ begun_front (mark ∷ marks) zero = refl
 begun_front (begins a b c ∷ marks) (suc k) = ap (λ (l : List ℤ). a ∷ l) (begun_front marks k)
 begun_front (ends a b ∷ marks) (suc k) = begun_front marks k
 
-pub begun_at : (marks : List MarkOf) (k : ℕ) (n : ℤ) (client m : List ℕ) → slice_get marks k ≡ Some (begins n client m) → Contains (begun marks) n
+begun_at : (marks : List MarkOf) (k : ℕ) (n : ℤ) (client m : List ℕ) → slice_get marks k ≡ Some (begins n client m) → Contains (begun marks) n
 begun_at marks k n client m at = contains_at (begun marks) (length (begun (take k marks))) n (begun_next marks k n client m at)
 
 ended_from : (marks : List MarkOf) (i : ℕ) (n : ℤ) → slice_get (ended marks) i ≡ Some n → (k : ℕ) × (m : List ℕ) × (slice_get marks k ≡ Some (ends n m))

@@ -20,7 +20,7 @@ use Rattle.kmipa_batch.specs.Refusals.{CallExplains, CallRefuted, CallTaken, IsP
 use Rattle.kmipa_batch.specs.declared.refusal.CallRefusal.TheVariants.{Impossible}
 use Rattle.kmipa_check.specs.Calls.{CallOf, AreCalls}
 use Rattle.kmipa_check.specs.Runs.{Linked, Describes, rules_declared, Before, IsPlaced, IsRun, IsAccepted}
-use Rattle.kmipa_check.specs.Verdicts.{IsLate, RunsBack, IsPlacedAt, ArePlaced, ArePossible, ArePossibleUpTo, AreKnown, RefusedItem, RefusedPlace, late, runs_back, RefusedAt, in_place, in_item, IsRefused, GoesUpTo}
+use Rattle.kmipa_check.specs.Verdicts.{IsOrder, IsLate, RunsBack, IsPlacedAt, ArePlaced, ArePossible, ArePossibleUpTo, AreKnown, RefusedItem, RefusedPlace, late, runs_back, RefusedAt, in_place, in_item, IsRefused, GoesUpTo}
 use Rattle.kmipa_check.specs.declared.verdict.Refused.{Refused}
 use Rattle.kmipa_check.specs.Replays.{Replayed}
 use Rattle.kmipa_check.proofs.PlaceLemmas.{below_suc}
@@ -164,16 +164,17 @@ is_placed : (order : List CallOf) → ArePlaced order (length order) → IsPlace
 is_placed order placed = record { kept = all_kept order placed; stamped = rises order placed }
 
 pub replayed_accepts : (marks : List MarkOf) (declared : DeclarationOf) (turns : List TurnOf) (calls order : List CallOf) (m : Meaning) → AreCalls marks calls
-    → map (λ (c : CallOf). c.number) order ≡ map (λ (t : TurnOf). t.call) turns → IsPermutation calls order → Replayed declared order (length order) m → IsAccepted marks declared turns
-replayed_accepts marks declared turns calls order m are named once r =
+    → IsOrder calls turns order → IsPermutation calls order → Replayed declared order (length order) m → IsAccepted marks declared turns
+replayed_accepts marks declared turns calls order m are o once r =
     let c = r.sound.choice in
     let f = r.known.sound c.0 c.1 in
     let P : List CallOf → Type 0 = λ o. Linked (rules_declared declared) f.0 o (inv c.0 m.objects) in
     record {
       calls = calls;
       are = are;
+      formed = o.formed;
       order = order;
-      named = named;
+      named = o.named;
       start = f.0;
       described = f.1;
       run = record { once = once; placed = is_placed order r.placed; last = inv c.0 m.objects; linked = subst P (take_all (length order) order (omega arith)) f.2 };

@@ -2,7 +2,6 @@
 use Rattle.std.proofs.Common.{◌≡◌, ◌<◌, ◌⊎◌, inl, inr, ℕ, zero, suc, ℤ, List, [], ◌∷◌, ◌++◌, length, map, get_or, take, drop, Option, Some, None, slice_get, Contains, Result, Ok, Err, refl, sym, ap, ◌∙◌, subst, arith}
 use Rattle.std.specs.String.{string_bytes}
 use Rattle.kmipa_ttlv.specs.Tree.{Tree}
-use Rattle.kmipa_ttlv.proofs.LawLemmas.{one_spelling_lem}
 use Rattle.kmipa_record.specs.Marks.{MarkOf, begins, ends, begun, ended, AreInOrder, AreRecorded, mark_of}
 use Rattle.kmipa_record.specs.declared.transcript.Mark
 use Rattle.kmipa_record.specs.declared.transcript.Mark.{Mark}
@@ -13,7 +12,7 @@ use Rattle.kmipa_msgs.specs.Requests.{SaysRequest, RequestFault}
 use Rattle.kmipa_msgs.specs.Responses.{SaysResponse, ResponseFault}
 use Rattle.kmipa_msgs.specs.declared.kind.OutsideKind.{OutsideKind}
 use Rattle.kmipa_msgs.specs.declared.response.Response.{Response}
-use Rattle.kmipa_check.specs.Calls.{CallOf, AreMessage, AreOutside, no_item, outside, AreRequest, AreResponse, IsRecorded}
+use Rattle.kmipa_check.specs.Calls.{CallOf, AreRequest, AreResponse, HasMarks, IsRecorded}
 use Rattle.kmipa_check.specs.CallReading.{MessageFault, ResponseRead}
 use Rattle.kmipa_check.specs.Stamps.{IsAnsweredAt, TellsStamp, BeginsAt, EndsAt, AnswerRead}
 use Rattle.kmipa_check.specs.declared.fault.CheckFault.{CheckFault}
@@ -27,61 +26,7 @@ use Rattle.kmipa_record.specs.Declarations.{DeclarationOf}
 use Rattle.kmipa_record.specs.Witnesses.{TurnOf}
 use Rattle.kmipa_msgs.specs.declared.fault.Outside as Message
 use Rattle.kmipa_check.proofs.PlaceLemmas.{at_within, contains_at, get_at, mapped_at, mapped_from}
-use Rattle.kmipa_check.proofs.PermutationLemmas.{IsOnce, once_pairs}
-use Rattle.kmipa_check.proofs.ReadingLemmas.{begun_at}
-
--- ---- one begin mark and one end mark of a number
-
-begun_once : (marks : List MarkOf) → IsOnce (begun marks) → (i j : ℕ) (n : ℤ) (c d a b : List ℕ) → slice_get marks i ≡ Some (begins n c a) → slice_get marks j ≡ Some (begins n d b) → a ≡ b
-begun_once [] once i j n c d a b at there = absurd cc
-begun_once (begins m e x ∷ marks) once zero zero n c d a b at there = cc
-begun_once (begins m e x ∷ marks) once zero (suc j) n c d a b at there =
-    let same : n ≡ m = cc in
-    absurd (once.0 (subst (Contains (begun marks)) same (begun_at marks j n d b there)))
-begun_once (begins m e x ∷ marks) once (suc i) zero n c d a b at there =
-    let same : n ≡ m = cc in
-    absurd (once.0 (subst (Contains (begun marks)) same (begun_at marks i n c a at)))
-begun_once (begins m e x ∷ marks) once (suc i) (suc j) n c d a b at there = begun_once marks once.1 i j n c d a b at there
-begun_once (ends m x ∷ marks) once zero j n c d a b at there = absurd cc
-begun_once (ends m x ∷ marks) once (suc i) zero n c d a b at there = absurd cc
-begun_once (ends m x ∷ marks) once (suc i) (suc j) n c d a b at there = begun_once marks once i j n c d a b at there
-
-ended_ahead : (marks : List MarkOf) (i j : ℕ) (n : ℤ) (a : List ℕ) → i < j → slice_get marks i ≡ Some (ends n a) → (k : ℕ) × (slice_get (ended (take j marks)) k ≡ Some n)
-ended_ahead [] i j n a below at = absurd cc
-ended_ahead (mark ∷ marks) i zero n a below at = absurd (omega (arith, below))
-ended_ahead (begins m e x ∷ marks) zero (suc j) n a below at = absurd cc
-ended_ahead (ends m x ∷ marks) zero (suc j) n a below at = (0, cc)
-ended_ahead (begins m e x ∷ marks) (suc i) (suc j) n a below at = ended_ahead marks i j n a (omega (arith, below)) at
-ended_ahead (ends m x ∷ marks) (suc i) (suc j) n a below at = let r = ended_ahead marks i j n a (omega (arith, below)) at in (suc r.0, r.1)
-
-parted : {X : Type 0} (xs : List X) (j : ℕ) (x : X) → slice_get xs j ≡ Some x → xs ≡ take j xs ++ x ∷ drop (suc j) xs
-parted [] j x at = absurd cc
-parted {X} (y ∷ xs) zero x at = let same : y ≡ x = cc in ap (λ (z : X). z ∷ xs) same
-parted {X} (y ∷ xs) (suc j) x at = ap (λ (l : List X). y ∷ l) (parted xs j x at)
-
-ended_twice : (marks : List MarkOf) (i j : ℕ) (n : ℤ) (a b : List ℕ) → AreInOrder marks → i < j → slice_get marks i ≡ Some (ends n a) → slice_get marks j ≡ Some (ends n b) → ⊥
-ended_twice marks i j n a b r below at there =
-    let ahead = ended_ahead marks i j n a below at in
-    (r.answered (take j marks) (drop (suc j) marks) n b (parted marks j (ends n b) there)).1 (contains_at (ended (take j marks)) ahead.0 n ahead.1)
-
-apart : (i j : ℕ) → (i < j) ⊎ ((i ≡ j) ⊎ (j < i))
-apart zero zero = inr (inl refl)
-apart zero (suc j) = inl (omega arith)
-apart (suc i) zero = inr (inr (omega arith))
-apart (suc i) (suc j) = up (apart i j)
-  where
-    up : (i < j) ⊎ ((i ≡ j) ⊎ (j < i)) → (suc i < suc j) ⊎ ((suc i ≡ suc j) ⊎ (suc j < suc i))
-    up (inl h) = inl (omega (arith, h))
-    up (inr (inl e)) = inr (inl (ap suc e))
-    up (inr (inr h)) = inr (inr (omega (arith, h)))
-
-ended_once : (marks : List MarkOf) (i j : ℕ) (n : ℤ) (a b : List ℕ) → AreInOrder marks → slice_get marks i ≡ Some (ends n a) → slice_get marks j ≡ Some (ends n b) → a ≡ b
-ended_once marks i j n a b r at there = by (apart i j)
-  where
-    by : (i < j) ⊎ ((i ≡ j) ⊎ (j < i)) → a ≡ b
-    by (inl h) = absurd (ended_twice marks i j n a b r h at there)
-    by (inr (inl e)) = cc
-    by (inr (inr h)) = absurd (ended_twice marks j i n b a r h there at)
+use Rattle.kmipa_check.proofs.RecordedLemmas.{not_outside, same_marks, same_message}
 
 -- ---- the mark at a place
 
@@ -105,21 +50,7 @@ ends_here marks place (Mark.TheVariants.End e) number answered below is at =
     let numbers : e.call ≡ number = cc in
     (e, refl, numbers)
 
--- ---- one message of the bytes
-
-one_said : {M : Type 0} (Said : Tree → M → Type 0) (Fault : Tree → ℕ → OutsideKind → Type 0) (bytes : List ℕ) (x y : M) → AreMessage Said Fault bytes x → AreMessage Said Fault bytes y → x ≡ y
-one_said Said Fault bytes x y a b =
-    let same : a.item ≡ b.item = (one_spelling_lem a.item b.item bytes bytes [] [] a.spelled b.spelled refl).0 in
-    let P : Tree → Type 0 = λ t. Said t x in
-    b.inside.only x (subst P same a.inside.said)
-
-not_outside : {M : Type 0} (Said : Tree → M → Type 0) (Fault : Tree → ℕ → OutsideKind → Type 0) (bytes : List ℕ) (x : M) (place : ℕ) (kind : OutsideKind)
-    → AreMessage Said Fault bytes x → AreOutside Fault bytes place kind → ⊥
-not_outside Said Fault bytes x place kind m (no_item none e f) = none m.item m.spelled
-not_outside Said Fault bytes x place kind m (outside item spelled at) =
-    let same : item ≡ m.item = (one_spelling_lem item m.item bytes bytes [] [] spelled m.spelled refl).0 in
-    let P : Tree → Type 0 = λ t. Fault t place kind in
-    m.inside.right place kind (subst P same at.here)
+-- ---- the messages
 
 pub request_unsaid : (asked answered : List ℕ) (number : ℤ) (r : Result Response CheckFault) (fault : CheckFault) → r ≡ Err fault → MessageFault RequestFault Client number asked fault
     → AnswerRead asked answered r
@@ -136,7 +67,7 @@ pub response_told : (asked answered : List ℕ) (number : ℤ) (request : Reques
     → AnswerRead asked answered r
 response_told asked answered number request (Ok response) said told = (request, said, told)
 response_told asked answered number request (Err (Outside n s o)) said h = λ other response heard told.
-    let same : other ≡ request = one_said SaysRequest RequestFault asked other request heard said in
+    let same : other ≡ request = same_message SaysRequest RequestFault asked other request heard said in
     let P : RequestOf → Type 0 = λ q. AreResponse q answered response in
     not_outside (λ t. SaysResponse t request) (λ t. ResponseFault t request) answered response o.item o.kind (subst P same told) h.2
 response_told asked answered number request (Err (Witness w)) said h = h
@@ -166,13 +97,11 @@ unended marks number none = λ recorded c is same.
 unsaid : (marks : List MarkOf) (number : ℤ) (asked answered : List ℕ) (begin end : ℕ) → BeginsAt marks number asked begin → EndsAt marks number answered end
     → ((request : RequestOf) (response : ResponseOf) → AreRequest asked request → AreResponse request answered response → ⊥) → TellsStamp marks number None
 unsaid marks number asked answered begin end b e none = λ recorded c is same.
-    let P : ℤ → Type 0 = λ n. slice_get marks c.begin ≡ Some (begins n is.carried.client is.asked) in
-    let Q : ℤ → Type 0 = λ n. slice_get marks c.end ≡ Some (ends n is.answered) in
+    let P : ℤ → Type 0 = λ n. HasMarks marks n c.begin c.end is.asked is.answered in
     let R : List ℕ → Type 0 = λ bytes. AreRequest bytes c.request in
     let S : List ℕ → Type 0 = λ bytes. AreResponse c.request bytes c.response in
-    let asks : is.asked ≡ asked = begun_once marks (once_pairs (begun marks) recorded.in_order.once) c.begin begin number is.carried.client b.0 is.asked asked (subst P same is.carried.begins) b.1 in
-    let answers : is.answered ≡ answered = ended_once marks c.end end number is.answered answered recorded.in_order (subst Q same is.carried.ends) e in
-    none c.request c.response (subst R asks is.request) (subst S answers is.response)
+    let m = same_marks marks number c.begin c.end begin end is.asked is.answered asked answered recorded (subst P same is.carried) (record { client = b.0; begins = b.1; ends = e }) in
+    none c.request c.response (subst R m.asked_same is.request) (subst S m.answered_same is.response)
 
 -- ---- the same of the program's values
 

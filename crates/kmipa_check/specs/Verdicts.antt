@@ -3,7 +3,7 @@ use Rattle.std.specs.Prelude.{◌≡◌, ◌≤◌, ◌<◌, ◌⊎◌, ◌≤�
 use Rattle.kmipa_object.specs.Inventory.{Thing}
 use Rattle.kmipa_store.specs.Ledger.{Meaning}
 use Rattle.kmipa_store.specs.Choices.{Choice, Chooses, Agrees, inv, Extends}
-use Rattle.kmipa_record.specs.Marks.{MarkOf}
+use Rattle.kmipa_record.specs.Marks.{MarkOf, AreRecorded}
 use Rattle.kmipa_record.specs.Declarations.{DeclarationOf}
 use Rattle.kmipa_record.specs.Witnesses.{TurnOf}
 use Rattle.kmipa_msgs.specs.Messages.{RulesOf, RequestOf, ResponseOf}
@@ -117,3 +117,8 @@ Checks marks declared turns (Ok verdict) = TellsVerdict marks declared turns ver
 Checks marks declared turns (Err (Outside number side o)) = IsFirstOutside marks number side o.item o.kind
 Checks marks declared turns (Err (Witness f)) = (calls : List CallOf) × AreCalls marks calls × WitnessFaultAt calls turns f.at f.kind
 Checks marks declared turns (Err Memory) = Unit {0}
+
+-- of an accepted witness a check answers yes, unless memory runs out; so it answers yes exactly there
+abbrev pub AcceptedIsYes : Type 0
+AcceptedIsYes = (marks : List MarkOf) (declared : DeclarationOf) (turns : List TurnOf) (result : Result Verdict CheckFault)
+    → AreRecorded marks → IsAccepted marks declared turns → Checks marks declared turns result → (result ≡ Ok Yes) ⊎ (result ≡ Err Memory)
