@@ -7,6 +7,9 @@ pub mod LateLemmas
 pub mod OrderedLemmas
 pub mod OrderLemmas
 pub mod WholeOrderLemmas
+pub mod DescribedLemmas
+pub mod DeclarableLemmas
+pub mod DeclareLemmas
 pub mod OpeningLemmas
 pub mod ReadableLemmas
 pub mod TurnLemmas

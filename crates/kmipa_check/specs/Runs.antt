@@ -1,12 +1,13 @@
 -- Runs: the calls one at a time, in an order, from an inventory that the declaration describes.
-use Rattle.std.specs.Prelude.{◌≡◌, ◌<◌, ◌≤ℤ◌, ℕ, ℤ, List, [], ◌∷◌, map, length, AllPairs, IsPermutation}
-use Rattle.kmipa_object.specs.Inventory.{Thing, IsInventory}
+use Rattle.std.specs.Prelude.{◌≡◌, ◌<◌, ◌≤ℤ◌, List, [], ◌∷◌, map, length, AllPairs, IsPermutation}
+use Rattle.kmipa_object.specs.Inventory.{Thing}
 use Rattle.kmipa_record.specs.Marks.{MarkOf}
 use Rattle.kmipa_record.specs.Declarations.{DeclarationOf}
 use Rattle.kmipa_record.specs.Witnesses.{TurnOf}
-use Rattle.kmipa_msgs.specs.Messages.{RulesOf, RequestOf, ResponseOf, default_rules}
+use Rattle.kmipa_msgs.specs.Messages.{RulesOf, RowOf, default_rules}
 use Rattle.kmipa_batch.specs.Calls.{CallSome}
 use Rattle.kmipa_check.specs.Calls.{CallOf, AreCalls}
+use Rattle.kmipa_check.specs.Described.{Describes}
 use Rattle.kmipa_check.specs.Orders.{AreFormedBelow}
 
 -- the end mark of one call stands ahead of the begin mark of another
@@ -30,14 +31,14 @@ pub record IsRun (rules : RulesOf) (calls : List CallOf) (start : List Thing) (o
   pub last : List Thing
   pub linked : Linked rules start order last
 
--- the rules that a declaration gives; one without rows has the default one
-abbrev pub rules_declared : DeclarationOf → RulesOf
-rules_declared declared = record default_rules { unique_names = declared.unique_names }
+-- the rows of a declaration; one without rows has the default one
+abbrev pub rows_declared : List RowOf → List RowOf
+rows_declared [] = default_rules.rows
+rows_declared (row ∷ rows) = row ∷ rows
 
--- the inventory has exactly the declared objects; a declaration has none, so far
-pub record Describes (declared : DeclarationOf) (things : List Thing) : Type 0 where
-  pub inventory : IsInventory things
-  pub objects : things ≡ []
+-- the rules that a declaration gives
+abbrev pub rules_declared : DeclarationOf → RulesOf
+rules_declared declared = record { unique_names = declared.unique_names; rows = rows_declared declared.rows }
 
 -- The witness is formed for the calls of the transcript, and some inventory that the declaration describes has a run of all calls in the
 -- order of the witness, which gives every recorded response.
