@@ -1,5 +1,5 @@
 -- What is printed of a verdict or a fault, and the status that goes with it.
-use Rattle.std.specs.Prelude.{◌≡◌, ◌⊎◌, ℕ, ℤ, List, [], ◌∷◌, ◌++◌, codes, Option, Some, None, Result, Ok, Err}
+use Rattle.std.specs.Prelude.{◌≡◌, ◌⊎◌, ℕ, ℤ, Bool, false, List, [], ◌∷◌, ◌++◌, codes, Option, Some, None, Result, Ok, Err}
 use Rattle.std.specs.Fmt.{decimal, signed_decimal}
 use Rattle.std.specs.Io.{StartsWith}
 use Rattle.kmipa_ttlv.specs.Flaw.{fault_name}
@@ -10,6 +10,7 @@ use Rattle.kmipa_record.specs.declared.fault.RecordKind.{RecordKind}
 use Rattle.kmipa_record.specs.declared.fault.RecordKind.TheVariants.{Ttlv, Device, Memory}
 use Rattle.kmipa_record.specs.Marks.{MarkOf}
 use Rattle.kmipa_record.specs.Transcripts.{transcript_of, IsTranscript}
+use Rattle.kmipa_check.specs.Audits.{AreAccepted}
 use Rattle.kmipa_check.specs.Kinds as witnesses
 use Rattle.kmipa_check.specs.Stamps.{IsAnsweredAt, TellsStamp}
 use Rattle.kmipa_check.specs.declared.auditing.Audited.{Audited}
@@ -23,6 +24,7 @@ use Rattle.kmipa_check.specs.declared.verdict.Refused.{Refused}
 use Rattle.kmipa_check.specs.declared.verdict.Verdict.{Verdict}
 use Rattle.kmipa_check.specs.declared.verdict.Verdict.TheVariants as verdict
 use Rattle.kmip_audit.specs.Dates.{HasDate}
+use Rattle.kmip_audit.specs.Statuses.{IsSilent}
 use Rattle.kmip_audit.specs.declared.status.Status.{Status}
 use Rattle.kmip_audit.specs.declared.status.Status.TheVariants as status
 
@@ -114,6 +116,11 @@ PrintsFault fault said lines = (said ≡ fault_status fault) × (lines ≡ fault
 abbrev pub PrintsOutcome : Result Audited AuditFault → Status → List ℕ → Type 0
 PrintsOutcome (Ok audited) said lines = PrintsVerdict (transcript_of audited.transcript) audited.verdict said lines
 PrintsOutcome (Err fault) said lines = PrintsFault fault said lines
+
+-- where the bytes are accepted, and no input failed, the answer is yes, or memory ran out
+abbrev pub SaysYes : Bool → Bool → Bool → Status → List ℕ → List ℕ → List ℕ → List ℕ → Type 0
+SaysYes failed_t failed_d failed_w said lines t d w =
+    AreAccepted t d w → failed_t ≡ false → failed_d ≡ false → failed_w ≡ false → (said ≡ status.Done) ⊎ IsSilent said lines
 
 -- what may stand on standard output at a status
 abbrev pub FitsStatus : Status → List ℕ → Type 0

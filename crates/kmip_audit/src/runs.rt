@@ -4,7 +4,7 @@ ghost use Rattle.std.specs.Prelude.{◌≡◌, ◌↔◌, ◌⊎◌, Result};
 ghost use Rattle.std.specs.Io.{StartsWith, appended_bytes};
 ghost use Rattle.kmipa_ttlv.specs.Input.{is_failed, reader_of, taken_of};
 ghost use Rattle.kmip_audit.specs.Statuses.{IsSilent};
-ghost use Rattle.kmip_audit.specs.Lines.{FitsStatus, IsDated, PrintsOutcome, yes_line};
+ghost use Rattle.kmip_audit.specs.Lines.{FitsStatus, IsDated, PrintsOutcome, SaysYes, yes_line};
 ghost use Rattle.kmipa_check.specs.Audits.{AreAccepted, Audits, IfKnown};
 
 use crate::lines::fault_lines;
@@ -36,6 +36,8 @@ pub fn check_run<R: Read>(
     ensures appends { StartsWith out.new.items out.old.items }
     ensures accepts { result ≡ Status.Done → IfKnown (R.remaining (reader_of transcript.old)) (R.remaining (reader_of declaration.old))
         (R.remaining (reader_of witness.old)) AreAccepted }
+    ensures accepted { IfKnown (R.remaining (reader_of transcript.old)) (R.remaining (reader_of declaration.old)) (R.remaining (reader_of witness.old))
+        (SaysYes (is_failed transcript.new) (is_failed declaration.new) (is_failed witness.new) result (appended_bytes out.old.items out.new.items)) }
     ensures dated { result ≡ Status.No → IfKnown (R.remaining (reader_of transcript.old)) (R.remaining (reader_of declaration.old))
         (R.remaining (reader_of witness.old)) (IsDated (appended_bytes out.old.items out.new.items)) }
 {

@@ -1,8 +1,7 @@
 -- The stamp of the one call of a number.
-use Rattle.std.proofs.Common.{◌≡◌, ◌<◌, ◌⊎◌, inl, inr, ℕ, zero, suc, ℤ, List, [], ◌∷◌, ◌++◌, length, map, get_or, take, drop, Option, Some, None, slice_get, Contains, Result, Ok, Err, refl, sym, ap, ◌∙◌, subst, arith}
+use Rattle.std.proofs.Common.{◌≡◌, ◌<◌, ℕ, ℤ, List, length, map, get_or, Option, Some, None, slice_get, Result, Ok, Err, refl, sym, ◌∙◌, subst}
 use Rattle.std.specs.String.{string_bytes}
-use Rattle.kmipa_ttlv.specs.Tree.{Tree}
-use Rattle.kmipa_record.specs.Marks.{MarkOf, begins, ends, begun, ended, AreInOrder, AreRecorded, mark_of}
+use Rattle.kmipa_record.specs.Marks.{MarkOf, begins, ends, AreRecorded, mark_of}
 use Rattle.kmipa_record.specs.declared.transcript.Mark
 use Rattle.kmipa_record.specs.declared.transcript.Mark.{Mark}
 use Rattle.kmipa_record.specs.declared.transcript.Begin.{Begin}
@@ -10,7 +9,6 @@ use Rattle.kmipa_record.specs.declared.transcript.End.{End}
 use Rattle.kmipa_msgs.specs.Messages.{RequestOf, ResponseOf, response_of}
 use Rattle.kmipa_msgs.specs.Requests.{SaysRequest, RequestFault}
 use Rattle.kmipa_msgs.specs.Responses.{SaysResponse, ResponseFault}
-use Rattle.kmipa_msgs.specs.declared.kind.OutsideKind.{OutsideKind}
 use Rattle.kmipa_msgs.specs.declared.response.Response.{Response}
 use Rattle.kmipa_check.specs.Calls.{CallOf, AreRequest, AreResponse, HasMarks, IsRecorded}
 use Rattle.kmipa_check.specs.CallReading.{MessageFault, ResponseRead}
@@ -25,7 +23,7 @@ use Rattle.kmipa_check.specs.Verdicts.{TellsVerdict}
 use Rattle.kmipa_record.specs.Declarations.{DeclarationOf}
 use Rattle.kmipa_record.specs.Witnesses.{TurnOf}
 use Rattle.kmipa_msgs.specs.declared.fault.Outside as Message
-use Rattle.kmipa_check.proofs.PlaceLemmas.{at_within, contains_at, get_at, mapped_at, mapped_from}
+use Rattle.kmipa_check.proofs.PlaceLemmas.{at_within, get_at, mapped_at, mapped_from}
 use Rattle.kmipa_check.proofs.RecordedLemmas.{not_outside, same_marks, same_message}
 
 -- ---- the mark at a place
