@@ -27,17 +27,21 @@ pub fn check_run<R: Read>(
     requires transcript { taken_of transcript.old ≡ 0 }
     requires declaration { taken_of declaration.old ≡ 0 }
     requires witness { taken_of witness.old ≡ 0 }
+    // What is printed tells what an audit of the inputs answers, or memory ran out.
     ensures prints { (outcome : Result Audited AuditFault)
         × Audits (R.remaining (reader_of transcript.old)) (R.remaining (reader_of declaration.old)) (R.remaining (reader_of witness.old))
         (is_failed transcript.new) (is_failed declaration.new) (is_failed witness.new) outcome
         × (PrintsOutcome outcome result (appended_bytes out.old.items out.new.items) ⊎ IsSilent result (appended_bytes out.old.items out.new.items)) }
+    // `yes` is printed with status 0, and there alone.
     ensures fits { FitsStatus result (appended_bytes out.old.items out.new.items) }
     ensures yes { (result ≡ Status.Done) ↔ (appended_bytes out.old.items out.new.items ≡ yes_line) }
     ensures appends { StartsWith out.new.items out.old.items }
+    // Status 0 is answered only where the bytes, as far as they are known, are accepted; and there, unless an input fails or memory runs out.
     ensures accepts { result ≡ Status.Done → IfKnown (R.remaining (reader_of transcript.old)) (R.remaining (reader_of declaration.old))
         (R.remaining (reader_of witness.old)) AreAccepted }
     ensures accepted { IfKnown (R.remaining (reader_of transcript.old)) (R.remaining (reader_of declaration.old)) (R.remaining (reader_of witness.old))
         (SaysYes (is_failed transcript.new) (is_failed declaration.new) (is_failed witness.new) result (appended_bytes out.old.items out.new.items)) }
+    // A no has its date.
     ensures dated { result ≡ Status.No → IfKnown (R.remaining (reader_of transcript.old)) (R.remaining (reader_of declaration.old))
         (R.remaining (reader_of witness.old)) (IsDated (appended_bytes out.old.items out.new.items)) }
 {

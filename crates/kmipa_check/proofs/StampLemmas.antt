@@ -6,10 +6,13 @@ use Rattle.kmipa_record.specs.declared.transcript.Mark
 use Rattle.kmipa_record.specs.declared.transcript.Mark.{Mark}
 use Rattle.kmipa_record.specs.declared.transcript.Begin.{Begin}
 use Rattle.kmipa_record.specs.declared.transcript.End.{End}
+use Rattle.kmipa_record.specs.Declarations.{DeclarationOf}
+use Rattle.kmipa_record.specs.Witnesses.{TurnOf}
 use Rattle.kmipa_msgs.specs.Messages.{RequestOf, ResponseOf, response_of}
 use Rattle.kmipa_msgs.specs.Requests.{SaysRequest, RequestFault}
 use Rattle.kmipa_msgs.specs.Responses.{SaysResponse, ResponseFault}
 use Rattle.kmipa_msgs.specs.declared.response.Response.{Response}
+use Rattle.kmipa_msgs.specs.declared.fault.Outside as Message
 use Rattle.kmipa_check.specs.Calls.{CallOf, AreRequest, AreResponse, HasMarks, IsRecorded}
 use Rattle.kmipa_check.specs.CallReading.{MessageFault, ResponseRead}
 use Rattle.kmipa_check.specs.Stamps.{IsAnsweredAt, TellsStamp, BeginsAt, EndsAt, AnswerRead}
@@ -20,9 +23,6 @@ use Rattle.kmipa_check.specs.declared.fault.Side.TheVariants.{Client}
 use Rattle.kmipa_check.specs.declared.verdict.Refused.{Refused}
 use Rattle.kmipa_check.specs.declared.verdict.Verdict.TheVariants.{No}
 use Rattle.kmipa_check.specs.Verdicts.{TellsVerdict}
-use Rattle.kmipa_record.specs.Declarations.{DeclarationOf}
-use Rattle.kmipa_record.specs.Witnesses.{TurnOf}
-use Rattle.kmipa_msgs.specs.declared.fault.Outside as Message
 use Rattle.kmipa_check.proofs.PlaceLemmas.{at_within, get_at, mapped_at, mapped_from}
 use Rattle.kmipa_check.proofs.RecordedLemmas.{not_outside, same_marks, same_message}
 

@@ -28,6 +28,7 @@ pub fn stamp_of(
     match answer_of(alloc, begin, end) {
         Ok(response) => Ok(Some(response.stamp)),
         Err(CheckFault::Outside(_, _, _)) => Ok(None),
+        // Only want of memory is left.
         Err(_) => Err(AllocError),
     }
 }
