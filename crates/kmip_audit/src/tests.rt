@@ -1,11 +1,11 @@
-//! What no clause says: printed text, the rows of the profile, and what refused reads and memory leave.
+//! What no clause says: printed text, the verdicts on small sessions, and what refused reads and memory leave.
 
 mod lines;
 mod memory;
 mod reads;
 mod records;
-mod rows;
 mod runs;
 mod sessions;
 mod starved;
+mod verdicts;
 mod words;

@@ -11,7 +11,7 @@ use Rattle.kmipa_check.specs.declared.fault.CheckFault.TheVariants.{Outside, Wit
 abbrev pub IsAnsweredAt : List MarkOf → ℤ → ℤ → Type 0
 IsAnsweredAt marks number stamp = (c : CallOf) × IsRecorded marks c × (c.number ≡ number) × (c.response.stamp ≡ stamp)
 
--- the Time Stamp of the response of the call of this number; without one no call of a whole transcript is recorded so
+-- the Time Stamp of the response of the call of this number; none where a whole transcript records no such call
 abbrev pub TellsStamp : List MarkOf → ℤ → Option ℤ → Type 0
 TellsStamp marks number (Some stamp) = IsAnsweredAt marks number stamp
 TellsStamp marks number None = AreRecorded marks → (c : CallOf) → IsRecorded marks c → c.number ≡ number → ⊥

@@ -10,8 +10,8 @@ static IN_ORDER: [&str; 3] = [WITNESS, TURN_1, TURN_2];
 static BACKWARDS: [&str; 3] = [WITNESS, TURN_2, TURN_1];
 
 #[test]
-fn accepts_rows(rt: HostRuntime) -> Result<(), Fail> {
-    let rows = [
+fn accepts_sessions(rt: HostRuntime) -> Result<(), Fail> {
+    let sessions = [
         ("headers_alone", [].as_slice(), [WITNESS].as_slice()),
         (
             "register_then_get",
@@ -24,7 +24,7 @@ fn accepts_rows(rt: HostRuntime) -> Result<(), Fail> {
             IN_ORDER.as_slice(),
         ),
     ];
-    for (name, marks, witness) in rows {
+    for (name, marks, witness) in sessions {
         let (status, out) = Files::new(rt.alloc(), marks, witness)?.check(rt.alloc())?;
         assert_eq!(rt; out.as_str(), "yes\n", "{name}");
         assert_eq!(rt; status, Status::Done, "{name}");
@@ -33,8 +33,8 @@ fn accepts_rows(rt: HostRuntime) -> Result<(), Fail> {
 }
 
 #[test]
-fn refuses_rows(rt: HostRuntime) -> Result<(), Fail> {
-    let rows = [
+fn refuses_sessions(rt: HostRuntime) -> Result<(), Fail> {
+    let sessions = [
         (
             [REGISTER_K, REGISTERED_R1, GET_R1, SHOWN_J].as_slice(),
             IN_ORDER.as_slice(),
@@ -71,7 +71,7 @@ fn refuses_rows(rt: HostRuntime) -> Result<(), Fail> {
             "no: turn 1 call 2 item 0 why 1 EarlierCallLate\nat 2023-11-14T22:13:21Z\n",
         ),
     ];
-    for (marks, witness, lines) in rows {
+    for (marks, witness, lines) in sessions {
         let (status, out) = Files::new(rt.alloc(), marks, witness)?.check(rt.alloc())?;
         assert_eq!(rt; out.as_bytes(), lines.as_bytes(), "{lines}");
         assert_eq!(rt; status, Status::No, "{lines}");
