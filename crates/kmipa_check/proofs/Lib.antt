@@ -19,3 +19,4 @@ pub mod ReadingLemmas
 pub mod RecordedLemmas
 pub mod AcceptedLemmas
 pub mod AcceptedAuditLemmas
+pub mod StampLemmas

@@ -10,3 +10,5 @@ pub mod Late
 pub mod Ordering
 pub mod Audits
 pub mod CallReading
+pub mod Kinds
+pub mod Stamps

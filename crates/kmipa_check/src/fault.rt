@@ -53,6 +53,32 @@ pub enum WitnessKind {
     FillForm = 6,
 }
 
+impl WitnessKind {
+    ghost use Rattle.std.specs.Prelude.{◌≡◌};
+    ghost use Rattle.kmipa_check.specs.Kinds.{kind_name, kind_number};
+
+    /// The number of the kind.
+    pub fn number(self) -> u8
+        ensures { result ≡ kind_number self }
+    {
+        self as u8
+    }
+
+    /// The name of the kind.
+    pub fn name(self) -> &'static str
+        ensures { result.now ≡ kind_name self }
+    {
+        match self {
+            WitnessKind::UnknownCall => "UnknownCall",
+            WitnessKind::Twice => "Twice",
+            WitnessKind::LeftOut => "LeftOut",
+            WitnessKind::FillNotWanted => "FillNotWanted",
+            WitnessKind::FillMissing => "FillMissing",
+            WitnessKind::FillForm => "FillForm",
+        }
+    }
+}
+
 impl From<AllocError> for CheckFault {
     ghost use Rattle.std.specs.Prelude.{◌≡◌};
     ghost use Rattle.kmipa_check.specs.declared.fault.CheckFault.TheVariants.{Memory};

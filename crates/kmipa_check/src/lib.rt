@@ -12,6 +12,7 @@ mod opening;
 mod order;
 mod reading;
 mod replay;
+mod stamp;
 mod verdict;
 
 pub use auditing::{AuditFault, Audited, audit, audit_with};
@@ -21,6 +22,7 @@ pub use fault::{CheckFault, Side, WitnessFault, WitnessKind};
 pub use laws::{accepted_audit_is_yes, accepted_is_yes};
 pub use opening::{open_ledger, rules_of_declaration};
 pub use reading::read_calls;
+pub use stamp::stamp_of;
 pub use verdict::{Refused, Verdict};
 
 #[cfg(test)]

@@ -71,7 +71,7 @@ fn read_mark<'a>(
 }
 
 /// The request of a begin mark.
-fn request_in<'a>(alloc: Global, begin: &'a Begin) -> Result<Request<'a>, CheckFault>
+pub fn request_in<'a>(alloc: Global, begin: &'a Begin) -> Result<Request<'a>, CheckFault>
     ensures { RequestRead begin.now.call begin.now.message.items result }
 {
     let Some(view) = whole_item(alloc, &begin.message)? else {
@@ -87,7 +87,7 @@ fn request_in<'a>(alloc: Global, begin: &'a Begin) -> Result<Request<'a>, CheckF
 }
 
 /// The response of an end mark.
-fn response_in<'a>(
+pub fn response_in<'a>(
     alloc: Global,
     end: &'a End,
     request: &Request,

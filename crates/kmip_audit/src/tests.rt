@@ -1,0 +1,11 @@
+//! What no clause says: printed text, the verdicts on small sessions, and what refused reads and memory leave.
+
+mod lines;
+mod memory;
+mod reads;
+mod records;
+mod runs;
+mod sessions;
+mod starved;
+mod verdicts;
+mod words;
