@@ -37,6 +37,7 @@ reads_asked Get ts = reads_as kind_number _ _ (SaysAsked Get ts) (AskedFault Get
     from : (y : AskedOf) → SaysAsked Get ts y → (x : Option (List ℕ)) × SaysGet ts x × (y ≡ gets x)
     from (gets x) s = (x, s, refl)
     from _ s = absurd s
+reads_asked _ ts = record { here = refl; least = λ j lt w. same_kind j Missing lt w }
 
 reads_unless_wrong : {A : Type 0} (f : Field A) (k : OutsideKind) → Reads kind_number (λ (u : Unit {0}). Unit {0}) (λ j. (j ≡ k) × IsWrong f) (unless_wrong f k)
 reads_unless_wrong Absent k = record { said = tt; only = λ y h. refl; right = λ j h. h.1 }

@@ -28,6 +28,7 @@ reads_done Get ts = reads_as kind_number _ _ (SaysDone Get ts) (DoneFault Get ts
     from : (y : PayloadOf) → SaysDone Get ts y → (x : GotOf) × SaysGot ts x × (y ≡ got x)
     from (got x) s = (x, s, refl)
     from _ s = absurd s
+reads_done _ ts = record { here = refl; least = λ j lt w. same_kind j Missing lt w }
 
 pub reads_payload : (operation : Operation) (t : Tree) → Reads kind_number (SaysPayloadOf operation t) (PayloadOfFault operation t) (payload_in operation t)
 reads_payload operation (structure n ts) = reads_done operation ts

@@ -12,7 +12,7 @@ use Rattle.kmipa_msgs.specs.declared.operation.Operation.TheVariants.{Register, 
 use Rattle.kmipa_msgs.specs.declared.request.BatchOption.{BatchOption}
 use Rattle.kmipa_msgs.specs.declared.request.BatchOption.TheVariants.{Continue, Stop, Undo}
 use Rattle.kmipa_msgs.specs.Operations.{operation_number, operation_of}
-use Rattle.kmipa_msgs.specs.Messages.{AskOf, operation_asked, RequestOf}
+use Rattle.kmipa_msgs.specs.Messages.{AskedOf, registers, gets, AskOf, operation_asked, RequestOf}
 use Rattle.kmipa_msgs.specs.Tables.{children}
 use Rattle.kmipa_msgs.specs.Headers.{is_message, is_version, batch}
 use Rattle.kmipa_msgs.specs.Outside.{SaysEach}
@@ -25,9 +25,11 @@ use Rattle.kmipa_msgs.proofs.WrittenMessageLemmas.{each_length, each_written, ev
 
 -- ITEMS
 
-pub operation_listed : (operation : Operation) → operation_of (operation_number operation) ≡ Some operation
-operation_listed Register = refl
-operation_listed Get = refl
+-- an operation that is read has a number by which it is read
+pub operation_listed : (operation : Operation) (ts : Trees) (a : AskedOf) → SaysAsked operation ts a → operation_of (operation_number (operation_asked a)) ≡ Some (operation_asked a)
+operation_listed Register ts (registers r) s = refl
+operation_listed Get ts (gets id) s = refl
+operation_listed _ ts _ s = absurd s
 
 payload_inside : (a : AskOf) → inside 0x42_0079 (in_order (ask_fields a)) ≡ in_order (asked_fields a.asked)
 payload_inside a =
@@ -42,7 +44,7 @@ ask_written t a h =
       is = record {
         number = number;
         is = required_written as_enumeration 0x42_005C (ask_fields a) (scalar 0x42_005C (Tree.enumeration number)) number refl refl;
-        listed = operation_listed (operation_asked a.asked);
+        listed = operation_listed h.operation (inside 0x42_0079 (children t)) a.asked h.asked;
       };
       asked = subst (λ (ts : Trees). SaysAsked (operation_asked a.asked) ts a.asked) (sym (payload_inside a)) (asked_written h.operation (inside 0x42_0079 (children t)) a.asked h.asked);
       batch_id = value_written (at as_bytes 0x42_0093 (in_order (ask_fields a))) a.batch_id

@@ -11,6 +11,7 @@ use Rattle.kmipa_attrs.specs.declared.fields.Field.{Field}
 use Rattle.kmipa_attrs.specs.declared.fields.Field.TheVariants.{There}
 use Rattle.kmipa_attrs.specs.declared.object_type.ObjectType.{ObjectType}
 use Rattle.kmipa_msgs.specs.declared.operation.Operation.{Operation}
+use Rattle.kmipa_msgs.specs.declared.operation.Operation.TheVariants.{Create, Register, Get, GetAttributes, Activate, Revoke, Destroy, Idle, Other}
 use Rattle.kmipa_msgs.specs.declared.response.Status.{Status}
 use Rattle.kmipa_msgs.specs.declared.response.Status.TheVariants.{Success, Failed, Undone}
 use Rattle.kmipa_msgs.specs.Numbers.{status_number, status_of}
@@ -18,7 +19,7 @@ use Rattle.kmipa_msgs.specs.Messages.{AskOf, RequestOf, PayloadOf, registered, g
 use Rattle.kmipa_msgs.specs.Tables.{children}
 use Rattle.kmipa_msgs.specs.Headers.{is_message, is_version, batch}
 use Rattle.kmipa_msgs.specs.Outside.{SaysEach}
-use Rattle.kmipa_msgs.specs.Payloads.{SaysPayloadOf}
+use Rattle.kmipa_msgs.specs.Payloads.{SaysDone, SaysPayloadOf}
 use Rattle.kmipa_msgs.specs.Replies.{own, filled, SaysRequired, SaysMaybe, SaysShown, SaysAnswer}
 use Rattle.kmipa_msgs.specs.Responses.{response_header, SaysResponse}
 use Rattle.kmipa_msgs.specs.Written.{in_order, field, written_payload, answer_fields, written_answer, response_header_fields, written_response}
@@ -33,15 +34,15 @@ payload_said operation (structure n ts) p s = done_written operation ts p s
 payload_said operation (scalar n k) p s = absurd s
 
 -- a payload that is written has children
-payload_filled : (p : PayloadOf) → filled (Some (written_payload p)) ≡ Some (written_payload p)
-payload_filled (registered r) = with_id r.object_type r.id
+payload_filled : (operation : Operation) (ts : Trees) (p : PayloadOf) → SaysDone operation ts p → filled (Some (written_payload p)) ≡ Some (written_payload p)
+payload_filled Register ts (registered r) s = with_id r.object_type r.id
   where
     with_id : (told : Option ℕ) (id : List ℕ)
         → filled (Some (structure 0x42_007C (in_order (field Tree.enumeration 0x42_0057 told ∷ field Tree.text 0x42_0094 (Some id) ∷ []))))
         ≡ Some (structure 0x42_007C (in_order (field Tree.enumeration 0x42_0057 told ∷ field Tree.text 0x42_0094 (Some id) ∷ [])))
     with_id None id = refl
     with_id (Some n) id = refl
-payload_filled (got g) = with_object g.object_type g.id
+payload_filled Get ts (got g) s = with_object g.object_type g.id
   where
     with_object : (told : Option ObjectType) (id : Option (List ℕ))
         → filled (Some (written_payload (got (record g { object_type = told; id = id })))) ≡ Some (written_payload (got (record g { object_type = told; id = id })))
@@ -49,6 +50,19 @@ payload_filled (got g) = with_object g.object_type g.id
     with_object None (Some x) = refl
     with_object (Some m) None = refl
     with_object (Some m) (Some x) = refl
+payload_filled Register ts _ s = absurd s
+payload_filled Get ts _ s = absurd s
+payload_filled Create ts _ s = absurd s
+payload_filled GetAttributes ts _ s = absurd s
+payload_filled Activate ts _ s = absurd s
+payload_filled Revoke ts _ s = absurd s
+payload_filled Destroy ts _ s = absurd s
+payload_filled (Idle n) ts _ s = absurd s
+payload_filled (Other n) ts _ s = absurd s
+
+payload_kept : (operation : Operation) (t : Tree) (p : PayloadOf) → SaysPayloadOf operation t p → filled (Some (written_payload p)) ≡ Some (written_payload p)
+payload_kept operation (structure n ts) p s = payload_filled operation ts p s
+payload_kept operation (scalar n k) p s = absurd s
 
 required_said : (operation : Operation) (t : Option Tree) (p : Option PayloadOf) → SaysRequired operation t p → SaysRequired operation (option_map written_payload p) p
 required_said operation (Some t) (Some p) s = payload_said operation t p s
@@ -57,7 +71,7 @@ required_said operation None (Some p) s = absurd s
 required_said operation None None s = absurd s
 
 maybe_said : (operation : Operation) (t : Option Tree) (p : Option PayloadOf) → SaysMaybe operation t p → SaysMaybe operation (filled (option_map written_payload p)) p
-maybe_said operation (Some t) (Some p) s = subst (λ (u : Option Tree). SaysMaybe operation u (Some p)) (sym (payload_filled p)) (payload_said operation t p s)
+maybe_said operation (Some t) (Some p) s = subst (λ (u : Option Tree). SaysMaybe operation u (Some p)) (sym (payload_kept operation t p s)) (payload_said operation t p s)
 maybe_said operation (Some t) None s = tt
 maybe_said operation None (Some p) s = absurd s
 maybe_said operation None None s = tt

@@ -26,6 +26,7 @@ SaysAsked _ ts _ = ⊥
 abbrev pub AskedFault : Operation → Trees → OutsideKind → Type 0
 AskedFault Register ts k = RegisterFault ts k
 AskedFault Get ts k = GetFault ts k
+AskedFault _ ts k = k ≡ Missing
 
 -- an absent Request Payload is read as empty; a Unique Batch Item ID of another type is read over
 pub record SaysAsk (t : Tree) (a : AskOf) : Type 0 where
@@ -47,6 +48,7 @@ pub data AskFault (t : Tree) (k : OutsideKind) : Type 0 where
 abbrev pub asked_in : Operation → Trees → Result AskedOf OutsideKind
 asked_in Register ts = map_ok registers (register_in ts)
 asked_in Get ts = map_ok gets (get_in ts)
+asked_in _ ts = Err Missing
 
 abbrev pub unless_wrong : {A : Type 0} → Field A → OutsideKind → Result (Unit {0}) OutsideKind
 unless_wrong Absent k = Ok tt

@@ -22,6 +22,7 @@ SaysDone _ ts _ = ⊥
 abbrev pub DoneFault : Operation → Trees → OutsideKind → Type 0
 DoneFault Register ts k = RegisteredFault ts k
 DoneFault Get ts k = GotFault ts k
+DoneFault _ ts k = k ≡ Missing
 
 -- a payload that is no structure is Missing
 abbrev pub SaysPayloadOf : Operation → Tree → PayloadOf → Type 0
@@ -49,6 +50,7 @@ TellsPayload t a result = Tells payload_of (SaysPayload t a) (PayloadFault t a) 
 abbrev pub done_in : Operation → Trees → Result PayloadOf OutsideKind
 done_in Register ts = map_ok registered (registered_in ts)
 done_in Get ts = map_ok got (got_in ts)
+done_in _ ts = Err Missing
 
 abbrev pub payload_in : Operation → Tree → Result PayloadOf OutsideKind
 payload_in operation (structure n ts) = done_in operation ts

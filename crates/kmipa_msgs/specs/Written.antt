@@ -73,6 +73,7 @@ registered_fields r = field Tree.enumeration 0x42_0057 r.object_type ∷ field T
 abbrev pub payload_fields : PayloadOf → List (Option Tree)
 payload_fields (registered r) = registered_fields r
 payload_fields (got g) = got_fields g
+payload_fields _ = []
 
 abbrev pub written_payload : PayloadOf → Tree
 written_payload p = structure 0x42_007C (in_order (payload_fields p))
@@ -145,6 +146,7 @@ register_fields r =
 abbrev pub asked_fields : AskedOf → List (Option Tree)
 asked_fields (registers r) = register_fields r
 asked_fields (gets id) = get_fields id
+asked_fields _ = []
 
 abbrev pub written_asked : AskedOf → Tree
 written_asked asked = structure 0x42_0079 (in_order (asked_fields asked))

@@ -109,5 +109,12 @@ fn read_asked<'a>(alloc: Global, operation: Operation, payload: &[View<'a>]) -> 
             Ok(get) => Ok(Ok(Asked::Get(get))),
             Err(kind) => Ok(Err(kind)),
         },
+        Operation::Create
+        | Operation::GetAttributes
+        | Operation::Activate
+        | Operation::Revoke
+        | Operation::Destroy
+        | Operation::Idle(_)
+        | Operation::Other(_) => Ok(Err(OutsideKind::Missing)),
     }
 }

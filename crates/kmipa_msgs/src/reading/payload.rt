@@ -58,5 +58,12 @@ fn read_done<'a>(operation: Operation, payload: &[View<'a>]) -> Result<Payload<'
             Ok(got) => Ok(Payload::Get(got)),
             Err(kind) => Err(kind),
         },
+        Operation::Create
+        | Operation::GetAttributes
+        | Operation::Activate
+        | Operation::Revoke
+        | Operation::Destroy
+        | Operation::Idle(_)
+        | Operation::Other(_) => Err(OutsideKind::Missing),
     }
 }

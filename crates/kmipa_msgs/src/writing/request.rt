@@ -14,7 +14,7 @@ use super::register::write_register;
 use crate::request::{Ask, Asked, BatchOption, Request};
 use crate::tags::{
     BATCH_COUNT, BATCH_ERROR_CONTINUATION_OPTION, BATCH_ITEM, BATCH_ORDER_OPTION, OPERATION,
-    REQUEST_HEADER, REQUEST_MESSAGE, UNIQUE_BATCH_ITEM_ID,
+    REQUEST_HEADER, REQUEST_MESSAGE, REQUEST_PAYLOAD, UNIQUE_BATCH_ITEM_ID,
 };
 use kmipa_ttlv::Item;
 use std::alloc::{AllocError, Global};
@@ -83,5 +83,12 @@ fn write_asked(alloc: Global, asked: &Asked) -> Result<Item, AllocError>
     match asked {
         Asked::Register(register) => write_register(alloc, register),
         Asked::Get(get) => write_get(alloc, get),
+        Asked::Create(_)
+        | Asked::GetAttributes(_)
+        | Asked::Activate(_)
+        | Asked::Revoke(_)
+        | Asked::Destroy(_)
+        | Asked::Idle(_)
+        | Asked::Other(_) => Ok(Fields::new(alloc).structure(REQUEST_PAYLOAD)),
     }
 }

@@ -13,8 +13,8 @@ use super::header::write_version;
 use super::register::write_registered;
 use crate::response::{Answer, Payload, Response};
 use crate::tags::{
-    BATCH_COUNT, BATCH_ITEM, OPERATION, RESPONSE_HEADER, RESPONSE_MESSAGE, RESULT_REASON,
-    RESULT_STATUS, TIME_STAMP, UNIQUE_BATCH_ITEM_ID,
+    BATCH_COUNT, BATCH_ITEM, OPERATION, RESPONSE_HEADER, RESPONSE_MESSAGE, RESPONSE_PAYLOAD,
+    RESULT_REASON, RESULT_STATUS, TIME_STAMP, UNIQUE_BATCH_ITEM_ID,
 };
 use kmipa_ttlv::Item;
 use std::alloc::{AllocError, Global};
@@ -70,5 +70,8 @@ fn write_payload(alloc: Global, payload: &Payload) -> Result<Item, AllocError>
     match payload {
         Payload::Register(registered) => write_registered(alloc, registered),
         Payload::Get(got) => write_got(alloc, got),
+        Payload::Create(_) | Payload::GetAttributes(_) | Payload::Change(_) => {
+            Ok(Fields::new(alloc).structure(RESPONSE_PAYLOAD))
+        }
     }
 }
