@@ -11,6 +11,9 @@ use Rattle.kmipa_msgs.specs.declared.operation.Operation
 use Rattle.kmipa_msgs.specs.declared.request.BatchOption.{BatchOption}
 use Rattle.kmipa_msgs.specs.declared.request.Register.{Register}
 use Rattle.kmipa_msgs.specs.declared.request.Get.{Get}
+use Rattle.kmipa_msgs.specs.declared.request.GetAttributes.{GetAttributes}
+use Rattle.kmipa_msgs.specs.declared.request.About.{About}
+use Rattle.kmipa_msgs.specs.declared.request.Revoke.{Revoke}
 use Rattle.kmipa_msgs.specs.declared.request.Asked.{Asked}
 use Rattle.kmipa_msgs.specs.declared.request.Asked
 use Rattle.kmipa_msgs.specs.declared.request.Ask.{Ask}
@@ -18,6 +21,8 @@ use Rattle.kmipa_msgs.specs.declared.request.Request.{Request}
 use Rattle.kmipa_msgs.specs.declared.response.Status.{Status}
 use Rattle.kmipa_msgs.specs.declared.response.Registered.{Registered}
 use Rattle.kmipa_msgs.specs.declared.response.Got.{Got}
+use Rattle.kmipa_msgs.specs.declared.response.GotAttributes.{GotAttributes}
+use Rattle.kmipa_msgs.specs.declared.response.Changed.{Changed}
 use Rattle.kmipa_msgs.specs.declared.response.Payload.{Payload}
 use Rattle.kmipa_msgs.specs.declared.response.Payload
 use Rattle.kmipa_msgs.specs.declared.response.Answer.{Answer}
@@ -56,17 +61,53 @@ pub record RegisterOf : Type 0 where
 abbrev pub register_of : Register → RegisterOf
 register_of r = record { object_type = r.object_type; attributes = attributes_of r.attributes; block = block_of r.block }
 
--- what an item asks for; a Get brings an identifier, or means the placeholder
+-- What a Get Attributes asks for: the tags that Attribute References name as Enumerations, whether there is a reference of any type, and
+-- whether there is an item that is neither the identifier nor a reference as an Enumeration.
+pub record GetAttributesOf : Type 0 where
+  pub id : Option (List ℕ)
+  pub references : List ℕ
+  pub is_selective : Bool
+  pub has_others : Bool
+
+abbrev pub get_attributes_of : GetAttributes → GetAttributesOf
+get_attributes_of g = record { id = maybe_lent g.id; references = g.references.items; is_selective = g.is_selective; has_others = g.has_others }
+
+-- what a Revoke asks for: Revocation Reason Code is a number
+pub record RevokeOf : Type 0 where
+  pub id : Option (List ℕ)
+  pub code : ℕ
+
+abbrev pub revoke_of : Revoke → RevokeOf
+revoke_of r = record { id = maybe_lent r.id; code = r.code }
+
+-- What an item asks for. Where an identifier may be absent, the placeholder is then meant; operations that are not read have their number.
 pub data AskedOf : Type 0 where
+  creates : Attributes → AskedOf
   registers : RegisterOf → AskedOf
   gets : Option (List ℕ) → AskedOf
+  gets_attributes : GetAttributesOf → AskedOf
+  activates : Option (List ℕ) → AskedOf
+  revokes : RevokeOf → AskedOf
+  destroys : Option (List ℕ) → AskedOf
+  idles : ℕ → AskedOf
+  does_other : ℕ → AskedOf
 
 abbrev pub id_of : Get → Option (List ℕ)
 id_of g = maybe_lent g.id
 
+abbrev pub about_of : About → Option (List ℕ)
+about_of a = maybe_lent a.id
+
 abbrev pub asked_of : Asked → AskedOf
+asked_of (Asked.TheVariants.Create c) = creates (attributes_of c.attributes)
 asked_of (Asked.TheVariants.Register r) = registers (register_of r)
 asked_of (Asked.TheVariants.Get g) = gets (id_of g)
+asked_of (Asked.TheVariants.GetAttributes g) = gets_attributes (get_attributes_of g)
+asked_of (Asked.TheVariants.Activate a) = activates (about_of a)
+asked_of (Asked.TheVariants.Revoke r) = revokes (revoke_of r)
+asked_of (Asked.TheVariants.Destroy a) = destroys (about_of a)
+asked_of (Asked.TheVariants.Idle n) = idles n
+asked_of (Asked.TheVariants.Other n) = does_other n
 
 -- an item of a request
 pub record AskOf : Type 0 where
@@ -78,8 +119,15 @@ ask_of a = record { batch_id = maybe_lent a.batch_id; asked = asked_of a.asked }
 
 -- the operation that is asked for
 abbrev pub operation_asked : AskedOf → Operation
+operation_asked (creates a) = Operation.TheVariants.Create
 operation_asked (registers r) = Operation.TheVariants.Register
 operation_asked (gets id) = Operation.TheVariants.Get
+operation_asked (gets_attributes g) = Operation.TheVariants.GetAttributes
+operation_asked (activates id) = Operation.TheVariants.Activate
+operation_asked (revokes r) = Operation.TheVariants.Revoke
+operation_asked (destroys id) = Operation.TheVariants.Destroy
+operation_asked (idles n) = Operation.TheVariants.Idle n
+operation_asked (does_other n) = Operation.TheVariants.Other n
 
 -- a request
 pub record RequestOf : Type 0 where
@@ -95,7 +143,7 @@ request_of r = record { option = r.option; ordered = r.ordered; items = asks_of 
 
 -- RESPONSES
 
--- the answer of a Register
+-- the answer of a Create or a Register
 pub record RegisteredOf : Type 0 where
   pub object_type : Option ℕ
   pub id : List ℕ
@@ -113,14 +161,31 @@ pub record GotOf : Type 0 where
 abbrev pub got_of : Got → GotOf
 got_of g = record { object_type = g.object_type; id = maybe_lent g.id; shape = g.shape; block = block_of g.block }
 
--- the payload of an answer
+-- the answer of a Get Attributes: the attributes that it shows
+pub record GotAttributesOf : Type 0 where
+  pub id : Option (List ℕ)
+  pub attributes : Attributes
+
+abbrev pub got_attributes_of : GotAttributes → GotAttributesOf
+got_attributes_of g = record { id = maybe_lent g.id; attributes = attributes_of g.attributes }
+
+abbrev pub changed_of : Changed → Option (List ℕ)
+changed_of c = maybe_lent c.id
+
+-- the payload of an answer; an Activate, a Revoke and a Destroy answer an identifier, or nothing
 pub data PayloadOf : Type 0 where
+  created : RegisteredOf → PayloadOf
   registered : RegisteredOf → PayloadOf
   got : GotOf → PayloadOf
+  got_attributes : GotAttributesOf → PayloadOf
+  changed : Option (List ℕ) → PayloadOf
 
 abbrev pub payload_of : Payload → PayloadOf
+payload_of (Payload.TheVariants.Create r) = created (registered_of r)
 payload_of (Payload.TheVariants.Register r) = registered (registered_of r)
 payload_of (Payload.TheVariants.Get g) = got (got_of g)
+payload_of (Payload.TheVariants.GetAttributes g) = got_attributes (got_attributes_of g)
+payload_of (Payload.TheVariants.Change c) = changed (changed_of c)
 
 -- an item of a response
 pub record AnswerOf : Type 0 where

@@ -1,6 +1,10 @@
 //! Copies of responses, with the same lent identifiers and bytes.
 
-use crate::response::{Answer, Payload, Response};
+ghost use Rattle.std.specs.Prelude.{◌≡◌, IfOk};
+ghost use Rattle.std.specs.Option.{option_map};
+ghost use Rattle.kmipa_msgs.specs.Messages.{payload_of};
+
+use crate::response::{Answer, GotAttributes, Payload, Response};
 use std::alloc::{AllocError, Global};
 
 impl<'a> Response<'a> {
@@ -13,7 +17,7 @@ impl<'a> Response<'a> {
     {
         let mut items = Vec::new(alloc);
         for answer in &self.items {
-            items.push(answer.copy())?;
+            items.push(answer.copy(alloc)?)?;
         }
         Ok(Response {
             stamp: self.stamp,
@@ -23,32 +27,50 @@ impl<'a> Response<'a> {
 }
 
 impl<'a> Answer<'a> {
-    ghost use Rattle.std.specs.Prelude.{◌≡◌};
+    ghost use Rattle.std.specs.Prelude.{◌≡◌, IfOk};
     ghost use Rattle.kmipa_msgs.specs.Messages.{answer_of};
 
-    fn copy(&self) -> Answer<'a>
-        ensures { answer_of result ≡ answer_of self.now }
+    fn copy(&self, alloc: Global) -> Result<Answer<'a>, AllocError>
+        ensures { IfOk result (λ copy. answer_of copy ≡ answer_of self.now) }
     {
-        Answer {
+        Ok(Answer {
             operation: self.operation,
             batch_id: self.batch_id,
             status: self.status,
             reason: self.reason,
-            payload: self.payload.as_ref().map(Payload::copy),
-        }
+            payload: copy_payload(alloc, &self.payload)?,
+        })
     }
 }
 
 impl<'a> Payload<'a> {
-    ghost use Rattle.std.specs.Prelude.{◌≡◌};
+    ghost use Rattle.std.specs.Prelude.{◌≡◌, IfOk};
     ghost use Rattle.kmipa_msgs.specs.Messages.{payload_of};
 
-    fn copy(&self) -> Payload<'a>
-        ensures { payload_of result ≡ payload_of self.now }
+    fn copy(&self, alloc: Global) -> Result<Payload<'a>, AllocError>
+        ensures { IfOk result (λ copy. payload_of copy ≡ payload_of self.now) }
     {
         match self {
-            Payload::Register(registered) => Payload::Register(*registered),
-            Payload::Get(got) => Payload::Get(*got),
+            Payload::Create(created) => Ok(Payload::Create(*created)),
+            Payload::Register(registered) => Ok(Payload::Register(*registered)),
+            Payload::Get(got) => Ok(Payload::Get(*got)),
+            Payload::GetAttributes(got) => Ok(Payload::GetAttributes(GotAttributes {
+                id: got.id,
+                attributes: got.attributes.copy(alloc)?,
+            })),
+            Payload::Change(changed) => Ok(Payload::Change(*changed)),
         }
+    }
+}
+
+fn copy_payload<'a>(
+    alloc: Global,
+    payload: &Option<Payload<'a>>,
+) -> Result<Option<Payload<'a>>, AllocError>
+    ensures { IfOk result (λ copy. option_map payload_of copy ≡ option_map payload_of payload.now) }
+{
+    match payload {
+        Some(payload) => Ok(Some(payload.copy(alloc)?)),
+        None => Ok(None),
     }
 }

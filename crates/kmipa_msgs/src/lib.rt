@@ -21,8 +21,10 @@ pub use kind::OutsideKind;
 pub use laws::{one_payload, one_request, one_response};
 pub use operation::Operation;
 pub use reading::{read_payload, read_request, read_response};
-pub use request::{Ask, Asked, BatchOption, Get, Register, Request};
-pub use response::{Answer, Got, Payload, Registered, Response, Status};
+pub use request::{
+    About, Ask, Asked, BatchOption, Create, Get, GetAttributes, Register, Request, Revoke,
+};
+pub use response::{Answer, Changed, Got, GotAttributes, Payload, Registered, Response, Status};
 pub use rules::{Cause, Row, Rules};
 pub use wanted::is_wanted;
 pub use writing::{write_request, write_response};

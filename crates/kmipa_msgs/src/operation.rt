@@ -1,32 +1,90 @@
-//! The operations that are read.
+//! Operations, by what is read of them.
 
 ghost use Rattle.std.specs.Prelude.{◌≡◌};
 
-/// An operation whose payloads are read (KMIP 2.1, section 11).
+/// An operation (KMIP 2.1, section 11).
 #[derive(Clone, Copy, Debug, PartialEq, Eq)]
 pub enum Operation {
-    Register = 3,
-    Get = 10,
+    Create,
+    Register,
+    Get,
+    GetAttributes,
+    Activate,
+    Revoke,
+    Destroy,
+    /// One without effect, by its number: Query or Discover Versions. Its payloads are not read.
+    Idle(u32),
+    /// Any other, by its number. It may only fail, and its payloads are not read.
+    Other(u32),
 }
 
 impl Operation {
-    ghost use Rattle.kmipa_msgs.specs.Operations.{operation_number, operation_of};
+    ghost use Rattle.kmipa_msgs.specs.Operations.{operation_number, operation_of, is_judged, may_be_bare};
 
     /// The number on the wire.
     pub fn number(self) -> u32
         ensures { result ≡ operation_number self }
     {
-        self as u32
+        match self {
+            Operation::Create => 1,
+            Operation::Register => 3,
+            Operation::Get => 10,
+            Operation::GetAttributes => 11,
+            Operation::Activate => 18,
+            Operation::Revoke => 19,
+            Operation::Destroy => 20,
+            Operation::Idle(number) | Operation::Other(number) => number,
+        }
     }
 
-    /// The operation with this number, if its payloads are read.
+    /// The operation with this number. Locate is not read.
     pub fn of(number: u32) -> Option<Operation>
         ensures { result ≡ operation_of number }
     {
         match number {
+            1 => Some(Operation::Create),
             3 => Some(Operation::Register),
+            8 => None,
             10 => Some(Operation::Get),
-            _ => None,
+            11 => Some(Operation::GetAttributes),
+            18 => Some(Operation::Activate),
+            19 => Some(Operation::Revoke),
+            20 => Some(Operation::Destroy),
+            24 | 30 => Some(Operation::Idle(number)),
+            _ => Some(Operation::Other(number)),
+        }
+    }
+
+    /// Whether its payloads are read.
+    pub(crate) fn is_judged(self) -> bool
+        ensures { result ≡ is_judged self }
+    {
+        match self {
+            Operation::Create
+            | Operation::Register
+            | Operation::Get
+            | Operation::GetAttributes
+            | Operation::Activate
+            | Operation::Revoke
+            | Operation::Destroy => true,
+            Operation::Idle(_) | Operation::Other(_) => false,
+        }
+    }
+
+    /// Whether its Response Payload may be absent, which is then read as empty.
+    pub(crate) fn may_be_bare(self) -> bool
+        ensures { result ≡ may_be_bare self }
+    {
+        match self {
+            Operation::GetAttributes
+            | Operation::Activate
+            | Operation::Revoke
+            | Operation::Destroy => true,
+            Operation::Create
+            | Operation::Register
+            | Operation::Get
+            | Operation::Idle(_)
+            | Operation::Other(_) => false,
         }
     }
 }

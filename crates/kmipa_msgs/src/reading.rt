@@ -5,15 +5,20 @@ use std::alloc::AllocError;
 
 mod answer;
 mod ask;
+mod attributes;
 mod brought;
+mod create;
 mod get;
+mod get_attributes;
 mod header;
+mod identifier;
 mod key_block;
 mod object;
 mod payload;
 mod register;
 mod request;
 mod response;
+mod revoke;
 mod rows;
 
 pub use payload::read_payload;
@@ -23,5 +28,7 @@ pub use response::read_response;
 /// What a part of a message says, or why it is outside; want of memory stands apart.
 type Read<T> = Result<Result<T, OutsideKind>, AllocError>;
 
+#[cfg(test)]
+mod lifecycle_tests;
 #[cfg(test)]
 mod tests;

@@ -58,8 +58,24 @@ pub struct Ask<'a> {
 /// What an item asks for: the payload of an operation.
 #[derive(Debug, Drop)]
 pub enum Asked<'a> {
+    Create(Create),
     Register(Register<'a>),
     Get(Get<'a>),
+    GetAttributes(GetAttributes<'a>),
+    Activate(About<'a>),
+    Revoke(Revoke<'a>),
+    Destroy(About<'a>),
+    /// An operation without effect, by its number.
+    Idle(u32),
+    /// Any other operation, by its number.
+    Other(u32),
+}
+
+/// What a Create of a Symmetric Key asks for (KMIP 2.1, section 6.1).
+#[derive(Debug, Drop)]
+pub struct Create {
+    /// The attributes of the new key, algorithm, length and usage mask among them.
+    pub attributes: AttrSet,
 }
 
 /// What a Register brings (KMIP 2.1, section 6.1).
@@ -79,6 +95,35 @@ pub struct Get<'a> {
     pub id: Option<&'a str>,
 }
 
+/// What a Get Attributes asks for (KMIP 2.1, section 6.1).
+#[derive(Debug, Drop)]
+pub struct GetAttributes<'a> {
+    /// Unique Identifier; where it is absent the ID Placeholder is meant.
+    pub id: Option<&'a str>,
+    /// The tags that Attribute References name as Enumerations, in their order.
+    pub references: Vec<u32>,
+    /// Whether there is an Attribute Reference of any type; where there is none, all attributes are asked for.
+    pub is_selective: bool,
+    /// Whether there is an item that is neither the identifier nor an Attribute Reference as an Enumeration.
+    pub has_others: bool,
+}
+
+/// What an Activate or a Destroy asks for (KMIP 2.1, section 6.1).
+#[derive(Clone, Copy, Debug)]
+pub struct About<'a> {
+    /// Unique Identifier; where it is absent the ID Placeholder is meant.
+    pub id: Option<&'a str>,
+}
+
+/// What a Revoke asks for (KMIP 2.1, section 6.1).
+#[derive(Clone, Copy, Debug)]
+pub struct Revoke<'a> {
+    /// Unique Identifier; where it is absent the ID Placeholder is meant.
+    pub id: Option<&'a str>,
+    /// Revocation Reason Code, by its number.
+    pub code: u32,
+}
+
 impl<'a> Ask<'a> {
     ghost use Rattle.kmipa_msgs.specs.Operations.{operation_number};
     ghost use Rattle.kmipa_msgs.specs.Messages.{asked_of, operation_asked};
@@ -88,8 +133,15 @@ impl<'a> Ask<'a> {
         ensures { result ≡ operation_asked (asked_of self.now.asked) }
     {
         match &self.asked {
+            Asked::Create(_) => Operation::Create,
             Asked::Register(_) => Operation::Register,
             Asked::Get(_) => Operation::Get,
+            Asked::GetAttributes(_) => Operation::GetAttributes,
+            Asked::Activate(_) => Operation::Activate,
+            Asked::Revoke(_) => Operation::Revoke,
+            Asked::Destroy(_) => Operation::Destroy,
+            Asked::Idle(number) => Operation::Idle(*number),
+            Asked::Other(number) => Operation::Other(*number),
         }
     }
 

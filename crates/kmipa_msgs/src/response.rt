@@ -3,7 +3,7 @@
 ghost use Rattle.std.specs.Prelude.{◌≡◌};
 
 use crate::key_block::KeyBlock;
-use kmipa_attrs::ObjectType;
+use kmipa_attrs::{AttrSet, ObjectType};
 
 /// Result Status (KMIP 2.1, section 11), of what is done.
 #[derive(Clone, Copy, Debug, PartialEq, Eq)]
@@ -62,11 +62,15 @@ pub struct Answer<'a> {
 /// The payload of an operation's answer.
 #[derive(Debug, Drop)]
 pub enum Payload<'a> {
+    Create(Registered<'a>),
     Register(Registered<'a>),
     Get(Got<'a>),
+    GetAttributes(GotAttributes<'a>),
+    /// The answer of an Activate, a Revoke or a Destroy.
+    Change(Changed<'a>),
 }
 
-/// The answer of a Register.
+/// The answer of a Create or a Register.
 #[derive(Clone, Copy, Debug)]
 pub struct Registered<'a> {
     /// Object Type, by its number.
@@ -85,4 +89,20 @@ pub struct Got<'a> {
     /// The type of the object that is shown.
     pub shape: ObjectType,
     pub block: KeyBlock<'a>,
+}
+
+/// The answer of a Get Attributes.
+#[derive(Debug, Drop)]
+pub struct GotAttributes<'a> {
+    /// Unique Identifier.
+    pub id: Option<&'a str>,
+    /// The attributes that are shown, none where the answer has no Attributes.
+    pub attributes: AttrSet,
+}
+
+/// The answer of an operation that changes an object: an Activate, a Revoke or a Destroy.
+#[derive(Clone, Copy, Debug)]
+pub struct Changed<'a> {
+    /// Unique Identifier.
+    pub id: Option<&'a str>,
 }

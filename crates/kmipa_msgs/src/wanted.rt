@@ -22,8 +22,14 @@ fn needs_payload(operation: Operation) -> bool
     ensures { IsTrue result ↔ NeedsPayload operation }
 {
     match operation {
-        Operation::Register => true,
-        Operation::Get => false,
+        Operation::Create | Operation::Register => true,
+        Operation::Get
+        | Operation::GetAttributes
+        | Operation::Activate
+        | Operation::Revoke
+        | Operation::Destroy
+        | Operation::Idle(_)
+        | Operation::Other(_) => false,
     }
 }
 

@@ -69,7 +69,7 @@ const RESPONSE: [u8; 376] = [
 ];
 
 // Bytes of a message that are changed, and the item and the kind by which it is then outside.
-type Row = (&'static [(usize, u8)], usize, OutsideKind);
+pub(super) type Row = (&'static [(usize, u8)], usize, OutsideKind);
 
 const BAD_REQUESTS: [Row; 45] = [
     // another tag than the message's
@@ -98,8 +98,8 @@ const BAD_REQUESTS: [Row; 45] = [
     (&[(87, 0x00)], 0, OutsideKind::Unordered),
     // a Batch Item that is a Byte String
     (&[(107, 0x08)], 1, OutsideKind::Missing),
-    // an operation that isn't read
-    (&[(123, 0x12)], 1, OutsideKind::Operation),
+    // Locate, which isn't read
+    (&[(123, 0x08)], 1, OutsideKind::Operation),
     // Operation as an Integer
     (&[(115, 0x02)], 1, OutsideKind::Missing),
     // a Request Payload that is a Byte String
@@ -256,7 +256,11 @@ const GOOD_RESPONSES: [&[(usize, u8)]; 6] = [
     &[(139, 0x03), (146, 0x79)],
 ];
 
-fn changed(rt: &HostRuntime, message: &[u8], edits: &[(usize, u8)]) -> Result<Vec<u8>, Fail> {
+pub(super) fn changed(
+    rt: &HostRuntime,
+    message: &[u8],
+    edits: &[(usize, u8)],
+) -> Result<Vec<u8>, Fail> {
     let mut bytes = Vec::from_slice(rt.alloc(), message)?;
     for (at, byte) in edits {
         match bytes.get_mut(*at) {
@@ -267,7 +271,7 @@ fn changed(rt: &HostRuntime, message: &[u8], edits: &[(usize, u8)]) -> Result<Ve
     Ok(bytes)
 }
 
-fn place_of<T: Drop>(read: Result<T, ReadFault>) -> Option<(usize, u8)> {
+pub(super) fn place_of<T: Drop>(read: Result<T, ReadFault>) -> Option<(usize, u8)> {
     match read {
         Err(ReadFault::Outside(outside)) => Some((outside.item, outside.kind.number())),
         _ => None,

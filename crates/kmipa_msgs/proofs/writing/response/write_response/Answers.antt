@@ -1,9 +1,8 @@
-use Rattle.std.proofs.Common.{◌≡◌, ◌∙◌, sym, ap, subst, map, None}
+use Rattle.std.proofs.Common.{◌≡◌, ◌∙◌, ◌++◌, ◌∷◌, [], sym, ap, subst, map, take}
 use Rattle.std.proofs.lemmas.List.{take_all, take_more}
 use Rattle.kmipa_ttlv.specs.Tree.{Tree, structure, more, forest}
 use Rattle.kmipa_ttlv.specs.ItemTree.{tree}
 use Rattle.kmipa_msgs.specs.declared.response.Answer.{Answer}
-use Rattle.kmipa_msgs.specs.declared.response.Status.TheVariants.{Success}
 use Rattle.kmipa_msgs.specs.Messages.{answer_of, response_of}
 use Rattle.kmipa_msgs.specs.Written.{written_answer, written_response_header, written_response}
 use Rattle.kmipa_msgs.specs.Responses.{SaysResponse}
@@ -14,9 +13,10 @@ use Rattle.kmipa_msgs.proofs.writing.response.write_response.Goals as goal
 pub loop-answer-preserved : goal.loop-answer-preserved
 loop-answer-preserved c =
     let answers = c.deref-answer-items.result.now in
-    let blank : Answer = record { operation = None; batch_id = None; status = Success; reason = None; payload = None } in
-    one_more answer_of written_answer (written_response_header (response_of c.args.response.now)) c.loop-answer.answer-index answers _ _ _ _
-    (take_more answers c.loop-answer.answer-index blank c.loop-answer-test.true) c.loop-answer.invariant c.in_ok-write_answer.ensures c.in_ok-item-2.ensures
+    let i = c.loop-answer.answer-index in
+    let x = c.answer-item.result in
+    one_more answer_of written_answer (written_response_header (response_of c.args.response.now)) i answers x _ _ _
+    (take_more answers i x c.loop-answer-test.true ∙ ap (λ (y : Answer). take i answers ++ y ∷ []) (sym c.answer-item.is)) c.loop-answer.invariant c.in_ok-write_answer.ensures c.in_ok-item-2.ensures
 
 written : (c : goal.After-structure) → tree c.structure.result ≡ written_response (response_of c.args.response.now)
 written c =
@@ -28,6 +28,6 @@ pub returns-clause-order : goal.returns-clause-order
 returns-clause-order c = written c
 
 pub returns-clause-said : goal.returns-clause-said
-returns-clause-said c = λ t request h.
+returns-clause-said c = λ t request h w.
     let response = response_of c.args.response.now in
-    subst (λ (u : Tree). SaysResponse u request response) (sym (written c)) (response_written t request response h)
+    subst (λ (u : Tree). SaysResponse u request response) (sym (written c)) (response_written t request response h w)
