@@ -4,6 +4,7 @@ mod StepLemmas
 pub mod AddLemmas
 mod RegisterLemmas
 mod GetLemmas
+mod ChangeLemmas
 mod MeantLemmas
 mod LowestLemmas
 mod ItemLemmas

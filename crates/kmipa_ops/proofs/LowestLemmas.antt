@@ -21,11 +21,10 @@ pub record IsQuiet (g : Why → Bool) : Type 0 where
 
 done_quiet : (rules : RulesOf) (m : Meaning) (p : Option (List ℕ)) (t : ℤ) (asked : AskedOf) (payload : Option PayloadOf) → IsQuiet (done_speaks rules m p t asked payload)
 done_quiet rules m p t (registers r) (Some (registered a)) = record { late = refl; back = refl; shape = refl; operation = refl }
-done_quiet rules m p t (registers r) (Some (got a)) = record { late = refl; back = refl; shape = refl; operation = refl }
-done_quiet rules m p t (registers r) None = record { late = refl; back = refl; shape = refl; operation = refl }
-done_quiet rules m p t (gets id) (Some (registered a)) = record { late = refl; back = refl; shape = refl; operation = refl }
+done_quiet rules m p t (registers r) payload = record { late = refl; back = refl; shape = refl; operation = refl }
 done_quiet rules m p t (gets id) (Some (got a)) = record { late = refl; back = refl; shape = refl; operation = refl }
-done_quiet rules m p t (gets id) None = record { late = refl; back = refl; shape = refl; operation = refl }
+done_quiet rules m p t (gets id) payload = record { late = refl; back = refl; shape = refl; operation = refl }
+done_quiet rules m p t asked payload = record { late = refl; back = refl; shape = refl; operation = refl }
 
 quiet : (status : Status) (rules : RulesOf) (m : Meaning) (p : Option (List ℕ)) (t : ℤ) (asked : AskedOf) (reason : Option ℕ) (payload : Option PayloadOf)
     → IsQuiet (outcome_speaks status rules m p t asked reason payload)

@@ -1,6 +1,9 @@
 -- The ledger and the placeholder after an item against which nothing speaks: of an unknown secret that a Get shows the bytes are known then.
-use Rattle.std.specs.Prelude.{ℕ, ℤ, List, [], ◌∷◌, ◌++◌, ◌≡◌, length, Option, Some, None, Result, Ok, Err}
+use Rattle.std.specs.Prelude.{if◌then◌else◌, ℕ, ℤ, List, [], ◌∷◌, ◌++◌, ◌≡◌, length, Option, Some, None, Result, Ok, Err}
 use Rattle.kmipa_object.specs.Inventory.{rule_of}
+use Rattle.kmipa_object.specs.Life.{Dates, state}
+use Rattle.kmipa_object.specs.Lists.{updated}
+use Rattle.kmipa_object.specs.Table.{allowed}
 use Rattle.kmipa_object.specs.declared.life.Material.{Material}
 use Rattle.kmipa_object.specs.declared.life.Material.TheVariants.{Gone, Secret}
 use Rattle.kmipa_object.specs.declared.life.SecretNo.{SecretNo}
@@ -8,10 +11,13 @@ use Rattle.kmipa_object.specs.declared.rule.Rule.{Rule}
 use Rattle.kmipa_store.specs.Ledger.{Held, Meaning, LedgerState, changed, told}
 use Rattle.kmipa_msgs.specs.declared.response.Status.{Status}
 use Rattle.kmipa_msgs.specs.declared.response.Status.TheVariants.{Success, Failed, Undone}
-use Rattle.kmipa_msgs.specs.Messages.{RegisterOf, AskedOf, registers, gets, PayloadOf, registered, got}
+use Rattle.kmipa_msgs.specs.Messages.{RegisterOf, AskedOf, registers, gets, activates, revokes, destroys, PayloadOf, registered, got}
 use Rattle.kmipa_ops.specs.Objects.{meant}
+use Rattle.kmipa_ops.specs.declared.change.Change.{Change}
+use Rattle.kmipa_ops.specs.declared.change.Change.TheVariants.{Activate, Revoke, Destroy}
+use Rattle.kmipa_ops.specs.Changes.{act_of, dates_after}
 use Rattle.kmipa_ops.specs.Does.{newborn}
-use Rattle.kmipa_ops.specs.Blame.{object_meant}
+use Rattle.kmipa_ops.specs.Blame.{place_meant, object_meant, is_not}
 
 -- with the object of a Register, and a secret of its own
 abbrev pub with_registered : Meaning → ℤ → RegisterOf → List ℕ → Meaning
@@ -29,13 +35,39 @@ abbrev pub taught : Meaning → Option Held → List ℕ → Meaning
 taught m None bytes = m
 taught m (Some h) bytes = taught_at m h.material bytes
 
+-- what a change leaves of dates and of material; of those of an object whose state excludes it, all
+abbrev pub dates_left : Change → ℤ → Dates → Dates
+dates_left change t d = if is_not (allowed (act_of change) (state d t)) then d else dates_after change t d
+
+abbrev pub material_after : Change → Material → Material
+material_after Activate mat = mat
+material_after (Revoke code) mat = mat
+material_after Destroy mat = Gone
+
+abbrev pub material_left : Change → ℤ → Dates → Material → Material
+material_left change t d mat = if is_not (allowed (act_of change) (state d t)) then mat else material_after change mat
+
+abbrev pub held_left : Change → ℤ → Held → Held
+held_left change t h = record {
+  card = record h.card { dates = dates_left change t h.card.dates };
+  material = material_left change t h.card.dates h.material;
+}
+
+-- with the object at a place changed
+abbrev pub changed_at : List Held → Option ℕ → (Held → Held) → List Held
+changed_at objects None f = objects
+changed_at objects (Some place) f = updated objects place f
+
+abbrev pub with_changed : Meaning → Option (List ℕ) → ℤ → Change → Meaning
+with_changed m about t change = record { objects = changed_at m.objects (place_meant m.objects about) (held_left change t); secrets = m.secrets }
+
 abbrev pub after_done : Meaning → Option (List ℕ) → ℤ → AskedOf → Option PayloadOf → Meaning
 after_done m before t (registers r) (Some (registered a)) = with_registered m t r a.id
-after_done m before t (registers r) (Some (got a)) = m
-after_done m before t (registers r) None = m
 after_done m before t (gets id) (Some (got a)) = taught m (object_meant m.objects (meant id before)) a.block.material
-after_done m before t (gets id) (Some (registered a)) = m
-after_done m before t (gets id) None = m
+after_done m before t (activates id) payload = with_changed m (meant id before) t Activate
+after_done m before t (revokes r) payload = with_changed m (meant r.id before) t (Revoke r.code)
+after_done m before t (destroys id) payload = with_changed m (meant id before) t Destroy
+after_done m before t asked payload = m
 
 abbrev pub after : Status → Meaning → Option (List ℕ) → ℤ → AskedOf → Option PayloadOf → Meaning
 after Success m before t asked payload = after_done m before t asked payload
@@ -45,9 +77,7 @@ after Failed m before t asked payload = m
 -- a Register sets the placeholder
 abbrev pub placeholder_done : Option (List ℕ) → AskedOf → Option PayloadOf → Option (List ℕ)
 placeholder_done before (registers r) (Some (registered a)) = Some a.id
-placeholder_done before (registers r) (Some (got a)) = before
-placeholder_done before (registers r) None = before
-placeholder_done before (gets id) payload = before
+placeholder_done before asked payload = before
 
 abbrev pub placeholder_after : Status → Option (List ℕ) → AskedOf → Option PayloadOf → Option (List ℕ)
 placeholder_after Success before asked payload = placeholder_done before asked payload

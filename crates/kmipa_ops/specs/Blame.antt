@@ -17,18 +17,25 @@ use Rattle.kmipa_store.specs.Calls.{differs, breaks}
 use Rattle.kmipa_msgs.specs.declared.response.Status.{Status}
 use Rattle.kmipa_msgs.specs.declared.response.Status.TheVariants.{Success, Failed, Undone}
 use Rattle.kmipa_msgs.specs.Operations.{operation_number}
-use Rattle.kmipa_msgs.specs.Messages.{RulesOf, RegisterOf, AskedOf, registers, gets, AskOf, operation_asked, RegisteredOf, GotOf, PayloadOf, registered, got, AnswerOf}
+use Rattle.kmipa_msgs.specs.Messages.{RulesOf, RegisterOf, AskedOf, registers, gets, activates, revokes, destroys, AskOf, operation_asked, RegisteredOf, GotOf, PayloadOf, registered, got, changed, AnswerOf}
 use Rattle.kmipa_ops.specs.declared.why.Why.{Why}
 use Rattle.kmipa_ops.specs.declared.why.Why.TheVariants.{OperationDiffers, NoSuchObject, WrongState, IdentifierTaken, NameTaken, BytesDiffer, LengthImpossible, AttributeDiffers, ReasonUnfounded, EchoDiffers}
 use Rattle.kmipa_ops.specs.Whys.{whys}
 use Rattle.kmipa_ops.specs.Objects.{meant, is_other, clash, same_type}
+use Rattle.kmipa_ops.specs.declared.change.Change.{Change}
+use Rattle.kmipa_ops.specs.declared.change.Change.TheVariants.{Activate, Revoke, Destroy}
+use Rattle.kmipa_ops.specs.Changes.{act_of}
 use Rattle.kmipa_ops.specs.Does.{brought, name_taken}
 use Rattle.kmipa_ops.specs.Founded.{founded}
 
--- the object that is meant, where an identifier is meant and an object has it
+-- the place of the object that is meant, where an identifier is meant and an object has it
+abbrev pub place_meant : List Held → Option (List ℕ) → Option ℕ
+place_meant objects None = None
+place_meant objects (Some id) = place_of id (cards_of objects)
+
+-- the object itself
 abbrev pub object_meant : List Held → Option (List ℕ) → Option Held
-object_meant objects None = None
-object_meant objects (Some id) = option_and_then (slice_get objects) (place_of id (cards_of objects))
+object_meant objects about = option_and_then (slice_get objects) (place_meant objects about)
 
 -- its secret, unless it is gone
 abbrev pub secret_at : List Known → Material → Option Known
@@ -78,14 +85,27 @@ get_speaks m about t (Some a) AttributeDiffers = shows_other a (object_meant m.o
 get_speaks m about t (Some a) EchoDiffers = is_other_id a.id about
 get_speaks m about t shown why = false
 
+-- against a change of an object that is done, and shows this identifier if it is there
+abbrev pub change_speaks : List Held → Option (List ℕ) → ℤ → Change → Option (List ℕ) → Why → Bool
+change_speaks objects about t change shown NoSuchObject = is_none (object_meant objects about)
+change_speaks objects about t change shown WrongState = is_excluded (act_of change) t (object_meant objects about)
+change_speaks objects about t change shown EchoDiffers = is_other_id shown about
+change_speaks objects about t change shown why = false
+
+-- the identifier that the answer of a change shows
+abbrev pub id_shown : Option PayloadOf → Option (List ℕ)
+id_shown (Some (changed id)) = id
+id_shown payload = None
+
 -- against a Success, or an Undone answer, which is judged as one
 abbrev pub done_speaks : RulesOf → Meaning → Option (List ℕ) → ℤ → AskedOf → Option PayloadOf → Why → Bool
 done_speaks rules m before t (registers r) (Some (registered a)) why = register_speaks rules (cards_of m.objects) r a why
-done_speaks rules m before t (registers r) (Some (got a)) why = false
-done_speaks rules m before t (registers r) None why = false
 done_speaks rules m before t (gets id) (Some (got a)) why = get_speaks m (meant id before) t (Some a) why
-done_speaks rules m before t (gets id) (Some (registered a)) why = false
 done_speaks rules m before t (gets id) None why = get_speaks m (meant id before) t None why
+done_speaks rules m before t (activates id) payload why = change_speaks m.objects (meant id before) t Activate (id_shown payload) why
+done_speaks rules m before t (revokes r) payload why = change_speaks m.objects (meant r.id before) t (Revoke r.code) (id_shown payload) why
+done_speaks rules m before t (destroys id) payload why = change_speaks m.objects (meant id before) t Destroy (id_shown payload) why
+done_speaks rules m before t asked payload why = false
 
 -- against a failed answer
 abbrev pub failure_speaks : RulesOf → Meaning → Option (List ℕ) → ℤ → AskedOf → Option ℕ → Why → Bool

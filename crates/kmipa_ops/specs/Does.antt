@@ -1,14 +1,21 @@
 -- What one item of a batch does: the inventory and the ID Placeholder before it, the moment, what was asked and answered, and the
 -- inventory and the placeholder after it (KMIP 2.1, section 6; what an answer may show and leave out: profile).
-use Rattle.std.specs.Prelude.{◌≡◌, ◌&&◌, ℕ, ℤ, Bool, true, false, List, [], ◌∷◌, ◌++◌, Option, Some, None}
+use Rattle.std.specs.Prelude.{◌≡◌, ◌≢◌, ◌&&◌, ℕ, ℤ, Bool, true, false, List, [], ◌∷◌, ◌++◌, Option, Some, None}
 use Rattle.kmipa_attrs.specs.Sets.{Attributes, NameOf, no_attributes}
 use Rattle.kmipa_attrs.specs.ObjectTypes.{type_number}
 use Rattle.kmipa_object.specs.Inventory.{Card, Thing, cards, place_of, live, rule_of, Admitted}
+use Rattle.kmipa_object.specs.Life.{state}
+use Rattle.kmipa_object.specs.Lists.{updated}
+use Rattle.kmipa_object.specs.Table.{allowed}
+use Rattle.kmipa_object.specs.declared.allow.Allow.TheVariants.{Not}
 use Rattle.kmipa_msgs.specs.declared.response.Status.{Status}
 use Rattle.kmipa_msgs.specs.declared.response.Status.TheVariants.{Success, Failed, Undone}
 use Rattle.kmipa_msgs.specs.Operations.{operation_number}
-use Rattle.kmipa_msgs.specs.Messages.{RulesOf, RegisterOf, AskedOf, registers, gets, AskOf, operation_asked, RegisteredOf, GotOf, PayloadOf, registered, got, AnswerOf}
+use Rattle.kmipa_msgs.specs.Messages.{RulesOf, RegisterOf, AskedOf, registers, gets, activates, revokes, destroys, idles, AskOf, operation_asked, RegisteredOf, GotOf, PayloadOf, registered, got, changed, AnswerOf}
+use Rattle.kmipa_ops.specs.declared.change.Change.{Change}
+use Rattle.kmipa_ops.specs.declared.change.Change.TheVariants.{Activate, Revoke, Destroy}
 use Rattle.kmipa_ops.specs.Objects.{meant, HasObject, Echoes, Agree, any_live_named}
+use Rattle.kmipa_ops.specs.Changes.{act_of, thing_after}
 use Rattle.kmipa_ops.specs.Founded.{founded}
 
 -- the value that is there, of two of which one may be missing
@@ -71,14 +78,32 @@ pub record Gets (V : List Thing) (before : Option (List ℕ)) (asked : Option (L
   pub leaves : V' ≡ V
   pub placeholder : after ≡ before
 
+-- Activate, Revoke or Destroy succeeds: the state allows it, and the object stands changed in its place
+pub record ChangesObject (V : List Thing) (before : Option (List ℕ)) (t : ℤ) (asked : Option (List ℕ)) (change : Change) (shown : Option (List ℕ)) (V' : List Thing) (after : Option (List ℕ)) : Type 0 where
+  pub id : List ℕ
+  pub place : ℕ
+  pub object : Thing
+  pub about : meant asked before ≡ Some id
+  pub there : HasObject V id place object
+  pub may : allowed (act_of change) (state object.card.dates t) ≢ Not
+  pub echo : Echoes shown id
+  pub leaves : V' ≡ updated V place (thing_after change t)
+  pub placeholder : after ≡ before
+
+-- an operation without effect succeeds
+pub record Idles (V : List Thing) (before : Option (List ℕ)) (V' : List Thing) (after : Option (List ℕ)) : Type 0 where
+  pub leaves : V' ≡ V
+  pub placeholder : after ≡ before
+
 -- an operation succeeds with this payload
 abbrev pub Succeeds : RulesOf → List Thing → Option (List ℕ) → ℤ → AskedOf → Option PayloadOf → List Thing → Option (List ℕ) → Type 0
 Succeeds rules V before t (registers r) (Some (registered a)) V' after = Registers rules V t r a V' after
-Succeeds rules V before t (registers r) (Some (got a)) V' after = ⊥
-Succeeds rules V before t (registers r) None V' after = ⊥
 Succeeds rules V before t (gets id) (Some (got a)) V' after = Gets V before id a V' after
-Succeeds rules V before t (gets id) (Some (registered a)) V' after = ⊥
-Succeeds rules V before t (gets id) None V' after = ⊥
+Succeeds rules V before t (activates id) (Some (changed shown)) V' after = ChangesObject V before t id Activate shown V' after
+Succeeds rules V before t (revokes r) (Some (changed shown)) V' after = ChangesObject V before t r.id (Revoke r.code) shown V' after
+Succeeds rules V before t (destroys id) (Some (changed shown)) V' after = ChangesObject V before t id Destroy shown V' after
+Succeeds rules V before t (idles number) None V' after = Idles V before V' after
+Succeeds rules V before t asked payload V' after = ⊥
 
 -- a failed answer changes nothing, and is possible where its reason is founded
 pub record Fails (rules : RulesOf) (V : List Thing) (before : Option (List ℕ)) (t : ℤ) (asked : AskedOf) (reason : Option ℕ) (V' : List Thing) (after : Option (List ℕ)) : Type 0 where

@@ -1,6 +1,7 @@
 //! One item of a batch: Ok exactly where some inventory allows it, or the lowest reason why none does.
 #![tactic(auto)]
 
+mod change;
 mod echo;
 mod failed;
 mod get;

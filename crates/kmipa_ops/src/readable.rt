@@ -2,14 +2,15 @@
 
 ghost use Rattle.std.specs.Prelude.{◌≡◌, option_map};
 ghost use Rattle.kmipa_msgs.specs.Messages.{answer_of, ask_of, asked_of, payload_of};
-ghost use Rattle.kmipa_ops.specs.Completes.{can_judge, is_of, may_have, may_lack, has_payload};
+ghost use Rattle.kmipa_ops.specs.Completes.{can_judge, has_payload, is_idle, is_of, may_have, may_lack};
 ghost use Rattle.kmipa_ops.specs.Explains.{is_readable};
 
 use crate::echo::is_other_number;
 use kmipa_msgs::{Answer, Ask, Asked, Payload, Status};
 
-/// Whether an answer has what there is to judge: a Success of the operation asked for has its payload, and so has an Undone Register; an
-/// Undone Get has it or none. An answer of another operation and a failed one have nothing to judge in theirs.
+/// Whether an answer has what there is to judge: a Success of the operation asked for has its payload, and so has an Undone Create or
+/// Register; an Undone answer of another operation has it or none. An operation without effect has none. An answer of another operation and a
+/// failed one have nothing to judge in theirs.
 pub fn is_readable(ask: &Ask, answer: &Answer) -> bool
     ensures { result ≡ is_readable (ask_of ask.now) (answer_of answer.now) }
 {
@@ -32,7 +33,17 @@ fn has_payload(asked: &Asked, payload: &Option<Payload>) -> bool
 {
     match payload {
         Some(payload) => is_of(asked, payload),
-        None => false,
+        None => is_idle(asked),
+    }
+}
+
+/// Whether an operation is one without effect, whose payloads aren't read.
+fn is_idle(asked: &Asked) -> bool
+    ensures { result ≡ is_idle (asked_of asked.now) }
+{
+    match asked {
+        Asked::Idle(_) => true,
+        _ => false,
     }
 }
 
@@ -50,8 +61,9 @@ fn may_lack(asked: &Asked) -> bool
     ensures { result ≡ may_lack (asked_of asked.now) }
 {
     match asked {
-        Asked::Register(_) => false,
-        Asked::Get(_) => true,
+        Asked::Get(_) | Asked::Activate(_) | Asked::Revoke(_) | Asked::Destroy(_) => true,
+        Asked::Idle(_) => true,
+        _ => false,
     }
 }
 
@@ -59,14 +71,19 @@ fn may_lack(asked: &Asked) -> bool
 fn is_of(asked: &Asked, payload: &Payload) -> bool
     ensures { result ≡ is_of (asked_of asked.now) (payload_of payload.now) }
 {
-    match asked {
-        Asked::Register(_) => match payload {
-            Payload::Register(_) => true,
-            Payload::Get(_) => false,
+    match payload {
+        Payload::Register(_) => match asked {
+            Asked::Register(_) => true,
+            _ => false,
         },
-        Asked::Get(_) => match payload {
-            Payload::Register(_) => false,
-            Payload::Get(_) => true,
+        Payload::Get(_) => match asked {
+            Asked::Get(_) => true,
+            _ => false,
         },
+        Payload::Change(_) => match asked {
+            Asked::Activate(_) | Asked::Revoke(_) | Asked::Destroy(_) => true,
+            _ => false,
+        },
+        Payload::Create(_) | Payload::GetAttributes(_) => false,
     }
 }

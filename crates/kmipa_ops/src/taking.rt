@@ -2,14 +2,15 @@
 
 ghost use Rattle.std.specs.Prelude.{◌≡◌, ◌<◌, All, bytes_eq, cond, find, option_map, true};
 ghost use Rattle.kmipa_store.specs.Choices.{IsSound};
-ghost use Rattle.kmipa_msgs.specs.Messages.{answer_of, ask_of, asked_of, payload_of, rules_of};
+ghost use Rattle.kmipa_msgs.specs.Messages.{answer_of, ask_of, asked_of, maybe_lent, payload_of, rules_of};
 ghost use Rattle.kmipa_ops.specs.After.{Leaves, after, after_done, placeholder_after, placeholder_done};
-ghost use Rattle.kmipa_ops.specs.Blame.{done_speaks, failure_speaks, lowest, outcome_speaks};
+ghost use Rattle.kmipa_ops.specs.Blame.{done_speaks, failure_speaks, id_shown, lowest, outcome_speaks};
 ghost use Rattle.kmipa_ops.specs.Explains.{AreBytes, Taken, TellsBytes, brings, is_readable, shows};
 ghost use Rattle.kmipa_ops.specs.Objects.{clash};
 ghost use Rattle.kmipa_ops.specs.Placeholders.{placeholder_of};
 ghost use Rattle.kmipa_ops.specs.Whys.{whys};
 
+use crate::change::{Change, change_object, why_not_changed};
 use crate::echo::{clash_bytes, is_other_number};
 use crate::failed::is_founded;
 use crate::get::{teach, why_not_got};
@@ -152,9 +153,50 @@ fn done_why<L: Ledger>(
             Some(Payload::Get(got)) => {
                 why_not_got(ledger, placeholder.meant(get.id), t, Some(got))
             }
-            Some(Payload::Register(_)) => None,
+            Some(_) => None,
             None => why_not_got(ledger, placeholder.meant(get.id), t, None),
         },
+        Asked::Activate(about) => {
+            let change = Change::Activate;
+            why_not_changed(
+                ledger,
+                placeholder.meant(about.id),
+                t,
+                change,
+                id_shown(payload),
+            )
+        }
+        Asked::Revoke(revoke) => {
+            let change = Change::Revoke(revoke.code);
+            why_not_changed(
+                ledger,
+                placeholder.meant(revoke.id),
+                t,
+                change,
+                id_shown(payload),
+            )
+        }
+        Asked::Destroy(about) => {
+            let change = Change::Destroy;
+            why_not_changed(
+                ledger,
+                placeholder.meant(about.id),
+                t,
+                change,
+                id_shown(payload),
+            )
+        }
+        Asked::Create(_) | Asked::GetAttributes(_) | Asked::Idle(_) | Asked::Other(_) => None,
+    }
+}
+
+/// The identifier that the answer of a change shows.
+fn id_shown<'a>(payload: &'a Option<Payload<'a>>) -> Option<&'a str>
+    ensures { maybe_lent result ≡ id_shown (option_map payload_of payload.now) }
+{
+    match payload {
+        Some(Payload::Change(changed)) => changed.id,
+        _ => None,
     }
 }
 
@@ -202,6 +244,21 @@ fn leave_done<L: Ledger>(
             }
             _ => Ok(()),
         },
+        Asked::Activate(about) => {
+            change_object(ledger, placeholder.meant(about.id), t, Change::Activate)
+        }
+        Asked::Revoke(revoke) => {
+            change_object(
+                ledger,
+                placeholder.meant(revoke.id),
+                t,
+                Change::Revoke(revoke.code),
+            )
+        }
+        Asked::Destroy(about) => {
+            change_object(ledger, placeholder.meant(about.id), t, Change::Destroy)
+        },
+        Asked::Create(_) | Asked::GetAttributes(_) | Asked::Idle(_) | Asked::Other(_) => Ok(()),
     }
 }
 
