@@ -20,11 +20,11 @@ use Rattle.kmipa_ops.specs.declared.why.Why.{Why}
 use Rattle.kmipa_ops.specs.declared.why.Why.TheVariants.{OperationDiffers, NoSuchObject, WrongState, ReasonUnfounded, EchoDiffers}
 use Rattle.kmipa_ops.specs.declared.change.Change.{Change}
 use Rattle.kmipa_ops.specs.declared.change.Change.TheVariants.{Activate, Revoke, Destroy}
-use Rattle.kmipa_ops.specs.Objects.{meant, Echoes, Agree, is_other, same_type}
+use Rattle.kmipa_ops.specs.Objects.{meant, Echoes, Agree, is_other, same_type, is_other_id}
 use Rattle.kmipa_ops.specs.Founded.{founded}
 use Rattle.kmipa_ops.specs.Does.{newborn, Gets, ChangesObject, Succeeds, Fails, Outcome}
 use Rattle.kmipa_ops.specs.Completes.{IsFill, FillsAbsent, Fills, DoesSome, is_idle, is_of, may_lack, can_judge}
-use Rattle.kmipa_ops.specs.Blame.{object_meant, is_other_id, shows_other, get_speaks, change_speaks, done_speaks, outcome_speaks, frame_speaks, speaks, lowest}
+use Rattle.kmipa_ops.specs.Blame.{object_meant, shows_other, get_speaks, change_speaks, done_speaks, outcome_speaks, frame_speaks, speaks, lowest}
 use Rattle.kmipa_ops.specs.After.{with_registered, taught, taught_at, with_changed, after_done, after, placeholder_done, placeholder_after}
 use Rattle.kmipa_ops.specs.Explains.{brings, shows, AreBytes, TellsBytes, is_readable}
 use Rattle.kmipa_ops.proofs.TestLemmas.{not_false, or_cases, echoes_if, echoes_not, agree_if, agree_not, none_holds}

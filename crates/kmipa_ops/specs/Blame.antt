@@ -21,7 +21,7 @@ use Rattle.kmipa_msgs.specs.Messages.{RulesOf, RegisterOf, AskedOf, registers, g
 use Rattle.kmipa_ops.specs.declared.why.Why.{Why}
 use Rattle.kmipa_ops.specs.declared.why.Why.TheVariants.{OperationDiffers, NoSuchObject, WrongState, IdentifierTaken, NameTaken, BytesDiffer, LengthImpossible, AttributeDiffers, ReasonUnfounded, EchoDiffers}
 use Rattle.kmipa_ops.specs.Whys.{whys}
-use Rattle.kmipa_ops.specs.Objects.{meant, is_other, clash, same_type}
+use Rattle.kmipa_ops.specs.Objects.{meant, is_other, is_other_id, clash, same_type}
 use Rattle.kmipa_ops.specs.declared.change.Change.{Change}
 use Rattle.kmipa_ops.specs.declared.change.Change.TheVariants.{Activate, Revoke, Destroy}
 use Rattle.kmipa_ops.specs.Changes.{act_of}
@@ -61,11 +61,6 @@ shows_other a None = false
 shows_other a (Some h) =
     is_other same_type a.object_type h.card.kind || not (same_type a.shape h.card.kind)
     || clash (λ (x y : ℕ). x == y) a.block.algorithm h.card.given.algorithm || clash int_eq a.block.length h.card.given.length
-
--- an identifier is there, and isn't the one meant
-abbrev pub is_other_id : Option (List ℕ) → Option (List ℕ) → Bool
-is_other_id shown None = false
-is_other_id shown (Some id) = is_other bytes_eq shown id
 
 -- against a Register that is done
 abbrev pub register_speaks : RulesOf → List Card → RegisterOf → RegisteredOf → Why → Bool

@@ -3,8 +3,7 @@
 ghost use Rattle.std.specs.Prelude.{◌≡◌, ◌==◌, ℕ, bytes_eq};
 ghost use Rattle.std.specs.Ordering.{int_eq};
 ghost use Rattle.kmipa_msgs.specs.Messages.{maybe_lent};
-ghost use Rattle.kmipa_ops.specs.Blame.{is_other_id};
-ghost use Rattle.kmipa_ops.specs.Objects.{clash, is_other, same_type};
+ghost use Rattle.kmipa_ops.specs.Objects.{clash, is_other, same_type, is_other_id};
 
 use kmipa_attrs::ObjectType;
 

@@ -83,7 +83,8 @@ fn any_same(own: &[Name], names: &[Name]) -> bool
     own.iter().any(|mine| is_among(mine, names))
 }
 
-fn is_among(name: &Name, names: &[Name]) -> bool
+/// Whether a name is one of these.
+pub(crate) fn is_among(name: &Name, names: &[Name]) -> bool
     ensures { result ≡ list_any (λ (asked : Name). same_name (name_of asked) (name_of name.now)) names.now }
 {
     names.iter().any(|asked| is_same(asked, name))
