@@ -1,7 +1,7 @@
 -- Changes of an object: what a ledger leaves whose object was activated, revoked or destroyed.
 use Rattle.std.proofs.Common.{◌≡◌, ◌≢◌, if◌then◌else◌, MatchResult, Result, Ok, Err, ℕ, zero, suc, ℤ, Bool, true, false, List, [], ◌∷◌, slice_get, is_none, bytes_eq, option_map, Option, Some, None, refl, ap, sym, ◌∙◌, subst, arith}
 use Rattle.std.proofs.lemmas.Slice.Eq.{bytes_eq-Decides}
-use Rattle.kmipa_object.specs.Inventory.{Card, Thing, place_of}
+use Rattle.kmipa_object.specs.Inventory.{Thing, place_of}
 use Rattle.kmipa_object.specs.Life.{Dates, dates_of, state, is_active, compromises, or_now, deactivated_dates, revoked_dates}
 use Rattle.kmipa_object.specs.Lists.{updated}
 use Rattle.kmipa_object.specs.Table.{allowed}
@@ -10,11 +10,11 @@ use Rattle.kmipa_object.specs.declared.allow.Allow.TheVariants.{Must, May, Not}
 use Rattle.kmipa_object.specs.declared.fault.WrongState.{WrongState as Refused}
 use Rattle.kmipa_object.specs.declared.life.Life.{Life}
 use Rattle.kmipa_object.specs.declared.life.Material.{Material}
-use Rattle.kmipa_object.specs.declared.life.Material.TheVariants.{Gone, Secret}
+use Rattle.kmipa_object.specs.declared.life.Material.TheVariants.{Secret}
 use Rattle.kmipa_object.specs.declared.life.SecretNo.{SecretNo}
 use Rattle.kmipa_object.proofs.ListLemmas.{map-updated}
-use Rattle.kmipa_store.specs.Ledger.{Held, Meaning, LedgerState, cards_of, with_life, relived, changed, replaced}
-use Rattle.kmipa_store.specs.Choices.{Choice, Chooses, inv, thing, bytes_of, IsSound, GoneIfDestroyed}
+use Rattle.kmipa_store.specs.Ledger.{Held, Meaning, LedgerState, cards_of, with_life, changed, replaced}
+use Rattle.kmipa_store.specs.Choices.{Choice, inv, thing, bytes_of, IsSound, GoneIfDestroyed}
 use Rattle.kmipa_store.proofs.ChoiceLemmas.{agrees_same, extends_same}
 use Rattle.kmipa_store.proofs.InventoryLemmas.{cards-inv, get-inv}
 use Rattle.kmipa_store.proofs.SoundLemmas.{inv_found, sound_relived}

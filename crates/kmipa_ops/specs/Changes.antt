@@ -1,6 +1,6 @@
 -- The operations that change an object, and what each leaves of it (KMIP 2.1, section 6).
 use Rattle.std.specs.Prelude.{ℕ, ℤ, List, Option, None}
-use Rattle.kmipa_object.specs.Inventory.{Card, Thing}
+use Rattle.kmipa_object.specs.Inventory.{Thing}
 use Rattle.kmipa_object.specs.Life.{Dates, activated_dates, revoked_dates, destroyed_dates}
 use Rattle.kmipa_object.specs.Table.{revoke_act}
 use Rattle.kmipa_object.specs.declared.allow.Act.{Act}

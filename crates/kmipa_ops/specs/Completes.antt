@@ -4,7 +4,7 @@ use Rattle.std.specs.Int.{w32}
 use Rattle.kmipa_object.specs.Inventory.{Thing}
 use Rattle.kmipa_msgs.specs.declared.response.Status.{Status}
 use Rattle.kmipa_msgs.specs.declared.response.Status.TheVariants.{Success, Failed, Undone}
-use Rattle.kmipa_msgs.specs.Messages.{BlockOf, RulesOf, AskedOf, creates, registers, gets, gets_attributes, activates, revokes, destroys, idles, does_other, AskOf, PayloadOf, created, registered, got, got_attributes, changed, AnswerOf}
+use Rattle.kmipa_msgs.specs.Messages.{BlockOf, RulesOf, AskedOf, creates, registers, gets, activates, revokes, destroys, idles, does_other, AskOf, PayloadOf, created, registered, got, got_attributes, changed, AnswerOf}
 use Rattle.kmipa_ops.specs.Does.{Does}
 
 -- a key that a message can carry: bytes, a number of 32 bits, and a length of 32 bits with a sign
