@@ -72,7 +72,7 @@ call_faults marks declared turns Memory h = tt
 pub run_told : (marks : List MarkOf) (declared : DeclarationOf) (turns : List TurnOf) (calls : List CallOf) (places : List ℕ) (result : Result Verdict CheckFault)
     → AreRecorded marks → AreCalls marks calls → AreOrdered calls turns places → TellsRun declared (ordered calls places) result → Checks marks declared turns result
 run_told marks declared turns calls places (Ok Yes) r are o h =
-    replayed_accepts marks declared turns calls (ordered calls places) h.0 are o.order.named
+    replayed_accepts marks declared turns calls (ordered calls places) h.0 are o.order
     (order_permutes calls (ordered calls places) turns (once_pairs (map (λ (c : CallOf). c.number) calls) (calls_once marks calls r are)) o.order) h.1
 run_told marks declared turns calls places (Ok (No refused)) r are o h = (calls, are, (ordered calls places, o.order, h))
 run_told marks declared turns calls places (Err Memory) r are o h = tt

@@ -7,9 +7,15 @@ pub mod LateLemmas
 pub mod OrderedLemmas
 pub mod OrderLemmas
 pub mod WholeOrderLemmas
+pub mod DescribedLemmas
+pub mod DeclarableLemmas
+pub mod DeclareLemmas
 pub mod OpeningLemmas
 pub mod ReadableLemmas
 pub mod TurnLemmas
 pub mod CheckLemmas
 pub mod AuditLemmas
 pub mod ReadingLemmas
+pub mod RecordedLemmas
+pub mod AcceptedLemmas
+pub mod AcceptedAuditLemmas

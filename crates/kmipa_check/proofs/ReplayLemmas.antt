@@ -1,5 +1,5 @@
 -- A replay, event by event: placed and taken, late, back, refused, at its end.
-use Rattle.std.proofs.Common.{◌≡◌, ◌<◌, ◌≤◌, ◌⊎◌, inl, inr, ℕ, zero, suc, ◌+◌, ℤ, ◌≤ℤ◌, ◌<ℤ◌, List, [], ◌∷◌, map, length, take, Option, Some, None, slice_get, get_or, Result, Ok, Err, refl, sym, ap, ◌∙◌, subst, arith, add-one}
+use Rattle.std.proofs.Common.{◌≡◌, ◌<◌, ◌≤◌, ◌⊎◌, inl, inr, ℕ, zero, suc, ◌+◌, ℤ, ◌≤ℤ◌, List, [], map, length, take, Some, None, slice_get, get_or, Ok, Err, refl, sym, ◌∙◌, subst, arith, add-one}
 use Rattle.std.specs.Prelude.{AllPairs, IsPermutation}
 use Rattle.std.proofs.lemmas.List.{take_all}
 use Rattle.std.proofs.lemmas.Option.{slice_get-get_or}
@@ -7,11 +7,10 @@ use Rattle.std.proofs.lemmas.Int.{by_lt_z}
 use Rattle.std.specs.Int.Signed.{clash_ℤ, <ℤ-≤ℤ_trans}
 use Rattle.kmipa_object.specs.Inventory.{Thing}
 use Rattle.kmipa_store.specs.Ledger.{Meaning, LedgerState}
-use Rattle.kmipa_store.specs.Choices.{Choice, Chooses, Agrees, inv, IsSound}
+use Rattle.kmipa_store.specs.Choices.{Choice, Chooses, inv, IsSound}
 use Rattle.kmipa_record.specs.Marks.{MarkOf}
 use Rattle.kmipa_record.specs.Declarations.{DeclarationOf}
 use Rattle.kmipa_record.specs.Witnesses.{TurnOf}
-use Rattle.kmipa_msgs.specs.Messages.{RulesOf}
 use Rattle.kmipa_ops.specs.declared.why.Why.{Why}
 use Rattle.kmipa_ops.specs.declared.why.Why.TheVariants.{EarlierCallLate, StampRunsBack}
 use Rattle.kmipa_ops.specs.Chains.{ChainSome}
@@ -19,8 +18,8 @@ use Rattle.kmipa_batch.specs.Calls.{pairs_of, CallSome, RefusesMessage}
 use Rattle.kmipa_batch.specs.Refusals.{CallExplains, CallRefuted, CallTaken, IsPossibleUpTo}
 use Rattle.kmipa_batch.specs.declared.refusal.CallRefusal.TheVariants.{Impossible}
 use Rattle.kmipa_check.specs.Calls.{CallOf, AreCalls}
-use Rattle.kmipa_check.specs.Runs.{Linked, Describes, rules_declared, Before, IsPlaced, IsRun, IsAccepted}
-use Rattle.kmipa_check.specs.Verdicts.{IsLate, RunsBack, IsPlacedAt, ArePlaced, ArePossible, ArePossibleUpTo, AreKnown, RefusedItem, RefusedPlace, late, runs_back, RefusedAt, in_place, in_item, IsRefused, GoesUpTo}
+use Rattle.kmipa_check.specs.Runs.{Linked, rules_declared, Before, IsPlaced, IsAccepted}
+use Rattle.kmipa_check.specs.Verdicts.{IsOrder, IsLate, RunsBack, IsPlacedAt, ArePlaced, ArePossible, AreKnown, RefusedItem, late, runs_back, RefusedAt, in_place, in_item, IsRefused, GoesUpTo}
 use Rattle.kmipa_check.specs.declared.verdict.Refused.{Refused}
 use Rattle.kmipa_check.specs.Replays.{Replayed}
 use Rattle.kmipa_check.proofs.PlaceLemmas.{below_suc}
@@ -121,6 +120,16 @@ module _ (declared : DeclarationOf) (order : List CallOf) (n : ℕ) (m : Meaning
         let p = refused_item declared order n c m r (record { there = there; kept = kept; stamped = stamped }) item why (subst E same t.0) in
         refused item why v told number at is (in_item p.0 p.1 p.2)
 
+-- past the last turn all are replayed
+pub replayed_all : (declared : DeclarationOf) (order : List CallOf) (turn : ℕ) (m : Meaning) → length order ≤ turn → Replayed declared order turn m → Replayed declared order (length order) m
+replayed_all declared order turn m past r =
+    let P : List CallOf → Type 0 = λ o. AreKnown declared o m in
+    record {
+      placed = λ k below. r.placed k (omega (arith, past, below));
+      known = subst P (take_all turn order past ∙ sym (take_all (length order) order (omega arith))) r.known;
+      sound = r.sound;
+    }
+
 -- at the end: no turn is late, and stamps rise from turn to turn
 at_place : (order : List CallOf) (count turn : ℕ) (d : CallOf) → ArePlaced order count → turn < count → turn < length order → IsPlacedAt order turn (get_or order turn d)
 at_place order count turn d placed below within =
@@ -164,16 +173,17 @@ is_placed : (order : List CallOf) → ArePlaced order (length order) → IsPlace
 is_placed order placed = record { kept = all_kept order placed; stamped = rises order placed }
 
 pub replayed_accepts : (marks : List MarkOf) (declared : DeclarationOf) (turns : List TurnOf) (calls order : List CallOf) (m : Meaning) → AreCalls marks calls
-    → map (λ (c : CallOf). c.number) order ≡ map (λ (t : TurnOf). t.call) turns → IsPermutation calls order → Replayed declared order (length order) m → IsAccepted marks declared turns
-replayed_accepts marks declared turns calls order m are named once r =
+    → IsOrder calls turns order → IsPermutation calls order → Replayed declared order (length order) m → IsAccepted marks declared turns
+replayed_accepts marks declared turns calls order m are o once r =
     let c = r.sound.choice in
     let f = r.known.sound c.0 c.1 in
     let P : List CallOf → Type 0 = λ o. Linked (rules_declared declared) f.0 o (inv c.0 m.objects) in
     record {
       calls = calls;
       are = are;
+      formed = o.formed;
       order = order;
-      named = named;
+      named = o.named;
       start = f.0;
       described = f.1;
       run = record { once = once; placed = is_placed order r.placed; last = inv c.0 m.objects; linked = subst P (take_all (length order) order (omega arith)) f.2 };

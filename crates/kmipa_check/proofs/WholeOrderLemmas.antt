@@ -118,7 +118,7 @@ module _ (turns : List Turn) (named : FirstPlaces) (names : Indexes (map (λ (t 
       (λ other d below there out. not_left_out d.number (place_in named d.number) refl (r.earlier other d below there) out) (r.is ∙ is) refl
 
 -- two calls of one number are one
-same_call : (calls : List CallOf) → IsOnce (map number_of calls) → (i j : ℕ) (a b : CallOf) → slice_get calls i ≡ Some a → slice_get calls j ≡ Some b → a.number ≡ b.number → a ≡ b
+pub same_call : (calls : List CallOf) → IsOnce (map number_of calls) → (i j : ℕ) (a b : CallOf) → slice_get calls i ≡ Some a → slice_get calls j ≡ Some b → a.number ≡ b.number → a ≡ b
 same_call [] once i j a b p q e = absurd cc
 same_call (x ∷ calls) once zero zero a b p q e = let u : x ≡ a = cc in let v : x ≡ b = cc in sym u ∙ v
 same_call (x ∷ calls) once zero (suc j) a b p q e =

@@ -1,5 +1,5 @@
 -- What an audit of three inputs tells, as far as their bytes are known.
-use Rattle.std.specs.Prelude.{◌≡◌, ℕ, List, Bool, Option, Some, None, Result, Ok, Err}
+use Rattle.std.specs.Prelude.{◌≡◌, ℕ, List, Bool, false, Option, Some, None, Result, Ok, Err}
 use Rattle.kmipa_record.specs.Marks.{MarkOf}
 use Rattle.kmipa_record.specs.Files.{Tells}
 use Rattle.kmipa_record.specs.Transcripts.{transcript_of, IsTranscript, TranscriptFault, IsTranscriptUpTo}
@@ -11,6 +11,9 @@ use Rattle.kmipa_check.specs.declared.auditing.Audited.{Audited}
 use Rattle.kmipa_check.specs.declared.auditing.AuditFault.{AuditFault}
 use Rattle.kmipa_check.specs.declared.auditing.AuditFault.TheVariants as audit
 use Rattle.kmipa_check.specs.declared.fault.CheckFault.{CheckFault}
+use Rattle.kmipa_check.specs.declared.fault.CheckFault.TheVariants.{Memory}
+use Rattle.kmipa_check.specs.declared.verdict.Verdict.TheVariants.{Yes}
+use Rattle.kmipa_record.specs.declared.fault.RecordKind.TheVariants as record_kind
 
 -- a fact of three lists of bytes, where all three are known
 abbrev pub IfKnown : Option (List ℕ) → Option (List ℕ) → Option (List ℕ) → (List ℕ → List ℕ → List ℕ → Type 0) → Type 0
@@ -59,3 +62,16 @@ AuditFails t d w failed_t failed_d failed_w (audit.Check f) = IfKnown t d w (Are
 abbrev pub Audits : Option (List ℕ) → Option (List ℕ) → Option (List ℕ) → Bool → Bool → Bool → Result Audited AuditFault → Type 0
 Audits t d w failed_t failed_d failed_w (Ok audited) = IfKnown t d w (AreJudged audited)
 Audits t d w failed_t failed_d failed_w (Err fault) = AuditFails t d w failed_t failed_d failed_w fault
+
+-- the verdict is yes, or memory ran out
+abbrev pub IsYes : Result Audited AuditFault → Type 0
+IsYes (Ok audited) = audited.verdict ≡ Yes
+IsYes (Err (audit.Transcript f)) = f.kind ≡ record_kind.Memory
+IsYes (Err (audit.Declaration f)) = f.kind ≡ record_kind.Memory
+IsYes (Err (audit.Witness f)) = f.kind ≡ record_kind.Memory
+IsYes (Err (audit.Check f)) = f ≡ Memory
+
+-- of accepted bytes, over inputs that don't fail, an audit says yes, unless memory runs out; so it says yes exactly there
+abbrev pub AcceptedAuditIsYes : Type 0
+AcceptedAuditIsYes = (t d w : List ℕ) (result : Result Audited AuditFault)
+    → AreAccepted t d w → Audits (Some t) (Some d) (Some w) false false false result → IsYes result

@@ -1,7 +1,9 @@
 pub mod Calls
+pub mod Described
 pub mod Runs
 pub mod Orders
 pub mod Verdicts
+pub mod Opening
 pub mod Replays
 pub mod Numbers
 pub mod Late

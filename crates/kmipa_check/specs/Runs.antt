@@ -1,12 +1,14 @@
 -- Runs: the calls one at a time, in an order, from an inventory that the declaration describes.
-use Rattle.std.specs.Prelude.{◌≡◌, ◌<◌, ◌≤ℤ◌, ℕ, ℤ, List, [], ◌∷◌, map, AllPairs, IsPermutation}
-use Rattle.kmipa_object.specs.Inventory.{Thing, IsInventory}
+use Rattle.std.specs.Prelude.{◌≡◌, ◌<◌, ◌≤ℤ◌, List, [], ◌∷◌, map, length, AllPairs, IsPermutation}
+use Rattle.kmipa_object.specs.Inventory.{Thing}
 use Rattle.kmipa_record.specs.Marks.{MarkOf}
 use Rattle.kmipa_record.specs.Declarations.{DeclarationOf}
 use Rattle.kmipa_record.specs.Witnesses.{TurnOf}
-use Rattle.kmipa_msgs.specs.Messages.{RulesOf, RequestOf, ResponseOf, default_rules}
+use Rattle.kmipa_msgs.specs.Messages.{RulesOf, RowOf, default_rules}
 use Rattle.kmipa_batch.specs.Calls.{CallSome}
 use Rattle.kmipa_check.specs.Calls.{CallOf, AreCalls}
+use Rattle.kmipa_check.specs.Described.{Describes}
+use Rattle.kmipa_check.specs.Orders.{AreFormedBelow}
 
 -- the end mark of one call stands ahead of the begin mark of another
 abbrev pub Before : CallOf → CallOf → Type 0
@@ -29,20 +31,21 @@ pub record IsRun (rules : RulesOf) (calls : List CallOf) (start : List Thing) (o
   pub last : List Thing
   pub linked : Linked rules start order last
 
--- the rules that a declaration gives; one without rows has the default one
+-- the rows of a declaration; one without rows has the default one
+abbrev pub rows_declared : List RowOf → List RowOf
+rows_declared [] = default_rules.rows
+rows_declared (row ∷ rows) = row ∷ rows
+
+-- the rules that a declaration gives
 abbrev pub rules_declared : DeclarationOf → RulesOf
-rules_declared declared = record default_rules { unique_names = declared.unique_names }
+rules_declared declared = record { unique_names = declared.unique_names; rows = rows_declared declared.rows }
 
--- the inventory has exactly the declared objects; a declaration has none, so far
-pub record Describes (declared : DeclarationOf) (things : List Thing) : Type 0 where
-  pub inventory : IsInventory things
-  pub objects : things ≡ []
-
--- Some inventory that the declaration describes has a run of all calls of the transcript in the order of the witness, which gives every
--- recorded response.
+-- The witness is formed for the calls of the transcript, and some inventory that the declaration describes has a run of all calls in the
+-- order of the witness, which gives every recorded response.
 pub record IsAccepted (marks : List MarkOf) (declared : DeclarationOf) (turns : List TurnOf) : Type 0 where
   pub calls : List CallOf
   pub are : AreCalls marks calls
+  pub formed : AreFormedBelow calls turns (length turns)
   pub order : List CallOf
   pub named : map (λ (c : CallOf). c.number) order ≡ map (λ (t : TurnOf). t.call) turns
   pub start : List Thing

@@ -1,12 +1,12 @@
 -- What a verdict says: yes, or the first turn, and in it the first item, that is impossible.
-use Rattle.std.specs.Prelude.{◌≡◌, ◌≤◌, ◌<◌, ◌⊎◌, ◌≤ℤ◌, ◌<ℤ◌, ℕ, ◌+◌, ℤ, List, map, take, length, slice_get, Option, Some, None, Result, Ok, Err}
+use Rattle.std.specs.Prelude.{◌≡◌, ◌<◌, ◌⊎◌, ◌<ℤ◌, ℕ, ◌+◌, List, map, take, length, slice_get, Option, Some, None, Result, Ok, Err}
 use Rattle.kmipa_object.specs.Inventory.{Thing}
 use Rattle.kmipa_store.specs.Ledger.{Meaning}
-use Rattle.kmipa_store.specs.Choices.{Choice, Chooses, Agrees, inv, Extends}
-use Rattle.kmipa_record.specs.Marks.{MarkOf}
+use Rattle.kmipa_store.specs.Choices.{Choice, Chooses, inv}
+use Rattle.kmipa_record.specs.Marks.{MarkOf, AreRecorded}
 use Rattle.kmipa_record.specs.Declarations.{DeclarationOf}
 use Rattle.kmipa_record.specs.Witnesses.{TurnOf}
-use Rattle.kmipa_msgs.specs.Messages.{RulesOf, RequestOf, ResponseOf}
+use Rattle.kmipa_msgs.specs.Messages.{RulesOf}
 use Rattle.kmipa_ops.specs.declared.why.Why.{Why}
 use Rattle.kmipa_ops.specs.declared.why.Why.TheVariants.{EarlierCallLate, StampRunsBack}
 use Rattle.kmipa_ops.specs.Chains.{ChainSome}
@@ -14,7 +14,8 @@ use Rattle.kmipa_batch.specs.Shapes.{IsShapedBelow}
 use Rattle.kmipa_batch.specs.Calls.{pairs_of, RefusesMessage}
 use Rattle.kmipa_batch.specs.Refusals.{SpeaksAt}
 use Rattle.kmipa_check.specs.Calls.{CallOf, AreCalls, IsFirstOutside}
-use Rattle.kmipa_check.specs.Runs.{Before, Linked, Describes, rules_declared, IsAccepted}
+use Rattle.kmipa_check.specs.Described.{Describes}
+use Rattle.kmipa_check.specs.Runs.{Before, Linked, rules_declared, IsAccepted}
 use Rattle.kmipa_check.specs.Orders.{AreFormedBelow, WitnessFaultAt}
 use Rattle.kmipa_check.specs.declared.fault.CheckFault.{CheckFault}
 use Rattle.kmipa_check.specs.declared.fault.CheckFault.TheVariants.{Outside, Witness, Memory}
@@ -117,3 +118,8 @@ Checks marks declared turns (Ok verdict) = TellsVerdict marks declared turns ver
 Checks marks declared turns (Err (Outside number side o)) = IsFirstOutside marks number side o.item o.kind
 Checks marks declared turns (Err (Witness f)) = (calls : List CallOf) × AreCalls marks calls × WitnessFaultAt calls turns f.at f.kind
 Checks marks declared turns (Err Memory) = Unit {0}
+
+-- of an accepted witness a check answers yes, unless memory runs out; so it answers yes exactly there
+abbrev pub AcceptedIsYes : Type 0
+AcceptedIsYes = (marks : List MarkOf) (declared : DeclarationOf) (turns : List TurnOf) (result : Result Verdict CheckFault)
+    → AreRecorded marks → IsAccepted marks declared turns → Checks marks declared turns result → (result ≡ Ok Yes) ⊎ (result ≡ Err Memory)

@@ -1,6 +1,6 @@
 //! The check of a witness.
 
-ghost use Rattle.kmipa_record.specs.Declarations.{declaration_of};
+ghost use Rattle.kmipa_record.specs.Declarations.{AreDeclared, declaration_of};
 ghost use Rattle.kmipa_record.specs.Marks.{AreRecorded};
 ghost use Rattle.kmipa_record.specs.Transcripts.{transcript_of};
 ghost use Rattle.kmipa_record.specs.Witnesses.{witness_of};
@@ -26,6 +26,7 @@ pub fn check(
     declaration: &Declaration,
     witness: &Witness,
 ) -> Result<Verdict, CheckFault>
+    requires { AreDeclared (declaration_of declaration.now) }
     ensures { AreRecorded (transcript_of transcript.now) → Checks (transcript_of transcript.now) (declaration_of declaration.now) (witness_of witness.now) result }
 {
     let calls = read_calls(alloc, transcript)?;

@@ -13,14 +13,8 @@ use Rattle.kmipa_store.specs.Calls.{is_taken}
 use Rattle.kmipa_store.specs.Choices.{Suits, Chooses, IsSound, GoneIfDestroyed}
 use Rattle.kmipa_store.proofs.ChoiceLemmas.{override, Chooses-more, Chooses-none}
 use Rattle.kmipa_store.proofs.InventoryLemmas.{place_none, get-cards_of}
+use Rattle.kmipa_ops.specs.After.{with_own}
 use Rattle.kmipa_ops.proofs.TestLemmas.{not_some}
-
--- the ledger with it
-abbrev pub with_own : Meaning → Card → Option (List ℕ) → Meaning
-with_own m card known = record {
-  objects = m.objects ++ record { card = card; material = Secret (record { number = length m.secrets }) } ∷ [];
-  secrets = m.secrets ++ record { rule = rule_of card; bytes = known } ∷ [];
-}
 
 -- no object has the new identifier
 is_new : (m : Meaning) (id : List ℕ) → place_of id (cards_of m.objects) ≡ None → (p : ℕ) (h : Held) → slice_get m.objects p ≡ Some h → id ≡ h.card.id → ⊥

@@ -3,6 +3,7 @@ use Rattle.std.proofs.Common.{◌≡◌, ◌||◌, ◌==◌, ◌⊎◌, ℕ, zer
 use Rattle.std.proofs.lemmas.Bool.{or_parts}
 use Rattle.std.proofs.lemmas.Bool.Decides.{Decides-eqb}
 use Rattle.std.proofs.lemmas.Slice.Eq.{bytes_eq-Decides}
+use Rattle.kmipa_attrs.specs.declared.object_type.ObjectType.TheVariants.{SymmetricKey}
 use Rattle.kmipa_object.specs.Inventory.{Card, Thing}
 use Rattle.kmipa_object.specs.declared.life.Material.{Material}
 use Rattle.kmipa_object.specs.declared.life.Material.TheVariants.{Gone, Secret}
@@ -15,21 +16,21 @@ use Rattle.kmipa_msgs.specs.declared.key_block.KeyFormat.TheVariants.{Raw}
 use Rattle.kmipa_msgs.specs.declared.response.Status.{Status}
 use Rattle.kmipa_msgs.specs.declared.response.Status.TheVariants.{Success, Failed, Undone}
 use Rattle.kmipa_msgs.specs.Operations.{operation_number}
-use Rattle.kmipa_msgs.specs.Messages.{RulesOf, RevokeOf, AskedOf, registers, gets, activates, revokes, destroys, idles, AskOf, operation_asked, GotOf, PayloadOf, registered, got, changed, AnswerOf}
+use Rattle.kmipa_msgs.specs.Messages.{RulesOf, RevokeOf, AskedOf, creates, registers, gets, activates, revokes, destroys, idles, AskOf, operation_asked, GotOf, PayloadOf, created, registered, got, changed, AnswerOf}
 use Rattle.kmipa_ops.specs.declared.why.Why.{Why}
 use Rattle.kmipa_ops.specs.declared.why.Why.TheVariants.{OperationDiffers, NoSuchObject, WrongState, ReasonUnfounded, EchoDiffers}
 use Rattle.kmipa_ops.specs.declared.change.Change.{Change}
 use Rattle.kmipa_ops.specs.declared.change.Change.TheVariants.{Activate, Revoke, Destroy}
 use Rattle.kmipa_ops.specs.Objects.{meant, Echoes, Agree, is_other, same_type, is_other_id}
 use Rattle.kmipa_ops.specs.Founded.{founded}
-use Rattle.kmipa_ops.specs.Does.{newborn, Gets, ChangesObject, Succeeds, Fails, Outcome}
+use Rattle.kmipa_ops.specs.Does.{brought, newborn, Gets, ChangesObject, Succeeds, Fails, Outcome}
 use Rattle.kmipa_ops.specs.Completes.{IsFill, FillsAbsent, Fills, DoesSome, is_idle, is_of, may_lack, can_judge}
 use Rattle.kmipa_ops.specs.Blame.{object_meant, shows_other, get_speaks, change_speaks, done_speaks, outcome_speaks, frame_speaks, speaks, lowest}
-use Rattle.kmipa_ops.specs.After.{with_registered, taught, taught_at, with_changed, after_done, after, placeholder_done, placeholder_after}
+use Rattle.kmipa_ops.specs.After.{taught, taught_at, with_changed, after_done, after, placeholder_done, placeholder_after}
 use Rattle.kmipa_ops.specs.Explains.{brings, shows, AreBytes, TellsBytes, is_readable}
 use Rattle.kmipa_ops.proofs.TestLemmas.{not_false, or_cases, echoes_if, echoes_not, agree_if, agree_not, none_holds}
 use Rattle.kmipa_ops.proofs.StepLemmas.{Step, step_as, still_step}
-use Rattle.kmipa_ops.proofs.RegisterLemmas.{register_step, register_never}
+use Rattle.kmipa_ops.proofs.NewbornLemmas.{create_step, create_never, register_step, register_never}
 use Rattle.kmipa_ops.proofs.GetLemmas.{finds, meant_is, links, get_step, get_never, same_type-Decides}
 use Rattle.kmipa_ops.proofs.ChangeLemmas.{unshown, change_step, change_never}
 
@@ -123,7 +124,8 @@ module _ (rules : RulesOf) (m : Meaning) (before : Option (List ℕ)) (t : ℤ) 
   done_step : (asked : AskedOf) (payload : PayloadOf) → IsSound m → is_of asked payload ≡ true → AreBytes (brings asked) → AreBytes (shows (Some payload))
       → ((w : Why) → done_speaks rules m before t asked (Some payload) w ≡ false)
       → Step (λ V V' p. Succeeds rules V before t asked (Some payload) V' p) m (after_done m before t asked (Some payload)) (placeholder_done before asked (Some payload))
-  done_step (registers r) (registered a) sound of brought shown silent = register_step rules m t r a sound brought silent
+  done_step (creates a) (created x) sound of brought shown silent = create_step rules m t a x sound silent
+  done_step (registers r) (registered x) sound of brought shown silent = register_step rules m t r x sound brought silent
   done_step (gets id) (got a) sound of brought shown silent = get_step m before id t a sound shown silent
   done_step (activates id) (changed a) sound of brought shown silent = change_step m before id t Activate a sound silent
   done_step (revokes r) (changed a) sound of brought shown silent = change_step m before r.id t (Revoke r.code) a sound silent
@@ -173,7 +175,8 @@ module _ (rules : RulesOf) (m : Meaning) (before : Option (List ℕ)) (t : ℤ) 
   -- what speaks against a Success allows no choice
   done_never : (asked : AskedOf) (payload : PayloadOf) (w : Why) → done_speaks rules m before t asked (Some payload) w ≡ true
       → (c : Choice) → Chooses m.secrets c → (V : List Thing) (p : Option (List ℕ)) → Succeeds rules (inv c m.objects) before t asked (Some payload) V p → ⊥
-  done_never (registers r) (registered a) w h c ch V p x = register_never rules m t r a w h c V p x
+  done_never (creates a) (created x) w h c ch V p y = create_never rules m t a x w h c V p y
+  done_never (registers r) (registered x) w h c ch V p y = register_never rules m t r x w h c V p y
   done_never (gets id) (got a) w h c ch V p x = get_never m before id t a w h c ch V p x
   done_never (activates id) (changed a) w h c ch V p x = change_never m before id t Activate a w h c V p x
   done_never (revokes r) (changed a) w h c ch V p x = change_never m before r.id t (Revoke r.code) a w h c V p x
@@ -310,8 +313,15 @@ learns_taught m None asked payload b is number bytes e = inl e
 learns_taught m (Some h) asked payload b is number bytes e = learns_at m h.material asked payload b is number bytes e
 
 learns_done : (m : Meaning) (before : Option (List ℕ)) (t : ℤ) (asked : AskedOf) (payload : Option PayloadOf) → LearnsFrom m (after Success m before t asked payload) asked payload
-learns_done m before t (registers r) (Some (registered a)) number bytes e =
-    let new : Known = record { rule = rule_of (newborn t a.id r); bytes = Some r.block.material } in
+learns_done m before t (creates a) (Some (created x)) number bytes e =
+    let new : Known = record { rule = rule_of (newborn t x.id SymmetricKey a); bytes = None } in
+    let k = known_at (slice_get (m.secrets ++ new ∷ []) number) bytes e in
+    elim (get-append_cases m.secrets new number k.0 k.1) [
+      | inl q ↦ inl (ap (option_map (λ (y : Known). y.bytes)) q ∙ ap Some k.2)
+      | inr q ↦ let clash : None ≡ Some bytes = ap (λ (y : Known). y.bytes) (sym q.1) ∙ k.2 in let bad : ⊥ = cc in absurd bad
+    ]
+learns_done m before t (registers r) (Some (registered x)) number bytes e =
+    let new : Known = record { rule = rule_of (newborn t x.id r.object_type (brought r)); bytes = Some r.block.material } in
     let k = known_at (slice_get (m.secrets ++ new ∷ []) number) bytes e in
     elim (get-append_cases m.secrets new number k.0 k.1) [
       | inl q ↦ inl (ap (option_map (λ (y : Known). y.bytes)) q ∙ ap Some k.2)

@@ -2,7 +2,7 @@ mod TestLemmas
 mod ScanLemmas
 mod StepLemmas
 pub mod AddLemmas
-mod RegisterLemmas
+mod NewbornLemmas
 mod GetLemmas
 mod ChangeLemmas
 mod ShownAttributeLemmas

@@ -135,11 +135,12 @@ why_live m about t shown h s sound e mat =
     ∙ behind_is m about t shown h s (sym e) secret)
 
 -- a new secret that was told its bytes
-pub known_made : (s : LedgerState) (rule : Rule) (bytes : List ℕ) (n : ℕ) (v u : LedgerState) → n ≡ length s.now.secrets → v ≡ with_secret s rule → u ≡ learned v n bytes
-    → u ≡ changed s (record { objects = s.now.objects; secrets = s.now.secrets ++ record { rule = rule; bytes = Some bytes } ∷ [] })
-known_made s rule bytes n v u number made told =
+pub known_made : (s : LedgerState) (rule : Rule) (bytes : List ℕ) (known : Option (List ℕ)) (n : ℕ) (v u : LedgerState) → known ≡ Some bytes → n ≡ length s.now.secrets → v ≡ with_secret s rule
+    → u ≡ learned v n bytes → u ≡ changed s (record { objects = s.now.objects; secrets = s.now.secrets ++ record { rule = rule; bytes = known } ∷ [] })
+known_made s rule bytes known n v u is number made told =
+    let C : List Known → LedgerState = λ ss. changed s (record { objects = s.now.objects; secrets = ss }) in
     told ∙ ap (λ (x : LedgerState). learned x n bytes) made ∙ ap (λ (k : ℕ). learned (with_secret s rule) k bytes) number
-    ∙ ap (λ (ss : List Known). changed s (record { objects = s.now.objects; secrets = ss })) (told-last s.now.secrets (record { rule = rule; bytes = None }) bytes)
+    ∙ ap C (told-last s.now.secrets (record { rule = rule; bytes = None }) bytes) ∙ ap (λ (k : Option (List ℕ)). C (s.now.secrets ++ record { rule = rule; bytes = k } ∷ [])) (sym is)
 
 -- names, through their meaning
 pub named_is : (own names : List Name) → list_any (λ (mine : Name). list_any (λ (asked : Name). same_name (name_of asked) (name_of mine)) names) own

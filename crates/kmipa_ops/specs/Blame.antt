@@ -2,8 +2,11 @@
 -- known bytes are those of its secrets (profile). A condition that speaks of the object holds only where there is one.
 use Rattle.std.specs.Prelude.{◌||◌, ◌==◌, ℕ, ℤ, Bool, true, false, not, is_none, is_some, bytes_eq, List, find, slice_get, Option, Some, None, option_and_then}
 use Rattle.std.specs.Ordering.{int_eq}
+use Rattle.kmipa_attrs.specs.Sets.{Attributes, NameOf}
 use Rattle.kmipa_attrs.specs.ObjectTypes.{type_number}
-use Rattle.kmipa_object.specs.Inventory.{Card, place_of, rule_for, admits}
+use Rattle.kmipa_attrs.specs.declared.object_type.ObjectType.{ObjectType}
+use Rattle.kmipa_attrs.specs.declared.object_type.ObjectType.TheVariants.{SymmetricKey}
+use Rattle.kmipa_object.specs.Inventory.{Card, place_of, rule_for, admits, possible}
 use Rattle.kmipa_object.specs.Life.{state}
 use Rattle.kmipa_object.specs.Table.{allowed}
 use Rattle.kmipa_object.specs.declared.allow.Act.{Act}
@@ -17,7 +20,7 @@ use Rattle.kmipa_store.specs.Calls.{differs, breaks}
 use Rattle.kmipa_msgs.specs.declared.response.Status.{Status}
 use Rattle.kmipa_msgs.specs.declared.response.Status.TheVariants.{Success, Failed, Undone}
 use Rattle.kmipa_msgs.specs.Operations.{operation_number}
-use Rattle.kmipa_msgs.specs.Messages.{RulesOf, RegisterOf, AskedOf, registers, gets, activates, revokes, destroys, AskOf, operation_asked, RegisteredOf, GotOf, PayloadOf, registered, got, changed, AnswerOf}
+use Rattle.kmipa_msgs.specs.Messages.{RulesOf, RegisterOf, AskedOf, creates, registers, gets, activates, revokes, destroys, AskOf, operation_asked, RegisteredOf, GotOf, PayloadOf, created, registered, got, changed, AnswerOf}
 use Rattle.kmipa_ops.specs.declared.why.Why.{Why}
 use Rattle.kmipa_ops.specs.declared.why.Why.TheVariants.{OperationDiffers, NoSuchObject, WrongState, IdentifierTaken, NameTaken, BytesDiffer, LengthImpossible, AttributeDiffers, ReasonUnfounded, EchoDiffers}
 use Rattle.kmipa_ops.specs.Whys.{whys}
@@ -25,7 +28,7 @@ use Rattle.kmipa_ops.specs.Objects.{meant, is_other, is_other_id, clash, same_ty
 use Rattle.kmipa_ops.specs.declared.change.Change.{Change}
 use Rattle.kmipa_ops.specs.declared.change.Change.TheVariants.{Activate, Revoke, Destroy}
 use Rattle.kmipa_ops.specs.Changes.{act_of}
-use Rattle.kmipa_ops.specs.Does.{brought, name_taken}
+use Rattle.kmipa_ops.specs.Does.{brought, kept, name_taken}
 use Rattle.kmipa_ops.specs.Founded.{founded}
 
 -- the place of the object that is meant, where an identifier is meant and an object has it
@@ -62,13 +65,22 @@ shows_other a (Some h) =
     is_other same_type a.object_type h.card.kind || not (same_type a.shape h.card.kind)
     || clash (λ (x y : ℕ). x == y) a.block.algorithm h.card.given.algorithm || clash int_eq a.block.length h.card.given.length
 
--- against a Register that is done
+-- against a new object of this type and these names, for which there are bytes or aren't
+abbrev pub adding_speaks : RulesOf → List Card → ObjectType → List NameOf → Bool → RegisteredOf → Why → Bool
+adding_speaks rules cs kind names has_bytes x IdentifierTaken = is_some (place_of x.id cs)
+adding_speaks rules cs kind names has_bytes x NameTaken = name_taken rules cs names
+adding_speaks rules cs kind names has_bytes x LengthImpossible = not has_bytes
+adding_speaks rules cs kind names has_bytes x EchoDiffers = is_other (λ (a b : ℕ). a == b) x.object_type (type_number kind)
+adding_speaks rules cs kind names has_bytes x why = false
+
+-- against a Create that is done: some bytes must be possible
+abbrev pub create_speaks : RulesOf → List Card → Attributes → RegisteredOf → Why → Bool
+create_speaks rules cs a x why = adding_speaks rules cs SymmetricKey a.names (possible (rule_for SymmetricKey (kept a))) x why
+
+-- against a Register that is done: its bytes must be possible
 abbrev pub register_speaks : RulesOf → List Card → RegisterOf → RegisteredOf → Why → Bool
-register_speaks rules cs r a IdentifierTaken = is_some (place_of a.id cs)
-register_speaks rules cs r a NameTaken = name_taken rules cs r.attributes.names
-register_speaks rules cs r a LengthImpossible = not (admits (rule_for r.object_type (brought r)) r.block.material)
-register_speaks rules cs r a EchoDiffers = is_other (λ (x y : ℕ). x == y) a.object_type (type_number r.object_type)
-register_speaks rules cs r a why = false
+register_speaks rules cs r x why =
+    adding_speaks rules cs r.object_type r.attributes.names (admits (rule_for r.object_type (kept (brought r))) r.block.material) x why
 
 -- against a Get that is done, about this identifier, and shows this if its payload is there
 abbrev pub get_speaks : Meaning → Option (List ℕ) → ℤ → Option GotOf → Why → Bool
@@ -94,7 +106,8 @@ id_shown payload = None
 
 -- against a Success, or an Undone answer, which is judged as one
 abbrev pub done_speaks : RulesOf → Meaning → Option (List ℕ) → ℤ → AskedOf → Option PayloadOf → Why → Bool
-done_speaks rules m before t (registers r) (Some (registered a)) why = register_speaks rules (cards_of m.objects) r a why
+done_speaks rules m before t (creates a) (Some (created x)) why = create_speaks rules (cards_of m.objects) a x why
+done_speaks rules m before t (registers r) (Some (registered x)) why = register_speaks rules (cards_of m.objects) r x why
 done_speaks rules m before t (gets id) (Some (got a)) why = get_speaks m (meant id before) t (Some a) why
 done_speaks rules m before t (gets id) None why = get_speaks m (meant id before) t None why
 done_speaks rules m before t (activates id) payload why = change_speaks m.objects (meant id before) t Activate (id_shown payload) why

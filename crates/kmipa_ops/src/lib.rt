@@ -1,7 +1,9 @@
 //! One item of a batch: Ok exactly where some inventory allows it, or the lowest reason why none does.
 #![tactic(auto)]
 
+mod adding;
 mod change;
+mod create;
 mod echo;
 mod failed;
 mod get;

@@ -72,6 +72,10 @@ fn is_of(asked: &Asked, payload: &Payload) -> bool
     ensures { result ≡ is_of (asked_of asked.now) (payload_of payload.now) }
 {
     match payload {
+        Payload::Create(_) => match asked {
+            Asked::Create(_) => true,
+            _ => false,
+        },
         Payload::Register(_) => match asked {
             Asked::Register(_) => true,
             _ => false,
@@ -84,6 +88,6 @@ fn is_of(asked: &Asked, payload: &Payload) -> bool
             Asked::Activate(_) | Asked::Revoke(_) | Asked::Destroy(_) => true,
             _ => false,
         },
-        Payload::Create(_) | Payload::GetAttributes(_) => false,
+        Payload::GetAttributes(_) => false,
     }
 }

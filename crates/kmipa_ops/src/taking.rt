@@ -4,18 +4,19 @@ ghost use Rattle.std.specs.Prelude.{◌≡◌, ◌<◌, All, bytes_eq, cond, fin
 ghost use Rattle.kmipa_store.specs.Choices.{IsSound};
 ghost use Rattle.kmipa_msgs.specs.Messages.{answer_of, ask_of, asked_of, maybe_lent, payload_of, rules_of};
 ghost use Rattle.kmipa_ops.specs.After.{Leaves, after, after_done, placeholder_after, placeholder_done};
-ghost use Rattle.kmipa_ops.specs.Blame.{done_speaks, failure_speaks, id_shown, lowest, outcome_speaks};
+ghost use Rattle.kmipa_ops.specs.Blame.{change_speaks, done_speaks, failure_speaks, id_shown, lowest, outcome_speaks};
 ghost use Rattle.kmipa_ops.specs.Explains.{AreBytes, Taken, TellsBytes, brings, is_readable, shows};
 ghost use Rattle.kmipa_ops.specs.Objects.{clash};
 ghost use Rattle.kmipa_ops.specs.Placeholders.{placeholder_of};
 ghost use Rattle.kmipa_ops.specs.Whys.{whys};
 
 use crate::change::{Change, change_object, why_not_changed};
+use crate::create::{create, why_not_created};
 use crate::echo::{clash_bytes, is_other_number};
 use crate::failed::is_founded;
 use crate::get::{teach, why_not_got};
 use crate::placeholder::Placeholder;
-use crate::register::{store, why_not_registered};
+use crate::register::{register, why_not_registered};
 use crate::why::{Refusal, Why};
 use kmipa_msgs::{Answer, Ask, Asked, Payload, Rules, Status};
 use kmipa_store::Ledger;
@@ -143,6 +144,12 @@ fn done_why<L: Ledger>(
     ensures { result ≡ find (done_speaks (rules_of rules.now) (L.state ledger.now).now (placeholder_of placeholder.now) t (asked_of asked.now) (option_map payload_of payload.now)) whys }
 {
     match asked {
+        Asked::Create(create) => match payload {
+            Some(Payload::Create(created)) => {
+                why_not_created(ledger, rules, &create.attributes, created)
+            }
+            _ => None,
+        },
         Asked::Register(register) => match payload {
             Some(Payload::Register(registered)) => {
                 why_not_registered(alloc, ledger, rules, register, registered)
@@ -157,37 +164,42 @@ fn done_why<L: Ledger>(
             None => why_not_got(ledger, placeholder.meant(get.id), t, None),
         },
         Asked::Activate(about) => {
-            let change = Change::Activate;
-            why_not_changed(
+            changed_why(
                 ledger,
                 placeholder.meant(about.id),
                 t,
-                change,
-                id_shown(payload),
+                Change::Activate,
+                payload,
             )
         }
         Asked::Revoke(revoke) => {
             let change = Change::Revoke(revoke.code);
-            why_not_changed(
-                ledger,
-                placeholder.meant(revoke.id),
-                t,
-                change,
-                id_shown(payload),
-            )
+            changed_why(ledger, placeholder.meant(revoke.id), t, change, payload)
         }
         Asked::Destroy(about) => {
-            let change = Change::Destroy;
-            why_not_changed(
+            changed_why(
                 ledger,
                 placeholder.meant(about.id),
                 t,
-                change,
-                id_shown(payload),
+                Change::Destroy,
+                payload,
             )
         }
-        Asked::Create(_) | Asked::GetAttributes(_) | Asked::Idle(_) | Asked::Other(_) => None,
+        Asked::GetAttributes(_) | Asked::Idle(_) | Asked::Other(_) => None,
     }
+}
+
+/// The lowest reason against a change of the object that is meant, with its payload or without one.
+fn changed_why<L: Ledger>(
+    ledger: &L,
+    about: Option<&str>,
+    t: i64,
+    change: Change,
+    payload: &Option<Payload>,
+) -> Option<Why>
+    ensures { result ≡ find (change_speaks (L.state ledger.now).now.objects (maybe_lent about.entry) t change (id_shown (option_map payload_of payload.now))) whys }
+{
+    why_not_changed(ledger, about, t, change, id_shown(payload))
 }
 
 /// The identifier that the answer of a change shows.
@@ -232,9 +244,15 @@ fn leave_done<L: Ledger>(
     ensures { Leaves (L.state ledger.old) (after_done (L.state ledger.old).now (placeholder_of placeholder.old) t (asked_of asked.now) (option_map payload_of payload.now)) (placeholder_done (placeholder_of placeholder.old) (asked_of asked.now) (option_map payload_of payload.now)) result (L.state ledger.new) (placeholder_of placeholder.new) }
 {
     match asked {
-        Asked::Register(register) => match payload {
+        Asked::Create(asked) => match payload {
+            Some(Payload::Create(created)) => {
+                create(alloc, ledger, placeholder, t, &asked.attributes, created.id)
+            }
+            _ => Ok(()),
+        },
+        Asked::Register(asked) => match payload {
             Some(Payload::Register(registered)) => {
-                store(alloc, ledger, placeholder, t, register, registered.id)
+                register(alloc, ledger, placeholder, t, asked, registered.id)
             }
             _ => Ok(()),
         },
@@ -258,7 +276,7 @@ fn leave_done<L: Ledger>(
         Asked::Destroy(about) => {
             change_object(ledger, placeholder.meant(about.id), t, Change::Destroy)
         },
-        Asked::Create(_) | Asked::GetAttributes(_) | Asked::Idle(_) | Asked::Other(_) => Ok(()),
+        Asked::GetAttributes(_) | Asked::Idle(_) | Asked::Other(_) => Ok(()),
     }
 }
 

@@ -2,6 +2,8 @@
 use Rattle.std.proofs.Common.{◌≡◌, ℕ, List, [], ◌∷◌, ◌++◌, length, Bool, true, false, inl, inr, refl, sym, ap, ◌∙◌, arith}
 use Rattle.std.proofs.lemmas.List.{length-append}
 use Rattle.kmipa_ttlv.specs.Tree.{Tree}
+use Rattle.kmipa_msgs.specs.Messages.{RowOf}
+use Rattle.kmipa_record.specs.Entries.{EntryOf}
 use Rattle.kmipa_record.specs.Declarations.{DeclarationOf, declaration_header, IsDeclaration, AreRightInDeclaration, DeclarationItemFault, DeclarationEndFault, DeclarationFault}
 use Rattle.kmipa_record.specs.declared.fault.RecordKind.{RecordKind}
 use Rattle.kmipa_record.proofs.FirstFaultLemmas.{no_fault, one_fault}
@@ -35,5 +37,7 @@ no_fault_of_declaration_lem bytes declared offset kind t =
 
 pub one_declaration_lem : (bytes : List ℕ) (declared other : DeclarationOf) → IsDeclaration bytes declared → IsDeclaration bytes other → declared ≡ other
 one_declaration_lem bytes declared other t u =
-    let of : Bool → DeclarationOf = λ unique. record { unique_names = unique } in
-    ap of (t.shared_names ∙ sym u.shared_names)
+    let of : Bool → List RowOf → List EntryOf → DeclarationOf = λ unique rows entries. record { unique_names = unique; rows = rows; entries = entries } in
+    ap (λ (unique : Bool). of unique declared.rows declared.entries) (t.shared_names ∙ sym u.shared_names)
+    ∙ ap (λ (rows : List RowOf). of other.unique_names rows declared.entries) (t.rows ∙ sym u.rows)
+    ∙ ap (of other.unique_names other.rows) (t.entries ∙ sym u.entries)

@@ -2,6 +2,7 @@ pub mod Kinds
 pub mod Files
 pub mod Marks
 pub mod Transcripts
+pub mod Entries
 pub mod Declarations
 pub mod Witnesses
 pub mod Reading

@@ -3,24 +3,30 @@
 ghost use Rattle.std.specs.Prelude.{◌≡◌, IfOk, IfErr, IfSome};
 ghost use Rattle.kmipa_ttlv.specs.Input.{reader_of, taken_of, is_failed};
 ghost use Rattle.kmipa_record.specs.Files.{Tells};
-ghost use Rattle.kmipa_record.specs.Declarations.{declaration_of, IsDeclaration, DeclarationFault, IsDeclarationUpTo};
+ghost use Rattle.kmipa_record.specs.Declarations.{declaration_of, AreDeclared, IsDeclaration, DeclarationFault, IsDeclarationUpTo};
 
+use crate::entry::Entry;
 use crate::fault::{RecordFault, RecordKind};
 use crate::header::DeclarationHeader;
 use crate::record::{Next, read_header, read_next};
+use kmipa_msgs::Row;
 use kmipa_ttlv::Input;
 use std::alloc::Global;
 use std::io::Read;
 
-/// What is declared of a server. For now a declaration is its header alone, without unique names: rows and entries,
-/// and a header with unique names, are refused by `Entry`.
+/// What is declared of a server.
 #[derive(Debug, Drop)]
 pub struct Declaration {
     /// Whether no two live objects may have a name in common.
     pub unique_names: bool,
+    /// The causes of its refusals; where there is none, Item Not Found is for what isn't there.
+    pub rows: Vec<Row>,
+    /// The objects that it held, in the order of their arrival.
+    pub entries: Vec<Entry>,
 }
 
-/// Reads a declaration of whose bytes none was read.
+/// Reads a declaration of whose bytes none was read. For now it is a header alone, without unique names: rows and entries,
+/// and a header with unique names, are refused by `Entry`.
 ///
 /// `Device` and `Memory` are told with the place of the item that was being read.
 pub fn read_declaration<R: Read>(
@@ -30,6 +36,8 @@ pub fn read_declaration<R: Read>(
     requires { taken_of input.old ≡ 0 }
     // What is read is what the bytes are.
     ensures found { IfOk result (λ declaration. IfSome (R.remaining (reader_of input.old)) (λ bytes. IsDeclaration bytes (declaration_of declaration))) }
+    // What is read may be declared, also where the bytes aren't known.
+    ensures declared { IfOk result (λ declaration. AreDeclared (declaration_of declaration)) }
     // Else the first fault is told, unless a read failed or memory ran out.
     ensures fault { IfErr result (Tells DeclarationFault IsDeclarationUpTo (R.remaining (reader_of input.old)) (is_failed input.new)) }
 {
@@ -46,6 +54,8 @@ pub fn read_declaration<R: Read>(
     match next {
         Next::End => Ok(Declaration {
             unique_names: false,
+            rows: Vec::new(alloc),
+            entries: Vec::new(alloc),
         }),
         Next::Record(_) | Next::Other => Err(RecordFault {
             offset,

@@ -6,6 +6,7 @@
 
 mod calls;
 mod declaration;
+mod entry;
 mod fault;
 mod header;
 mod laws;
@@ -15,6 +16,7 @@ mod transcript;
 mod witness;
 
 pub use declaration::{Declaration, read_declaration};
+pub use entry::Entry;
 pub use fault::{RecordFault, RecordKind};
 pub use laws::{
     no_fault_of_declaration, no_fault_of_transcript, no_fault_of_witness, one_declaration,

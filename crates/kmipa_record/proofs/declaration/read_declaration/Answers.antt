@@ -39,6 +39,7 @@ returns g c =
     (record_told known left after item (taken_of c.read_header.new.input) (taken_of c.read_next.new.input) (is_failed c.read_next.new.input) s t) in
     record {
       found = tt;
+      declared = tt;
       fault = elim c.in-Record.is [
         | inl x ↦ told (declaration_header x.0.unique_names) (rw x.1 at c.in_ok-next.ensures)
         | inr e ↦ let x = rw e at c.in_ok-next.ensures in told x.0 x.1

@@ -1,0 +1,36 @@
+-- Which inventories a declaration describes.
+use Rattle.std.specs.Prelude.{◌≡◌, ℕ, List, Some}
+use Rattle.std.specs.List.{AllZip}
+use Rattle.kmipa_attrs.specs.Sets.{Attributes, no_attributes}
+use Rattle.kmipa_object.specs.Life.{Dates}
+use Rattle.kmipa_object.specs.Inventory.{Card, Thing, IsInventory}
+use Rattle.kmipa_record.specs.Entries.{EntryOf}
+use Rattle.kmipa_record.specs.Declarations.{DeclarationOf}
+
+-- names, algorithm, length and mask
+abbrev pub given_in : Attributes → Attributes
+given_in a = record no_attributes { names = a.names; algorithm = a.algorithm; length = a.length; mask = a.mask }
+
+abbrev pub dates_in : Attributes → Dates
+dates_in a = record {
+  initial = a.initial;
+  activation = a.activation;
+  deactivation = a.deactivation;
+  destroy = a.destroy;
+  compromise = a.compromise;
+}
+
+-- the object of an entry, but for its bytes
+abbrev pub card_declared : EntryOf → Card
+card_declared e = record { id = e.id; kind = e.kind; given = given_in e.attributes; dates = dates_in e.attributes }
+
+-- the object is the one declared: identifier, type, names, algorithm, length, mask and dates are its own, and declared bytes are its bytes
+pub record IsDescribed (e : EntryOf) (thing : Thing) : Type 0 where
+  pub card : thing.card ≡ card_declared e
+  pub bytes : (declared : List ℕ) → e.bytes ≡ Some declared → thing.bytes ≡ Some declared
+
+-- The inventory has exactly the declared objects, in the order of the entries. Bytes that are not declared are any that an inventory may
+-- have: admitted ones where the object is live, none where it is destroyed.
+pub record Describes (declared : DeclarationOf) (things : List Thing) : Type 0 where
+  pub inventory : IsInventory things
+  pub objects : AllZip IsDescribed declared.entries things

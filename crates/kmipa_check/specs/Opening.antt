@@ -1,0 +1,55 @@
+-- The ledger that a declaration opens, entry by entry. Not promised: `Verdicts` says what is known before the first turn.
+use Rattle.std.specs.Prelude.{◌≡◌, ℤ, List, [], ◌∷◌, ◌++◌, map, length, Option, Some, None, Result, Ok, Err}
+use Rattle.std.specs.List.{AllZip}
+use Rattle.kmipa_object.specs.Inventory.{Thing, IsInventory, rule_of}
+use Rattle.kmipa_object.specs.declared.life.Material.{Material}
+use Rattle.kmipa_object.specs.declared.life.Material.TheVariants.{Gone, Secret}
+use Rattle.kmipa_store.specs.Ledger.{Held, Known, Meaning, LedgerState, cards_of, changed}
+use Rattle.kmipa_store.specs.Choices.{Choice, Chooses, IsSound, inv}
+use Rattle.kmipa_store.specs.declared.fault.StoreFault.{StoreFault}
+use Rattle.kmipa_store.specs.declared.fault.StoreFault.TheVariants.{Memory}
+use Rattle.kmipa_record.specs.Entries.{EntryOf}
+use Rattle.kmipa_check.specs.Described.{IsDescribed, card_declared}
+
+-- the secret of a live object that is declared
+abbrev pub known_declared : EntryOf → Known
+known_declared e = record { rule = rule_of (card_declared e); bytes = e.bytes }
+
+-- the object of an entry as a ledger holds it
+abbrev pub held_declared : EntryOf → Material → Held
+held_declared e material = record { card = card_declared e; material = material }
+
+-- with the object of an entry behind the others: without bytes where it has a Destroy Date, else with a secret of its own
+abbrev pub with_declared_at : Option ℤ → Meaning → EntryOf → Meaning
+with_declared_at (Some date) m e = record { objects = m.objects ++ held_declared e Gone ∷ []; secrets = m.secrets }
+with_declared_at None m e = record {
+  objects = m.objects ++ held_declared e (Secret (record { number = length m.secrets })) ∷ [];
+  secrets = m.secrets ++ known_declared e ∷ [];
+}
+
+abbrev pub with_declared : Meaning → EntryOf → Meaning
+with_declared m e = with_declared_at e.attributes.destroy m e
+
+-- where the bytes of a declared object are, by its Destroy Date: a live one's in a new secret
+abbrev pub PlacedAt : Option ℤ → LedgerState → EntryOf → Material → LedgerState → Type 0
+PlacedAt (Some date) s e material t = (material ≡ Gone) × (t ≡ s)
+PlacedAt None s e material t =
+    (material ≡ Secret (record { number = length s.now.secrets }))
+    × (t ≡ changed s (record { objects = s.now.objects; secrets = s.now.secrets ++ known_declared e ∷ [] }))
+
+-- only want of memory refuses it
+abbrev pub Places : LedgerState → EntryOf → Result Material StoreFault → LedgerState → Type 0
+Places s e (Ok material) t = PlacedAt e.attributes.destroy s e material t
+Places s e (Err fault) t = fault ≡ Memory
+
+-- the object of an entry is added. Only want of memory refuses it
+abbrev pub Declares : LedgerState → EntryOf → Result (Unit {0}) StoreFault → LedgerState → Type 0
+Declares s e (Ok done) t = t ≡ changed s (with_declared s.now e)
+Declares s e (Err fault) t = fault ≡ Memory
+
+-- the ledger stands for exactly the inventories that have the objects of these entries
+pub record Opened (entries : List EntryOf) (m : Meaning) : Type 0 where
+  pub sound : IsSound m
+  pub cards : cards_of m.objects ≡ map card_declared entries
+  pub described : (c : Choice) → Chooses m.secrets c → AllZip IsDescribed entries (inv c m.objects)
+  pub all : (things : List Thing) → IsInventory things → AllZip IsDescribed entries things → (c : Choice) × Chooses m.secrets c × (things ≡ inv c m.objects)
