@@ -3,6 +3,7 @@ pub mod Placeholders
 pub mod Objects
 pub mod Founded
 pub mod Changes
+pub mod ShownAttributes
 pub mod Does
 pub mod Completes
 pub mod Chains

@@ -7,11 +7,15 @@ mod create;
 mod echo;
 mod failed;
 mod get;
+mod get_attributes;
+mod judged;
 mod laws;
+mod names;
 mod objects;
 mod placeholder;
 mod readable;
 mod register;
+mod required;
 mod taking;
 mod why;
 
@@ -21,5 +25,7 @@ pub use readable::is_readable;
 pub use taking::take;
 pub use why::{Refusal, Why};
 
+#[cfg(test)]
+mod shown_tests;
 #[cfg(test)]
 mod tests;
