@@ -5,7 +5,13 @@ pub mod ObjectLemmas
 pub mod TableLemmas
 pub mod OutsideLemmas
 pub mod BlockLemmas
+pub mod AttributeFieldLemmas
+pub mod LowKindLemmas
+pub mod IdentifierLemmas
 pub mod GetLemmas
+pub mod GetAttributesLemmas
+pub mod RevokeLemmas
+pub mod CreateLemmas
 pub mod RegisterLemmas
 pub mod AskLemmas
 pub mod PayloadLemmas
@@ -15,6 +21,7 @@ pub mod ResponseLemmas
 pub mod WritingLemmas
 pub mod WrittenFieldLemmas
 pub mod WrittenKeyLemmas
+pub mod WrittenAttributeLemmas
 pub mod WrittenPayloadLemmas
 pub mod WrittenMessageLemmas
 pub mod WrittenRequestLemmas

@@ -1,66 +1,38 @@
 -- Registers and their answers are read.
-use Rattle.std.proofs.Common.{◌≡◌, ◌≤◌, ℕ, Bool, true, false, ◌==◌, ◌&&◌, List, Option, Some, None, Result, Ok, Err, refl, sym, ap, ◌∙◌, subst, inl, inr, ◌⊎◌, arith, eqb-true}
+use Rattle.std.proofs.Common.{◌≡◌, ◌≤◌, ℕ, Bool, true, false, ◌==◌, ◌&&◌, List, Option, Some, Result, Ok, Err, refl, sym, ap, ◌∙◌, subst, inl, inr, ◌⊎◌, arith, eqb-true}
 use Rattle.kmipa_ttlv.specs.Tree.{Trees}
-use Rattle.kmipa_attrs.specs.Attributes.{attr_number, SaysAttributes, AttributesFault, attributes_in}
 use Rattle.kmipa_attrs.specs.Fields.{at, inside, map_field, as_structure, as_enumeration, as_bytes, as_text}
 use Rattle.kmipa_attrs.specs.ObjectTypes.{type_number, type_of}
 use Rattle.kmipa_attrs.specs.Readings.{Reads, NeededFault, needed, optional, both, map_ok, kept_if, passing}
-use Rattle.kmipa_attrs.specs.Sets.{Attributes, attributes_of}
+use Rattle.kmipa_attrs.specs.Sets.{attributes_of}
 use Rattle.kmipa_attrs.specs.declared.attr_set.AttrSet.{AttrSet}
-use Rattle.kmipa_attrs.specs.declared.fault.AttrFault.{AttrFault}
 use Rattle.kmipa_attrs.specs.declared.fields.Field.{Field}
-use Rattle.kmipa_attrs.specs.declared.fields.Field.TheVariants.{Absent, Wrong, There}
 use Rattle.kmipa_attrs.specs.declared.object_type.ObjectType
 use Rattle.kmipa_attrs.specs.declared.side.Side.TheVariants.{Client}
 use Rattle.kmipa_attrs.proofs.ReadingLemmas.{reads_both, reads_as, reads_optional, reads_needed, reads_passing}
-use Rattle.kmipa_attrs.proofs.AttrLemmas.{reads_attributes}
 use Rattle.kmipa_msgs.specs.declared.kind.OutsideKind.{OutsideKind}
-use Rattle.kmipa_msgs.specs.declared.kind.OutsideKind.TheVariants.{ObjectType, IdentifierForm, Wrapped, Format, Missing, Attribute, Disagree}
+use Rattle.kmipa_msgs.specs.declared.kind.OutsideKind.TheVariants.{ObjectType, IdentifierForm, Wrapped, Format, Missing, Disagree}
 use Rattle.kmipa_msgs.specs.Kinds.{kind_number}
 use Rattle.kmipa_msgs.specs.Messages.{lent, block_of, RegisterOf, RegisteredOf}
 use Rattle.kmipa_msgs.specs.declared.key_block.KeyBlock.{KeyBlock}
-use Rattle.kmipa_msgs.specs.Tables.{Unlisted, listed}
+use Rattle.kmipa_msgs.specs.Tables.{Unlisted, listed, unless_unlisted}
 use Rattle.kmipa_msgs.specs.KeyBlocks.{BlockFault, block_in}
 use Rattle.kmipa_msgs.specs.KeyBlocks.BlockFault.{in_wrapping, in_format, in_format_number, in_value, in_material, in_algorithm, in_length}
 use Rattle.kmipa_msgs.specs.Objects.{shape_in, block_inside}
-use Rattle.kmipa_msgs.specs.Registers.{SaysGiven, GivenFault, BroughtOf, SaysBrought, agrees, brought_by, SaysRegister, RegisterFault, attribute_kind, given_in, known, unless_unlisted, brought_rows, brought_at, brought_in, register_at, register_in, SaysRegistered, RegisteredFault, registered_rows, registered_at, registered_in}
+use Rattle.kmipa_msgs.specs.AttributeFields.{GivenFault, given_in}
+use Rattle.kmipa_msgs.specs.Registers.{BroughtOf, SaysBrought, agrees, brought_by, SaysRegister, RegisterFault, brought_rows, brought_at, brought_in, register_at, register_in, SaysRegistered, RegisteredFault, registered_rows, registered_at, registered_in}
 use Rattle.kmipa_msgs.specs.Registers.RegisterFault.{in_object_type, in_type_number, in_attributes, in_attribute_type, in_object, in_block, in_brought}
 use Rattle.kmipa_msgs.specs.Registers.RegisteredFault.{in_type, in_identifier}
-use Rattle.kmipa_msgs.proofs.TableLemmas.{same_kind, reads_listed}
+use Rattle.kmipa_msgs.proofs.TableLemmas.{reads_listed, reads_unless_unlisted}
+use Rattle.kmipa_msgs.proofs.AttributeFieldLemmas.{reads_given}
+use Rattle.kmipa_msgs.proofs.LowKindLemmas.{low, low_needed, low_given}
 use Rattle.kmipa_msgs.proofs.BlockLemmas.{reads_block}
 use Rattle.kmipa_msgs.proofs.ViewLemmas.{seen, both_seen, right_seen, needed_seen}
 use denote.Bor.{Bor}
 
--- attributes
-reads_kind : (ts : Trees) (r : Result Attributes AttrFault) → Reads attr_number (SaysAttributes ts) (AttributesFault Client ts) r → Reads kind_number (SaysAttributes ts) (GivenFault (There ts)) (attribute_kind r)
-reads_kind ts (Ok a) h = record { said = h.said; only = h.only; right = λ k w. h.right w.1.0 w.1.1 }
-reads_kind ts (Err told) h = record { here = (refl, (told, h.here)); least = λ j lt w. same_kind j Attribute lt w.0 }
-
-pub reads_given : (f : Field Trees) → Reads kind_number (SaysGiven f) (GivenFault f) (given_in f)
-reads_given Absent = record { said = refl; only = λ y e. e; right = λ k w. w }
-reads_given Wrong = record { here = refl; least = λ j lt w. same_kind j Missing lt w }
-reads_given (There ts) = reads_kind ts (attributes_in Client ts) (reads_attributes Client ts)
-
-known_at : {A : Type 0} (n : ℕ) (table : ℕ → Option A) (off : OutsideKind) (o : Option A) → table n ≡ o
-    → Reads kind_number (λ (u : Unit {0}). Unit {0}) (λ k. (k ≡ off) × Unlisted (There n) table) (known o off)
-known_at n table off None e = record { here = (refl, record { number = n; is = refl; unlisted = e }); least = λ j lt w. same_kind j off lt w.0 }
-known_at n table off (Some x) e = record { said = tt; only = λ y h. refl; right = right }
-  where
-    right : (k : OutsideKind) → (k ≡ off) × Unlisted (There n) table → ⊥
-    right k w =
-        let same : There n ≡ There w.1.number = w.1.is in
-        let m : n ≡ w.1.number = cc in
-        let h : None ≡ Some x = sym w.1.unlisted ∙ ap table (sym m) ∙ e in
-        cc
-
-reads_unless_unlisted : {A : Type 0} (f : Field ℕ) (table : ℕ → Option A) (off : OutsideKind) → Reads kind_number (λ (u : Unit {0}). Unit {0}) (λ k. (k ≡ off) × Unlisted f table) (unless_unlisted f table off)
-reads_unless_unlisted Absent table off = record { said = tt; only = λ y h. refl; right = λ k w. let e = w.1.is in cc }
-reads_unless_unlisted Wrong table off = record { said = tt; only = λ y h. refl; right = λ k w. let e = w.1.is in cc }
-reads_unless_unlisted (There n) table off = known_at n table off (table n) refl
-
 -- the parts
 abbrev PartFault : Trees → OutsideKind → Type 0
-PartFault ts k = ((((NeededFault (at as_enumeration 0x42_0057 ts) Missing Missing k ⊎ ((k ≡ ObjectType) × Unlisted (at as_enumeration 0x42_0057 ts) type_of)) ⊎ NeededFault (shape_in ts) Missing Missing k) ⊎ ((k ≡ ObjectType) × Unlisted (at as_enumeration 0x42_0057 (inside 0x42_0125 ts)) type_of)) ⊎ BlockFault (block_inside ts) k) ⊎ GivenFault (at as_structure 0x42_0125 ts) k
+PartFault ts k = ((((NeededFault (at as_enumeration 0x42_0057 ts) Missing Missing k ⊎ ((k ≡ ObjectType) × Unlisted (at as_enumeration 0x42_0057 ts) type_of)) ⊎ NeededFault (shape_in ts) Missing Missing k) ⊎ ((k ≡ ObjectType) × Unlisted (at as_enumeration 0x42_0057 (inside 0x42_0125 ts)) type_of)) ⊎ BlockFault (block_inside ts) k) ⊎ GivenFault Client (at as_structure 0x42_0125 ts) k
 
 reads_brought : (ts : Trees) → Reads kind_number (SaysBrought ts) (PartFault ts) (brought_in ts)
 unfolding brought_in
@@ -74,22 +46,9 @@ reads_brought ts =
     (reads_both kind_number _ _ _ _ _ _
     (reads_both kind_number _ _ _ _ _ _ (reads_both kind_number _ _ _ _ _ _ (reads_listed (at as_enumeration 0x42_0057 ts) type_of Missing ObjectType) (reads_needed kind_number Missing Missing (shape_in ts))) (reads_unless_unlisted (at as_enumeration 0x42_0057 (inside 0x42_0125 ts)) type_of ObjectType))
     (reads_block (block_inside ts)))
-    (reads_given (at as_structure 0x42_0125 ts)))
+    (reads_given Client (at as_structure 0x42_0125 ts)))
 
 -- no part is of a kind above Disagree
-low : (k j : OutsideKind) → kind_number j ≤ 12 → k ≡ j → kind_number k ≤ 12
-low k j h e = subst (λ (i : OutsideKind). kind_number i ≤ 12) (sym e) h
-
-low_needed : {A : Type 0} (f : Field A) (absent wrong k : OutsideKind) → kind_number absent ≤ 12 → kind_number wrong ≤ 12 → NeededFault f absent wrong k → kind_number k ≤ 12
-low_needed Absent absent wrong k a w h = low k absent a h
-low_needed Wrong absent wrong k a w h = low k wrong w h
-low_needed (There x) absent wrong k a w h = absurd h
-
-low_given : (f : Field Trees) (k : OutsideKind) → GivenFault f k → kind_number k ≤ 12
-low_given Absent k h = absurd h
-low_given Wrong k h = low k Missing (omega arith) h
-low_given (There ts) k h = low k Attribute (omega arith) h.0
-
 low_block : (ts : Trees) (k : OutsideKind) → BlockFault ts k → kind_number k ≤ 12
 low_block ts k f = elim f [
   | in_wrapping e w ↦ low k Wrapped (omega arith) e
@@ -113,7 +72,7 @@ low_part ts k f = elim f [
     ]
     | inr w ↦ low_block (block_inside ts) k w
   ]
-  | inr w ↦ low_given (at as_structure 0x42_0125 ts) k w
+  | inr w ↦ low_given Client (at as_structure 0x42_0125 ts) k w
 ]
 
 -- types with one number are one
@@ -193,12 +152,12 @@ brought_view p = brought_at ((p.0.0, block_of p.0.1), attributes_of p.1)
 
 pub seen_brought : (ts us : Trees) (types : Result Types OutsideKind) (block : Result KeyBlock OutsideKind) (plain : Result (Types × KeyBlock) OutsideKind) (given : Result AttrSet OutsideKind) (rows : Result ((Types × KeyBlock) × AttrSet) OutsideKind)
     → rows ≡ both kind_number plain given → plain ≡ both kind_number types block → types ≡ types_rows ts → map_ok block_of block ≡ block_in us → us ≡ block_inside ts
-    → map_ok attributes_of given ≡ given_in (at as_structure 0x42_0125 ts)
+    → map_ok attributes_of given ≡ given_in Client (at as_structure 0x42_0125 ts)
     → map_ok brought_view rows ≡ brought_in ts
 unfolding brought_in
 seen_brought ts us types block plain given rows e p t b u g =
     seen brought_at (λ q. ((q.0.0, block_of q.0.1), attributes_of q.1)) rows (brought_rows ts)
-    (both_seen kind_number (λ q. (q.0, block_of q.1)) attributes_of plain given rows (both kind_number (types_rows ts) (block_in (block_inside ts))) (given_in (at as_structure 0x42_0125 ts)) e
+    (both_seen kind_number (λ q. (q.0, block_of q.1)) attributes_of plain given rows (both kind_number (types_rows ts) (block_in (block_inside ts))) (given_in Client (at as_structure 0x42_0125 ts)) e
     (right_seen kind_number block_of types block plain (types_rows ts) (block_in (block_inside ts)) p t (b ∙ ap block_in u))
     g)
 

@@ -15,8 +15,10 @@ use Rattle.kmipa_attrs.specs.declared.fields.Field.{Field}
 use Rattle.kmipa_attrs.specs.declared.fields.Field.TheVariants.{Absent, Wrong, There}
 use Rattle.kmipa_attrs.proofs.ReadingLemmas.{reads_both, reads_as, reads_then, reads_optional}
 use Rattle.kmipa_msgs.specs.declared.kind.OutsideKind.{OutsideKind}
+use Rattle.kmipa_msgs.specs.declared.kind.OutsideKind
 use Rattle.kmipa_msgs.specs.declared.kind.OutsideKind.TheVariants.{Missing, Pending}
 use Rattle.kmipa_msgs.specs.declared.operation.Operation.{Operation}
+use Rattle.kmipa_msgs.specs.declared.operation.Operation.TheVariants.{Idle, Other}
 use Rattle.kmipa_msgs.specs.declared.response.Status.{Status}
 use Rattle.kmipa_msgs.specs.declared.response.Status.TheVariants.{Success, Failed, Undone}
 use Rattle.kmipa_msgs.specs.Kinds.{kind_number}
@@ -26,7 +28,7 @@ use Rattle.kmipa_msgs.specs.declared.request.Ask.{Ask}
 use Rattle.kmipa_msgs.specs.declared.response.Payload.{Payload}
 use Rattle.kmipa_msgs.specs.Tables.{children, Listed, of_table}
 use Rattle.kmipa_msgs.specs.Payloads.{SaysPayloadOf, PayloadOfFault, payload_in}
-use Rattle.kmipa_msgs.specs.Replies.{own, SaysRequired, RequiredFault, SaysMaybe, MaybeFault, filled, SaysShown, ShownFault, StatusFault, SaysAnswer, AnswerFault, status_in, required_in, maybe_in, shown_in, beside, outcome_in, answer_rows, answer_at, answer_in, is_bare, outcome_of}
+use Rattle.kmipa_msgs.specs.Replies.{own, or_empty, SaysRequired, RequiredFault, SaysMaybe, MaybeFault, filled, SaysJudged, JudgedFault, SaysUnjudged, UnjudgedFault, SaysShown, ShownFault, StatusFault, SaysAnswer, AnswerFault, status_in, required_in, maybe_in, judged_in, unjudged_in, shown_in, beside, outcome_in, answer_rows, answer_at, answer_in, is_bare, outcome_of}
 use Rattle.kmipa_msgs.specs.Replies.StatusFault.{unread, pending, unknown}
 use Rattle.kmipa_msgs.specs.Replies.AnswerFault.{in_operation, in_status, in_reason, in_payload}
 use Rattle.kmipa_msgs.proofs.TableLemmas.{same_kind, one_listed, apart_needed}
@@ -128,11 +130,26 @@ reads_maybe operation (Some t) = reads_some operation t (SaysMaybe operation (So
     from None s = absurd s
     from (Some x) s = (x, s, refl)
 
+reads_judged : (operation : Operation) (status : Status) (t : Option Tree) → Reads kind_number (SaysJudged operation status t) (JudgedFault operation status t) (judged_in operation status t)
+reads_judged operation Success t = reads_required operation (or_empty operation t)
+reads_judged operation Failed t = record { said = refl; only = λ y e. e; right = λ k w. w }
+reads_judged operation Undone t = reads_maybe operation (filled t)
+
+reads_unjudged : (status : Status) → Reads kind_number (SaysUnjudged status) (UnjudgedFault status) (unjudged_in status)
+reads_unjudged Failed = record { said = refl; only = λ y e. e; right = λ k w. w }
+reads_unjudged _ = record { here = refl; least = λ j lt w. same_kind j OutsideKind.TheVariants.Operation lt w }
+
 reads_shown : (own : Option Operation) (status : Status) (t : Option Tree) → Reads kind_number (SaysShown own status t) (ShownFault own status t) (shown_in own status t)
 reads_shown None status t = record { said = refl; only = λ y e. e; right = λ k w. w }
-reads_shown (Some operation) Success t = reads_required operation t
-reads_shown (Some operation) Failed t = record { said = refl; only = λ y e. e; right = λ k w. w }
-reads_shown (Some operation) Undone t = reads_maybe operation (filled t)
+reads_shown (Some (Idle n)) status t = record { said = refl; only = λ y e. e; right = λ k w. w }
+reads_shown (Some (Other n)) status t = reads_unjudged status
+reads_shown (Some operation) status t = reads_judged operation status t
+
+-- at an operation that is judged
+pub shown_judged : (operation : Operation) (status : Status) (t : Option Tree) → ((n : ℕ) → operation ≡ Idle n → ⊥) → ((n : ℕ) → operation ≡ Other n → ⊥) → judged_in operation status t ≡ shown_in (Some operation) status t
+shown_judged (Idle n) status t idle other = absurd (idle n refl)
+shown_judged (Other n) status t idle other = absurd (other n refl)
+shown_judged _ status t idle other = refl
 
 -- the status and what is shown
 abbrev Beside : Option Operation → Status → Option Tree → Status × Option PayloadOf → Type 0

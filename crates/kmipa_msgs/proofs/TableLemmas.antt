@@ -6,7 +6,7 @@ use Rattle.kmipa_attrs.specs.declared.fields.Field.{Field}
 use Rattle.kmipa_attrs.specs.declared.fields.Field.TheVariants.{Absent, Wrong, There}
 use Rattle.kmipa_msgs.specs.declared.kind.OutsideKind.{OutsideKind}
 use Rattle.kmipa_msgs.specs.Kinds.{kind_number}
-use Rattle.kmipa_msgs.specs.Tables.{Listed, Unlisted, MaybeListed, IsThere, of_table, listed, maybe_listed, there, unless_there}
+use Rattle.kmipa_msgs.specs.Tables.{Listed, Unlisted, MaybeListed, IsThere, of_table, listed, maybe_listed, there, unless_there, unless_absent, known, unless_unlisted}
 
 pub same_kind : (j k : OutsideKind) → kind_number j < kind_number k → j ≡ k → ⊥
 same_kind j k lt e = let h : kind_number j ≡ kind_number k = ap kind_number e in omega arith
@@ -15,6 +15,11 @@ same_kind j k lt e = let h : kind_number j ≡ kind_number k = ap kind_number e 
 pub reads_unless : (t : Option Tree) (k : OutsideKind) → Reads kind_number (λ (u : Unit {0}). Unit {0}) (λ j. (j ≡ k) × IsThere t) (unless_there t k)
 reads_unless None k = record { said = tt; only = λ y h. refl; right = λ j h. h.1 }
 reads_unless (Some t) k = record { here = (refl, tt); least = λ j lt h. same_kind j k lt h.0 }
+
+-- a child with a tag
+pub reads_unless_absent : (t : Option Tree) (k : OutsideKind) → Reads kind_number (λ (u : Unit {0}). IsThere t) (λ j. (j ≡ k) × (t ≡ None)) (unless_absent t k)
+reads_unless_absent None k = record { here = (refl, refl); least = λ j lt h. same_kind j k lt h.0 }
+reads_unless_absent (Some t) k = record { said = tt; only = λ y h. refl; right = λ j h. let e : Some t ≡ None = h.1 in cc }
 
 -- a test of what is there
 pub reads_test : (b : Bool) (k : OutsideKind) → Reads kind_number (λ (u : Unit {0}). b ≡ true) (λ j. (j ≡ k) × (b ≡ false)) (kept_if b tt k)
@@ -103,6 +108,17 @@ reads_maybe_listed Wrong table wrong off = record {
   least = λ j lt w. elim w [ inl a ↦ same_kind j wrong lt a.0 | inr b ↦ let e = b.1.is in cc ];
 }
 reads_maybe_listed (There n) table wrong off = maybe_at n table wrong off (table n) refl
+
+-- a field whose other types are read over
+known_at : {A : Type 0} (n : ℕ) (table : ℕ → Option A) (off : OutsideKind) (o : Option A) → table n ≡ o
+    → Reads kind_number (λ (u : Unit {0}). Unit {0}) (λ k. (k ≡ off) × Unlisted (There n) table) (known o off)
+known_at n table off None e = record { here = (refl, record { number = n; is = refl; unlisted = e }); least = λ j lt w. same_kind j off lt w.0 }
+known_at n table off (Some x) e = record { said = tt; only = λ y h. refl; right = λ k w. not_unlisted n table x e w.1 }
+
+pub reads_unless_unlisted : {A : Type 0} (f : Field ℕ) (table : ℕ → Option A) (off : OutsideKind) → Reads kind_number (λ (u : Unit {0}). Unit {0}) (λ k. (k ≡ off) × Unlisted f table) (unless_unlisted f table off)
+reads_unless_unlisted Absent table off = record { said = tt; only = λ y h. refl; right = λ k w. let e = w.1.is in cc }
+reads_unless_unlisted Wrong table off = record { said = tt; only = λ y h. refl; right = λ k w. let e = w.1.is in cc }
+reads_unless_unlisted (There n) table off = known_at n table off (table n) refl
 
 -- what is said is no fault of what was to be there
 pub apart_needed : {A K : Type 0} (f : Field A) (x : A) (absent wrong k : K) → NeededFault f absent wrong k → f ≡ There x → ⊥

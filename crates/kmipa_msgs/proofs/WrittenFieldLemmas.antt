@@ -1,11 +1,11 @@
 -- A field that was written is found.
-use Rattle.std.proofs.Common.{◌≡◌, ◌==◌, ℕ, Bool, true, false, cond, List, [], ◌∷◌, Option, Some, None, refl, sym, ap, ◌∙◌, subst}
+use Rattle.std.proofs.Common.{◌≡◌, ◌==◌, ℕ, Bool, true, false, cond, List, [], ◌∷◌, ◌++◌, Option, Some, None, refl, sym, ap, ◌∙◌, subst}
 use Rattle.kmipa_ttlv.specs.Tree.{Tree, Trees, Scalar, structure, scalar, none, more, push}
 use Rattle.kmipa_attrs.specs.Fields.{tag_of, first, as_structure, field_of, typed, at, in_field, inside, value_in}
 use Rattle.kmipa_attrs.specs.Readings.{Optional}
 use Rattle.kmipa_attrs.specs.declared.fields.Field.{Field}
 use Rattle.kmipa_attrs.specs.declared.fields.Field.TheVariants.{There}
-use Rattle.kmipa_msgs.specs.Written.{with_fields, in_order, field}
+use Rattle.kmipa_msgs.specs.Written.{with_field, with_fields, in_order, field}
 
 -- the first of the fields that is there with the tag
 abbrev pub find : ℕ → List (Option Tree) → Option Tree
@@ -77,3 +77,34 @@ inside_written n m fields ts e = ap (λ (o : Option Tree). in_field (typed as_st
 pub value_written : {A : Type 0} (f : Field A) (o : Option A) → Optional f o → o ≡ value_in f
 value_written f None e = sym (ap value_in e)
 value_written f (Some x) e = sym (ap value_in e)
+
+-- THE CHILDREN THAT FIELDS ARE, one after the other
+abbrev pub rows : List (Option Tree) → Trees
+rows [] = none
+rows (None ∷ fields) = rows fields
+rows (Some t ∷ fields) = more t (rows fields)
+
+abbrev before : Trees → Trees → Trees
+before none us = us
+before (more t ts) us = more t (before ts us)
+
+before_push : (ts us : Trees) (t : Tree) → before (push ts t) us ≡ before ts (more t us)
+before_push none us t = refl
+before_push (more u ts) us t = ap (more u) (before_push ts us t)
+
+before_none : (ts : Trees) → ts ≡ before ts none
+before_none none = refl
+before_none (more t ts) = ap (more t) (before_none ts)
+
+with_rows : (ts : Trees) (fields : List (Option Tree)) → with_fields ts fields ≡ before ts (rows fields)
+with_rows ts [] = before_none ts
+with_rows ts (None ∷ fields) = with_rows ts fields
+with_rows ts (Some t ∷ fields) = with_rows (push ts t) fields ∙ before_push ts (rows fields) t
+
+pub in_order_rows : (fields : List (Option Tree)) → in_order fields ≡ rows fields
+in_order_rows fields = with_rows none fields
+
+-- one field more
+pub with_one_more : (ts : Trees) (fields : List (Option Tree)) (one : Option Tree) → with_fields ts (fields ++ one ∷ []) ≡ with_field (with_fields ts fields) one
+with_one_more ts [] one = refl
+with_one_more ts (field ∷ fields) one = with_one_more (with_field ts field) fields one

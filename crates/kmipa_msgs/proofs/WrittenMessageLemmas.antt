@@ -1,5 +1,7 @@
 -- What requests and responses share: the version, the count, and the items one after the other.
 use Rattle.std.proofs.Common.{◌≡◌, ◌==◌, ◌&&◌, nat_lt, ℕ, ℤ, suc, pos, negsuc, Bool, true, false, cond, List, [], ◌∷◌, map, length, Option, Some, refl, sym, ap, ◌∙◌, eq-eqb}
+use Rattle.std.specs.Prelude.{All}
+use Rattle.std.proofs.lemmas.List.Elements.{All-head, All-tail}
 use Rattle.kmipa_ttlv.specs.Tree.{Tree, Trees, forest}
 use Rattle.kmipa_attrs.specs.Fields.{tag_of, first, every, as_integer, at}
 use Rattle.kmipa_attrs.specs.declared.fields.Field.{Field}
@@ -27,12 +29,12 @@ each_length Said [] (x ∷ xs) s = absurd s
 each_length Said (t ∷ ts) [] s = absurd s
 
 -- what each item says is said by what is written of it
-pub each_written : {X : Type 0} (Said : ℕ → Tree → X → Type 0) (made : X → Tree) → ((i : ℕ) (t : Tree) (x : X) → Said i t x → Said i (made x) x)
-    → (ts : List Tree) (xs : List X) → SaysEach Said ts xs → SaysEach Said (map made xs) xs
-each_written Said made keeps [] [] s = tt
-each_written Said made keeps (t ∷ ts) (x ∷ xs) s = (keeps 0 t x s.0, each_written (λ i. Said (suc i)) made (λ i. keeps (suc i)) ts xs s.1)
-each_written Said made keeps [] (x ∷ xs) s = absurd s
-each_written Said made keeps (t ∷ ts) [] s = absurd s
+pub each_written : {X : Type 0} (P : X → Type 0) (Said : ℕ → Tree → X → Type 0) (made : X → Tree) → ((i : ℕ) (t : Tree) (x : X) → P x → Said i t x → Said i (made x) x)
+    → (ts : List Tree) (xs : List X) → All P xs → SaysEach Said ts xs → SaysEach Said (map made xs) xs
+each_written P Said made keeps [] [] w s = tt
+each_written P Said made keeps (t ∷ ts) (x ∷ xs) w s = (keeps 0 t x (All-head P x xs w) s.0, each_written P (λ i. Said (suc i)) made (λ i. keeps (suc i)) ts xs (All-tail P x xs w) s.1)
+each_written P Said made keeps [] (x ∷ xs) w s = absurd s
+each_written P Said made keeps (t ∷ ts) [] w s = absurd s
 
 pub every_written : {X : Type 0} (made : X → Tree) (n : ℕ) → ((x : X) → (tag_of (made x) == n) ≡ true) → (xs : List X) → every n (forest made xs) ≡ map made xs
 unfolding every

@@ -1,31 +1,29 @@
 -- Payloads that were written say what was written.
-use Rattle.std.proofs.Common.{◌≡◌, ℕ, List, [], ◌∷◌, Option, Some, None, refl, sym, ◌∙◌, subst}
+use Rattle.std.proofs.Common.{◌≡◌, ℕ, List, [], ◌∷◌, Option, Some, None, refl, ap, ◌∙◌, subst}
 use Rattle.std.specs.Option.{option_map}
 use Rattle.kmipa_ttlv.specs.Tree.{Tree, Trees, structure, scalar, none, more, push}
 use Rattle.kmipa_ttlv.specs.Tree
 use Rattle.kmipa_attrs.specs.Fields.{as_structure, as_text, as_enumeration, at}
-use Rattle.kmipa_attrs.specs.Sets.{Attributes}
-use Rattle.kmipa_attrs.specs.Names.{HasNoRepeats}
-use Rattle.kmipa_attrs.specs.Attributes.{SaysAttributes}
-use Rattle.kmipa_attrs.specs.Writing.{written_children}
 use Rattle.kmipa_attrs.specs.ObjectTypes.{type_number, type_of}
 use Rattle.kmipa_attrs.specs.Readings.{Optional}
 use Rattle.kmipa_attrs.specs.declared.fields.Field.{Field}
-use Rattle.kmipa_attrs.specs.declared.fields.Field.TheVariants.{Absent, Wrong, There}
 use Rattle.kmipa_attrs.specs.declared.object_type.ObjectType.{ObjectType}
 use Rattle.kmipa_attrs.specs.declared.object_type.ObjectType.TheVariants.{SymmetricKey, SecretData}
-use Rattle.kmipa_attrs.proofs.WriteLemmas.{written_said, said-HasNoRepeats, once-same}
 use Rattle.kmipa_msgs.specs.declared.operation.Operation.{Operation}
-use Rattle.kmipa_msgs.specs.declared.operation.Operation.TheVariants.{Register, Get}
-use Rattle.kmipa_msgs.specs.Messages.{BlockOf, RegisterOf, RegisteredOf, GotOf, AskedOf, registers, gets, operation_asked, PayloadOf, registered, got}
+use Rattle.kmipa_msgs.specs.declared.operation.Operation.TheVariants.{Create, Register, Get, GetAttributes, Activate, Revoke, Destroy, Idle, Other}
+use Rattle.kmipa_msgs.specs.Messages.{BlockOf, RegisterOf, RevokeOf, RegisteredOf, GotOf, AskedOf, creates, registers, gets, gets_attributes, activates, revokes, destroys, operation_asked, PayloadOf, created, registered, got, got_attributes, changed}
 use Rattle.kmipa_msgs.specs.Tables.{MaybeListed}
 use Rattle.kmipa_msgs.specs.Objects.{object_in}
-use Rattle.kmipa_msgs.specs.Gets.{SaysGet, SaysGot}
-use Rattle.kmipa_msgs.specs.Registers.{SaysGiven, SaysRegister, SaysRegistered}
+use Rattle.kmipa_msgs.specs.Gets.{SaysGot}
+use Rattle.kmipa_msgs.specs.Identifiers.{SaysIdentifier}
+use Rattle.kmipa_msgs.specs.Revokes.{SaysRevoke}
+use Rattle.kmipa_msgs.specs.Registers.{SaysRegister, SaysRegistered}
 use Rattle.kmipa_msgs.specs.Asks.{SaysAsked}
 use Rattle.kmipa_msgs.specs.Payloads.{SaysDone}
-use Rattle.kmipa_msgs.specs.Written.{in_order, field, written_object, get_fields, got_fields, register_fields, registered_fields, asked_fields, payload_fields}
-use Rattle.kmipa_msgs.proofs.WrittenFieldLemmas.{find, skipped, optional_written, required_written}
+use Rattle.kmipa_msgs.specs.Written.{in_order, field, written_object, identifier_fields, got_fields, register_fields, registered_fields, written_reason, revoke_fields, asked_fields, payload_fields}
+use Rattle.kmipa_msgs.specs.Writable.{IsWritableAsked}
+use Rattle.kmipa_msgs.proofs.WrittenFieldLemmas.{find, skipped, optional_written, required_written, inside_written}
+use Rattle.kmipa_msgs.proofs.WrittenAttributeLemmas.{given_written, create_written, get_attributes_written, got_attributes_written}
 use Rattle.kmipa_msgs.proofs.WrittenKeyLemmas.{object_here, shape_written, block_found}
 
 type_listed : (x : ObjectType) → type_of (type_number x) ≡ Some x
@@ -36,11 +34,13 @@ maybe_type_listed : (f : Field ℕ) (o : Option ObjectType) → Optional f (opti
 maybe_type_listed f None e = e
 maybe_type_listed f (Some x) e = record { number = type_number x; is = e; listed = type_listed x }
 
--- GET
+-- AN IDENTIFIER
 
-pub get_written : (id : Option (List ℕ)) → SaysGet (in_order (get_fields id)) id
+pub identifier_written : (id : Option (List ℕ)) → SaysIdentifier (in_order (identifier_fields id)) id
 unfolding as_text
-get_written id = optional_written as_text Tree.text 0x42_0094 id (get_fields id) [] refl refl (λ x. refl) refl
+identifier_written id = optional_written as_text Tree.text 0x42_0094 id (identifier_fields id) [] refl refl (λ x. refl) refl
+
+-- GET
 
 got_object : (told : Option ℕ) (id : Option (List ℕ)) (s : ObjectType) (b : BlockOf)
     → object_in (in_order (field Tree.enumeration 0x42_0057 told ∷ field Tree.text 0x42_0094 id ∷ Some (written_object s b) ∷ [])) ≡ Some (written_object s b)
@@ -82,18 +82,6 @@ register_object : (r : RegisterOf) → object_in (in_order (register_fields r)) 
 unfolding object_in
 register_object r = object_here r.object_type (Some (written_object r.object_type r.block)) None
 
-given_once : (f : Field Trees) (a : Attributes) → SaysGiven f a → HasNoRepeats a.names
-given_once Absent a s = subst (λ (b : Attributes). HasNoRepeats b.names) (sym s) tt
-given_once Wrong a s = absurd s
-given_once (There ts) a s = said-HasNoRepeats ts a s
-
-given_written : (r : RegisterOf) → HasNoRepeats r.attributes.names → SaysGiven (at as_structure 0x42_0125 (in_order (register_fields r))) r.attributes
-unfolding as_structure
-given_written r h =
-    let said : SaysAttributes (written_children r.attributes) r.attributes = subst (SaysAttributes (written_children r.attributes)) (once-same r.attributes h) (written_said r.attributes) in
-    subst (λ (f : Field Trees). SaysGiven f r.attributes)
-    (sym (required_written as_structure 0x42_0125 (register_fields r) (structure 0x42_0125 (written_children r.attributes)) (written_children r.attributes) refl refl)) said
-
 pub register_written : (ts : Trees) (r : RegisterOf) → SaysRegister ts r → SaysRegister (in_order (register_fields r)) r
 unfolding as_enumeration
 register_written ts r h = record {
@@ -104,7 +92,7 @@ register_written ts r h = record {
       listed = type_listed r.object_type;
     };
     shape = shape_written (in_order (register_fields r)) r.object_type r.block (register_object r);
-    attributes = given_written r (given_once (at as_structure 0x42_0125 ts) r.attributes h.brought.attributes);
+    attributes = given_written (at as_structure 0x42_0125 ts) (register_fields r) r.attributes refl h.brought.attributes;
     block = block_found (in_order (register_fields r)) r.object_type r.block (register_object r);
   };
   agrees = h.agrees;
@@ -119,14 +107,38 @@ registered_written r = record {
       (skipped Tree.enumeration 0x42_0057 0x42_0094 r.object_type (field Tree.text 0x42_0094 (Some r.id) ∷ []) refl) refl;
 }
 
+-- REVOKE
+
+revoke_written : (r : RevokeOf) → SaysRevoke (in_order (revoke_fields r)) r
+unfolding as_text as_enumeration
+revoke_written r = record {
+  id = optional_written as_text Tree.text 0x42_0094 r.id (revoke_fields r) (Some (written_reason r.code) ∷ []) refl refl (λ x. refl) refl;
+  code =
+      ap (at as_enumeration 0x42_0082)
+      (inside_written 0x42_0081 0x42_0081 (revoke_fields r) (in_order (field Tree.enumeration 0x42_0082 (Some r.code) ∷ [])) (skipped Tree.text 0x42_0094 0x42_0081 r.id (Some (written_reason r.code) ∷ []) refl))
+      ∙ required_written as_enumeration 0x42_0082 (field Tree.enumeration 0x42_0082 (Some r.code) ∷ []) (scalar 0x42_0082 (Tree.enumeration r.code)) r.code refl refl;
+}
+
 -- A ROW FOR EACH OPERATION
 
-pub asked_written : (operation : Operation) (ts : Trees) (a : AskedOf) → SaysAsked operation ts a → SaysAsked (operation_asked a) (in_order (asked_fields a)) a
-asked_written Register ts (registers r) s = register_written ts r s
-asked_written Get ts (gets id) s = get_written id
-asked_written _ ts _ s = absurd s
+pub asked_written : (operation : Operation) (ts : Trees) (a : AskedOf) → IsWritableAsked a → SaysAsked operation ts a → SaysAsked (operation_asked a) (in_order (asked_fields a)) a
+asked_written Create ts (creates a) w s = create_written ts a s
+asked_written Register ts (registers r) w s = register_written ts r s
+asked_written Get ts (gets id) w s = identifier_written id
+asked_written GetAttributes ts (gets_attributes g) w s = get_attributes_written g w
+asked_written Activate ts (activates id) w s = identifier_written id
+asked_written Revoke ts (revokes r) w s = revoke_written r
+asked_written Destroy ts (destroys id) w s = identifier_written id
+asked_written (Idle n) ts a w s = absurd (subst IsWritableAsked s w)
+asked_written (Other n) ts a w s = absurd (subst IsWritableAsked s w)
+asked_written _ ts _ w s = absurd s
 
 pub done_written : (operation : Operation) (ts : Trees) (p : PayloadOf) → SaysDone operation ts p → SaysDone operation (in_order (payload_fields p)) p
+done_written Create ts (created r) s = registered_written r
 done_written Register ts (registered r) s = registered_written r
 done_written Get ts (got g) s = got_written g
+done_written GetAttributes ts (got_attributes g) s = got_attributes_written ts g s
+done_written Activate ts (changed id) s = identifier_written id
+done_written Revoke ts (changed id) s = identifier_written id
+done_written Destroy ts (changed id) s = identifier_written id
 done_written _ ts _ s = absurd s

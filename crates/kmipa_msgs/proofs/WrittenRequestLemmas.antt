@@ -7,46 +7,45 @@ use Rattle.kmipa_attrs.specs.Fields.{first, every, as_structure, as_integer, as_
 use Rattle.kmipa_attrs.specs.Readings.{Optional}
 use Rattle.kmipa_attrs.specs.declared.fields.Field.{Field}
 use Rattle.kmipa_attrs.specs.declared.fields.Field.TheVariants.{There}
-use Rattle.kmipa_msgs.specs.declared.operation.Operation.{Operation}
-use Rattle.kmipa_msgs.specs.declared.operation.Operation.TheVariants.{Register, Get}
 use Rattle.kmipa_msgs.specs.declared.request.BatchOption.{BatchOption}
 use Rattle.kmipa_msgs.specs.declared.request.BatchOption.TheVariants.{Continue, Stop, Undo}
 use Rattle.kmipa_msgs.specs.Operations.{operation_number, operation_of}
-use Rattle.kmipa_msgs.specs.Messages.{AskedOf, registers, gets, AskOf, operation_asked, RequestOf}
+use Rattle.kmipa_msgs.specs.Messages.{AskedOf, idles, does_other, AskOf, operation_asked, RequestOf}
 use Rattle.kmipa_msgs.specs.Tables.{children}
 use Rattle.kmipa_msgs.specs.Headers.{is_message, is_version, batch}
 use Rattle.kmipa_msgs.specs.Outside.{SaysEach}
 use Rattle.kmipa_msgs.specs.Asks.{SaysAsked, SaysAsk}
 use Rattle.kmipa_msgs.specs.Requests.{SaysOption, SaysOrder, SaysHeader, header_of, request_header, SaysRequest}
 use Rattle.kmipa_msgs.specs.Written.{in_order, field, told_option, told_order, written_asked, asked_fields, ask_fields, written_ask, request_header_fields, written_request}
+use Rattle.kmipa_msgs.specs.Writable.{IsWritableAsked, IsWritable}
 use Rattle.kmipa_msgs.proofs.WrittenFieldLemmas.{skipped, optional_written, required_written, inside_written, value_written}
 use Rattle.kmipa_msgs.proofs.WrittenPayloadLemmas.{asked_written}
 use Rattle.kmipa_msgs.proofs.WrittenMessageLemmas.{each_length, each_written, every_written, version_written, count_written}
 
 -- ITEMS
 
--- an operation that is read has a number by which it is read
-pub operation_listed : (operation : Operation) (ts : Trees) (a : AskedOf) → SaysAsked operation ts a → operation_of (operation_number (operation_asked a)) ≡ Some (operation_asked a)
-operation_listed Register ts (registers r) s = refl
-operation_listed Get ts (gets id) s = refl
-operation_listed _ ts _ s = absurd s
+-- an operation that is written has a number by which it is read
+pub operation_listed : (a : AskedOf) → IsWritableAsked a → operation_of (operation_number (operation_asked a)) ≡ Some (operation_asked a)
+operation_listed (idles n) w = absurd w
+operation_listed (does_other n) w = absurd w
+operation_listed _ w = refl
 
 payload_inside : (a : AskOf) → inside 0x42_0079 (in_order (ask_fields a)) ≡ in_order (asked_fields a.asked)
 payload_inside a =
     inside_written 0x42_0079 0x42_0079 (ask_fields a) (in_order (asked_fields a.asked)) (skipped Tree.byte_string 0x42_0093 0x42_0079 a.batch_id (Some (written_asked a.asked) ∷ []) refl)
 
-ask_written : (t : Tree) (a : AskOf) → SaysAsk t a → SaysAsk (written_ask a) a
+ask_written : (t : Tree) (a : AskOf) → IsWritableAsked a.asked → SaysAsk t a → SaysAsk (written_ask a) a
 unfolding as_structure as_enumeration as_bytes
-ask_written t a h =
+ask_written t a w h =
     let number = operation_number (operation_asked a.asked) in
     record {
       operation = operation_asked a.asked;
       is = record {
         number = number;
         is = required_written as_enumeration 0x42_005C (ask_fields a) (scalar 0x42_005C (Tree.enumeration number)) number refl refl;
-        listed = operation_listed h.operation (inside 0x42_0079 (children t)) a.asked h.asked;
+        listed = operation_listed a.asked w;
       };
-      asked = subst (λ (ts : Trees). SaysAsked (operation_asked a.asked) ts a.asked) (sym (payload_inside a)) (asked_written h.operation (inside 0x42_0079 (children t)) a.asked h.asked);
+      asked = subst (λ (ts : Trees). SaysAsked (operation_asked a.asked) ts a.asked) (sym (payload_inside a)) (asked_written h.operation (inside 0x42_0079 (children t)) a.asked w h.asked);
       batch_id = value_written (at as_bytes 0x42_0093 (in_order (ask_fields a))) a.batch_id
           (optional_written as_bytes Tree.byte_string 0x42_0093 a.batch_id (ask_fields a) (Some (written_asked a.asked) ∷ []) refl refl (λ x. refl) refl);
     }
@@ -112,10 +111,10 @@ header_written t r h = record {
 
 -- THE MESSAGE
 
-pub request_written : (t : Tree) (r : RequestOf) → SaysRequest t r → SaysRequest (written_request r) r
-request_written t r h = record {
+pub request_written : (t : Tree) (r : RequestOf) → SaysRequest t r → IsWritable r → SaysRequest (written_request r) r
+request_written t r h w = record {
   header = header_written t r h;
   items =
       subst (λ (ts : List Tree). SaysEach (λ place. SaysAsk) ts r.items) (sym (batch_written r))
-      (each_written (λ place. SaysAsk) written_ask (λ place. ask_written) (batch t) r.items h.items);
+      (each_written (λ a. IsWritableAsked a.asked) (λ place. SaysAsk) written_ask (λ place. ask_written) (batch t) r.items w h.items);
 }

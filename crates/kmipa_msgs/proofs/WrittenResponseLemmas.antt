@@ -11,18 +11,19 @@ use Rattle.kmipa_attrs.specs.declared.fields.Field.{Field}
 use Rattle.kmipa_attrs.specs.declared.fields.Field.TheVariants.{There}
 use Rattle.kmipa_attrs.specs.declared.object_type.ObjectType.{ObjectType}
 use Rattle.kmipa_msgs.specs.declared.operation.Operation.{Operation}
-use Rattle.kmipa_msgs.specs.declared.operation.Operation.TheVariants.{Create, Register, Get, GetAttributes, Activate, Revoke, Destroy, Idle, Other}
+use Rattle.kmipa_msgs.specs.declared.operation.Operation.TheVariants.{Idle, Other}
 use Rattle.kmipa_msgs.specs.declared.response.Status.{Status}
 use Rattle.kmipa_msgs.specs.declared.response.Status.TheVariants.{Success, Failed, Undone}
 use Rattle.kmipa_msgs.specs.Numbers.{status_number, status_of}
-use Rattle.kmipa_msgs.specs.Messages.{AskOf, RequestOf, PayloadOf, registered, got, AnswerOf, ResponseOf}
+use Rattle.kmipa_msgs.specs.Messages.{AskOf, RequestOf, RegisteredOf, PayloadOf, created, registered, got, got_attributes, changed, AnswerOf, ResponseOf}
 use Rattle.kmipa_msgs.specs.Tables.{children}
 use Rattle.kmipa_msgs.specs.Headers.{is_message, is_version, batch}
 use Rattle.kmipa_msgs.specs.Outside.{SaysEach}
 use Rattle.kmipa_msgs.specs.Payloads.{SaysDone, SaysPayloadOf}
-use Rattle.kmipa_msgs.specs.Replies.{own, filled, SaysRequired, SaysMaybe, SaysShown, SaysAnswer}
+use Rattle.kmipa_msgs.specs.Replies.{own, or_empty, filled, SaysRequired, SaysMaybe, SaysJudged, SaysShown, SaysAnswer}
 use Rattle.kmipa_msgs.specs.Responses.{response_header, SaysResponse}
-use Rattle.kmipa_msgs.specs.Written.{in_order, field, written_payload, answer_fields, written_answer, response_header_fields, written_response}
+use Rattle.kmipa_msgs.specs.Written.{in_order, field, registered_fields, written_payload, answer_fields, written_answer, response_header_fields, written_response}
+use Rattle.kmipa_msgs.specs.Writable.{IsWritableAnswer, IsWritableResponse}
 use Rattle.kmipa_msgs.proofs.WrittenFieldLemmas.{find, found, skipped, optional_written, required_written, value_written}
 use Rattle.kmipa_msgs.proofs.WrittenPayloadLemmas.{done_written}
 use Rattle.kmipa_msgs.proofs.WrittenMessageLemmas.{each_length, each_written, every_written, version_written, count_written}
@@ -33,16 +34,24 @@ payload_said : (operation : Operation) (t : Tree) (p : PayloadOf) → SaysPayloa
 payload_said operation (structure n ts) p s = done_written operation ts p s
 payload_said operation (scalar n k) p s = absurd s
 
--- a payload that is written has children
-payload_filled : (operation : Operation) (ts : Trees) (p : PayloadOf) → SaysDone operation ts p → filled (Some (written_payload p)) ≡ Some (written_payload p)
-payload_filled Register ts (registered r) s = with_id r.object_type r.id
+-- a payload that is written has children, but for one that says nothing
+registered_filled : (r : RegisteredOf) → filled (Some (structure 0x42_007C (in_order (registered_fields r)))) ≡ Some (structure 0x42_007C (in_order (registered_fields r)))
+registered_filled r = with_id r.object_type r.id
   where
     with_id : (told : Option ℕ) (id : List ℕ)
-        → filled (Some (structure 0x42_007C (in_order (field Tree.enumeration 0x42_0057 told ∷ field Tree.text 0x42_0094 (Some id) ∷ []))))
-        ≡ Some (structure 0x42_007C (in_order (field Tree.enumeration 0x42_0057 told ∷ field Tree.text 0x42_0094 (Some id) ∷ [])))
+        → filled (Some (structure 0x42_007C (in_order (registered_fields (record { object_type = told; id = id })))))
+        ≡ Some (structure 0x42_007C (in_order (registered_fields (record { object_type = told; id = id }))))
     with_id None id = refl
     with_id (Some n) id = refl
-payload_filled Get ts (got g) s = with_object g.object_type g.id
+
+identifier_filled : (id : Option (List ℕ)) → (id ≡ None → ⊥) → filled (Some (written_payload (changed id))) ≡ Some (written_payload (changed id))
+identifier_filled None bare = absurd (bare refl)
+identifier_filled (Some x) bare = refl
+
+payload_filled : (operation : Operation) (ts : Trees) (p : PayloadOf) → (p ≡ changed None → ⊥) → SaysDone operation ts p → filled (Some (written_payload p)) ≡ Some (written_payload p)
+payload_filled operation ts (created r) bare s = registered_filled r
+payload_filled operation ts (registered r) bare s = registered_filled r
+payload_filled operation ts (got g) bare s = with_object g.object_type g.id
   where
     with_object : (told : Option ObjectType) (id : Option (List ℕ))
         → filled (Some (written_payload (got (record g { object_type = told; id = id })))) ≡ Some (written_payload (got (record g { object_type = told; id = id })))
@@ -50,37 +59,42 @@ payload_filled Get ts (got g) s = with_object g.object_type g.id
     with_object None (Some x) = refl
     with_object (Some m) None = refl
     with_object (Some m) (Some x) = refl
-payload_filled Register ts _ s = absurd s
-payload_filled Get ts _ s = absurd s
-payload_filled Create ts _ s = absurd s
-payload_filled GetAttributes ts _ s = absurd s
-payload_filled Activate ts _ s = absurd s
-payload_filled Revoke ts _ s = absurd s
-payload_filled Destroy ts _ s = absurd s
-payload_filled (Idle n) ts _ s = absurd s
-payload_filled (Other n) ts _ s = absurd s
+payload_filled operation ts (got_attributes g) bare s = with_attributes g.id
+  where
+    with_attributes : (id : Option (List ℕ)) → filled (Some (written_payload (got_attributes (record g { id = id })))) ≡ Some (written_payload (got_attributes (record g { id = id })))
+    with_attributes None = refl
+    with_attributes (Some x) = refl
+payload_filled operation ts (changed id) bare s = identifier_filled id (λ e. bare (ap (λ (o : Option (List ℕ)). changed o) e))
 
-payload_kept : (operation : Operation) (t : Tree) (p : PayloadOf) → SaysPayloadOf operation t p → filled (Some (written_payload p)) ≡ Some (written_payload p)
-payload_kept operation (structure n ts) p s = payload_filled operation ts p s
-payload_kept operation (scalar n k) p s = absurd s
+payload_kept : (operation : Operation) (t : Tree) (p : PayloadOf) → (p ≡ changed None → ⊥) → SaysPayloadOf operation t p → filled (Some (written_payload p)) ≡ Some (written_payload p)
+payload_kept operation (structure n ts) p bare s = payload_filled operation ts p bare s
+payload_kept operation (scalar n k) p bare s = absurd s
 
-required_said : (operation : Operation) (t : Option Tree) (p : Option PayloadOf) → SaysRequired operation t p → SaysRequired operation (option_map written_payload p) p
+required_said : (operation : Operation) (t : Option Tree) (p : Option PayloadOf) → SaysRequired operation t p → SaysRequired operation (or_empty operation (option_map written_payload p)) p
 required_said operation (Some t) (Some p) s = payload_said operation t p s
 required_said operation (Some t) None s = absurd s
 required_said operation None (Some p) s = absurd s
 required_said operation None None s = absurd s
 
-maybe_said : (operation : Operation) (t : Option Tree) (p : Option PayloadOf) → SaysMaybe operation t p → SaysMaybe operation (filled (option_map written_payload p)) p
-maybe_said operation (Some t) (Some p) s = subst (λ (u : Option Tree). SaysMaybe operation u (Some p)) (sym (payload_kept operation t p s)) (payload_said operation t p s)
-maybe_said operation (Some t) None s = tt
-maybe_said operation None (Some p) s = absurd s
-maybe_said operation None None s = tt
+maybe_said : (operation : Operation) (t : Option Tree) (p : Option PayloadOf) → (p ≡ Some (changed None) → ⊥) → SaysMaybe operation t p → SaysMaybe operation (filled (option_map written_payload p)) p
+maybe_said operation (Some t) (Some p) bare s =
+    subst (λ (u : Option Tree). SaysMaybe operation u (Some p)) (sym (payload_kept operation t p (λ e. bare (ap (λ (q : PayloadOf). Some q) e)) s)) (payload_said operation t p s)
+maybe_said operation (Some t) None bare s = tt
+maybe_said operation None (Some p) bare s = absurd s
+maybe_said operation None None bare s = tt
 
-shown_said : (o : Option Operation) (status : Status) (t : Option Tree) (p : Option PayloadOf) → SaysShown o status t p → SaysShown o status (option_map written_payload p) p
-shown_said None status t p s = s
-shown_said (Some operation) Success t p s = required_said operation t p s
-shown_said (Some operation) Failed t p s = s
-shown_said (Some operation) Undone t p s = maybe_said operation (filled t) p s
+judged_said : (operation : Operation) (status : Status) (t : Option Tree) (p : Option PayloadOf) → (status ≡ Undone → p ≡ Some (changed None) → ⊥) → SaysJudged operation status t p
+    → SaysJudged operation status (option_map written_payload p) p
+judged_said operation Success t p bare s = required_said operation (or_empty operation t) p s
+judged_said operation Failed t p bare s = s
+judged_said operation Undone t p bare s = maybe_said operation (filled t) p (bare refl) s
+
+shown_said : (o : Option Operation) (status : Status) (t : Option Tree) (p : Option PayloadOf) → (status ≡ Undone → p ≡ Some (changed None) → ⊥) → SaysShown o status t p
+    → SaysShown o status (option_map written_payload p) p
+shown_said None status t p bare s = s
+shown_said (Some (Idle n)) status t p bare s = s
+shown_said (Some (Other n)) status t p bare s = s
+shown_said (Some operation) status t p bare s = judged_said operation status t p bare s
 
 -- ITEMS
 
@@ -113,9 +127,9 @@ payload_behind x =
     ∙ skipped Tree.enumeration 0x42_007E 0x42_007C x.reason payload refl
     ∙ answer_payload x.payload
 
-answer_written : (a : Option AskOf) (t : Tree) (x : AnswerOf) → SaysAnswer a t x → SaysAnswer a (written_answer x) x
+answer_written : (a : Option AskOf) (t : Tree) (x : AnswerOf) → IsWritableAnswer x → SaysAnswer a t x → SaysAnswer a (written_answer x) x
 unfolding as_structure as_enumeration as_bytes
-answer_written a t x h =
+answer_written a t x w h =
     let payload = option_map written_payload x.payload ∷ [] in
     let reason = field Tree.enumeration 0x42_007E x.reason ∷ payload in
     let status = field Tree.enumeration 0x42_007F (Some (status_number x.status)) ∷ reason in
@@ -144,7 +158,7 @@ answer_written a t x h =
           same_field (at as_enumeration 0x42_005C (children t)) (at as_enumeration 0x42_005C (children (written_answer x))) x.operation h.operation operation in
           subst (λ (f : Field ℕ). SaysShown (own a f) x.status (first 0x42_007C (children (written_answer x))) x.payload) same
           (subst (λ (u : Option Tree). SaysShown (own a (at as_enumeration 0x42_005C (children t))) x.status u x.payload) (sym (payload_behind x))
-          (shown_said (own a (at as_enumeration 0x42_005C (children t))) x.status (first 0x42_007C (children t)) x.payload h.payload));
+          (shown_said (own a (at as_enumeration 0x42_005C (children t))) x.status (first 0x42_007C (children t)) x.payload w h.payload));
     }
 
 -- THE HEADER
@@ -171,8 +185,8 @@ stamped r = required_written as_date 0x42_0092 (response_header_fields r) (scala
 
 -- THE MESSAGE
 
-pub response_written : (t : Tree) (request : RequestOf) (r : ResponseOf) → SaysResponse t request r → SaysResponse (written_response r) request r
-response_written t request r h = record {
+pub response_written : (t : Tree) (request : RequestOf) (r : ResponseOf) → SaysResponse t request r → IsWritableResponse r → SaysResponse (written_response r) request r
+response_written t request r h w = record {
   header = record {
     message = is_response r;
     version = ap is_version (header_inside r) ∙ version_written (response_header_fields r) refl;
@@ -183,5 +197,5 @@ response_written t request r h = record {
   };
   items =
       subst (λ (ts : List Tree). SaysEach (λ place. SaysAnswer (slice_get request.items place)) ts r.items) (sym (batch_written r))
-      (each_written (λ place. SaysAnswer (slice_get request.items place)) written_answer (λ place. answer_written (slice_get request.items place)) (batch t) r.items h.items);
+      (each_written IsWritableAnswer (λ place. SaysAnswer (slice_get request.items place)) written_answer (λ place. answer_written (slice_get request.items place)) (batch t) r.items w h.items);
 }

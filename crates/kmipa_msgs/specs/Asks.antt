@@ -1,5 +1,5 @@
 -- The items of a request: Operation, Unique Batch Item ID?, Request Payload (KMIP 2.1, section 9).
-use Rattle.std.specs.Prelude.{◌≡◌, Result, Ok, Err}
+use Rattle.std.specs.Prelude.{◌≡◌, true, cond, Result, Ok, Err}
 use Rattle.kmipa_ttlv.specs.Tree.{Tree, Trees}
 use Rattle.kmipa_attrs.specs.Fields.{at, inside, value_in, as_structure, as_enumeration, as_bytes}
 use Rattle.kmipa_attrs.specs.Readings.{NeededFault, IsWrong, both, map_ok, and_then}
@@ -9,24 +9,41 @@ use Rattle.kmipa_msgs.specs.declared.kind.OutsideKind.{OutsideKind}
 use Rattle.kmipa_msgs.specs.declared.kind.OutsideKind
 use Rattle.kmipa_msgs.specs.declared.kind.OutsideKind.TheVariants.{Missing}
 use Rattle.kmipa_msgs.specs.declared.operation.Operation.{Operation}
-use Rattle.kmipa_msgs.specs.declared.operation.Operation.TheVariants.{Register, Get}
+use Rattle.kmipa_msgs.specs.declared.operation.Operation.TheVariants.{Create, Register, Get, GetAttributes, Activate, Revoke, Destroy, Idle, Other}
 use Rattle.kmipa_msgs.specs.Kinds.{kind_number}
-use Rattle.kmipa_msgs.specs.Operations.{operation_of}
-use Rattle.kmipa_msgs.specs.Messages.{AskedOf, registers, gets, AskOf}
+use Rattle.kmipa_msgs.specs.Operations.{operation_of, is_judged}
+use Rattle.kmipa_msgs.specs.Messages.{AskedOf, creates, registers, gets, gets_attributes, activates, revokes, destroys, idles, does_other, AskOf}
 use Rattle.kmipa_msgs.specs.Tables.{children, Listed, Unlisted, listed}
 use Rattle.kmipa_msgs.specs.Registers.{SaysRegister, RegisterFault, register_in}
+use Rattle.kmipa_msgs.specs.Creates.{SaysCreate, CreateFault, create_in}
 use Rattle.kmipa_msgs.specs.Gets.{SaysGet, GetFault, get_in}
+use Rattle.kmipa_msgs.specs.GetsAttributes.{SaysGetAttributes, GetAttributesFault, get_attributes_in}
+use Rattle.kmipa_msgs.specs.Identifiers.{SaysIdentifier, IdentifierFault, identifier_in}
+use Rattle.kmipa_msgs.specs.Revokes.{SaysRevoke, RevokeFault, revoke_in}
 
--- the children of a Request Payload say what the operation asks for: a row for each operation
+-- the children of a Request Payload say what the operation asks for: a row for each operation; of the last two any children do
 abbrev pub SaysAsked : Operation → Trees → AskedOf → Type 0
+SaysAsked Create ts (creates a) = SaysCreate ts a
 SaysAsked Register ts (registers r) = SaysRegister ts r
 SaysAsked Get ts (gets id) = SaysGet ts id
+SaysAsked GetAttributes ts (gets_attributes g) = SaysGetAttributes ts g
+SaysAsked Activate ts (activates id) = SaysIdentifier ts id
+SaysAsked Revoke ts (revokes r) = SaysRevoke ts r
+SaysAsked Destroy ts (destroys id) = SaysIdentifier ts id
+SaysAsked (Idle n) ts a = a ≡ idles n
+SaysAsked (Other n) ts a = a ≡ does_other n
 SaysAsked _ ts _ = ⊥
 
 abbrev pub AskedFault : Operation → Trees → OutsideKind → Type 0
+AskedFault Create ts k = CreateFault ts k
 AskedFault Register ts k = RegisterFault ts k
 AskedFault Get ts k = GetFault ts k
-AskedFault _ ts k = k ≡ Missing
+AskedFault GetAttributes ts k = GetAttributesFault ts k
+AskedFault Activate ts k = IdentifierFault ts k
+AskedFault Revoke ts k = RevokeFault ts k
+AskedFault Destroy ts k = IdentifierFault ts k
+AskedFault (Idle n) ts k = ⊥
+AskedFault (Other n) ts k = ⊥
 
 -- an absent Request Payload is read as empty; a Unique Batch Item ID of another type is read over
 pub record SaysAsk (t : Tree) (a : AskOf) : Type 0 where
@@ -35,28 +52,38 @@ pub record SaysAsk (t : Tree) (a : AskOf) : Type 0 where
   pub asked : SaysAsked operation (inside 0x42_0079 (children t)) a.asked
   pub batch_id : a.batch_id ≡ value_in (at as_bytes 0x42_0093 (children t))
 
--- in_unread is there until every operation is read
+-- in_unread is that of Locate, until it is read; a Request Payload is to be a structure where it is read
 pub data AskFault (t : Tree) (k : OutsideKind) : Type 0 where
   in_operation : NeededFault (at as_enumeration 0x42_005C (children t)) Missing Missing k → AskFault t k
   in_unread : k ≡ OutsideKind.TheVariants.Operation → Unlisted (at as_enumeration 0x42_005C (children t)) operation_of → AskFault t k
   in_payload : (operation : Operation) → Listed (at as_enumeration 0x42_005C (children t)) operation_of operation
-      → k ≡ Missing → IsWrong (at as_structure 0x42_0079 (children t)) → AskFault t k
+      → is_judged operation ≡ true → k ≡ Missing → IsWrong (at as_structure 0x42_0079 (children t)) → AskFault t k
   in_asked : (operation : Operation) → Listed (at as_enumeration 0x42_005C (children t)) operation_of operation
       → AskedFault operation (inside 0x42_0079 (children t)) k → AskFault t k
 
 -- the readings
 abbrev pub asked_in : Operation → Trees → Result AskedOf OutsideKind
+asked_in Create ts = map_ok creates (create_in ts)
 asked_in Register ts = map_ok registers (register_in ts)
 asked_in Get ts = map_ok gets (get_in ts)
-asked_in _ ts = Err Missing
+asked_in GetAttributes ts = map_ok gets_attributes (get_attributes_in ts)
+asked_in Activate ts = map_ok activates (identifier_in ts)
+asked_in Revoke ts = map_ok revokes (revoke_in ts)
+asked_in Destroy ts = map_ok destroys (identifier_in ts)
+asked_in (Idle n) ts = Ok (idles n)
+asked_in (Other n) ts = Ok (does_other n)
 
 abbrev pub unless_wrong : {A : Type 0} → Field A → OutsideKind → Result (Unit {0}) OutsideKind
 unless_wrong Absent k = Ok tt
 unless_wrong Wrong k = Err k
 unless_wrong (There x) k = Ok tt
 
+-- a Request Payload that is read is a structure
+abbrev pub form_in : Operation → Field Trees → Result (Unit {0}) OutsideKind
+form_in operation field = cond (is_judged operation) (unless_wrong field Missing) (Ok tt)
+
 abbrev pub payload_asked : Operation → Trees → Result AskedOf OutsideKind
-payload_asked operation ts = map_ok (λ p. p.1) (both kind_number (unless_wrong (at as_structure 0x42_0079 ts) Missing) (asked_in operation (inside 0x42_0079 ts)))
+payload_asked operation ts = map_ok (λ p. p.1) (both kind_number (form_in operation (at as_structure 0x42_0079 ts)) (asked_in operation (inside 0x42_0079 ts)))
 
 abbrev pub operation_in : Trees → Result Operation OutsideKind
 operation_in ts = listed (at as_enumeration 0x42_005C ts) operation_of Missing OutsideKind.TheVariants.Operation

@@ -6,9 +6,14 @@ pub mod Outside
 pub mod Tables
 pub mod KeyBlocks
 pub mod Objects
+pub mod AttributeFields
 pub mod Registers
 pub mod Brought
+pub mod Identifiers
 pub mod Gets
+pub mod GetsAttributes
+pub mod Revokes
+pub mod Creates
 pub mod Asks
 pub mod Headers
 pub mod Requests
@@ -18,3 +23,4 @@ pub mod Responses
 pub mod Wanted
 pub mod Written
 pub mod Writing
+pub mod Writable

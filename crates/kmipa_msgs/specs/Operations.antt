@@ -1,5 +1,5 @@
 -- The operations.
-use Rattle.std.specs.Prelude.{ℕ, ◌==◌, if◌then◌else◌, Option, Some, None}
+use Rattle.std.specs.Prelude.{ℕ, Bool, true, false, ◌==◌, if◌then◌else◌, Option, Some, None}
 use Rattle.kmipa_msgs.specs.declared.operation.Operation.{Operation}
 use Rattle.kmipa_msgs.specs.declared.operation.Operation.TheVariants.{Create, Register, Get, GetAttributes, Activate, Revoke, Destroy, Idle, Other}
 
@@ -15,5 +15,31 @@ operation_number Destroy = 20
 operation_number (Idle n) = n
 operation_number (Other n) = n
 
+-- Locate is not read yet; Query and Discover Versions have no effect
 abbrev pub operation_of : ℕ → Option Operation
-operation_of n = if n == 3 then Some Register else if n == 10 then Some Get else None
+operation_of n =
+    if n == 1 then Some Create
+    else if n == 3 then Some Register
+    else if n == 8 then None
+    else if n == 10 then Some Get
+    else if n == 11 then Some GetAttributes
+    else if n == 18 then Some Activate
+    else if n == 19 then Some Revoke
+    else if n == 20 then Some Destroy
+    else if n == 24 then Some (Idle n)
+    else if n == 30 then Some (Idle n)
+    else Some (Other n)
+
+-- its payloads are read
+abbrev pub is_judged : Operation → Bool
+is_judged (Idle n) = false
+is_judged (Other n) = false
+is_judged _ = true
+
+-- its Response Payload may be absent, and is then read as empty
+abbrev pub may_be_bare : Operation → Bool
+may_be_bare GetAttributes = true
+may_be_bare Activate = true
+may_be_bare Revoke = true
+may_be_bare Destroy = true
+may_be_bare _ = false

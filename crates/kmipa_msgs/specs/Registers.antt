@@ -1,37 +1,24 @@
 -- Register: the request { Object Type, Attributes?, the object } and its answer { Object Type?, Unique Identifier } (KMIP 2.1, section 6.1).
-use Rattle.std.specs.Prelude.{◌≡◌, ℕ, Bool, true, false, ◌==◌, ◌&&◌, List, Option, Some, None, Result, Ok, Err}
+use Rattle.std.specs.Prelude.{◌≡◌, ℕ, Bool, true, false, ◌==◌, ◌&&◌, List, Option, Some, Result}
 use Rattle.std.specs.Ordering.{int_eq}
 use Rattle.kmipa_ttlv.specs.Tree.{Trees}
-use Rattle.kmipa_attrs.specs.Attributes.{SaysAttributes, AttributesFault, attributes_in}
 use Rattle.kmipa_attrs.specs.Fields.{at, inside, as_structure, as_text, as_enumeration}
 use Rattle.kmipa_attrs.specs.ObjectTypes.{type_number, type_of}
 use Rattle.kmipa_attrs.specs.Readings.{Optional, IsWrong, NeededFault, needed, optional, both, map_ok, passing}
-use Rattle.kmipa_attrs.specs.Sets.{Attributes, no_attributes}
-use Rattle.kmipa_attrs.specs.declared.fault.AttrFault.{AttrFault}
-use Rattle.kmipa_attrs.specs.declared.fields.Field.{Field}
-use Rattle.kmipa_attrs.specs.declared.fields.Field.TheVariants.{Absent, Wrong, There}
+use Rattle.kmipa_attrs.specs.Sets.{Attributes}
+use Rattle.kmipa_attrs.specs.declared.fields.Field.TheVariants.{There}
 use Rattle.kmipa_attrs.specs.declared.object_type.ObjectType
 use Rattle.kmipa_attrs.specs.declared.side.Side.TheVariants.{Client}
 use Rattle.kmipa_msgs.specs.declared.kind.OutsideKind.{OutsideKind}
-use Rattle.kmipa_msgs.specs.declared.kind.OutsideKind.TheVariants.{ObjectType, IdentifierForm, Missing, Attribute, Disagree}
+use Rattle.kmipa_msgs.specs.declared.kind.OutsideKind.TheVariants.{ObjectType, IdentifierForm, Missing, Disagree}
 use Rattle.kmipa_msgs.specs.Kinds.{kind_number}
 use Rattle.kmipa_msgs.specs.Messages.{BlockOf, RegisterOf, RegisteredOf}
-use Rattle.kmipa_msgs.specs.Tables.{Listed, Unlisted, listed}
+use Rattle.kmipa_msgs.specs.Tables.{Listed, Unlisted, listed, unless_unlisted}
 use Rattle.kmipa_msgs.specs.KeyBlocks.{SaysBlock, BlockFault, block_in}
 use Rattle.kmipa_msgs.specs.Objects.{shape_in, block_inside}
+use Rattle.kmipa_msgs.specs.AttributeFields.{SaysGiven, GivenFault, agree, given_in}
 
 -- THE REQUEST
-
--- the attributes of a client, absent meaning none
-abbrev pub SaysGiven : Field Trees → Attributes → Type 0
-SaysGiven Absent a = a ≡ no_attributes
-SaysGiven Wrong a = ⊥
-SaysGiven (There ts) a = SaysAttributes ts a
-
-abbrev pub GivenFault : Field Trees → OutsideKind → Type 0
-GivenFault Absent k = ⊥
-GivenFault Wrong k = k ≡ Missing
-GivenFault (There ts) k = (k ≡ Attribute) × ((told : AttrFault) × AttributesFault Client ts told)
 
 -- the parts of a Register, before they are compared: the type that the payload tells and that of the object's tag
 pub record BroughtOf : Type 0 where
@@ -45,11 +32,6 @@ pub record SaysBrought (ts : Trees) (b : BroughtOf) : Type 0 where
   pub shape : shape_in ts ≡ There b.shape
   pub attributes : SaysGiven (at as_structure 0x42_0125 ts) b.attributes
   pub block : SaysBlock (block_inside ts) b.block
-
--- two values that are both there are equal
-abbrev pub agree : {A : Type 0} → (A → A → Bool) → Option A → Option A → Bool
-agree equal (Some x) (Some y) = equal x y
-agree equal _ _ = true
 
 -- Object Type of payload, object and attribute are equal, and so are algorithm and length of Attributes and Key Block
 abbrev pub agrees : BroughtOf → Bool
@@ -75,38 +57,20 @@ pub record Disagreeing (ts : Trees) : Type 0 where
 pub data RegisterFault (ts : Trees) (k : OutsideKind) : Type 0 where
   in_object_type : NeededFault (at as_enumeration 0x42_0057 ts) Missing Missing k → RegisterFault ts k
   in_type_number : k ≡ ObjectType → Unlisted (at as_enumeration 0x42_0057 ts) type_of → RegisterFault ts k
-  in_attributes : GivenFault (at as_structure 0x42_0125 ts) k → RegisterFault ts k
+  in_attributes : GivenFault Client (at as_structure 0x42_0125 ts) k → RegisterFault ts k
   in_attribute_type : k ≡ ObjectType → Unlisted (at as_enumeration 0x42_0057 (inside 0x42_0125 ts)) type_of → RegisterFault ts k
   in_object : NeededFault (shape_in ts) Missing Missing k → RegisterFault ts k
   in_block : BlockFault (block_inside ts) k → RegisterFault ts k
   in_brought : k ≡ Disagree → Disagreeing ts → RegisterFault ts k
 
 -- the reading
-abbrev pub attribute_kind : Result Attributes AttrFault → Result Attributes OutsideKind
-attribute_kind (Ok a) = Ok a
-attribute_kind (Err told) = Err Attribute
-
-abbrev pub given_in : Field Trees → Result Attributes OutsideKind
-given_in Absent = Ok no_attributes
-given_in Wrong = Err Missing
-given_in (There ts) = attribute_kind (attributes_in Client ts)
-
-abbrev pub known : {A : Type 0} → Option A → OutsideKind → Result (Unit {0}) OutsideKind
-known None off = Err off
-known (Some x) off = Ok tt
-
-abbrev pub unless_unlisted : {A : Type 0} → Field ℕ → (ℕ → Option A) → OutsideKind → Result (Unit {0}) OutsideKind
-unless_unlisted Absent table off = Ok tt
-unless_unlisted Wrong table off = Ok tt
-unless_unlisted (There n) table off = known (table n) off
-
 abbrev pub brought_rows : Trees → Result ((((ObjectType.ObjectType × ObjectType.ObjectType) × Unit {0}) × BlockOf) × Attributes) OutsideKind
 brought_rows ts =
     both kind_number
     (both kind_number
     (both kind_number (both kind_number (listed (at as_enumeration 0x42_0057 ts) type_of Missing ObjectType) (needed (shape_in ts) Missing Missing)) (unless_unlisted (at as_enumeration 0x42_0057 (inside 0x42_0125 ts)) type_of ObjectType))
     (block_in (block_inside ts)))
-    (given_in (at as_structure 0x42_0125 ts))
+    (given_in Client (at as_structure 0x42_0125 ts))
 
 abbrev pub brought_at : (((ObjectType.ObjectType × ObjectType.ObjectType) × Unit {0}) × BlockOf) × Attributes → BroughtOf
 brought_at p = record { object_type = p.0.0.0.0; shape = p.0.0.0.1; attributes = p.1; block = p.0.1 }

@@ -1,5 +1,5 @@
 -- The items of a response: Operation?, Unique Batch Item ID?, Result Status, Result Reason?, Response Payload? (KMIP 2.1, section 9).
-use Rattle.std.specs.Prelude.{◌≡◌, ◌<◌, ℕ, Bool, true, false, ◌==◌, if◌then◌else◌, Option, Some, None, Result, Ok, Err}
+use Rattle.std.specs.Prelude.{◌≡◌, ◌<◌, ℕ, Bool, true, false, ◌==◌, cond, if◌then◌else◌, Option, Some, None, Result, Ok, Err}
 use Rattle.std.specs.Option.{option_map}
 use Rattle.kmipa_ttlv.specs.Tree.{Tree, Trees, structure, scalar, none, more}
 use Rattle.kmipa_attrs.specs.Fields.{first, at, value_in, as_enumeration, as_bytes}
@@ -7,14 +7,16 @@ use Rattle.kmipa_attrs.specs.Readings.{Optional, NeededFault, IsWrong, optional,
 use Rattle.kmipa_attrs.specs.declared.fields.Field.{Field}
 use Rattle.kmipa_attrs.specs.declared.fields.Field.TheVariants.{Absent, Wrong, There}
 use Rattle.kmipa_msgs.specs.declared.kind.OutsideKind.{OutsideKind}
+use Rattle.kmipa_msgs.specs.declared.kind.OutsideKind
 use Rattle.kmipa_msgs.specs.declared.kind.OutsideKind.TheVariants.{Missing, Pending}
 use Rattle.kmipa_msgs.specs.declared.operation.Operation.{Operation}
+use Rattle.kmipa_msgs.specs.declared.operation.Operation.TheVariants.{Idle, Other}
 use Rattle.kmipa_msgs.specs.declared.response.Status.{Status}
 use Rattle.kmipa_msgs.specs.declared.response.Status.TheVariants.{Success, Failed, Undone}
 use Rattle.kmipa_msgs.specs.declared.response.Payload.{Payload}
 use Rattle.kmipa_msgs.specs.Kinds.{kind_number}
 use Rattle.kmipa_msgs.specs.Numbers.{status_of}
-use Rattle.kmipa_msgs.specs.Operations.{operation_number}
+use Rattle.kmipa_msgs.specs.Operations.{operation_number, may_be_bare}
 use Rattle.kmipa_msgs.specs.Messages.{AskOf, operation_asked, PayloadOf, payload_of, AnswerOf}
 use Rattle.kmipa_msgs.specs.Tables.{children, Listed, of_table}
 use Rattle.kmipa_msgs.specs.Payloads.{SaysPayloadOf, PayloadOfFault, payload_in}
@@ -28,6 +30,11 @@ own None field = None
 own (Some a) Absent = Some (operation_asked a.asked)
 own (Some a) Wrong = None
 own (Some a) (There n) = named n (operation_asked a.asked)
+
+-- an absent payload is read as empty where one may be absent
+abbrev pub or_empty : Operation → Option Tree → Option Tree
+or_empty operation None = cond (may_be_bare operation) (Some (structure 0x42_007C none)) None
+or_empty operation (Some t) = Some t
 
 -- a payload that is to be there
 abbrev pub SaysRequired : Operation → Option Tree → Option PayloadOf → Type 0
@@ -59,18 +66,38 @@ abbrev pub filled : Option Tree → Option Tree
 filled None = None
 filled (Some t) = if is_bare t then None else Some t
 
--- a payload is read only at the place's own operation, and only where it was done
+-- a payload is read only where it was done
+abbrev pub SaysJudged : Operation → Status → Option Tree → Option PayloadOf → Type 0
+SaysJudged operation Success t p = SaysRequired operation (or_empty operation t) p
+SaysJudged operation Failed t p = p ≡ None
+SaysJudged operation Undone t p = SaysMaybe operation (filled t) p
+
+abbrev pub JudgedFault : Operation → Status → Option Tree → OutsideKind → Type 0
+JudgedFault operation Success t k = RequiredFault operation (or_empty operation t) k
+JudgedFault operation Failed t k = ⊥
+JudgedFault operation Undone t k = MaybeFault operation (filled t) k
+
+-- what isn't judged may only fail
+abbrev pub SaysUnjudged : Status → Option PayloadOf → Type 0
+SaysUnjudged Failed p = p ≡ None
+SaysUnjudged _ p = ⊥
+
+abbrev pub UnjudgedFault : Status → OutsideKind → Type 0
+UnjudgedFault Failed k = ⊥
+UnjudgedFault _ k = k ≡ OutsideKind.TheVariants.Operation
+
+-- a payload is read only at the place's own operation, and not where that has no effect
 abbrev pub SaysShown : Option Operation → Status → Option Tree → Option PayloadOf → Type 0
 SaysShown None status t p = p ≡ None
-SaysShown (Some operation) Success t p = SaysRequired operation t p
-SaysShown (Some operation) Failed t p = p ≡ None
-SaysShown (Some operation) Undone t p = SaysMaybe operation (filled t) p
+SaysShown (Some (Idle n)) status t p = p ≡ None
+SaysShown (Some (Other n)) status t p = SaysUnjudged status p
+SaysShown (Some operation) status t p = SaysJudged operation status t p
 
 abbrev pub ShownFault : Option Operation → Status → Option Tree → OutsideKind → Type 0
 ShownFault None status t k = ⊥
-ShownFault (Some operation) Success t k = RequiredFault operation t k
-ShownFault (Some operation) Failed t k = ⊥
-ShownFault (Some operation) Undone t k = MaybeFault operation (filled t) k
+ShownFault (Some (Idle n)) status t k = ⊥
+ShownFault (Some (Other n)) status t k = UnjudgedFault status k
+ShownFault (Some operation) status t k = JudgedFault operation status t k
 
 -- Result Status: 0, 1 or 3; 2 is Pending
 pub data StatusFault (field : Field ℕ) (k : OutsideKind) : Type 0 where
@@ -107,11 +134,20 @@ abbrev pub maybe_in : Operation → Option Tree → Result (Option PayloadOf) Ou
 maybe_in operation None = Ok None
 maybe_in operation (Some t) = map_ok Some (payload_in operation t)
 
+abbrev pub judged_in : Operation → Status → Option Tree → Result (Option PayloadOf) OutsideKind
+judged_in operation Success t = required_in operation (or_empty operation t)
+judged_in operation Failed t = Ok None
+judged_in operation Undone t = maybe_in operation (filled t)
+
+abbrev pub unjudged_in : Status → Result (Option PayloadOf) OutsideKind
+unjudged_in Failed = Ok None
+unjudged_in _ = Err OutsideKind.TheVariants.Operation
+
 abbrev pub shown_in : Option Operation → Status → Option Tree → Result (Option PayloadOf) OutsideKind
 shown_in None status t = Ok None
-shown_in (Some operation) Success t = required_in operation t
-shown_in (Some operation) Failed t = Ok None
-shown_in (Some operation) Undone t = maybe_in operation (filled t)
+shown_in (Some (Idle n)) status t = Ok None
+shown_in (Some (Other n)) status t = unjudged_in status
+shown_in (Some operation) status t = judged_in operation status t
 
 -- the status, and the payload that is read by it
 abbrev pub beside : Status → Result (Option PayloadOf) OutsideKind → Result (Status × Option PayloadOf) OutsideKind

@@ -54,3 +54,17 @@ there field absent wrong = map_ok (λ x. tt) (needed field absent wrong)
 abbrev pub unless_there : {K : Type 0} → Option Tree → K → Result (Unit {0}) K
 unless_there None k = Ok tt
 unless_there (Some t) k = Err k
+
+abbrev pub unless_absent : {K : Type 0} → Option Tree → K → Result (Unit {0}) K
+unless_absent None k = Err k
+unless_absent (Some t) k = Ok tt
+
+abbrev pub known : {A K : Type 0} → Option A → K → Result (Unit {0}) K
+known None off = Err off
+known (Some x) off = Ok tt
+
+-- of a field whose other types are read over
+abbrev pub unless_unlisted : {A K : Type 0} → Field ℕ → (ℕ → Option A) → K → Result (Unit {0}) K
+unless_unlisted Absent table off = Ok tt
+unless_unlisted Wrong table off = Ok tt
+unless_unlisted (There n) table off = known (table n) off

@@ -1,9 +1,10 @@
 -- Messages as they are written: each field in its place, an optional one only where it is there (KMIP 2.1, sections 6, 8 and 9).
-use Rattle.std.specs.Prelude.{ℕ, pos, Bool, true, false, List, [], ◌∷◌, length, Option, Some, None}
+use Rattle.std.specs.Prelude.{ℕ, pos, Bool, true, false, List, [], ◌∷◌, map, length, Option, Some, None}
 use Rattle.std.specs.Option.{option_map}
 use Rattle.kmipa_ttlv.specs.Tree.{Tree, Trees, Scalar, structure, scalar, none, more, push, forest}
 use Rattle.kmipa_ttlv.specs.Tree
 use Rattle.kmipa_attrs.specs.ObjectTypes.{type_number}
+use Rattle.kmipa_attrs.specs.Sets.{Attributes}
 use Rattle.kmipa_attrs.specs.Writing.{written_children}
 use Rattle.kmipa_attrs.specs.declared.object_type.ObjectType.{ObjectType}
 use Rattle.kmipa_attrs.specs.declared.object_type.ObjectType.TheVariants.{SymmetricKey, SecretData}
@@ -11,7 +12,7 @@ use Rattle.kmipa_msgs.specs.declared.request.BatchOption.{BatchOption}
 use Rattle.kmipa_msgs.specs.declared.request.BatchOption.TheVariants.{Continue, Stop, Undo}
 use Rattle.kmipa_msgs.specs.Numbers.{format_number, option_number, status_number}
 use Rattle.kmipa_msgs.specs.Operations.{operation_number}
-use Rattle.kmipa_msgs.specs.Messages.{BlockOf, RegisterOf, AskedOf, registers, gets, AskOf, operation_asked, RequestOf, RegisteredOf, GotOf, PayloadOf, registered, got, AnswerOf, ResponseOf}
+use Rattle.kmipa_msgs.specs.Messages.{BlockOf, RegisterOf, GetAttributesOf, RevokeOf, AskedOf, creates, registers, gets, gets_attributes, activates, revokes, destroys, AskOf, operation_asked, RequestOf, RegisteredOf, GotOf, GotAttributesOf, PayloadOf, created, registered, got, got_attributes, changed, AnswerOf, ResponseOf}
 
 -- THE CHILDREN OF A STRUCTURE
 
@@ -57,8 +58,12 @@ written_object shape b = structure (object_tag shape) (in_order (Some (written_b
 
 -- PAYLOADS
 
-abbrev pub get_fields : Option (List ℕ) → List (Option Tree)
-get_fields id = field Tree.text 0x42_0094 id ∷ []
+abbrev pub identifier_fields : Option (List ℕ) → List (Option Tree)
+identifier_fields id = field Tree.text 0x42_0094 id ∷ []
+
+-- Attributes, there also where they are empty
+abbrev pub written_attributes : Attributes → Tree
+written_attributes a = structure 0x42_0125 (written_children a)
 
 abbrev pub got_fields : GotOf → List (Option Tree)
 got_fields g =
@@ -70,10 +75,15 @@ got_fields g =
 abbrev pub registered_fields : RegisteredOf → List (Option Tree)
 registered_fields r = field Tree.enumeration 0x42_0057 r.object_type ∷ field Tree.text 0x42_0094 (Some r.id) ∷ []
 
+abbrev pub got_attributes_fields : GotAttributesOf → List (Option Tree)
+got_attributes_fields g = field Tree.text 0x42_0094 g.id ∷ Some (written_attributes g.attributes) ∷ []
+
 abbrev pub payload_fields : PayloadOf → List (Option Tree)
+payload_fields (created r) = registered_fields r
 payload_fields (registered r) = registered_fields r
 payload_fields (got g) = got_fields g
-payload_fields _ = []
+payload_fields (got_attributes g) = got_attributes_fields g
+payload_fields (changed id) = identifier_fields id
 
 abbrev pub written_payload : PayloadOf → Tree
 written_payload p = structure 0x42_007C (in_order (payload_fields p))
@@ -139,13 +149,35 @@ written_request_header r = structure 0x42_0077 (in_order (request_header_fields 
 abbrev pub register_fields : RegisterOf → List (Option Tree)
 register_fields r =
     field Tree.enumeration 0x42_0057 (Some (type_number r.object_type)) ∷
-    Some (structure 0x42_0125 (written_children r.attributes)) ∷
+    Some (written_attributes r.attributes) ∷
     Some (written_object r.object_type r.block) ∷
     []
 
+abbrev pub create_fields : Attributes → List (Option Tree)
+create_fields a = field Tree.enumeration 0x42_0057 (Some (type_number SymmetricKey)) ∷ Some (written_attributes a) ∷ []
+
+-- Attribute References as Enumerations
+abbrev pub reference_fields : List ℕ → List (Option Tree)
+reference_fields tags = map (λ tag. field Tree.enumeration 0x42_013B (Some tag)) tags
+
+abbrev pub get_attributes_fields : GetAttributesOf → List (Option Tree)
+get_attributes_fields g = field Tree.text 0x42_0094 g.id ∷ reference_fields g.references
+
+abbrev pub written_reason : ℕ → Tree
+written_reason code = structure 0x42_0081 (in_order (field Tree.enumeration 0x42_0082 (Some code) ∷ []))
+
+abbrev pub revoke_fields : RevokeOf → List (Option Tree)
+revoke_fields r = field Tree.text 0x42_0094 r.id ∷ Some (written_reason r.code) ∷ []
+
+-- what isn't read is written empty
 abbrev pub asked_fields : AskedOf → List (Option Tree)
+asked_fields (creates a) = create_fields a
 asked_fields (registers r) = register_fields r
-asked_fields (gets id) = get_fields id
+asked_fields (gets id) = identifier_fields id
+asked_fields (gets_attributes g) = get_attributes_fields g
+asked_fields (activates id) = identifier_fields id
+asked_fields (revokes r) = revoke_fields r
+asked_fields (destroys id) = identifier_fields id
 asked_fields _ = []
 
 abbrev pub written_asked : AskedOf → Tree

@@ -19,7 +19,7 @@ pub enum Operation {
 }
 
 impl Operation {
-    ghost use Rattle.kmipa_msgs.specs.Operations.{operation_number, operation_of};
+    ghost use Rattle.kmipa_msgs.specs.Operations.{operation_number, operation_of, is_judged, may_be_bare};
 
     /// The number on the wire.
     pub fn number(self) -> u32
@@ -37,14 +37,54 @@ impl Operation {
         }
     }
 
-    /// The operation with this number, if it is read.
+    /// The operation with this number. Locate is not read.
     pub fn of(number: u32) -> Option<Operation>
         ensures { result ≡ operation_of number }
     {
         match number {
+            1 => Some(Operation::Create),
             3 => Some(Operation::Register),
+            8 => None,
             10 => Some(Operation::Get),
-            _ => None,
+            11 => Some(Operation::GetAttributes),
+            18 => Some(Operation::Activate),
+            19 => Some(Operation::Revoke),
+            20 => Some(Operation::Destroy),
+            24 | 30 => Some(Operation::Idle(number)),
+            _ => Some(Operation::Other(number)),
+        }
+    }
+
+    /// Whether its payloads are read.
+    pub(crate) fn is_judged(self) -> bool
+        ensures { result ≡ is_judged self }
+    {
+        match self {
+            Operation::Create
+            | Operation::Register
+            | Operation::Get
+            | Operation::GetAttributes
+            | Operation::Activate
+            | Operation::Revoke
+            | Operation::Destroy => true,
+            Operation::Idle(_) | Operation::Other(_) => false,
+        }
+    }
+
+    /// Whether its Response Payload may be absent, which is then read as empty.
+    pub(crate) fn may_be_bare(self) -> bool
+        ensures { result ≡ may_be_bare self }
+    {
+        match self {
+            Operation::GetAttributes
+            | Operation::Activate
+            | Operation::Revoke
+            | Operation::Destroy => true,
+            Operation::Create
+            | Operation::Register
+            | Operation::Get
+            | Operation::Idle(_)
+            | Operation::Other(_) => false,
         }
     }
 }

@@ -5,15 +5,20 @@ use std::alloc::AllocError;
 
 mod answer;
 mod ask;
+mod attributes;
 mod brought;
+mod create;
 mod get;
+mod get_attributes;
 mod header;
+mod identifier;
 mod key_block;
 mod object;
 mod payload;
 mod register;
 mod request;
 mod response;
+mod revoke;
 mod rows;
 
 pub use payload::read_payload;

@@ -12,6 +12,8 @@ pub(crate) const CRYPTOGRAPHIC_ALGORITHM: u32 = 0x42_0028;
 
 pub(crate) const CRYPTOGRAPHIC_LENGTH: u32 = 0x42_002A;
 
+pub(crate) const CRYPTOGRAPHIC_USAGE_MASK: u32 = 0x42_002C;
+
 pub(crate) const KEY_BLOCK: u32 = 0x42_0040;
 
 pub(crate) const KEY_FORMAT_TYPE: u32 = 0x42_0042;
@@ -50,6 +52,10 @@ pub(crate) const RESULT_REASON: u32 = 0x42_007E;
 
 pub(crate) const RESULT_STATUS: u32 = 0x42_007F;
 
+pub(crate) const REVOCATION_REASON: u32 = 0x42_0081;
+
+pub(crate) const REVOCATION_REASON_CODE: u32 = 0x42_0082;
+
 pub(crate) const SECRET_DATA: u32 = 0x42_0085;
 
 pub(crate) const SYMMETRIC_KEY: u32 = 0x42_008F;
@@ -61,3 +67,5 @@ pub(crate) const UNIQUE_BATCH_ITEM_ID: u32 = 0x42_0093;
 pub(crate) const UNIQUE_IDENTIFIER: u32 = 0x42_0094;
 
 pub(crate) const ATTRIBUTES: u32 = 0x42_0125;
+
+pub(crate) const ATTRIBUTE_REFERENCE: u32 = 0x42_013B;

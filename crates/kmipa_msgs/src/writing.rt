@@ -1,13 +1,17 @@
 //! Items from messages, with the fields of each structure in the order of the standard's tables.
 
+mod create;
 mod fields;
 mod get;
+mod get_attributes;
 mod header;
+mod identifier;
 mod key_block;
 mod object;
 mod register;
 mod request;
 mod response;
+mod revoke;
 
 pub use request::write_request;
 pub use response::write_response;

@@ -1,6 +1,6 @@
 //! The items of a response.
 
-ghost use Rattle.std.specs.Prelude.{◌≡◌, map};
+ghost use Rattle.std.specs.Prelude.{◌≡◌, IfOk, map, None};
 ghost use Rattle.std.specs.Option.{option_map};
 ghost use Rattle.std.specs.List.{slice_get};
 ghost use Rattle.kmipa_ttlv.specs.ViewTree.{view_tree, view_trees};
@@ -8,12 +8,13 @@ ghost use Rattle.kmipa_attrs.specs.Fields.{every, first, at, as_enumeration};
 ghost use Rattle.kmipa_attrs.specs.Readings.{map_ok};
 ghost use Rattle.kmipa_msgs.specs.Messages.{ask_of, asks_of, payload_of, answer_of, answers_of};
 ghost use Rattle.kmipa_msgs.specs.Outside.{Gives, each_in, from_one};
-ghost use Rattle.kmipa_msgs.specs.Replies.{own, status_in, is_bare, shown_in, outcome_in, outcome_of, answer_in};
+ghost use Rattle.kmipa_msgs.specs.Replies.{own, or_empty, status_in, is_bare, required_in, judged_in, unjudged_in, shown_in, outcome_in, outcome_of, answer_in};
 
 use crate::fault::{Outside, ReadFault};
 use crate::kind::OutsideKind;
 use crate::operation::Operation;
-use crate::reading::payload::read_payload_of;
+use crate::reading::Read;
+use crate::reading::payload::{read_done, read_payload_of};
 use crate::reading::rows::of_table;
 use crate::request::Ask;
 use crate::response::{Answer, Payload, Status};
@@ -40,7 +41,7 @@ pub fn read_answers<'a>(
     let mut place = 0;
     for child in children {
         if child.tag.number == BATCH_ITEM {
-            match read_answer(asks.get(place), child) {
+            match read_answer(alloc, asks.get(place), child)? {
                 Ok(answer) => answers.push(answer)?,
                 Err(kind) => {
                     return Err(ReadFault::Outside(Outside {
@@ -55,25 +56,25 @@ pub fn read_answers<'a>(
     Ok(answers)
 }
 
-fn read_answer<'a>(ask: Option<&Ask>, view: &View<'a>) -> Result<Answer<'a>, OutsideKind>
-    ensures { map_ok answer_of result ≡ answer_in (option_map (λ a. ask_of a.now) ask.entry) (view_tree view.now) }
+fn read_answer<'a>(alloc: Global, ask: Option<&Ask>, view: &View<'a>) -> Read<Answer<'a>>
+    ensures { IfOk result (λ r. map_ok answer_of r ≡ answer_in (option_map (λ a. ask_of a.now) ask.entry) (view_tree view.now)) }
 {
     let Some(children) = as_structure(view) else {
-        return Err(OutsideKind::Missing);
+        return Ok(Err(OutsideKind::Missing));
     };
     let own = own_operation(ask, enumeration_at(children, OPERATION));
     let operation = enumeration_at(children, OPERATION).optional(OutsideKind::Missing);
     let reason = enumeration_at(children, RESULT_REASON).optional(OutsideKind::Missing);
-    let outcome = read_outcome(own, children);
+    let outcome = read_outcome(alloc, own, children)?;
     match both(both(operation, reason), outcome) {
-        Ok(((operation, reason), (status, payload))) => Ok(Answer {
+        Ok(((operation, reason), (status, payload))) => Ok(Ok(Answer {
             operation,
             batch_id: bytes_at(children, UNIQUE_BATCH_ITEM_ID).value(),
             status,
             reason,
             payload,
-        }),
-        Err(kind) => Err(kind),
+        })),
+        Err(kind) => Ok(Err(kind)),
     }
 }
 
@@ -91,18 +92,19 @@ fn own_operation(ask: Option<&Ask>, field: Field<u32>) -> Option<Operation>
 
 /// The status, and the payload where it is read.
 fn read_outcome<'a>(
+    alloc: Global,
     own: Option<Operation>,
     children: &[View<'a>],
-) -> Result<(Status, Option<Payload<'a>>), OutsideKind>
-    ensures { map_ok outcome_of result ≡ outcome_in own (view_trees children.now) }
+) -> Read<(Status, Option<Payload<'a>>)>
+    ensures { IfOk result (λ r. map_ok outcome_of r ≡ outcome_in own (view_trees children.now)) }
 {
     let status = match status(enumeration_at(children, RESULT_STATUS)) {
         Ok(status) => status,
-        Err(kind) => return Err(kind),
+        Err(kind) => return Ok(Err(kind)),
     };
-    match shown(own, status, first(children, RESPONSE_PAYLOAD)) {
-        Ok(payload) => Ok((status, payload)),
-        Err(kind) => Err(kind),
+    match shown(alloc, own, status, children)? {
+        Ok(payload) => Ok(Ok((status, payload))),
+        Err(kind) => Ok(Err(kind)),
     }
 }
 
@@ -116,26 +118,69 @@ fn status(field: Field<u32>) -> Result<Status, OutsideKind>
     }
 }
 
-/// The payload of what was done. It may be absent where it was undone, and there one without children counts as absent.
+/// The payload of an answer with these children. An operation without effect shows none, and one that isn't judged may only fail.
 fn shown<'a>(
+    alloc: Global,
     own: Option<Operation>,
     status: Status,
-    payload: Option<&View<'a>>,
-) -> Result<Option<Payload<'a>>, OutsideKind>
-    ensures { map_ok (option_map payload_of) result ≡ shown_in own status (option_map (λ v. view_tree v.now) payload.entry) }
+    children: &[View<'a>],
+) -> Read<Option<Payload<'a>>>
+    ensures { IfOk result (λ r. map_ok (option_map payload_of) r ≡ shown_in own status (first 0x42_007C (view_trees children.now))) }
 {
     let Some(operation) = own else {
-        return Ok(None);
+        return Ok(Ok(None));
     };
-    match (status, payload) {
-        (Status::Failed, _) => Ok(None),
-        (Status::Success, None) => Err(OutsideKind::Missing),
-        (Status::Undone, None) => Ok(None),
-        (Status::Undone, Some(view)) if is_empty(view) => Ok(None),
-        (_, Some(view)) => match read_payload_of(operation, view) {
-            Ok(payload) => Ok(Some(payload)),
-            Err(kind) => Err(kind),
+    match operation {
+        Operation::Idle(_) => Ok(Ok(None)),
+        Operation::Other(_) => Ok(unjudged(status)),
+        _ => judged(alloc, operation, status, children),
+    }
+}
+
+fn unjudged<'a>(status: Status) -> Result<Option<Payload<'a>>, OutsideKind>
+    ensures { map_ok (option_map payload_of) result ≡ unjudged_in status }
+{
+    match status {
+        Status::Failed => Ok(None),
+        Status::Success | Status::Undone => Err(OutsideKind::Operation),
+    }
+}
+
+/// The payload of what was done. It may be absent where it was undone, and there one without children counts as absent.
+fn judged<'a>(
+    alloc: Global,
+    operation: Operation,
+    status: Status,
+    children: &[View<'a>],
+) -> Read<Option<Payload<'a>>>
+    ensures { IfOk result (λ r. map_ok (option_map payload_of) r ≡ judged_in operation status (first 0x42_007C (view_trees children.now))) }
+{
+    match (status, first(children, RESPONSE_PAYLOAD)) {
+        (Status::Failed, _) => Ok(Ok(None)),
+        (Status::Success, None) => absent(alloc, operation, children),
+        (Status::Undone, None) => Ok(Ok(None)),
+        (Status::Undone, Some(view)) if is_empty(view) => Ok(Ok(None)),
+        (_, Some(view)) => match read_payload_of(alloc, operation, view)? {
+            Ok(payload) => Ok(Ok(Some(payload))),
+            Err(kind) => Ok(Err(kind)),
         },
+    }
+}
+
+/// What an absent payload shows of what was done: where one may be absent, as much as an empty one.
+fn absent<'a>(
+    alloc: Global,
+    operation: Operation,
+    children: &[View<'a>],
+) -> Read<Option<Payload<'a>>>
+    ensures { IfOk result (λ r. map_ok (option_map payload_of) r ≡ required_in operation (or_empty operation None)) }
+{
+    if !operation.may_be_bare() {
+        return Ok(Err(OutsideKind::Missing));
+    }
+    match read_done(alloc, operation, &children[..0])? {
+        Ok(payload) => Ok(Ok(Some(payload))),
+        Err(kind) => Ok(Err(kind)),
     }
 }
 

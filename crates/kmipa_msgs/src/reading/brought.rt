@@ -1,9 +1,9 @@
 //! The parts of a Register, before they are compared.
 
 ghost use Rattle.std.specs.Prelude.{◌≡◌};
-ghost use Rattle.kmipa_msgs.specs.Registers.{agree};
 
 use crate::key_block::KeyBlock;
+use crate::reading::attributes::agree;
 use kmipa_attrs::{AttrSet, ObjectType};
 
 #[derive(Drop)]
@@ -28,15 +28,5 @@ impl<'a> Brought<'a> {
             && agree(self.attributes.object_type, Some(object_type))
             && agree(self.attributes.algorithm, self.block.algorithm)
             && agree(self.attributes.length, self.block.length)
-    }
-}
-
-/// Whether two values are the same where both are there.
-fn agree<T: PartialEq + Copy>(one: Option<T>, other: Option<T>) -> bool
-    ensures { result ≡ agree T.eq one other }
-{
-    match (one, other) {
-        (Some(one), Some(other)) => one == other,
-        _ => true,
     }
 }

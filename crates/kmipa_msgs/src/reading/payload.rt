@@ -9,10 +9,13 @@ ghost use Rattle.kmipa_msgs.specs.Payloads.{TellsPayload, done_in, payload_in};
 use crate::fault::{Outside, ReadFault};
 use crate::kind::OutsideKind;
 use crate::operation::Operation;
+use crate::reading::Read;
 use crate::reading::get::read_got;
+use crate::reading::get_attributes::read_got_attributes;
+use crate::reading::identifier::read_identifier;
 use crate::reading::register::read_registered;
 use crate::request::Ask;
-use crate::response::Payload;
+use crate::response::{Changed, Payload};
 use kmipa_attrs::fields::as_structure;
 use kmipa_ttlv::View;
 use std::alloc::Global;
@@ -21,13 +24,13 @@ use std::alloc::Global;
 ///
 /// Identifiers and key bytes are lent from what the view borrows.
 pub fn read_payload<'a>(
-    _alloc: Global,
+    alloc: Global,
     payload: &View<'a>,
     ask: &Ask,
 ) -> Result<Payload<'a>, ReadFault>
     ensures { TellsPayload (view_tree payload.now) (ask_of ask.now) result }
 {
-    match read_payload_of(ask.operation(), payload) {
+    match read_payload_of(alloc, ask.operation(), payload)? {
         Ok(payload) => Ok(payload),
         Err(kind) => Err(ReadFault::Outside(Outside { item: 0, kind })),
     }
@@ -35,35 +38,49 @@ pub fn read_payload<'a>(
 
 /// What a payload answers to an operation.
 pub(super) fn read_payload_of<'a>(
+    alloc: Global,
     operation: Operation,
     payload: &View<'a>,
-) -> Result<Payload<'a>, OutsideKind>
-    ensures { map_ok payload_of result ≡ payload_in operation (view_tree payload.now) }
+) -> Read<Payload<'a>>
+    ensures { IfOk result (λ r. map_ok payload_of r ≡ payload_in operation (view_tree payload.now)) }
 {
     match as_structure(payload) {
-        Some(children) => read_done(operation, children),
-        None => Err(OutsideKind::Missing),
+        Some(children) => read_done(alloc, operation, children),
+        None => Ok(Err(OutsideKind::Missing)),
     }
 }
 
-fn read_done<'a>(operation: Operation, payload: &[View<'a>]) -> Result<Payload<'a>, OutsideKind>
-    ensures { map_ok payload_of result ≡ done_in operation (view_trees payload.now) }
+/// What the children of a payload answer to an operation.
+pub(super) fn read_done<'a>(
+    alloc: Global,
+    operation: Operation,
+    payload: &[View<'a>],
+) -> Read<Payload<'a>>
+    ensures { IfOk result (λ r. map_ok payload_of r ≡ done_in operation (view_trees payload.now)) }
 {
     match operation {
+        Operation::Create => match read_registered(payload) {
+            Ok(created) => Ok(Ok(Payload::Create(created))),
+            Err(kind) => Ok(Err(kind)),
+        },
         Operation::Register => match read_registered(payload) {
-            Ok(registered) => Ok(Payload::Register(registered)),
-            Err(kind) => Err(kind),
+            Ok(registered) => Ok(Ok(Payload::Register(registered))),
+            Err(kind) => Ok(Err(kind)),
         },
         Operation::Get => match read_got(payload) {
-            Ok(got) => Ok(Payload::Get(got)),
-            Err(kind) => Err(kind),
+            Ok(got) => Ok(Ok(Payload::Get(got))),
+            Err(kind) => Ok(Err(kind)),
         },
-        Operation::Create
-        | Operation::GetAttributes
-        | Operation::Activate
-        | Operation::Revoke
-        | Operation::Destroy
-        | Operation::Idle(_)
-        | Operation::Other(_) => Err(OutsideKind::Missing),
+        Operation::GetAttributes => match read_got_attributes(alloc, payload)? {
+            Ok(got) => Ok(Ok(Payload::GetAttributes(got))),
+            Err(kind) => Ok(Err(kind)),
+        },
+        Operation::Activate | Operation::Revoke | Operation::Destroy => {
+            match read_identifier(payload) {
+                Ok(id) => Ok(Ok(Payload::Change(Changed { id }))),
+                Err(kind) => Ok(Err(kind)),
+            }
+        }
+        Operation::Idle(_) | Operation::Other(_) => Ok(Err(OutsideKind::Missing)),
     }
 }

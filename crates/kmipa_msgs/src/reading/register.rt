@@ -2,17 +2,17 @@
 
 ghost use Rattle.std.specs.Prelude.{◌≡◌, IfOk};
 ghost use Rattle.kmipa_ttlv.specs.ViewTree.{view_trees};
-ghost use Rattle.kmipa_attrs.specs.Fields.{at, inside, as_structure, as_enumeration};
+ghost use Rattle.kmipa_attrs.specs.Fields.{at, as_enumeration};
 ghost use Rattle.kmipa_attrs.specs.ObjectTypes.{type_of};
 ghost use Rattle.kmipa_attrs.specs.Readings.{map_ok};
-ghost use Rattle.kmipa_attrs.specs.Sets.{attributes_of};
 ghost use Rattle.kmipa_msgs.specs.Messages.{register_of, registered_of, block_of};
 ghost use Rattle.kmipa_msgs.specs.Tables.{listed};
 ghost use Rattle.kmipa_msgs.specs.Brought.{brought_of};
-ghost use Rattle.kmipa_msgs.specs.Registers.{given_in, unless_unlisted, brought_in, register_in, registered_in};
+ghost use Rattle.kmipa_msgs.specs.Registers.{brought_in, register_in, registered_in};
 
 use crate::kind::OutsideKind;
 use crate::reading::Read;
+use crate::reading::attributes::{read_attributes, type_known};
 use crate::reading::brought::Brought;
 use crate::reading::key_block::read_key_block;
 use crate::reading::object::{block_inside, read_shape};
@@ -20,10 +20,10 @@ use crate::reading::rows::of_table;
 use crate::request::Register;
 use crate::response::Registered;
 use crate::tags::{ATTRIBUTES, OBJECT_TYPE, UNIQUE_IDENTIFIER};
-use kmipa_attrs::fields::{enumeration_at, inside, structure_at, text_at};
-use kmipa_attrs::{AttrFault, AttrSet, Field, ObjectType, Side, both, read_children};
+use kmipa_attrs::fields::{enumeration_at, inside, text_at};
+use kmipa_attrs::{Field, ObjectType, Side, both};
 use kmipa_ttlv::View;
-use std::alloc::{AllocError, Global};
+use std::alloc::Global;
 
 /// What the children of a Register's Request Payload bring.
 pub fn read_register<'a>(alloc: Global, payload: &[View<'a>]) -> Read<Register<'a>>
@@ -48,7 +48,7 @@ fn read_brought<'a>(alloc: Global, payload: &[View<'a>]) -> Read<Brought<'a>>
 {
     let types = both(type_brought(payload), read_shape(payload));
     let type_known = type_known(inside(payload, ATTRIBUTES));
-    let attributes = attributes(alloc, payload)?;
+    let attributes = read_attributes(alloc, payload, Side::Client)?;
     let block = read_key_block(block_inside(payload));
     let rows = both(both(both(types, type_known), block), attributes);
     match rows {
@@ -71,38 +71,7 @@ fn type_brought(payload: &[View]) -> Result<ObjectType, OutsideKind>
     }
 }
 
-/// That an Object Type attribute has a number of a judged type.
-fn type_known(attributes: &[View]) -> Result<(), OutsideKind>
-    ensures { result ≡ unless_unlisted (at as_enumeration 0x42_0057 (view_trees attributes.now)) type_of OutsideKind.ObjectType }
-{
-    match enumeration_at(attributes, OBJECT_TYPE) {
-        Field::There(number) => {
-            if ObjectType::of(number).is_some() {
-                Ok(())
-            } else {
-                Err(OutsideKind::ObjectType)
-            }
-        }
-        _ => Ok(()),
-    }
-}
-
-/// The attributes that a client gives; without Attributes there are none.
-fn attributes(alloc: Global, payload: &[View]) -> Read<AttrSet>
-    ensures { IfOk result (λ r. map_ok attributes_of r ≡ given_in (at as_structure 0x42_0125 (view_trees payload.now))) }
-{
-    match structure_at(payload, ATTRIBUTES) {
-        Field::There(children) => match read_children(alloc, children, Side::Client) {
-            Ok(set) => Ok(Ok(set)),
-            Err(AttrFault::Memory) => Err(AllocError),
-            Err(_) => Ok(Err(OutsideKind::Attribute)),
-        },
-        Field::Absent => Ok(Ok(AttrSet::new(alloc))),
-        Field::Wrong => Ok(Err(OutsideKind::Missing)),
-    }
-}
-
-/// What the children of a Register's Response Payload say.
+/// What the children of the Response Payload of a Create or a Register say.
 pub fn read_registered<'a>(payload: &[View<'a>]) -> Result<Registered<'a>, OutsideKind>
     ensures { map_ok registered_of result ≡ registered_in (view_trees payload.now) }
 {

@@ -3,7 +3,7 @@
 ghost use Rattle.std.specs.Prelude.{◌≡◌};
 ghost use Rattle.kmipa_ttlv.specs.ViewTree.{view_trees};
 ghost use Rattle.kmipa_attrs.specs.Fields.{first};
-ghost use Rattle.kmipa_msgs.specs.Tables.{of_table, unless_there};
+ghost use Rattle.kmipa_msgs.specs.Tables.{of_table, unless_there, unless_absent};
 
 use crate::kind::OutsideKind;
 use kmipa_attrs::fields::first;
@@ -24,6 +24,16 @@ pub fn unless_there(children: &[View], tag: u32, kind: OutsideKind) -> Result<()
     ensures { result ≡ unless_there (first tag (view_trees children.now)) kind }
 {
     if first(children, tag).is_some() {
+        return Err(kind);
+    }
+    Ok(())
+}
+
+/// That some child has the tag.
+pub fn unless_absent(children: &[View], tag: u32, kind: OutsideKind) -> Result<(), OutsideKind>
+    ensures { result ≡ unless_absent (first tag (view_trees children.now)) kind }
+{
+    if first(children, tag).is_none() {
         return Err(kind);
     }
     Ok(())

@@ -98,8 +98,8 @@ const BAD_REQUESTS: [Row; 45] = [
     (&[(87, 0x00)], 0, OutsideKind::Unordered),
     // a Batch Item that is a Byte String
     (&[(107, 0x08)], 1, OutsideKind::Missing),
-    // an operation that isn't read
-    (&[(123, 0x12)], 1, OutsideKind::Operation),
+    // Locate, which isn't read
+    (&[(123, 0x08)], 1, OutsideKind::Operation),
     // Operation as an Integer
     (&[(115, 0x02)], 1, OutsideKind::Missing),
     // a Request Payload that is a Byte String

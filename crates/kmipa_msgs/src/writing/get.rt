@@ -4,7 +4,7 @@ ghost use Rattle.std.specs.Prelude.{◌≡◌, IfOk};
 ghost use Rattle.kmipa_ttlv.specs.Tree.{structure};
 ghost use Rattle.kmipa_ttlv.specs.ItemTree.{tree};
 ghost use Rattle.kmipa_msgs.specs.Messages.{maybe_lent, got_of};
-ghost use Rattle.kmipa_msgs.specs.Written.{in_order, get_fields, got_fields};
+ghost use Rattle.kmipa_msgs.specs.Written.{in_order, identifier_fields, got_fields};
 
 use super::fields::Fields;
 use super::object::write_object;
@@ -17,7 +17,7 @@ use std::alloc::{AllocError, Global};
 
 /// The Request Payload of a Get.
 pub(super) fn write_get(alloc: Global, get: &Get) -> Result<Item, AllocError>
-    ensures { IfOk result (λ item. tree item ≡ structure 0x42_0079 (in_order (get_fields (maybe_lent get.now.id)))) }
+    ensures { IfOk result (λ item. tree item ≡ structure 0x42_0079 (in_order (identifier_fields (maybe_lent get.now.id)))) }
 {
     let mut fields = Fields::new(alloc);
     fields.text(UNIQUE_IDENTIFIER, get.id)?;

@@ -26,7 +26,7 @@ pub(super) fn write_register(alloc: Global, register: &Register) -> Result<Item,
     Ok(fields.structure(REQUEST_PAYLOAD))
 }
 
-/// The Response Payload of a Register.
+/// The Response Payload of a Create or a Register.
 pub(super) fn write_registered(alloc: Global, registered: &Registered) -> Result<Item, AllocError>
     ensures { IfOk result (λ item. tree item ≡ structure 0x42_007C (in_order (registered_fields (registered_of registered.now)))) }
 {

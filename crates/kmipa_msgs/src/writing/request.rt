@@ -5,12 +5,17 @@ ghost use Rattle.kmipa_ttlv.specs.Tree.{Tree};
 ghost use Rattle.kmipa_ttlv.specs.ItemTree.{tree};
 ghost use Rattle.kmipa_msgs.specs.Messages.{asked_of, ask_of, request_of};
 ghost use Rattle.kmipa_msgs.specs.Requests.{SaysRequest};
+ghost use Rattle.kmipa_msgs.specs.Writable.{IsWritable};
 ghost use Rattle.kmipa_msgs.specs.Written.{told_option, told_order, written_asked, written_ask, written_request_header, written_request};
 
+use super::create::write_create;
 use super::fields::Fields;
 use super::get::write_get;
+use super::get_attributes::write_get_attributes;
 use super::header::write_version;
+use super::identifier::write_identifier;
 use super::register::write_register;
+use super::revoke::write_revoke;
 use crate::request::{Ask, Asked, BatchOption, Request};
 use crate::tags::{
     BATCH_COUNT, BATCH_ERROR_CONTINUATION_OPTION, BATCH_ITEM, BATCH_ORDER_OPTION, OPERATION,
@@ -21,11 +26,13 @@ use std::alloc::{AllocError, Global};
 
 /// The Request Message that says the request, as far as any does: it has an item, no Register brings a name twice,
 /// and type, algorithm and length of each Register agree. Of more items than an Integer counts none does.
+/// What is read over is not written: the payloads of operations that aren't judged, and the other items of a Get Attributes.
 /// Stop and an order of true are left out, which means the same. Only want of memory is an error.
 pub fn write_request(alloc: Global, request: &Request) -> Result<Item, AllocError>
     requires { length request.now.items.items < 0x8000_0000 }
     ensures order { IfOk result (λ item. tree item ≡ written_request (request_of request.now)) }
-    ensures said { IfOk result (λ item. (t : Tree) → SaysRequest t (request_of request.now) → SaysRequest (tree item) (request_of request.now)) }
+    ensures said { IfOk result (λ item. (t : Tree) → SaysRequest t (request_of request.now) → IsWritable (request_of request.now)
+        → SaysRequest (tree item) (request_of request.now)) }
 {
     let mut fields = Fields::new(alloc);
     fields.item(write_header(alloc, request)?)?;
@@ -81,14 +88,14 @@ fn write_asked(alloc: Global, asked: &Asked) -> Result<Item, AllocError>
     ensures { IfOk result (λ item. tree item ≡ written_asked (asked_of asked.now)) }
 {
     match asked {
+        Asked::Create(create) => write_create(alloc, create),
         Asked::Register(register) => write_register(alloc, register),
         Asked::Get(get) => write_get(alloc, get),
-        Asked::Create(_)
-        | Asked::GetAttributes(_)
-        | Asked::Activate(_)
-        | Asked::Revoke(_)
-        | Asked::Destroy(_)
-        | Asked::Idle(_)
-        | Asked::Other(_) => Ok(Fields::new(alloc).structure(REQUEST_PAYLOAD)),
+        Asked::GetAttributes(get) => write_get_attributes(alloc, get),
+        Asked::Revoke(revoke) => write_revoke(alloc, revoke),
+        Asked::Activate(about) | Asked::Destroy(about) => {
+            write_identifier(alloc, REQUEST_PAYLOAD, about.id)
+        }
+        Asked::Idle(_) | Asked::Other(_) => Ok(Fields::new(alloc).structure(REQUEST_PAYLOAD)),
     }
 }

@@ -5,11 +5,14 @@ ghost use Rattle.kmipa_ttlv.specs.ItemTree.{tree};
 ghost use Rattle.kmipa_ttlv.specs.Tree.{Tree};
 ghost use Rattle.kmipa_msgs.specs.Messages.{payload_of, answer_of, RequestOf, response_of};
 ghost use Rattle.kmipa_msgs.specs.Responses.{SaysResponse};
+ghost use Rattle.kmipa_msgs.specs.Writable.{IsWritableResponse};
 ghost use Rattle.kmipa_msgs.specs.Written.{written_payload, written_answer, written_response_header, written_response};
 
 use super::fields::Fields;
 use super::get::write_got;
+use super::get_attributes::write_got_attributes;
 use super::header::write_version;
+use super::identifier::write_identifier;
 use super::register::write_registered;
 use crate::response::{Answer, Payload, Response};
 use crate::tags::{
@@ -21,12 +24,13 @@ use std::alloc::{AllocError, Global};
 
 /// The Response Message that says the response beside each request beside which any does: it has an item, and a
 /// payload where one is to be there, of the operation asked for, and nowhere else. Of more items than an Integer counts
-/// none does. Only want of memory is an error.
+/// none does. No undone payload may be without children, which is read as absent. Only want of memory is an error.
 pub fn write_response(alloc: Global, response: &Response) -> Result<Item, AllocError>
     requires { length response.now.items.items < 0x8000_0000 }
     ensures order { IfOk result (λ item. tree item ≡ written_response (response_of response.now)) }
     ensures said { IfOk result (λ item. (t : Tree) (request : RequestOf)
-        → SaysResponse t request (response_of response.now) → SaysResponse (tree item) request (response_of response.now)) }
+        → SaysResponse t request (response_of response.now) → IsWritableResponse (response_of response.now)
+        → SaysResponse (tree item) request (response_of response.now)) }
 {
     let mut fields = Fields::new(alloc);
     fields.item(write_header(alloc, response)?)?;
@@ -68,10 +72,9 @@ fn write_payload(alloc: Global, payload: &Payload) -> Result<Item, AllocError>
     ensures { IfOk result (λ item. tree item ≡ written_payload (payload_of payload.now)) }
 {
     match payload {
-        Payload::Register(registered) => write_registered(alloc, registered),
+        Payload::Create(made) | Payload::Register(made) => write_registered(alloc, made),
         Payload::Get(got) => write_got(alloc, got),
-        Payload::Create(_) | Payload::GetAttributes(_) | Payload::Change(_) => {
-            Ok(Fields::new(alloc).structure(RESPONSE_PAYLOAD))
-        }
+        Payload::GetAttributes(got) => write_got_attributes(alloc, got),
+        Payload::Change(changed) => write_identifier(alloc, RESPONSE_PAYLOAD, changed.id),
     }
 }

@@ -22,9 +22,9 @@ returns-in-Ok c =
     let named = optional_row c.enumeration_at-2.result (at as_enumeration 0x42_005C ts) Missing c.optional-operation.result c.optional-operation.ensures c.enumeration_at-2.ensures in
     let reason = optional_row c.enumeration_at-3.result (at as_enumeration 0x42_007E ts) Missing c.optional-reason.result c.optional-reason.ensures c.enumeration_at-3.ensures in
     let plain = joined kind_number _ _ c.both.result _ _ c.both.ensures named reason in
-    let outcome = c.read_outcome-outcome.ensures ∙ ap (λ o. outcome_in o ts) (c.own_operation-own.ensures ∙ ap (own a) c.enumeration_at.ensures) in
+    let outcome = c.in_ok-outcome.ensures ∙ ap (λ o. outcome_in o ts) (c.own_operation-own.ensures ∙ ap (own a) c.enumeration_at.ensures) in
     ap (map_ok (answer_view batch)) (sym c.in-Ok.is)
-    ∙ seen_answer a (view_tree c.args.view.now) ts batch c.both.result c.read_outcome-outcome.result c.both-2.result c.in-Some.ensures (value_seen lent c.bytes_at.result (at as_bytes 0x42_0093 ts) c.value.result c.value.ensures c.bytes_at.ensures) c.both-2.ensures plain outcome
+    ∙ seen_answer a (view_tree c.args.view.now) ts batch c.both.result c.in_ok-outcome.outcome c.both-2.result c.in-Some.ensures (value_seen lent c.bytes_at.result (at as_bytes 0x42_0093 ts) c.value.result c.value.ensures c.bytes_at.ensures) c.both-2.ensures plain outcome
 
 pub returns-in-Err : goal.returns-in-Err
 returns-in-Err c =
@@ -34,6 +34,6 @@ returns-in-Err c =
     let named = optional_row c.enumeration_at-2.result (at as_enumeration 0x42_005C ts) Missing c.optional-operation.result c.optional-operation.ensures c.enumeration_at-2.ensures in
     let reason = optional_row c.enumeration_at-3.result (at as_enumeration 0x42_007E ts) Missing c.optional-reason.result c.optional-reason.ensures c.enumeration_at-3.ensures in
     let plain = joined kind_number _ _ c.both.result _ _ c.both.ensures named reason in
-    let outcome = c.read_outcome-outcome.ensures ∙ ap (λ o. outcome_in o ts) (c.own_operation-own.ensures ∙ ap (own a) c.enumeration_at.ensures) in
+    let outcome = c.in_ok-outcome.ensures ∙ ap (λ o. outcome_in o ts) (c.own_operation-own.ensures ∙ ap (own a) c.enumeration_at.ensures) in
     ap (map_ok (answer_view batch)) (sym c.in-Err.is)
-    ∙ seen_answer a (view_tree c.args.view.now) ts batch c.both.result c.read_outcome-outcome.result c.both-2.result c.in-Some.ensures refl c.both-2.ensures plain outcome
+    ∙ seen_answer a (view_tree c.args.view.now) ts batch c.both.result c.in_ok-outcome.outcome c.both-2.result c.in-Some.ensures refl c.both-2.ensures plain outcome

@@ -4,7 +4,7 @@ use Rattle.kmipa_attrs.specs.Fields.{at, as_enumeration}
 use Rattle.kmipa_attrs.specs.ObjectTypes.{type_of}
 use Rattle.kmipa_attrs.specs.Readings.{map_ok}
 use Rattle.kmipa_msgs.specs.declared.kind.OutsideKind.TheVariants.{ObjectType}
-use Rattle.kmipa_msgs.specs.Registers.{unless_unlisted}
+use Rattle.kmipa_msgs.specs.Tables.{unless_unlisted}
 use Rattle.kmipa_msgs.specs.Kinds.{kind_number}
 use Rattle.kmipa_msgs.proofs.ViewLemmas.{joined}
 use Rattle.kmipa_msgs.proofs.RegisterLemmas.{brought_view, seen_brought}

@@ -28,6 +28,6 @@ pub returns-clause-order : goal.returns-clause-order
 returns-clause-order c = written c
 
 pub returns-clause-said : goal.returns-clause-said
-returns-clause-said c = λ t h.
+returns-clause-said c = λ t h w.
     let request = request_of c.args.request.now in
-    subst (λ (u : Tree). SaysRequest u request) (sym (written c)) (request_written t request h)
+    subst (λ (u : Tree). SaysRequest u request) (sym (written c)) (request_written t request h w)

@@ -28,6 +28,6 @@ pub returns-clause-order : goal.returns-clause-order
 returns-clause-order c = written c
 
 pub returns-clause-said : goal.returns-clause-said
-returns-clause-said c = λ t request h.
+returns-clause-said c = λ t request h w.
     let response = response_of c.args.response.now in
-    subst (λ (u : Tree). SaysResponse u request response) (sym (written c)) (response_written t request response h)
+    subst (λ (u : Tree). SaysResponse u request response) (sym (written c)) (response_written t request response h w)

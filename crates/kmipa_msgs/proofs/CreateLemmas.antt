@@ -1,0 +1,142 @@
+-- Creates are read.
+use Rattle.std.proofs.Common.{◌≡◌, ◌≤◌, ℕ, Bool, true, false, ◌==◌, if◌then◌else◌, Option, Some, None, Result, Ok, Err, refl, ap, ◌∙◌, subst, inl, inr, ◌⊎◌, arith}
+use Rattle.kmipa_ttlv.specs.Tree.{Trees}
+use Rattle.kmipa_attrs.specs.Fields.{first, at, inside, as_structure, as_enumeration}
+use Rattle.kmipa_attrs.specs.ObjectTypes.{type_of}
+use Rattle.kmipa_attrs.specs.Readings.{Reads, NeededFault, both, map_ok, kept_if, passing}
+use Rattle.kmipa_attrs.specs.Sets.{Attributes, attributes_of}
+use Rattle.kmipa_attrs.specs.declared.attr_set.AttrSet.{AttrSet}
+use Rattle.kmipa_attrs.specs.declared.object_type.ObjectType
+use Rattle.kmipa_attrs.specs.declared.object_type.ObjectType.TheVariants.{SymmetricKey}
+use Rattle.kmipa_attrs.specs.declared.side.Side.TheVariants.{Client}
+use Rattle.kmipa_attrs.proofs.ReadingLemmas.{reads_both, reads_as, reads_passing, map_ok-same}
+use Rattle.kmipa_msgs.specs.declared.kind.OutsideKind.{OutsideKind}
+use Rattle.kmipa_msgs.specs.declared.kind.OutsideKind.TheVariants.{ObjectType, Missing, Disagree}
+use Rattle.kmipa_msgs.specs.Kinds.{kind_number}
+use Rattle.kmipa_msgs.specs.Tables.{Listed, Unlisted}
+use Rattle.kmipa_msgs.specs.AttributeFields.{GivenFault, given_in}
+use Rattle.kmipa_msgs.specs.Creates.{created_of, SaysNewKey, is_of_key, SaysCreate, DisagreeingCreate, CreateFault, described_rows, types_rows, new_key_rows, new_key_in, create_in}
+use Rattle.kmipa_msgs.specs.Creates.CreateFault.{in_object_type, in_type_number, in_attributes, in_attribute_type, in_algorithm, in_length, in_mask, in_agreement}
+use Rattle.kmipa_msgs.proofs.TableLemmas.{reads_listed, reads_unless_absent, reads_unless_unlisted}
+use Rattle.kmipa_msgs.proofs.AttributeFieldLemmas.{reads_given}
+use Rattle.kmipa_msgs.proofs.LowKindLemmas.{low, low_needed, low_given}
+use Rattle.kmipa_msgs.proofs.ViewLemmas.{seen, right_seen}
+
+-- no other type is created
+one_created : (n : ℕ) (t : ObjectType.ObjectType) → created_of n ≡ Some t → t ≡ SymmetricKey
+one_created n t e = by (n == 2) e
+  where
+    by : (b : Bool) → (if b then Some SymmetricKey else None) ≡ Some t → t ≡ SymmetricKey
+    by true h = cc
+    by false h = cc
+
+-- the parts
+abbrev PartFault : Trees → OutsideKind → Type 0
+PartFault ts k =
+    (((NeededFault (at as_enumeration 0x42_0057 ts) Missing Missing k ⊎ ((k ≡ ObjectType) × Unlisted (at as_enumeration 0x42_0057 ts) created_of)) ⊎ ((k ≡ ObjectType) × Unlisted (at as_enumeration 0x42_0057 (inside 0x42_0125 ts)) type_of))
+    ⊎ ((((k ≡ Missing) × (first 0x42_0028 (inside 0x42_0125 ts) ≡ None)) ⊎ ((k ≡ Missing) × (first 0x42_002A (inside 0x42_0125 ts) ≡ None))) ⊎ ((k ≡ Missing) × (first 0x42_002C (inside 0x42_0125 ts) ≡ None))))
+    ⊎ GivenFault Client (at as_structure 0x42_0125 ts) k
+
+reads_new_key : (ts : Trees) → Reads kind_number (SaysNewKey ts) (PartFault ts) (new_key_in ts)
+unfolding new_key_in
+reads_new_key ts =
+    let us = inside 0x42_0125 ts in
+    reads_as kind_number _ _ (SaysNewKey ts) (PartFault ts) (λ p. p.1) (new_key_rows ts)
+    (λ p s. record {
+      object_type = let P : ObjectType.ObjectType → Type 0 = Listed (at as_enumeration 0x42_0057 ts) created_of in subst P (one_created s.0.0.0.number p.0.0.0 s.0.0.0.listed) s.0.0.0;
+      attributes = s.1;
+      algorithm = s.0.1.0.0;
+      length = s.0.1.0.1;
+      mask = s.0.1.1;
+    })
+    (λ y t. ((((SymmetricKey, tt), ((tt, tt), tt)), y), (((t.object_type, tt), ((t.algorithm, t.length), t.mask)), t.attributes), refl))
+    (λ k f. f)
+    (λ k f. f)
+    (reads_both kind_number _ _ _ _ _ _
+    (reads_both kind_number _ _ _ _ _ _
+    (reads_both kind_number _ _ _ _ _ _ (reads_listed (at as_enumeration 0x42_0057 ts) created_of Missing ObjectType) (reads_unless_unlisted (at as_enumeration 0x42_0057 us) type_of ObjectType))
+    (reads_both kind_number _ _ _ _ _ _ (reads_both kind_number _ _ _ _ _ _ (reads_unless_absent (first 0x42_0028 us) Missing) (reads_unless_absent (first 0x42_002A us) Missing)) (reads_unless_absent (first 0x42_002C us) Missing)))
+    (reads_given Client (at as_structure 0x42_0125 ts)))
+
+low_part : (ts : Trees) (k : OutsideKind) → PartFault ts k → kind_number k ≤ 12
+low_part ts k f = elim f [
+  | inl g ↦ elim g [
+    | inl h ↦ elim h [
+      | inl m ↦ elim m [ inl w ↦ low_needed (at as_enumeration 0x42_0057 ts) Missing Missing k (omega arith) (omega arith) w | inr w ↦ low k ObjectType (omega arith) w.0 ]
+      | inr w ↦ low k ObjectType (omega arith) w.0
+    ]
+    | inr h ↦ elim h [
+      | inl m ↦ elim m [ inl w ↦ low k Missing (omega arith) w.0 | inr w ↦ low k Missing (omega arith) w.0 ]
+      | inr w ↦ low k Missing (omega arith) w.0
+    ]
+  ]
+  | inr w ↦ low_given Client (at as_structure 0x42_0125 ts) k w
+]
+
+abbrev Fault : Trees → OutsideKind → Type 0
+Fault ts k = PartFault ts k ⊎ ((k ≡ Disagree) × ((a : Attributes) × SaysNewKey ts a × (is_of_key a ≡ false)))
+
+told : (ts : Trees) (k : OutsideKind) → Fault ts k → CreateFault ts k
+told ts k f = elim f [
+  | inl e ↦ elim e [
+    | inl g ↦ elim g [
+      | inl h ↦ elim h [ inl m ↦ elim m [ inl w ↦ in_object_type w | inr w ↦ in_type_number w.0 w.1 ] | inr w ↦ in_attribute_type w.0 w.1 ]
+      | inr h ↦ elim h [ inl m ↦ elim m [ inl w ↦ in_algorithm w.0 w.1 | inr w ↦ in_length w.0 w.1 ] | inr w ↦ in_mask w.0 w.1 ]
+    ]
+    | inr w ↦ in_attributes w
+  ]
+  | inr w ↦ in_agreement w.0 (record { attributes = w.1.0; said = w.1.1; differ = w.1.2 })
+]
+
+back : (ts : Trees) (k : OutsideKind) → CreateFault ts k → Fault ts k
+back ts k f = elim f [
+  | in_object_type w ↦ inl (inl (inl (inl (inl w))))
+  | in_type_number e w ↦ inl (inl (inl (inl (inr (e, w)))))
+  | in_attributes w ↦ inl (inr w)
+  | in_attribute_type e w ↦ inl (inl (inl (inr (e, w))))
+  | in_algorithm e w ↦ inl (inl (inr (inl (inl (e, w)))))
+  | in_length e w ↦ inl (inl (inr (inl (inr (e, w)))))
+  | in_mask e w ↦ inl (inl (inr (inr (e, w))))
+  | in_agreement e w ↦ inr (e, (w.attributes, w.said, w.differ))
+]
+
+pub reads_create : (ts : Trees) → Reads kind_number (SaysCreate ts) (CreateFault ts) (create_in ts)
+unfolding create_in
+reads_create ts =
+    let r = passing is_of_key Disagree (new_key_in ts) in
+    subst (λ (q : Result Attributes OutsideKind). Reads kind_number (SaysCreate ts) (CreateFault ts) q) (map_ok-same r)
+    (reads_as kind_number (λ a. SaysNewKey ts a × (is_of_key a ≡ true)) (Fault ts) (SaysCreate ts) (CreateFault ts) (λ a. a) r
+    (λ a s. record { key = s.0; agrees = s.1 })
+    (λ y t. (y, (t.key, t.agrees), refl))
+    (told ts) (back ts)
+    (reads_passing kind_number (SaysNewKey ts) (PartFault ts) is_of_key Disagree (new_key_in ts) (λ k a w s. low_part ts k w) (reads_new_key ts)))
+
+-- the parts as the program has them
+abbrev pub Plain : Type 0
+Plain = (ObjectType.ObjectType × Unit {0}) × ((Unit {0} × Unit {0}) × Unit {0})
+
+abbrev pub new_key_view : Plain × AttrSet → Attributes
+new_key_view p = attributes_of p.1
+
+pub seen_new_key : (ts us : Trees) (plain : Result Plain OutsideKind) (given : Result AttrSet OutsideKind) (rows : Result (Plain × AttrSet) OutsideKind)
+    → rows ≡ both kind_number plain given → plain ≡ both kind_number (types_rows ts) (described_rows us) → us ≡ inside 0x42_0125 ts
+    → map_ok attributes_of given ≡ given_in Client (at as_structure 0x42_0125 ts)
+    → map_ok new_key_view rows ≡ new_key_in ts
+unfolding new_key_in
+seen_new_key ts us plain given rows e p u g =
+    seen (λ q. q.1) (λ q. (q.0, attributes_of q.1)) rows (new_key_rows ts)
+    (right_seen kind_number attributes_of plain given rows (both kind_number (types_rows ts) (described_rows (inside 0x42_0125 ts))) (given_in Client (at as_structure 0x42_0125 ts)) e
+    (p ∙ ap (λ vs. both kind_number (types_rows ts) (described_rows vs)) u) g)
+
+-- the comparison
+pub agreed : (ts : Trees) (a : Attributes) → Ok a ≡ new_key_in ts → true ≡ is_of_key a → Ok a ≡ create_in ts
+unfolding create_in
+agreed ts a h e = ap (λ (k : Bool). kept_if k a Disagree) e ∙ ap (passing is_of_key Disagree) h
+
+pub disagreed : (ts : Trees) (a : Attributes) → Ok a ≡ new_key_in ts → false ≡ is_of_key a → Err Disagree ≡ create_in ts
+unfolding create_in
+disagreed ts a h e = ap (λ (k : Bool). kept_if k a Disagree) e ∙ ap (passing is_of_key Disagree) h
+
+pub unread : (ts : Trees) (k : OutsideKind) → Err k ≡ new_key_in ts → Err k ≡ create_in ts
+unfolding create_in
+unread ts k h = ap (passing is_of_key Disagree) h

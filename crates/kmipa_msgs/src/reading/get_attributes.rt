@@ -1,0 +1,114 @@
+//! Get Attributes and its answer.
+
+ghost use Rattle.std.specs.Prelude.{◌≡◌, ◌==◌, IfOk, count_by};
+ghost use Rattle.kmipa_ttlv.specs.ViewTree.{view_tree, view_trees};
+ghost use Rattle.kmipa_attrs.specs.Readings.{map_ok};
+ghost use Rattle.kmipa_msgs.specs.Messages.{get_attributes_of, got_attributes_of};
+ghost use Rattle.kmipa_msgs.specs.GetsAttributes.{references, is_selective, as_reference, is_other, some_other, has_others, get_attributes_in, got_attributes_in};
+
+use crate::kind::OutsideKind;
+use crate::reading::Read;
+use crate::reading::attributes::{read_attributes, type_known};
+use crate::reading::identifier::read_identifier;
+use crate::request::GetAttributes;
+use crate::response::GotAttributes;
+use crate::tags::{ATTRIBUTE_REFERENCE, ATTRIBUTES, UNIQUE_IDENTIFIER};
+use kmipa_attrs::fields::{as_enumeration, first, inside};
+use kmipa_attrs::{Side, both};
+use kmipa_ttlv::View;
+use std::alloc::{AllocError, Global};
+
+/// What the children of a Get Attributes's Request Payload ask for.
+pub fn read_get_attributes<'a>(alloc: Global, payload: &[View<'a>]) -> Read<GetAttributes<'a>>
+    ensures { IfOk result (λ r. map_ok get_attributes_of r ≡ get_attributes_in (view_trees payload.now)) }
+{
+    let id = match read_identifier(payload) {
+        Ok(id) => id,
+        Err(kind) => return Ok(Err(kind)),
+    };
+    Ok(Ok(GetAttributes {
+        id,
+        references: read_references(alloc, payload)?,
+        is_selective: is_selective(payload),
+        has_others: has_others(payload),
+    }))
+}
+
+/// The tags that Attribute References name as Enumerations.
+fn read_references(alloc: Global, payload: &[View]) -> Result<Vec<u32>, AllocError>
+    ensures { IfOk result (λ tags. tags.items ≡ references (view_trees payload.now)) }
+{
+    let mut tags = Vec::new(alloc);
+    for child in payload {
+        if let Some(tag) = reference(child) {
+            tags.push(tag)?;
+        }
+    }
+    Ok(tags)
+}
+
+/// The tag that an Attribute Reference names as an Enumeration.
+fn reference(view: &View) -> Option<u32>
+    ensures { result ≡ as_reference (view_tree view.now) }
+{
+    if view.tag.number == ATTRIBUTE_REFERENCE {
+        as_enumeration(view)
+    } else {
+        None
+    }
+}
+
+/// Whether there is an Attribute Reference of any type.
+fn is_selective(payload: &[View]) -> bool
+    ensures { result ≡ is_selective (view_trees payload.now) }
+{
+    first(payload, ATTRIBUTE_REFERENCE).is_some()
+}
+
+/// Whether there is an item beside the identifier and Attribute References as Enumerations.
+fn has_others(payload: &[View]) -> bool
+    ensures { result ≡ has_others (view_trees payload.now) }
+{
+    some_other(payload) || identifier_count(payload) > 1
+}
+
+/// How many Unique Identifiers there are.
+fn identifier_count(payload: &[View]) -> usize
+    ensures { result ≡ count_by (λ v. v.tag.number == 0x42_0094) payload.now }
+{
+    payload
+        .iter()
+        .filter(|child| child.tag.number == UNIQUE_IDENTIFIER)
+        .count()
+}
+
+fn some_other(payload: &[View]) -> bool
+    ensures { result ≡ some_other (view_trees payload.now) }
+{
+    for child in payload {
+        if is_other(child) {
+            return true;
+        }
+    }
+    false
+}
+
+/// Whether an item is neither an identifier nor an Attribute Reference as an Enumeration.
+fn is_other(view: &View) -> bool
+    ensures { result ≡ is_other (view_tree view.now) }
+{
+    view.tag.number != UNIQUE_IDENTIFIER && reference(view).is_none()
+}
+
+/// What the children of a Get Attributes's Response Payload show.
+pub fn read_got_attributes<'a>(alloc: Global, payload: &[View<'a>]) -> Read<GotAttributes<'a>>
+    ensures { IfOk result (λ r. map_ok got_attributes_of r ≡ got_attributes_in (view_trees payload.now)) }
+{
+    let type_known = type_known(inside(payload, ATTRIBUTES));
+    let id = read_identifier(payload);
+    let attributes = read_attributes(alloc, payload, Side::Server)?;
+    match both(both(type_known, id), attributes) {
+        Ok(((_, id), attributes)) => Ok(Ok(GotAttributes { id, attributes })),
+        Err(kind) => Ok(Err(kind)),
+    }
+}

@@ -1,0 +1,19 @@
+//! Payloads that have at most an identifier.
+
+ghost use Rattle.std.specs.Prelude.{◌≡◌};
+ghost use Rattle.kmipa_ttlv.specs.ViewTree.{view_trees};
+ghost use Rattle.kmipa_attrs.specs.Readings.{map_ok};
+ghost use Rattle.kmipa_msgs.specs.Messages.{maybe_lent};
+ghost use Rattle.kmipa_msgs.specs.Identifiers.{identifier_in};
+
+use crate::kind::OutsideKind;
+use crate::tags::UNIQUE_IDENTIFIER;
+use kmipa_attrs::fields::text_at;
+use kmipa_ttlv::View;
+
+/// The Unique Identifier among the children of a payload, if it is there.
+pub fn read_identifier<'a>(payload: &[View<'a>]) -> Result<Option<&'a str>, OutsideKind>
+    ensures { map_ok maybe_lent result ≡ identifier_in (view_trees payload.now) }
+{
+    text_at(payload, UNIQUE_IDENTIFIER).optional(OutsideKind::IdentifierForm)
+}
