@@ -63,101 +63,81 @@ fn spelled_attributes(rt: HostRuntime) -> Result<(), Fail> {
     Ok(())
 }
 
+// Children of Attributes by tag and type, under the name of their case.
+type Row = (&'static str, [(u32, u8); 3]);
+
+// A text whose tag no attribute has.
+const OTHER: (u32, u8) = (0x42_00FF, 7);
+
+// Nothing is told of these.
+const GOOD: [Row; 1] = [("two dates", [(0x42_0001, 9), (0x42_002F, 9), OTHER])];
+
+// An item of a wrong type, which is told ahead of an attribute that is there twice.
+const OF_WRONG_TYPE: [Row; 7] = [
+    ("algorithm", [(0x42_0028, 2), OTHER, OTHER]),
+    ("length", [(0x42_002A, 5), OTHER, OTHER]),
+    ("empty name", [(0x42_0053, 1), OTHER, OTHER]),
+    ("text name", [(0x42_0053, 7), OTHER, OTHER]),
+    ("second wrong", [(0x42_0028, 5), (0x42_0028, 2), OTHER]),
+    ("wrong state", [(0x42_008D, 2), OTHER, OTHER]),
+    (
+        "lowest last",
+        [(0x42_008D, 5), (0x42_008D, 5), (0x42_002A, 5)],
+    ),
+];
+
+// An attribute that is there twice, which is told ahead of one that no client gives.
+const TWICE: [Row; 2] = [
+    ("twice", [(0x42_0028, 5), OTHER, (0x42_0028, 5)]),
+    (
+        "lower first",
+        [(0x42_0028, 5), (0x42_0028, 5), (0x42_008D, 5)],
+    ),
+];
+
+// Attributes that no client gives, and a server does.
+const OF_SERVERS: [Row; 6] = [
+    ("state", [(0x42_008D, 5), OTHER, OTHER]),
+    ("initial", [(0x42_0039, 9), OTHER, OTHER]),
+    ("destroy", [(0x42_0033, 9), OTHER, OTHER]),
+    ("compromise", [(0x42_0020, 9), OTHER, OTHER]),
+    ("identifier", [(0x42_0094, 7), OTHER, OTHER]),
+    ("no text", [(0x42_0094, 5), (0x42_0094, 5), OTHER]),
+];
+
+// What is told of the item from a client, and from a server.
+fn faults_of(
+    rt: &HostRuntime,
+    item: &Item,
+) -> Result<(Option<AttrFault>, Option<AttrFault>), Fail> {
+    let view = lend(rt.alloc(), item)?;
+    let of_client = read_attrs(rt.alloc(), &view, Side::Client).err();
+    let of_server = read_attrs(rt.alloc(), &view, Side::Server).err();
+    Ok((of_client, of_server))
+}
+
 #[test]
 fn each_fault(rt: HostRuntime) -> Result<(), Fail> {
     let wrong = Some(AttrFault::WrongType);
     let repeated = Some(AttrFault::Repeated);
     let not_for_clients = Some(AttrFault::NotForClients);
-    let none = (0x42_00FF, 7);
-    let rows = [
-        ("algorithm", [(0x42_0028, 2), none, none], wrong, wrong),
-        ("length", [(0x42_002A, 5), none, none], wrong, wrong),
-        ("empty name", [(0x42_0053, 1), none, none], wrong, wrong),
-        ("text name", [(0x42_0053, 7), none, none], wrong, wrong),
-        (
-            "twice",
-            [(0x42_0028, 5), none, (0x42_0028, 5)],
-            repeated,
-            repeated,
-        ),
-        (
-            "second wrong",
-            [(0x42_0028, 5), (0x42_0028, 2), none],
-            wrong,
-            wrong,
-        ),
-        (
-            "two dates",
-            [(0x42_0001, 9), (0x42_002F, 9), none],
-            None,
-            None,
-        ),
-        ("state", [(0x42_008D, 5), none, none], not_for_clients, None),
-        (
-            "initial",
-            [(0x42_0039, 9), none, none],
-            not_for_clients,
-            None,
-        ),
-        (
-            "destroy",
-            [(0x42_0033, 9), none, none],
-            not_for_clients,
-            None,
-        ),
-        (
-            "compromise",
-            [(0x42_0020, 9), none, none],
-            not_for_clients,
-            None,
-        ),
-        (
-            "identifier",
-            [(0x42_0094, 7), none, none],
-            not_for_clients,
-            None,
-        ),
-        (
-            "no text",
-            [(0x42_0094, 5), (0x42_0094, 5), none],
-            not_for_clients,
-            None,
-        ),
-        ("wrong state", [(0x42_008D, 2), none, none], wrong, wrong),
-        (
-            "lower first",
-            [(0x42_0028, 5), (0x42_0028, 5), (0x42_008D, 5)],
-            repeated,
-            repeated,
-        ),
-        (
-            "lowest last",
-            [(0x42_008D, 5), (0x42_008D, 5), (0x42_002A, 5)],
-            wrong,
-            wrong,
-        ),
-    ];
-    for (case, children, of_client, of_server) in rows {
-        let mut items = Vec::new(rt.alloc());
-        for (number, kind) in children {
-            items.push(child(&rt, number, kind)?)?;
+    for (rows, told) in [
+        (GOOD.as_slice(), (None, None)),
+        (OF_WRONG_TYPE.as_slice(), (wrong, wrong)),
+        (TWICE.as_slice(), (repeated, repeated)),
+        (OF_SERVERS.as_slice(), (not_for_clients, None)),
+    ] {
+        for (case, children) in rows {
+            let mut items = Vec::new(rt.alloc());
+            for (number, kind) in children {
+                items.push(child(&rt, *number, *kind)?)?;
+            }
+            let item = attributes(items)?;
+            assert_eq!(rt; faults_of(&rt, &item)?, told, "{case}");
         }
-        let item = attributes(items)?;
-        let view = lend(rt.alloc(), &item)?;
-        assert_eq!(rt;
-            read_attrs(rt.alloc(), &view, Side::Client).err(),
-            of_client,
-            "{case}"
-        );
-        assert_eq!(rt;
-            read_attrs(rt.alloc(), &view, Side::Server).err(),
-            of_server,
-            "{case}"
-        );
     }
     let item = child(&rt, 0x42_0125, 7)?;
-    let view = lend(rt.alloc(), &item)?;
-    assert_eq!(rt; read_attrs(rt.alloc(), &view, Side::Server).err(), wrong);
+    assert_eq!(rt; faults_of(&rt, &item)?, (wrong, wrong));
     Ok(())
 }
 

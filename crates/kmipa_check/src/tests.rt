@@ -1,5 +1,7 @@
 //! What no clause says: that a check answers where there is memory.
 
+mod recorded;
+
 use super::*;
 use kmipa_ttlv::Input;
 use std::test::Fail;

@@ -6,6 +6,8 @@ pub mod MarkLemmas
 pub mod CallLemmas
 pub mod TranscriptLemmas
 pub mod WitnessLemmas
+pub mod EntryLemmas
+pub mod RecordsLemmas
 pub mod DeclarationLemmas
 pub mod FirstFaultLemmas
 pub mod TranscriptLawLemmas

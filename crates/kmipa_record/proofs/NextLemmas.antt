@@ -89,3 +89,7 @@ pub other_header : (is_header : Tree → Type 0) (item : Tree) (place place' : �
 other_header is_header item place place' None after t differs = tt
 other_header is_header item place place' (Some xs) None t differs = absurd t.consumed
 other_header is_header item place place' (Some xs) (Some ys) t differs = other item t.front ys t.consumed t.spelled differs refl refl
+
+-- an item that was taken, as the one that it is
+pub takes_as : (item : Tree) (known after : Option (List ℕ)) (place place' : ℕ) → (i : Tree) × Takes i known after place place' × (i ≡ item) → Takes item known after place place'
+takes_as item known after place place' t = subst (λ (i : Tree). Takes i known after place place') t.2 t.1

@@ -1,10 +1,10 @@
 -- The shapes of items.
 use Rattle.std.proofs.Common.{◌≡◌, ◌≢◌, ℕ, ◌+◌, ℤ, Bool, List, [], ◌∷◌, length, Option, None, Some, MatchOption, refl, sym, ap, ◌∙◌, arith}
 use Rattle.std.specs.Option.{option_map}
-use Rattle.kmipa_ttlv.specs.Tree.{Tree, Trees, structure, scalar, none, more, integer, boolean, text, byte_string}
+use Rattle.kmipa_ttlv.specs.Tree.{Tree, Trees, structure, scalar, none, more, integer, enumeration, boolean, text, byte_string}
 use Rattle.kmipa_ttlv.specs.ViewTree.{view_tree, view_trees}
 use Rattle.kmipa_ttlv.specs.declared.view.View.{View}
-use Rattle.kmipa_attrs.specs.Fields.{tag_of, as_structure, as_integer, as_boolean, as_text, as_bytes}
+use Rattle.kmipa_attrs.specs.Fields.{tag_of, as_structure, as_integer, as_enumeration, as_boolean, as_text, as_bytes}
 use Rattle.kmipa_attrs.proofs.FieldLemmas.{tag_of-view}
 
 -- an item with another tag
@@ -28,6 +28,11 @@ pub integer_shape : (tag : ℕ) (t : Tree) → tag_of t ≡ tag → MatchOption 
 unfolding as_integer
 integer_shape tag (scalar n (integer z)) e = ap (λ (k : ℕ). scalar k (integer z)) e
 integer_shape tag _ e = λ z h. absurd cc
+
+pub enumeration_shape : (tag : ℕ) (t : Tree) → tag_of t ≡ tag → MatchOption (as_enumeration t) ((x : ℕ) → t ≢ scalar tag (enumeration x)) (λ x. t ≡ scalar tag (enumeration x))
+unfolding as_enumeration
+enumeration_shape tag (scalar n (enumeration x)) e = ap (λ (k : ℕ). scalar k (enumeration x)) e
+enumeration_shape tag _ e = λ x h. absurd cc
 
 pub boolean_shape : (tag : ℕ) (t : Tree) → tag_of t ≡ tag → MatchOption (as_boolean t) ((b : Bool) → t ≢ scalar tag (boolean b)) (λ b. t ≡ scalar tag (boolean b))
 unfolding as_boolean

@@ -2,7 +2,6 @@
 use Rattle.std.proofs.Common.{◌≡◌, ◌≢◌, ◌<◌, ℕ, ℤ, List, [], ◌∷◌, ◌++◌, Bool, Option, None, Some, IfSome, refl, sym, ap, subst, ◌∙◌, arith, map, ◌⊎◌, inl, inr}
 use Rattle.std.specs.Prelude.{Contains}
 use Rattle.std.proofs.lemmas.List.{map-append}
-use Rattle.std.specs.Io.KnownBytes.{IsAtEnd}
 use Rattle.kmipa_ttlv.specs.Tree.{Tree}
 use Rattle.kmipa_ttlv.specs.Stream.{IsSplit}
 use Rattle.kmipa_ttlv.specs.Items.{IsReading}
@@ -21,7 +20,7 @@ use Rattle.kmipa_record.specs.declared.fault.RecordKind.{RecordKind}
 use Rattle.kmipa_record.specs.declared.fault.RecordKind.TheVariants.{Entry, OpenCall, Memory}
 use Rattle.kmipa_record.specs.declared.transcript.Mark.{Mark}
 use Rattle.kmipa_record.proofs.KindLemmas.{IfSome-map, memory_cause}
-use Rattle.kmipa_record.proofs.FileLemmas.{goes_on, ends_here, starts, Stands, tells_read, tells_item, item_told, tells_header, right_here}
+use Rattle.kmipa_record.proofs.FileLemmas.{goes_on, starts, Stands, tells_read, tells_item, item_told, tells_header, right_here}
 use Rattle.kmipa_record.proofs.MarkLemmas.{begun-append, in_order_begin, in_order_end}
 use Rattle.kmipa_record.proofs.CallLemmas.{at_progress, follow_none, follow_begin, follow_end, refused_mark, refused_cause, none_open, settled, first_at}
 use Rattle.std.proofs.lemmas.List.Elements.{Contains-append_left}

@@ -2,19 +2,18 @@
 use Rattle.std.proofs.Common.{◌≡◌, ℕ, pos, ◌<ℤ◌, List, [], ◌∷◌, ◌++◌, Bool, Option, None, Some, IfSome, ◌⊎◌, inl, inr, refl, sym, ap, subst, ◌∙◌, map}
 use Rattle.std.proofs.lemmas.List.{map-append}
 use Rattle.std.proofs.lemmas.List.Elements.{All-push, All-nil}
-use Rattle.std.specs.Io.KnownBytes.{IsAtEnd}
 use Rattle.kmipa_ttlv.specs.Items.{IsReading}
 use Rattle.kmipa_ttlv.specs.Tree.{Tree}
 use Rattle.kmipa_record.specs.Files.{Tells}
 use Rattle.kmipa_record.specs.Marks.{IsCallNumber}
 use Rattle.kmipa_record.specs.Reading.{Takes, ReadFails, HeaderFails}
-use Rattle.kmipa_record.specs.Witnesses.{TurnOf, turn_of, turn_item, witness_header, IsWitness, AreRightInWitness, WitnessItemFault, WitnessEndFault, no_turn, below_one, WitnessFault, IsWitnessUpTo}
+use Rattle.kmipa_record.specs.Witnesses.{TurnOf, turn_of, turn_item, witness_header, AreRightInWitness, WitnessItemFault, WitnessEndFault, no_turn, below_one, WitnessFault, IsWitnessUpTo}
 use Rattle.kmipa_record.specs.WitnessReading.{IsReadSoFar}
 use Rattle.kmipa_record.specs.declared.fault.RecordFault.{RecordFault}
 use Rattle.kmipa_record.specs.declared.fault.RecordKind.TheVariants.{Entry, Number, Memory}
 use Rattle.kmipa_record.specs.declared.witness.Turn.{Turn}
 use Rattle.kmipa_record.proofs.KindLemmas.{IfSome-map, memory_cause, number_cause}
-use Rattle.kmipa_record.proofs.FileLemmas.{goes_on, ends_here, starts, Stands, tells_read, tells_item, item_told, right_here, tells_header}
+use Rattle.kmipa_record.proofs.FileLemmas.{goes_on, starts, Stands, tells_read, tells_item, item_told, right_here, tells_header}
 
 abbrev items_of : List TurnOf → List Tree
 items_of turns = witness_header ∷ map turn_item turns

@@ -1,14 +1,15 @@
--- Declarations: which bytes are one, and what is the first fault of those that are none. For now the bytes of a declaration are its
--- header alone, without unique names.
-use Rattle.std.specs.Prelude.{◌≡◌, ◌≢◌, ℕ, pos, Bool, true, false, List, [], ◌∷◌, ◌⊎◌, map, All, AllPairs}
-use Rattle.kmipa_ttlv.specs.Tree.{Tree, structure, scalar, none, more, integer, boolean}
+-- Declarations: which bytes are one, and what is the first fault of those that are none.
+use Rattle.std.specs.Prelude.{◌≡◌, ◌≢◌, ℕ, pos, Bool, List, [], ◌∷◌, ◌++◌, map, All, AllPairs, Any}
+use Rattle.std.specs.List.{AllZip}
+use Rattle.kmipa_ttlv.specs.Tree.{Tree, structure, scalar, none, more, integer, enumeration, boolean}
 use Rattle.kmipa_ttlv.specs.Stream.{Begins}
 use Rattle.kmipa_msgs.specs.Messages.{RowOf, row_of}
-use Rattle.kmipa_record.specs.Entries.{EntryOf, entry_of, IsDeclarable}
+use Rattle.kmipa_msgs.specs.Numbers.{cause_number}
+use Rattle.kmipa_record.specs.Entries.{EntryOf, entry_of, SaysEntry, IsDeclarable}
 use Rattle.kmipa_record.specs.Files.{FirstFault, IsRightUpTo}
 use Rattle.kmipa_record.specs.declared.declaration.Declaration.{Declaration}
 use Rattle.kmipa_record.specs.declared.fault.RecordKind.{RecordKind}
-use Rattle.kmipa_record.specs.declared.fault.RecordKind.TheVariants.{Header, Entry}
+use Rattle.kmipa_record.specs.declared.fault.RecordKind.TheVariants.{Header, Entry, Identifier}
 
 pub record DeclarationOf : Type 0 where
   pub unique_names : Bool
@@ -24,27 +25,58 @@ pub record AreDeclared (declared : DeclarationOf) : Type 0 where
   pub each : All IsDeclarable declared.entries
   pub distinct : AllPairs (λ (a b : EntryOf). a.id ≢ b.id) declared.entries
 
+-- ---- the items
+
 abbrev pub declaration_header : Bool → Tree
 declaration_header unique = structure 0x54_0030 (more (scalar 0x54_0002 (integer (pos 1))) (more (scalar 0x54_0031 (boolean unique)) none))
 
+-- the item that is the row's record: exactly these children, in this order
+abbrev pub row_item : RowOf → Tree
+row_item r = structure 0x54_0032 (more (scalar 0x42_007E (enumeration r.reason)) (more (scalar 0x54_0033 (enumeration (cause_number r.cause))) none))
+
+-- what a record of a declaration declares
+pub data RecordOf : Type 0 where
+  row : RowOf → RecordOf
+  entry : EntryOf → RecordOf
+
+abbrev pub SaysRecord : Tree → RecordOf → Type 0
+SaysRecord item (row r) = item ≡ row_item r
+SaysRecord item (entry e) = SaysEntry item e
+
+-- the records of a declaration: its rows, and then its entries
+abbrev pub records_of : DeclarationOf → List RecordOf
+records_of declared = map row declared.rows ++ map entry declared.entries
+
+-- the items of a declaration of this: its header, and a record for each row and for each entry
+pub record SayDeclaration (header : Tree) (records : List Tree) (declared : DeclarationOf) : Type 0 where
+  pub header_is : header ≡ declaration_header declared.unique_names
+  pub said : AllZip SaysRecord records (records_of declared)
+  pub objects : AreDeclared declared
+
 -- The bytes are a declaration of this.
 pub record IsDeclaration (bytes : List ℕ) (declared : DeclarationOf) : Type 0 where
-  pub spelled : Begins (declaration_header declared.unique_names ∷ []) bytes []
-  pub shared_names : declared.unique_names ≡ false
-  pub rows : declared.rows ≡ []
-  pub entries : declared.entries ≡ []
-  pub objects : AreDeclared declared
+  pub header : Tree
+  pub records : List Tree
+  pub spelled : Begins (header ∷ records) bytes []
+  pub say : SayDeclaration header records declared
 
 -- ---- the first fault
 
--- no item is faulty at the front of a declaration: there is none, or the header
+-- no item is faulty at the front of a declaration: there is none, or they say what is declared so far
 abbrev pub AreRightInDeclaration : List Tree → Type 0
 AreRightInDeclaration [] = Unit {0}
-AreRightInDeclaration (header ∷ records) = (header ≡ declaration_header false) × (records ≡ [])
+AreRightInDeclaration (header ∷ records) = (declared : DeclarationOf) × SayDeclaration header records declared
+
+-- the first test that a record fails behind those that declare this: it is a row, or an entry that may be declared; no row stands
+-- behind an entry; no identifier is used twice
+pub data RecordItemFault (declared : DeclarationOf) (item : Tree) (kind : RecordKind) : Type 0 where
+  no_record : ((r : RowOf) → item ≢ row_item r) → ((e : EntryOf) → SaysEntry item e → ¬ (IsDeclarable e)) → kind ≡ Entry → RecordItemFault declared item kind
+  late_row : (r : RowOf) → item ≡ row_item r → declared.entries ≢ [] → kind ≡ Entry → RecordItemFault declared item kind
+  used : (e : EntryOf) → SaysEntry item e → IsDeclarable e → Any (λ (other : EntryOf). other.id ≡ e.id) declared.entries → kind ≡ Identifier → RecordItemFault declared item kind
 
 abbrev pub DeclarationItemFault : List Tree → Tree → RecordKind → Type 0
-DeclarationItemFault [] item kind = ((item ≡ declaration_header true) × (kind ≡ Entry)) ⊎ (((unique : Bool) → item ≢ declaration_header unique) × (kind ≡ Header))
-DeclarationItemFault (header ∷ records) item kind = kind ≡ Entry
+DeclarationItemFault [] item kind = ((unique : Bool) → item ≢ declaration_header unique) × (kind ≡ Header)
+DeclarationItemFault (header ∷ records) item kind = (declared : DeclarationOf) × SayDeclaration header records declared × RecordItemFault declared item kind
 
 abbrev pub DeclarationEndFault : List ℕ → List Tree → ℕ → RecordKind → Type 0
 DeclarationEndFault bytes [] offset kind = (offset ≡ 0) × (kind ≡ Header)

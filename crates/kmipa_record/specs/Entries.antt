@@ -1,7 +1,12 @@
 -- The objects that a declaration says a server held.
-use Rattle.std.specs.Prelude.{◌≡◌, ◌<◌, ◌*◌, ◌==◌, ℕ, ℤ, pos, if◌then◌else◌, List, length, All, Option, Some, None, IfSome, IsSome, option_map}
+use Rattle.std.specs.Prelude.{◌≡◌, ◌<◌, ◌*◌, ◌==◌, ℕ, ℤ, pos, Bool, if◌then◌else◌, List, [], ◌∷◌, length, All, Option, Some, None, IfSome, IsSome, IsTrue, option_map}
 use Rattle.std.specs.Global.{Vec}
+use Rattle.std.specs.List.{list_any}
 use Rattle.std.specs.String.{string_bytes}
+use Rattle.kmipa_ttlv.specs.Tree.{Tree, Trees, structure, scalar, none, more, enumeration, text, byte_string}
+use Rattle.kmipa_attrs.specs.Attributes.{SaysAttributes}
+use Rattle.kmipa_attrs.specs.Fields.{tag_of}
+use Rattle.kmipa_attrs.specs.ObjectTypes.{type_number}
 use Rattle.kmipa_attrs.specs.Sets.{Attributes, attributes_of}
 use Rattle.kmipa_attrs.specs.declared.object_type.ObjectType.{ObjectType}
 use Rattle.kmipa_attrs.specs.declared.object_type.ObjectType.TheVariants.{SymmetricKey, SecretData}
@@ -21,6 +26,37 @@ items_of v = v.items
 abbrev pub entry_of : Entry → EntryOf
 entry_of e = record { id = string_bytes e.id; kind = e.kind; attributes = attributes_of e.attrs; bytes = option_map items_of e.bytes }
 
+-- ---- its record
+
+-- the attributes that an entry may have, by their tags: Name, algorithm, length, mask and the five dates
+abbrev pub listed_tags : List ℕ
+listed_tags = 0x42_0053 ∷ 0x42_0028 ∷ 0x42_002A ∷ 0x42_002C ∷ 0x42_0039 ∷ 0x42_0001 ∷ 0x42_002F ∷ 0x42_0033 ∷ 0x42_0020 ∷ []
+
+abbrev pub is_listed : Tree → Bool
+is_listed t = list_any (λ tag. tag == tag_of t) listed_tags
+
+abbrev pub AreListed : Trees → Type 0
+AreListed none = Unit {0}
+AreListed (more t ts) = IsTrue (is_listed t) × AreListed ts
+
+abbrev pub material : Option (List ℕ) → Trees
+material None = none
+material (Some bytes) = more (scalar 0x42_0043 (byte_string bytes)) none
+
+-- a record of an entry with these attributes: exactly these children, in this order
+abbrev pub entry_item : List ℕ → ObjectType → Trees → Option (List ℕ) → Tree
+entry_item id kind attributes bytes =
+    structure 0x54_0034 (more (scalar 0x42_0094 (text id)) (more (scalar 0x42_0057 (enumeration (type_number kind))) (more (structure 0x42_0125 attributes) (material bytes))))
+
+-- The item is a record of this entry; its attributes stand in any order, and are only those that an entry may have.
+pub record SaysEntry (item : Tree) (e : EntryOf) : Type 0 where
+  pub attributes : Trees
+  pub is : item ≡ entry_item e.id e.kind attributes e.bytes
+  pub listed : AreListed attributes
+  pub said : SaysAttributes attributes e.attributes
+
+-- ---- its bytes
+
 -- the bits of a key with this algorithm and length: those of an AES key (algorithm 3) are laid down by its length
 abbrev pub algorithm_bits : Option ℕ → Option ℤ → Option ℤ
 algorithm_bits (Some algorithm) (Some bits) = if algorithm == 3 then Some bits else None
@@ -37,10 +73,13 @@ pub record AreWholeBytes (bits : ℤ) : Type 0 where
   pub some : 0 < count
   pub filled : bits ≡ pos (8 * count)
 
+abbrev pub AreBytes : List ℕ → Type 0
+AreBytes = All (λ b. b < 256)
+
 -- What may be declared of an object's bytes. Where it is destroyed: none. Else, where their bits are laid down, these are whole
 -- bytes, and declared bytes have that many.
 pub record IsDeclarable (e : EntryOf) : Type 0 where
   pub gone : IsSome e.attributes.destroy → e.bytes ≡ None
   pub whole : e.attributes.destroy ≡ None → IfSome (key_bits e.kind e.attributes) AreWholeBytes
   pub fitting : e.attributes.destroy ≡ None → IfSome e.bytes (λ bytes. IfSome (key_bits e.kind e.attributes) (λ bits. bits ≡ pos (8 * length bytes)))
-  pub small : IfSome e.bytes (λ bytes. All (λ b. b < 256) bytes)
+  pub small : IfSome e.bytes AreBytes

@@ -8,4 +8,5 @@ pub mod Witnesses
 pub mod Reading
 pub mod Calls
 pub mod TranscriptReading
+pub mod DeclarationReading
 pub mod WitnessReading

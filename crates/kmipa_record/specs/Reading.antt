@@ -53,10 +53,14 @@ ReadFails place known failed f =
 abbrev pub WholeFails : ℕ → List ℕ → RecordFault → Type 0
 WholeFails place bytes f = ByCause f.kind ⊥ (f.offset ≡ place) (TellsFlawOf place bytes f)
 
-abbrev pub NextIs : {T : Type 0} → (T → Tree) → (Tree → Type 0) → Option (List ℕ) → Option (List ℕ) → ℕ → ℕ → Next T → Type 0
-NextIs item_of is_record known after place place' End = IsAtEnd known
-NextIs item_of is_record known after place place' Other = (item : Tree) × Takes item known after place place' × ¬ (is_record item)
-NextIs item_of is_record known after place place' (Record x) = Takes (item_of x) known after place place'
+-- the same of an item that says this
+abbrev pub TakesSaid : {T : Type 0} → (Tree → T → Type 0) → Option (List ℕ) → Option (List ℕ) → ℕ → ℕ → T → Type 0
+TakesSaid says known after place place' x = (item : Tree) × Takes item known after place place' × says item x
+
+abbrev pub NextIs : {T : Type 0} → (Tree → T → Type 0) → (Tree → Type 0) → Option (List ℕ) → Option (List ℕ) → ℕ → ℕ → Next T → Type 0
+NextIs says is_record known after place place' End = IsAtEnd known
+NextIs says is_record known after place place' Other = (item : Tree) × Takes item known after place place' × ¬ (is_record item)
+NextIs says is_record known after place place' (Record x) = TakesSaid says known after place place' x
 
 -- what is wrong with the header, where this rest is left
 pub data HeaderFault (is_header : Tree → Type 0) (place : ℕ) (rest : List ℕ) (f : RecordFault) : Type 0 where

@@ -1,14 +1,16 @@
 //! Declarations: what a server held before the first call.
 
-ghost use Rattle.std.specs.Prelude.{◌≡◌, IfOk, IfErr, IfSome};
+ghost use Rattle.std.specs.Prelude.{◌≡◌, ◌<◌, ℕ, List, Bool, true, Option, IfOk, IfErr, IfSome, MatchResult};
 ghost use Rattle.kmipa_ttlv.specs.Input.{reader_of, taken_of, is_failed};
 ghost use Rattle.kmipa_record.specs.Files.{Tells};
+ghost use Rattle.kmipa_record.specs.DeclarationReading.{declared_by, AreKept, IsReadSoFar, GoesOn};
 ghost use Rattle.kmipa_record.specs.Declarations.{declaration_of, AreDeclared, IsDeclaration, DeclarationFault, IsDeclarationUpTo};
 
 use crate::entry::Entry;
 use crate::fault::{RecordFault, RecordKind};
 use crate::header::DeclarationHeader;
 use crate::record::{Next, read_header, read_next};
+use crate::records::{DeclarationRecord, Records};
 use kmipa_msgs::Row;
 use kmipa_ttlv::Input;
 use std::alloc::Global;
@@ -25,8 +27,7 @@ pub struct Declaration {
     pub entries: Vec<Entry>,
 }
 
-/// Reads a declaration of whose bytes none was read. For now it is a header alone, without unique names: rows and entries,
-/// and a header with unique names, are refused by `Entry`.
+/// Reads a declaration of whose bytes none was read.
 ///
 /// `Device` and `Memory` are told with the place of the item that was being read.
 pub fn read_declaration<R: Read>(
@@ -43,23 +44,38 @@ pub fn read_declaration<R: Read>(
 {
     let mut bytes = Vec::new(alloc);
     let header: DeclarationHeader = read_header(alloc, input, &mut bytes)?;
-    if header.unique_names {
-        return Err(RecordFault {
-            offset: 0,
-            kind: RecordKind::Entry,
-        });
-    }
+    let mut records = Records::new(alloc);
+    'records: while read_record(alloc, input, &mut bytes, &mut records)? {}
+    Ok(records.into_declaration(header.unique_names))
+}
+
+/// Reads the next record of a declaration onto those before it; `false` at the end.
+fn read_record<R: Read>(
+    alloc: Global,
+    input: &mut Input<R>,
+    bytes: &mut Vec<u8>,
+    records: &mut Records,
+) -> Result<bool, RecordFault>
+    requires { AreKept records.old }
+    ensures kept { IfOk result (λ _. AreKept records.new) }
+    ensures read { (known : Option (List ℕ)) (unique : Bool)
+        → IfSome known (λ file. IsReadSoFar file (declared_by unique records.old) (R.remaining (reader_of input.old)) (taken_of input.old))
+        → MatchResult result
+        (λ more. GoesOn known more (declared_by unique records.new) (R.remaining (reader_of input.new)) (taken_of input.new))
+        (Tells DeclarationFault IsDeclarationUpTo known (is_failed input.new)) }
+    ensures nearer { IfOk result (λ more. more ≡ true → taken_of input.old < taken_of input.new) }
+{
     let offset = input.taken();
-    let next: Next<DeclarationHeader> = read_next(alloc, input, &mut bytes)?;
+    let next: Next<DeclarationRecord> = read_next(alloc, input, bytes)?;
     match next {
-        Next::End => Ok(Declaration {
-            unique_names: false,
-            rows: Vec::new(alloc),
-            entries: Vec::new(alloc),
-        }),
-        Next::Record(_) | Next::Other => Err(RecordFault {
+        Next::End => Ok(false),
+        Next::Other => Err(RecordFault {
             offset,
             kind: RecordKind::Entry,
         }),
+        Next::Record(next_record) => match records.take(next_record) {
+            Ok(()) => Ok(true),
+            Err(kind) => Err(RecordFault { offset, kind }),
+        },
     }
 }

@@ -1,6 +1,39 @@
 //! Entries: the objects that a server held before the first call.
 
-use kmipa_attrs::{AttrSet, ObjectType};
+ghost use Rattle.std.specs.Prelude.{◌≡◌, ◌≢◌, ◌↔◌, ◌*◌, ℕ, pos, List, length, IsTrue, Option, IfSome, option_map, MatchOption, IfOk};
+ghost use Rattle.kmipa_ttlv.specs.Tree.{Trees};
+ghost use Rattle.kmipa_ttlv.specs.ViewTree.{view_tree, view_trees};
+ghost use Rattle.kmipa_attrs.specs.Attributes.{SaysAttributes};
+ghost use Rattle.kmipa_attrs.specs.Sets.{Attributes, attributes_of};
+ghost use Rattle.kmipa_attrs.specs.declared.object_type.ObjectType.{ObjectType};
+ghost use Rattle.kmipa_msgs.specs.Messages.{lent};
+ghost use Rattle.kmipa_record.specs.DeclarationReading.{are_whole_bytes};
+ghost use Rattle.kmipa_record.specs.Entries.{EntryOf, entry_of, items_of, entry_item, material, AreBytes, SaysEntry, AreListed, key_bits, IsDeclarable};
+
+use crate::shape::{bytes_of, children_of, enumeration_of, text_of};
+use kmipa_attrs::{AttrFault, AttrSet, ObjectType, Side, read_children};
+use kmipa_ttlv::View;
+use std::alloc::{AllocError, Global};
+
+const ENTRY: u32 = 0x54_0034;
+
+const UNIQUE_IDENTIFIER: u32 = 0x42_0094;
+
+const OBJECT_TYPE: u32 = 0x42_0057;
+
+const ATTRIBUTES: u32 = 0x42_0125;
+
+const KEY_MATERIAL: u32 = 0x42_0043;
+
+/// The attributes that an entry may have: Name, Cryptographic Algorithm, Cryptographic Length, Cryptographic Usage Mask, and Initial,
+/// Activation, Deactivation, Destroy and Compromise Date.
+const LISTED: [u32; 9] = [
+    0x42_0053, 0x42_0028, 0x42_002A, 0x42_002C, 0x42_0039, 0x42_0001, 0x42_002F, 0x42_0033,
+    0x42_0020,
+];
+
+/// Cryptographic Algorithm AES (KMIP 2.1, section 11).
+const AES: u32 = 3;
 
 /// An object that the server held.
 #[derive(Debug, Drop)]
@@ -12,4 +45,157 @@ pub struct Entry {
     pub attrs: AttrSet,
     /// The bytes of its Key Material, where they are declared.
     pub bytes: Option<Vec<u8>>,
+}
+
+/// The entry that an item says, where it may be declared.
+pub fn entry_in(alloc: Global, item: &View) -> Result<Option<Entry>, AllocError>
+    ensures { IfOk result (λ o. MatchOption o ((e : EntryOf) → SaysEntry (view_tree item.now) e → ¬ (IsDeclarable e))
+        (λ entry. SaysEntry (view_tree item.now) (entry_of entry) × IsDeclarable (entry_of entry))) }
+{
+    let Some(parts) = parts_in(item) else {
+        return Ok(None);
+    };
+    let Some(attrs) = listed_in(alloc, parts.attributes)? else {
+        return Ok(None);
+    };
+    let entry = Entry {
+        id: String::from_str(alloc, parts.id)?,
+        kind: parts.kind,
+        attrs,
+        bytes: owned(alloc, parts.bytes)?,
+    };
+    if is_declarable(&entry) {
+        Ok(Some(entry))
+    } else {
+        Ok(None)
+    }
+}
+
+/// What stands in the record of an entry.
+#[derive(Clone, Copy)]
+struct Parts<'a, 'b> {
+    id: &'a str,
+    kind: ObjectType,
+    attributes: &'b [View<'a>],
+    bytes: Option<&'a [u8]>,
+}
+
+/// The parts of an entry's record.
+fn parts_in<'a, 'b>(item: &'b View<'a>) -> Option<Parts<'a, 'b>>
+    ensures { MatchOption result
+        ((id : List ℕ) (kind : ObjectType) (attributes : Trees) (bytes : Option (List ℕ)) → view_tree item.now ≢ entry_item id kind attributes bytes)
+        (λ p. view_tree item.now ≡ entry_item p.id.now p.kind (view_trees p.attributes.now) (option_map lent p.bytes)) }
+{
+    let children = children_of(item, ENTRY)?;
+    if children.len() < 3 {
+        return None;
+    }
+    let id = text_of(&children[0], UNIQUE_IDENTIFIER)?;
+    let kind = ObjectType::of(enumeration_of(&children[1], OBJECT_TYPE)?)?;
+    let attributes = children_of(&children[2], ATTRIBUTES)?;
+    let bytes = material_in(&children[3..])?;
+    Some(Parts {
+        id,
+        kind,
+        attributes,
+        bytes,
+    })
+}
+
+/// The bytes that the last children of an entry's record declare, if any.
+fn material_in<'a, 'b>(children: &'b [View<'a>]) -> Option<Option<&'a [u8]>>
+    ensures { MatchOption result ((bytes : Option (List ℕ)) → view_trees children.now ≢ material bytes)
+        (λ o. view_trees children.now ≡ material (option_map lent o)) }
+{
+    match children {
+        [] => Some(None),
+        [child] => Some(Some(bytes_of(child, KEY_MATERIAL)?)),
+        _ => None,
+    }
+}
+
+/// The set that the attributes of an entry say, where each is one that an entry may have.
+fn listed_in(alloc: Global, children: &[View]) -> Result<Option<AttrSet>, AllocError>
+    ensures { IfOk result (λ o. MatchOption o ((a : Attributes) → AreListed (view_trees children.now) → ¬ (SaysAttributes (view_trees children.now) a))
+        (λ set. AreListed (view_trees children.now) × SaysAttributes (view_trees children.now) (attributes_of set))) }
+{
+    if !are_listed(children) {
+        return Ok(None);
+    }
+    match read_children(alloc, children, Side::Server) {
+        Ok(set) => Ok(Some(set)),
+        Err(fault) => match fault {
+            AttrFault::Memory => Err(AllocError),
+            AttrFault::WrongType | AttrFault::Repeated | AttrFault::NotForClients => Ok(None),
+        },
+    }
+}
+
+fn are_listed(children: &[View]) -> bool
+    ensures { IsTrue result ↔ AreListed (view_trees children.now) }
+{
+    for child in children {
+        if !LISTED.contains(&child.tag.number) {
+            return false;
+        }
+    }
+    true
+}
+
+fn owned(alloc: Global, bytes: Option<&[u8]>) -> Result<Option<Vec<u8>>, AllocError>
+    ensures same { IfOk result (λ o. option_map items_of o ≡ option_map lent bytes.entry) }
+    ensures small { IfOk result (λ o. IfSome (option_map items_of o) AreBytes) }
+{
+    match bytes {
+        Some(bytes) => {
+            are_bytes(bytes);
+            Ok(Some(Vec::from_slice(alloc, bytes)?))
+        }
+        None => Ok(None),
+    }
+}
+
+fn are_bytes(bytes: &[u8])
+    ensures { AreBytes bytes.now }
+{}
+
+/// Whether the bytes of an entry may be declared so.
+fn is_declarable(entry: &Entry) -> bool
+    requires { IfSome (option_map items_of entry.now.bytes) AreBytes }
+    ensures { IsTrue result ↔ IsDeclarable (entry_of entry.now) }
+{
+    if entry.attrs.destroy.is_some() {
+        return entry.bytes.is_none();
+    }
+    match key_bits(entry.kind, &entry.attrs) {
+        Some(bits) => are_whole_bytes(bits) && has_bits(&entry.bytes, bits),
+        None => true,
+    }
+}
+
+/// The bits that the bytes of such an object have, where that is laid down.
+fn key_bits(kind: ObjectType, attrs: &AttrSet) -> Option<i32>
+    ensures { result ≡ key_bits kind (attributes_of attrs.now) }
+{
+    match (kind, attrs.algorithm, attrs.length) {
+        (ObjectType::SymmetricKey, Some(AES), Some(bits)) => Some(bits),
+        _ => None,
+    }
+}
+
+/// Whether bits are those of one byte or of more.
+fn are_whole_bytes(bits: i32) -> bool
+    ensures { result ≡ are_whole_bytes bits }
+{
+    bits > 0 && bits % 8 == 0
+}
+
+/// Whether the bytes, where they are there, have this many bits.
+fn has_bits(bytes: &Option<Vec<u8>>, bits: i32) -> bool
+    ensures { IsTrue result ↔ IfSome (option_map items_of bytes.now) (λ items. bits ≡ pos (8 * length items)) }
+{
+    match bytes {
+        Some(bytes) => bits >= 0 && bits as u128 == 8 * bytes.len() as u128,
+        None => true,
+    }
 }

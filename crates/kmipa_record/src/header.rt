@@ -25,7 +25,7 @@ const WITNESS: u32 = 0x54_0040;
 pub struct TranscriptHeader;
 
 impl Record for TranscriptHeader {
-    ghost item_of = { λ _. transcript_header };
+    ghost says = { λ item _. item ≡ transcript_header };
 
     ghost is_record = { λ item. item ≡ transcript_header };
 
@@ -51,7 +51,7 @@ pub struct DeclarationHeader {
 }
 
 impl Record for DeclarationHeader {
-    ghost item_of = { λ h. declaration_header h.unique_names };
+    ghost says = { λ item h. item ≡ declaration_header h.unique_names };
 
     ghost is_record = { λ item. (unique : Bool) × (item ≡ declaration_header unique) };
 
@@ -77,7 +77,7 @@ impl Record for DeclarationHeader {
 pub struct WitnessHeader;
 
 impl Record for WitnessHeader {
-    ghost item_of = { λ _. witness_header };
+    ghost says = { λ item _. item ≡ witness_header };
 
     ghost is_record = { λ item. item ≡ witness_header };
 

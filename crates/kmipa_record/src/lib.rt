@@ -11,6 +11,8 @@ mod fault;
 mod header;
 mod laws;
 mod record;
+mod records;
+mod row;
 mod shape;
 mod transcript;
 mod witness;
@@ -25,5 +27,7 @@ pub use laws::{
 pub use transcript::{Begin, End, Mark, Transcript, read_transcript};
 pub use witness::{Turn, Witness, read_witness};
 
+#[cfg(test)]
+mod declaration_tests;
 #[cfg(test)]
 mod tests;

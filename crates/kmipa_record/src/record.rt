@@ -7,7 +7,7 @@ ghost use Rattle.kmipa_ttlv.specs.Reading.{IsWhole};
 ghost use Rattle.kmipa_ttlv.specs.Spelling.{Spells};
 ghost use Rattle.kmipa_ttlv.specs.Tree.{Tree};
 ghost use Rattle.kmipa_ttlv.specs.ViewTree.{view_tree};
-ghost use Rattle.kmipa_record.specs.Reading.{record_kind, ReadFails, WholeFails, HeaderFails, NextIs, Takes};
+ghost use Rattle.kmipa_record.specs.Reading.{record_kind, ReadFails, WholeFails, HeaderFails, NextIs, TakesSaid};
 
 use crate::fault::{RecordFault, RecordKind};
 use kmipa_ttlv::{FaultKind, Input, TtlvFault, View, decode_view, read_bytes};
@@ -16,13 +16,13 @@ use std::io::Read;
 
 /// A header or a record of a file.
 pub trait Record: Sized {
-    ghost item_of: { Self → Tree };
+    ghost says: { Tree → Self → Type 0 };
 
     ghost is_record: { Tree → Type 0 };
 
     /// What the item says, where it is such a header or record.
     fn of(alloc: Global, item: &View) -> Result<Option<Self>, AllocError>
-        ensures { IfOk result (λ o. MatchOption o (¬ (is_record (view_tree item.now))) (λ x. view_tree item.now ≡ item_of x)) };
+        ensures { IfOk result (λ o. MatchOption o (¬ (is_record (view_tree item.now))) (λ x. says (view_tree item.now) x)) };
 }
 
 /// What comes next in a file.
@@ -42,7 +42,7 @@ pub fn read_header<R: Read, H: Record + Drop>(
     bytes: &mut Vec<u8>,
 ) -> Result<H, RecordFault>
     ensures { MatchResult result
-        (λ h. Takes (H.item_of h) (R.remaining (reader_of input.old)) (R.remaining (reader_of input.new)) (taken_of input.old) (taken_of input.new))
+        (TakesSaid H.says (R.remaining (reader_of input.old)) (R.remaining (reader_of input.new)) (taken_of input.old) (taken_of input.new))
         (HeaderFails H.is_record (taken_of input.old) (R.remaining (reader_of input.old)) (is_failed input.new)) }
 {
     let offset = input.taken();
@@ -63,7 +63,7 @@ pub fn read_next<R: Read, T: Record + Drop>(
     bytes: &mut Vec<u8>,
 ) -> Result<Next<T>, RecordFault>
     ensures { MatchResult result
-        (NextIs T.item_of T.is_record (R.remaining (reader_of input.old)) (R.remaining (reader_of input.new)) (taken_of input.old) (taken_of input.new))
+        (NextIs T.says T.is_record (R.remaining (reader_of input.old)) (R.remaining (reader_of input.new)) (taken_of input.old) (taken_of input.new))
         (ReadFails (taken_of input.old) (R.remaining (reader_of input.old)) (is_failed input.new)) }
 {
     let offset = input.taken();

@@ -1,10 +1,12 @@
 //! Items of an exact shape.
 
 ghost use Rattle.std.specs.Prelude.{◌≡◌, ◌≢◌, ℤ, ℕ, Bool, List, MatchOption};
-ghost use Rattle.kmipa_ttlv.specs.Tree.{Trees, structure, scalar, integer, boolean, text, byte_string};
+ghost use Rattle.kmipa_ttlv.specs.Tree.{Trees, structure, scalar, integer, enumeration, boolean, text, byte_string};
 ghost use Rattle.kmipa_ttlv.specs.ViewTree.{view_tree, view_trees};
 
-use kmipa_attrs::fields::{as_boolean, as_bytes, as_integer, as_structure, as_text};
+use kmipa_attrs::fields::{
+    as_boolean, as_bytes, as_enumeration, as_integer, as_structure, as_text,
+};
 use kmipa_ttlv::View;
 
 /// The children of a Structure with this tag.
@@ -27,6 +29,17 @@ pub fn integer_of(item: &View, tag: u32) -> Option<i32>
         return None;
     }
     as_integer(item)
+}
+
+/// The number of an Enumeration with this tag.
+pub fn enumeration_of(item: &View, tag: u32) -> Option<u32>
+    ensures { MatchOption result ((number : ℕ) → view_tree item.now ≢ scalar tag (enumeration number))
+        (λ number. view_tree item.now ≡ scalar tag (enumeration number)) }
+{
+    if item.tag.number != tag {
+        return None;
+    }
+    as_enumeration(item)
 }
 
 /// The truth of a Boolean with this tag.

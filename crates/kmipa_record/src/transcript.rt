@@ -59,7 +59,7 @@ pub struct End {
 }
 
 impl Record for Mark {
-    ghost item_of = { λ mark. mark_item (mark_of mark) };
+    ghost says = { λ item mark. item ≡ mark_item (mark_of mark) };
 
     ghost is_record = { λ item. (mark : MarkOf) × (item ≡ mark_item mark) };
 

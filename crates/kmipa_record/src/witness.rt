@@ -33,7 +33,7 @@ pub struct Turn {
 }
 
 impl Record for Turn {
-    ghost item_of = { λ turn. turn_item (turn_of turn) };
+    ghost says = { λ item turn. item ≡ turn_item (turn_of turn) };
 
     ghost is_record = { λ item. (turn : TurnOf) × (item ≡ turn_item turn) };
 

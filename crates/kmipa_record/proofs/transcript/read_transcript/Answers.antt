@@ -5,6 +5,8 @@ use Rattle.kmipa_record.specs.Calls.{first_place, open_place}
 use Rattle.kmipa_record.specs.Marks.{mark_of}
 use Rattle.kmipa_record.specs.TranscriptReading.{IsReadToEnd, GoesOn}
 use Rattle.kmipa_record.specs.declared.transcript.Mark.{Mark}
+use Rattle.kmipa_record.specs.Transcripts.{transcript_header}
+use Rattle.kmipa_record.proofs.NextLemmas.{takes_as}
 use Rattle.kmipa_record.proofs.TranscriptLemmas.{header_fails, header_read, all_closed, first_open_told}
 use Rattle.kmipa_record.proofs.transcript.read_transcript.Goals as goal
 
@@ -16,7 +18,7 @@ returns-in_err-read_header-clause-fault g c =
 pub marks-init : goal.marks-init
 marks-init g c =
     header_read (g.R.Read.remaining (reader_of c.args.input.now)) (g.R.Read.remaining (reader_of c.read_header.new.input)) (taken_of c.args.input.now) (taken_of c.read_header.new.input)
-    c.new-calls.result c.new-marks.result.items c.requires c.new-marks.ensures.items c.in_ok-read_header.ensures c.new-calls.ensures
+    c.new-calls.result c.new-marks.result.items c.requires c.new-marks.ensures.items (takes_as transcript_header _ _ _ _ c.in_ok-read_header.ensures) c.new-calls.ensures
 
 pub returns-in-Some-clause-fault : goal.returns-in-Some-clause-fault
 returns-in-Some-clause-fault g c =

@@ -2,9 +2,10 @@ use Rattle.std.proofs.Common.{sym, subst, ◌∙◌, ℕ, map}
 use Rattle.std.proofs.lemmas.Result.{err_from_is_err_and}
 use Rattle.kmipa_ttlv.specs.Input.{reader_of, taken_of, is_failed}
 use Rattle.kmipa_record.specs.Files.{Tells}
-use Rattle.kmipa_record.specs.Witnesses.{turn_of}
+use Rattle.kmipa_record.specs.Witnesses.{turn_of, turn_item}
 use Rattle.kmipa_record.specs.Witnesses.{WitnessFault, IsWitnessUpTo}
 use Rattle.kmipa_record.specs.declared.fault.RecordKind.TheVariants.{Entry}
+use Rattle.kmipa_record.proofs.NextLemmas.{takes_as}
 use Rattle.kmipa_record.proofs.WitnessLemmas.{read_fails, no_turn_told, refused_told, turn_taken}
 use Rattle.kmipa_record.proofs.witness.read_turn.Goals as goal
 
@@ -24,14 +25,14 @@ returns-in-Other-clause-read g c = λ known s.
 pub returns-in_err-keep_turn-in-Record-clause-read : goal.returns-in_err-keep_turn-in-Record-clause-read
 returns-in_err-keep_turn-in-Record-clause-read g c = λ known s.
     let p = err_from_is_err_and c.from_residual-in_err-keep_turn-in-Record.result c.from_residual-in_err-keep_turn-in-Record.ensures.1 in
-    let t = rw c.in-Record.is at c.in_ok-next.ensures in
+    let t = takes_as (turn_item (turn_of c.in-Record.turn)) _ _ _ _ (rw c.in-Record.is at c.in_ok-next.ensures) in
     let e = c.in_err-keep_turn-in-Record.ensures in
     rw (p.1, p.2) (refused_told known (map turn_of c.args.turns.now.items) (turn_of c.in-Record.turn) (g.R.Read.remaining (reader_of c.args.input.now)) (g.R.Read.remaining (reader_of c.read_next.new.input))
     (taken_of c.args.input.now) (taken_of c.read_next.new.input) (is_failed c.read_next.new.input) c.in_err-keep_turn-in-Record.field-0.0 s t (e.0 ∙ c.taken-offset.ensures) e.1)
 
 pub returns-in_ok-keep_turn-in-Record-clause-read : goal.returns-in_ok-keep_turn-in-Record-clause-read
 returns-in_ok-keep_turn-in-Record-clause-read g c = λ known s.
-    let t = rw c.in-Record.is at c.in_ok-next.ensures in
+    let t = takes_as (turn_item (turn_of c.in-Record.turn)) _ _ _ _ (rw c.in-Record.is at c.in_ok-next.ensures) in
     let e = c.in_ok-keep_turn-in-Record.ensures in
     turn_taken known c.args.turns.now.items c.keep_turn.new.turns.items c.in-Record.turn (g.R.Read.remaining (reader_of c.args.input.now)) (g.R.Read.remaining (reader_of c.read_next.new.input))
     (taken_of c.args.input.now) (taken_of c.read_next.new.input) e.1 t e.0 s

@@ -1,5 +1,7 @@
 use Rattle.std.proofs.lemmas.Result.{err_from_is_err_and}
 use Rattle.kmipa_ttlv.specs.Input.{reader_of, taken_of, is_failed}
+use Rattle.kmipa_record.specs.Witnesses.{witness_header}
+use Rattle.kmipa_record.proofs.NextLemmas.{takes_as}
 use Rattle.kmipa_record.proofs.WitnessLemmas.{header_fails, header_read}
 use Rattle.kmipa_record.proofs.witness.read_witness.Goals as goal
 
@@ -11,4 +13,4 @@ returns-in_err-read_header-clause-fault g c =
 pub turns-init : goal.turns-init
 turns-init g c =
     header_read (g.R.Read.remaining (reader_of c.args.input.now)) (g.R.Read.remaining (reader_of c.read_header.new.input)) (taken_of c.args.input.now) (taken_of c.read_header.new.input)
-    c.new-turns.result.items c.requires c.new-turns.ensures.items c.in_ok-read_header.ensures
+    c.new-turns.result.items c.requires c.new-turns.ensures.items (takes_as witness_header _ _ _ _ c.in_ok-read_header.ensures)

@@ -1,0 +1,15 @@
+use Rattle.std.proofs.Common.{Some, None, sym, refl, pos}
+use Rattle.kmipa_attrs.specs.declared.object_type.ObjectType.TheVariants.{SymmetricKey}
+use Rattle.kmipa_object.specs.declared.life.Life.{Life}
+use Rattle.kmipa_object.specs.declared.life.Material.TheVariants.{Secret}
+use Rattle.kmipa_object.specs.declared.object.Object.{Object}
+use Rattle.kmipa_store.specs.Ledger.{held}
+use Rattle.kmipa_ops.proofs.AddLemmas.{declared_sound}
+use Rattle.kmipa_batch.proofs.tests.declare.Goals as goal
+
+pub returns : goal.returns
+returns g c =
+    let life : Life = record { initial = None; activation = None; deactivation = None; destroy = None; compromise = None; material = Secret c.in_ok-secret.secret } in
+    let o : Object = record { id = c.in_ok-id.id; kind = SymmetricKey; given = record c.new.result { algorithm = Some 3; length = Some (pos 128) }; life = life } in
+    declared_sound (g.L.Ledger.state c.args.ledger.now) (g.L.Ledger.state c.new_secret.new.self) (g.L.Ledger.state c.add.new.self) c.of-rule.result c.in_ok-secret.secret (held o) c.requires
+    c.in_ok-secret.ensures.0 c.in_ok-secret.ensures.1 c.in_ok-secret.ensures.2 c.in_ok-add.ensures.0 c.in_ok-add.ensures.2 refl (sym c.of-rule.ensures) refl

@@ -1,0 +1,75 @@
+-- How a declaration is read record by record. Not promised.
+use Rattle.std.specs.Prelude.{◌≡◌, ◌≢◌, ◌⊎◌, ◌%◌, ◌==◌, ◌&&◌, nat_lt, ℕ, ℤ, pos, negsuc, Bool, true, false, List, [], ◌∷◌, ◌++◌, map, All, AllPairs, Any, Option, IfSome}
+use Rattle.std.specs.HashSet.{contains_text}
+use Rattle.std.specs.List.{AllZip, list_any}
+use Rattle.std.specs.Str.{bytes_eq}
+use Rattle.kmipa_ttlv.specs.Items.{IsReading}
+use Rattle.kmipa_ttlv.specs.Tree.{Tree}
+use Rattle.kmipa_msgs.specs.Messages.{RowOf, row_of}
+use Rattle.kmipa_record.specs.Declarations.{DeclarationOf, declaration_header, RecordOf, row, entry, SaysRecord, records_of, IsDeclaration}
+use Rattle.kmipa_record.specs.Entries.{EntryOf, entry_of, IsDeclarable}
+use Rattle.kmipa_record.specs.declared.fault.RecordKind.{RecordKind}
+use Rattle.kmipa_record.specs.declared.fault.RecordKind.TheVariants as kinds
+use Rattle.kmipa_record.specs.declared.records.DeclarationRecord.{DeclarationRecord}
+use Rattle.kmipa_record.specs.declared.records.DeclarationRecord.TheVariants.{Row, Entry}
+use Rattle.kmipa_record.specs.declared.records.Records.{Records}
+
+-- a positive multiple of 8
+abbrev pub are_whole_bytes : ℤ → Bool
+are_whole_bytes (pos bits) = nat_lt 0 bits && (bits % 8 == 0)
+are_whole_bytes (negsuc n) = false
+
+-- the record that a value of the program is
+abbrev pub record_of : DeclarationRecord → RecordOf
+record_of (Row r) = row (row_of r)
+record_of (Entry e) = entry (entry_of e)
+
+-- a row, or an entry that may be declared
+abbrev pub IsFit : RecordOf → Type 0
+IsFit (row r) = Unit {0}
+IsFit (entry e) = IsDeclarable e
+
+abbrev pub SaysFit : Tree → RecordOf → Type 0
+SaysFit item r = SaysRecord item r × IsFit r
+
+abbrev pub IsRecord : Tree → Type 0
+IsRecord item = (r : RecordOf) × SaysFit item r
+
+-- ---- the records so far
+
+abbrev pub rows_in : Records → List RowOf
+rows_in records = map row_of records.rows.items
+
+abbrev pub entries_in : Records → List EntryOf
+entries_in records = map entry_of records.entries.items
+
+abbrev pub declared_by : Bool → Records → DeclarationOf
+declared_by unique records = record { unique_names = unique; rows = rows_in records; entries = entries_in records }
+
+-- the entries may be declared, no identifier stands twice, and the identifiers are known
+pub record AreKept (records : Records) : Type 0 where
+  pub each : All IsDeclarable (entries_in records)
+  pub distinct : AllPairs (λ (a b : EntryOf). a.id ≢ b.id) (entries_in records)
+  pub known : (id : List ℕ) → contains_text records.identifiers id ≡ list_any (λ (e : EntryOf). bytes_eq id e.id) (entries_in records)
+
+-- a record is put behind the others
+abbrev pub Puts : Records → Records → RecordOf → Type 0
+Puts old new (row r) = (entries_in old ≡ []) × (rows_in new ≡ rows_in old ++ r ∷ []) × (entries_in new ≡ entries_in old)
+Puts old new (entry e) = (rows_in new ≡ rows_in old) × (entries_in new ≡ entries_in old ++ e ∷ [])
+
+abbrev pub Refuses : Records → RecordOf → RecordKind → Type 0
+Refuses old (row r) kind = (kind ≡ kinds.Memory) ⊎ ((kind ≡ kinds.Entry) × (entries_in old ≢ []))
+Refuses old (entry e) kind = (kind ≡ kinds.Memory) ⊎ ((kind ≡ kinds.Identifier) × Any (λ (other : EntryOf). other.id ≡ e.id) (entries_in old))
+
+-- ---- the file so far
+
+-- the header and these records were read of the file, and this is left at this place
+pub record IsReadSoFar (file : List ℕ) (declared : DeclarationOf) (left : Option (List ℕ)) (place : ℕ) : Type 0 where
+  pub items : List Tree
+  pub reading : IsReading file (declaration_header declared.unique_names ∷ items) left place
+  pub said : AllZip SaysRecord items (records_of declared)
+
+-- after a step: there may be more, or the file has ended
+abbrev pub GoesOn : Option (List ℕ) → Bool → DeclarationOf → Option (List ℕ) → ℕ → Type 0
+GoesOn known true declared left place = IfSome known (λ file. IsReadSoFar file declared left place)
+GoesOn known false declared left place = IfSome known (λ file. IsDeclaration file declared)

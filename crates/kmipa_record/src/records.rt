@@ -1,0 +1,118 @@
+//! The records of a declaration, as far as it was read.
+
+ghost use Rattle.std.specs.Prelude.{◌≡◌, [], Bool, IfOk, MatchResult};
+ghost use Rattle.kmipa_record.specs.DeclarationReading.{record_of, IsFit, SaysFit, IsRecord, declared_by, AreKept, Puts, Refuses};
+ghost use Rattle.kmipa_record.specs.Declarations.{declaration_of};
+
+use crate::declaration::Declaration;
+use crate::entry::{Entry, entry_in};
+use crate::fault::RecordKind;
+use crate::record::Record;
+use crate::row::row_in;
+use kmipa_msgs::Row;
+use kmipa_ttlv::View;
+use std::alloc::{AllocError, Global};
+use std::collections::HashSet;
+
+/// A record of a declaration.
+#[derive(Drop)]
+pub enum DeclarationRecord {
+    Row(Row),
+    Entry(Entry),
+}
+
+impl Record for DeclarationRecord {
+    ghost says = { λ item r. SaysFit item (record_of r) };
+
+    ghost is_record = { IsRecord };
+
+    fn of(alloc: Global, item: &View) -> Result<Option<DeclarationRecord>, AllocError> {
+        if let Some(row) = row_in(item) {
+            return Ok(Some(DeclarationRecord::Row(row)));
+        }
+        match entry_in(alloc, item)? {
+            Some(entry) => Ok(Some(DeclarationRecord::Entry(entry))),
+            None => Ok(None),
+        }
+    }
+}
+
+/// Rows and entries, and the identifiers of these.
+#[derive(Drop)]
+pub struct Records {
+    rows: Vec<Row>,
+    entries: Vec<Entry>,
+    identifiers: HashSet<String>,
+}
+
+impl Records {
+    /// No records.
+    pub fn new(alloc: Global) -> Records
+        ensures none { (unique : Bool) → declared_by unique result ≡ record { unique_names = unique; rows = []; entries = [] } }
+        ensures kept { AreKept result }
+    {
+        Records {
+            rows: Vec::new(alloc),
+            entries: Vec::new(alloc),
+            identifiers: HashSet::new(alloc),
+        }
+    }
+
+    /// Puts a record behind the others, or says what is wrong with it.
+    pub fn take(&mut self, given: DeclarationRecord) -> Result<(), RecordKind>
+        requires kept { AreKept self.old }
+        requires fit { IsFit (record_of given) }
+        ensures put { MatchResult result (λ _. Puts self.old self.new (record_of given)) (Refuses self.old (record_of given)) }
+        ensures kept { IfOk result (λ _. AreKept self.new) }
+    {
+        match given {
+            DeclarationRecord::Row(row) => self.take_row(row),
+            DeclarationRecord::Entry(entry) => self.take_entry(entry),
+        }
+    }
+
+    fn take_row(&mut self, row: Row) -> Result<(), RecordKind>
+        requires { AreKept self.old }
+        ensures put { MatchResult result (λ _. Puts self.old self.new (record_of (DeclarationRecord.Row row))) (Refuses self.old (record_of (DeclarationRecord.Row row))) }
+        ensures kept { IfOk result (λ _. AreKept self.new) }
+    {
+        if !self.entries.is_empty() {
+            return Err(RecordKind::Entry);
+        }
+        match self.rows.push(row) {
+            Ok(()) => Ok(()),
+            Err(_) => Err(RecordKind::Memory),
+        }
+    }
+
+    fn take_entry(&mut self, entry: Entry) -> Result<(), RecordKind>
+        requires kept { AreKept self.old }
+        requires fit { IsFit (record_of (DeclarationRecord.Entry entry)) }
+        ensures put { MatchResult result (λ _. Puts self.old self.new (record_of (DeclarationRecord.Entry entry))) (Refuses self.old (record_of (DeclarationRecord.Entry entry))) }
+        ensures kept { IfOk result (λ _. AreKept self.new) }
+    {
+        let Ok(id) = entry.id.clone() else {
+            return Err(RecordKind::Memory);
+        };
+        match self.identifiers.insert(id) {
+            Ok(true) => {}
+            Ok(false) => return Err(RecordKind::Identifier),
+            Err(_) => return Err(RecordKind::Memory),
+        }
+        match self.entries.push(entry) {
+            Ok(()) => Ok(()),
+            Err(_) => Err(RecordKind::Memory),
+        }
+    }
+
+    /// The declaration of these records.
+    pub fn into_declaration(self, unique_names: bool) -> Declaration
+        ensures { declaration_of result ≡ declared_by unique_names self }
+    {
+        Declaration {
+            unique_names,
+            rows: self.rows,
+            entries: self.entries,
+        }
+    }
+}

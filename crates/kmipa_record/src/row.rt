@@ -1,0 +1,29 @@
+//! Rows: the causes of refusals that a server declares.
+
+ghost use Rattle.std.specs.Prelude.{◌≡◌, ◌≢◌, MatchOption};
+ghost use Rattle.kmipa_ttlv.specs.ViewTree.{view_tree};
+ghost use Rattle.kmipa_msgs.specs.Messages.{RowOf, row_of};
+ghost use Rattle.kmipa_record.specs.Declarations.{row_item};
+
+use crate::shape::{children_of, enumeration_of};
+use kmipa_msgs::{Cause, Row};
+use kmipa_ttlv::View;
+
+const ROW: u32 = 0x54_0032;
+
+const RESULT_REASON: u32 = 0x42_007E;
+
+const CAUSE: u32 = 0x54_0033;
+
+/// The row that an item says.
+pub fn row_in(item: &View) -> Option<Row>
+    ensures { MatchOption result ((r : RowOf) → view_tree item.now ≢ row_item r) (λ row. view_tree item.now ≡ row_item (row_of row)) }
+{
+    let children = children_of(item, ROW)?;
+    if children.len() != 2 {
+        return None;
+    }
+    let reason = enumeration_of(&children[0], RESULT_REASON)?;
+    let cause = Cause::of(enumeration_of(&children[1], CAUSE)?)?;
+    Some(Row { reason, cause })
+}
