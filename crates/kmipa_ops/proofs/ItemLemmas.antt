@@ -1,5 +1,5 @@
 -- One item of a batch, whatever its operation: where nothing speaks against it the ledger goes on, and what speaks against it allows no choice.
-use Rattle.std.proofs.Common.{◌≡◌, ◌||◌, ◌==◌, ◌⊎◌, ℕ, zero, suc, ℤ, Bool, true, false, not, List, [], ◌∷◌, ◌++◌, slice_get, bytes_eq, option_map, Option, Some, None, refl, ap, sym, ◌∙◌, subst, inl, inr}
+use Rattle.std.proofs.Common.{◌≡◌, ◌||◌, ◌==◌, ◌⊎◌, IfSome, IsUtf8, ℕ, zero, suc, ℤ, Bool, true, false, not, List, [], ◌∷◌, ◌++◌, slice_get, bytes_eq, option_map, Option, Some, None, refl, ap, sym, ◌∙◌, subst, inl, inr}
 use Rattle.std.proofs.lemmas.Bool.{or_parts}
 use Rattle.std.proofs.lemmas.Bool.Decides.{Decides-eqb}
 use Rattle.std.proofs.lemmas.Slice.Eq.{bytes_eq-Decides}
@@ -16,13 +16,14 @@ use Rattle.kmipa_msgs.specs.declared.key_block.KeyFormat.TheVariants.{Raw}
 use Rattle.kmipa_msgs.specs.declared.response.Status.{Status}
 use Rattle.kmipa_msgs.specs.declared.response.Status.TheVariants.{Success, Failed, Undone}
 use Rattle.kmipa_msgs.specs.Operations.{operation_number}
-use Rattle.kmipa_msgs.specs.Messages.{RulesOf, RevokeOf, AskedOf, creates, registers, gets, activates, revokes, destroys, idles, AskOf, operation_asked, GotOf, PayloadOf, created, registered, got, changed, AnswerOf}
+use Rattle.kmipa_msgs.specs.Messages.{RulesOf, GetAttributesOf, RevokeOf, AskedOf, creates, registers, gets, gets_attributes, activates, revokes, destroys, idles, AskOf, operation_asked, GotOf, GotAttributesOf, PayloadOf, created, registered, got, got_attributes, changed, AnswerOf}
 use Rattle.kmipa_ops.specs.declared.why.Why.{Why}
 use Rattle.kmipa_ops.specs.declared.why.Why.TheVariants.{OperationDiffers, NoSuchObject, WrongState, ReasonUnfounded, EchoDiffers}
 use Rattle.kmipa_ops.specs.declared.change.Change.{Change}
 use Rattle.kmipa_ops.specs.declared.change.Change.TheVariants.{Activate, Revoke, Destroy}
 use Rattle.kmipa_ops.specs.Objects.{meant, Echoes, Agree, is_other, same_type, is_other_id}
 use Rattle.kmipa_ops.specs.Founded.{founded}
+use Rattle.kmipa_ops.specs.ShownAttributes.{GetsAttributes, get_attributes_speaks}
 use Rattle.kmipa_ops.specs.Does.{brought, newborn, Gets, ChangesObject, Succeeds, Fails, Outcome}
 use Rattle.kmipa_ops.specs.Completes.{IsFill, FillsAbsent, Fills, DoesSome, is_idle, is_of, may_lack, can_judge}
 use Rattle.kmipa_ops.specs.Blame.{object_meant, shows_other, get_speaks, change_speaks, done_speaks, outcome_speaks, frame_speaks, speaks, lowest}
@@ -32,6 +33,7 @@ use Rattle.kmipa_ops.proofs.TestLemmas.{not_false, or_cases, echoes_if, echoes_n
 use Rattle.kmipa_ops.proofs.StepLemmas.{Step, step_as, still_step}
 use Rattle.kmipa_ops.proofs.NewbornLemmas.{create_step, create_never, register_step, register_never}
 use Rattle.kmipa_ops.proofs.GetLemmas.{finds, meant_is, links, get_step, get_never, same_type-Decides}
+use Rattle.kmipa_ops.proofs.ShownAttributeLemmas.{attributes_step, attributes_never, hidden_attributes, hidden_attributes_never}
 use Rattle.kmipa_ops.proofs.ChangeLemmas.{unshown, change_step, change_never}
 
 module _ (rules : RulesOf) (m : Meaning) (before : Option (List ℕ)) (t : ℤ) where
@@ -82,6 +84,24 @@ module _ (rules : RulesOf) (m : Meaning) (before : Option (List ℕ)) (t : ℤ) 
       ))
       (λ V V' p x. let y = some_get id V V' p x.0 x.2 in (y.1.leaves, y.1.placeholder))
 
+  -- an Undone Get Attributes without payload: the object's attributes complete it
+  abbrev HiddenAttributes : GetAttributesOf → List Thing → List Thing → Option (List ℕ) → Type 0
+  HiddenAttributes g V V' p = (filled : Option PayloadOf) × IsFill (gets_attributes g) filled × Succeeds rules V before t (gets_attributes g) filled V' p
+
+  some_attributes : (g : GetAttributesOf) (V V' : List Thing) (p : Option (List ℕ)) (filled : Option PayloadOf) → Succeeds rules V before t (gets_attributes g) filled V' p
+      → (a : GotAttributesOf) × GetsAttributes V before t g a V' p
+  some_attributes g V V' p (Some (got_attributes a)) x = (a, x)
+  some_attributes g V V' p filled x = absurd x
+
+  hidden_attributes_step : (g : GetAttributesOf) → IsSound m → ((w : Why) → get_attributes_speaks (cards_of m.objects) (meant g.id before) t g None w ≡ false) → Step (HiddenAttributes g) m m before
+  hidden_attributes_step g sound silent =
+      let P : Option (List ℕ) → Type 0 = λ o. IfSome o (λ (id : List ℕ). IsUtf8 id) in
+      still_step (HiddenAttributes g) m before sound
+      (λ c ch.
+      let h = hidden_attributes m before t g silent c in
+      (Some (got_attributes h.0), record { payload = got_attributes h.0; is = refl; of = refl; sayable = subst P (sym h.1) tt }, h.2))
+      (λ V V' p x. let y = some_attributes g V V' p x.0 x.2 in (y.1.leaves, y.1.placeholder))
+
   -- an Undone change of an object without payload: an answer that shows no identifier completes it
   abbrev HiddenChange : AskedOf → List Thing → List Thing → Option (List ℕ) → Type 0
   HiddenChange asked V V' p = (filled : Option PayloadOf) × IsFill asked filled × Succeeds rules V before t asked filled V' p
@@ -127,6 +147,7 @@ module _ (rules : RulesOf) (m : Meaning) (before : Option (List ℕ)) (t : ℤ) 
   done_step (creates a) (created x) sound of brought shown silent = create_step rules m t a x sound silent
   done_step (registers r) (registered x) sound of brought shown silent = register_step rules m t r x sound brought silent
   done_step (gets id) (got a) sound of brought shown silent = get_step m before id t a sound shown silent
+  done_step (gets_attributes g) (got_attributes a) sound of brought shown silent = attributes_step m before t g a sound silent
   done_step (activates id) (changed a) sound of brought shown silent = change_step m before id t Activate a sound silent
   done_step (revokes r) (changed a) sound of brought shown silent = change_step m before r.id t (Revoke r.code) a sound silent
   done_step (destroys id) (changed a) sound of brought shown silent = change_step m before id t Destroy a sound silent
@@ -141,6 +162,7 @@ module _ (rules : RulesOf) (m : Meaning) (before : Option (List ℕ)) (t : ℤ) 
   hidden_done : (asked : AskedOf) → IsSound m → may_lack asked ≡ true → ((w : Why) → done_speaks rules m before t asked None w ≡ false)
       → Step (λ V V' p. (filled : Option PayloadOf) × FillsAbsent asked filled × Succeeds rules V before t asked filled V' p) m (after_done m before t asked None) (placeholder_done before asked None)
   hidden_done (gets id) sound may silent = hidden_step id sound silent
+  hidden_done (gets_attributes g) sound may silent = hidden_attributes_step g sound silent
   hidden_done (activates id) sound may silent = hidden_change (activates id) id Activate sound refl ((λ V V' p x. x), some_activate id) silent
   hidden_done (revokes r) sound may silent = hidden_change (revokes r) r.id (Revoke r.code) sound refl ((λ V V' p x. x), some_revoke r) silent
   hidden_done (destroys id) sound may silent = hidden_change (destroys id) id Destroy sound refl ((λ V V' p x. x), some_destroy id) silent
@@ -178,6 +200,7 @@ module _ (rules : RulesOf) (m : Meaning) (before : Option (List ℕ)) (t : ℤ) 
   done_never (creates a) (created x) w h c ch V p y = create_never rules m t a x w h c V p y
   done_never (registers r) (registered x) w h c ch V p y = register_never rules m t r x w h c V p y
   done_never (gets id) (got a) w h c ch V p x = get_never m before id t a w h c ch V p x
+  done_never (gets_attributes g) (got_attributes a) w h c ch V p x = attributes_never m before t g a w h c V p x
   done_never (activates id) (changed a) w h c ch V p x = change_never m before id t Activate a w h c V p x
   done_never (revokes r) (changed a) w h c ch V p x = change_never m before r.id t (Revoke r.code) a w h c V p x
   done_never (destroys id) (changed a) w h c ch V p x = change_never m before id t Destroy a w h c V p x
@@ -203,6 +226,7 @@ module _ (rules : RulesOf) (m : Meaning) (before : Option (List ℕ)) (t : ℤ) 
   lacking_never : (asked : AskedOf) (w : Why) → done_speaks rules m before t asked None w ≡ true
       → (c : Choice) → Chooses m.secrets c → (V : List Thing) (p : Option (List ℕ)) (filled : Option PayloadOf) → Succeeds rules (inv c m.objects) before t asked filled V p → ⊥
   lacking_never (gets id) w h c ch V p filled x = let y = some_get id (inv c m.objects) V p filled x in hidden_never id y.0 w h c ch V p y.1
+  lacking_never (gets_attributes g) w h c ch V p filled x = let y = some_attributes g (inv c m.objects) V p filled x in hidden_attributes_never m before t g y.0 w h c V p y.1
   lacking_never (activates id) w h c ch V p filled x = change_never m before id t Activate None w h c V p (some_activate id (inv c m.objects) V p filled x)
   lacking_never (revokes r) w h c ch V p filled x = change_never m before r.id t (Revoke r.code) None w h c V p (some_revoke r (inv c m.objects) V p filled x)
   lacking_never (destroys id) w h c ch V p filled x = change_never m before id t Destroy None w h c V p (some_destroy id (inv c m.objects) V p filled x)

@@ -5,7 +5,7 @@ use Rattle.kmipa_store.specs.Ledger.{Meaning}
 use Rattle.kmipa_msgs.specs.declared.response.Status.{Status}
 use Rattle.kmipa_msgs.specs.declared.response.Status.TheVariants.{Success, Failed, Undone}
 use Rattle.kmipa_msgs.specs.Operations.{operation_number}
-use Rattle.kmipa_msgs.specs.Messages.{RulesOf, AskedOf, creates, registers, gets, AskOf, operation_asked, PayloadOf, created, registered, got, AnswerOf}
+use Rattle.kmipa_msgs.specs.Messages.{RulesOf, AskedOf, creates, registers, gets, gets_attributes, AskOf, operation_asked, PayloadOf, created, registered, got, got_attributes, AnswerOf}
 use Rattle.kmipa_ops.specs.declared.why.Why.{Why}
 use Rattle.kmipa_ops.specs.declared.why.Why.TheVariants.{EarlierCallLate, StampRunsBack, BatchShape, OperationDiffers, NoSuchObject, WrongState, IdentifierTaken, NameTaken, BytesDiffer, LengthImpossible, AttributeDiffers, AttributeMissing, ListedWrongly, ListedTooFew, ReasonUnfounded, EchoDiffers}
 use Rattle.kmipa_ops.specs.Whys.{whys}
@@ -26,6 +26,8 @@ done_quiet rules m p t (registers r) (Some (registered x)) = record { late = ref
 done_quiet rules m p t (registers r) payload = record { late = refl; back = refl; shape = refl; operation = refl }
 done_quiet rules m p t (gets id) (Some (got a)) = record { late = refl; back = refl; shape = refl; operation = refl }
 done_quiet rules m p t (gets id) payload = record { late = refl; back = refl; shape = refl; operation = refl }
+done_quiet rules m p t (gets_attributes g) (Some (got_attributes a)) = record { late = refl; back = refl; shape = refl; operation = refl }
+done_quiet rules m p t (gets_attributes g) payload = record { late = refl; back = refl; shape = refl; operation = refl }
 done_quiet rules m p t asked payload = record { late = refl; back = refl; shape = refl; operation = refl }
 
 quiet : (status : Status) (rules : RulesOf) (m : Meaning) (p : Option (List ℕ)) (t : ℤ) (asked : AskedOf) (reason : Option ℕ) (payload : Option PayloadOf)

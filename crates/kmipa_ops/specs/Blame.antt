@@ -20,7 +20,7 @@ use Rattle.kmipa_store.specs.Calls.{differs, breaks}
 use Rattle.kmipa_msgs.specs.declared.response.Status.{Status}
 use Rattle.kmipa_msgs.specs.declared.response.Status.TheVariants.{Success, Failed, Undone}
 use Rattle.kmipa_msgs.specs.Operations.{operation_number}
-use Rattle.kmipa_msgs.specs.Messages.{RulesOf, RegisterOf, AskedOf, creates, registers, gets, activates, revokes, destroys, AskOf, operation_asked, RegisteredOf, GotOf, PayloadOf, created, registered, got, changed, AnswerOf}
+use Rattle.kmipa_msgs.specs.Messages.{RulesOf, RegisterOf, AskedOf, creates, registers, gets, gets_attributes, activates, revokes, destroys, AskOf, operation_asked, RegisteredOf, GotOf, PayloadOf, created, registered, got, got_attributes, changed, AnswerOf}
 use Rattle.kmipa_ops.specs.declared.why.Why.{Why}
 use Rattle.kmipa_ops.specs.declared.why.Why.TheVariants.{OperationDiffers, NoSuchObject, WrongState, IdentifierTaken, NameTaken, BytesDiffer, LengthImpossible, AttributeDiffers, ReasonUnfounded, EchoDiffers}
 use Rattle.kmipa_ops.specs.Whys.{whys}
@@ -30,6 +30,7 @@ use Rattle.kmipa_ops.specs.declared.change.Change.TheVariants.{Activate, Revoke,
 use Rattle.kmipa_ops.specs.Changes.{act_of}
 use Rattle.kmipa_ops.specs.Does.{brought, kept, name_taken}
 use Rattle.kmipa_ops.specs.Founded.{founded}
+use Rattle.kmipa_ops.specs.ShownAttributes.{get_attributes_speaks}
 
 -- the place of the object that is meant, where an identifier is meant and an object has it
 abbrev pub place_meant : List Held → Option (List ℕ) → Option ℕ
@@ -110,6 +111,8 @@ done_speaks rules m before t (creates a) (Some (created x)) why = create_speaks 
 done_speaks rules m before t (registers r) (Some (registered x)) why = register_speaks rules (cards_of m.objects) r x why
 done_speaks rules m before t (gets id) (Some (got a)) why = get_speaks m (meant id before) t (Some a) why
 done_speaks rules m before t (gets id) None why = get_speaks m (meant id before) t None why
+done_speaks rules m before t (gets_attributes g) (Some (got_attributes a)) why = get_attributes_speaks (cards_of m.objects) (meant g.id before) t g (Some a) why
+done_speaks rules m before t (gets_attributes g) None why = get_attributes_speaks (cards_of m.objects) (meant g.id before) t g None why
 done_speaks rules m before t (activates id) payload why = change_speaks m.objects (meant id before) t Activate (id_shown payload) why
 done_speaks rules m before t (revokes r) payload why = change_speaks m.objects (meant r.id before) t (Revoke r.code) (id_shown payload) why
 done_speaks rules m before t (destroys id) payload why = change_speaks m.objects (meant id before) t Destroy (id_shown payload) why

@@ -4,7 +4,7 @@ use Rattle.std.specs.Int.{w32}
 use Rattle.kmipa_object.specs.Inventory.{Thing}
 use Rattle.kmipa_msgs.specs.declared.response.Status.{Status}
 use Rattle.kmipa_msgs.specs.declared.response.Status.TheVariants.{Success, Failed, Undone}
-use Rattle.kmipa_msgs.specs.Messages.{BlockOf, RulesOf, AskedOf, creates, registers, gets, activates, revokes, destroys, idles, does_other, AskOf, PayloadOf, created, registered, got, got_attributes, changed, AnswerOf}
+use Rattle.kmipa_msgs.specs.Messages.{BlockOf, RulesOf, AskedOf, creates, registers, gets, gets_attributes, activates, revokes, destroys, idles, does_other, AskOf, PayloadOf, created, registered, got, got_attributes, changed, AnswerOf}
 use Rattle.kmipa_ops.specs.Does.{Does}
 
 -- a key that a message can carry: bytes, a number of 32 bits, and a length of 32 bits with a sign
@@ -27,6 +27,7 @@ abbrev pub is_of : AskedOf → PayloadOf → Bool
 is_of (creates a) (created x) = true
 is_of (registers r) (registered a) = true
 is_of (gets id) (got a) = true
+is_of (gets_attributes g) (got_attributes a) = true
 is_of (activates id) (changed a) = true
 is_of (revokes r) (changed a) = true
 is_of (destroys id) (changed a) = true
@@ -78,6 +79,7 @@ has_payload asked (Some payload) = is_of asked payload
 
 abbrev pub may_lack : AskedOf → Bool
 may_lack (gets id) = true
+may_lack (gets_attributes g) = true
 may_lack (activates id) = true
 may_lack (revokes r) = true
 may_lack (destroys id) = true

@@ -13,11 +13,12 @@ use Rattle.kmipa_object.specs.declared.allow.Allow.TheVariants.{Not}
 use Rattle.kmipa_msgs.specs.declared.response.Status.{Status}
 use Rattle.kmipa_msgs.specs.declared.response.Status.TheVariants.{Success, Failed, Undone}
 use Rattle.kmipa_msgs.specs.Operations.{operation_number}
-use Rattle.kmipa_msgs.specs.Messages.{RulesOf, RegisterOf, AskedOf, creates, registers, gets, activates, revokes, destroys, idles, AskOf, operation_asked, RegisteredOf, GotOf, PayloadOf, created, registered, got, changed, AnswerOf}
+use Rattle.kmipa_msgs.specs.Messages.{RulesOf, RegisterOf, AskedOf, creates, registers, gets, gets_attributes, activates, revokes, destroys, idles, AskOf, operation_asked, RegisteredOf, GotOf, PayloadOf, created, registered, got, got_attributes, changed, AnswerOf}
 use Rattle.kmipa_ops.specs.declared.change.Change.{Change}
 use Rattle.kmipa_ops.specs.declared.change.Change.TheVariants.{Activate, Revoke, Destroy}
 use Rattle.kmipa_ops.specs.Objects.{meant, HasObject, Echoes, Agree, any_live_named}
 use Rattle.kmipa_ops.specs.Changes.{act_of, thing_after}
+use Rattle.kmipa_ops.specs.ShownAttributes.{GetsAttributes}
 use Rattle.kmipa_ops.specs.Founded.{founded}
 
 -- the value that is there, of two of which one may be missing
@@ -105,6 +106,7 @@ abbrev pub Succeeds : RulesOf → List Thing → Option (List ℕ) → ℤ → A
 Succeeds rules V before t (creates a) (Some (created x)) V' after = Creates rules V t a x V' after
 Succeeds rules V before t (registers r) (Some (registered x)) V' after = Registers rules V t r x V' after
 Succeeds rules V before t (gets id) (Some (got a)) V' after = Gets V before id a V' after
+Succeeds rules V before t (gets_attributes g) (Some (got_attributes a)) V' after = GetsAttributes V before t g a V' after
 Succeeds rules V before t (activates id) (Some (changed shown)) V' after = ChangesObject V before t id Activate shown V' after
 Succeeds rules V before t (revokes r) (Some (changed shown)) V' after = ChangesObject V before t r.id (Revoke r.code) shown V' after
 Succeeds rules V before t (destroys id) (Some (changed shown)) V' after = ChangesObject V before t id Destroy shown V' after

@@ -61,9 +61,8 @@ fn may_lack(asked: &Asked) -> bool
     ensures { result ≡ may_lack (asked_of asked.now) }
 {
     match asked {
-        Asked::Get(_) | Asked::Activate(_) | Asked::Revoke(_) | Asked::Destroy(_) => true,
-        Asked::Idle(_) => true,
-        _ => false,
+        Asked::Create(_) | Asked::Register(_) | Asked::Other(_) => false,
+        _ => true,
     }
 }
 
@@ -84,10 +83,13 @@ fn is_of(asked: &Asked, payload: &Payload) -> bool
             Asked::Get(_) => true,
             _ => false,
         },
+        Payload::GetAttributes(_) => match asked {
+            Asked::GetAttributes(_) => true,
+            _ => false,
+        },
         Payload::Change(_) => match asked {
             Asked::Activate(_) | Asked::Revoke(_) | Asked::Destroy(_) => true,
             _ => false,
         },
-        Payload::GetAttributes(_) => false,
     }
 }

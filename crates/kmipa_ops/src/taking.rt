@@ -15,6 +15,7 @@ use crate::create::{create, why_not_created};
 use crate::echo::{clash_bytes, is_other_number};
 use crate::failed::is_founded;
 use crate::get::{teach, why_not_got};
+use crate::get_attributes::why_not_shown_attributes;
 use crate::placeholder::Placeholder;
 use crate::register::{register, why_not_registered};
 use crate::why::{Refusal, Why};
@@ -163,6 +164,13 @@ fn done_why<L: Ledger>(
             Some(_) => None,
             None => why_not_got(ledger, placeholder.meant(get.id), t, None),
         },
+        Asked::GetAttributes(get) => match payload {
+            Some(Payload::GetAttributes(got)) => {
+                why_not_shown_attributes(ledger, placeholder.meant(get.id), t, get, Some(got))
+            }
+            Some(_) => None,
+            None => why_not_shown_attributes(ledger, placeholder.meant(get.id), t, get, None),
+        },
         Asked::Activate(about) => {
             changed_why(
                 ledger,
@@ -185,7 +193,7 @@ fn done_why<L: Ledger>(
                 payload,
             )
         }
-        Asked::GetAttributes(_) | Asked::Idle(_) | Asked::Other(_) => None,
+        Asked::Idle(_) | Asked::Other(_) => None,
     }
 }
 
