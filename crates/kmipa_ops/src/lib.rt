@@ -26,6 +26,4 @@ pub use taking::take;
 pub use why::{Refusal, Why};
 
 #[cfg(test)]
-mod shown_tests;
-#[cfg(test)]
 mod tests;

@@ -70,26 +70,14 @@ fn may_lack(asked: &Asked) -> bool
 fn is_of(asked: &Asked, payload: &Payload) -> bool
     ensures { result ≡ is_of (asked_of asked.now) (payload_of payload.now) }
 {
-    match payload {
-        Payload::Create(_) => match asked {
-            Asked::Create(_) => true,
-            _ => false,
-        },
-        Payload::Register(_) => match asked {
-            Asked::Register(_) => true,
-            _ => false,
-        },
-        Payload::Get(_) => match asked {
-            Asked::Get(_) => true,
-            _ => false,
-        },
-        Payload::GetAttributes(_) => match asked {
-            Asked::GetAttributes(_) => true,
-            _ => false,
-        },
-        Payload::Change(_) => match asked {
-            Asked::Activate(_) | Asked::Revoke(_) | Asked::Destroy(_) => true,
-            _ => false,
-        },
+    match (asked, payload) {
+        (Asked::Create(_), Payload::Create(_)) => true,
+        (Asked::Register(_), Payload::Register(_)) => true,
+        (Asked::Get(_), Payload::Get(_)) => true,
+        (Asked::GetAttributes(_), Payload::GetAttributes(_)) => true,
+        (Asked::Activate(_), Payload::Change(_)) => true,
+        (Asked::Revoke(_), Payload::Change(_)) => true,
+        (Asked::Destroy(_), Payload::Change(_)) => true,
+        _ => false,
     }
 }

@@ -172,26 +172,16 @@ fn done_why<L: Ledger>(
             None => why_not_shown_attributes(ledger, placeholder.meant(get.id), t, get, None),
         },
         Asked::Activate(about) => {
-            changed_why(
-                ledger,
-                placeholder.meant(about.id),
-                t,
-                Change::Activate,
-                payload,
-            )
+            let change = Change::Activate;
+            changed_why(ledger, placeholder.meant(about.id), t, change, payload)
         }
         Asked::Revoke(revoke) => {
             let change = Change::Revoke(revoke.code);
             changed_why(ledger, placeholder.meant(revoke.id), t, change, payload)
         }
         Asked::Destroy(about) => {
-            changed_why(
-                ledger,
-                placeholder.meant(about.id),
-                t,
-                Change::Destroy,
-                payload,
-            )
+            let change = Change::Destroy;
+            changed_why(ledger, placeholder.meant(about.id), t, change, payload)
         }
         Asked::Idle(_) | Asked::Other(_) => None,
     }
@@ -274,12 +264,8 @@ fn leave_done<L: Ledger>(
             change_object(ledger, placeholder.meant(about.id), t, Change::Activate)
         }
         Asked::Revoke(revoke) => {
-            change_object(
-                ledger,
-                placeholder.meant(revoke.id),
-                t,
-                Change::Revoke(revoke.code),
-            )
+            let change = Change::Revoke(revoke.code);
+            change_object(ledger, placeholder.meant(revoke.id), t, change)
         }
         Asked::Destroy(about) => {
             change_object(ledger, placeholder.meant(about.id), t, Change::Destroy)

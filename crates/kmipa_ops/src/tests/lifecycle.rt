@@ -10,8 +10,8 @@ use super::{
 use crate::{Placeholder, Why};
 use kmipa_attrs::AttrSet;
 use kmipa_msgs::{
-    About, Answer, Ask, Asked, Cause, Changed, Create, Payload, Registered, Revoke, Row, Rules,
-    Status,
+    About, Answer, Ask, Asked, Cause, Changed, Create, GetAttributes, GotAttributes, Payload,
+    Registered, Revoke, Row, Rules, Status,
 };
 use kmipa_object::{Act, Allow, State};
 use kmipa_store::Ledger;
@@ -80,10 +80,26 @@ fn create(alloc: Global, id: &str, bits: i32) -> Item<'_> {
     )
 }
 
+/// A Get Attributes of which nothing is required, since its request has another item, and that shows nothing.
+fn get_attributes(alloc: Global, id: &str) -> Item<'_> {
+    let asked = Asked::GetAttributes(GetAttributes {
+        id: Some(id),
+        references: Vec::new(alloc),
+        is_selective: false,
+        has_others: true,
+    });
+    let payload = Payload::GetAttributes(GotAttributes {
+        id: Some(id),
+        attributes: AttrSet::new(alloc),
+    });
+    item_of(asked, answered(Status::Success, None, Some(payload)))
+}
+
 /// This operation on the key `k`, which succeeds.
-fn done<'a>(act: Act) -> Item<'a> {
+fn done<'a>(alloc: Global, act: Act) -> Item<'a> {
     match act {
-        Act::Get | Act::GetAttributes => shown(Some("k"), got(&K)),
+        Act::Get => shown(Some("k"), got(&K)),
+        Act::GetAttributes => get_attributes(alloc, "k"),
         Act::Activate => activate("k"),
         Act::RevokeCompromised => revoke("k", 2),
         Act::RevokeOther => revoke("k", 1),
@@ -92,8 +108,8 @@ fn done<'a>(act: Act) -> Item<'a> {
 }
 
 /// The same, refused for the state.
-fn refused<'a>(act: Act) -> Item<'a> {
-    let Item { ask, answer: _ } = done(act);
+fn refused<'a>(alloc: Global, act: Act) -> Item<'a> {
+    let Item { ask, answer: _ } = done(alloc, act);
     Item {
         ask,
         answer: answered(Status::Failed, Some(WRONG_STATE), None),
@@ -156,6 +172,7 @@ fn states_and_operations(rt: HostRuntime) -> Result<(), Fail> {
     let alloc = rt.alloc();
     let table = [
         (Act::Get, [MUST, MUST, MUST, MUST, NOT, NOT]),
+        (Act::GetAttributes, [MUST, MUST, MUST, MUST, MAY, MAY]),
         (Act::Activate, [MUST, NOT, NOT, NOT, NOT, NOT]),
         (Act::RevokeCompromised, [MUST, MUST, MUST, MAY, MAY, MAY]),
         (Act::RevokeOther, [NOT, MUST, MAY, NOT, NOT, NOT]),
@@ -168,8 +185,11 @@ fn states_and_operations(rt: HostRuntime) -> Result<(), Fail> {
                 Allow::May => (None, None),
                 Allow::Not => (Some(Why::WrongState), None),
             };
-            assert_eq!(rt; judged_in(alloc, STATES[place], done(act))?, success);
-            assert_eq!(rt; judged_in(alloc, STATES[place], refused(act))?, refusal);
+            assert_eq!(rt; judged_in(alloc, STATES[place], done(alloc, act))?, success);
+            assert_eq!(rt;
+                judged_in(alloc, STATES[place], refused(alloc, act))?,
+                refusal
+            );
         }
     }
     Ok(())
