@@ -10,13 +10,13 @@ use Rattle.kmipa_attrs.specs.Fields.{first, at, as_enumeration}
 use Rattle.kmipa_msgs.specs.declared.operation.Operation.{Operation}
 use Rattle.kmipa_msgs.specs.declared.response.Status.{Status}
 use Rattle.kmipa_msgs.specs.declared.response.Status.TheVariants.{Success, Failed, Undone}
-use Rattle.kmipa_msgs.specs.Operations.{operation_number}
-use Rattle.kmipa_msgs.specs.Messages.{AskedOf, registers, gets, AskOf, operation_asked, PayloadOf, registered, got, AnswerOf, RequestOf, ResponseOf}
+use Rattle.kmipa_msgs.specs.Operations.{operation_number, is_judged}
+use Rattle.kmipa_msgs.specs.Messages.{AskedOf, creates, registers, gets, gets_attributes, activates, revokes, destroys, idles, does_other, AskOf, operation_asked, PayloadOf, created, registered, got, got_attributes, changed, AnswerOf, RequestOf, ResponseOf}
 use Rattle.kmipa_msgs.specs.Tables.{children}
 use Rattle.kmipa_msgs.specs.Headers.{batch}
 use Rattle.kmipa_msgs.specs.Outside.{SaysEach}
 use Rattle.kmipa_msgs.specs.Payloads.{SaysPayloadOf}
-use Rattle.kmipa_msgs.specs.Replies.{named, own, SaysRequired, SaysMaybe, filled, SaysShown, SaysAnswer}
+use Rattle.kmipa_msgs.specs.Replies.{named, own, or_empty, SaysRequired, SaysMaybe, filled, SaysJudged, SaysShown, SaysAnswer}
 use Rattle.kmipa_msgs.specs.Responses.{SaysResponse}
 use Rattle.kmipa_msgs.specs.Wanted.{NeedsPayload, IsOwn, Wanted}
 use Rattle.kmipa_ops.specs.Objects.{is_other}
@@ -29,11 +29,15 @@ use Rattle.kmipa_check.specs.Orders.{NeedsFill}
 
 -- a payload that is said is one of the operation asked for
 of_asked : (asked : AskedOf) (t : Tree) (p : PayloadOf) → SaysPayloadOf (operation_asked asked) t p → is_of asked p ≡ true
-of_asked (registers r) (structure n ts) (registered a) h = refl
-of_asked (registers r) (structure n ts) (got a) h = absurd h
-of_asked (gets id) (structure n ts) (got a) h = refl
-of_asked (gets id) (structure n ts) (registered a) h = absurd h
 of_asked asked (scalar n s) p h = absurd h
+of_asked (creates a) (structure n ts) (created x) h = refl
+of_asked (registers r) (structure n ts) (registered x) h = refl
+of_asked (gets id) (structure n ts) (got a) h = refl
+of_asked (gets_attributes g) (structure n ts) (got_attributes a) h = refl
+of_asked (activates id) (structure n ts) (changed shown) h = refl
+of_asked (revokes r) (structure n ts) (changed shown) h = refl
+of_asked (destroys id) (structure n ts) (changed shown) h = refl
+of_asked asked (structure n ts) p h = absurd h
 
 required : (asked : AskedOf) (t : Option Tree) (p : Option PayloadOf) → SaysRequired (operation_asked asked) t p → has_payload asked p ≡ true
 required asked (Some t) (Some p) h = of_asked asked t p h
@@ -46,22 +50,39 @@ maybe asked None (Some p) h lacks = absurd h
 maybe asked (Some t) (Some p) h lacks = of_asked asked t p h
 maybe asked (Some t) None h lacks = absurd h
 
-shown : (asked : AskedOf) (status : Status) (t : Option Tree) (p : Option PayloadOf) → SaysShown (Some (operation_asked asked)) status t p → (status ≡ Undone → p ≡ None → may_lack asked ≡ true)
+judged : (asked : AskedOf) (status : Status) (t : Option Tree) (p : Option PayloadOf) → SaysJudged (operation_asked asked) status t p → (status ≡ Undone → p ≡ None → may_lack asked ≡ true)
     → can_judge status asked p ≡ true
-shown asked Success t p h lacks = required asked t p h
-shown asked Failed t p h lacks = refl
-shown asked Undone t p h lacks = maybe asked (filled t) p h (lacks refl)
+judged asked Success t p h lacks = required asked (or_empty (operation_asked asked) t) p h
+judged asked Failed t p h lacks = refl
+judged asked Undone t p h lacks = maybe asked (filled t) p h (lacks refl)
+
+shown : (asked : AskedOf) (status : Status) (t : Option Tree) (p : Option PayloadOf) → SaysShown (Some (operation_asked asked)) status t p
+    → (is_judged (operation_asked asked) ≡ true → status ≡ Undone → p ≡ None → may_lack asked ≡ true) → can_judge status asked p ≡ true
+shown (idles number) Success t p h lacks = ap (has_payload (idles number)) h
+shown (idles number) Failed t p h lacks = refl
+shown (idles number) Undone t p h lacks = ap (may_have (idles number)) h
+shown (does_other number) Success t p h lacks = absurd h
+shown (does_other number) Failed t p h lacks = refl
+shown (does_other number) Undone t p h lacks = absurd h
+shown asked status t p h lacks = judged asked status t p h (lacks refl)
 
 own_of : (number : ℕ) (operation : Option ℕ) → (operation ≡ None) ⊎ (operation ≡ Some number) → IsOwn number operation
 own_of number operation (inl e) = let P : Option ℕ → Type 0 = λ o. IsOwn number o in subst P (sym e) tt
 own_of number operation (inr e) = let P : Option ℕ → Type 0 = λ o. IsOwn number o in subst P (sym e) refl
 
-lacks_of : (asked : AskedOf) (ask : AskOf) (answer : AnswerOf) → ask.asked ≡ asked → (Wanted ask answer → ⊥)
-    → (answer.operation ≡ None) ⊎ (answer.operation ≡ Some (operation_number (operation_asked ask.asked))) → answer.status ≡ Undone → answer.payload ≡ None → may_lack asked ≡ true
-lacks_of (registers r) ask answer is never own undone absent =
+needed : (asked : AskedOf) (ask : AskOf) (answer : AnswerOf) → NeedsPayload (operation_asked asked) → ask.asked ≡ asked → (Wanted ask answer → ⊥)
+    → (answer.operation ≡ None) ⊎ (answer.operation ≡ Some (operation_number (operation_asked ask.asked))) → answer.status ≡ Undone → answer.payload ≡ None → ⊥
+needed asked ask answer needs is never own undone absent =
     let P : AskedOf → Type 0 = λ a. NeedsPayload (operation_asked a) in
-    absurd (never (record { asks = subst P (sym is) tt; own = own_of (operation_number (operation_asked ask.asked)) answer.operation own; undone = undone; absent = absent }))
-lacks_of (gets id) ask answer is never own undone absent = refl
+    never (record { asks = subst P (sym is) needs; own = own_of (operation_number (operation_asked ask.asked)) answer.operation own; undone = undone; absent = absent })
+
+lacks_of : (asked : AskedOf) (ask : AskOf) (answer : AnswerOf) → ask.asked ≡ asked → (Wanted ask answer → ⊥)
+    → (answer.operation ≡ None) ⊎ (answer.operation ≡ Some (operation_number (operation_asked ask.asked))) → is_judged (operation_asked asked) ≡ true → answer.status ≡ Undone
+    → answer.payload ≡ None → may_lack asked ≡ true
+lacks_of (creates a) ask answer is never own judged undone absent = absurd (needed (creates a) ask answer tt is never own undone absent)
+lacks_of (registers r) ask answer is never own judged undone absent = absurd (needed (registers r) ask answer tt is never own undone absent)
+lacks_of (does_other number) ask answer is never own judged undone absent = cc
+lacks_of asked ask answer is never own judged undone absent = refl
 
 or_true : (a b : Bool) → b ≡ true → (a || b) ≡ true
 or_true true b e = refl

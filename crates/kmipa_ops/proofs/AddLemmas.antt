@@ -1,5 +1,5 @@
 -- A new object with a secret of its own.
-use Rattle.std.proofs.Common.{◌≡◌, ◌≢◌, ◌<◌, ◌⊎◌, ℕ, Bool, true, false, List, [], ◌∷◌, ◌++◌, length, slice_get, is_some, bytes_eq, option_map, Option, Some, None, refl, ap, sym, ◌∙◌, subst, inl, inr}
+use Rattle.std.proofs.Common.{◌≡◌, ℕ, Bool, true, false, List, [], ◌∷◌, ◌++◌, length, slice_get, bytes_eq, option_map, Option, Some, None, ap, sym, ◌∙◌, subst, inl, inr}
 use Rattle.std.proofs.lemmas.Slice.Eq.{bytes_eq-Decides}
 use Rattle.kmipa_object.specs.Inventory.{Admitted, Card, place_of, rule_of, live, possible}
 use Rattle.kmipa_object.specs.declared.life.Material.{Material}
@@ -10,17 +10,11 @@ use Rattle.kmipa_object.proofs.ListLemmas.{get-append_old, get-append_last, get-
 use Rattle.kmipa_object.proofs.RuleLemmas.{possible_admits}
 use Rattle.kmipa_store.specs.Ledger.{Held, Known, Meaning, LedgerState, cards_of, with_secret, added}
 use Rattle.kmipa_store.specs.Calls.{is_taken}
-use Rattle.kmipa_store.specs.Choices.{Suits, Chooses, IsSound, GoneIfDestroyed}
+use Rattle.kmipa_store.specs.Choices.{Suits, IsSound, GoneIfDestroyed}
 use Rattle.kmipa_store.proofs.ChoiceLemmas.{override, Chooses-more, Chooses-none}
 use Rattle.kmipa_store.proofs.InventoryLemmas.{place_none, get-cards_of}
+use Rattle.kmipa_ops.specs.After.{with_own}
 use Rattle.kmipa_ops.proofs.TestLemmas.{not_some}
-
--- the ledger with it
-abbrev pub with_own : Meaning → Card → Option (List ℕ) → Meaning
-with_own m card known = record {
-  objects = m.objects ++ record { card = card; material = Secret (record { number = length m.secrets }) } ∷ [];
-  secrets = m.secrets ++ record { rule = rule_of card; bytes = known } ∷ [];
-}
 
 -- no object has the new identifier
 is_new : (m : Meaning) (id : List ℕ) → place_of id (cards_of m.objects) ≡ None → (p : ℕ) (h : Held) → slice_get m.objects p ≡ Some h → id ≡ h.card.id → ⊥

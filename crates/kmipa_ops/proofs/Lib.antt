@@ -2,9 +2,12 @@ mod TestLemmas
 mod ScanLemmas
 mod StepLemmas
 pub mod AddLemmas
-mod RegisterLemmas
+mod NewbornLemmas
 mod GetLemmas
+mod ChangeLemmas
+mod ShownAttributeLemmas
 mod MeantLemmas
+mod ShownReasonLemmas
 mod LowestLemmas
 mod ItemLemmas
 pub mod ExplainLemmas

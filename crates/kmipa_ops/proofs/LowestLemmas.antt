@@ -5,7 +5,7 @@ use Rattle.kmipa_store.specs.Ledger.{Meaning}
 use Rattle.kmipa_msgs.specs.declared.response.Status.{Status}
 use Rattle.kmipa_msgs.specs.declared.response.Status.TheVariants.{Success, Failed, Undone}
 use Rattle.kmipa_msgs.specs.Operations.{operation_number}
-use Rattle.kmipa_msgs.specs.Messages.{RulesOf, AskedOf, registers, gets, AskOf, operation_asked, PayloadOf, registered, got, AnswerOf}
+use Rattle.kmipa_msgs.specs.Messages.{RulesOf, AskedOf, creates, registers, gets, gets_attributes, AskOf, operation_asked, PayloadOf, created, registered, got, got_attributes, AnswerOf}
 use Rattle.kmipa_ops.specs.declared.why.Why.{Why}
 use Rattle.kmipa_ops.specs.declared.why.Why.TheVariants.{EarlierCallLate, StampRunsBack, BatchShape, OperationDiffers, NoSuchObject, WrongState, IdentifierTaken, NameTaken, BytesDiffer, LengthImpossible, AttributeDiffers, AttributeMissing, ListedWrongly, ListedTooFew, ReasonUnfounded, EchoDiffers}
 use Rattle.kmipa_ops.specs.Whys.{whys}
@@ -20,12 +20,15 @@ pub record IsQuiet (g : Why → Bool) : Type 0 where
   pub operation : g OperationDiffers ≡ false
 
 done_quiet : (rules : RulesOf) (m : Meaning) (p : Option (List ℕ)) (t : ℤ) (asked : AskedOf) (payload : Option PayloadOf) → IsQuiet (done_speaks rules m p t asked payload)
-done_quiet rules m p t (registers r) (Some (registered a)) = record { late = refl; back = refl; shape = refl; operation = refl }
-done_quiet rules m p t (registers r) (Some (got a)) = record { late = refl; back = refl; shape = refl; operation = refl }
-done_quiet rules m p t (registers r) None = record { late = refl; back = refl; shape = refl; operation = refl }
-done_quiet rules m p t (gets id) (Some (registered a)) = record { late = refl; back = refl; shape = refl; operation = refl }
+done_quiet rules m p t (creates a) (Some (created x)) = record { late = refl; back = refl; shape = refl; operation = refl }
+done_quiet rules m p t (creates a) payload = record { late = refl; back = refl; shape = refl; operation = refl }
+done_quiet rules m p t (registers r) (Some (registered x)) = record { late = refl; back = refl; shape = refl; operation = refl }
+done_quiet rules m p t (registers r) payload = record { late = refl; back = refl; shape = refl; operation = refl }
 done_quiet rules m p t (gets id) (Some (got a)) = record { late = refl; back = refl; shape = refl; operation = refl }
-done_quiet rules m p t (gets id) None = record { late = refl; back = refl; shape = refl; operation = refl }
+done_quiet rules m p t (gets id) payload = record { late = refl; back = refl; shape = refl; operation = refl }
+done_quiet rules m p t (gets_attributes g) (Some (got_attributes a)) = record { late = refl; back = refl; shape = refl; operation = refl }
+done_quiet rules m p t (gets_attributes g) payload = record { late = refl; back = refl; shape = refl; operation = refl }
+done_quiet rules m p t asked payload = record { late = refl; back = refl; shape = refl; operation = refl }
 
 quiet : (status : Status) (rules : RulesOf) (m : Meaning) (p : Option (List ℕ)) (t : ℤ) (asked : AskedOf) (reason : Option ℕ) (payload : Option PayloadOf)
     → IsQuiet (outcome_speaks status rules m p t asked reason payload)

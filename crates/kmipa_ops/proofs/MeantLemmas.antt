@@ -23,9 +23,9 @@ use Rattle.kmipa_msgs.specs.Messages.{GotOf}
 use Rattle.kmipa_ops.specs.declared.why.Why.{Why}
 use Rattle.kmipa_ops.specs.declared.why.Why.TheVariants.{NoSuchObject, WrongState, BytesDiffer, LengthImpossible, AttributeDiffers, EchoDiffers}
 use Rattle.kmipa_ops.specs.Whys.{whys}
-use Rattle.kmipa_ops.specs.Objects.{card_meant, same_name}
+use Rattle.kmipa_ops.specs.Objects.{card_meant, same_name, is_other_id}
 use Rattle.kmipa_ops.specs.Founded.{is_refusable}
-use Rattle.kmipa_ops.specs.Blame.{object_meant, secret_at, secret_meant, is_not, is_excluded, shows_other, is_other_id, get_speaks}
+use Rattle.kmipa_ops.specs.Blame.{object_meant, secret_at, secret_meant, is_not, is_excluded, shows_other, get_speaks}
 use Rattle.kmipa_ops.specs.Shown.{IsSecretOf, live_speak}
 use Rattle.kmipa_ops.proofs.GetLemmas.{alive_if, alive_not, meant_at}
 use Rattle.kmipa_ops.proofs.ScanLemmas.{any_here, any_map, any_on, any_same}
@@ -135,11 +135,12 @@ why_live m about t shown h s sound e mat =
     ∙ behind_is m about t shown h s (sym e) secret)
 
 -- a new secret that was told its bytes
-pub known_made : (s : LedgerState) (rule : Rule) (bytes : List ℕ) (n : ℕ) (v u : LedgerState) → n ≡ length s.now.secrets → v ≡ with_secret s rule → u ≡ learned v n bytes
-    → u ≡ changed s (record { objects = s.now.objects; secrets = s.now.secrets ++ record { rule = rule; bytes = Some bytes } ∷ [] })
-known_made s rule bytes n v u number made told =
+pub known_made : (s : LedgerState) (rule : Rule) (bytes : List ℕ) (known : Option (List ℕ)) (n : ℕ) (v u : LedgerState) → known ≡ Some bytes → n ≡ length s.now.secrets → v ≡ with_secret s rule
+    → u ≡ learned v n bytes → u ≡ changed s (record { objects = s.now.objects; secrets = s.now.secrets ++ record { rule = rule; bytes = known } ∷ [] })
+known_made s rule bytes known n v u is number made told =
+    let C : List Known → LedgerState = λ ss. changed s (record { objects = s.now.objects; secrets = ss }) in
     told ∙ ap (λ (x : LedgerState). learned x n bytes) made ∙ ap (λ (k : ℕ). learned (with_secret s rule) k bytes) number
-    ∙ ap (λ (ss : List Known). changed s (record { objects = s.now.objects; secrets = ss })) (told-last s.now.secrets (record { rule = rule; bytes = None }) bytes)
+    ∙ ap C (told-last s.now.secrets (record { rule = rule; bytes = None }) bytes) ∙ ap (λ (k : Option (List ℕ)). C (s.now.secrets ++ record { rule = rule; bytes = k } ∷ [])) (sym is)
 
 -- names, through their meaning
 pub named_is : (own names : List Name) → list_any (λ (mine : Name). list_any (λ (asked : Name). same_name (name_of asked) (name_of mine)) names) own

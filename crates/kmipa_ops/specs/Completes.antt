@@ -4,7 +4,7 @@ use Rattle.std.specs.Int.{w32}
 use Rattle.kmipa_object.specs.Inventory.{Thing}
 use Rattle.kmipa_msgs.specs.declared.response.Status.{Status}
 use Rattle.kmipa_msgs.specs.declared.response.Status.TheVariants.{Success, Failed, Undone}
-use Rattle.kmipa_msgs.specs.Messages.{BlockOf, RulesOf, AskedOf, registers, gets, AskOf, PayloadOf, registered, got, AnswerOf}
+use Rattle.kmipa_msgs.specs.Messages.{BlockOf, RulesOf, AskedOf, creates, registers, gets, gets_attributes, activates, revokes, destroys, idles, does_other, AskOf, PayloadOf, created, registered, got, got_attributes, changed, AnswerOf}
 use Rattle.kmipa_ops.specs.Does.{Does}
 
 -- a key that a message can carry: bytes, a number of 32 bits, and a length of 32 bits with a sign
@@ -13,17 +13,25 @@ pub record IsSayableBlock (block : BlockOf) : Type 0 where
   pub algorithm : IfSome block.algorithm (λ (number : ℕ). number < 2 ^ 32)
   pub length : IfSome block.length (λ (bits : ℤ). FitsSigned w32 bits)
 
--- a payload that a message can carry: besides, identifiers are UTF-8
+-- a payload that a message can carry: besides, identifiers are UTF-8. Of the attributes that are shown nothing is asked: those of an object
+-- were in a message or in a declaration.
 abbrev pub IsSayable : PayloadOf → Type 0
+IsSayable (created a) = IsUtf8 a.id × IfSome a.object_type (λ (number : ℕ). number < 2 ^ 32)
 IsSayable (registered a) = IsUtf8 a.id × IfSome a.object_type (λ (number : ℕ). number < 2 ^ 32)
 IsSayable (got a) = IfSome a.id (λ (id : List ℕ). IsUtf8 id) × IsSayableBlock a.block
+IsSayable (got_attributes a) = IfSome a.id (λ (id : List ℕ). IsUtf8 id)
+IsSayable (changed id) = IfSome id (λ (x : List ℕ). IsUtf8 x)
 
 -- the payload is one of the operation asked for
 abbrev pub is_of : AskedOf → PayloadOf → Bool
+is_of (creates a) (created x) = true
 is_of (registers r) (registered a) = true
-is_of (registers r) (got a) = false
-is_of (gets id) (registered a) = false
 is_of (gets id) (got a) = true
+is_of (gets_attributes g) (got_attributes a) = true
+is_of (activates id) (changed a) = true
+is_of (revokes r) (changed a) = true
+is_of (destroys id) (changed a) = true
+is_of asked payload = false
 
 -- a payload of the operation asked for, that a message can carry
 pub record IsFill (asked : AskedOf) (filled : Option PayloadOf) : Type 0 where
@@ -32,9 +40,15 @@ pub record IsFill (asked : AskedOf) (filled : Option PayloadOf) : Type 0 where
   pub of : is_of asked payload ≡ true
   pub sayable : IsSayable payload
 
--- the payload itself; but where an Undone answer has none, some payload of its operation
+-- what may stand in the place of an absent payload: some payload of the operation, or none where its payloads aren't read
+abbrev pub FillsAbsent : AskedOf → Option PayloadOf → Type 0
+FillsAbsent (idles number) filled = filled ≡ None
+FillsAbsent (does_other number) filled = filled ≡ None
+FillsAbsent asked filled = IsFill asked filled
+
+-- the payload itself; but where an Undone answer has none, what may stand in its place
 abbrev pub Fills : AskedOf → Status → Option PayloadOf → Option PayloadOf → Type 0
-Fills asked Undone None filled = IsFill asked filled
+Fills asked Undone None filled = FillsAbsent asked filled
 Fills asked Undone (Some payload) filled = filled ≡ Some payload
 Fills asked Success payload filled = filled ≡ payload
 Fills asked Failed payload filled = filled ≡ payload
@@ -53,15 +67,24 @@ pub record DoesSome (rules : RulesOf) (V : List Thing) (before : Option (List �
   pub completes : CompletesAnswer ask answer full
   pub does : Does rules V before t ask full V' after
 
--- where there is a payload to judge: at an answer to the operation asked for, a Success has the payload of that operation, and so has an
--- Undone Register; an Undone Get has it or none
+-- Where there is a payload to judge: at an answer to the operation asked for, a Success has the payload of that operation, and so has an
+-- Undone Create or Register; an Undone answer of another operation has it or none. An operation without effect has none.
+abbrev pub is_idle : AskedOf → Bool
+is_idle (idles number) = true
+is_idle asked = false
+
 abbrev pub has_payload : AskedOf → Option PayloadOf → Bool
-has_payload asked None = false
+has_payload asked None = is_idle asked
 has_payload asked (Some payload) = is_of asked payload
 
 abbrev pub may_lack : AskedOf → Bool
-may_lack (registers r) = false
 may_lack (gets id) = true
+may_lack (gets_attributes g) = true
+may_lack (activates id) = true
+may_lack (revokes r) = true
+may_lack (destroys id) = true
+may_lack (idles number) = true
+may_lack asked = false
 
 abbrev pub may_have : AskedOf → Option PayloadOf → Bool
 may_have asked None = may_lack asked

@@ -4,7 +4,7 @@ use Rattle.kmipa_object.specs.Inventory.{Thing}
 use Rattle.kmipa_store.specs.Ledger.{Meaning, LedgerState, bytes_at}
 use Rattle.kmipa_store.specs.Choices.{Choice, Chooses, Agrees, inv, IsSound, Extends}
 use Rattle.kmipa_msgs.specs.Operations.{operation_number}
-use Rattle.kmipa_msgs.specs.Messages.{RulesOf, AskedOf, registers, gets, AskOf, operation_asked, PayloadOf, registered, got, AnswerOf}
+use Rattle.kmipa_msgs.specs.Messages.{RulesOf, AskedOf, registers, AskOf, operation_asked, PayloadOf, got, AnswerOf}
 use Rattle.kmipa_ops.specs.declared.why.Why.{Why}
 use Rattle.kmipa_ops.specs.declared.why.Refusal.{Refusal}
 use Rattle.kmipa_ops.specs.declared.why.Refusal.TheVariants.{Impossible, Memory}
@@ -16,13 +16,12 @@ use Rattle.kmipa_ops.specs.Blame.{lowest}
 -- the bytes that an ask brings
 abbrev pub brings : AskedOf → Option (List ℕ)
 brings (registers r) = Some r.block.material
-brings (gets id) = None
+brings asked = None
 
 -- the bytes that an answer shows
 abbrev pub shows : Option PayloadOf → Option (List ℕ)
-shows None = None
-shows (Some (registered a)) = None
 shows (Some (got a)) = Some a.block.material
+shows payload = None
 
 -- one of the asks brings these bytes, or one of the answers shows them
 abbrev pub Tells : List (AskOf × AnswerOf) → List ℕ → Type 0

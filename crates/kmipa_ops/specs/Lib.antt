@@ -2,6 +2,8 @@ pub mod Whys
 pub mod Placeholders
 pub mod Objects
 pub mod Founded
+pub mod Changes
+pub mod ShownAttributes
 pub mod Does
 pub mod Completes
 pub mod Chains

@@ -36,6 +36,11 @@ abbrev pub is_other : {A : Type 0} → (A → A → Bool) → Option A → A →
 is_other same None expected = false
 is_other same (Some x) expected = not (same x expected)
 
+-- an identifier is there, and isn't the one meant
+abbrev pub is_other_id : Option (List ℕ) → Option (List ℕ) → Bool
+is_other_id shown None = false
+is_other_id shown (Some id) = is_other bytes_eq shown id
+
 -- two fields are there, and differ
 abbrev pub clash : {A : Type 0} → (A → A → Bool) → Option A → Option A → Bool
 clash same None other = false

@@ -3,7 +3,7 @@
 ghost use Rattle.std.specs.Prelude.{◌≡◌, ◌==◌, ℕ, bytes_eq};
 ghost use Rattle.std.specs.Ordering.{int_eq};
 ghost use Rattle.kmipa_msgs.specs.Messages.{maybe_lent};
-ghost use Rattle.kmipa_ops.specs.Objects.{clash, is_other, same_type};
+ghost use Rattle.kmipa_ops.specs.Objects.{clash, is_other, same_type, is_other_id};
 
 use kmipa_attrs::ObjectType;
 
@@ -57,11 +57,21 @@ pub(crate) fn is_other_type(said: Option<ObjectType>, expected: ObjectType) -> b
 }
 
 /// A text is there, and isn't the one expected.
-pub(crate) fn is_other_text(said: Option<&str>, expected: &str) -> bool
+fn is_other_text(said: Option<&str>, expected: &str) -> bool
     ensures { result ≡ is_other bytes_eq (maybe_lent said.entry) expected.now }
 {
     match said {
         Some(text) => text != expected,
+        None => false,
+    }
+}
+
+/// An identifier is there, and isn't the one that is meant.
+pub(crate) fn is_other_id(shown: Option<&str>, about: Option<&str>) -> bool
+    ensures { result ≡ is_other_id (maybe_lent shown.entry) (maybe_lent about.entry) }
+{
+    match about {
+        Some(id) => is_other_text(shown, id),
         None => false,
     }
 }

@@ -1,18 +1,20 @@
 //! Failed answers: which of their reasons are founded.
 
-ghost use Rattle.std.specs.Prelude.{◌≡◌, ◌&&◌, ◌==◌, not};
+ghost use Rattle.std.specs.Prelude.{◌≡◌, ◌&&◌, ◌==◌, map, not};
 ghost use Rattle.std.specs.List.{list_any};
+ghost use Rattle.kmipa_attrs.specs.Sets.{name_of};
 ghost use Rattle.kmipa_object.specs.Inventory.{card_of};
 ghost use Rattle.kmipa_object.specs.Life.{state};
 ghost use Rattle.kmipa_object.specs.Table.{allowed};
 ghost use Rattle.kmipa_store.specs.Ledger.{cards_of};
 ghost use Rattle.kmipa_msgs.specs.Messages.{asked_of, maybe_lent, rules_of};
-ghost use Rattle.kmipa_ops.specs.Founded.{founded, has_cause, has_row, holds_cause, is_about_nothing, is_live_there, is_must, is_refusable};
+ghost use Rattle.kmipa_ops.specs.Founded.{founded, has_cause, has_row, holds_about, holds_cause, holds_named, is_about_nothing, is_live_there, is_must, is_refusable};
 ghost use Rattle.kmipa_ops.specs.Objects.{card_meant};
 ghost use Rattle.kmipa_ops.specs.Placeholders.{placeholder_of};
 
 use crate::objects::{any_named, is_live, object_meant};
 use crate::placeholder::Placeholder;
+use kmipa_attrs::Name;
 use kmipa_msgs::{Asked, Cause, Row, Rules};
 use kmipa_object::{Act, Allow, Object, allows, state_at};
 use kmipa_store::Ledger;
@@ -54,8 +56,11 @@ fn is_about_nothing(placeholder: &Placeholder, asked: &Asked) -> bool
     ensures { result ≡ is_about_nothing (placeholder_of placeholder.now) (asked_of asked.now) }
 {
     match asked {
-        Asked::Register(_) => false,
         Asked::Get(get) => placeholder.meant(get.id).is_none(),
+        Asked::GetAttributes(get) => placeholder.meant(get.id).is_none(),
+        Asked::Activate(about) | Asked::Destroy(about) => placeholder.meant(about.id).is_none(),
+        Asked::Revoke(revoke) => placeholder.meant(revoke.id).is_none(),
+        Asked::Create(_) | Asked::Register(_) | Asked::Idle(_) | Asked::Other(_) => false,
     }
 }
 
@@ -115,15 +120,53 @@ fn holds_cause<L: Ledger>(
     ensures { result ≡ holds_cause (cards_of (L.state ledger.now).now.objects) (placeholder_of placeholder.now) t (asked_of asked.now) cause }
 {
     match asked {
-        Asked::Register(register) => match cause {
-            Cause::TakenName => any_named(ledger, register.attributes.names.as_slice()),
-            Cause::NotFound | Cause::WrongState => true,
-        },
-        Asked::Get(get) => match cause {
-            Cause::NotFound => !is_live_there(ledger, placeholder.meant(get.id)),
-            Cause::WrongState => is_refusable(ledger, Act::Get, t, placeholder.meant(get.id)),
-            Cause::TakenName => true,
-        },
+        Asked::Create(create) => holds_named(ledger, create.attributes.names.as_slice(), cause),
+        Asked::Register(register) => {
+            holds_named(ledger, register.attributes.names.as_slice(), cause)
+        }
+        Asked::Get(get) => holds_about(ledger, placeholder.meant(get.id), t, Act::Get, cause),
+        Asked::GetAttributes(get) => {
+            get.is_selective
+                || holds_about(
+                    ledger,
+                    placeholder.meant(get.id),
+                    t,
+                    Act::GetAttributes,
+                    cause,
+                )
+        }
+        Asked::Activate(about) => {
+            holds_about(ledger, placeholder.meant(about.id), t, Act::Activate, cause)
+        }
+        Asked::Revoke(revoke) => {
+            let act = Act::of_revoke(revoke.code);
+            holds_about(ledger, placeholder.meant(revoke.id), t, act, cause)
+        }
+        Asked::Destroy(about) => {
+            holds_about(ledger, placeholder.meant(about.id), t, Act::Destroy, cause)
+        }
+        Asked::Idle(_) | Asked::Other(_) => true,
+    }
+}
+
+/// Whether a cause for refusing an operation on the object that is meant holds.
+fn holds_about<L: Ledger>(ledger: &L, about: Option<&str>, t: i64, act: Act, cause: Cause) -> bool
+    ensures { result ≡ holds_about (cards_of (L.state ledger.now).now.objects) (maybe_lent about.entry) t act cause }
+{
+    match cause {
+        Cause::NotFound => !is_live_there(ledger, about),
+        Cause::WrongState => is_refusable(ledger, act, t, about),
+        Cause::TakenName => true,
+    }
+}
+
+/// Whether a cause for refusing an object of these names holds.
+fn holds_named<L: Ledger>(ledger: &L, names: &[Name], cause: Cause) -> bool
+    ensures { result ≡ holds_named (cards_of (L.state ledger.now).now.objects) (map name_of names.now) cause }
+{
+    match cause {
+        Cause::TakenName => any_named(ledger, names),
+        Cause::NotFound | Cause::WrongState => true,
     }
 }
 

@@ -6,11 +6,11 @@ ghost use Rattle.kmipa_store.specs.Choices.{IsSound};
 ghost use Rattle.kmipa_store.specs.Ledger.{held};
 ghost use Rattle.kmipa_msgs.specs.Messages.{got_of, maybe_lent};
 ghost use Rattle.kmipa_ops.specs.After.{Changes, taught};
-ghost use Rattle.kmipa_ops.specs.Blame.{get_speaks, is_other_id, object_meant, shows_other};
+ghost use Rattle.kmipa_ops.specs.Blame.{get_speaks, object_meant, shows_other};
 ghost use Rattle.kmipa_ops.specs.Shown.{HasRule, IsSecretOf, bytes_speak, live_speak, shown_speak};
 ghost use Rattle.kmipa_ops.specs.Whys.{whys};
 
-use crate::echo::{clash_lengths, clash_numbers, is_other_text, is_other_type};
+use crate::echo::{clash_lengths, clash_numbers, is_other_id, is_other_type};
 use crate::objects::object_meant;
 use crate::why::Why;
 use kmipa_msgs::Got;
@@ -115,15 +115,6 @@ fn shows_other(object: &Object, got: &Got) -> bool
         || is_other_type(Some(got.shape), object.kind)
         || clash_numbers(got.block.algorithm, object.given.algorithm)
         || clash_lengths(got.block.length, object.given.length)
-}
-
-fn is_other_id(shown: Option<&str>, about: Option<&str>) -> bool
-    ensures { result ≡ is_other_id (maybe_lent shown.entry) (maybe_lent about.entry) }
-{
-    match about {
-        Some(id) => is_other_text(shown, id),
-        None => false,
-    }
 }
 
 /// From now on the object that is meant has the bytes that were shown.

@@ -1,14 +1,21 @@
 //! One item of a batch: Ok exactly where some inventory allows it, or the lowest reason why none does.
 #![tactic(auto)]
 
+mod adding;
+mod change;
+mod create;
 mod echo;
 mod failed;
 mod get;
+mod get_attributes;
+mod judged;
 mod laws;
+mod names;
 mod objects;
 mod placeholder;
 mod readable;
 mod register;
+mod required;
 mod taking;
 mod why;
 

@@ -1,29 +1,37 @@
 //! The objects that an item speaks of.
 
-ghost use Rattle.std.specs.Prelude.{◌≡◌, ◌&&◌, option_map, map};
+ghost use Rattle.std.specs.Prelude.{◌≡◌, ◌<◌, ◌&&◌, IfSome, length, option_map, map};
 ghost use Rattle.std.specs.List.{list_any};
 ghost use Rattle.kmipa_attrs.specs.Sets.{name_of};
 ghost use Rattle.kmipa_object.specs.Inventory.{card_of, live};
 ghost use Rattle.kmipa_store.specs.Ledger.{held, cards_of};
 ghost use Rattle.kmipa_msgs.specs.Messages.{maybe_lent};
 ghost use Rattle.kmipa_ops.specs.Objects.{any_live_named, any_named, is_named, same_name};
-ghost use Rattle.kmipa_ops.specs.Blame.{object_meant};
+ghost use Rattle.kmipa_ops.specs.Blame.{object_meant, place_meant};
 
 use kmipa_attrs::Name;
 use kmipa_object::Object;
 use kmipa_store::Ledger;
 
+/// The place of the object that is meant, where an identifier is meant and an object has it.
+pub(crate) fn place_meant<L: Ledger>(ledger: &L, about: Option<&str>) -> Option<usize>
+    ensures place { result ≡ place_meant (L.state ledger.now).now.objects (maybe_lent about.entry) }
+    ensures within { IfSome result (λ place. place < length (L.state ledger.now).now.objects) }
+{
+    match about {
+        Some(id) => ledger.find(id),
+        None => None,
+    }
+}
+
 /// The object that is meant, where an identifier is meant and an object has it.
 pub(crate) fn object_meant<'a, L: Ledger>(ledger: &'a L, about: Option<&str>) -> Option<&'a Object>
     ensures { option_map (λ object. held object.now) result ≡ object_meant (L.state ledger.now).now.objects (maybe_lent about.entry) }
 {
-    let Some(id) = about else {
-        return None;
-    };
-    let Some(place) = ledger.find(id) else {
-        return None;
-    };
-    Some(ledger.at(place))
+    match place_meant(ledger, about) {
+        Some(place) => Some(ledger.at(place)),
+        None => None,
+    }
 }
 
 /// Whether an object has one of these names, destroyed or not.
@@ -75,7 +83,8 @@ fn any_same(own: &[Name], names: &[Name]) -> bool
     own.iter().any(|mine| is_among(mine, names))
 }
 
-fn is_among(name: &Name, names: &[Name]) -> bool
+/// Whether a name is one of these.
+pub(crate) fn is_among(name: &Name, names: &[Name]) -> bool
     ensures { result ≡ list_any (λ (asked : Name). same_name (name_of asked) (name_of name.now)) names.now }
 {
     names.iter().any(|asked| is_same(asked, name))

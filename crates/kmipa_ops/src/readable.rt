@@ -2,14 +2,15 @@
 
 ghost use Rattle.std.specs.Prelude.{◌≡◌, option_map};
 ghost use Rattle.kmipa_msgs.specs.Messages.{answer_of, ask_of, asked_of, payload_of};
-ghost use Rattle.kmipa_ops.specs.Completes.{can_judge, is_of, may_have, may_lack, has_payload};
+ghost use Rattle.kmipa_ops.specs.Completes.{can_judge, has_payload, is_idle, is_of, may_have, may_lack};
 ghost use Rattle.kmipa_ops.specs.Explains.{is_readable};
 
 use crate::echo::is_other_number;
 use kmipa_msgs::{Answer, Ask, Asked, Payload, Status};
 
-/// Whether an answer has what there is to judge: a Success of the operation asked for has its payload, and so has an Undone Register; an
-/// Undone Get has it or none. An answer of another operation and a failed one have nothing to judge in theirs.
+/// Whether an answer has what there is to judge: a Success of the operation asked for has its payload, and so has an Undone Create or
+/// Register; an Undone answer of another operation has it or none. An operation without effect has none. An answer of another operation and a
+/// failed one have nothing to judge in theirs.
 pub fn is_readable(ask: &Ask, answer: &Answer) -> bool
     ensures { result ≡ is_readable (ask_of ask.now) (answer_of answer.now) }
 {
@@ -32,7 +33,17 @@ fn has_payload(asked: &Asked, payload: &Option<Payload>) -> bool
 {
     match payload {
         Some(payload) => is_of(asked, payload),
-        None => false,
+        None => is_idle(asked),
+    }
+}
+
+/// Whether an operation is one without effect, whose payloads aren't read.
+fn is_idle(asked: &Asked) -> bool
+    ensures { result ≡ is_idle (asked_of asked.now) }
+{
+    match asked {
+        Asked::Idle(_) => true,
+        _ => false,
     }
 }
 
@@ -50,8 +61,8 @@ fn may_lack(asked: &Asked) -> bool
     ensures { result ≡ may_lack (asked_of asked.now) }
 {
     match asked {
-        Asked::Register(_) => false,
-        Asked::Get(_) => true,
+        Asked::Create(_) | Asked::Register(_) | Asked::Other(_) => false,
+        _ => true,
     }
 }
 
@@ -59,14 +70,14 @@ fn may_lack(asked: &Asked) -> bool
 fn is_of(asked: &Asked, payload: &Payload) -> bool
     ensures { result ≡ is_of (asked_of asked.now) (payload_of payload.now) }
 {
-    match asked {
-        Asked::Register(_) => match payload {
-            Payload::Register(_) => true,
-            Payload::Get(_) => false,
-        },
-        Asked::Get(_) => match payload {
-            Payload::Register(_) => false,
-            Payload::Get(_) => true,
-        },
+    match (asked, payload) {
+        (Asked::Create(_), Payload::Create(_)) => true,
+        (Asked::Register(_), Payload::Register(_)) => true,
+        (Asked::Get(_), Payload::Get(_)) => true,
+        (Asked::GetAttributes(_), Payload::GetAttributes(_)) => true,
+        (Asked::Activate(_), Payload::Change(_)) => true,
+        (Asked::Revoke(_), Payload::Change(_)) => true,
+        (Asked::Destroy(_), Payload::Change(_)) => true,
+        _ => false,
     }
 }

@@ -2,19 +2,22 @@
 
 ghost use Rattle.std.specs.Prelude.{◌≡◌, ◌<◌, All, bytes_eq, cond, find, option_map, true};
 ghost use Rattle.kmipa_store.specs.Choices.{IsSound};
-ghost use Rattle.kmipa_msgs.specs.Messages.{answer_of, ask_of, asked_of, payload_of, rules_of};
+ghost use Rattle.kmipa_msgs.specs.Messages.{answer_of, ask_of, asked_of, maybe_lent, payload_of, rules_of};
 ghost use Rattle.kmipa_ops.specs.After.{Leaves, after, after_done, placeholder_after, placeholder_done};
-ghost use Rattle.kmipa_ops.specs.Blame.{done_speaks, failure_speaks, lowest, outcome_speaks};
+ghost use Rattle.kmipa_ops.specs.Blame.{change_speaks, done_speaks, failure_speaks, id_shown, lowest, outcome_speaks};
 ghost use Rattle.kmipa_ops.specs.Explains.{AreBytes, Taken, TellsBytes, brings, is_readable, shows};
 ghost use Rattle.kmipa_ops.specs.Objects.{clash};
 ghost use Rattle.kmipa_ops.specs.Placeholders.{placeholder_of};
 ghost use Rattle.kmipa_ops.specs.Whys.{whys};
 
+use crate::change::{Change, change_object, why_not_changed};
+use crate::create::{create, why_not_created};
 use crate::echo::{clash_bytes, is_other_number};
 use crate::failed::is_founded;
 use crate::get::{teach, why_not_got};
+use crate::get_attributes::why_not_shown_attributes;
 use crate::placeholder::Placeholder;
-use crate::register::{store, why_not_registered};
+use crate::register::{register, why_not_registered};
 use crate::why::{Refusal, Why};
 use kmipa_msgs::{Answer, Ask, Asked, Payload, Rules, Status};
 use kmipa_store::Ledger;
@@ -142,6 +145,12 @@ fn done_why<L: Ledger>(
     ensures { result ≡ find (done_speaks (rules_of rules.now) (L.state ledger.now).now (placeholder_of placeholder.now) t (asked_of asked.now) (option_map payload_of payload.now)) whys }
 {
     match asked {
+        Asked::Create(create) => match payload {
+            Some(Payload::Create(created)) => {
+                why_not_created(ledger, rules, &create.attributes, created)
+            }
+            _ => None,
+        },
         Asked::Register(register) => match payload {
             Some(Payload::Register(registered)) => {
                 why_not_registered(alloc, ledger, rules, register, registered)
@@ -152,9 +161,52 @@ fn done_why<L: Ledger>(
             Some(Payload::Get(got)) => {
                 why_not_got(ledger, placeholder.meant(get.id), t, Some(got))
             }
-            Some(Payload::Register(_)) => None,
+            Some(_) => None,
             None => why_not_got(ledger, placeholder.meant(get.id), t, None),
         },
+        Asked::GetAttributes(get) => match payload {
+            Some(Payload::GetAttributes(got)) => {
+                why_not_shown_attributes(ledger, placeholder.meant(get.id), t, get, Some(got))
+            }
+            Some(_) => None,
+            None => why_not_shown_attributes(ledger, placeholder.meant(get.id), t, get, None),
+        },
+        Asked::Activate(about) => {
+            let change = Change::Activate;
+            changed_why(ledger, placeholder.meant(about.id), t, change, payload)
+        }
+        Asked::Revoke(revoke) => {
+            let change = Change::Revoke(revoke.code);
+            changed_why(ledger, placeholder.meant(revoke.id), t, change, payload)
+        }
+        Asked::Destroy(about) => {
+            let change = Change::Destroy;
+            changed_why(ledger, placeholder.meant(about.id), t, change, payload)
+        }
+        Asked::Idle(_) | Asked::Other(_) => None,
+    }
+}
+
+/// The lowest reason against a change of the object that is meant, with its payload or without one.
+fn changed_why<L: Ledger>(
+    ledger: &L,
+    about: Option<&str>,
+    t: i64,
+    change: Change,
+    payload: &Option<Payload>,
+) -> Option<Why>
+    ensures { result ≡ find (change_speaks (L.state ledger.now).now.objects (maybe_lent about.entry) t change (id_shown (option_map payload_of payload.now))) whys }
+{
+    why_not_changed(ledger, about, t, change, id_shown(payload))
+}
+
+/// The identifier that the answer of a change shows.
+fn id_shown<'a>(payload: &'a Option<Payload<'a>>) -> Option<&'a str>
+    ensures { maybe_lent result ≡ id_shown (option_map payload_of payload.now) }
+{
+    match payload {
+        Some(Payload::Change(changed)) => changed.id,
+        _ => None,
     }
 }
 
@@ -190,9 +242,15 @@ fn leave_done<L: Ledger>(
     ensures { Leaves (L.state ledger.old) (after_done (L.state ledger.old).now (placeholder_of placeholder.old) t (asked_of asked.now) (option_map payload_of payload.now)) (placeholder_done (placeholder_of placeholder.old) (asked_of asked.now) (option_map payload_of payload.now)) result (L.state ledger.new) (placeholder_of placeholder.new) }
 {
     match asked {
-        Asked::Register(register) => match payload {
+        Asked::Create(asked) => match payload {
+            Some(Payload::Create(created)) => {
+                create(alloc, ledger, placeholder, t, &asked.attributes, created.id)
+            }
+            _ => Ok(()),
+        },
+        Asked::Register(asked) => match payload {
             Some(Payload::Register(registered)) => {
-                store(alloc, ledger, placeholder, t, register, registered.id)
+                register(alloc, ledger, placeholder, t, asked, registered.id)
             }
             _ => Ok(()),
         },
@@ -202,6 +260,17 @@ fn leave_done<L: Ledger>(
             }
             _ => Ok(()),
         },
+        Asked::Activate(about) => {
+            change_object(ledger, placeholder.meant(about.id), t, Change::Activate)
+        }
+        Asked::Revoke(revoke) => {
+            let change = Change::Revoke(revoke.code);
+            change_object(ledger, placeholder.meant(revoke.id), t, change)
+        }
+        Asked::Destroy(about) => {
+            change_object(ledger, placeholder.meant(about.id), t, Change::Destroy)
+        },
+        Asked::GetAttributes(_) | Asked::Idle(_) | Asked::Other(_) => Ok(()),
     }
 }
 

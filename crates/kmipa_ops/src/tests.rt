@@ -1,8 +1,8 @@
-//! Items taken over a ledger of copies: the happy paths, unknown bytes that a Get teaches, and each reason once.
+//! Items taken over a journal: the happy paths, unknown bytes that a Get teaches, and each reason once.
 
 ghost use Rattle.std.specs.Prelude.{◌≡◌, IfOk};
 ghost use Rattle.kmipa_store.specs.Choices.{IsSound};
-ghost use Rattle.kmipa_store.specs.States.{state_of_copies};
+ghost use Rattle.kmipa_store.specs.States.{state_of_journal};
 
 use crate::{Placeholder, Refusal, Why, blame_is_exact, chains_complete, is_readable, take};
 use kmipa_attrs::{AttrSet, Name, ObjectType};
@@ -10,9 +10,12 @@ use kmipa_msgs::{
     Answer, Ask, Asked, Get, Got, KeyBlock, KeyFormat, Payload, Register, Registered, Rules, Status,
 };
 use kmipa_object::{Life, Material, Object, Rule};
-use kmipa_store::{Copies, Ledger};
+use kmipa_store::{Journal, Ledger};
 use std::alloc::Global;
 use std::test::Fail;
+
+mod lifecycle;
+mod shown;
 
 const NOW: i64 = 1_700_000_000;
 
@@ -149,28 +152,46 @@ fn judged<L: Ledger>(
     }
 }
 
-/// A life with this Destroy Date.
-fn life(destroy: Option<i64>, material: Material) -> Life
-    ensures { result ≡ record { initial = None; activation = None; deactivation = None; destroy = destroy; compromise = None; material = material } }
+/// The dates of an object that isn't destroyed.
+#[derive(Clone, Copy)]
+struct Dates {
+    activation: Option<i64>,
+    deactivation: Option<i64>,
+    compromise: Option<i64>,
+}
+
+/// No dates.
+fn undated() -> Dates {
+    Dates {
+        activation: None,
+        deactivation: None,
+        compromise: None,
+    }
+}
+
+/// A life of these dates and this Destroy Date.
+fn life(dates: Dates, destroy: Option<i64>, material: Material) -> Life
+    ensures destroy { result.destroy ≡ destroy }
+    ensures material { result.material ≡ material }
 {
     Life {
         initial: None,
-        activation: None,
-        deactivation: None,
+        activation: dates.activation,
+        deactivation: dates.deactivation,
         destroy,
-        compromise: None,
+        compromise: dates.compromise,
         material,
     }
 }
 
-fn new_ledger(alloc: Global) -> Copies
-    ensures { IsSound (state_of_copies result).now }
+fn new_ledger(alloc: Global) -> Journal
+    ensures { IsSound (state_of_journal result).now }
 {
-    Copies::new(alloc)
+    Journal::new(alloc)
 }
 
 /// Adds an AES key of 128 bits, whose bytes aren't known.
-fn declare<L: Ledger>(alloc: Global, ledger: &mut L, id: &str) -> Result<(), Fail>
+fn declare<L: Ledger>(alloc: Global, ledger: &mut L, id: &str, dates: Dates) -> Result<(), Fail>
     requires { IsSound (L.state ledger.old).now }
     ensures { IfOk result (λ _. IsSound (L.state ledger.new).now) }
 {
@@ -186,14 +207,19 @@ fn declare<L: Ledger>(alloc: Global, ledger: &mut L, id: &str) -> Result<(), Fai
         id,
         kind: ObjectType::SymmetricKey,
         given,
-        life: life(None, Material::Secret(secret)),
+        life: life(dates, None, Material::Secret(secret)),
     };
     ledger.add(object)?;
     Ok(())
 }
 
 /// Adds an object that was destroyed a second ago.
-fn declare_destroyed<L: Ledger>(alloc: Global, ledger: &mut L, id: &str) -> Result<(), Fail>
+fn declare_destroyed<L: Ledger>(
+    alloc: Global,
+    ledger: &mut L,
+    id: &str,
+    dates: Dates,
+) -> Result<(), Fail>
     requires { IsSound (L.state ledger.old).now }
     ensures { IfOk result (λ _. IsSound (L.state ledger.new).now) }
 {
@@ -201,7 +227,7 @@ fn declare_destroyed<L: Ledger>(alloc: Global, ledger: &mut L, id: &str) -> Resu
         id: String::from_str(alloc, id)?,
         kind: ObjectType::SymmetricKey,
         given: AttrSet::new(alloc),
-        life: life(Some(NOW - 1), Material::Gone),
+        life: life(dates, Some(NOW - 1), Material::Gone),
     };
     ledger.add(object)?;
     Ok(())
@@ -248,7 +274,7 @@ fn undone_get_teaches(rt: HostRuntime) -> Result<(), Fail> {
     let mut ledger = new_ledger(alloc);
     let rules = Rules::default_rules(alloc)?;
     let mut placeholder = Placeholder::new();
-    declare(alloc, &mut ledger, "k1")?;
+    declare(alloc, &mut ledger, "k1", undated())?;
     let item = shown(Some("k1"), got(&SHORT));
     assert_eq!(rt;
         judged(alloc, &mut ledger, &rules, &mut placeholder, item)?,
@@ -286,8 +312,8 @@ fn reasons_of_a_get(rt: HostRuntime) -> Result<(), Fail> {
     let mut ledger = new_ledger(alloc);
     let rules = Rules::default_rules(alloc)?;
     let mut placeholder = Placeholder::new();
-    declare(alloc, &mut ledger, "k1")?;
-    declare_destroyed(alloc, &mut ledger, "k2")?;
+    declare(alloc, &mut ledger, "k1", undated())?;
+    declare_destroyed(alloc, &mut ledger, "k2", undated())?;
     let answer = Answer {
         operation: Some(1),
         ..answered(Status::Success, None, None)
@@ -334,8 +360,8 @@ fn reasons_founded(rt: HostRuntime) -> Result<(), Fail> {
     let mut ledger = new_ledger(alloc);
     let rules = Rules::default_rules(alloc)?;
     let mut placeholder = Placeholder::new();
-    declare(alloc, &mut ledger, "k1")?;
-    declare_destroyed(alloc, &mut ledger, "k2")?;
+    declare(alloc, &mut ledger, "k1", undated())?;
+    declare_destroyed(alloc, &mut ledger, "k2", undated())?;
     let item = failed("k1", 1);
     assert_eq!(rt;
         judged(alloc, &mut ledger, &rules, &mut placeholder, item)?,

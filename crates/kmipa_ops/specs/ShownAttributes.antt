@@ -1,0 +1,172 @@
+-- Get Attributes: which attributes of an object its answer may show at a moment, and which it must (KMIP 2.1, section 6; what is required:
+-- profile).
+use Rattle.std.specs.Prelude.{◌≡◌, ◌==◌, ◌&&◌, ◌||◌, ℕ, ℤ, Bool, true, false, not, is_none, is_some, IsSome, cond, List, Option, Some, None}
+use Rattle.std.specs.List.{Contains, list_any}
+use Rattle.std.specs.Ordering.{int_eq}
+use Rattle.kmipa_attrs.specs.Sets.{NameOf, Attributes}
+use Rattle.kmipa_attrs.specs.ObjectTypes.{type_number}
+use Rattle.kmipa_object.specs.Inventory.{Card, Thing, live}
+use Rattle.kmipa_object.specs.Life.{Dates, state, state_number}
+use Rattle.kmipa_msgs.specs.Messages.{GetAttributesOf, GotAttributesOf}
+use Rattle.kmipa_ops.specs.declared.judged.Judged.{Judged}
+use Rattle.kmipa_ops.specs.declared.judged.Judged.TheVariants.{Name, ObjectType, CryptographicAlgorithm, CryptographicLength, CryptographicUsageMask, State, InitialDate, ActivationDate, DeactivationDate, DestroyDate, CompromiseDate}
+use Rattle.kmipa_ops.specs.declared.why.Why.{Why}
+use Rattle.kmipa_ops.specs.declared.why.Why.TheVariants.{NoSuchObject, AttributeDiffers, AttributeMissing, EchoDiffers}
+use Rattle.kmipa_ops.specs.Objects.{meant, HasObject, card_meant, Echoes, Agree, is_other, is_other_id, clash, same_name}
+
+-- WHAT MAY BE SHOWN
+
+-- each of the names is one of those known
+abbrev pub AreAmong : List NameOf → List NameOf → Type 0
+AreAmong known names = (n : NameOf) → Contains names n → Contains known n
+
+-- the object has what is shown
+abbrev pub IsHad : {A : Type 0} → Option A → Option A → Type 0
+IsHad None own = Unit {0}
+IsHad (Some x) own = own ≡ Some x
+
+-- What is shown is the object's at the moment. An algorithm, a length, a mask or an Initial Date that the object doesn't have isn't judged;
+-- of the other four dates none may be shown that the object doesn't have.
+pub record IsOwnAt (c : Card) (t : ℤ) (shown : Attributes) : Type 0 where
+  pub names : AreAmong c.given.names shown.names
+  pub object_type : Echoes shown.object_type (type_number c.kind)
+  pub state : Echoes shown.state (state_number (state c.dates t))
+  pub algorithm : Agree shown.algorithm c.given.algorithm
+  pub length : Agree shown.length c.given.length
+  pub mask : Agree shown.mask c.given.mask
+  pub initial : Agree shown.initial c.dates.initial
+  pub activation : IsHad shown.activation c.dates.activation
+  pub deactivation : IsHad shown.deactivation c.dates.deactivation
+  pub destroy : IsHad shown.destroy c.dates.destroy
+  pub compromise : IsHad shown.compromise c.dates.compromise
+
+-- WHAT IS REQUIRED
+
+-- the tags of the judged attributes
+abbrev pub judged_tag : Judged → ℕ
+judged_tag ActivationDate = 0x42_0001
+judged_tag CompromiseDate = 0x42_0020
+judged_tag CryptographicAlgorithm = 0x42_0028
+judged_tag CryptographicLength = 0x42_002A
+judged_tag CryptographicUsageMask = 0x42_002C
+judged_tag DeactivationDate = 0x42_002F
+judged_tag DestroyDate = 0x42_0033
+judged_tag InitialDate = 0x42_0039
+judged_tag Name = 0x42_0053
+judged_tag ObjectType = 0x42_0057
+judged_tag State = 0x42_008D
+
+-- an attribute is asked for where a reference names it, and each one is where there are no references
+abbrev pub asks_for : GetAttributesOf → Judged → Bool
+asks_for g attribute = not g.is_selective || list_any (λ (tag : ℕ). tag == judged_tag attribute) g.references
+
+-- each attribute that is asked for is shown if the object has it, with all its names
+pub record ShowsAsked (g : GetAttributesOf) (c : Card) (shown : Attributes) : Type 0 where
+  pub names : asks_for g Name ≡ true → AreAmong shown.names c.given.names
+  pub object_type : asks_for g ObjectType ≡ true → IsSome shown.object_type
+  pub state : asks_for g State ≡ true → IsSome shown.state
+  pub algorithm : asks_for g CryptographicAlgorithm ≡ true → IsSome c.given.algorithm → IsSome shown.algorithm
+  pub length : asks_for g CryptographicLength ≡ true → IsSome c.given.length → IsSome shown.length
+  pub mask : asks_for g CryptographicUsageMask ≡ true → IsSome c.given.mask → IsSome shown.mask
+  pub initial : asks_for g InitialDate ≡ true → IsSome c.dates.initial → IsSome shown.initial
+  pub activation : asks_for g ActivationDate ≡ true → IsSome c.dates.activation → IsSome shown.activation
+  pub deactivation : asks_for g DeactivationDate ≡ true → IsSome c.dates.deactivation → IsSome shown.deactivation
+  pub destroy : asks_for g DestroyDate ≡ true → IsSome c.dates.destroy → IsSome shown.destroy
+  pub compromise : asks_for g CompromiseDate ≡ true → IsSome c.dates.compromise → IsSome shown.compromise
+
+-- nothing is required of a destroyed object, nor where the request has items other than the identifier and references
+abbrev pub HasRequired : GetAttributesOf → Card → Attributes → Type 0
+HasRequired g c shown = live c ≡ true → g.has_others ≡ false → ShowsAsked g c shown
+
+-- Get Attributes succeeds, in any state
+pub record GetsAttributes (V : List Thing) (before : Option (List ℕ)) (t : ℤ) (asked : GetAttributesOf) (a : GotAttributesOf) (V' : List Thing) (after : Option (List ℕ)) : Type 0 where
+  pub id : List ℕ
+  pub place : ℕ
+  pub object : Thing
+  pub about : meant asked.id before ≡ Some id
+  pub there : HasObject V id place object
+  pub own : IsOwnAt object.card t a.attributes
+  pub required : HasRequired asked object.card a.attributes
+  pub echo : Echoes a.id id
+  pub leaves : V' ≡ V
+  pub placeholder : after ≡ before
+
+-- WHAT SPEAKS AGAINST IT
+
+-- one of the names isn't among those known
+abbrev pub has_stranger : List NameOf → List NameOf → Bool
+has_stranger known names = list_any (λ (n : NameOf). not (list_any (λ (k : NameOf). same_name k n) known)) names
+
+-- a date is shown that the object doesn't have
+abbrev pub is_foreign_date : Option ℤ → Option ℤ → Bool
+is_foreign_date None own = false
+is_foreign_date (Some date) None = true
+is_foreign_date (Some date) (Some own) = not (int_eq date own)
+
+abbrev pub shows_other_value : Card → ℤ → Attributes → Bool
+shows_other_value c t shown =
+    is_other (λ (x y : ℕ). x == y) shown.object_type (type_number c.kind) || is_other (λ (x y : ℕ). x == y) shown.state (state_number (state c.dates t))
+    || clash (λ (x y : ℕ). x == y) shown.algorithm c.given.algorithm || clash int_eq shown.length c.given.length || clash int_eq shown.mask c.given.mask
+
+abbrev pub shows_other_date : Dates → Attributes → Bool
+shows_other_date dates shown =
+    clash int_eq shown.initial dates.initial || is_foreign_date shown.activation dates.activation || is_foreign_date shown.deactivation dates.deactivation
+    || is_foreign_date shown.destroy dates.destroy || is_foreign_date shown.compromise dates.compromise
+
+-- something is shown that isn't the object's at the moment
+abbrev pub shows_foreign : Card → ℤ → Attributes → Bool
+shows_foreign c t shown = has_stranger c.given.names shown.names || shows_other_value c t shown || shows_other_date c.dates shown
+
+-- an attribute is asked for, the object has it, and it isn't shown
+abbrev pub leaves_out : GetAttributesOf → Judged → Bool → Bool → Bool
+leaves_out g attribute own shown = asks_for g attribute && own && not shown
+
+abbrev pub lacks_name : GetAttributesOf → Card → Attributes → Bool
+lacks_name g c shown = asks_for g Name && has_stranger shown.names c.given.names
+
+abbrev pub lacks_value : GetAttributesOf → Card → Attributes → Bool
+lacks_value g c shown =
+    leaves_out g ObjectType true (is_some shown.object_type) || leaves_out g State true (is_some shown.state)
+    || leaves_out g CryptographicAlgorithm (is_some c.given.algorithm) (is_some shown.algorithm)
+    || leaves_out g CryptographicLength (is_some c.given.length) (is_some shown.length)
+    || leaves_out g CryptographicUsageMask (is_some c.given.mask) (is_some shown.mask)
+
+abbrev pub lacks_date : GetAttributesOf → Dates → Attributes → Bool
+lacks_date g dates shown =
+    leaves_out g InitialDate (is_some dates.initial) (is_some shown.initial)
+    || leaves_out g ActivationDate (is_some dates.activation) (is_some shown.activation)
+    || leaves_out g DeactivationDate (is_some dates.deactivation) (is_some shown.deactivation)
+    || leaves_out g DestroyDate (is_some dates.destroy) (is_some shown.destroy)
+    || leaves_out g CompromiseDate (is_some dates.compromise) (is_some shown.compromise)
+
+-- something that is asked for isn't shown
+abbrev pub lacks_asked : GetAttributesOf → Card → Attributes → Bool
+lacks_asked g c shown = lacks_name g c shown || lacks_value g c shown || lacks_date g c.dates shown
+
+-- something that is required isn't shown
+abbrev pub lacks_required : GetAttributesOf → Card → Attributes → Bool
+lacks_required g c shown = live c && not g.has_others && lacks_asked g c shown
+
+-- the same of the object that is meant, where there is one
+abbrev pub shows_foreign_of : Option Card → ℤ → Attributes → Bool
+shows_foreign_of None t shown = false
+shows_foreign_of (Some c) t shown = shows_foreign c t shown
+
+abbrev pub lacks_required_of : GetAttributesOf → Option Card → Attributes → Bool
+lacks_required_of g None shown = false
+lacks_required_of g (Some c) shown = lacks_required g c shown
+
+-- against a Get Attributes that is done, about this identifier, and shows this if its payload is there
+abbrev pub get_attributes_speaks : List Card → Option (List ℕ) → ℤ → GetAttributesOf → Option GotAttributesOf → Why → Bool
+get_attributes_speaks cs about t g shown NoSuchObject = is_none (card_meant cs about)
+get_attributes_speaks cs about t g (Some a) AttributeDiffers = shows_foreign_of (card_meant cs about) t a.attributes
+get_attributes_speaks cs about t g (Some a) AttributeMissing = lacks_required_of g (card_meant cs about) a.attributes
+get_attributes_speaks cs about t g (Some a) EchoDiffers = is_other_id a.id about
+get_attributes_speaks cs about t g shown why = false
+
+-- the reasons against an answer about an object, as they are looked at one after the other
+abbrev pub attributes_speak : Card → Option (List ℕ) → ℤ → GetAttributesOf → Option GotAttributesOf → Option Why
+attributes_speak c about t g None = None
+attributes_speak c about t g (Some a) =
+    cond (shows_foreign c t a.attributes) (Some AttributeDiffers)
+    (cond (lacks_required g c a.attributes) (Some AttributeMissing) (cond (is_other_id a.id about) (Some EchoDiffers) None))

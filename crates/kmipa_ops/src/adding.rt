@@ -1,0 +1,151 @@
+//! New objects: what Create and Register share.
+
+ghost use Rattle.std.specs.Prelude.{◌≡◌, Some, find, map};
+ghost use Rattle.kmipa_attrs.specs.Sets.{attributes_of, name_of};
+ghost use Rattle.kmipa_object.specs.Life.{dates_of};
+ghost use Rattle.kmipa_store.specs.Ledger.{cards_of};
+ghost use Rattle.kmipa_msgs.specs.Messages.{lent, maybe_lent, registered_of, rules_of};
+ghost use Rattle.kmipa_ops.specs.After.{Leaves, MakesOwn, with_own};
+ghost use Rattle.kmipa_ops.specs.Blame.{adding_speaks};
+ghost use Rattle.kmipa_ops.specs.Does.{kept, name_taken, newborn};
+ghost use Rattle.kmipa_ops.specs.Placeholders.{placeholder_of};
+ghost use Rattle.kmipa_ops.specs.Whys.{whys};
+
+use crate::echo::is_other_number;
+use crate::objects::any_live_named;
+use crate::placeholder::Placeholder;
+use crate::why::Why;
+use kmipa_attrs::{AttrSet, Name, ObjectType};
+use kmipa_msgs::{Registered, Rules};
+use kmipa_object::{Life, Material, Object, Rule, SecretNo};
+use kmipa_store::Ledger;
+use std::alloc::{AllocError, Global};
+
+/// A new object: its identifier, its type, its attributes, and its bytes where the client brings them.
+#[derive(Drop)]
+pub struct Newborn<'a> {
+    pub id: &'a str,
+    pub kind: ObjectType,
+    pub attributes: AttrSet,
+    pub material: Option<&'a [u8]>,
+}
+
+/// The lowest reason against a new object of this type and these names, for which there are bytes or aren't.
+pub(crate) fn why_not_added<L: Ledger>(
+    ledger: &L,
+    rules: &Rules,
+    kind: ObjectType,
+    names: &[Name],
+    has_bytes: bool,
+    answered: &Registered,
+) -> Option<Why>
+    ensures { result ≡ find (adding_speaks (rules_of rules.now) (cards_of (L.state ledger.now).now.objects) kind (map name_of names.now) has_bytes (registered_of answered.now)) whys }
+{
+    if ledger.find(answered.id).is_some() {
+        return Some(Why::IdentifierTaken);
+    }
+    if is_name_taken(ledger, rules, names) {
+        return Some(Why::NameTaken);
+    }
+    if !has_bytes {
+        return Some(Why::LengthImpossible);
+    }
+    if is_other_number(answered.object_type, kind.number()) {
+        return Some(Why::EchoDiffers);
+    }
+    None
+}
+
+fn is_name_taken<L: Ledger>(ledger: &L, rules: &Rules, names: &[Name]) -> bool
+    ensures { result ≡ name_taken (rules_of rules.now) (cards_of (L.state ledger.now).now.objects) (map name_of names.now) }
+{
+    rules.unique_names && any_live_named(ledger, names)
+}
+
+/// Adds a new object against which nothing speaks, and the placeholder holds its identifier.
+pub(crate) fn add<L: Ledger>(
+    alloc: Global,
+    ledger: &mut L,
+    placeholder: &mut Placeholder,
+    t: i64,
+    object: Newborn,
+) -> Result<(), AllocError>
+    ensures { Leaves (L.state ledger.old) (with_own (L.state ledger.old).now (newborn t (lent object.entry.id) object.entry.kind (attributes_of object.entry.attributes)) (maybe_lent object.entry.material)) (Some (lent object.entry.id)) result (L.state ledger.new) (placeholder_of placeholder.new) }
+{
+    let Newborn {
+        id,
+        kind,
+        attributes,
+        material,
+    } = object;
+    let own_id = String::from_str(alloc, id)?;
+    let held_id = String::from_str(alloc, id)?;
+    let activation = attributes.activation;
+    let deactivation = attributes.deactivation;
+    let given = kept(attributes);
+    let secret = new_own(ledger, Rule::of(kind, &given), material)?;
+    let object = Object {
+        id: own_id,
+        kind,
+        given,
+        life: new_life(t, activation, deactivation, secret),
+    };
+    match ledger.add(object) {
+        Ok(_) => {
+            placeholder.id = Some(held_id);
+            Ok(())
+        }
+        Err(_) => Err(AllocError),
+    }
+}
+
+/// The attributes that an object keeps.
+fn kept(attributes: AttrSet) -> AttrSet
+    ensures { attributes_of result ≡ kept (attributes_of attributes) }
+{
+    AttrSet {
+        object_type: None,
+        state: None,
+        initial: None,
+        activation: None,
+        deactivation: None,
+        destroy: None,
+        compromise: None,
+        ..attributes
+    }
+}
+
+/// The life of a new object: its Initial Date is the moment.
+fn new_life(t: i64, activation: Option<i64>, deactivation: Option<i64>, secret: SecretNo) -> Life
+    ensures dates { dates_of result ≡ record { initial = Some t; activation = activation; deactivation = deactivation; destroy = None; compromise = None } }
+    ensures material { result.material ≡ Material.Secret secret }
+{
+    Life {
+        initial: Some(t),
+        activation,
+        deactivation,
+        destroy: None,
+        compromise: None,
+        material: Material::Secret(secret),
+    }
+}
+
+/// A new secret, of known bytes or unknown ones.
+fn new_own<L: Ledger>(
+    ledger: &mut L,
+    rule: Rule,
+    material: Option<&[u8]>,
+) -> Result<SecretNo, AllocError>
+    ensures { MakesOwn (L.state ledger.old) rule (maybe_lent material.entry) result (L.state ledger.new) }
+{
+    let Ok(secret) = ledger.new_secret(rule) else {
+        return Err(AllocError);
+    };
+    let Some(bytes) = material else {
+        return Ok(secret);
+    };
+    match ledger.learn(secret, bytes) {
+        Ok(()) => Ok(secret),
+        Err(_) => Err(AllocError),
+    }
+}

@@ -1,0 +1,115 @@
+//! Activate, Revoke and Destroy: the operations that change an object.
+
+ghost use Rattle.std.specs.Prelude.{◌≡◌, IfOk, MatchResult, false, find, true};
+ghost use Rattle.kmipa_object.specs.Inventory.{card_of};
+ghost use Rattle.kmipa_object.specs.Life.{dates_of, state};
+ghost use Rattle.kmipa_object.specs.Table.{allowed};
+ghost use Rattle.kmipa_msgs.specs.Messages.{maybe_lent};
+ghost use Rattle.kmipa_ops.specs.After.{Changes, dates_left, material_after, material_left, with_changed};
+ghost use Rattle.kmipa_ops.specs.Blame.{change_speaks, is_not};
+ghost use Rattle.kmipa_ops.specs.Changes.{act_of, dates_after};
+ghost use Rattle.kmipa_ops.specs.Whys.{whys};
+
+use crate::echo::is_other_id;
+use crate::objects::{object_meant, place_meant};
+use crate::why::Why;
+use kmipa_object::{
+    Act, Allow, Life, Object, WrongState, activated, allows, destroyed, revoked, state_at,
+};
+use kmipa_store::Ledger;
+use std::alloc::AllocError;
+
+/// An operation that changes an object.
+#[derive(Clone, Copy, Debug, PartialEq, Eq)]
+pub enum Change {
+    Activate,
+    /// With this Revocation Reason Code.
+    Revoke(u32),
+    Destroy,
+}
+
+/// The lowest reason against a change that is done: of the object that is meant, whose identifier is shown so if it is.
+pub(crate) fn why_not_changed<L: Ledger>(
+    ledger: &L,
+    about: Option<&str>,
+    t: i64,
+    change: Change,
+    shown: Option<&str>,
+) -> Option<Why>
+    ensures { result ≡ find (change_speaks (L.state ledger.now).now.objects (maybe_lent about.entry) t change (maybe_lent shown.entry)) whys }
+{
+    let Some(object) = object_meant(ledger, about) else {
+        return Some(Why::NoSuchObject);
+    };
+    if is_excluded(object, change, t) {
+        return Some(Why::WrongState);
+    }
+    if is_other_id(shown, about) {
+        return Some(Why::EchoDiffers);
+    }
+    None
+}
+
+/// Whether the object's state excludes the change.
+fn is_excluded(object: &Object, change: Change, t: i64) -> bool
+    ensures { result ≡ is_not (allowed (act_of change) (state (card_of object.now).dates t)) }
+{
+    match allows(act_of(change), state_at(&object.life, t)) {
+        Allow::Not => true,
+        Allow::Must | Allow::May => false,
+    }
+}
+
+/// Its row in the table of states.
+pub(crate) fn act_of(change: Change) -> Act
+    ensures { result ≡ act_of change }
+{
+    match change {
+        Change::Activate => Act::Activate,
+        Change::Revoke(code) => Act::of_revoke(code),
+        Change::Destroy => Act::Destroy,
+    }
+}
+
+/// From now on the object that is meant leads the life that the change leaves.
+pub(crate) fn change_object<L: Ledger>(
+    ledger: &mut L,
+    about: Option<&str>,
+    t: i64,
+    change: Change,
+) -> Result<(), AllocError>
+    ensures { Changes (L.state ledger.old) (with_changed (L.state ledger.old).now (maybe_lent about.entry) t change) result (L.state ledger.new) }
+{
+    let Some(place) = place_meant(ledger, about) else {
+        return Ok(());
+    };
+    let life = life_left(ledger.at(place).life, change, t);
+    match ledger.replace(place, life) {
+        Ok(()) => Ok(()),
+        Err(_) => Err(AllocError),
+    }
+}
+
+/// The life after the change, or as it is where the state excludes it.
+fn life_left(life: Life, change: Change, t: i64) -> Life
+    ensures dates { dates_of result ≡ dates_left change t (dates_of life) }
+    ensures material { result.material ≡ material_left change t (dates_of life) life.material }
+{
+    match life_after(life, change, t) {
+        Ok(after) => after,
+        Err(_) => life,
+    }
+}
+
+fn life_after(life: Life, change: Change, t: i64) -> Result<Life, WrongState>
+    ensures dates { IfOk result (λ after. dates_of after ≡ dates_after change t (dates_of life)) }
+    ensures material { IfOk result (λ after. after.material ≡ material_after change life.material) }
+    ensures err { MatchResult result (λ _. is_not (allowed (act_of change) (state (dates_of life) t)) ≡ false)
+        (λ _. is_not (allowed (act_of change) (state (dates_of life) t)) ≡ true) }
+{
+    match change {
+        Change::Activate => activated(life, t),
+        Change::Revoke(code) => revoked(life, code, t),
+        Change::Destroy => destroyed(life, t),
+    }
+}

@@ -1,0 +1,123 @@
+//! Get Attributes.
+
+ghost use Rattle.std.specs.Prelude.{◌≡◌, find, option_map};
+ghost use Rattle.std.specs.Ordering.{int_eq};
+ghost use Rattle.kmipa_attrs.specs.Sets.{attributes_of};
+ghost use Rattle.kmipa_object.specs.Inventory.{card_of};
+ghost use Rattle.kmipa_object.specs.Life.{dates_of};
+ghost use Rattle.kmipa_store.specs.Ledger.{cards_of};
+ghost use Rattle.kmipa_msgs.specs.Messages.{get_attributes_of, got_attributes_of, maybe_lent};
+ghost use Rattle.kmipa_ops.specs.Objects.{clash};
+ghost use Rattle.kmipa_ops.specs.ShownAttributes.{attributes_speak, get_attributes_speaks, is_foreign_date, shows_foreign, shows_other_date, shows_other_value};
+ghost use Rattle.kmipa_ops.specs.Whys.{whys};
+
+use crate::echo::{clash_lengths, clash_numbers, is_other_id, is_other_number};
+use crate::names::has_stranger;
+use crate::objects::object_meant;
+use crate::required::lacks_required;
+use crate::why::Why;
+use kmipa_attrs::AttrSet;
+use kmipa_msgs::{GetAttributes, GotAttributes};
+use kmipa_object::{Life, Object, state_at};
+use kmipa_store::Ledger;
+
+/// The lowest reason against a Get Attributes that is done: of the object that is meant these attributes are shown, if the payload is there.
+pub(crate) fn why_not_shown_attributes<L: Ledger>(
+    ledger: &L,
+    about: Option<&str>,
+    t: i64,
+    asked: &GetAttributes,
+    shown: Option<&GotAttributes>,
+) -> Option<Why>
+    ensures { result ≡ find (get_attributes_speaks (cards_of (L.state ledger.now).now.objects) (maybe_lent about.entry) t (get_attributes_of asked.now) (option_map (λ got. got_attributes_of got.now) shown.entry)) whys }
+{
+    let Some(object) = object_meant(ledger, about) else {
+        return Some(Why::NoSuchObject);
+    };
+    why_not_attributes(object, about, t, asked, shown)
+}
+
+/// The lowest reason against an answer about an object.
+fn why_not_attributes(
+    object: &Object,
+    about: Option<&str>,
+    t: i64,
+    asked: &GetAttributes,
+    shown: Option<&GotAttributes>,
+) -> Option<Why>
+    ensures { result ≡ attributes_speak (card_of object.now) (maybe_lent about.entry) t (get_attributes_of asked.now) (option_map (λ got. got_attributes_of got.now) shown.entry) }
+{
+    let Some(got) = shown else {
+        return None;
+    };
+    if shows_foreign(object, t, &got.attributes) {
+        return Some(Why::AttributeDiffers);
+    }
+    if lacks_required(asked, object, &got.attributes) {
+        return Some(Why::AttributeMissing);
+    }
+    if is_other_id(got.id, about) {
+        return Some(Why::EchoDiffers);
+    }
+    None
+}
+
+/// Whether something is shown that isn't the object's at this moment.
+fn shows_foreign(object: &Object, t: i64, shown: &AttrSet) -> bool
+    ensures { result ≡ shows_foreign (card_of object.now) t (attributes_of shown.now) }
+{
+    has_stranger(object.given.names.as_slice(), shown.names.as_slice())
+        || shows_other_value(object, t, shown)
+        || shows_other_date(&object.life, shown)
+}
+
+fn shows_other_value(object: &Object, t: i64, shown: &AttrSet) -> bool
+    ensures { result ≡ shows_other_value (card_of object.now) t (attributes_of shown.now) }
+{
+    is_other_number(shown.object_type, object.kind.number())
+        || is_other_number(shown.state, state_at(&object.life, t).number())
+        || clash_numbers(shown.algorithm, object.given.algorithm)
+        || clash_lengths(shown.length, object.given.length)
+        || clash_masks(shown.mask, object.given.mask)
+}
+
+fn shows_other_date(life: &Life, shown: &AttrSet) -> bool
+    ensures { result ≡ shows_other_date (dates_of life.now) (attributes_of shown.now) }
+{
+    clash_dates(shown.initial, life.initial)
+        || is_foreign_date(shown.activation, life.activation)
+        || is_foreign_date(shown.deactivation, life.deactivation)
+        || is_foreign_date(shown.destroy, life.destroy)
+        || is_foreign_date(shown.compromise, life.compromise)
+}
+
+/// Two masks are there, and differ.
+fn clash_masks(shown: Option<i32>, own: Option<i32>) -> bool
+    ensures { result ≡ clash int_eq shown own }
+{
+    match (shown, own) {
+        (Some(mask), Some(own)) => mask != own,
+        _ => false,
+    }
+}
+
+/// Two dates are there, and differ.
+fn clash_dates(shown: Option<i64>, own: Option<i64>) -> bool
+    ensures { result ≡ clash int_eq shown own }
+{
+    match (shown, own) {
+        (Some(date), Some(own)) => date != own,
+        _ => false,
+    }
+}
+
+/// A date is shown that the object doesn't have.
+fn is_foreign_date(shown: Option<i64>, own: Option<i64>) -> bool
+    ensures { result ≡ is_foreign_date shown own }
+{
+    match (shown, own) {
+        (None, _) => false,
+        (Some(_), None) => true,
+        (Some(date), Some(own)) => date != own,
+    }
+}
