@@ -1,6 +1,5 @@
 use Rattle.std.proofs.Common.{Some, sym, ap, pos, is_none}
 use Rattle.kmipa_attrs.specs.declared.object_type.ObjectType.TheVariants.{SymmetricKey}
-use Rattle.kmipa_object.specs.declared.life.Life.{Life}
 use Rattle.kmipa_object.specs.declared.object.Object.{Object}
 use Rattle.kmipa_store.specs.Ledger.{held}
 use Rattle.kmipa_ops.proofs.AddLemmas.{declared_sound}
