@@ -1,12 +1,12 @@
 -- Where a witness is accepted, nothing but a yes can be told of it.
-use Rattle.std.proofs.Common.{◌≡◌, ◌≢◌, ◌<◌, ◌⊎◌, inl, inr, ℕ, zero, suc, ◌+◌, ℤ, pos, ◌<ℤ◌, ◌≤ℤ◌, List, [], ◌∷◌, map, length, take, drop, get_or, Contains, Option, Some, None, slice_get, Result, Ok, Err, refl, sym, ap, ◌∙◌, subst, arith}
-use Rattle.std.specs.Prelude.{AllPairs, IsPermutation}
+use Rattle.std.proofs.Common.{◌≡◌, ◌<◌, ◌⊎◌, inl, inr, ℕ, zero, suc, ◌+◌, ℤ, ◌≤ℤ◌, List, [], ◌∷◌, map, length, take, drop, get_or, Option, Some, None, slice_get, Result, Ok, Err, refl, sym, ap, ◌∙◌, subst, arith}
+use Rattle.std.specs.Prelude.{AllPairs}
 use Rattle.std.specs.Int.Signed.{clash_ℤ}
 use Rattle.std.proofs.lemmas.List.{length-map, take-append-drop}
 use Rattle.std.proofs.lemmas.List.Sorted.{IsPermutation-sym, Contains-permutation}
 use Rattle.std.proofs.lemmas.Option.{get_or_from_slice_get, slice_get_within}
 use Rattle.kmipa_object.specs.Inventory.{Thing}
-use Rattle.kmipa_record.specs.Marks.{MarkOf, begun, AreRecorded}
+use Rattle.kmipa_record.specs.Marks.{MarkOf, AreRecorded}
 use Rattle.kmipa_record.specs.Declarations.{DeclarationOf}
 use Rattle.kmipa_record.specs.Witnesses.{TurnOf}
 use Rattle.kmipa_msgs.specs.declared.kind.OutsideKind.{OutsideKind}
@@ -19,10 +19,10 @@ use Rattle.kmipa_ops.proofs.ExplainLemmas.{chain_split}
 use Rattle.kmipa_ops.specs.Chains.{ChainSome}
 use Rattle.kmipa_batch.specs.Calls.{pairs_of, RefusesMessage, CallSome}
 use Rattle.kmipa_batch.proofs.CompletionLemmas.{batch_of_call}
-use Rattle.kmipa_check.specs.Calls.{CallOf, AreCalls, AreOutside, AreRequest, AreResponse, HasMarks, IsOutsideOn, IsFirstOutside}
-use Rattle.kmipa_check.specs.Orders.{NamesAt, NamesBefore, IsFormed, AreFormedBelow, NeedsFill, TurnFault, unknown, twice, unfilled, WitnessFaultAt, in_turn, left_out}
-use Rattle.kmipa_check.specs.Runs.{Linked, Before, IsPlaced, IsRun, IsAccepted, rules_declared}
-use Rattle.kmipa_check.specs.Verdicts.{IsLate, RunsBack, IsPlacedAt, ArePlaced, GoesUpTo, RefusedPlace, late, runs_back, RefusedAt, in_place, in_item, IsRefused, IsOrder, Checks}
+use Rattle.kmipa_check.specs.Calls.{CallOf, AreOutside, AreRequest, AreResponse, HasMarks, IsOutsideOn, IsFirstOutside}
+use Rattle.kmipa_check.specs.Orders.{NamesAt, NamesBefore, IsFormed, NeedsFill, TurnFault, unknown, twice, unfilled, WitnessFaultAt, in_turn, left_out}
+use Rattle.kmipa_check.specs.Runs.{Linked, Before, IsPlaced, IsAccepted, rules_declared}
+use Rattle.kmipa_check.specs.Verdicts.{IsLate, RunsBack, IsPlacedAt, ArePlaced, GoesUpTo, late, runs_back, in_place, in_item, IsRefused, IsOrder, Checks}
 use Rattle.kmipa_check.specs.declared.fault.CheckFault.{CheckFault}
 use Rattle.kmipa_check.specs.declared.fault.CheckFault.TheVariants.{Outside, Witness, Memory}
 use Rattle.kmipa_check.specs.declared.fault.Side.{Side}

@@ -1,5 +1,5 @@
 -- What the three readers and the check come to together.
-use Rattle.std.proofs.Common.{◌≡◌, ℕ, List, Option, Some, None, IfSome, subst, ap, sym, Result, Ok, Err}
+use Rattle.std.proofs.Common.{◌≡◌, ℕ, List, Option, Some, None, IfSome, subst, Ok, Err}
 use Rattle.kmipa_record.specs.Marks.{AreRecorded}
 use Rattle.kmipa_record.specs.Transcripts.{transcript_of, IsTranscript}
 use Rattle.kmipa_record.specs.Declarations.{declaration_of, IsDeclaration}

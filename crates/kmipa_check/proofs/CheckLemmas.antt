@@ -1,16 +1,15 @@
 -- What reading, ordering and replaying the calls come to together.
-use Rattle.std.proofs.Common.{◌≡◌, ◌≢◌, ◌<◌, ◌≤◌, ℕ, ◌+◌, ℤ, pos, ◌≤ℤ◌, List, [], ◌∷◌, map, length, take, get_or, Contains, Option, Some, None, slice_get, refl, sym, ap, ◌∙◌, subst, arith, Result, Ok, Err}
-use Rattle.std.specs.Prelude.{All, AllPairs, MatchResult}
+use Rattle.std.proofs.Common.{◌≢◌, ◌<◌, ℕ, ℤ, pos, ◌≤ℤ◌, List, map, length, get_or, sym, subst, arith, Result, Ok, Err}
+use Rattle.std.specs.Prelude.{All, AllPairs}
 use Rattle.std.proofs.lemmas.List.{length-map, get_or-map}
 use Rattle.std.proofs.lemmas.Option.{get_or_from_slice_get, slice_get_within}
-use Rattle.kmipa_store.specs.Ledger.{Meaning}
 use Rattle.kmipa_record.specs.Declarations.{DeclarationOf}
 use Rattle.kmipa_record.specs.Marks.{MarkOf, AreRecorded, IsCallNumber, begun}
 use Rattle.kmipa_record.specs.Marks
 use Rattle.kmipa_record.specs.Witnesses.{TurnOf}
 use Rattle.kmipa_check.specs.Calls.{CallOf, call_of, no_call, ordered, AreCalls, IsRecorded}
 use Rattle.kmipa_check.specs.Ordering.{AreFilled, AreOrdered, OrderFault}
-use Rattle.kmipa_check.specs.Replays.{Replayed, TellsRun, AllReadable}
+use Rattle.kmipa_check.specs.Replays.{TellsRun, AllReadable}
 use Rattle.kmipa_check.specs.Verdicts.{Checks}
 use Rattle.kmipa_check.specs.CallReading.{CallsFault}
 use Rattle.kmipa_check.specs.declared.call.Call.{Call}
@@ -21,7 +20,7 @@ use Rattle.kmipa_check.specs.declared.verdict.Verdict.TheVariants.{Yes, No}
 use Rattle.kmipa_check.proofs.PlaceLemmas.{mapped_from, at_contains}
 use Rattle.kmipa_check.proofs.PermutationLemmas.{once_pairs}
 use Rattle.kmipa_check.proofs.ReadableLemmas.{call_readable}
-use Rattle.kmipa_check.proofs.ReplayLemmas.{replayed_none, replayed_accepts}
+use Rattle.kmipa_check.proofs.ReplayLemmas.{replayed_accepts}
 use Rattle.kmipa_check.proofs.WholeOrderLemmas.{order_permutes}
 
 -- each call of a recorded transcript has a number from 1 on

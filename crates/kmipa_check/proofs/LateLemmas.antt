@@ -1,12 +1,12 @@
 -- The scan for late calls, one call more.
-use Rattle.std.proofs.Common.{◌≡◌, ◌<◌, ◌≤◌, ◌⊎◌, inl, inr, ℕ, zero, suc, ◌+◌, ◌-◌, Bool, true, false, nat_lt, if◌then◌else◌, List, [], ◌∷◌, length, map, get_or, Option, Some, None, slice_get, refl, sym, ap, ◌∙◌, subst, arith, add-one}
+use Rattle.std.proofs.Common.{◌≡◌, ◌<◌, ◌≤◌, ◌⊎◌, inl, inr, ℕ, zero, suc, ◌-◌, Bool, true, false, nat_lt, if◌then◌else◌, List, length, map, get_or, Option, Some, None, slice_get, refl, sym, ap, subst, arith}
 use Rattle.std.specs.Prelude.{All}
 use Rattle.std.proofs.lemmas.Bool.Decides.{nat_tests}
 use Rattle.std.proofs.lemmas.Option.{slice_get_within, slice_get-get_or}
 use Rattle.kmipa_check.specs.declared.call.Call.{Call}
 use Rattle.kmipa_check.specs.Calls.{CallOf, call_of, ordered}
 use Rattle.kmipa_check.specs.Verdicts.{IsLate}
-use Rattle.kmipa_check.specs.Late.{LeastEnd, LateFrom, FirstLate, ScannedFrom, is_below, next_late, lesser, is_at}
+use Rattle.kmipa_check.specs.Late.{LeastEnd, LateFrom, FirstLate, ScannedFrom, is_below, next_late, lesser}
 use Rattle.kmipa_check.proofs.OrderedLemmas.{ordered_get}
 
 -- a place from k on is k, or one from the next on

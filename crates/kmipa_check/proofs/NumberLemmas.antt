@@ -1,9 +1,9 @@
 -- The first places of numbers, one element more.
-use Rattle.std.proofs.Common.{◌≡◌, ◌≢◌, ◌<◌, ◌≤◌, ◌⊎◌, inl, inr, ℕ, zero, suc, ◌+◌, ℤ, Bool, true, false, List, [], ◌∷◌, length, Option, Some, None, slice_get, get_or, map, refl, sym, ap, ◌∙◌, subst, arith, add-one}
+use Rattle.std.proofs.Common.{◌≡◌, ◌≢◌, ◌<◌, ◌≤◌, ◌⊎◌, inl, inr, ℕ, suc, ◌+◌, ℤ, Bool, true, false, List, length, Option, Some, None, slice_get, get_or, map, refl, sym, subst, arith, add-one}
 use Rattle.std.specs.Ordering.{int_eq}
 use Rattle.std.proofs.lemmas.Bool.Decides.{Decides-int_eq}
 use Rattle.kmipa_check.specs.declared.numbers.FirstPlaces.{FirstPlaces}
-use Rattle.kmipa_check.specs.Numbers.{place_in, IsFirst, StandsFirst, IndexesBelow, Indexes, or_else, Noted, NotedIfAny}
+use Rattle.kmipa_check.specs.Numbers.{place_in, StandsFirst, IndexesBelow, Indexes, or_else, Noted, NotedIfAny}
 use Rattle.std.proofs.lemmas.List.{length-map}
 use Rattle.std.proofs.lemmas.Option.{slice_get_within}
 use Rattle.kmipa_check.proofs.PlaceLemmas.{below_suc, mapped_at}

@@ -1,8 +1,8 @@
 -- Calls at places.
-use Rattle.std.proofs.Common.{◌≡◌, ◌<◌, ◌≤◌, ℕ, List, map, length, get_or, slice_get, Some, refl, sym, ap, ◌∙◌, subst, arith}
+use Rattle.std.proofs.Common.{◌≡◌, ◌<◌, ℕ, List, map, length, get_or, slice_get, Some, sym, ap, ◌∙◌}
 use Rattle.std.proofs.lemmas.List.{get_or-map}
 use Rattle.kmipa_check.specs.declared.call.Call.{Call}
-use Rattle.kmipa_check.specs.Calls.{CallOf, call_of, no_call, ordered}
+use Rattle.kmipa_check.specs.Calls.{call_of, no_call, ordered}
 use Rattle.kmipa_check.proofs.PlaceLemmas.{mapped_at, get_at}
 
 -- the call at a place of the order

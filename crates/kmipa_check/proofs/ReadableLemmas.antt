@@ -1,23 +1,21 @@
 -- What a call says can be judged, where no payload is wanted.
-use Rattle.std.proofs.Common.{◌≡◌, ◌⊎◌, inl, inr, ◌==◌, ◌||◌, not, if◌then◌else◌, ℕ, zero, suc, Bool, true, false, List, [], ◌∷◌, Option, Some, None, slice_get, refl, sym, ap, ◌∙◌, subst, arith}
+use Rattle.std.proofs.Common.{◌≡◌, ◌⊎◌, inl, inr, ◌==◌, ◌||◌, not, if◌then◌else◌, ℕ, suc, Bool, true, false, List, [], ◌∷◌, Option, Some, None, slice_get, refl, sym, ap, ◌∙◌, subst, arith}
 use Rattle.std.specs.List.{zip}
 use Rattle.std.proofs.lemmas.Bool.Decides.{nat_tests}
-use Rattle.kmipa_ttlv.specs.Tree.{Tree, Trees, structure, scalar, none, more}
+use Rattle.kmipa_ttlv.specs.Tree.{Tree, structure, scalar}
 use Rattle.kmipa_attrs.specs.declared.fields.Field.{Field}
 use Rattle.kmipa_attrs.specs.declared.fields.Field.TheVariants.{Absent, Wrong, There}
 use Rattle.kmipa_attrs.specs.Readings.{Optional}
 use Rattle.kmipa_attrs.specs.Fields.{first, at, as_enumeration}
-use Rattle.kmipa_msgs.specs.declared.operation.Operation.{Operation}
 use Rattle.kmipa_msgs.specs.declared.response.Status.{Status}
 use Rattle.kmipa_msgs.specs.declared.response.Status.TheVariants.{Success, Failed, Undone}
 use Rattle.kmipa_msgs.specs.Operations.{operation_number, is_judged}
-use Rattle.kmipa_msgs.specs.Messages.{AskedOf, creates, registers, gets, gets_attributes, activates, revokes, destroys, idles, does_other, AskOf, operation_asked, PayloadOf, created, registered, got, got_attributes, changed, AnswerOf, RequestOf, ResponseOf}
+use Rattle.kmipa_msgs.specs.Messages.{AskedOf, creates, registers, gets, gets_attributes, activates, revokes, destroys, idles, does_other, AskOf, operation_asked, PayloadOf, created, registered, got, got_attributes, changed, AnswerOf}
 use Rattle.kmipa_msgs.specs.Tables.{children}
 use Rattle.kmipa_msgs.specs.Headers.{batch}
 use Rattle.kmipa_msgs.specs.Outside.{SaysEach}
 use Rattle.kmipa_msgs.specs.Payloads.{SaysPayloadOf}
-use Rattle.kmipa_msgs.specs.Replies.{named, own, or_empty, SaysRequired, SaysMaybe, filled, SaysJudged, SaysShown, SaysAnswer}
-use Rattle.kmipa_msgs.specs.Responses.{SaysResponse}
+use Rattle.kmipa_msgs.specs.Replies.{own, or_empty, SaysRequired, SaysMaybe, filled, SaysJudged, SaysShown, SaysAnswer}
 use Rattle.kmipa_msgs.specs.Wanted.{NeedsPayload, IsOwn, Wanted}
 use Rattle.kmipa_ops.specs.Objects.{is_other}
 use Rattle.kmipa_ops.specs.Completes.{is_of, can_judge, has_payload, may_have, may_lack}

@@ -23,7 +23,7 @@ use Rattle.kmipa_check.specs.Late.{FirstLate, is_at}
 use Rattle.kmipa_check.specs.Ordering.{Decided}
 use Rattle.kmipa_check.specs.Replays.{TurnTaken, AllReadable}
 use Rattle.kmipa_check.proofs.ReplayLemmas.{replayed_more, refused_late, refused_back, refused_call}
-use Rattle.kmipa_check.proofs.PlaceLemmas.{mapped_at, contains_at}
+use Rattle.kmipa_check.proofs.PlaceLemmas.{contains_at}
 use Rattle.kmipa_check.proofs.OrderedLemmas.{ordered_get}
 
 -- a place of an order is one of its calls

@@ -1,5 +1,5 @@
 -- The calls of a transcript: what their messages say, and which message is the first that is outside the profile.
-use Rattle.std.specs.Prelude.{◌≡◌, ◌<◌, ℕ, ℤ, pos, true, List, [], map, length, take, All, slice_get, slice_index_or, Some}
+use Rattle.std.specs.Prelude.{◌≡◌, ℕ, ℤ, pos, true, List, [], map, length, take, All, slice_get, slice_index_or, Some}
 use Rattle.kmipa_ttlv.specs.Tree.{Tree}
 use Rattle.kmipa_ttlv.specs.Spelling.{Spells}
 use Rattle.kmipa_record.specs.Marks.{MarkOf, begins, ends, begun}

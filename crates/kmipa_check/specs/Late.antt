@@ -1,5 +1,5 @@
 -- The first call of an order that comes too late: looked for from the end. Not promised.
-use Rattle.std.specs.Prelude.{◌≡◌, ◌≤◌, ◌<◌, ◌==◌, ℕ, suc, Bool, true, false, nat_lt, if◌then◌else◌, List, Option, Some, None, slice_get}
+use Rattle.std.specs.Prelude.{◌≡◌, ◌≤◌, ◌<◌, ◌==◌, ℕ, Bool, true, false, nat_lt, if◌then◌else◌, List, Option, Some, None, slice_get}
 use Rattle.kmipa_check.specs.Calls.{CallOf}
 use Rattle.kmipa_check.specs.Verdicts.{IsLate}
 

@@ -1,5 +1,5 @@
 -- The order of a witness: each turn names a call, none is named twice or left out, and none waits for a payload that it doesn't give.
-use Rattle.std.specs.Prelude.{◌≡◌, ◌≢◌, ◌<◌, ℕ, ◌+◌, ℤ, pos, List, Contains, slice_get, length, Some}
+use Rattle.std.specs.Prelude.{◌≡◌, ◌<◌, ℕ, ◌+◌, ℤ, pos, List, Contains, slice_get, length, Some}
 use Rattle.kmipa_record.specs.Witnesses.{TurnOf}
 use Rattle.kmipa_msgs.specs.Messages.{AskOf, AnswerOf}
 use Rattle.kmipa_msgs.specs.Wanted.{Wanted}

@@ -1,4 +1,4 @@
-use Rattle.std.proofs.Common.{◌≡◌, ◌<◌, ◌∙◌, sym, ap, subst, refl, ℕ, List, map, length, Result, Err, rules}
+use Rattle.std.proofs.Common.{◌<◌, sym, subst, ℕ, List, map, length}
 use Rattle.std.specs.Prelude.{All}
 use Rattle.std.proofs.lemmas.Result.{err_from_is_err_and}
 use Rattle.kmipa_store.specs.States.{state_of_journal}
@@ -8,7 +8,7 @@ use Rattle.kmipa_record.specs.Witnesses.{turn_of, witness_of}
 use Rattle.kmipa_record.specs.declared.witness.Turn.{Turn}
 use Rattle.kmipa_check.specs.Calls.{call_of, ordered, AreCalls}
 use Rattle.kmipa_check.specs.Ordering.{AreFilled, AreOrdered, OrderFault}
-use Rattle.kmipa_check.specs.Replays.{AllReadable, TellsRun, Replayed}
+use Rattle.kmipa_check.specs.Replays.{AllReadable, TellsRun}
 use Rattle.kmipa_check.specs.declared.call.Call.{Call}
 use Rattle.kmipa_check.proofs.CheckLemmas.{calls_numbered, calls_once, ordered_readable, order_faults, run_told}
 use Rattle.kmipa_check.proofs.ReplayLemmas.{replayed_none}
