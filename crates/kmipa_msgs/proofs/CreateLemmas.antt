@@ -1,5 +1,5 @@
 -- Creates are read.
-use Rattle.std.proofs.Common.{◌≡◌, ◌≤◌, ℕ, Bool, true, false, ◌==◌, if◌then◌else◌, Option, Some, None, Result, Ok, Err, refl, ap, ◌∙◌, subst, inl, inr, ◌⊎◌, arith}
+use Rattle.std.proofs.Common.{◌≡◌, ◌≤◌, ℕ, Bool, true, false, ◌==◌, if◌then◌else◌, Some, None, Result, Ok, Err, refl, ap, ◌∙◌, subst, inl, inr, ◌⊎◌, arith}
 use Rattle.kmipa_ttlv.specs.Tree.{Trees}
 use Rattle.kmipa_attrs.specs.Fields.{first, at, inside, as_structure, as_enumeration}
 use Rattle.kmipa_attrs.specs.ObjectTypes.{type_of}
@@ -15,7 +15,7 @@ use Rattle.kmipa_msgs.specs.declared.kind.OutsideKind.TheVariants.{ObjectType, M
 use Rattle.kmipa_msgs.specs.Kinds.{kind_number}
 use Rattle.kmipa_msgs.specs.Tables.{Listed, Unlisted}
 use Rattle.kmipa_msgs.specs.AttributeFields.{GivenFault, given_in}
-use Rattle.kmipa_msgs.specs.Creates.{created_of, SaysNewKey, is_of_key, SaysCreate, DisagreeingCreate, CreateFault, described_rows, types_rows, new_key_rows, new_key_in, create_in}
+use Rattle.kmipa_msgs.specs.Creates.{created_of, SaysNewKey, is_of_key, SaysCreate, CreateFault, described_rows, types_rows, new_key_rows, new_key_in, create_in}
 use Rattle.kmipa_msgs.specs.Creates.CreateFault.{in_object_type, in_type_number, in_attributes, in_attribute_type, in_algorithm, in_length, in_mask, in_agreement}
 use Rattle.kmipa_msgs.proofs.TableLemmas.{reads_listed, reads_unless_absent, reads_unless_unlisted}
 use Rattle.kmipa_msgs.proofs.AttributeFieldLemmas.{reads_given}

@@ -1,12 +1,11 @@
 -- Get Attributes and its answers are read.
 use Rattle.std.proofs.Common.{◌≡◌, ◌≤◌, ◌<◌, ◌+◌, ◌++◌, ℕ, Bool, true, false, ◌==◌, ◌&&◌, ◌||◌, not, nat_lt, cond, is_some, is_none, filter_map, List, [], ◌∷◌, length, drop, get_or, Option, Some, None, Result, Ok, Err, refl, sym, ap, ◌∙◌, inl, inr, append_assoc, count_by, eq-eqb}
-use Rattle.std.specs.Option.{option_map}
 use Rattle.std.proofs.lemmas.Bool.{ne_eqb}
 use Rattle.std.proofs.lemmas.List.{drop_all}
-use Rattle.kmipa_ttlv.specs.Tree.{Tree, Trees, none, more}
+use Rattle.kmipa_ttlv.specs.Tree.{Tree, Trees, more}
 use Rattle.kmipa_ttlv.specs.ViewTree.{view_tree, view_trees}
 use Rattle.kmipa_ttlv.specs.declared.view.View.{View}
-use Rattle.kmipa_attrs.specs.Fields.{tag_of, first, every, at, inside, as_structure, as_enumeration}
+use Rattle.kmipa_attrs.specs.Fields.{tag_of, every, at, inside, as_structure, as_enumeration}
 use Rattle.kmipa_attrs.specs.ObjectTypes.{type_of}
 use Rattle.kmipa_attrs.specs.Readings.{Reads, both, map_ok}
 use Rattle.kmipa_attrs.specs.Sets.{attributes_of}
@@ -17,7 +16,7 @@ use Rattle.kmipa_attrs.proofs.ReadingLemmas.{reads_both, reads_as}
 use Rattle.kmipa_msgs.specs.declared.kind.OutsideKind.{OutsideKind}
 use Rattle.kmipa_msgs.specs.declared.kind.OutsideKind.TheVariants.{ObjectType}
 use Rattle.kmipa_msgs.specs.Kinds.{kind_number}
-use Rattle.kmipa_msgs.specs.Messages.{maybe_lent, GetAttributesOf, GotAttributesOf}
+use Rattle.kmipa_msgs.specs.Messages.{maybe_lent, GotAttributesOf}
 use Rattle.kmipa_msgs.specs.Tables.{unless_unlisted}
 use Rattle.kmipa_msgs.specs.Identifiers.{identifier_in}
 use Rattle.kmipa_msgs.specs.AttributeFields.{given_in}

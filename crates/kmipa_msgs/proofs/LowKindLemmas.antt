@@ -1,5 +1,5 @@
 -- What is compared is compared last: no part of a Create or a Register is at fault by a kind above Disagree.
-use Rattle.std.proofs.Common.{◌≡◌, ◌≤◌, ℕ, sym, subst, arith}
+use Rattle.std.proofs.Common.{◌≡◌, ◌≤◌, sym, subst, arith}
 use Rattle.kmipa_ttlv.specs.Tree.{Trees}
 use Rattle.kmipa_attrs.specs.Readings.{NeededFault}
 use Rattle.kmipa_attrs.specs.declared.fields.Field.{Field}

@@ -4,7 +4,7 @@ use Rattle.std.proofs.lemmas.List.{map-append}
 use Rattle.kmipa_ttlv.specs.Tree.{Tree, Trees, structure, scalar, none, more}
 use Rattle.kmipa_ttlv.specs.Tree
 use Rattle.kmipa_attrs.specs.Attributes.{each, Single, SaysAttributes}
-use Rattle.kmipa_attrs.specs.Fields.{tag_of, first, every, in_field, inside, as_structure, as_text, as_integer, as_enumeration, at}
+use Rattle.kmipa_attrs.specs.Fields.{tag_of, first, every, in_field, as_structure, as_text, as_integer, as_enumeration, at}
 use Rattle.kmipa_attrs.specs.Names.{HasNoRepeats}
 use Rattle.kmipa_attrs.specs.ObjectTypes.{type_number}
 use Rattle.kmipa_attrs.specs.Sets.{Attributes}

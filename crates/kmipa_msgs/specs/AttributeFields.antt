@@ -1,5 +1,5 @@
 -- The Attributes of a payload (KMIP 2.1, section 4).
-use Rattle.std.specs.Prelude.{◌≡◌, Bool, true, Option, Some, None, Result, Ok, Err}
+use Rattle.std.specs.Prelude.{◌≡◌, Bool, true, Option, Some, Result, Ok, Err}
 use Rattle.kmipa_ttlv.specs.Tree.{Trees}
 use Rattle.kmipa_attrs.specs.Attributes.{SaysAttributes, AttributesFault, attributes_in}
 use Rattle.kmipa_attrs.specs.Sets.{Attributes, no_attributes}

@@ -1,6 +1,6 @@
 -- Get Attributes: the request { Unique Identifier?, Attribute References } and its answer { Unique Identifier?, Attributes? }
 -- (KMIP 2.1, section 6.1).
-use Rattle.std.specs.Prelude.{◌≡◌, ℕ, Bool, true, false, ◌==◌, ◌&&◌, ◌||◌, not, nat_lt, cond, is_some, is_none, filter_map, length, List, Option, None, Result}
+use Rattle.std.specs.Prelude.{◌≡◌, ℕ, Bool, false, ◌==◌, ◌&&◌, ◌||◌, not, nat_lt, cond, is_some, is_none, filter_map, length, List, Option, None, Result}
 use Rattle.kmipa_ttlv.specs.Tree.{Tree, Trees, none, more}
 use Rattle.kmipa_attrs.specs.Fields.{tag_of, first, every, at, inside, as_structure, as_text, as_enumeration}
 use Rattle.kmipa_attrs.specs.ObjectTypes.{type_of}
@@ -12,7 +12,7 @@ use Rattle.kmipa_msgs.specs.declared.kind.OutsideKind.TheVariants.{ObjectType, I
 use Rattle.kmipa_msgs.specs.Kinds.{kind_number}
 use Rattle.kmipa_msgs.specs.Messages.{GetAttributesOf, GotAttributesOf}
 use Rattle.kmipa_msgs.specs.Tables.{Unlisted, unless_unlisted}
-use Rattle.kmipa_msgs.specs.Identifiers.{SaysIdentifier, IdentifierFault, identifier_in}
+use Rattle.kmipa_msgs.specs.Identifiers.{IdentifierFault, identifier_in}
 use Rattle.kmipa_msgs.specs.AttributeFields.{SaysGiven, GivenFault, given_in}
 
 -- THE REQUEST

@@ -29,4 +29,6 @@ pub use response::read_response;
 type Read<T> = Result<Result<T, OutsideKind>, AllocError>;
 
 #[cfg(test)]
+mod lifecycle_tests;
+#[cfg(test)]
 mod tests;

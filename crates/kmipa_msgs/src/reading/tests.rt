@@ -69,7 +69,7 @@ const RESPONSE: [u8; 376] = [
 ];
 
 // Bytes of a message that are changed, and the item and the kind by which it is then outside.
-type Row = (&'static [(usize, u8)], usize, OutsideKind);
+pub(super) type Row = (&'static [(usize, u8)], usize, OutsideKind);
 
 const BAD_REQUESTS: [Row; 45] = [
     // another tag than the message's
@@ -256,7 +256,11 @@ const GOOD_RESPONSES: [&[(usize, u8)]; 6] = [
     &[(139, 0x03), (146, 0x79)],
 ];
 
-fn changed(rt: &HostRuntime, message: &[u8], edits: &[(usize, u8)]) -> Result<Vec<u8>, Fail> {
+pub(super) fn changed(
+    rt: &HostRuntime,
+    message: &[u8],
+    edits: &[(usize, u8)],
+) -> Result<Vec<u8>, Fail> {
     let mut bytes = Vec::from_slice(rt.alloc(), message)?;
     for (at, byte) in edits {
         match bytes.get_mut(*at) {
@@ -267,7 +271,7 @@ fn changed(rt: &HostRuntime, message: &[u8], edits: &[(usize, u8)]) -> Result<Ve
     Ok(bytes)
 }
 
-fn place_of<T: Drop>(read: Result<T, ReadFault>) -> Option<(usize, u8)> {
+pub(super) fn place_of<T: Drop>(read: Result<T, ReadFault>) -> Option<(usize, u8)> {
     match read {
         Err(ReadFault::Outside(outside)) => Some((outside.item, outside.kind.number())),
         _ => None,
