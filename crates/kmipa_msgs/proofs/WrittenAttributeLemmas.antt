@@ -1,5 +1,5 @@
 -- Attributes and references to them that were written say what was written.
-use Rattle.std.proofs.Common.{◌≡◌, ℕ, Bool, true, false, ◌==◌, ◌||◌, nat_lt, cond, List, [], ◌∷◌, map, take, length, ◌++◌, ◌+◌, Option, Some, None, refl, sym, ap, ◌∙◌, subst}
+use Rattle.std.proofs.Common.{◌≡◌, ℕ, Bool, true, false, ◌==◌, ◌&&◌, ◌||◌, not, nat_lt, cond, is_some, is_none, filter_map, eqb-true, List, [], ◌∷◌, map, take, length, ◌++◌, ◌+◌, Option, Some, None, refl, sym, ap, ◌∙◌, subst}
 use Rattle.std.proofs.lemmas.List.{map-append}
 use Rattle.kmipa_ttlv.specs.Tree.{Tree, Trees, structure, scalar, none, more}
 use Rattle.kmipa_ttlv.specs.Tree
@@ -17,9 +17,8 @@ use Rattle.kmipa_msgs.specs.Messages.{GetAttributesOf, GotAttributesOf}
 use Rattle.kmipa_msgs.specs.Tables.{IsThere}
 use Rattle.kmipa_msgs.specs.AttributeFields.{SaysGiven}
 use Rattle.kmipa_msgs.specs.Creates.{SaysCreate}
-use Rattle.kmipa_msgs.specs.GetsAttributes.{references, is_selective, some_other, has_others, SaysGetAttributes, SaysGotAttributes}
+use Rattle.kmipa_msgs.specs.GetsAttributes.{references, is_selective, as_reference, is_other, some_other, has_others, SaysGetAttributes, SaysGotAttributes}
 use Rattle.kmipa_msgs.specs.Written.{with_field, with_fields, in_order, field, written_attributes, create_fields, reference_fields, get_attributes_fields, got_attributes_fields}
-use Rattle.kmipa_msgs.specs.Writable.{names_some}
 use Rattle.kmipa_msgs.proofs.WrittenFieldLemmas.{find, skipped, optional_written, required_written, inside_written, rows, in_order_rows, with_one_more}
 
 -- ATTRIBUTES
@@ -100,6 +99,40 @@ create_written ts a h =
 
 -- GET ATTRIBUTES
 
+abbrev names_some : List ℕ → Bool
+names_some [] = false
+names_some (tag ∷ tags) = true
+
+or_left : (a b : Bool) → (a || b) ≡ false → a ≡ false
+or_left true b e = e
+or_left false b e = refl
+
+or_right : (a b : Bool) → (a || b) ≡ false → b ≡ false
+or_right true b e = absurd cc
+or_right false b e = e
+
+-- where no item is another, each reference has its tag
+selective_named : (ts : Trees) → some_other ts ≡ false → is_selective ts ≡ names_some (references ts)
+unfolding first every references some_other
+selective_named none e = refl
+selective_named (more t ts) e = by (tag_of t == 0x42_013B) refl (selective_named ts (or_right (is_other t) (some_other ts) e))
+  where
+    rest : List Tree
+    rest = every 0x42_013B ts
+
+    named : (o : Option ℕ) → as_enumeration t ≡ o → is_none o ≡ false → true ≡ names_some (filter_map as_enumeration (t ∷ rest))
+    named None q n = absurd cc
+    named (Some tag) q n = rw q refl
+
+    by : (b : Bool) → (tag_of t == 0x42_013B) ≡ b → is_some (first 0x42_013B ts) ≡ names_some (filter_map as_enumeration rest)
+        → is_some (cond b (Some t) (first 0x42_013B ts)) ≡ names_some (filter_map as_enumeration (cond b (t ∷ rest) rest))
+    by false q h = h
+    by true q h =
+        let apart : (tag_of t == 0x42_0094) ≡ false = ap (λ (n : ℕ). n == 0x42_0094) (eqb-true _ _ q) in
+        let seen : is_other t ≡ is_none (as_enumeration t) =
+        ap (λ (k : Bool). not k && is_none (as_reference t)) apart ∙ ap (λ (k : Bool). is_none (cond k (as_enumeration t) None)) q in
+        named (as_enumeration t) refl (sym seen ∙ or_left (is_other t) (some_other ts) e)
+
 references_rows : (tags : List ℕ) → references (rows (reference_fields tags)) ≡ tags
 unfolding references every as_enumeration
 references_rows [] = refl
@@ -149,16 +182,18 @@ unfolding some_other every
 others_written None tags = λ i. other_rows tags i || nat_lt 1 (length (identifier_rows tags i))
 others_written (Some x) tags = λ i. other_rows tags i || nat_lt 1 (length (scalar 0x42_0094 (Tree.text x) ∷ identifier_rows tags i))
 
-pub get_attributes_written : (g : GetAttributesOf) → (g.is_selective ≡ names_some g.references) × (g.has_others ≡ false) → SaysGetAttributes (in_order (get_attributes_fields g)) g
+pub get_attributes_written : (ts : Trees) (g : GetAttributesOf) → g.has_others ≡ false → SaysGetAttributes ts g → SaysGetAttributes (in_order (get_attributes_fields g)) g
 unfolding as_text
-get_attributes_written g w =
+get_attributes_written ts g w h =
+    let alone = or_left (some_other ts) (nat_lt 1 (length (every 0x42_0094 ts))) (sym h.has_others ∙ w) in
+    let named = h.is_selective ∙ selective_named ts alone ∙ ap names_some (sym h.references) in
     let fields = get_attributes_fields g in
     let same = in_order_rows fields in
     record {
       id = optional_written as_text Tree.text 0x42_0094 g.id fields (reference_fields g.references) refl (no_identifier g.references) (λ x. refl) refl;
       references = sym (ap references same ∙ references_written g.id g.references);
-      is_selective = w.0 ∙ sym (ap is_selective same ∙ selective_written g.id g.references);
-      has_others = w.1 ∙ sym (ap has_others same ∙ others_written g.id g.references);
+      is_selective = named ∙ sym (ap is_selective same ∙ selective_written g.id g.references);
+      has_others = w ∙ sym (ap has_others same ∙ others_written g.id g.references);
     }
 
 pub got_attributes_written : (ts : Trees) (g : GotAttributesOf) → SaysGotAttributes ts g → SaysGotAttributes (in_order (got_attributes_fields g)) g

@@ -125,7 +125,7 @@ pub asked_written : (operation : Operation) (ts : Trees) (a : AskedOf) → IsWri
 asked_written Create ts (creates a) w s = create_written ts a s
 asked_written Register ts (registers r) w s = register_written ts r s
 asked_written Get ts (gets id) w s = identifier_written id
-asked_written GetAttributes ts (gets_attributes g) w s = get_attributes_written g w
+asked_written GetAttributes ts (gets_attributes g) w s = get_attributes_written ts g w s
 asked_written Activate ts (activates id) w s = identifier_written id
 asked_written Revoke ts (revokes r) w s = revoke_written r
 asked_written Destroy ts (destroys id) w s = identifier_written id

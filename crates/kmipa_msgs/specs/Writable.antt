@@ -1,15 +1,11 @@
 -- The messages that are said by what is written of them: those that hold nothing of what is read over.
-use Rattle.std.specs.Prelude.{◌≡◌, ℕ, Bool, true, false, List, [], ◌∷◌, All, Some, None}
+use Rattle.std.specs.Prelude.{◌≡◌, false, All, Some, None}
 use Rattle.kmipa_msgs.specs.declared.response.Status.TheVariants.{Undone}
 use Rattle.kmipa_msgs.specs.Messages.{AskedOf, idles, does_other, gets_attributes, RequestOf, changed, AnswerOf, ResponseOf}
 
-abbrev pub names_some : List ℕ → Bool
-names_some [] = false
-names_some (tag ∷ tags) = true
-
--- not of an operation whose payloads aren't read, and of a Get Attributes without other items, whose references have their tags
+-- an operation whose payloads are read, and no Get Attributes with other items
 abbrev pub IsWritableAsked : AskedOf → Type 0
-IsWritableAsked (gets_attributes g) = (g.is_selective ≡ names_some g.references) × (g.has_others ≡ false)
+IsWritableAsked (gets_attributes g) = g.has_others ≡ false
 IsWritableAsked (idles n) = ⊥
 IsWritableAsked (does_other n) = ⊥
 IsWritableAsked _ = Unit {0}

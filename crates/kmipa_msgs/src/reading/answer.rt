@@ -118,7 +118,7 @@ fn status(field: Field<u32>) -> Result<Status, OutsideKind>
     }
 }
 
-/// The payload of an answer with these children. An operation without effect shows none, and one that isn't judged may only fail.
+/// The payload of an answer with these children. An operation without effect shows none, and any other that isn't judged may only fail.
 fn shown<'a>(
     alloc: Global,
     own: Option<Operation>,

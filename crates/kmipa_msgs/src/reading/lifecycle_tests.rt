@@ -382,13 +382,16 @@ fn absent_payloads(rt: HostRuntime) -> Result<(), Fail> {
 fn a_lifecycle_is_written_back(rt: HostRuntime) -> Result<(), Fail> {
     let (asked, _) = decode_view(rt.alloc(), &REQUEST)?;
     let request = read_request(rt.alloc(), &asked)?;
+    assert_eq!(rt; request.items.len(), 5);
     let bytes = bytes_of(&rt, &write_request(rt.alloc(), &request)?)?;
     assert_eq!(rt; bytes.as_slice(), REQUEST.as_slice());
     let (answered, _) = decode_view(rt.alloc(), &RESPONSE)?;
     let response = read_response(rt.alloc(), &answered, &request)?;
+    assert_eq!(rt; response.items.len(), 5);
     let bytes = bytes_of(&rt, &write_response(rt.alloc(), &response)?)?;
     assert_eq!(rt; bytes.as_slice(), RESPONSE.as_slice());
     let copy = response.copy(rt.alloc())?;
+    assert_eq!(rt; copy.items.len(), 5);
     let bytes = bytes_of(&rt, &write_response(rt.alloc(), &copy)?)?;
     assert_eq!(rt; bytes.as_slice(), RESPONSE.as_slice());
     Ok(())
