@@ -80,7 +80,7 @@ fn shown(status: Status, material: &[u8]) -> Answer<'_> {
 }
 
 /// A failure of this Operation, for this Result Reason.
-fn failed(operation: Option<u32>, reason: u32) -> Answer<'static> {
+fn failed<'a>(operation: Option<u32>, reason: u32) -> Answer<'a> {
     Answer {
         operation,
         batch_id: None,
