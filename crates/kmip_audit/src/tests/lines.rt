@@ -6,30 +6,44 @@ use kmipa_check::{AuditFault, CheckFault, Side, WitnessFault, WitnessKind};
 use kmipa_msgs::{Outside, OutsideKind};
 use kmipa_record::{RecordFault, RecordKind};
 use kmipa_ttlv::FaultKind;
+use std::process::Abort;
 use std::test::Fail;
 
 #[test]
-fn tells_faults(rt: HostRuntime) -> Result<(), Fail> {
-    let cut = RecordFault {
-        offset: 487,
-        kind: RecordKind::Ttlv(FaultKind::Truncated),
-    };
-    let header = RecordFault {
-        offset: 0,
-        kind: RecordKind::Header,
-    };
-    let entry = RecordFault {
-        offset: 24,
-        kind: RecordKind::Entry,
-    };
-    let device = RecordFault {
-        offset: 24,
-        kind: RecordKind::Device,
-    };
-    let memory = RecordFault {
-        offset: 0,
-        kind: RecordKind::Memory,
-    };
+fn tells_faults_of_files(rt: HostRuntime) -> Result<(), Fail> {
+    let cut = RecordKind::Ttlv(FaultKind::Truncated);
+    let cases = [
+        (
+            AuditFault::Transcript(at(487, cut)),
+            "malformed: transcript offset 487 kind 1 Ttlv Truncated\n",
+            Status::Refused,
+        ),
+        (
+            AuditFault::Declaration(at(24, RecordKind::Entry)),
+            "malformed: declaration offset 24 kind 8 Entry\n",
+            Status::Refused,
+        ),
+        (
+            AuditFault::Witness(at(0, RecordKind::Header)),
+            "malformed: witness offset 0 kind 2 Header\n",
+            Status::Refused,
+        ),
+        (
+            AuditFault::Transcript(at(24, RecordKind::Device)),
+            "device\n",
+            Status::Failed,
+        ),
+        (
+            AuditFault::Witness(at(0, RecordKind::Memory)),
+            "",
+            Status::Failed,
+        ),
+    ];
+    tells(&rt, &cases)
+}
+
+#[test]
+fn tells_faults_of_a_check(rt: HostRuntime) -> Result<(), Fail> {
     let not_a_message = Outside {
         item: 0,
         kind: OutsideKind::NotAMessage,
@@ -43,23 +57,6 @@ fn tells_faults(rt: HostRuntime) -> Result<(), Fail> {
         kind: WitnessKind::UnknownCall,
     };
     let cases = [
-        (
-            AuditFault::Transcript(cut),
-            "malformed: transcript offset 487 kind 1 Ttlv Truncated\n",
-            Status::Refused,
-        ),
-        (
-            AuditFault::Declaration(entry),
-            "malformed: declaration offset 24 kind 8 Entry\n",
-            Status::Refused,
-        ),
-        (
-            AuditFault::Witness(header),
-            "malformed: witness offset 0 kind 2 Header\n",
-            Status::Refused,
-        ),
-        (AuditFault::Transcript(device), "device\n", Status::Failed),
-        (AuditFault::Witness(memory), "", Status::Failed),
         (
             AuditFault::Check(CheckFault::Outside(1, Side::Server, not_a_message)),
             "outside: call 1 response item 0 kind 1 NotAMessage\n",
@@ -77,10 +74,19 @@ fn tells_faults(rt: HostRuntime) -> Result<(), Fail> {
         ),
         (AuditFault::Check(CheckFault::Memory), "", Status::Failed),
     ];
+    tells(&rt, &cases)
+}
+
+fn at(offset: u64, kind: RecordKind) -> RecordFault {
+    RecordFault { offset, kind }
+}
+
+// Each fault has its line and its status.
+fn tells<R: Abort + AllocGlobal>(rt: &R, cases: &[(AuditFault, &str, Status)]) -> Result<(), Fail> {
     for (fault, text, status) in cases {
-        let lines = fault_lines(rt.alloc(), &fault)?;
-        assert_eq!(rt; lines.text.as_str(), text);
-        assert_eq!(rt; lines.status, status, "{text}");
+        let lines = fault_lines(rt.alloc(), fault)?;
+        assert_eq!(rt; lines.text.as_str(), *text);
+        assert_eq!(rt; lines.status, *status, "{text}");
     }
     Ok(())
 }
