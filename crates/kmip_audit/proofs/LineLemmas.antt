@@ -3,14 +3,13 @@ use Rattle.std.proofs.Common.{◌≡◌, ◌⊎◌, inl, inr, ℕ, ℤ, List, �
 use Rattle.kmipa_record.specs.Marks.{MarkOf}
 use Rattle.kmipa_record.specs.Transcripts.{transcript_of}
 use Rattle.kmipa_record.specs.Witnesses.{witness_of}
-use Rattle.kmipa_check.specs.Audits.{IfKnown, AreJudged}
+use Rattle.kmipa_check.specs.Audits.{AreJudged}
 use Rattle.kmipa_check.specs.Stamps.{TellsStamp}
 use Rattle.kmipa_check.specs.Verdicts.{TellsVerdict}
 use Rattle.kmipa_check.specs.declared.auditing.Audited.{Audited}
 use Rattle.kmipa_check.specs.declared.verdict.Refused.{Refused}
 use Rattle.kmipa_check.specs.declared.verdict.Verdict.{Verdict}
 use Rattle.kmipa_check.specs.declared.verdict.Verdict.TheVariants as verdict
-use Rattle.kmipa_check.proofs.AuditLemmas.{known_more}
 use Rattle.kmipa_check.proofs.StampLemmas.{refused_answered}
 use Rattle.kmip_audit.specs.Statuses.{IsSilent}
 use Rattle.kmip_audit.specs.Lines.{IsDated, PrintsDate, PrintsVerdict, no_line}
@@ -32,11 +31,10 @@ told_at audited said lines t d w j e (verdict.No refused) is prints =
     dated_at audited t d w j refused is prints.1.0 prints.1.1 prints.1.2.0 prints.1.2.1 lines prints.1.2.2
 
 -- behind a no of an audit stands its date
-pub verdict_dated : (t d w : Option (List ℕ)) (audited : Audited) (said : Status) (lines : List ℕ) → IfKnown t d w (AreJudged audited)
-    → PrintsVerdict (transcript_of audited.transcript) audited.verdict said lines ⊎ IsSilent said lines → said ≡ status.No → IfKnown t d w (IsDated lines)
+pub verdict_dated : (t d w : List ℕ) (audited : Audited) (said : Status) (lines : List ℕ) → AreJudged audited t d w
+    → PrintsVerdict (transcript_of audited.transcript) audited.verdict said lines ⊎ IsSilent said lines → said ≡ status.No → IsDated lines t d w
 verdict_dated t d w audited said lines judged (inr silent) e = let clash : status.Failed ≡ status.No = sym silent.0 ∙ e in absurd cc
-verdict_dated t d w audited said lines judged (inl prints) e =
-    known_more t d w (AreJudged audited) (IsDated lines) judged (λ ts ds ws j. told_at audited said lines ts ds ws j e audited.verdict refl prints)
+verdict_dated t d w audited said lines judged (inl prints) e = told_at audited said lines t d w judged e audited.verdict refl prints
 
 -- what is printed of a no
 pub no_told : (marks : List MarkOf) (v : Verdict) (refused : Refused) (number : ℤ) (stamp : Option ℤ) (text first dated : List ℕ) → v ≡ verdict.No refused → number ≡ refused.call
@@ -45,3 +43,9 @@ no_told marks v refused number stamp text first dated is same told date e f =
     let P : Verdict → Type 0 = λ x. PrintsVerdict marks x status.No text in
     let Q : ℤ → Type 0 = λ n. TellsStamp marks n stamp in
     subst P (sym is) (refl, (stamp, subst Q same told, (dated, date, f ∙ ap (λ (l : List ℕ). l ++ dated) e)))
+
+-- status 0 is told of a yes alone
+pub done_is_yes : (marks : List MarkOf) (v : Verdict) (said : Status) (lines : List ℕ) → PrintsVerdict marks v said lines ⊎ IsSilent said lines → said ≡ status.Done → v ≡ verdict.Yes
+done_is_yes marks verdict.Yes said lines p e = refl
+done_is_yes marks (verdict.No refused) said lines (inl p) e = let clash : status.No ≡ status.Done = sym p.0 ∙ e in absurd cc
+done_is_yes marks (verdict.No refused) said lines (inr p) e = let clash : status.Failed ≡ status.Done = sym p.0 ∙ e in absurd cc

@@ -1,11 +1,11 @@
 -- What is printed of accepted bytes.
-use Rattle.std.proofs.Common.{◌≡◌, ◌⊎◌, inl, inr, ℕ, Bool, false, List, Option, Some, None, Result, Ok, Err, ◌∙◌, subst}
+use Rattle.std.proofs.Common.{◌≡◌, ◌⊎◌, inl, inr, ℕ, Bool, false, List, Result, Ok, Err, ◌∙◌, subst}
 use Rattle.std.specs.Prelude.{IfOk, IsOkAnd, codes, string_bytes}
 use Rattle.std.specs.declared.alloc.AllocError.{AllocError}
 use Rattle.kmipa_record.specs.Transcripts.{transcript_of}
 use Rattle.kmipa_record.specs.declared.fault.RecordKind.{RecordKind}
 use Rattle.kmipa_record.specs.declared.fault.RecordKind.TheVariants.{Memory}
-use Rattle.kmipa_check.specs.Audits.{Audits, IfKnown, IsYes}
+use Rattle.kmipa_check.specs.Audits.{Audits, IsYes}
 use Rattle.kmipa_check.specs.declared.auditing.Audited.{Audited}
 use Rattle.kmipa_check.specs.declared.auditing.AuditFault.{AuditFault}
 use Rattle.kmipa_check.specs.declared.auditing.AuditFault.TheVariants as audit
@@ -40,17 +40,14 @@ yes_told (Err (audit.Declaration f)) said lines is prints = inr (silent_record (
 yes_told (Err (audit.Witness f)) said lines is prints = inr (silent_record (codes "witness") f.offset f.kind said lines is prints)
 yes_told (Err (audit.Check f)) said lines is prints = inr (silent_check f said lines is prints)
 
-pub accepted_told : (t d w : Option (List ℕ)) (failed_t failed_d failed_w : Bool) (outcome : Result Audited AuditFault) (said : Status) (lines : List ℕ)
-    → Audits t d w failed_t failed_d failed_w outcome → PrintsOutcome outcome said lines ⊎ IsSilent said lines → IfKnown t d w (SaysYes failed_t failed_d failed_w said lines)
-accepted_told (Some t) (Some d) (Some w) failed_t failed_d failed_w outcome said lines audits (inr silent) = λ a e f g. inr silent
-accepted_told (Some t) (Some d) (Some w) failed_t failed_d failed_w outcome said lines audits (inl prints) = λ a e f g.
-    let P : Bool → Type 0 = λ x. Audits (Some t) (Some d) (Some w) x failed_d failed_w outcome in
-    let Q : Bool → Type 0 = λ x. Audits (Some t) (Some d) (Some w) false x failed_w outcome in
-    let R : Bool → Type 0 = λ x. Audits (Some t) (Some d) (Some w) false false x outcome in
+pub accepted_told : (t d w : List ℕ) (failed_t failed_d failed_w : Bool) (outcome : Result Audited AuditFault) (said : Status) (lines : List ℕ)
+    → Audits t d w failed_t failed_d failed_w outcome → PrintsOutcome outcome said lines ⊎ IsSilent said lines → SaysYes failed_t failed_d failed_w said lines t d w
+accepted_told t d w failed_t failed_d failed_w outcome said lines audits (inr silent) = λ a e f g. inr silent
+accepted_told t d w failed_t failed_d failed_w outcome said lines audits (inl prints) = λ a e f g.
+    let P : Bool → Type 0 = λ x. Audits t d w x failed_d failed_w outcome in
+    let Q : Bool → Type 0 = λ x. Audits t d w false x failed_w outcome in
+    let R : Bool → Type 0 = λ x. Audits t d w false false x outcome in
     yes_told outcome said lines (accepted_audit_is_yes_lem t d w a outcome (subst R g (subst Q f (subst P e audits)))) prints
-accepted_told (Some t) (Some d) None failed_t failed_d failed_w outcome said lines audits prints = tt
-accepted_told (Some t) None w failed_t failed_d failed_w outcome said lines audits prints = tt
-accepted_told None d w failed_t failed_d failed_w outcome said lines audits prints = tt
 
 -- what is printed of a fault
 pub fault_told : (made : Result Lines AllocError) (fault : AuditFault) (said : Status) (lines : List ℕ) → IfOk made (λ l. PrintsFault fault l.status (string_bytes l.text))

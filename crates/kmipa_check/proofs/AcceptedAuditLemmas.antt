@@ -1,5 +1,5 @@
 -- Where three lists of bytes are accepted, nothing but a yes can be told of them.
-use Rattle.std.proofs.Common.{◌≡◌, ◌⊎◌, inl, inr, ℕ, List, Some, false, IsTrue, Result, Ok, Err, refl, subst}
+use Rattle.std.proofs.Common.{◌≡◌, ◌⊎◌, inl, inr, ℕ, List, false, IsTrue, Result, Ok, Err, refl, subst}
 use Rattle.kmipa_record.specs.Kinds.{ByCause}
 use Rattle.kmipa_record.specs.Marks.{MarkOf, AreRecorded}
 use Rattle.kmipa_record.specs.Transcripts.{transcript_of}
@@ -61,7 +61,7 @@ fault_of : (fault : CheckFault) → ChecksYes (Err fault) → fault ≡ Memory
 fault_of fault (inl e) = absurd cc
 fault_of fault (inr e) = cc
 
-pub accepted_audit_is_yes_lem : (t d w : List ℕ) → AreAccepted t d w → (result : Result Audited AuditFault) → Audits (Some t) (Some d) (Some w) false false false result → IsYes result
+pub accepted_audit_is_yes_lem : (t d w : List ℕ) → AreAccepted t d w → (result : Result Audited AuditFault) → Audits t d w false false false result → IsYes result
 accepted_audit_is_yes_lem t d w a (Ok audited) h =
     verdict_of audited.verdict
     (said_yes a.marks (transcript_of audited.transcript) a.declared h.declared a.turns (witness_of audited.witness) (Ok audited.verdict)

@@ -1,5 +1,5 @@
--- What an audit of three inputs tells, as far as their bytes are known.
-use Rattle.std.specs.Prelude.{◌≡◌, ℕ, List, Bool, false, Option, Some, None, Result, Ok, Err}
+-- What an audit of three inputs tells.
+use Rattle.std.specs.Prelude.{◌≡◌, ℕ, List, Bool, false, Result, Ok, Err}
 use Rattle.kmipa_record.specs.Marks.{MarkOf}
 use Rattle.kmipa_record.specs.Files.{Tells}
 use Rattle.kmipa_record.specs.Transcripts.{transcript_of, IsTranscript, TranscriptFault, IsTranscriptUpTo}
@@ -14,13 +14,6 @@ use Rattle.kmipa_check.specs.declared.fault.CheckFault.{CheckFault}
 use Rattle.kmipa_check.specs.declared.fault.CheckFault.TheVariants.{Memory}
 use Rattle.kmipa_check.specs.declared.verdict.Verdict.TheVariants.{Yes}
 use Rattle.kmipa_record.specs.declared.fault.RecordKind.TheVariants as record_kind
-
--- a fact of three lists of bytes, where all three are known
-abbrev pub IfKnown : Option (List ℕ) → Option (List ℕ) → Option (List ℕ) → (List ℕ → List ℕ → List ℕ → Type 0) → Type 0
-IfKnown (Some t) (Some d) (Some w) P = P t d w
-IfKnown (Some t) (Some d) None P = Unit {0}
-IfKnown (Some t) None w P = Unit {0}
-IfKnown None d w P = Unit {0}
 
 -- The bytes are a transcript, a declaration and a witness, and from some inventory that the declaration describes a run, one call at a
 -- time in the witness's order, gives every recorded response.
@@ -52,15 +45,15 @@ pub record AreUnjudged (fault : CheckFault) (t d w : List ℕ) : Type 0 where
   pub checks : Checks marks declared turns (Err fault)
 
 -- a fault: the first of the first file that has one, or one of the check. The three truths say which inputs failed
-abbrev pub AuditFails : Option (List ℕ) → Option (List ℕ) → Option (List ℕ) → Bool → Bool → Bool → AuditFault → Type 0
+abbrev pub AuditFails : List ℕ → List ℕ → List ℕ → Bool → Bool → Bool → AuditFault → Type 0
 AuditFails t d w failed_t failed_d failed_w (audit.Transcript f) = Tells TranscriptFault IsTranscriptUpTo t failed_t f
 AuditFails t d w failed_t failed_d failed_w (audit.Declaration f) = Tells DeclarationFault IsDeclarationUpTo d failed_d f
 AuditFails t d w failed_t failed_d failed_w (audit.Witness f) = Tells WitnessFault IsWitnessUpTo w failed_w f
-AuditFails t d w failed_t failed_d failed_w (audit.Check f) = IfKnown t d w (AreUnjudged f)
+AuditFails t d w failed_t failed_d failed_w (audit.Check f) = AreUnjudged f t d w
 
--- what an audit answers
-abbrev pub Audits : Option (List ℕ) → Option (List ℕ) → Option (List ℕ) → Bool → Bool → Bool → Result Audited AuditFault → Type 0
-Audits t d w failed_t failed_d failed_w (Ok audited) = IfKnown t d w (AreJudged audited)
+-- what an audit of these three files answers
+abbrev pub Audits : List ℕ → List ℕ → List ℕ → Bool → Bool → Bool → Result Audited AuditFault → Type 0
+Audits t d w failed_t failed_d failed_w (Ok audited) = AreJudged audited t d w
 Audits t d w failed_t failed_d failed_w (Err fault) = AuditFails t d w failed_t failed_d failed_w fault
 
 -- the verdict is yes, or memory ran out
@@ -74,4 +67,4 @@ IsYes (Err (audit.Check f)) = f ≡ Memory
 -- of accepted bytes, over inputs that don't fail, an audit says yes, unless memory runs out; so it says yes exactly there
 abbrev pub AcceptedAuditIsYes : Type 0
 AcceptedAuditIsYes = (t d w : List ℕ) (result : Result Audited AuditFault)
-    → AreAccepted t d w → Audits (Some t) (Some d) (Some w) false false false result → IsYes result
+    → AreAccepted t d w → Audits t d w false false false result → IsYes result

@@ -1,8 +1,8 @@
 //! Audits: three inputs to a verdict.
 
-ghost use Rattle.std.specs.Prelude.{◌≡◌, IfOk};
-ghost use Rattle.kmipa_ttlv.specs.Input.{is_failed, reader_of, taken_of};
-ghost use Rattle.kmipa_check.specs.Audits.{AreAccepted, Audits, IfKnown};
+ghost use Rattle.std.specs.Prelude.{◌≡◌, ℕ, List, [], IsTrue, IfOk, OnOk};
+ghost use Rattle.kmipa_ttlv.specs.Input.{came_of, is_ended, is_failed, IsFileOf};
+ghost use Rattle.kmipa_check.specs.Audits.{AreAccepted, Audits};
 
 use crate::checking::check;
 use crate::fault::CheckFault;
@@ -44,11 +44,13 @@ pub fn audit_with<R: Read>(
     declaration: &mut Input<R>,
     witness: &mut Input<R>,
 ) -> Result<Audited, AuditFault>
-    requires transcript { taken_of transcript.old ≡ 0 }
-    requires declaration { taken_of declaration.old ≡ 0 }
-    requires witness { taken_of witness.old ≡ 0 }
-    ensures { Audits (R.remaining (reader_of transcript.old)) (R.remaining (reader_of declaration.old)) (R.remaining (reader_of witness.old))
-        (is_failed transcript.new) (is_failed declaration.new) (is_failed witness.new) result }
+    requires transcript { came_of transcript.old ≡ [] }
+    requires declaration { came_of declaration.old ≡ [] }
+    requires witness { came_of witness.old ≡ [] }
+    // Whatever follows what came, and nothing where the end was seen.
+    ensures audits { (t d w : List ℕ) → IsFileOf t transcript.new → IsFileOf d declaration.new → IsFileOf w witness.new
+        → Audits t d w (is_failed transcript.new) (is_failed declaration.new) (is_failed witness.new) result }
+    ensures ended { OnOk result (IsTrue (is_ended transcript.new) × IsTrue (is_ended declaration.new) × IsTrue (is_ended witness.new)) }
 {
     let transcript = match read_transcript(alloc, transcript) {
         Ok(transcript) => transcript,
@@ -72,18 +74,18 @@ pub fn audit_with<R: Read>(
     }
 }
 
-/// The verdict on three inputs of which nothing was read. It is yes only where their bytes, as far as they are known, are accepted.
+/// The verdict on three inputs of which nothing was read. It is yes only where the bytes that came, to the ends that were seen, are accepted.
 pub fn audit<R: Read>(
     alloc: Global,
     transcript: &mut Input<R>,
     declaration: &mut Input<R>,
     witness: &mut Input<R>,
 ) -> Result<Verdict, AuditFault>
-    requires transcript { taken_of transcript.old ≡ 0 }
-    requires declaration { taken_of declaration.old ≡ 0 }
-    requires witness { taken_of witness.old ≡ 0 }
-    ensures { IfOk result (λ verdict. verdict ≡ Verdict.Yes
-        → IfKnown (R.remaining (reader_of transcript.old)) (R.remaining (reader_of declaration.old)) (R.remaining (reader_of witness.old)) AreAccepted) }
+    requires transcript { came_of transcript.old ≡ [] }
+    requires declaration { came_of declaration.old ≡ [] }
+    requires witness { came_of witness.old ≡ [] }
+    ensures accepted { IfOk result (λ verdict. verdict ≡ Verdict.Yes → AreAccepted (came_of transcript.new) (came_of declaration.new) (came_of witness.new)) }
+    ensures ended { OnOk result (IsTrue (is_ended transcript.new) × IsTrue (is_ended declaration.new) × IsTrue (is_ended witness.new)) }
 {
     match audit_with(alloc, transcript, declaration, witness) {
         Ok(audited) => Ok(audited.verdict),

@@ -1,7 +1,6 @@
 -- A declaration that is read record by record.
 use Rattle.std.proofs.Common.{◌≡◌, ℕ, List, [], ◌∷◌, ◌++◌, map, Bool, Option, None, Some, IfSome, inl, inr, refl, sym, ap, subst, ◌∙◌}
 use Rattle.std.proofs.lemmas.List.{append-nil, append_assoc, map-append}
-use Rattle.std.specs.Io.KnownBytes.{IsAtEnd}
 use Rattle.std.specs.List.{AllZip}
 use Rattle.kmipa_ttlv.specs.Tree.{Tree}
 use Rattle.kmipa_msgs.specs.Messages.{RowOf}
@@ -14,7 +13,6 @@ use Rattle.kmipa_record.specs.declared.fault.RecordFault.{RecordFault}
 use Rattle.kmipa_record.specs.declared.fault.RecordKind.{RecordKind}
 use Rattle.kmipa_record.specs.declared.fault.RecordKind.TheVariants.{Entry, Identifier, Memory}
 use Rattle.kmipa_record.specs.declared.records.Records.{Records}
-use Rattle.kmipa_record.proofs.KindLemmas.{IfSome-map}
 use Rattle.kmipa_record.proofs.FileLemmas.{goes_on, ends_here, starts, Stands, tells_read, item_told, right_here, tells_header}
 
 pub objects : (unique : Bool) (records : Records) → AreKept records → AreDeclared (declared_by unique records)
@@ -23,11 +21,11 @@ objects unique records kept = record { each = kept.each; distinct = kept.distinc
 abbrev items_of : DeclarationOf → List Tree → List Tree
 items_of declared items = declaration_header declared.unique_names ∷ items
 
-say : (file : List ℕ) (declared : DeclarationOf) (left : Option (List ℕ)) (place : ℕ) → AreDeclared declared → (s : IsReadSoFar file declared left place)
+say : (file : List ℕ) (declared : DeclarationOf) (left : List ℕ) (place : ℕ) → AreDeclared declared → (s : IsReadSoFar file declared left place)
     → SayDeclaration (declaration_header declared.unique_names) s.items declared
 say file declared left place are s = record { header_is = refl; said = s.said; objects = are }
 
-stands : (file : List ℕ) (declared : DeclarationOf) (left : Option (List ℕ)) (place : ℕ) → AreDeclared declared → (s : IsReadSoFar file declared left place)
+stands : (file : List ℕ) (declared : DeclarationOf) (left : List ℕ) (place : ℕ) → AreDeclared declared → (s : IsReadSoFar file declared left place)
     → Stands AreRightInDeclaration file (items_of declared s.items) left place
 stands file declared left place are s = record { right = (declared, say file declared left place are s); reading = s.reading }
 
@@ -36,65 +34,54 @@ stands file declared left place are s = record { right = (declared, say file dec
 abbrev IsHeader : Tree → Type 0
 IsHeader item = (unique : Bool) × (item ≡ declaration_header unique)
 
-pub header_fails : (known : Option (List ℕ)) (place : ℕ) (failed : Bool) (f : RecordFault) → place ≡ 0 → HeaderFails IsHeader place known failed f
-    → Tells DeclarationFault IsDeclarationUpTo known failed f
-header_fails known place failed f zero h =
-    tells_header AreRightInDeclaration DeclarationItemFault DeclarationEndFault IsHeader tt (λ item kind differs k. (λ unique e. differs (unique, e), k)) (λ file offset kind o k. (o, k)) known place failed f zero h
+pub header_fails : (file : List ℕ) (place : ℕ) (failed : Bool) (f : RecordFault) → place ≡ 0 → HeaderFails IsHeader place file failed f
+    → Tells DeclarationFault IsDeclarationUpTo file failed f
+header_fails file place failed f zero h =
+    tells_header AreRightInDeclaration DeclarationItemFault DeclarationEndFault IsHeader tt (λ item kind differs k. (λ unique e. differs (unique, e), k)) (λ file offset kind o k. (o, k)) file place failed f zero h
 
-pub header_read : (known left : Option (List ℕ)) (unique : Bool) (place place' : ℕ) (declared : DeclarationOf) → place ≡ 0 → declared ≡ record { unique_names = unique; rows = []; entries = [] }
-    → Takes (declaration_header unique) known left place place' → IfSome known (λ file. IsReadSoFar file declared left place')
-header_read None left unique place place' declared zero e t = tt
-header_read (Some file) left unique place place' declared zero e t =
+pub header_read : (file left : List ℕ) (unique : Bool) (place place' : ℕ) (declared : DeclarationOf) → place ≡ 0 → declared ≡ record { unique_names = unique; rows = []; entries = [] }
+    → Takes (declaration_header unique) file left place place' → IsReadSoFar file declared left place'
+header_read file left unique place place' declared zero e t =
     let read : IsReadSoFar file (record { unique_names = unique; rows = []; entries = [] }) left place'
-    = record { items = []; reading = goes_on file [] (declaration_header unique) (Some file) left place place' t (starts file place zero); said = tt } in
+    = record { items = []; reading = goes_on file [] (declaration_header unique) file left place place' t (starts file place zero); said = tt } in
     subst (λ (d : DeclarationOf). IsReadSoFar file d left place') (sym e) read
 
 -- ---- a record
 
-pub read_fails : (known : Option (List ℕ)) (declared : DeclarationOf) (left : Option (List ℕ)) (place : ℕ) (failed : Bool) (f : RecordFault) → AreDeclared declared
-    → IfSome known (λ file. IsReadSoFar file declared left place) → ReadFails place left failed f → Tells DeclarationFault IsDeclarationUpTo known failed f
-read_fails None declared left place failed f are s h = tells_read AreRightInDeclaration DeclarationItemFault DeclarationEndFault None [] left place failed f tt h
-read_fails (Some file) declared left place failed f are s h =
-    tells_read AreRightInDeclaration DeclarationItemFault DeclarationEndFault (Some file) (items_of declared s.items) left place failed f (stands file declared left place are s) h
+pub read_fails : (file : List ℕ) (declared : DeclarationOf) (left : List ℕ) (place : ℕ) (failed : Bool) (f : RecordFault) → AreDeclared declared
+    → IsReadSoFar file declared left place → ReadFails place left failed f → Tells DeclarationFault IsDeclarationUpTo file failed f
+read_fails file declared left place failed f are s h =
+    tells_read AreRightInDeclaration DeclarationItemFault DeclarationEndFault file (items_of declared s.items) left place failed f (stands file declared left place are s) h
 
-record_told : (file : List ℕ) (declared : DeclarationOf) (item : Tree) (left after : Option (List ℕ)) (place place' : ℕ) (kind : RecordKind) → AreDeclared declared
+record_told : (file : List ℕ) (declared : DeclarationOf) (item : Tree) (left after : List ℕ) (place place' : ℕ) (kind : RecordKind) → AreDeclared declared
     → IsReadSoFar file declared left place → Takes item left after place place' → RecordItemFault declared item kind → DeclarationFault file place kind
 record_told file declared item left after place place' kind are s t wrong =
     item_told AreRightInDeclaration DeclarationItemFault DeclarationEndFault file (items_of declared s.items) item left after place place' kind (stands file declared left place are s) t
     (declared, say file declared left place are s, wrong)
 
-pub no_record_told : (known : Option (List ℕ)) (declared : DeclarationOf) (item : Tree) (left after : Option (List ℕ)) (place place' : ℕ) (failed : Bool) → AreDeclared declared
-    → IfSome known (λ file. IsReadSoFar file declared left place) → Takes item left after place place' → ¬ (IsRecord item)
-    → Tells DeclarationFault IsDeclarationUpTo known failed (record { offset = place; kind = Entry })
-no_record_told None declared item left after place place' failed are s t none = tt
-no_record_told (Some file) declared item left after place place' failed are s t none =
+pub no_record_told : (file : List ℕ) (declared : DeclarationOf) (item : Tree) (left after : List ℕ) (place place' : ℕ) (failed : Bool) → AreDeclared declared
+    → IsReadSoFar file declared left place → Takes item left after place place' → ¬ (IsRecord item)
+    → Tells DeclarationFault IsDeclarationUpTo file failed (record { offset = place; kind = Entry })
+no_record_told file declared item left after place place' failed are s t none =
     record_told file declared item left after place place' Entry are s t (no_record (λ r e. none (row r, (e, tt))) (λ e said fit. none (entry e, (said, fit))) refl)
 
-told_as : (known : Option (List ℕ)) (failed : Bool) (place : ℕ) (kind j : RecordKind) → kind ≡ j → Tells DeclarationFault IsDeclarationUpTo known failed (record { offset = place; kind = j })
-    → Tells DeclarationFault IsDeclarationUpTo known failed (record { offset = place; kind = kind })
-told_as known failed place kind j e h = subst (λ (k : RecordKind). Tells DeclarationFault IsDeclarationUpTo known failed (record { offset = place; kind = k })) (sym e) h
+told_as : (file : List ℕ) (failed : Bool) (place : ℕ) (kind j : RecordKind) → kind ≡ j → Tells DeclarationFault IsDeclarationUpTo file failed (record { offset = place; kind = j })
+    → Tells DeclarationFault IsDeclarationUpTo file failed (record { offset = place; kind = kind })
+told_as file failed place kind j e h = subst (λ (k : RecordKind). Tells DeclarationFault IsDeclarationUpTo file failed (record { offset = place; kind = k })) (sym e) h
 
 -- a fault that a record has, or memory that ran out
 told_of : (file : List ℕ) (old : Records) (unique : Bool) (item : Tree) (r : RecordOf) (failed : Bool) (place : ℕ) (kind : RecordKind) → IsDeclarationUpTo file place
     → ((k : RecordKind) → RecordItemFault (declared_by unique old) item k → DeclarationFault file place k) → SaysFit item r → Refuses old r kind
-    → Tells DeclarationFault IsDeclarationUpTo (Some file) failed (record { offset = place; kind = kind })
-told_of file old unique item (row r) failed place kind here wrong says (inl m) = told_as (Some file) failed place kind Memory m here
-told_of file old unique item (row r) failed place kind here wrong says (inr f) = told_as (Some file) failed place kind Entry f.0 (wrong Entry (late_row r says.0 f.1 refl))
-told_of file old unique item (entry e) failed place kind here wrong says (inl m) = told_as (Some file) failed place kind Memory m here
-told_of file old unique item (entry e) failed place kind here wrong says (inr f) = told_as (Some file) failed place kind Identifier f.0 (wrong Identifier (used e says.0 says.1 f.1 refl))
+    → Tells DeclarationFault IsDeclarationUpTo file failed (record { offset = place; kind = kind })
+told_of file old unique item (row r) failed place kind here wrong says (inl m) = told_as file failed place kind Memory m here
+told_of file old unique item (row r) failed place kind here wrong says (inr f) = told_as file failed place kind Entry f.0 (wrong Entry (late_row r says.0 f.1 refl))
+told_of file old unique item (entry e) failed place kind here wrong says (inl m) = told_as file failed place kind Memory m here
+told_of file old unique item (entry e) failed place kind here wrong says (inr f) = told_as file failed place kind Identifier f.0 (wrong Identifier (used e says.0 says.1 f.1 refl))
 
-told_unknown : (old : Records) (r : RecordOf) (failed : Bool) (place : ℕ) (kind : RecordKind) → Refuses old r kind
-    → Tells DeclarationFault IsDeclarationUpTo None failed (record { offset = place; kind = kind })
-told_unknown old (row r) failed place kind (inl m) = told_as None failed place kind Memory m tt
-told_unknown old (row r) failed place kind (inr f) = told_as None failed place kind Entry f.0 tt
-told_unknown old (entry e) failed place kind (inl m) = told_as None failed place kind Memory m tt
-told_unknown old (entry e) failed place kind (inr f) = told_as None failed place kind Identifier f.0 tt
-
-pub refused_told : (known : Option (List ℕ)) (old : Records) (unique : Bool) (r : RecordOf) (item : Tree) (left after : Option (List ℕ)) (place place' : ℕ) (failed : Bool) (kind : RecordKind)
-    → AreKept old → IfSome known (λ file. IsReadSoFar file (declared_by unique old) left place) → Takes item left after place place' → SaysFit item r → Refuses old r kind
-    → Tells DeclarationFault IsDeclarationUpTo known failed (record { offset = place; kind = kind })
-refused_told None old unique r item left after place place' failed kind kept s t says refusal = told_unknown old r failed place kind refusal
-refused_told (Some file) old unique r item left after place place' failed kind kept s t says refusal =
+pub refused_told : (file : List ℕ) (old : Records) (unique : Bool) (r : RecordOf) (item : Tree) (left after : List ℕ) (place place' : ℕ) (failed : Bool) (kind : RecordKind)
+    → AreKept old → IsReadSoFar file (declared_by unique old) left place → Takes item left after place place' → SaysFit item r → Refuses old r kind
+    → Tells DeclarationFault IsDeclarationUpTo file failed (record { offset = place; kind = kind })
+refused_told file old unique r item left after place place' failed kind kept s t says refusal =
     let are = objects unique old kept in
     told_of file old unique item r failed place kind (right_here AreRightInDeclaration file (items_of (declared_by unique old) s.items) left place (stands file (declared_by unique old) left place are s))
     (λ k wrong. record_told file (declared_by unique old) item left after place place' k are s t wrong) says refusal
@@ -123,7 +110,7 @@ grown old new unique (entry e) p =
     ∙ ap (λ (l : List RowOf). listed l (entries_in old ++ e ∷ [])) (sym p.0)
     ∙ ap (listed (rows_in new)) (sym p.1)
 
-took : (file : List ℕ) (old new : Records) (unique : Bool) (r : RecordOf) (item : Tree) (left after : Option (List ℕ)) (place place' : ℕ) → Takes item left after place place' → SaysRecord item r
+took : (file : List ℕ) (old new : Records) (unique : Bool) (r : RecordOf) (item : Tree) (left after : List ℕ) (place place' : ℕ) → Takes item left after place place' → SaysRecord item r
     → Puts old new r → IsReadSoFar file (declared_by unique old) left place → IsReadSoFar file (declared_by unique new) after place'
 took file old new unique r item left after place place' t says p s = record {
   items = s.items ++ item ∷ [];
@@ -131,14 +118,12 @@ took file old new unique r item left after place place' t says p s = record {
   said = subst (AllZip SaysRecord (s.items ++ item ∷ [])) (grown old new unique r p) (all_said s.items (records_of (declared_by unique old)) item r s.said says);
 }
 
-pub record_taken : (known : Option (List ℕ)) (old new : Records) (unique : Bool) (r : RecordOf) (item : Tree) (left after : Option (List ℕ)) (place place' : ℕ) → Takes item left after place place'
-    → SaysFit item r → Puts old new r → IfSome known (λ file. IsReadSoFar file (declared_by unique old) left place) → IfSome known (λ file. IsReadSoFar file (declared_by unique new) after place')
-record_taken known old new unique r item left after place place' t says p s = IfSome-map known _ _ (λ file. took file old new unique r item left after place place' t says.0 p) s
+pub record_taken : (file : List ℕ) (old new : Records) (unique : Bool) (r : RecordOf) (item : Tree) (left after : List ℕ) (place place' : ℕ) → Takes item left after place place'
+    → SaysFit item r → Puts old new r → IsReadSoFar file (declared_by unique old) left place → IsReadSoFar file (declared_by unique new) after place'
+record_taken file old new unique r item left after place place' t says p s = took file old new unique r item left after place place' t says.0 p s
 
 -- ---- the end
 
-pub read_whole : (known : Option (List ℕ)) (declared : DeclarationOf) (left : Option (List ℕ)) (place : ℕ) → IsAtEnd left → AreDeclared declared
-    → IfSome known (λ file. IsReadSoFar file declared left place) → IfSome known (λ file. IsDeclaration file declared)
-read_whole None declared left place end are s = tt
-read_whole (Some file) declared left place end are s =
-    record { header = declaration_header declared.unique_names; records = s.items; spelled = ends_here file (items_of declared s.items) left place end s.reading; say = say file declared left place are s }
+pub whole : (file : List ℕ) (declared : DeclarationOf) (place : ℕ) → AreDeclared declared → IsReadSoFar file declared [] place → IsDeclaration file declared
+whole file declared place are s =
+    record { header = declaration_header declared.unique_names; records = s.items; spelled = ends_here file (items_of declared s.items) [] place refl s.reading; say = say file declared [] place are s }

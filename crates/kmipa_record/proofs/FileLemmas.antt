@@ -1,83 +1,73 @@
 -- Files that are read item by item.
-use Rattle.std.proofs.Common.{◌≡◌, ℕ, ◌+◌, List, [], ◌∷◌, ◌++◌, length, Bool, Option, None, Some, IfSome, refl, sym, ap, subst, ◌∙◌, arith}
-use Rattle.std.specs.Io.KnownBytes.{IsAtEnd}
+use Rattle.std.proofs.Common.{◌≡◌, ℕ, ◌+◌, List, [], ◌∷◌, ◌++◌, length, Bool, false, IsTrue, Option, None, IfSome, IfOk, IfErr, Result, Ok, Err, ◌≢◌, refl, sym, ap, subst, ◌∙◌, arith}
+use Rattle.std.specs.Prelude.{MatchResult}
+use Rattle.kmipa_ttlv.specs.Input.{reader_of, came_of, is_ended, is_failed, IsFileOf, StaysOver}
+use Rattle.kmipa_ttlv.specs.declared.input.Input.{Input}
+use Rattle.kmipa_ttlv.proofs.ReadLemmas.{starts_over, over_file, whole_file, where_known}
 use Rattle.kmipa_ttlv.specs.Tree.{Tree}
 use Rattle.kmipa_ttlv.specs.Stream.{Begins, capped, IsSplit}
-use Rattle.kmipa_ttlv.specs.Items.{IsReading}
-use Rattle.kmipa_ttlv.proofs.StreamLemmas.{item_read}
+use Rattle.kmipa_ttlv.proofs.StreamLemmas.{item_given}
 use Rattle.kmipa_record.specs.Kinds.{ByCause}
 use Rattle.kmipa_record.specs.Files.{IsRightUpTo, FirstFault, in_bytes, in_item, at_end, Tells, place_of}
-use Rattle.kmipa_record.specs.Reading.{TellsFlawOf, ReadFails, Takes, HeaderFault, torn, absent, other, HeaderFails}
+use Rattle.kmipa_record.specs.Reading.{IsReading, TellsFlawOf, ReadFails, Takes, HeaderFault, torn, absent, other, HeaderFails}
 use Rattle.kmipa_record.specs.declared.fault.RecordFault.{RecordFault}
 use Rattle.kmipa_record.specs.declared.fault.RecordKind.{RecordKind}
-use Rattle.kmipa_record.specs.declared.fault.RecordKind.TheVariants.{Header}
+use Rattle.kmipa_record.specs.declared.fault.RecordKind.TheVariants.{Header, Device}
 use Rattle.kmipa_record.proofs.KindLemmas.{ByCause-map}
 
 -- one more item was read
-pub goes_on : (file : List ℕ) (given : List Tree) (item : Tree) (left after : Option (List ℕ)) (place place' : ℕ) → Takes item left after place place' → IsReading file given left place
+pub goes_on : (file : List ℕ) (given : List Tree) (item : Tree) (left after : List ℕ) (place place' : ℕ) → Takes item left after place place' → IsReading file given left place
     → IsReading file (given ++ item ∷ []) after place'
-goes_on file given item left after place place' t r = item_read file given item left after t.front place place' t.consumed t.spelled t.taken (let small = t.small in omega arith) r
+goes_on file given item left after place place' t r =
+    item_given file given item left t.front after place place' t.consumed t.spelled (let small = t.small in omega (arith, t.taken, small)) r
 
 -- the file has ended
-pub ends_here : (file : List ℕ) (given : List Tree) (left : Option (List ℕ)) (place : ℕ) → IsAtEnd left → IsReading file given left place → Begins given file []
-ends_here file given None place e r = absurd r
-ends_here file given (Some rest) place e r = let split : IsSplit file given rest place None = r in subst (Begins given file) e split.begins
+pub ends_here : (file : List ℕ) (given : List Tree) (left : List ℕ) (place : ℕ) → left ≡ [] → IsReading file given left place → Begins given file []
+ends_here file given left place e r = let split : IsSplit file given left place None = r in subst (Begins given file) e split.begins
 
 -- nothing was read
-pub starts : (file : List ℕ) (place : ℕ) → place ≡ 0 → IsReading file [] (Some file) place
+pub starts : (file : List ℕ) (place : ℕ) → place ≡ 0 → IsReading file [] file place
 starts file place zero = record { begins = refl; placed = omega (arith, zero); flaw = tt }
 
 module _ (AreRight : List Tree → Type 0) where
   -- what was read is right, and this is left at this place
-  pub record Stands (file : List ℕ) (given : List Tree) (left : Option (List ℕ)) (place : ℕ) : Type 0 where
+  pub record Stands (file : List ℕ) (given : List Tree) (left : List ℕ) (place : ℕ) : Type 0 where
     pub right : AreRight given
     pub reading : IsReading file given left place
 
-  pub right_here : (file : List ℕ) (given : List Tree) (left : Option (List ℕ)) (place : ℕ) → Stands file given left place → IsRightUpTo AreRight file place
-  right_here file given None place s = absurd s.reading
-  right_here file given (Some rest) place s =
+  pub right_here : (file : List ℕ) (given : List Tree) (left : List ℕ) (place : ℕ) → Stands file given left place → IsRightUpTo AreRight file place
+  right_here file given rest place s =
       let split : IsSplit file given rest place None = s.reading in
       record { items = given; rest = rest; up_to = record { right = s.right; begins = split.begins }; placed = split.placed }
 
   module _ (ItemFault : List Tree → Tree → RecordKind → Type 0) (EndFault : List ℕ → List Tree → ℕ → RecordKind → Type 0) where
-    torn_told : (file : List ℕ) (given : List Tree) (left : Option (List ℕ)) (place : ℕ) (f : RecordFault) → Stands file given left place → IfSome left (λ rest. TellsFlawOf place rest f)
+    torn_told : (file : List ℕ) (given : List Tree) (left : List ℕ) (place : ℕ) (f : RecordFault) → Stands file given left place → TellsFlawOf place left f
         → FirstFault AreRight ItemFault EndFault file f.offset f.kind
-    torn_told file given None place f s t = absurd s.reading
-    torn_told file given (Some rest) place f s t =
+    torn_told file given rest place f s told =
         let split : IsSplit file given rest place None = s.reading in
-        let told : TellsFlawOf place rest f = t in
         in_bytes given rest told.from told.flaw (record { right = s.right; begins = split.begins }) told.some told.wrong
         (told.placed ∙ ap (λ (p : ℕ). capped (p + told.from)) split.placed) told.kind_is
 
-    pub item_told : (file : List ℕ) (given : List Tree) (item : Tree) (left after : Option (List ℕ)) (place place' : ℕ) (kind : RecordKind) → Stands file given left place → Takes item left after place place'
+    -- a fault of the item
+    pub item_told : (file : List ℕ) (given : List Tree) (item : Tree) (left after : List ℕ) (place place' : ℕ) (kind : RecordKind) → Stands file given left place → Takes item left after place place'
         → ItemFault given item kind → FirstFault AreRight ItemFault EndFault file place kind
-    item_told file given item None after place place' kind s t wrong = absurd s.reading
-    item_told file given item (Some rest) None place place' kind s t wrong = absurd t.consumed
-    item_told file given item (Some rest) (Some ys) place place' kind s t wrong =
+    item_told file given item rest ys place place' kind s t wrong =
         let split : IsSplit file given rest place None = s.reading in
         let same : rest ≡ t.front ++ ys = t.consumed in
         in_item given item t.front ys (record { right = s.right; begins = subst (Begins given file) same split.begins }) t.spelled wrong
         (split.placed ∙ ap (place_of file) same)
 
     -- a fault of the bytes, of the device or of memory
-    pub tells_read : (known : Option (List ℕ)) (given : List Tree) (left : Option (List ℕ)) (place : ℕ) (failed : Bool) (f : RecordFault) → IfSome known (λ file. Stands file given left place)
-        → ReadFails place left failed f → Tells (FirstFault AreRight ItemFault EndFault) (IsRightUpTo AreRight) known failed f
-    tells_read None given left place failed f s h = ByCause-map f.kind _ _ _ _ _ _ (λ d. (d.0, tt)) (λ _. tt) (λ _. tt) h
-    tells_read (Some file) given left place failed f s h =
+    pub tells_read : (file : List ℕ) (given : List Tree) (left : List ℕ) (place : ℕ) (failed : Bool) (f : RecordFault) → Stands file given left place
+        → ReadFails place left failed f → Tells (FirstFault AreRight ItemFault EndFault) (IsRightUpTo AreRight) file failed f
+    tells_read file given left place failed f s h =
         let here : (offset : ℕ) → offset ≡ place → IsRightUpTo AreRight file offset = λ offset e. subst (IsRightUpTo AreRight file) (sym e) (right_here file given left place s) in
         ByCause-map f.kind _ _ _ _ _ _ (λ d. (d.0, here f.offset d.1)) (λ m. here f.offset m) (λ p. torn_told file given left place f s p) h
-
-    -- a fault of the item
-    pub tells_item : (known : Option (List ℕ)) (given : List Tree) (item : Tree) (left after : Option (List ℕ)) (place place' : ℕ) (failed : Bool) (kind : RecordKind)
-        → IfSome known (λ file. Stands file given left place) → Takes item left after place place' → IfSome known (λ file. Stands file given left place → ItemFault given item kind)
-        → ((D M P : Type 0) → P → ByCause kind D M P) → Tells (FirstFault AreRight ItemFault EndFault) (IsRightUpTo AreRight) known failed (record { offset = place; kind = kind })
-    tells_item None given item left after place place' failed kind s t wrong told = told _ _ _ tt
-    tells_item (Some file) given item left after place place' failed kind s t wrong told = told _ _ _ (item_told file given item left after place place' kind s t (wrong s))
 
     header_told : (is_header : Tree → Type 0) → AreRight [] → ((item : Tree) (kind : RecordKind) → ¬ (is_header item) → kind ≡ Header → ItemFault [] item kind)
         → ((file : List ℕ) (offset : ℕ) (kind : RecordKind) → offset ≡ 0 → kind ≡ Header → EndFault file [] offset kind)
         → (file : List ℕ) (place : ℕ) (f : RecordFault) → place ≡ 0 → HeaderFault is_header place file f → FirstFault AreRight ItemFault EndFault file f.offset f.kind
-    header_told is_header right no_item no_end file place f zero (torn t) = torn_told file [] (Some file) place f (record { right = right; reading = starts file place zero }) t
+    header_told is_header right no_item no_end file place f zero (torn t) = torn_told file [] file place f (record { right = right; reading = starts file place zero }) t
     header_told is_header right no_item no_end file place f zero (absent e o k) = at_end [] (record { right = right; begins = e }) (no_end file f.offset f.kind (o ∙ zero) k)
     header_told is_header right no_item no_end file place f zero (other item front behind e spelled differs o k) =
         in_item [] item front behind (record { right = right; begins = e }) spelled (no_item item f.kind differs k)
@@ -86,10 +76,29 @@ module _ (AreRight : List Tree → Type 0) where
     -- a fault of the header
     pub tells_header : (is_header : Tree → Type 0) → AreRight [] → ((item : Tree) (kind : RecordKind) → ¬ (is_header item) → kind ≡ Header → ItemFault [] item kind)
         → ((file : List ℕ) (offset : ℕ) (kind : RecordKind) → offset ≡ 0 → kind ≡ Header → EndFault file [] offset kind)
-        → (known : Option (List ℕ)) (place : ℕ) (failed : Bool) (f : RecordFault) → place ≡ 0 → HeaderFails is_header place known failed f
-        → Tells (FirstFault AreRight ItemFault EndFault) (IsRightUpTo AreRight) known failed f
-    tells_header is_header right no_item no_end None place failed f zero h = ByCause-map f.kind _ _ _ _ _ _ (λ d. (d.0, tt)) (λ _. tt) (λ _. tt) h
-    tells_header is_header right no_item no_end (Some file) place failed f zero h =
+        → (file : List ℕ) (place : ℕ) (failed : Bool) (f : RecordFault) → place ≡ 0 → HeaderFails is_header place file failed f
+        → Tells (FirstFault AreRight ItemFault EndFault) (IsRightUpTo AreRight) file failed f
+    tells_header is_header right no_item no_end file place failed f zero h =
         let here : (offset : ℕ) → offset ≡ place → IsRightUpTo AreRight file offset
-        = λ offset e. subst (IsRightUpTo AreRight file) (sym e) (right_here file [] (Some file) place (record { right = right; reading = starts file place zero })) in
+        = λ offset e. subst (IsRightUpTo AreRight file) (sym e) (right_here file [] file place (record { right = right; reading = starts file place zero })) in
         ByCause-map f.kind _ _ _ _ _ _ (λ d. (d.0, here f.offset d.1)) (λ m. here f.offset m) (header_told is_header right no_item no_end file place f zero) h
+
+-- ---- a reader whose bytes are known
+
+pub known_ok : {R T : Type 0} (remaining : R → Option (List ℕ)) (old new : Input R) (reader : R) (P : T → List ℕ → Type 0) (S : RecordFault → Type 0) (r : Result T RecordFault)
+    → reader_of old ≡ reader → came_of old ≡ [] → is_ended old ≡ false → StaysOver remaining old new → MatchResult r (λ _. is_failed new ≡ false) S
+    → IfOk r (λ t. P t (came_of new) × IsTrue (is_ended new)) → IfOk r (λ t. IfSome (remaining reader) (P t))
+known_ok remaining old new reader P S (Ok t) is none goes_on over works h =
+    where_known (remaining reader) (P t) (λ bytes e.
+    whole_file bytes new (P t) h.1 (over_file remaining new bytes works (over bytes (starts_over remaining old bytes none goes_on (ap remaining is ∙ e)))) h.0)
+known_ok remaining old new reader P S (Err f) is none goes_on over works h = tt
+
+pub known_err : {R T : Type 0} (remaining : R → Option (List ℕ)) (old new : Input R) (reader : R) (Fault : List ℕ → ℕ → RecordKind → Type 0) (UpTo : List ℕ → ℕ → Type 0) (r : Result T RecordFault)
+    → reader_of old ≡ reader → came_of old ≡ [] → is_ended old ≡ false → StaysOver remaining old new
+    → MatchResult r (λ _. is_failed new ≡ false) (λ f. f.kind ≢ Device → is_failed new ≡ false)
+    → ((file : List ℕ) → IsFileOf file new → IfErr r (Tells Fault UpTo file (is_failed new))) → IfErr r (λ f. f.kind ≢ Device → IfSome (remaining reader) (λ bytes. Tells Fault UpTo bytes false f))
+known_err remaining old new reader Fault UpTo (Ok t) is none goes_on over works h = tt
+known_err remaining old new reader Fault UpTo (Err f) is none goes_on over works h = λ other.
+    where_known (remaining reader) _ (λ bytes e.
+    subst (λ (b : Bool). Tells Fault UpTo bytes b f) (works other)
+    (h bytes (over_file remaining new bytes (works other) (over bytes (starts_over remaining old bytes none goes_on (ap remaining is ∙ e))))))

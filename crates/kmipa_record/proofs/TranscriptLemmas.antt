@@ -4,14 +4,14 @@ use Rattle.std.specs.Prelude.{Contains}
 use Rattle.std.proofs.lemmas.List.{map-append}
 use Rattle.kmipa_ttlv.specs.Tree.{Tree}
 use Rattle.kmipa_ttlv.specs.Stream.{IsSplit}
-use Rattle.kmipa_ttlv.specs.Items.{IsReading}
+use Rattle.kmipa_ttlv.specs.Stream.{Begins}
 use Rattle.kmipa_record.specs.Calls.{progress_of, place_in, open_place, first_place, Follow, EndAt, HasNone, BeginsCall, EndsCall, StandsSo}
 use Rattle.kmipa_record.specs.Calls as calls
 use Rattle.kmipa_record.specs.Files.{at_end, Tells}
 use Rattle.kmipa_record.specs.Marks.{MarkOf, begins, ends, mark_of, mark_item, begun, ended, AreInOrder}
-use Rattle.kmipa_record.specs.Reading.{Takes, ReadFails, HeaderFails}
+use Rattle.kmipa_record.specs.Reading.{IsReading, Takes, ReadFails, HeaderFails}
 use Rattle.kmipa_record.specs.Transcripts.{transcript_header, IsTranscript, AreRightInTranscript, TranscriptItemFault, TranscriptEndFault, MarkItemFault, no_mark, in_mark, TranscriptFault, IsTranscriptUpTo}
-use Rattle.kmipa_record.specs.TranscriptReading.{IsReadSoFar, IsReadToEnd}
+use Rattle.kmipa_record.specs.TranscriptReading.{IsReadSoFar}
 use Rattle.kmipa_record.specs.declared.calls.Calls.{Calls}
 use Rattle.kmipa_record.specs.declared.calls.Progress.{Progress}
 use Rattle.kmipa_record.specs.declared.calls.Progress.TheVariants.{Open, Ended}
@@ -19,8 +19,8 @@ use Rattle.kmipa_record.specs.declared.fault.RecordFault.{RecordFault}
 use Rattle.kmipa_record.specs.declared.fault.RecordKind.{RecordKind}
 use Rattle.kmipa_record.specs.declared.fault.RecordKind.TheVariants.{Entry, OpenCall, Memory}
 use Rattle.kmipa_record.specs.declared.transcript.Mark.{Mark}
-use Rattle.kmipa_record.proofs.KindLemmas.{IfSome-map, memory_cause}
-use Rattle.kmipa_record.proofs.FileLemmas.{goes_on, starts, Stands, tells_read, tells_item, item_told, tells_header, right_here}
+use Rattle.kmipa_record.proofs.KindLemmas.{memory_cause}
+use Rattle.kmipa_record.proofs.FileLemmas.{goes_on, starts, ends_here, Stands, tells_read, item_told, tells_header, right_here}
 use Rattle.kmipa_record.proofs.MarkLemmas.{begun-append, in_order_begin, in_order_end}
 use Rattle.kmipa_record.proofs.CallLemmas.{at_progress, follow_none, follow_begin, follow_end, refused_mark, refused_cause, none_open, settled, first_at}
 use Rattle.std.proofs.lemmas.List.Elements.{Contains-append_left}
@@ -28,19 +28,15 @@ use Rattle.std.proofs.lemmas.List.Elements.{Contains-append_left}
 abbrev items_of : List MarkOf → List Tree
 items_of marks = transcript_header ∷ map mark_item marks
 
-stands : (file : List ℕ) (marks : List MarkOf) (calls : Calls) (left : Option (List ℕ)) (place : ℕ) → IsReadSoFar file marks calls left place → Stands AreRightInTranscript file (items_of marks) left place
+stands : (file : List ℕ) (marks : List MarkOf) (calls : Calls) (left : List ℕ) (place : ℕ) → IsReadSoFar file marks calls left place → Stands AreRightInTranscript file (items_of marks) left place
 stands file marks calls left place s = record { right = (refl, record { marks = marks; are = refl; in_order = s.in_order }); reading = s.reading }
-
-all_stand : (known : Option (List ℕ)) (marks : List MarkOf) (calls : Calls) (left : Option (List ℕ)) (place : ℕ) → IfSome known (λ file. IsReadSoFar file marks calls left place)
-    → IfSome known (λ file. Stands AreRightInTranscript file (items_of marks) left place)
-all_stand known marks calls left place s = IfSome-map known _ _ (λ file. stands file marks calls left place) s
 
 -- ---- the header
 
-pub header_fails : (known : Option (List ℕ)) (place : ℕ) (failed : Bool) (f : RecordFault) → place ≡ 0 → HeaderFails (λ item. item ≡ transcript_header) place known failed f
-    → Tells TranscriptFault IsTranscriptUpTo known failed f
-header_fails known place failed f zero h =
-    tells_header AreRightInTranscript TranscriptItemFault TranscriptEndFault (λ item. item ≡ transcript_header) tt (λ item kind differs k. (differs, k)) (λ file offset kind o k. (o, k)) known place failed f zero h
+pub header_fails : (file : List ℕ) (place : ℕ) (failed : Bool) (f : RecordFault) → place ≡ 0 → HeaderFails (λ item. item ≡ transcript_header) place file failed f
+    → Tells TranscriptFault IsTranscriptUpTo file failed f
+header_fails file place failed f zero h =
+    tells_header AreRightInTranscript TranscriptItemFault TranscriptEndFault (λ item. item ≡ transcript_header) tt (λ item kind differs k. (differs, k)) (λ file offset kind o k. (o, k)) file place failed f zero h
 
 no_end : (before after : List MarkOf) (call : ℤ) (message : List ℕ) → [] ≡ before ++ ends call message ∷ after → ⊥
 no_end [] after call message e = cc
@@ -54,44 +50,37 @@ in_order_none = record {
   answered = λ before after call message e. absurd (no_end before after call message e);
 }
 
-starts_known : (known left : Option (List ℕ)) (place place' : ℕ) (calls : Calls) → place ≡ 0 → Takes transcript_header known left place place' → HasNone calls
-    → IfSome known (λ file. IsReadSoFar file [] calls left place')
-starts_known None left place place' calls zero t none = tt
-starts_known (Some file) left place place' calls zero t none = record {
-  reading = goes_on file [] transcript_header (Some file) left place place' t (starts file place zero);
-  in_order = in_order_none;
-  follow = follow_none file calls none;
-}
-
-pub header_read : (known left : Option (List ℕ)) (place place' : ℕ) (calls : Calls) (marks : List Mark) → place ≡ 0 → marks ≡ [] → Takes transcript_header known left place place' → HasNone calls
-    → IfSome known (λ file. IsReadSoFar file (map mark_of marks) calls left place')
-header_read known left place place' calls marks zero e t none =
-    subst (λ (l : List Mark). IfSome known (λ file. IsReadSoFar file (map mark_of l) calls left place')) (sym e) (starts_known known left place place' calls zero t none)
+pub header_read : (file left : List ℕ) (place place' : ℕ) (calls : Calls) (marks : List Mark) → place ≡ 0 → marks ≡ [] → Takes transcript_header file left place place' → HasNone calls
+    → IsReadSoFar file (map mark_of marks) calls left place'
+header_read file left place place' calls marks zero e t none =
+    subst (λ (l : List Mark). IsReadSoFar file (map mark_of l) calls left place') (sym e) (record {
+      reading = goes_on file [] transcript_header file left place place' t (starts file place zero);
+      in_order = in_order_none;
+      follow = follow_none file calls none;
+    })
 
 -- ---- a mark
 
-pub read_fails : (known : Option (List ℕ)) (marks : List MarkOf) (calls : Calls) (left : Option (List ℕ)) (place : ℕ) (failed : Bool) (f : RecordFault)
-    → IfSome known (λ file. IsReadSoFar file marks calls left place) → ReadFails place left failed f → Tells TranscriptFault IsTranscriptUpTo known failed f
-read_fails known marks calls left place failed f s h =
-    tells_read AreRightInTranscript TranscriptItemFault TranscriptEndFault known (items_of marks) left place failed f (all_stand known marks calls left place s) h
+pub read_fails : (file : List ℕ) (marks : List MarkOf) (calls : Calls) (left : List ℕ) (place : ℕ) (failed : Bool) (f : RecordFault)
+    → IsReadSoFar file marks calls left place → ReadFails place left failed f → Tells TranscriptFault IsTranscriptUpTo file failed f
+read_fails file marks calls left place failed f s h =
+    tells_read AreRightInTranscript TranscriptItemFault TranscriptEndFault file (items_of marks) left place failed f (stands file marks calls left place s) h
 
-pub no_mark_told : (known : Option (List ℕ)) (marks : List MarkOf) (calls : Calls) (item : Tree) (left after : Option (List ℕ)) (place place' : ℕ) (failed : Bool)
-    → IfSome known (λ file. IsReadSoFar file marks calls left place) → Takes item left after place place' → ¬ ((mark : MarkOf) × (item ≡ mark_item mark))
-    → Tells TranscriptFault IsTranscriptUpTo known failed (record { offset = place; kind = Entry })
-no_mark_told known marks calls item left after place place' failed s t none =
-    tells_item AreRightInTranscript TranscriptItemFault TranscriptEndFault known (items_of marks) item left after place place' failed Entry (all_stand known marks calls left place s) t
-    (IfSome-map known _ _ (λ file is. λ _. no_mark (λ mark e. none (mark, e)) refl) s) (λ D M P p. p)
+pub no_mark_told : (file : List ℕ) (marks : List MarkOf) (calls : Calls) (item : Tree) (left after : List ℕ) (place place' : ℕ) (failed : Bool)
+    → IsReadSoFar file marks calls left place → Takes item left after place place' → ¬ ((mark : MarkOf) × (item ≡ mark_item mark))
+    → Tells TranscriptFault IsTranscriptUpTo file failed (record { offset = place; kind = Entry })
+no_mark_told file marks calls item left after place place' failed s t none =
+    item_told AreRightInTranscript TranscriptItemFault TranscriptEndFault file (items_of marks) item left after place place' Entry (stands file marks calls left place s) t
+    (no_mark (λ mark e. none (mark, e)) refl)
 
-refused_item : (file : List ℕ) (marks : List MarkOf) (old : Calls) (mark : MarkOf) (left : Option (List ℕ)) (place : ℕ) (kind : RecordKind) → IsReadSoFar file marks old left place
+refused_item : (file : List ℕ) (marks : List MarkOf) (old : Calls) (mark : MarkOf) (left : List ℕ) (place : ℕ) (kind : RecordKind) → IsReadSoFar file marks old left place
     → kind ≢ Memory → calls.Refuses old mark kind → MarkItemFault (map mark_item marks) (mark_item mark) kind
 refused_item file marks old mark left place kind s ne r = in_mark marks mark refl refl (refused_mark file marks old mark kind s.follow ne r)
 
-pub refused_told : (known : Option (List ℕ)) (marks : List MarkOf) (old : Calls) (mark : MarkOf) (left after : Option (List ℕ)) (place place' : ℕ) (failed : Bool) (f : RecordFault)
-    → IfSome known (λ file. IsReadSoFar file marks old left place) → Takes (mark_item mark) left after place place' → f.offset ≡ place → (f.kind ≡ Memory) ⊎ calls.Refuses old mark f.kind
-    → Tells TranscriptFault IsTranscriptUpTo known failed f
-refused_told None marks old mark left after place place' failed f s t o (inl m) = memory_cause f.kind _ _ _ m tt
-refused_told None marks old mark left after place place' failed f s t o (inr r) = refused_cause old mark f.kind _ _ _ r tt (λ _. tt)
-refused_told (Some file) marks old mark left after place place' failed f s t o r =
+pub refused_told : (file : List ℕ) (marks : List MarkOf) (old : Calls) (mark : MarkOf) (left after : List ℕ) (place place' : ℕ) (failed : Bool) (f : RecordFault)
+    → IsReadSoFar file marks old left place → Takes (mark_item mark) left after place place' → f.offset ≡ place → (f.kind ≡ Memory) ⊎ calls.Refuses old mark f.kind
+    → Tells TranscriptFault IsTranscriptUpTo file failed f
+refused_told file marks old mark left after place place' failed f s t o r =
     let here = stands file marks old left place s in
     let right : IsTranscriptUpTo file f.offset = subst (IsTranscriptUpTo file) (sym o) (right_here AreRightInTranscript file (items_of marks) left place here) in
     elim r [
@@ -103,16 +92,15 @@ refused_told (Some file) marks old mark left after place place' failed f s t o r
     ]
 
 -- the place of the mark that comes next
-end_at : (file : List ℕ) (marks : List MarkOf) (left : Option (List ℕ)) (place : ℕ) → IsReading file (items_of marks) left place → EndAt file marks place
-end_at file marks None place r = absurd r
-end_at file marks (Some rest) place r = let split : IsSplit file (items_of marks) rest place None = r in record { rest = rest; behind = split.begins; placed = split.placed }
+end_at : (file : List ℕ) (marks : List MarkOf) (left : List ℕ) (place : ℕ) → IsReading file (items_of marks) left place → EndAt file marks place
+end_at file marks rest place r = let split : IsSplit file (items_of marks) rest place None = r in record { rest = rest; behind = split.begins; placed = split.placed }
 
-one_more : (file : List ℕ) (marks : List MarkOf) (mark : MarkOf) (left after : Option (List ℕ)) (place place' : ℕ) → Takes (mark_item mark) left after place place'
+one_more : (file : List ℕ) (marks : List MarkOf) (mark : MarkOf) (left after : List ℕ) (place place' : ℕ) → Takes (mark_item mark) left after place place'
     → IsReading file (items_of marks) left place → IsReading file (items_of (marks ++ mark ∷ [])) after place'
 one_more file marks mark left after place place' t r =
     subst (λ (l : List Tree). IsReading file (transcript_header ∷ l) after place') (sym (map-append mark_item marks (mark ∷ []))) (goes_on file (items_of marks) (mark_item mark) left after place place' t r)
 
-took : (file : List ℕ) (marks : List MarkOf) (mark : MarkOf) (old new : Calls) (left after : Option (List ℕ)) (place place' : ℕ) → Takes (mark_item mark) left after place place'
+took : (file : List ℕ) (marks : List MarkOf) (mark : MarkOf) (old new : Calls) (left after : List ℕ) (place place' : ℕ) → Takes (mark_item mark) left after place place'
     → calls.Takes old new mark place → IsReadSoFar file marks old left place → IsReadSoFar file (marks ++ mark ∷ []) new after place'
 took file marks (begins call client message) old new left after place place' t b s =
     let free = at_progress file marks old call None b.unused s.follow in
@@ -129,24 +117,23 @@ took file marks (ends call message) old new left after place place' t b s =
       follow = follow_end file marks call message old new s.follow b;
     }
 
-pub mark_taken : (known : Option (List ℕ)) (marks more : List Mark) (mark : Mark) (old new : Calls) (left after : Option (List ℕ)) (place place' : ℕ) → more ≡ marks ++ mark ∷ []
-    → Takes (mark_item (mark_of mark)) left after place place' → calls.Takes old new (mark_of mark) place → IfSome known (λ file. IsReadSoFar file (map mark_of marks) old left place)
-    → IfSome known (λ file. IsReadSoFar file (map mark_of more) new after place')
-mark_taken known marks more mark old new left after place place' e t b s =
+pub mark_taken : (file : List ℕ) (marks more : List Mark) (mark : Mark) (old new : Calls) (left after : List ℕ) (place place' : ℕ) → more ≡ marks ++ mark ∷ []
+    → Takes (mark_item (mark_of mark)) left after place place' → calls.Takes old new (mark_of mark) place → IsReadSoFar file (map mark_of marks) old left place
+    → IsReadSoFar file (map mark_of more) new after place'
+mark_taken file marks more mark old new left after place place' e t b s =
     let same : map mark_of more ≡ map mark_of marks ++ mark_of mark ∷ [] = ap (map mark_of) e ∙ map-append mark_of marks (mark ∷ []) in
-    IfSome-map known _ _ (λ file is. subst (λ (l : List MarkOf). IsReadSoFar file l new after place') (sym same) (took file (map mark_of marks) (mark_of mark) old new left after place place' t b is)) s
+    subst (λ (l : List MarkOf). IsReadSoFar file l new after place') (sym same) (took file (map mark_of marks) (mark_of mark) old new left after place place' t b s)
 
 -- ---- the end
 
-closed : (file : List ℕ) (marks : List MarkOf) (calls : Calls) → first_place (open_place calls) marks ≡ None → IsReadToEnd file marks calls → IsTranscript file marks
-closed file marks calls e s = record {
-  spelled = s.spelled;
+spelled : (file : List ℕ) (marks : List MarkOf) (calls : Calls) (place : ℕ) → IsReadSoFar file marks calls [] place → Begins (items_of marks) file []
+spelled file marks calls place s = ends_here file (items_of marks) [] place refl s.reading
+
+pub closed : (file : List ℕ) (marks : List MarkOf) (calls : Calls) (place : ℕ) → first_place (open_place calls) marks ≡ None → IsReadSoFar file marks calls [] place → IsTranscript file marks
+closed file marks calls place e s = record {
+  spelled = spelled file marks calls place s;
   recorded = record { in_order = s.in_order; closed = λ call c. settled file marks calls call s.follow (none_open calls marks call e c) c };
 }
-
-pub all_closed : (known : Option (List ℕ)) (marks : List MarkOf) (calls : Calls) → first_place (open_place calls) marks ≡ None → IfSome known (λ file. IsReadToEnd file marks calls)
-    → IfSome known (λ file. IsTranscript file marks)
-all_closed known marks calls e s = IfSome-map known _ _ (λ file. closed file marks calls e) s
 
 abbrev open_in : Option ℕ → Option Progress
 open_in None = None
@@ -157,16 +144,16 @@ open_progress None offset e = absurd cc
 open_progress (Some (Open place)) offset e = ap open_in e
 open_progress (Some Ended) offset e = absurd cc
 
-open_at : (file : List ℕ) (marks : List MarkOf) (calls : Calls) (offset : ℕ) (before : List MarkOf) (mark : MarkOf) (after : List MarkOf) → IsReadToEnd file marks calls
+open_at : (file : List ℕ) (marks : List MarkOf) (calls : Calls) (place offset : ℕ) (before : List MarkOf) (mark : MarkOf) (after : List MarkOf) → IsReadSoFar file marks calls [] place
     → marks ≡ before ++ mark ∷ after → open_place calls mark ≡ Some offset → first_place (open_place calls) before ≡ None → TranscriptFault file offset OpenCall
-open_at file marks calls offset before (ends call message) after s are here none = absurd cc
-open_at file marks calls offset before (begins call client message) after s are here none =
+open_at file marks calls place offset before (ends call message) after s are here none = absurd cc
+open_at file marks calls place offset before (begins call client message) after s are here none =
     let is = at_progress file marks calls call (Some (Open offset)) (open_progress (progress_of calls call) offset here) s.follow in
     let found : EndAt file before offset = is.2 before after client message are in
     let known : (other : ℤ) → Contains (begun before) other → Contains (begun marks) other
     = λ other c. subst (λ (l : List MarkOf). Contains (begun l) other) (sym are)
     (subst (λ (l : List ℤ). Contains l other) (sym (begun-append before (begins call client message ∷ after))) (Contains-append_left (begun before) (call ∷ begun after) other c)) in
-    at_end (items_of marks) (record { right = (refl, record { marks = marks; are = refl; in_order = s.in_order }); begins = s.spelled }) (
+    at_end (items_of marks) (record { right = (refl, record { marks = marks; are = refl; in_order = s.in_order }); begins = spelled file marks calls place s }) (
       record {
         before = before;
         call = call;
@@ -183,11 +170,7 @@ open_at file marks calls offset before (begins call client message) after s are 
       refl,
     )
 
-open_told : (file : List ℕ) (marks : List MarkOf) (calls : Calls) (offset : ℕ) → first_place (open_place calls) marks ≡ Some offset → IsReadToEnd file marks calls → TranscriptFault file offset OpenCall
-open_told file marks calls offset e s =
+pub open_told : (file : List ℕ) (marks : List MarkOf) (calls : Calls) (place offset : ℕ) → first_place (open_place calls) marks ≡ Some offset → IsReadSoFar file marks calls [] place → TranscriptFault file offset OpenCall
+open_told file marks calls place offset e s =
     let found = first_at (open_place calls) marks offset e in
-    open_at file marks calls offset found.before found.mark found.after s found.are found.here found.none_before
-
-pub first_open_told : (known : Option (List ℕ)) (marks : List MarkOf) (calls : Calls) (offset : ℕ) → first_place (open_place calls) marks ≡ Some offset → IfSome known (λ file. IsReadToEnd file marks calls)
-    → IfSome known (λ file. TranscriptFault file offset OpenCall)
-first_open_told known marks calls offset e s = IfSome-map known _ _ (λ file. open_told file marks calls offset e) s
+    open_at file marks calls place offset found.before found.mark found.after s found.are found.here found.none_before

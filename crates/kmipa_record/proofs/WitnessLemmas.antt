@@ -2,64 +2,53 @@
 use Rattle.std.proofs.Common.{◌≡◌, ℕ, pos, ◌<ℤ◌, List, [], ◌∷◌, ◌++◌, Bool, Option, None, Some, IfSome, ◌⊎◌, inl, inr, refl, sym, ap, subst, ◌∙◌, map}
 use Rattle.std.proofs.lemmas.List.{map-append}
 use Rattle.std.proofs.lemmas.List.Elements.{All-push, All-nil}
-use Rattle.kmipa_ttlv.specs.Items.{IsReading}
 use Rattle.kmipa_ttlv.specs.Tree.{Tree}
 use Rattle.kmipa_record.specs.Files.{Tells}
 use Rattle.kmipa_record.specs.Marks.{IsCallNumber}
-use Rattle.kmipa_record.specs.Reading.{Takes, ReadFails, HeaderFails}
-use Rattle.kmipa_record.specs.Witnesses.{TurnOf, turn_of, turn_item, witness_header, AreRightInWitness, WitnessItemFault, WitnessEndFault, no_turn, below_one, WitnessFault, IsWitnessUpTo}
+use Rattle.kmipa_record.specs.Reading.{IsReading, Takes, ReadFails, HeaderFails}
+use Rattle.kmipa_record.specs.Witnesses.{TurnOf, turn_of, turn_item, witness_header, AreRightInWitness, WitnessItemFault, WitnessEndFault, no_turn, below_one, WitnessFault, IsWitnessUpTo, IsWitness}
 use Rattle.kmipa_record.specs.WitnessReading.{IsReadSoFar}
 use Rattle.kmipa_record.specs.declared.fault.RecordFault.{RecordFault}
 use Rattle.kmipa_record.specs.declared.fault.RecordKind.TheVariants.{Entry, Number, Memory}
 use Rattle.kmipa_record.specs.declared.witness.Turn.{Turn}
-use Rattle.kmipa_record.proofs.KindLemmas.{IfSome-map, memory_cause, number_cause}
-use Rattle.kmipa_record.proofs.FileLemmas.{goes_on, starts, Stands, tells_read, tells_item, item_told, right_here, tells_header}
+use Rattle.kmipa_record.proofs.KindLemmas.{memory_cause, number_cause}
+use Rattle.kmipa_record.proofs.FileLemmas.{goes_on, starts, ends_here, Stands, tells_read, item_told, right_here, tells_header}
 
 abbrev items_of : List TurnOf → List Tree
 items_of turns = witness_header ∷ map turn_item turns
 
-stands : (file : List ℕ) (turns : List TurnOf) (left : Option (List ℕ)) (place : ℕ) → IsReadSoFar file turns left place → Stands AreRightInWitness file (items_of turns) left place
+stands : (file : List ℕ) (turns : List TurnOf) (left : List ℕ) (place : ℕ) → IsReadSoFar file turns left place → Stands AreRightInWitness file (items_of turns) left place
 stands file turns left place s = record { right = (refl, record { turns = turns; are = refl; numbered = s.numbered }); reading = s.reading }
 
-all_stand : (known : Option (List ℕ)) (turns : List TurnOf) (left : Option (List ℕ)) (place : ℕ) → IfSome known (λ file. IsReadSoFar file turns left place)
-    → IfSome known (λ file. Stands AreRightInWitness file (items_of turns) left place)
-all_stand known turns left place s = IfSome-map known _ _ (λ file. stands file turns left place) s
+pub header_fails : (file : List ℕ) (place : ℕ) (failed : Bool) (f : RecordFault) → place ≡ 0 → HeaderFails (λ item. item ≡ witness_header) place file failed f
+    → Tells WitnessFault IsWitnessUpTo file failed f
+header_fails file place failed f zero h =
+    tells_header AreRightInWitness WitnessItemFault WitnessEndFault (λ item. item ≡ witness_header) tt (λ item kind differs k. (differs, k)) (λ file offset kind o k. (o, k)) file place failed f zero h
 
-pub header_fails : (known : Option (List ℕ)) (place : ℕ) (failed : Bool) (f : RecordFault) → place ≡ 0 → HeaderFails (λ item. item ≡ witness_header) place known failed f
-    → Tells WitnessFault IsWitnessUpTo known failed f
-header_fails known place failed f zero h =
-    tells_header AreRightInWitness WitnessItemFault WitnessEndFault (λ item. item ≡ witness_header) tt (λ item kind differs k. (differs, k)) (λ file offset kind o k. (o, k)) known place failed f zero h
+pub header_read : (file left : List ℕ) (place place' : ℕ) (turns : List Turn) → place ≡ 0 → turns ≡ [] → Takes witness_header file left place place'
+    → IsReadSoFar file (map turn_of turns) left place'
+header_read file left place place' turns zero e t =
+    subst (λ (l : List Turn). IsReadSoFar file (map turn_of l) left place') (sym e) (record {
+      reading = goes_on file [] witness_header file left place place' t (starts file place zero);
+      numbered = All-nil (λ turn. IsCallNumber turn.call);
+    })
 
-starts_known : (known left : Option (List ℕ)) (place place' : ℕ) → place ≡ 0 → Takes witness_header known left place place' → IfSome known (λ file. IsReadSoFar file [] left place')
-starts_known None left place place' zero t = tt
-starts_known (Some file) left place place' zero t = record {
-  reading = goes_on file [] witness_header (Some file) left place place' t (starts file place zero);
-  numbered = All-nil (λ turn. IsCallNumber turn.call);
-}
+pub read_fails : (file : List ℕ) (turns : List TurnOf) (left : List ℕ) (place : ℕ) (failed : Bool) (f : RecordFault) → IsReadSoFar file turns left place
+    → ReadFails place left failed f → Tells WitnessFault IsWitnessUpTo file failed f
+read_fails file turns left place failed f s h =
+    tells_read AreRightInWitness WitnessItemFault WitnessEndFault file (items_of turns) left place failed f (stands file turns left place s) h
 
-pub header_read : (known left : Option (List ℕ)) (place place' : ℕ) (turns : List Turn) → place ≡ 0 → turns ≡ [] → Takes witness_header known left place place'
-    → IfSome known (λ file. IsReadSoFar file (map turn_of turns) left place')
-header_read known left place place' turns zero e t =
-    subst (λ (l : List Turn). IfSome known (λ file. IsReadSoFar file (map turn_of l) left place')) (sym e) (starts_known known left place place' zero t)
+pub no_turn_told : (file : List ℕ) (turns : List TurnOf) (item : Tree) (left after : List ℕ) (place place' : ℕ) (failed : Bool)
+    → IsReadSoFar file turns left place → Takes item left after place place' → ¬ ((turn : TurnOf) × (item ≡ turn_item turn))
+    → Tells WitnessFault IsWitnessUpTo file failed (record { offset = place; kind = Entry })
+no_turn_told file turns item left after place place' failed s t none =
+    item_told AreRightInWitness WitnessItemFault WitnessEndFault file (items_of turns) item left after place place' Entry (stands file turns left place s) t
+    (no_turn (λ turn e. none (turn, e)) refl)
 
-pub read_fails : (known : Option (List ℕ)) (turns : List TurnOf) (left : Option (List ℕ)) (place : ℕ) (failed : Bool) (f : RecordFault) → IfSome known (λ file. IsReadSoFar file turns left place)
-    → ReadFails place left failed f → Tells WitnessFault IsWitnessUpTo known failed f
-read_fails known turns left place failed f s h =
-    tells_read AreRightInWitness WitnessItemFault WitnessEndFault known (items_of turns) left place failed f (all_stand known turns left place s) h
-
-pub no_turn_told : (known : Option (List ℕ)) (turns : List TurnOf) (item : Tree) (left after : Option (List ℕ)) (place place' : ℕ) (failed : Bool)
-    → IfSome known (λ file. IsReadSoFar file turns left place) → Takes item left after place place' → ¬ ((turn : TurnOf) × (item ≡ turn_item turn))
-    → Tells WitnessFault IsWitnessUpTo known failed (record { offset = place; kind = Entry })
-no_turn_told known turns item left after place place' failed s t none =
-    tells_item AreRightInWitness WitnessItemFault WitnessEndFault known (items_of turns) item left after place place' failed Entry (all_stand known turns left place s) t
-    (IfSome-map known _ _ (λ file is. λ _. no_turn (λ turn e. none (turn, e)) refl) s) (λ D M P p. p)
-
-pub refused_told : (known : Option (List ℕ)) (turns : List TurnOf) (turn : TurnOf) (left after : Option (List ℕ)) (place place' : ℕ) (failed : Bool) (f : RecordFault)
-    → IfSome known (λ file. IsReadSoFar file turns left place) → Takes (turn_item turn) left after place place' → f.offset ≡ place → (f.kind ≡ Memory) ⊎ ((f.kind ≡ Number) × (turn.call <ℤ pos 1))
-    → Tells WitnessFault IsWitnessUpTo known failed f
-refused_told None turns turn left after place place' failed f s t o (inl m) = memory_cause f.kind _ _ _ m tt
-refused_told None turns turn left after place place' failed f s t o (inr n) = number_cause f.kind _ _ _ n.0 tt
-refused_told (Some file) turns turn left after place place' failed f s t o r =
+pub refused_told : (file : List ℕ) (turns : List TurnOf) (turn : TurnOf) (left after : List ℕ) (place place' : ℕ) (failed : Bool) (f : RecordFault)
+    → IsReadSoFar file turns left place → Takes (turn_item turn) left after place place' → f.offset ≡ place → (f.kind ≡ Memory) ⊎ ((f.kind ≡ Number) × (turn.call <ℤ pos 1))
+    → Tells WitnessFault IsWitnessUpTo file failed f
+refused_told file turns turn left after place place' failed f s t o r =
     let here = stands file turns left place s in
     elim r [
       | inl m ↦ memory_cause f.kind _ _ _ m (subst (IsWitnessUpTo file) (sym o) (right_here AreRightInWitness file (items_of turns) left place here))
@@ -67,7 +56,7 @@ refused_told (Some file) turns turn left after place place' failed f s t o r =
           (item_told AreRightInWitness WitnessItemFault WitnessEndFault file (items_of turns) (turn_item turn) left after place place' f.kind here t (below_one turn refl n.1 n.0)))
     ]
 
-took : (file : List ℕ) (turns : List TurnOf) (turn : TurnOf) (left after : Option (List ℕ)) (place place' : ℕ) → Takes (turn_item turn) left after place place' → IsCallNumber turn.call
+took : (file : List ℕ) (turns : List TurnOf) (turn : TurnOf) (left after : List ℕ) (place place' : ℕ) → Takes (turn_item turn) left after place place' → IsCallNumber turn.call
     → IsReadSoFar file turns left place → IsReadSoFar file (turns ++ turn ∷ []) after place'
 took file turns turn left after place place' t number s = record {
   reading = subst (λ (l : List Tree). IsReading file (witness_header ∷ l) after place') (sym (map-append turn_item turns (turn ∷ [])))
@@ -75,9 +64,12 @@ took file turns turn left after place place' t number s = record {
   numbered = All-push (λ u. IsCallNumber u.call) turns turn s.numbered number;
 }
 
-pub turn_taken : (known : Option (List ℕ)) (turns more : List Turn) (turn : Turn) (left after : Option (List ℕ)) (place place' : ℕ) → more ≡ turns ++ turn ∷ []
-    → Takes (turn_item (turn_of turn)) left after place place' → IsCallNumber turn.call → IfSome known (λ file. IsReadSoFar file (map turn_of turns) left place)
-    → IfSome known (λ file. IsReadSoFar file (map turn_of more) after place')
-turn_taken known turns more turn left after place place' e t number s =
+pub turn_taken : (file : List ℕ) (turns more : List Turn) (turn : Turn) (left after : List ℕ) (place place' : ℕ) → more ≡ turns ++ turn ∷ []
+    → Takes (turn_item (turn_of turn)) left after place place' → IsCallNumber turn.call → IsReadSoFar file (map turn_of turns) left place
+    → IsReadSoFar file (map turn_of more) after place'
+turn_taken file turns more turn left after place place' e t number s =
     let same : map turn_of more ≡ map turn_of turns ++ turn_of turn ∷ [] = ap (map turn_of) e ∙ map-append turn_of turns (turn ∷ []) in
-    IfSome-map known _ _ (λ file is. subst (λ (l : List TurnOf). IsReadSoFar file l after place') (sym same) (took file (map turn_of turns) (turn_of turn) left after place place' t number is)) s
+    subst (λ (l : List TurnOf). IsReadSoFar file l after place') (sym same) (took file (map turn_of turns) (turn_of turn) left after place place' t number s)
+
+pub whole : (file : List ℕ) (turns : List TurnOf) (place : ℕ) → IsReadSoFar file turns [] place → IsWitness file turns
+whole file turns place s = record { spelled = ends_here file (items_of turns) [] place refl s.reading; numbered = s.numbered }

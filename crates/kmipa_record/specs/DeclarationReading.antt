@@ -1,12 +1,12 @@
 -- How a declaration is read record by record. Not promised.
-use Rattle.std.specs.Prelude.{◌≡◌, ◌≢◌, ◌⊎◌, ◌%◌, ◌==◌, ◌&&◌, nat_lt, ℕ, ℤ, pos, negsuc, Bool, true, false, List, [], ◌∷◌, ◌++◌, map, All, AllPairs, Any, Option, IfSome}
+use Rattle.std.specs.Prelude.{◌≡◌, ◌≢◌, ◌⊎◌, ◌%◌, ◌==◌, ◌&&◌, nat_lt, ℕ, ℤ, pos, negsuc, Bool, false, List, [], ◌∷◌, ◌++◌, map, All, AllPairs, Any}
 use Rattle.std.specs.HashSet.{contains_text}
 use Rattle.std.specs.List.{AllZip, list_any}
 use Rattle.std.specs.Str.{bytes_eq}
-use Rattle.kmipa_ttlv.specs.Items.{IsReading}
+use Rattle.kmipa_record.specs.Reading.{IsReading}
 use Rattle.kmipa_ttlv.specs.Tree.{Tree}
 use Rattle.kmipa_msgs.specs.Messages.{RowOf, row_of}
-use Rattle.kmipa_record.specs.Declarations.{DeclarationOf, declaration_header, RecordOf, row, entry, SaysRecord, records_of, IsDeclaration}
+use Rattle.kmipa_record.specs.Declarations.{DeclarationOf, declaration_header, RecordOf, row, entry, SaysRecord, records_of}
 use Rattle.kmipa_record.specs.Entries.{EntryOf, entry_of, IsDeclarable}
 use Rattle.kmipa_record.specs.declared.fault.RecordKind.{RecordKind}
 use Rattle.kmipa_record.specs.declared.fault.RecordKind.TheVariants as kinds
@@ -64,12 +64,7 @@ Refuses old (entry e) kind = (kind ≡ kinds.Memory) ⊎ ((kind ≡ kinds.Identi
 -- ---- the file so far
 
 -- the header and these records were read of the file, and this is left at this place
-pub record IsReadSoFar (file : List ℕ) (declared : DeclarationOf) (left : Option (List ℕ)) (place : ℕ) : Type 0 where
+pub record IsReadSoFar (file : List ℕ) (declared : DeclarationOf) (left : List ℕ) (place : ℕ) : Type 0 where
   pub items : List Tree
   pub reading : IsReading file (declaration_header declared.unique_names ∷ items) left place
   pub said : AllZip SaysRecord items (records_of declared)
-
--- after a step: there may be more, or the file has ended
-abbrev pub GoesOn : Option (List ℕ) → Bool → DeclarationOf → Option (List ℕ) → ℕ → Type 0
-GoesOn known true declared left place = IfSome known (λ file. IsReadSoFar file declared left place)
-GoesOn known false declared left place = IfSome known (λ file. IsDeclaration file declared)

@@ -1,5 +1,5 @@
 -- Files of items: a header and records, one behind the other.
-use Rattle.std.specs.Prelude.{◌≡◌, ◌<◌, ℕ, ◌+◌, ◌-◌, List, [], ◌++◌, length, Bool, IsTrue, Option, IfSome}
+use Rattle.std.specs.Prelude.{◌≡◌, ◌<◌, ℕ, ◌+◌, ◌-◌, List, [], ◌++◌, length, Bool, IsTrue}
 use Rattle.kmipa_ttlv.specs.Tree.{Tree}
 use Rattle.kmipa_ttlv.specs.Spelling.{Spells}
 use Rattle.kmipa_ttlv.specs.Flaw.{OuterFlaw}
@@ -38,9 +38,7 @@ pub data FirstFault (AreRight : List Tree → Type 0) (ItemFault : List Tree →
       → offset ≡ place_of bytes (front ++ rest) → FirstFault AreRight ItemFault EndFault bytes offset kind
   at_end : (items : List Tree) → IsUpTo AreRight bytes items [] → EndFault bytes items offset kind → FirstFault AreRight ItemFault EndFault bytes offset kind
 
--- The fault that a reader tells of bytes that are known is their first; or the input is failed, or memory ran out, behind what
--- is right.
-abbrev pub Tells : (List ℕ → ℕ → RecordKind → Type 0) → (List ℕ → ℕ → Type 0) → Option (List ℕ) → Bool → RecordFault → Type 0
-Tells Fault RightUpTo known failed f =
-    ByCause f.kind (IsTrue failed × IfSome known (λ bytes. RightUpTo bytes f.offset)) (IfSome known (λ bytes. RightUpTo bytes f.offset))
-    (IfSome known (λ bytes. Fault bytes f.offset f.kind))
+-- The fault that a reader tells of a file is its first; or the input is failed, or memory ran out, behind what is right.
+abbrev pub Tells : (List ℕ → ℕ → RecordKind → Type 0) → (List ℕ → ℕ → Type 0) → List ℕ → Bool → RecordFault → Type 0
+Tells Fault RightUpTo file failed f =
+    ByCause f.kind (IsTrue failed × RightUpTo file f.offset) (RightUpTo file f.offset) (Fault file f.offset f.kind)

@@ -1,10 +1,9 @@
 -- How a file is read item by item. Not promised: the readers' contracts stand in the words of the files.
-use Rattle.std.specs.Prelude.{◌≡◌, ◌≤◌, ◌<◌, ℕ, ◌+◌, List, [], ◌++◌, length, Bool, IsTrue, Option, IfSome}
-use Rattle.std.specs.Io.KnownBytes.{Consumes, IsAtEnd}
+use Rattle.std.specs.Prelude.{◌≡◌, ◌≤◌, ◌<◌, ℕ, ◌+◌, List, [], ◌++◌, length, Bool, IsTrue, None}
 use Rattle.kmipa_ttlv.specs.Tree.{Tree}
 use Rattle.kmipa_ttlv.specs.Spelling.{Spells}
 use Rattle.kmipa_ttlv.specs.Flaw.{OuterFlaw}
-use Rattle.kmipa_ttlv.specs.Stream.{capped}
+use Rattle.kmipa_ttlv.specs.Stream.{capped, IsSplit}
 use Rattle.kmipa_ttlv.specs.declared.fault.FaultKind.{FaultKind}
 use Rattle.kmipa_record.specs.Kinds.{ByCause}
 use Rattle.kmipa_record.specs.declared.fault.RecordFault.{RecordFault}
@@ -28,11 +27,15 @@ record_kind flaw.Overrun = Ttlv flaw.Overrun
 record_kind flaw.TooDeep = Ttlv flaw.TooDeep
 record_kind flaw.TooLong = Ttlv flaw.TooLong
 
+-- the header and the items that were read of a file, which has this left at this place
+abbrev pub IsReading : List ℕ → List Tree → List ℕ → ℕ → Type 0
+IsReading file given left place = IsSplit file given left place None
+
 -- the item was at the front of what was left, and the rest is left behind it
-pub record Takes (item : Tree) (known after : Option (List ℕ)) (place place' : ℕ) : Type 0 where
+pub record Takes (item : Tree) (left after : List ℕ) (place place' : ℕ) : Type 0 where
   pub front : List ℕ
   pub spelled : Spells item front
-  pub consumed : Consumes known after front
+  pub consumed : left ≡ front ++ after
   pub taken : place' ≡ place + length front
   pub small : place' ≤ 0x100_0000_0000
 
@@ -45,22 +48,22 @@ pub record TellsFlawOf (place : ℕ) (rest : List ℕ) (f : RecordFault) : Type 
   pub placed : f.offset ≡ capped (place + from)
   pub kind_is : f.kind ≡ Ttlv flaw
 
-abbrev pub ReadFails : ℕ → Option (List ℕ) → Bool → RecordFault → Type 0
-ReadFails place known failed f =
-    ByCause f.kind (IsTrue failed × (f.offset ≡ place)) (f.offset ≡ place) (IfSome known (λ rest. TellsFlawOf place rest f))
+abbrev pub ReadFails : ℕ → List ℕ → Bool → RecordFault → Type 0
+ReadFails place left failed f =
+    ByCause f.kind (IsTrue failed × (f.offset ≡ place)) (f.offset ≡ place) (TellsFlawOf place left f)
 
 -- a fault of bytes that are as many as their header says
 abbrev pub WholeFails : ℕ → List ℕ → RecordFault → Type 0
 WholeFails place bytes f = ByCause f.kind ⊥ (f.offset ≡ place) (TellsFlawOf place bytes f)
 
 -- the same of an item that says this
-abbrev pub TakesSaid : {T : Type 0} → (Tree → T → Type 0) → Option (List ℕ) → Option (List ℕ) → ℕ → ℕ → T → Type 0
-TakesSaid says known after place place' x = (item : Tree) × Takes item known after place place' × says item x
+abbrev pub TakesSaid : {T : Type 0} → (Tree → T → Type 0) → List ℕ → List ℕ → ℕ → ℕ → T → Type 0
+TakesSaid says left after place place' x = (item : Tree) × Takes item left after place place' × says item x
 
-abbrev pub NextIs : {T : Type 0} → (Tree → T → Type 0) → (Tree → Type 0) → Option (List ℕ) → Option (List ℕ) → ℕ → ℕ → Next T → Type 0
-NextIs says is_record known after place place' End = IsAtEnd known
-NextIs says is_record known after place place' Other = (item : Tree) × Takes item known after place place' × ¬ (is_record item)
-NextIs says is_record known after place place' (Record x) = TakesSaid says known after place place' x
+abbrev pub NextIs : {T : Type 0} → (Tree → T → Type 0) → (Tree → Type 0) → List ℕ → List ℕ → ℕ → ℕ → Bool → Next T → Type 0
+NextIs says is_record left after place place' ended End = (left ≡ after) × (place' ≡ place) × IsTrue ended
+NextIs says is_record left after place place' ended Other = (item : Tree) × Takes item left after place place' × ¬ (is_record item)
+NextIs says is_record left after place place' ended (Record x) = TakesSaid says left after place place' x
 
 -- what is wrong with the header, where this rest is left
 pub data HeaderFault (is_header : Tree → Type 0) (place : ℕ) (rest : List ℕ) (f : RecordFault) : Type 0 where
@@ -69,6 +72,6 @@ pub data HeaderFault (is_header : Tree → Type 0) (place : ℕ) (rest : List �
   other : (item : Tree) (front behind : List ℕ) → rest ≡ front ++ behind → Spells item front → ¬ (is_header item) → f.offset ≡ place → f.kind ≡ Header
       → HeaderFault is_header place rest f
 
-abbrev pub HeaderFails : (Tree → Type 0) → ℕ → Option (List ℕ) → Bool → RecordFault → Type 0
-HeaderFails is_header place known failed f =
-    ByCause f.kind (IsTrue failed × (f.offset ≡ place)) (f.offset ≡ place) (IfSome known (λ rest. HeaderFault is_header place rest f))
+abbrev pub HeaderFails : (Tree → Type 0) → ℕ → List ℕ → Bool → RecordFault → Type 0
+HeaderFails is_header place left failed f =
+    ByCause f.kind (IsTrue failed × (f.offset ≡ place)) (f.offset ≡ place) (HeaderFault is_header place left f)

@@ -1,9 +1,10 @@
 //! Declarations: what a server held before the first call.
 
-ghost use Rattle.std.specs.Prelude.{◌≡◌, ◌<◌, ℕ, List, Bool, true, Option, IfOk, IfErr, IfSome, MatchResult};
-ghost use Rattle.kmipa_ttlv.specs.Input.{reader_of, taken_of, is_failed};
+ghost use Rattle.std.specs.Prelude.{◌≡◌, ◌<◌, ◌≢◌, ℕ, List, [], ◌++◌, Bool, true, false, IsTrue, IfOk, IfErr, MatchResult};
+ghost use Rattle.std.specs.Io.{StartsWith, appended_bytes};
+ghost use Rattle.kmipa_ttlv.specs.Input.{came_of, taken_of, is_ended, is_failed, Leaves, EndsWith, IsFileOf, StaysOver};
 ghost use Rattle.kmipa_record.specs.Files.{Tells};
-ghost use Rattle.kmipa_record.specs.DeclarationReading.{declared_by, AreKept, IsReadSoFar, GoesOn};
+ghost use Rattle.kmipa_record.specs.DeclarationReading.{declared_by, AreKept, IsReadSoFar};
 ghost use Rattle.kmipa_record.specs.Declarations.{declaration_of, AreDeclared, IsDeclaration, DeclarationFault, IsDeclarationUpTo};
 
 use crate::entry::Entry;
@@ -34,13 +35,16 @@ pub fn read_declaration<R: Read>(
     alloc: Global,
     input: &mut Input<R>,
 ) -> Result<Declaration, RecordFault>
-    requires { taken_of input.old ≡ 0 }
-    // What is read is what the bytes are.
-    ensures found { IfOk result (λ declaration. IfSome (R.remaining (reader_of input.old)) (λ bytes. IsDeclaration bytes (declaration_of declaration))) }
-    // What is read may be declared, also where the bytes aren't known.
+    requires { came_of input.old ≡ [] }
+    // What is read is what the bytes are that came, to the end that was seen.
+    ensures found { IfOk result (λ declaration. IsDeclaration (came_of input.new) (declaration_of declaration) × IsTrue (is_ended input.new)) }
+    // What is read may be declared.
     ensures declared { IfOk result (λ declaration. AreDeclared (declaration_of declaration)) }
-    // Else the first fault is told, unless a read failed or memory ran out.
-    ensures fault { IfErr result (Tells DeclarationFault IsDeclarationUpTo (R.remaining (reader_of input.old)) (is_failed input.new)) }
+    // Else the first fault is told, whatever follows what came, and nothing where the end was seen; unless a read failed or memory ran out.
+    ensures fault { (file : List ℕ) → IsFileOf file input.new → IfErr result (Tells DeclarationFault IsDeclarationUpTo file (is_failed input.new)) }
+    ensures sound { MatchResult result (λ _. is_failed input.new ≡ false) (λ f. f.kind ≢ RecordKind.Device → is_failed input.new ≡ false) }
+    // Over a reader whose bytes are known what came is their front, and all where the end was seen.
+    ensures over { StaysOver R.remaining input.old input.new }
 {
     let mut bytes = Vec::new(alloc);
     let header: DeclarationHeader = read_header(alloc, input, &mut bytes)?;
@@ -58,12 +62,17 @@ fn read_record<R: Read>(
 ) -> Result<bool, RecordFault>
     requires { AreKept records.old }
     ensures kept { IfOk result (λ _. AreKept records.new) }
-    ensures read { (known : Option (List ℕ)) (unique : Bool)
-        → IfSome known (λ file. IsReadSoFar file (declared_by unique records.old) (R.remaining (reader_of input.old)) (taken_of input.old))
-        → MatchResult result
-        (λ more. GoesOn known more (declared_by unique records.new) (R.remaining (reader_of input.new)) (taken_of input.new))
-        (Tells DeclarationFault IsDeclarationUpTo known (is_failed input.new)) }
+    ensures read { (file left after : List ℕ) (unique : Bool) → Leaves input.old input.new left after
+        → IsReadSoFar file (declared_by unique records.old) left (taken_of input.old)
+        → IfOk result (λ more. IsReadSoFar file (declared_by unique records.new) after (taken_of input.new)) }
+    ensures fault { (file left after : List ℕ) (unique : Bool) → Leaves input.old input.new left after → EndsWith input.new after
+        → IsReadSoFar file (declared_by unique records.old) left (taken_of input.old)
+        → IfErr result (Tells DeclarationFault IsDeclarationUpTo file (is_failed input.new)) }
+    ensures end { IfOk result (λ more. more ≡ false → IsTrue (is_ended input.new)) }
     ensures nearer { IfOk result (λ more. more ≡ true → taken_of input.old < taken_of input.new) }
+    ensures sound { MatchResult result (λ _. is_failed input.new ≡ false) (λ f. f.kind ≢ RecordKind.Device → is_failed input.new ≡ false) }
+    ensures grows { StartsWith (came_of input.new) (came_of input.old) }
+    ensures over { StaysOver R.remaining input.old input.new }
 {
     let offset = input.taken();
     let next: Next<DeclarationRecord> = read_next(alloc, input, bytes)?;

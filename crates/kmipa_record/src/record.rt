@@ -1,9 +1,9 @@
 //! The next item of a file, as a header or a record.
 
-ghost use Rattle.std.specs.Prelude.{◌≡◌, ◌↔◌, ◌+◌, IsTrue, true, false, vec_len, IfOk, IfErr, OnOk, MatchOption, MatchResult};
-ghost use Rattle.std.specs.Io.KnownBytes.{Consumes, IsAtEnd};
-ghost use Rattle.kmipa_ttlv.specs.Input.{reader_of, taken_of, is_failed};
-ghost use Rattle.kmipa_ttlv.specs.Reading.{IsWhole};
+ghost use Rattle.std.specs.Prelude.{◌≡◌, ◌↔◌, ◌+◌, ◌++◌, ◌≢◌, ℕ, List, IsTrue, true, false, IfOk, IfErr, OnOk, MatchOption, MatchResult};
+ghost use Rattle.std.specs.Io.{appended_bytes, StartsWith};
+ghost use Rattle.kmipa_ttlv.specs.Input.{came_of, taken_of, is_ended, is_failed, Leaves, EndsWith, StaysOver};
+ghost use Rattle.kmipa_ttlv.specs.Reading.{IsWhole, ReadTells};
 ghost use Rattle.kmipa_ttlv.specs.Spelling.{Spells};
 ghost use Rattle.kmipa_ttlv.specs.Tree.{Tree};
 ghost use Rattle.kmipa_ttlv.specs.ViewTree.{view_tree};
@@ -41,9 +41,13 @@ pub fn read_header<R: Read, H: Record + Drop>(
     input: &mut Input<R>,
     bytes: &mut Vec<u8>,
 ) -> Result<H, RecordFault>
-    ensures { MatchResult result
-        (TakesSaid H.says (R.remaining (reader_of input.old)) (R.remaining (reader_of input.new)) (taken_of input.old) (taken_of input.new))
-        (HeaderFails H.is_record (taken_of input.old) (R.remaining (reader_of input.old)) (is_failed input.new)) }
+    ensures ok { (left after : List ℕ) → Leaves input.old input.new left after
+        → IfOk result (TakesSaid H.says left after (taken_of input.old) (taken_of input.new)) }
+    ensures fault { (left after : List ℕ) → Leaves input.old input.new left after → EndsWith input.new after
+        → IfErr result (HeaderFails H.is_record (taken_of input.old) left (is_failed input.new)) }
+    ensures sound { MatchResult result (λ _. is_failed input.new ≡ false) (λ f. f.kind ≢ RecordKind.Device → is_failed input.new ≡ false) }
+    ensures grows { StartsWith (came_of input.new) (came_of input.old) }
+    ensures over { StaysOver R.remaining input.old input.new }
 {
     let offset = input.taken();
     let header: Next<H> = read_next(alloc, input, bytes)?;
@@ -62,13 +66,19 @@ pub fn read_next<R: Read, T: Record + Drop>(
     input: &mut Input<R>,
     bytes: &mut Vec<u8>,
 ) -> Result<Next<T>, RecordFault>
-    ensures { MatchResult result
-        (NextIs T.says T.is_record (R.remaining (reader_of input.old)) (R.remaining (reader_of input.new)) (taken_of input.old) (taken_of input.new))
-        (ReadFails (taken_of input.old) (R.remaining (reader_of input.old)) (is_failed input.new)) }
+    ensures ok { (left after : List ℕ) → Leaves input.old input.new left after
+        → IfOk result (NextIs T.says T.is_record left after (taken_of input.old) (taken_of input.new) (is_ended input.new)) }
+    ensures fault { (left after : List ℕ) → Leaves input.old input.new left after → EndsWith input.new after
+        → IfErr result (ReadFails (taken_of input.old) left (is_failed input.new)) }
+    ensures sound { MatchResult result (λ _. is_failed input.new ≡ false) (λ f. f.kind ≢ RecordKind.Device → is_failed input.new ≡ false) }
+    ensures grows { StartsWith (came_of input.new) (came_of input.old) }
+    ensures over { StaysOver R.remaining input.old input.new }
 {
     let offset = input.taken();
-    if !next_bytes(input, bytes)? {
-        return Ok(Next::End);
+    match read_bytes(input, bytes) {
+        Ok(true) => {}
+        Ok(false) => return Ok(Next::End),
+        Err(fault) => return Err(fault_of(fault)),
     }
     let view = match view_of(alloc, offset, bytes) {
         Ok(view) => view,
@@ -82,30 +92,6 @@ pub fn read_next<R: Read, T: Record + Drop>(
             kind: RecordKind::Memory,
         }),
     }
-}
-
-/// Reads the bytes of the next item into `bytes`; `false` at the end of the file.
-fn next_bytes<R: Read>(input: &mut Input<R>, bytes: &mut Vec<u8>) -> Result<bool, RecordFault>
-    ensures whole { IfOk result (λ some. some ≡ true → IsWhole bytes.new.items
-        × Consumes (R.remaining (reader_of input.old)) (R.remaining (reader_of input.new)) bytes.new.items
-        × (taken_of input.new ≡ taken_of input.old + vec_len bytes.new)) }
-    ensures end { IfOk result (λ some. some ≡ false → IsAtEnd (R.remaining (reader_of input.old))) }
-    ensures fault { IfErr result (ReadFails (taken_of input.old) (R.remaining (reader_of input.old)) (is_failed input.new)) }
-{
-    let place = input.taken();
-    match read_bytes(input, bytes) {
-        Ok(some) => Ok(some),
-        // Cut short before its first byte: there is no item.
-        Err(fault) if is_cut_at(fault, place) => Ok(false),
-        Err(fault) => Err(fault_of(fault)),
-    }
-}
-
-/// Whether the fault is that the bytes end at this place.
-fn is_cut_at(fault: TtlvFault, place: u64) -> bool
-    ensures { IsTrue result ↔ ((fault.kind ≡ FaultKind.Truncated) × (fault.offset ≡ place)) }
-{
-    fault.kind == FaultKind::Truncated && fault.offset == place
 }
 
 /// The fault of a read, as one of a file.

@@ -1,15 +1,16 @@
 //! Transcripts: which calls were made, and what was answered.
 
-ghost use Rattle.std.specs.Prelude.{◌≡◌, ◌<◌, ◌≢◌, ◌⊎◌, ℕ, ℤ, List, [], ◌∷◌, ◌++◌, true, map, Option, IfOk, IfErr, IfSome, MatchOption, MatchResult};
+ghost use Rattle.std.specs.Prelude.{◌≡◌, ◌<◌, ◌≢◌, ◌⊎◌, ℕ, ℤ, List, [], ◌∷◌, ◌++◌, true, false, IsTrue, map, Option, IfOk, IfErr, IfSome, MatchOption, MatchResult};
 ghost use Rattle.std.specs.String.{string_bytes};
-ghost use Rattle.kmipa_ttlv.specs.Input.{reader_of, taken_of, is_failed};
+ghost use Rattle.std.specs.Io.{StartsWith, appended_bytes};
+ghost use Rattle.kmipa_ttlv.specs.Input.{came_of, taken_of, is_ended, is_failed, Leaves, EndsWith, IsFileOf, StaysOver};
 ghost use Rattle.kmipa_ttlv.specs.Tree.{Tree};
 ghost use Rattle.kmipa_ttlv.specs.ViewTree.{view_tree, view_trees};
 ghost use Rattle.kmipa_record.specs.Calls.{Takes, Refuses};
 ghost use Rattle.kmipa_record.specs.Files.{Tells};
 ghost use Rattle.kmipa_record.specs.Marks.{MarkOf, mark_of, mark_item, begin_fields, end_fields};
 ghost use Rattle.kmipa_record.specs.Transcripts.{transcript_of, IsTranscript, TranscriptFault, IsTranscriptUpTo};
-ghost use Rattle.kmipa_record.specs.TranscriptReading.{IsReadSoFar, GoesOn};
+ghost use Rattle.kmipa_record.specs.TranscriptReading.{IsReadSoFar};
 
 use crate::calls::Calls;
 use crate::fault::{RecordFault, RecordKind};
@@ -143,11 +144,14 @@ pub fn read_transcript<R: Read>(
     alloc: Global,
     input: &mut Input<R>,
 ) -> Result<Transcript, RecordFault>
-    requires { taken_of input.old ≡ 0 }
-    // What is read is what the bytes are.
-    ensures found { IfOk result (λ transcript. IfSome (R.remaining (reader_of input.old)) (λ bytes. IsTranscript bytes (transcript_of transcript))) }
-    // Else the first fault is told, unless a read failed or memory ran out.
-    ensures fault { IfErr result (Tells TranscriptFault IsTranscriptUpTo (R.remaining (reader_of input.old)) (is_failed input.new)) }
+    requires { came_of input.old ≡ [] }
+    // What is read is what the bytes are that came, to the end that was seen.
+    ensures found { IfOk result (λ transcript. IsTranscript (came_of input.new) (transcript_of transcript) × IsTrue (is_ended input.new)) }
+    // Else the first fault is told, whatever follows what came, and nothing where the end was seen; unless a read failed or memory ran out.
+    ensures fault { (file : List ℕ) → IsFileOf file input.new → IfErr result (Tells TranscriptFault IsTranscriptUpTo file (is_failed input.new)) }
+    ensures sound { MatchResult result (λ _. is_failed input.new ≡ false) (λ f. f.kind ≢ RecordKind.Device → is_failed input.new ≡ false) }
+    // Over a reader whose bytes are known what came is their front, and all where the end was seen.
+    ensures over { StaysOver R.remaining input.old input.new }
 {
     let mut bytes = Vec::new(alloc);
     let _: TranscriptHeader = read_header(alloc, input, &mut bytes)?;
@@ -171,12 +175,17 @@ fn read_mark<R: Read>(
     calls: &mut Calls,
     marks: &mut Vec<Mark>,
 ) -> Result<bool, RecordFault>
-    ensures read { (known : Option (List ℕ))
-        → IfSome known (λ file. IsReadSoFar file (map mark_of marks.old.items) calls.old (R.remaining (reader_of input.old)) (taken_of input.old))
-        → MatchResult result
-        (λ more. GoesOn known more (map mark_of marks.new.items) calls.new (R.remaining (reader_of input.new)) (taken_of input.new))
-        (Tells TranscriptFault IsTranscriptUpTo known (is_failed input.new)) }
+    ensures read { (file left after : List ℕ) → Leaves input.old input.new left after
+        → IsReadSoFar file (map mark_of marks.old.items) calls.old left (taken_of input.old)
+        → IfOk result (λ more. IsReadSoFar file (map mark_of marks.new.items) calls.new after (taken_of input.new)) }
+    ensures fault { (file left after : List ℕ) → Leaves input.old input.new left after → EndsWith input.new after
+        → IsReadSoFar file (map mark_of marks.old.items) calls.old left (taken_of input.old)
+        → IfErr result (Tells TranscriptFault IsTranscriptUpTo file (is_failed input.new)) }
+    ensures end { IfOk result (λ more. more ≡ false → IsTrue (is_ended input.new)) }
     ensures nearer { IfOk result (λ more. more ≡ true → taken_of input.old < taken_of input.new) }
+    ensures sound { MatchResult result (λ _. is_failed input.new ≡ false) (λ f. f.kind ≢ RecordKind.Device → is_failed input.new ≡ false) }
+    ensures grows { StartsWith (came_of input.new) (came_of input.old) }
+    ensures over { StaysOver R.remaining input.old input.new }
 {
     let offset = input.taken();
     let next: Next<Mark> = read_next(alloc, input, bytes)?;
@@ -214,4 +223,13 @@ fn keep_mark(
             kind: RecordKind::Memory,
         }),
     }
+}
+
+/// Reads a transcript of a reader whose bytes are known.
+pub fn read_known<R: Read + Drop>(alloc: Global, reader: R) -> Result<Transcript, RecordFault>
+    ensures found { IfOk result (λ transcript. IfSome (R.remaining reader) (λ bytes. IsTranscript bytes (transcript_of transcript))) }
+    ensures fault { IfErr result (λ f. f.kind ≢ RecordKind.Device → IfSome (R.remaining reader) (λ bytes. Tells TranscriptFault IsTranscriptUpTo bytes false f)) }
+{
+    let mut input = Input::new(reader);
+    read_transcript(alloc, &mut input)
 }

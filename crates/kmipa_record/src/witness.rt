@@ -1,12 +1,13 @@
 //! Witnesses: an order in which the calls may have been taken.
 
-ghost use Rattle.std.specs.Prelude.{◌≡◌, ◌<◌, ◌<ℤ◌, pos, ◌⊎◌, ℕ, List, [], ◌∷◌, ◌++◌, true, map, Option, IfOk, IfErr, IfSome, MatchResult};
-ghost use Rattle.kmipa_ttlv.specs.Input.{reader_of, taken_of, is_failed};
+ghost use Rattle.std.specs.Prelude.{◌≡◌, ◌<◌, ◌<ℤ◌, pos, ◌⊎◌, ℕ, List, [], ◌∷◌, ◌++◌, ◌≢◌, true, false, IsTrue, map, IfOk, IfErr, MatchResult};
+ghost use Rattle.std.specs.Io.{StartsWith, appended_bytes};
+ghost use Rattle.kmipa_ttlv.specs.Input.{came_of, taken_of, is_ended, is_failed, Leaves, EndsWith, IsFileOf, StaysOver};
 ghost use Rattle.kmipa_ttlv.specs.Tree.{Tree};
 ghost use Rattle.kmipa_record.specs.Files.{Tells};
 ghost use Rattle.kmipa_record.specs.Marks.{IsCallNumber};
 ghost use Rattle.kmipa_record.specs.Witnesses.{TurnOf, turn_of, turn_item, witness_of, IsWitness, WitnessFault, IsWitnessUpTo};
-ghost use Rattle.kmipa_record.specs.WitnessReading.{IsReadSoFar, GoesOn};
+ghost use Rattle.kmipa_record.specs.WitnessReading.{IsReadSoFar};
 
 use crate::fault::{RecordFault, RecordKind};
 use crate::header::WitnessHeader;
@@ -55,11 +56,14 @@ impl Record for Turn {
 ///
 /// `Device` and `Memory` are told with the place of the item that was being read.
 pub fn read_witness<R: Read>(alloc: Global, input: &mut Input<R>) -> Result<Witness, RecordFault>
-    requires { taken_of input.old ≡ 0 }
-    // What is read is what the bytes are.
-    ensures found { IfOk result (λ witness. IfSome (R.remaining (reader_of input.old)) (λ bytes. IsWitness bytes (witness_of witness))) }
-    // Else the first fault is told, unless a read failed or memory ran out.
-    ensures fault { IfErr result (Tells WitnessFault IsWitnessUpTo (R.remaining (reader_of input.old)) (is_failed input.new)) }
+    requires { came_of input.old ≡ [] }
+    // What is read is what the bytes are that came, to the end that was seen.
+    ensures found { IfOk result (λ witness. IsWitness (came_of input.new) (witness_of witness) × IsTrue (is_ended input.new)) }
+    // Else the first fault is told, whatever follows what came, and nothing where the end was seen; unless a read failed or memory ran out.
+    ensures fault { (file : List ℕ) → IsFileOf file input.new → IfErr result (Tells WitnessFault IsWitnessUpTo file (is_failed input.new)) }
+    ensures sound { MatchResult result (λ _. is_failed input.new ≡ false) (λ f. f.kind ≢ RecordKind.Device → is_failed input.new ≡ false) }
+    // Over a reader whose bytes are known what came is their front, and all where the end was seen.
+    ensures over { StaysOver R.remaining input.old input.new }
 {
     let mut bytes = Vec::new(alloc);
     let _: WitnessHeader = read_header(alloc, input, &mut bytes)?;
@@ -75,12 +79,17 @@ fn read_turn<R: Read>(
     bytes: &mut Vec<u8>,
     turns: &mut Vec<Turn>,
 ) -> Result<bool, RecordFault>
-    ensures read { (known : Option (List ℕ))
-        → IfSome known (λ file. IsReadSoFar file (map turn_of turns.old.items) (R.remaining (reader_of input.old)) (taken_of input.old))
-        → MatchResult result
-        (λ more. GoesOn known more (map turn_of turns.new.items) (R.remaining (reader_of input.new)) (taken_of input.new))
-        (Tells WitnessFault IsWitnessUpTo known (is_failed input.new)) }
+    ensures read { (file left after : List ℕ) → Leaves input.old input.new left after
+        → IsReadSoFar file (map turn_of turns.old.items) left (taken_of input.old)
+        → IfOk result (λ more. IsReadSoFar file (map turn_of turns.new.items) after (taken_of input.new)) }
+    ensures fault { (file left after : List ℕ) → Leaves input.old input.new left after → EndsWith input.new after
+        → IsReadSoFar file (map turn_of turns.old.items) left (taken_of input.old)
+        → IfErr result (Tells WitnessFault IsWitnessUpTo file (is_failed input.new)) }
+    ensures end { IfOk result (λ more. more ≡ false → IsTrue (is_ended input.new)) }
     ensures nearer { IfOk result (λ more. more ≡ true → taken_of input.old < taken_of input.new) }
+    ensures sound { MatchResult result (λ _. is_failed input.new ≡ false) (λ f. f.kind ≢ RecordKind.Device → is_failed input.new ≡ false) }
+    ensures grows { StartsWith (came_of input.new) (came_of input.old) }
+    ensures over { StaysOver R.remaining input.old input.new }
 {
     let offset = input.taken();
     let next: Next<Turn> = read_next(alloc, input, bytes)?;

@@ -10,6 +10,7 @@ mod encoding;
 mod fault;
 mod frames;
 mod head;
+mod came;
 mod input;
 mod item;
 mod laws;
@@ -26,7 +27,7 @@ pub use frames::Frames;
 pub use input::Input;
 pub use item::{Item, Value};
 pub use laws::{
-    cut_short, decoded_again, joined, no_flaw, no_others, one_flaw, one_list, one_spelling,
+    cut_short, decoded_again, joined, known_flaw, no_flaw, no_others, one_flaw, one_list, one_spelling,
     own_kinds, settled,
 };
 pub use lending::lend;

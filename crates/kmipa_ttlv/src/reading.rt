@@ -1,10 +1,9 @@
 //! What is read from an input: its next item, or all of its bytes.
 
-ghost use Rattle.std.specs.Prelude.{◌≡◌, ◌≤◌, ◌<◌, ◌+◌, ℕ, List, [], ◌∷◌, ◌++◌, true, false, Err, length, vec_len, IsTrue, IfOk, IfErr, IfSome, IfNone, OnOk, ◌⊎◌};
+ghost use Rattle.std.specs.Prelude.{◌≡◌, ◌≢◌, ◌≤◌, ◌<◌, ◌+◌, ℕ, List, [], ◌∷◌, ◌++◌, true, false, Err, length, vec_len, IsTrue, IfOk, IfErr, IfSome, IfNone, OnOk, ◌⊎◌};
 ghost use Rattle.std.specs.Io.{StartsWith, appended_bytes};
-ghost use Rattle.std.specs.Io.KnownBytes.{Consumes, IsAtEnd};
-ghost use Rattle.kmipa_ttlv.specs.Input.{reader_of, taken_of, is_failed};
-ghost use Rattle.kmipa_ttlv.specs.Items.{IsReading};
+ghost use Rattle.kmipa_ttlv.specs.Input.{came_of, taken_of, is_ended, is_failed, StaysOver};
+ghost use Rattle.kmipa_ttlv.specs.Items.{AreItems};
 ghost use Rattle.kmipa_ttlv.specs.ItemTree.{tree};
 ghost use Rattle.kmipa_ttlv.specs.Reading.{IsWhole, ReadTells};
 ghost use Rattle.kmipa_ttlv.specs.Spelling.{Spells};
@@ -30,16 +29,16 @@ const PIECE: usize = 4096;
 /// Errors: the flaw of the bytes that are left (Truncated only where the input ends inside the item), with offsets
 /// from the input's first byte; Device where the input is failed and Memory, with the item's offset.
 pub fn read_item<R: Read>(alloc: Global, input: &mut Input<R>) -> Result<Option<Item>, TtlvFault>
-    // The input is left just behind the item.
-    ensures item { IfOk result (λ o. IfSome o (λ item. (front : List ℕ) × Spells (tree item) front
-        × Consumes (R.remaining (reader_of input.old)) (R.remaining (reader_of input.new)) front
-        × (taken_of input.new ≡ taken_of input.old + length front))) }
-    // It is the next of those that were in the input.
-    ensures next { IfOk result (λ o. IfSome o (λ item. (came : List ℕ) (given : List Tree)
-        → IsReading came given (R.remaining (reader_of input.old)) (taken_of input.old)
-        → IsReading came (given ++ tree item ∷ []) (R.remaining (reader_of input.new)) (taken_of input.new))) }
-    ensures end { IfOk result (λ o. IfNone o (IsAtEnd (R.remaining (reader_of input.old)))) }
-    ensures fault { IfErr result (λ f. ReadTells (taken_of input.old) (R.remaining (reader_of input.old)) (is_failed input.new) f) }
+    // What came is the item's spelling, and nothing behind it.
+    ensures item { IfOk result (λ o. IfSome o (λ item. (front : List ℕ) × Spells (tree item) front × (came_of input.new ≡ came_of input.old ++ front))) }
+    // It is the next of those that came.
+    ensures next { IfOk result (λ o. IfSome o (λ item. (given : List Tree) → AreItems given (came_of input.old) → AreItems (given ++ tree item ∷ []) (came_of input.new))) }
+    // At the end nothing came.
+    ensures end { IfOk result (λ o. IfNone o (IsTrue (is_ended input.new) × (came_of input.new ≡ came_of input.old))) }
+    ensures fault { IfErr result (λ f. ReadTells (taken_of input.old) (appended_bytes (came_of input.old) (came_of input.new)) (is_ended input.new) (is_failed input.new) f) }
+    ensures sound { IfErr result (λ f. f.kind ≢ FaultKind.Device → is_failed input.new ≡ false) }
+    ensures grows { StartsWith (came_of input.new) (came_of input.old) }
+    ensures over { StaysOver R.remaining input.old input.new }
     ensures works { OnOk result (is_failed input.new ≡ false) }
     // A failed input answers Device, and stays failed.
     ensures failed { IsTrue (is_failed input.old) → result ≡ Err (record { offset = taken_of input.old; kind = FaultKind.Device }) }
@@ -57,15 +56,16 @@ pub fn read_item_into<R: Read>(
     bytes: &mut Vec<u8>,
 ) -> Result<Option<Item>, TtlvFault>
     ensures bounded { vec_len bytes.new ≤ 0x10_0000 }
-    ensures item { IfOk result (λ o. IfSome o (λ item. (front : List ℕ) × Spells (tree item) front
-        × Consumes (R.remaining (reader_of input.old)) (R.remaining (reader_of input.new)) front
-        × (taken_of input.new ≡ taken_of input.old + length front))) }
-    // It is the next of those that were in the input.
-    ensures next { IfOk result (λ o. IfSome o (λ item. (came : List ℕ) (given : List Tree)
-        → IsReading came given (R.remaining (reader_of input.old)) (taken_of input.old)
-        → IsReading came (given ++ tree item ∷ []) (R.remaining (reader_of input.new)) (taken_of input.new))) }
-    ensures end { IfOk result (λ o. IfNone o (IsAtEnd (R.remaining (reader_of input.old)))) }
-    ensures fault { IfErr result (λ f. ReadTells (taken_of input.old) (R.remaining (reader_of input.old)) (is_failed input.new) f) }
+    // What came is the item's spelling, and nothing behind it.
+    ensures item { IfOk result (λ o. IfSome o (λ item. (front : List ℕ) × Spells (tree item) front × (came_of input.new ≡ came_of input.old ++ front))) }
+    // It is the next of those that came.
+    ensures next { IfOk result (λ o. IfSome o (λ item. (given : List Tree) → AreItems given (came_of input.old) → AreItems (given ++ tree item ∷ []) (came_of input.new))) }
+    // At the end nothing came.
+    ensures end { IfOk result (λ o. IfNone o (IsTrue (is_ended input.new) × (came_of input.new ≡ came_of input.old))) }
+    ensures fault { IfErr result (λ f. ReadTells (taken_of input.old) (appended_bytes (came_of input.old) (came_of input.new)) (is_ended input.new) (is_failed input.new) f) }
+    ensures sound { IfErr result (λ f. f.kind ≢ FaultKind.Device → is_failed input.new ≡ false) }
+    ensures grows { StartsWith (came_of input.new) (came_of input.old) }
+    ensures over { StaysOver R.remaining input.old input.new }
     ensures works { OnOk result (is_failed input.new ≡ false) }
     // A failed input answers Device, and stays failed.
     ensures failed { IsTrue (is_failed input.old) → result ≡ Err (record { offset = taken_of input.old; kind = FaultKind.Device }) }
@@ -91,11 +91,13 @@ pub fn read_item_into<R: Read>(
 /// end of the input. The header alone is tested. Errors: those of `read_item` that need no more than the header.
 pub fn read_bytes<R: Read>(input: &mut Input<R>, bytes: &mut Vec<u8>) -> Result<bool, TtlvFault>
     ensures bounded { vec_len bytes.new ≤ 0x10_0000 }
-    ensures consumed { OnOk result (Consumes (R.remaining (reader_of input.old)) (R.remaining (reader_of input.new)) bytes.new.items) }
-    ensures taken { OnOk result (taken_of input.new ≡ taken_of input.old + vec_len bytes.new) }
+    ensures came { OnOk result (came_of input.new ≡ came_of input.old ++ bytes.new.items) }
     ensures whole { IfOk result (λ some. some ≡ true → IsWhole bytes.new.items) }
-    ensures end { IfOk result (λ some. some ≡ false → (bytes.new.items ≡ []) × IsAtEnd (R.remaining (reader_of input.new))) }
-    ensures fault { IfErr result (λ f. ReadTells (taken_of input.old) (R.remaining (reader_of input.old)) (is_failed input.new) f) }
+    ensures end { IfOk result (λ some. some ≡ false → (bytes.new.items ≡ []) × IsTrue (is_ended input.new)) }
+    ensures fault { IfErr result (λ f. ReadTells (taken_of input.old) (appended_bytes (came_of input.old) (came_of input.new)) (is_ended input.new) (is_failed input.new) f) }
+    ensures sound { IfErr result (λ f. f.kind ≢ FaultKind.Device → is_failed input.new ≡ false) }
+    ensures grows { StartsWith (came_of input.new) (came_of input.old) }
+    ensures over { StaysOver R.remaining input.old input.new }
     ensures works { OnOk result (is_failed input.new ≡ false) }
     // A failed input answers Device, and stays failed.
     ensures failed { IsTrue (is_failed input.old) → result ≡ Err (record { offset = taken_of input.old; kind = FaultKind.Device }) }
@@ -135,18 +137,17 @@ fn placed(place: u64, offset: u64, kind: FaultKind) -> TtlvFault
 /// came before are then appended, and the fault's offset is their number.
 pub fn read_all<R: Read>(input: &mut Input<R>, out: &mut Vec<u8>) -> Result<(), TtlvFault>
     // All bytes up to the end.
-    ensures whole { OnOk result (IfSome (R.remaining (reader_of input.old))
-        (λ xs. out.new.items ≡ out.old.items ++ xs)) }
-    ensures end { OnOk result (IsAtEnd (R.remaining (reader_of input.new))) }
+    ensures whole { OnOk result (came_of input.new ≡ came_of input.old ++ appended_bytes out.old.items out.new.items) }
+    ensures end { OnOk result (IsTrue (is_ended input.new)) }
     ensures works { OnOk result (is_failed input.new ≡ false) }
     // What was there stays, and what is appended is what came first, also after a fault.
     ensures appends { StartsWith out.new.items out.old.items }
-    ensures front { IfSome (R.remaining (reader_of input.old))
-        (λ xs. StartsWith xs (appended_bytes out.old.items out.new.items)) }
+    ensures front { StartsWith (appended_bytes (came_of input.old) (came_of input.new)) (appended_bytes out.old.items out.new.items) }
     // All bytes that came are appended, save some where memory ran out.
-    ensures taken { OnOk result (taken_of input.new + vec_len out.old ≡ taken_of input.old + vec_len out.new) }
-    ensures kept { IfErr result (λ fault. fault.kind ≡ FaultKind.Device
-        → taken_of input.new + vec_len out.old ≡ taken_of input.old + vec_len out.new) }
+    ensures kept { IfErr result (λ fault. fault.kind ≡ FaultKind.Device → came_of input.new ≡ came_of input.old ++ appended_bytes out.old.items out.new.items) }
+    ensures sound { IfErr result (λ f. f.kind ≢ FaultKind.Device → is_failed input.new ≡ false) }
+    ensures grows { StartsWith (came_of input.new) (came_of input.old) }
+    ensures over { StaysOver R.remaining input.old input.new }
     ensures counted { IfErr result (λ fault. vec_len out.new ≡ vec_len out.old + fault.offset) }
     ensures kinds { IfErr result (λ fault. (fault.kind ≡ FaultKind.Device × IsTrue (is_failed input.new))
         ⊎ (fault.kind ≡ FaultKind.Memory)) }
@@ -185,11 +186,12 @@ fn append_up_to<R: Read>(
     out: &mut Vec<u8>,
 ) -> Result<usize, TtlvFault>
     ensures counted { IfOk result (λ n. (vec_len out.new ≡ vec_len out.old + n) × (n ≤ most)) }
-    ensures taken { IfOk result (λ n. taken_of input.new ≡ taken_of input.old + n) }
     ensures bounded { vec_len out.new ≤ vec_len out.old + most }
-    ensures consumed { OnOk result (Consumes (R.remaining (reader_of input.old))
-        (R.remaining (reader_of input.new)) (appended_bytes out.old.items out.new.items)) }
-    ensures end { IfOk result (λ n. n < most → IsAtEnd (R.remaining (reader_of input.new))) }
+    ensures came { OnOk result (came_of input.new ≡ came_of input.old ++ appended_bytes out.old.items out.new.items) }
+    ensures end { IfOk result (λ n. n < most → IsTrue (is_ended input.new)) }
+    ensures sound { IfErr result (λ f. f.kind ≢ FaultKind.Device → is_failed input.new ≡ false) }
+    ensures grows { StartsWith (came_of input.new) (came_of input.old) }
+    ensures over { StaysOver R.remaining input.old input.new }
     ensures appends { StartsWith out.new.items out.old.items }
     ensures kinds { IfErr result (λ f. (f.offset ≡ place) × ((f.kind ≡ FaultKind.Device × IsTrue (is_failed input.new))
         ⊎ (f.kind ≡ FaultKind.Memory))) }

@@ -1,13 +1,16 @@
-use Rattle.std.proofs.Common.{◌-◌, IfSome}
-use Rattle.kmipa_ttlv.specs.Input.{reader_of, taken_of}
+use Rattle.std.proofs.Common.{◌≡◌, ◌-◌, ◌++◌, List, ℕ, false}
+use Rattle.kmipa_ttlv.specs.Input.{came_of, taken_of, is_failed, StaysOver}
 use Rattle.kmipa_record.specs.DeclarationReading.{declared_by, AreKept, IsReadSoFar}
 use Rattle.kmipa_record.proofs.declaration.read_declaration.Given as goal
 
+-- of each file that begins with what came these records were read
 abbrev pub invariant-records : goal.invariant-records
-invariant-records g l = record {
-  kept : AreKept l.records;
-  read : IfSome (g.R.Read.remaining (reader_of l.fn.input)) (λ file. IsReadSoFar file (declared_by l.header.unique_names l.records) (g.R.Read.remaining (reader_of l.input)) (taken_of l.input));
-}
+invariant-records g l =
+    AreKept l.records × (
+    (after : List ℕ) → IsReadSoFar (came_of l.input ++ after) (declared_by l.header.unique_names l.records) after (taken_of l.input)
+    )
+    × (is_failed l.input ≡ false)
+    × StaysOver g.R.Read.remaining l.fn.input l.input
 
 abbrev pub decreases-records : goal.decreases-records
 decreases-records g l = 0x100_0000_0000 - taken_of l.input

@@ -1,15 +1,26 @@
-use Rattle.std.proofs.Common.{inl, inr}
-use Rattle.kmipa_ttlv.specs.Input.{reader_of, taken_of}
+use Rattle.std.proofs.Common.{rules, inl, inr, ◌≡◌, ◌∙◌, subst, sym}
+use Rattle.std.proofs.lemmas.Result.{err_from_is_err_and}
+use Rattle.kmipa_ttlv.specs.Input.{came_of, taken_of, is_ended, is_failed}
+use Rattle.kmipa_record.specs.Reading.{torn}
+use Rattle.kmipa_record.proofs.KindLemmas.{ByCause-map}
 use Rattle.kmipa_record.proofs.NextLemmas.{no_header_left, other_header}
 use Rattle.kmipa_record.proofs.record.read_header.Goals as goal
 
-pub returns-in-End : goal.returns-in-End
-returns-in-End g c =
-    let known = g.R.Read.remaining (reader_of c.args.input.now) in
-    let after = g.R.Read.remaining (reader_of c.read_next.new.input) in
+pub returns-in_err-header-clause-fault : goal.returns-in_err-header-clause-fault
+returns-in_err-header-clause-fault g c = λ left after split end.
+    let p = err_from_is_err_and c.from_residual.result c.from_residual.ensures.1 in
+    rw (p.1, p.2) (ByCause-map c.in_err-header.field-0.0.kind _ _ _ _ _ _ (λ d. d) (λ m. m) (λ t. torn t) (c.in_err-header.ensures.fault left after split end))
+
+pub returns-in-Record-clause-ok : goal.returns-in-Record-clause-ok
+returns-in-Record-clause-ok g c = λ left after split. rw c.in-Record.is at (c.in_ok-header.ensures.ok left after split)
+
+pub returns-in-End-clause-fault : goal.returns-in-End-clause-fault
+returns-in-End-clause-fault g c = λ left after split end.
     elim c.in-End.is [
-      | inl e ↦ rw c.taken-offset.ensures (no_header_left g.H.Record.is_record (taken_of c.args.input.now) known (rw e at c.in_ok-header.ensures))
+      | inl e ↦
+          let x = rw e at (c.in_ok-header.ensures.ok left after split) in
+          rw c.taken-offset.ensures (no_header_left g.H.Record.is_record (taken_of c.args.input.now) left after x.0 (end x.2))
       | inr e ↦
-          let x = rw e at c.in_ok-header.ensures in
-          rw c.taken-offset.ensures (other_header g.H.Record.is_record x.0 (taken_of c.args.input.now) (taken_of c.read_next.new.input) known after x.1 x.2)
+          let x = rw e at (c.in_ok-header.ensures.ok left after split) in
+          rw c.taken-offset.ensures (other_header g.H.Record.is_record x.0 (taken_of c.args.input.now) (taken_of c.read_next.new.input) left after x.1 x.2)
     ]

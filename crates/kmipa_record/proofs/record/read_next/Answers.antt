@@ -1,15 +1,23 @@
-use Rattle.std.proofs.Common.{rules, subst, List, ℕ}
-use Rattle.kmipa_ttlv.specs.Input.{reader_of, taken_of, is_failed}
-use Rattle.kmipa_record.specs.Reading.{WholeFails}
-use Rattle.kmipa_record.proofs.NextLemmas.{whole_fails}
+use Rattle.std.proofs.Common.{rules, ◌≡◌, ◌++◌, subst, List, ℕ, sym, ap, ◌∙◌}
+use Rattle.kmipa_ttlv.specs.Input.{came_of, taken_of, is_ended, is_failed}
+use Rattle.kmipa_ttlv.proofs.ReadLemmas.{since}
+use Rattle.kmipa_record.specs.Reading.{WholeFails, ReadFails}
+use Rattle.kmipa_record.specs.declared.fault.RecordFault.{RecordFault}
+use Rattle.kmipa_record.proofs.NextLemmas.{read_fails, whole_fails}
 use Rattle.kmipa_record.proofs.record.read_next.Goals as goal
 
-pub returns-in-Err : goal.returns-in-Err
-returns-in-Err g c =
-    let known = g.R.Read.remaining (reader_of c.args.input.now) in
-    let after = g.R.Read.remaining (reader_of c.next_bytes.new.input) in
-    let bytes = c.next_bytes.new.bytes.items in
-    let whole = c.in_ok-next_bytes.ensures.whole (search rules) in
-    let fails : WholeFails c.taken-offset.result bytes c.in-Err.fault = subst (λ (l : List ℕ). WholeFails c.taken-offset.result l c.in-Err.fault) c.deref.ensures.value c.in-Err.ensures in
-    let here : WholeFails (taken_of c.args.input.now) bytes c.in-Err.fault = subst (λ (n : ℕ). WholeFails n bytes c.in-Err.fault) c.taken-offset.ensures fails in
-    whole_fails known after bytes (taken_of c.args.input.now) (is_failed c.next_bytes.new.input) c.in-Err.fault whole.1 whole.0 here
+pub returns-in-Err-clause-fault : goal.returns-in-Err-clause-fault
+returns-in-Err-clause-fault g c = λ left after split end.
+    let new = c.read_bytes.new.input in
+    subst (ReadFails (taken_of c.args.input.now) left (is_failed new)) (sym c.fault_of.ensures)
+    (read_fails (taken_of c.args.input.now) _ after left (is_ended new) (is_failed new) c.in-Err.fault split end c.in-Err.ensures.fault)
+
+pub returns-in-Err-view_of-clause-fault : goal.returns-in-Err-view_of-clause-fault
+returns-in-Err-view_of-clause-fault g c = λ left after split end.
+    let bytes = c.read_bytes.new.bytes.items in
+    let f = c.in-Err-view_of.fault in
+    let here = since (came_of c.args.input.now) (came_of c.read_bytes.new.input) bytes c.in-Ok-true.ensures.came in
+    let whole = c.in-Ok-true.ensures.whole (search rules) in
+    let fails : WholeFails c.taken-offset.result bytes f = subst (λ (l : List ℕ). WholeFails c.taken-offset.result l f) c.deref.ensures.value c.in-Err-view_of.ensures in
+    let placed : WholeFails (taken_of c.args.input.now) bytes f = subst (λ (n : ℕ). WholeFails n bytes f) c.taken-offset.ensures fails in
+    whole_fails left after bytes (taken_of c.args.input.now) (is_failed c.read_bytes.new.input) f (split ∙ ap (λ (l : List ℕ). l ++ after) here) whole placed

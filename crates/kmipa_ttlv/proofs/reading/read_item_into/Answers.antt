@@ -1,11 +1,11 @@
-use Rattle.std.proofs.Common.{rules, ◌≡◌, ◌≤◌, ◌+◌, List, ℕ, length, take, vec_len, arith, refl, subst, ◌∙◌, ap}
-use Rattle.kmipa_ttlv.specs.Input.{reader_of, taken_of, is_failed}
+use Rattle.std.proofs.Common.{rules, ◌≡◌, ◌≤◌, ◌+◌, ◌++◌, List, ℕ, length, take, vec_len, arith, refl, subst, ◌∙◌, ap}
+use Rattle.kmipa_ttlv.specs.Input.{came_of, taken_of, is_ended, is_failed}
 use Rattle.kmipa_ttlv.specs.Spelling.{Spells}
 use Rattle.kmipa_ttlv.specs.ItemTree.{tree}
 use Rattle.kmipa_ttlv.specs.Flaw.{OuterFlaw, Tells}
 use Rattle.kmipa_ttlv.specs.Reading.{IsWhole}
 use Rattle.kmipa_ttlv.proofs.StreamLemmas.{item_read}
-use Rattle.kmipa_ttlv.proofs.ReadLemmas.{told_value, whole_spelled}
+use Rattle.kmipa_ttlv.proofs.ReadLemmas.{told_value, since, whole_spelled}
 use Rattle.kmipa_ttlv.proofs.reading.read_item_into.Goals as goal
 
 pub returns-in-Ok-clause-item : goal.returns-in-Ok-clause-item
@@ -17,21 +17,19 @@ returns-in-Ok-clause-item g c =
     let same : c.deref.result.now ≡ bytes = c.deref.ensures.value in
     let le : n ≤ length bytes = subst (λ (l : List ℕ). n ≤ length l) same found.0 in
     let spelled : Spells (tree c.in-Ok.item) (take n bytes) = subst (λ (l : List ℕ). Spells (tree c.in-Ok.item) (take n l)) same found.1 in
-    let len : vec_len c.read_bytes.new.bytes ≡ length bytes = search rules in
-    (bytes, whole_spelled (tree c.in-Ok.item) n bytes whole le spelled, c.in_ok-read_bytes.ensures.consumed, c.in_ok-read_bytes.ensures.taken ∙ ap (λ (k : ℕ). taken_of c.args.input.now + k) len)
+    (bytes, whole_spelled (tree c.in-Ok.item) n bytes whole le spelled, c.in_ok-read_bytes.ensures.came)
 
 pub returns-in_default-clause-fault : goal.returns-in_default-clause-fault
 returns-in_default-clause-fault g c =
-    let known = g.R.Read.remaining (reader_of c.args.input.now) in
-    let after = g.R.Read.remaining (reader_of c.read_bytes.new.input) in
+    let before = came_of c.args.input.now in
+    let after = came_of c.read_bytes.new.input in
     let bytes = c.read_bytes.new.bytes.items in
     let whole : IsWhole bytes = c.in_ok-read_bytes.ensures.whole (search rules) in
     let tells : Tells c.in-Err.fault (OuterFlaw bytes) = subst (λ (l : List ℕ). Tells c.in-Err.fault (OuterFlaw l)) c.deref.ensures.value c.in-Err.ensures.flaw in
-    told_value known after bytes (taken_of c.args.input.now) (is_failed c.read_bytes.new.input) c.in-Err.fault c.placed.result
-    c.in_default.not-Memory (c.placed.ensures ∙ rw c.taken-place.ensures refl) c.in_ok-read_bytes.ensures.consumed whole tells
+    told_value _ bytes (taken_of c.args.input.now) (is_ended c.read_bytes.new.input) (is_failed c.read_bytes.new.input) c.in-Err.fault c.placed.result
+    c.in_default.not-Memory (c.placed.ensures ∙ rw c.taken-place.ensures refl) (since before after bytes c.in_ok-read_bytes.ensures.came) whole tells
 
 pub returns-in-Ok-clause-next : goal.returns-in-Ok-clause-next
 returns-in-Ok-clause-next g c =
     let x = returns-in-Ok-clause-item g c in
-    λ came given is. item_read came given (tree c.in-Ok.item) (g.R.Read.remaining (reader_of c.args.input.now)) (g.R.Read.remaining (reader_of c.read_bytes.new.input)) x.0
-    (taken_of c.args.input.now) (taken_of c.read_bytes.new.input) x.2 x.1 x.3 (let small : taken_of c.read_bytes.new.input ≤ 0x100_0000_0000 = c.read_bytes.new.input.within in omega (arith, small)) is
+    λ given is. item_read given (tree c.in-Ok.item) (came_of c.args.input.now) x.0 (came_of c.read_bytes.new.input) x.1 x.2 is
