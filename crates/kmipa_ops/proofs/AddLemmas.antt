@@ -13,7 +13,7 @@ use Rattle.kmipa_store.specs.Calls.{is_taken}
 use Rattle.kmipa_store.specs.Choices.{Suits, IsSound, GoneIfDestroyed}
 use Rattle.kmipa_store.proofs.ChoiceLemmas.{override, Chooses-more, Chooses-none}
 use Rattle.kmipa_store.proofs.InventoryLemmas.{place_none, get-cards_of}
-use Rattle.kmipa_ops.specs.After.{with_own}
+use Rattle.kmipa_ops.specs.Adding.{with_own}
 use Rattle.kmipa_ops.proofs.TestLemmas.{not_some}
 
 -- no object has the new identifier

@@ -24,9 +24,8 @@ use Rattle.kmipa_ops.specs.declared.why.Why.{Why}
 use Rattle.kmipa_ops.specs.declared.why.Why.TheVariants.{NoSuchObject, WrongState, EchoDiffers}
 use Rattle.kmipa_ops.specs.Objects.{meant, is_other_id}
 use Rattle.kmipa_ops.specs.Changes.{act_of, dates_after, bytes_after, thing_after}
-use Rattle.kmipa_ops.specs.Does.{ChangesObject}
-use Rattle.kmipa_ops.specs.Blame.{place_meant, object_meant, is_not, is_excluded, change_speaks}
-use Rattle.kmipa_ops.specs.After.{material_after, dates_left, material_left, held_left, changed_at, with_changed}
+use Rattle.kmipa_ops.specs.Changes.{ChangesObject, change_speaks, material_after, dates_left, material_left, held_left, changed_at, with_changed}
+use Rattle.kmipa_ops.specs.Meant.{place_meant, object_meant, is_not, is_excluded}
 use Rattle.kmipa_ops.proofs.TestLemmas.{not_none, echoes_if, echoes_not}
 use Rattle.kmipa_ops.proofs.StepLemmas.{Step}
 use Rattle.kmipa_ops.proofs.GetLemmas.{meant_is, meant_at}

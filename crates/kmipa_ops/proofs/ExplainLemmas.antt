@@ -14,7 +14,7 @@ use Rattle.kmipa_ops.specs.Chains.{Chain, ChainSome, CompletesEach, ChainsComple
 use Rattle.kmipa_ops.specs.Blame.{speaks, lowest}
 use Rattle.kmipa_ops.specs.After.{after, placeholder_after}
 use Rattle.kmipa_ops.specs.Explains.{Tells, TellsBytes, Explains, Refuted, Taken, Took, is_readable, IsPossible, BlameIsExact}
-use Rattle.kmipa_ops.proofs.TestLemmas.{find_holds}
+use Rattle.kmipa_ops.proofs.FirstLemmas.{find-some}
 use Rattle.kmipa_ops.proofs.ItemLemmas.{item_step, never, learns_after}
 
 module _ (rules : RulesOf) (t : ℤ) where
@@ -138,7 +138,7 @@ sound_after rules s p t ask answer (Err Memory) u q sound h x = absurd (h refl)
 pub refuted : (rules : RulesOf) (m : Meaning) (p : Option (List ℕ)) (t : ℤ) (ask : AskOf) (answer : AnswerOf) (w : Why) → lowest rules m p t ask answer ≡ Some w → Refuted rules m p t ask answer w
 refuted rules m p t ask answer w e = record {
   named = e;
-  never = never rules m p t ask answer w (find_holds (λ (v : Why). speaks rules m p t ask answer v) whys w e);
+  never = never rules m p t ask answer w (find-some (λ (v : Why). speaks rules m p t ask answer v) whys w e);
 }
 
 -- none speaks against an answer exactly where it is possible

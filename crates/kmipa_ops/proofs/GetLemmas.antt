@@ -27,9 +27,8 @@ use Rattle.kmipa_msgs.specs.Messages.{GotOf}
 use Rattle.kmipa_ops.specs.declared.why.Why.{Why}
 use Rattle.kmipa_ops.specs.declared.why.Why.TheVariants.{NoSuchObject, WrongState, BytesDiffer, LengthImpossible, AttributeDiffers, EchoDiffers}
 use Rattle.kmipa_ops.specs.Objects.{meant, Echoes, Agree, is_other, clash, same_type, is_other_id}
-use Rattle.kmipa_ops.specs.Does.{Gets}
-use Rattle.kmipa_ops.specs.Blame.{object_meant, secret_at, secret_meant, is_not, is_excluded, shows_other, get_speaks}
-use Rattle.kmipa_ops.specs.After.{taught, taught_at}
+use Rattle.kmipa_ops.specs.Get.{Gets, shows_other, get_speaks, taught, taught_at}
+use Rattle.kmipa_ops.specs.Meant.{object_meant, secret_at, secret_meant, is_not, is_excluded}
 use Rattle.kmipa_ops.proofs.TestLemmas.{not_false, not_none, echoes_if, echoes_not, agree_if, agree_not, or_cases}
 use Rattle.kmipa_ops.proofs.StepLemmas.{Step, chose_before}
 

@@ -1,45 +1,39 @@
 -- The lowest reason of all, from the frame of an answer and what it says was done.
-use Rattle.std.proofs.Common.{◌≡◌, ◌||◌, ◌==◌, ℕ, ℤ, Bool, true, false, cond, List, find, bytes_eq, Option, Some, None, refl, ap, sym, ◌∙◌}
+use Rattle.std.proofs.Common.{◌≡◌, ◌||◌, ◌==◌, ◌++◌, ◌∷◌, [], ℕ, ℤ, Bool, true, false, cond, List, find, slice_get, bytes_eq, Option, Some, None, refl, ap, sym, ◌∙◌}
 use Rattle.std.specs.Option.{option_or}
 use Rattle.kmipa_store.specs.Ledger.{Meaning}
 use Rattle.kmipa_msgs.specs.declared.response.Status.{Status}
 use Rattle.kmipa_msgs.specs.declared.response.Status.TheVariants.{Success, Failed, Undone}
 use Rattle.kmipa_msgs.specs.Operations.{operation_number}
-use Rattle.kmipa_msgs.specs.Messages.{RulesOf, AskedOf, creates, registers, gets, gets_attributes, AskOf, operation_asked, PayloadOf, created, registered, got, got_attributes, AnswerOf}
+use Rattle.kmipa_msgs.specs.Messages.{RulesOf, AskedOf, AskOf, operation_asked, PayloadOf, AnswerOf}
 use Rattle.kmipa_ops.specs.declared.why.Why.{Why}
-use Rattle.kmipa_ops.specs.declared.why.Why.TheVariants.{EarlierCallLate, StampRunsBack, BatchShape, OperationDiffers, NoSuchObject, WrongState, IdentifierTaken, NameTaken, BytesDiffer, LengthImpossible, AttributeDiffers, AttributeMissing, ListedWrongly, ListedTooFew, ReasonUnfounded, EchoDiffers}
+use Rattle.kmipa_ops.specs.declared.why.Why.TheVariants.{NoSuchObject, WrongState, IdentifierTaken, NameTaken, BytesDiffer, LengthImpossible, AttributeDiffers, AttributeMissing, ListedWrongly, ListedTooFew, ReasonUnfounded, OperationDiffers, EchoDiffers}
 use Rattle.kmipa_ops.specs.Whys.{whys}
 use Rattle.kmipa_ops.specs.Objects.{is_other, clash}
-use Rattle.kmipa_ops.specs.Blame.{done_speaks, outcome_speaks, lowest}
+use Rattle.kmipa_ops.specs.Row.{Row, deed, idle, unknown, seen_in, row_speaks}
+use Rattle.kmipa_ops.specs.Rows.{row_of}
+use Rattle.kmipa_ops.specs.Blame.{outcome_speaks, frame_speaks, lowest}
+use Rattle.kmipa_ops.proofs.DeedLaws.{outer_whys, IsRow}
+use Rattle.kmipa_ops.proofs.RowLemmas.{is_row}
+use Rattle.kmipa_ops.proofs.FirstLemmas.{or_or, find-append, find-or}
 
--- no outcome is blamed for the order of calls, the shape of a batch or the Operation
-pub record IsQuiet (g : Why → Bool) : Type 0 where
-  pub late : g EarlierCallLate ≡ false
-  pub back : g StampRunsBack ≡ false
-  pub shape : g BatchShape ≡ false
-  pub operation : g OperationDiffers ≡ false
+-- the reasons between the outer ones and the last
+abbrev inner_whys : List Why
+inner_whys = NoSuchObject ∷ WrongState ∷ IdentifierTaken ∷ NameTaken ∷ BytesDiffer ∷ LengthImpossible ∷ AttributeDiffers ∷ AttributeMissing ∷ ListedWrongly ∷ ListedTooFew ∷ ReasonUnfounded ∷ []
 
-done_quiet : (rules : RulesOf) (m : Meaning) (p : Option (List ℕ)) (t : ℤ) (asked : AskedOf) (payload : Option PayloadOf) → IsQuiet (done_speaks rules m p t asked payload)
-done_quiet rules m p t (creates a) (Some (created x)) = record { late = refl; back = refl; shape = refl; operation = refl }
-done_quiet rules m p t (creates a) payload = record { late = refl; back = refl; shape = refl; operation = refl }
-done_quiet rules m p t (registers r) (Some (registered x)) = record { late = refl; back = refl; shape = refl; operation = refl }
-done_quiet rules m p t (registers r) payload = record { late = refl; back = refl; shape = refl; operation = refl }
-done_quiet rules m p t (gets id) (Some (got a)) = record { late = refl; back = refl; shape = refl; operation = refl }
-done_quiet rules m p t (gets id) payload = record { late = refl; back = refl; shape = refl; operation = refl }
-done_quiet rules m p t (gets_attributes g) (Some (got_attributes a)) = record { late = refl; back = refl; shape = refl; operation = refl }
-done_quiet rules m p t (gets_attributes g) payload = record { late = refl; back = refl; shape = refl; operation = refl }
-done_quiet rules m p t asked payload = record { late = refl; back = refl; shape = refl; operation = refl }
+abbrev last_whys : List Why
+last_whys = EchoDiffers ∷ []
+
+row_quiet : (row : Row) → IsRow row → (rules : RulesOf) (m : Meaning) (p : Option (List ℕ)) (t : ℤ) (payload : Option PayloadOf) → find (row_speaks row rules m p t payload) outer_whys ≡ None
+row_quiet (deed d) is rules m p t payload = is.quiet rules m p t (seen_in d payload)
+row_quiet idle is rules m p t payload = refl
+row_quiet unknown is rules m p t payload = refl
 
 quiet : (status : Status) (rules : RulesOf) (m : Meaning) (p : Option (List ℕ)) (t : ℤ) (asked : AskedOf) (reason : Option ℕ) (payload : Option PayloadOf)
-    → IsQuiet (outcome_speaks status rules m p t asked reason payload)
-quiet Success rules m p t asked reason payload = done_quiet rules m p t asked payload
-quiet Undone rules m p t asked reason payload = done_quiet rules m p t asked payload
-quiet Failed rules m p t asked reason payload = record { late = refl; back = refl; shape = refl; operation = refl }
-
--- one reason more in front
-more : (b : Bool) (w : Why) (x y z : Option Why) → x ≡ option_or y z → cond b (Some w) x ≡ option_or (cond b (Some w) y) z
-more true w x y z e = refl
-more false w x y z e = e
+    → find (outcome_speaks status rules m p t asked reason payload) outer_whys ≡ None
+quiet Success rules m p t asked reason payload = row_quiet (row_of asked) (is_row asked) rules m p t payload
+quiet Undone rules m p t asked reason payload = row_quiet (row_of asked) (is_row asked) rules m p t payload
+quiet Failed rules m p t asked reason payload = refl
 
 last : (f g : Bool) (w : Why) → cond (f || g) (Some w) None ≡ option_or (cond g (Some w) None) (cond f (Some w) None)
 last true true w = refl
@@ -47,51 +41,37 @@ last true false w = refl
 last false true w = refl
 last false false w = refl
 
--- where the frame speaks only at the first and the last of these
-split : (f g : Bool) (h : Why → Bool) → IsQuiet h
-    → cond (h EarlierCallLate) (Some EarlierCallLate)
-    (cond (h StampRunsBack) (Some StampRunsBack)
-    (cond (h BatchShape) (Some BatchShape)
-    (cond (f || h OperationDiffers) (Some OperationDiffers)
-    (cond (h NoSuchObject) (Some NoSuchObject)
-    (cond (h WrongState) (Some WrongState)
-    (cond (h IdentifierTaken) (Some IdentifierTaken)
-    (cond (h NameTaken) (Some NameTaken)
-    (cond (h BytesDiffer) (Some BytesDiffer)
-    (cond (h LengthImpossible) (Some LengthImpossible)
-    (cond (h AttributeDiffers) (Some AttributeDiffers)
-    (cond (h AttributeMissing) (Some AttributeMissing)
-    (cond (h ListedWrongly) (Some ListedWrongly)
-    (cond (h ListedTooFew) (Some ListedTooFew)
-    (cond (h ReasonUnfounded) (Some ReasonUnfounded) (cond (g || h EchoDiffers) (Some EchoDiffers) None)))))))))))))))
-    ≡ cond f (Some OperationDiffers) (option_or (find h whys) (cond g (Some EchoDiffers) None))
-split true g h q =
-    ap (λ (b : Bool). cond b (Some EarlierCallLate) (cond (h StampRunsBack) (Some StampRunsBack) (cond (h BatchShape) (Some BatchShape) (Some OperationDiffers)))) q.late
-    ∙ ap (λ (b : Bool). cond b (Some StampRunsBack) (cond (h BatchShape) (Some BatchShape) (Some OperationDiffers))) q.back
-    ∙ ap (λ (b : Bool). cond b (Some BatchShape) (Some OperationDiffers)) q.shape
-split false g h q =
-    more (h EarlierCallLate) EarlierCallLate _ _ _
-    (more (h StampRunsBack) StampRunsBack _ _ _
-    (more (h BatchShape) BatchShape _ _ _
-    (more (h OperationDiffers) OperationDiffers _ _ _
-    (more (h NoSuchObject) NoSuchObject _ _ _
-    (more (h WrongState) WrongState _ _ _
-    (more (h IdentifierTaken) IdentifierTaken _ _ _
-    (more (h NameTaken) NameTaken _ _ _
-    (more (h BytesDiffer) BytesDiffer _ _ _
-    (more (h LengthImpossible) LengthImpossible _ _ _
-    (more (h AttributeDiffers) AttributeDiffers _ _ _
-    (more (h AttributeMissing) AttributeMissing _ _ _
-    (more (h ListedWrongly) ListedWrongly _ _ _
-    (more (h ListedTooFew) ListedTooFew _ _ _ (more (h ReasonUnfounded) ReasonUnfounded _ _ _ (last g (h EchoDiffers) EchoDiffers)))))))))))))))
+first : (b : Bool) (w : Why) (z : Option Why) → option_or (cond b (Some w) None) z ≡ cond b (Some w) z
+first true w z = refl
+first false w z = refl
+
+-- where the frame speaks only at the last of the outer reasons and at the last of all
+split : (ask : AskOf) (answer : AnswerOf) (h : Why → Bool) → find h outer_whys ≡ None
+    → find (λ (w : Why). frame_speaks ask answer w || h w) whys
+    ≡ cond (frame_speaks ask answer OperationDiffers) (Some OperationDiffers) (option_or (find h whys) (cond (frame_speaks ask answer EchoDiffers) (Some EchoDiffers) None))
+split ask answer h q =
+    let f : Why → Bool = frame_speaks ask answer in
+    let both : Why → Bool = λ w. frame_speaks ask answer w || h w in
+    let own : Option Why = cond (frame_speaks ask answer OperationDiffers) (Some OperationDiffers) None in
+    let echo : Option Why = cond (frame_speaks ask answer EchoDiffers) (Some EchoDiffers) None in
+    let outer : find both outer_whys ≡ own = find-or (frame_speaks ask answer) h outer_whys q in
+    let mine : find h whys ≡ option_or (find h inner_whys) (find h last_whys) = find-append h outer_whys (inner_whys ++ last_whys) ∙ ap (λ (o : Option Why). option_or o (find h (inner_whys ++ last_whys))) q ∙ find-append h inner_whys last_whys in
+    let rest : find both (inner_whys ++ last_whys) ≡ option_or (find h whys) echo =
+    find-append both inner_whys last_whys
+    ∙ ap (λ (o : Option Why). option_or (find h inner_whys) o) (last (frame_speaks ask answer EchoDiffers) (h EchoDiffers) EchoDiffers)
+    ∙ sym (or_or (find h inner_whys) (find h last_whys) echo)
+    ∙ ap (λ (o : Option Why). option_or o echo) (sym mine) in
+    find-append both outer_whys (inner_whys ++ last_whys)
+    ∙ ap (λ (o : Option Why). option_or o (find both (inner_whys ++ last_whys))) outer
+    ∙ ap (λ (o : Option Why). option_or own o) rest
+    ∙ first (frame_speaks ask answer OperationDiffers) OperationDiffers (option_or (find h whys) echo)
 
 pub lowest_is : (rules : RulesOf) (m : Meaning) (p : Option (List ℕ)) (t : ℤ) (ask : AskOf) (answer : AnswerOf)
     → lowest rules m p t ask answer
     ≡ cond (is_other (λ (x y : ℕ). x == y) answer.operation (operation_number (operation_asked ask.asked))) (Some OperationDiffers)
     (option_or (find (outcome_speaks answer.status rules m p t ask.asked answer.reason answer.payload) whys) (cond (clash bytes_eq answer.batch_id ask.batch_id) (Some EchoDiffers) None))
 lowest_is rules m p t ask answer =
-    split (is_other (λ (x y : ℕ). x == y) answer.operation (operation_number (operation_asked ask.asked))) (clash bytes_eq answer.batch_id ask.batch_id)
-    (outcome_speaks answer.status rules m p t ask.asked answer.reason answer.payload) (quiet answer.status rules m p t ask.asked answer.reason answer.payload)
+    split ask answer (outcome_speaks answer.status rules m p t ask.asked answer.reason answer.payload) (quiet answer.status rules m p t ask.asked answer.reason answer.payload)
 
 -- of the operation asked for: the lowest reason against the outcome, or else what its frame says
 pub own_lowest : (rules : RulesOf) (m : Meaning) (p : Option (List ℕ)) (t u : ℤ) (ask : AskOf) (answer : AnswerOf) (o : Option Why)

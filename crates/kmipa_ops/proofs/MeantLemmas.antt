@@ -25,8 +25,9 @@ use Rattle.kmipa_ops.specs.declared.why.Why.TheVariants.{NoSuchObject, WrongStat
 use Rattle.kmipa_ops.specs.Whys.{whys}
 use Rattle.kmipa_ops.specs.Objects.{card_meant, same_name, is_other_id}
 use Rattle.kmipa_ops.specs.Founded.{is_refusable}
-use Rattle.kmipa_ops.specs.Blame.{object_meant, secret_at, secret_meant, is_not, is_excluded, shows_other, get_speaks}
 use Rattle.kmipa_ops.specs.Shown.{IsSecretOf, live_speak}
+use Rattle.kmipa_ops.specs.Meant.{object_meant, secret_at, secret_meant, is_not, is_excluded}
+use Rattle.kmipa_ops.specs.Get.{shows_other, get_speaks}
 use Rattle.kmipa_ops.proofs.GetLemmas.{alive_if, alive_not, meant_at}
 use Rattle.kmipa_ops.proofs.ScanLemmas.{any_here, any_map, any_on, any_same}
 

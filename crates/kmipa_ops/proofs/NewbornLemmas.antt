@@ -16,9 +16,9 @@ use Rattle.kmipa_msgs.specs.Messages.{RulesOf, RegisterOf, RegisteredOf}
 use Rattle.kmipa_ops.specs.declared.why.Why.{Why}
 use Rattle.kmipa_ops.specs.declared.why.Why.TheVariants.{IdentifierTaken, NameTaken, LengthImpossible, EchoDiffers}
 use Rattle.kmipa_ops.specs.Objects.{Echoes}
-use Rattle.kmipa_ops.specs.Does.{brought, kept, newborn, name_taken, AddsObject, Creates, Registers}
-use Rattle.kmipa_ops.specs.Blame.{adding_speaks, create_speaks, register_speaks}
-use Rattle.kmipa_ops.specs.After.{with_own}
+use Rattle.kmipa_ops.specs.Register.{brought, Registers, register_speaks}
+use Rattle.kmipa_ops.specs.Adding.{kept, newborn, name_taken, AddsObject, adding_speaks, with_own}
+use Rattle.kmipa_ops.specs.Create.{Creates, create_speaks}
 use Rattle.kmipa_ops.proofs.TestLemmas.{not_false, not_some, echoes_if, echoes_not}
 use Rattle.kmipa_ops.proofs.AddLemmas.{own_sound}
 use Rattle.kmipa_ops.proofs.StepLemmas.{Step, step_as}

@@ -27,7 +27,7 @@ use Rattle.kmipa_ops.proofs.StepLemmas.{Step, still_step}
 
 -- TESTS OF SEVERAL PARTS
 
-five_parts : (a b c d e : Bool) → (a || b || c || d || e) ≡ false → (a ≡ false) × (b ≡ false) × (c ≡ false) × (d ≡ false) × (e ≡ false)
+pub five_parts : (a b c d e : Bool) → (a || b || c || d || e) ≡ false → (a ≡ false) × (b ≡ false) × (c ≡ false) × (d ≡ false) × (e ≡ false)
 five_parts a b c d e h =
     let w = or_parts (a || b || c || d) e h in
     let x = or_parts (a || b || c) d w.0 in
@@ -35,14 +35,14 @@ five_parts a b c d e h =
     let z = or_parts a b y.0 in
     (z.0, z.1, y.1, x.1, w.1)
 
-five_cases : (a b c d e : Bool) → (a || b || c || d || e) ≡ true → (a ≡ true → ⊥) → (b ≡ true → ⊥) → (c ≡ true → ⊥) → (d ≡ true → ⊥) → (e ≡ true → ⊥) → ⊥
+pub five_cases : (a b c d e : Bool) → (a || b || c || d || e) ≡ true → (a ≡ true → ⊥) → (b ≡ true → ⊥) → (c ≡ true → ⊥) → (d ≡ true → ⊥) → (e ≡ true → ⊥) → ⊥
 five_cases true b c d e h p q r s t = p refl
 five_cases false true c d e h p q r s t = q refl
 five_cases false false true d e h p q r s t = r refl
 five_cases false false false true e h p q r s t = s refl
 five_cases false false false false e h p q r s t = t h
 
-three_cases : (a b c : Bool) → (a || b || c) ≡ true → (a ≡ true → ⊥) → (b ≡ true → ⊥) → (c ≡ true → ⊥) → ⊥
+pub three_cases : (a b c : Bool) → (a || b || c) ≡ true → (a ≡ true → ⊥) → (b ≡ true → ⊥) → (c ≡ true → ⊥) → ⊥
 three_cases true b c h p q r = p refl
 three_cases false true c h p q r = q refl
 three_cases false false c h p q r = r h
@@ -95,7 +95,7 @@ known_if known n h =
 known_not : (known : List NameOf) (n : NameOf) → Contains known n → is_known known n ≡ true
 known_not known n at = list_any_at (λ (k : NameOf). same_name k n) known at.0 n at.1 ((same_name-Decides (get_or known at.0 n) n).1 at.2)
 
-strangers_if : (known names : List NameOf) → has_stranger known names ≡ false → AreAmong known names
+pub strangers_if : (known names : List NameOf) → has_stranger known names ≡ false → AreAmong known names
 strangers_if known names h n at =
     (elim (is_known known n) as (λ b. is_known known n ≡ b → Contains known n) [
       | true ↦ λ e. known_if known n e
@@ -106,7 +106,7 @@ strangers_if known names h n at =
           absurd bad
     ]) refl
 
-strangers_not : (known names : List NameOf) → has_stranger known names ≡ true → AreAmong known names → ⊥
+pub strangers_not : (known names : List NameOf) → has_stranger known names ≡ true → AreAmong known names → ⊥
 strangers_not known names h among =
     let a = Any-from_list_any (λ (m : NameOf). not (is_known known m)) names h in
     let is : not (is_known known a.1) ≡ false = ap not (known_not known a.1 (among a.1 (a.0, a.2, a.3))) in

@@ -10,8 +10,8 @@ use Rattle.kmipa_ops.specs.declared.why.Why.{Why}
 use Rattle.kmipa_ops.specs.declared.why.Why.TheVariants.{NoSuchObject, AttributeDiffers, AttributeMissing, EchoDiffers}
 use Rattle.kmipa_ops.specs.Whys.{whys}
 use Rattle.kmipa_ops.specs.Objects.{card_meant, is_other_id, same_name}
-use Rattle.kmipa_ops.specs.Blame.{object_meant}
 use Rattle.kmipa_ops.specs.ShownAttributes.{has_stranger, shows_foreign_of, lacks_required_of, get_attributes_speaks, attributes_speak}
+use Rattle.kmipa_ops.specs.Meant.{object_meant}
 use Rattle.kmipa_ops.proofs.MeantLemmas.{card_meant_is}
 use Rattle.kmipa_ops.proofs.ScanLemmas.{any_map, any_same}
 

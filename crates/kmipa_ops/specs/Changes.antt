@@ -1,12 +1,24 @@
 -- The operations that change an object, and what each leaves of it (KMIP 2.1, section 6).
-use Rattle.std.specs.Prelude.{ℕ, ℤ, List, Option, None}
+use Rattle.std.specs.Prelude.{◌≡◌, ◌≢◌, ℕ, ℤ, Bool, true, false, List, Option, Some, None, is_none, if◌then◌else◌}
 use Rattle.kmipa_object.specs.Inventory.{Thing}
-use Rattle.kmipa_object.specs.Life.{Dates, activated_dates, revoked_dates, destroyed_dates}
-use Rattle.kmipa_object.specs.Table.{revoke_act}
+use Rattle.kmipa_object.specs.Life.{state, Dates, activated_dates, revoked_dates, destroyed_dates}
+use Rattle.kmipa_object.specs.Lists.{updated}
+use Rattle.kmipa_object.specs.Table.{allowed, revoke_act}
 use Rattle.kmipa_object.specs.declared.allow.Act.{Act}
-use Rattle.kmipa_object.specs.declared.allow.Act.TheVariants as act
+use Rattle.kmipa_object.specs.declared.allow.Allow.TheVariants.{Not}
+use Rattle.kmipa_object.specs.declared.life.Material.{Material}
+use Rattle.kmipa_object.specs.declared.life.Material.TheVariants.{Gone}
+use Rattle.kmipa_store.specs.Ledger.{Held, Meaning}
+use Rattle.kmipa_msgs.specs.Messages.{PayloadOf, changed}
+use Rattle.kmipa_ops.specs.Meant.{place_meant, object_meant, is_not, is_excluded}
+use Rattle.kmipa_ops.specs.Objects.{meant, HasObject, Echoes, is_other_id}
+use Rattle.kmipa_ops.specs.Sayable.{IsSayableId}
+use Rattle.kmipa_ops.specs.Row.{Deed, on_object}
 use Rattle.kmipa_ops.specs.declared.change.Change.{Change}
 use Rattle.kmipa_ops.specs.declared.change.Change.TheVariants.{Activate, Revoke, Destroy}
+use Rattle.kmipa_ops.specs.declared.why.Why.{Why}
+use Rattle.kmipa_ops.specs.declared.why.Why.TheVariants.{NoSuchObject, WrongState, EchoDiffers}
+use Rattle.kmipa_object.specs.declared.allow.Act.TheVariants as act
 
 -- its row in the table of states
 abbrev pub act_of : Change → Act
@@ -29,3 +41,77 @@ bytes_after Destroy bytes = None
 -- the object afterwards
 abbrev pub thing_after : Change → ℤ → Thing → Thing
 thing_after change t o = record { card = record o.card { dates = dates_after change t o.card.dates }; bytes = bytes_after change o.bytes }
+
+-- Activate, Revoke or Destroy succeeds: the state allows it, and the object stands changed in its place
+pub record ChangesObject (V : List Thing) (before : Option (List ℕ)) (t : ℤ) (asked : Option (List ℕ)) (change : Change) (shown : Option (List ℕ)) (V' : List Thing) (after : Option (List ℕ)) : Type 0 where
+  pub id : List ℕ
+  pub place : ℕ
+  pub object : Thing
+  pub about : meant asked before ≡ Some id
+  pub there : HasObject V id place object
+  pub may : allowed (act_of change) (state object.card.dates t) ≢ Not
+  pub echo : Echoes shown id
+  pub leaves : V' ≡ updated V place (thing_after change t)
+  pub placeholder : after ≡ before
+
+-- against a change of an object that is done, and shows this identifier if it is there
+abbrev pub change_speaks : List Held → Option (List ℕ) → ℤ → Change → Option (List ℕ) → Why → Bool
+change_speaks objects about t change shown NoSuchObject = is_none (object_meant objects about)
+change_speaks objects about t change shown WrongState = is_excluded (act_of change) t (object_meant objects about)
+change_speaks objects about t change shown EchoDiffers = is_other_id shown about
+change_speaks objects about t change shown why = false
+
+-- the identifier that the answer of a change shows
+abbrev pub id_shown : Option PayloadOf → Option (List ℕ)
+id_shown (Some (changed id)) = id
+id_shown payload = None
+
+-- what a change leaves of dates and of material; of those of an object whose state excludes it, all
+abbrev pub dates_left : Change → ℤ → Dates → Dates
+dates_left change t d = if is_not (allowed (act_of change) (state d t)) then d else dates_after change t d
+
+abbrev pub material_after : Change → Material → Material
+material_after Activate mat = mat
+material_after (Revoke code) mat = mat
+material_after Destroy mat = Gone
+
+abbrev pub material_left : Change → ℤ → Dates → Material → Material
+material_left change t d mat = if is_not (allowed (act_of change) (state d t)) then mat else material_after change mat
+
+abbrev pub held_left : Change → ℤ → Held → Held
+held_left change t h = record {
+  card = record h.card { dates = dates_left change t h.card.dates };
+  material = material_left change t h.card.dates h.material;
+}
+
+-- with the object at a place changed
+abbrev pub changed_at : List Held → Option ℕ → (Held → Held) → List Held
+changed_at objects None f = objects
+changed_at objects (Some place) f = updated objects place f
+
+abbrev pub with_changed : Meaning → Option (List ℕ) → ℤ → Change → Meaning
+with_changed m about t change = record { objects = changed_at m.objects (place_meant m.objects about) (held_left change t); secrets = m.secrets }
+
+abbrev pub seen_changed : PayloadOf → Option (Option (List ℕ))
+seen_changed (changed id) = Some id
+seen_changed payload = None
+
+-- the identifier that its answer shows, if it has a payload and that one has an identifier
+abbrev pub id_in : Option (Option (List ℕ)) → Option (List ℕ)
+id_in None = None
+id_in (Some id) = id
+
+abbrev pub change_deed : Option (List ℕ) → Change → Deed
+change_deed id change = record {
+  Shown = Option (List ℕ);
+  payload = changed;
+  seen = seen_changed;
+  says = IsSayableId;
+  subject = on_object id (act_of change) false;
+  brings = None;
+  may_lack = true;
+  does = λ rules V before t shown V' after. ChangesObject V before t id change shown V' after;
+  speaks = λ rules m before t shown why. change_speaks m.objects (meant id before) t change (id_in shown) why;
+  leaves = λ m before t shown. with_changed m (meant id before) t change;
+  holds = λ before shown. before;
+}

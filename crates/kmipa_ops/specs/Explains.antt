@@ -4,10 +4,12 @@ use Rattle.kmipa_object.specs.Inventory.{Thing}
 use Rattle.kmipa_store.specs.Ledger.{Meaning, LedgerState, bytes_at}
 use Rattle.kmipa_store.specs.Choices.{Choice, Chooses, Agrees, inv, IsSound, Extends}
 use Rattle.kmipa_msgs.specs.Operations.{operation_number}
-use Rattle.kmipa_msgs.specs.Messages.{RulesOf, AskedOf, registers, AskOf, operation_asked, PayloadOf, got, AnswerOf}
+use Rattle.kmipa_msgs.specs.Messages.{RulesOf, AskedOf, AskOf, operation_asked, PayloadOf, got, AnswerOf}
 use Rattle.kmipa_ops.specs.declared.why.Why.{Why}
 use Rattle.kmipa_ops.specs.declared.why.Refusal.{Refusal}
 use Rattle.kmipa_ops.specs.declared.why.Refusal.TheVariants.{Impossible, Memory}
+use Rattle.kmipa_ops.specs.Row.{row_brings}
+use Rattle.kmipa_ops.specs.Rows.{row_of}
 use Rattle.kmipa_ops.specs.Objects.{is_other}
 use Rattle.kmipa_ops.specs.Completes.{DoesSome, can_judge}
 use Rattle.kmipa_ops.specs.Chains.{ChainSome}
@@ -15,8 +17,7 @@ use Rattle.kmipa_ops.specs.Blame.{lowest}
 
 -- the bytes that an ask brings
 abbrev pub brings : AskedOf → Option (List ℕ)
-brings (registers r) = Some r.block.material
-brings asked = None
+brings asked = row_brings (row_of asked)
 
 -- the bytes that an answer shows
 abbrev pub shows : Option PayloadOf → Option (List ℕ)

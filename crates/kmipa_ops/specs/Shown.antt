@@ -10,7 +10,7 @@ use Rattle.kmipa_msgs.specs.Messages.{GotOf}
 use Rattle.kmipa_ops.specs.declared.why.Why.{Why}
 use Rattle.kmipa_ops.specs.declared.why.Why.TheVariants.{BytesDiffer, LengthImpossible, AttributeDiffers, EchoDiffers}
 use Rattle.kmipa_ops.specs.Objects.{is_other_id}
-use Rattle.kmipa_ops.specs.Blame.{shows_other}
+use Rattle.kmipa_ops.specs.Get.{shows_other}
 
 -- the secret is there, with this rule
 pub record HasRule (m : Meaning) (secret : SecretNo) (rule : Rule) : Type 0 where

@@ -7,7 +7,11 @@ use Rattle.kmipa_attrs.specs.Sets.{NameOf, Attributes}
 use Rattle.kmipa_attrs.specs.ObjectTypes.{type_number}
 use Rattle.kmipa_object.specs.Inventory.{Card, Thing, live}
 use Rattle.kmipa_object.specs.Life.{Dates, state, state_number}
-use Rattle.kmipa_msgs.specs.Messages.{GetAttributesOf, GotAttributesOf}
+use Rattle.kmipa_msgs.specs.Messages.{RulesOf, GetAttributesOf, GotAttributesOf, PayloadOf, got_attributes}
+use Rattle.kmipa_object.specs.declared.allow.Act.TheVariants as act
+use Rattle.kmipa_store.specs.Ledger.{Meaning, cards_of}
+use Rattle.kmipa_ops.specs.Sayable.{IsSayableId}
+use Rattle.kmipa_ops.specs.Row.{Deed, on_object}
 use Rattle.kmipa_ops.specs.declared.judged.Judged.{Judged}
 use Rattle.kmipa_ops.specs.declared.judged.Judged.TheVariants.{Name, ObjectType, CryptographicAlgorithm, CryptographicLength, CryptographicUsageMask, State, InitialDate, ActivationDate, DeactivationDate, DestroyDate, CompromiseDate}
 use Rattle.kmipa_ops.specs.declared.why.Why.{Why}
@@ -170,3 +174,28 @@ attributes_speak c about t g None = None
 attributes_speak c about t g (Some a) =
     cond (shows_foreign c t a.attributes) (Some AttributeDiffers)
     (cond (lacks_required g c a.attributes) (Some AttributeMissing) (cond (is_other_id a.id about) (Some EchoDiffers) None))
+
+-- ITS ROW
+
+-- those of an object were in a message or in a declaration
+abbrev pub SaysAttributes : GotAttributesOf → Type 0
+SaysAttributes a = IsSayableId a.id
+
+abbrev pub seen_attributes : PayloadOf → Option GotAttributesOf
+seen_attributes (got_attributes a) = Some a
+seen_attributes payload = None
+
+abbrev pub get_attributes_deed : GetAttributesOf → Deed
+get_attributes_deed g = record {
+  Shown = GotAttributesOf;
+  payload = got_attributes;
+  seen = seen_attributes;
+  says = SaysAttributes;
+  subject = on_object g.id act.GetAttributes g.is_selective;
+  brings = None;
+  may_lack = true;
+  does = λ rules V before t a V' after. GetsAttributes V before t g a V' after;
+  speaks = λ rules m before t shown why. get_attributes_speaks (cards_of m.objects) (meant g.id before) t g shown why;
+  leaves = λ m before t shown. m;
+  holds = λ before shown. before;
+}

@@ -5,11 +5,10 @@ ghost use Rattle.kmipa_attrs.specs.Sets.{attributes_of, name_of};
 ghost use Rattle.kmipa_object.specs.Life.{dates_of};
 ghost use Rattle.kmipa_store.specs.Ledger.{cards_of};
 ghost use Rattle.kmipa_msgs.specs.Messages.{lent, maybe_lent, registered_of, rules_of};
-ghost use Rattle.kmipa_ops.specs.After.{Leaves, MakesOwn, with_own};
-ghost use Rattle.kmipa_ops.specs.Blame.{adding_speaks};
-ghost use Rattle.kmipa_ops.specs.Does.{kept, name_taken, newborn};
+ghost use Rattle.kmipa_ops.specs.After.{Leaves};
 ghost use Rattle.kmipa_ops.specs.Placeholders.{placeholder_of};
 ghost use Rattle.kmipa_ops.specs.Whys.{whys};
+ghost use Rattle.kmipa_ops.specs.Adding.{MakesOwn, with_own, adding_speaks, kept, name_taken, newborn};
 
 use crate::echo::is_other_number;
 use crate::objects::any_live_named;

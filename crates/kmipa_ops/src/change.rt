@@ -1,14 +1,15 @@
 //! Activate, Revoke and Destroy: the operations that change an object.
 
-ghost use Rattle.std.specs.Prelude.{◌≡◌, IfOk, MatchResult, false, find, true};
+ghost use Rattle.std.specs.Prelude.{◌≡◌, IfOk, MatchResult, false, find, is_some, option_and_then, option_map, true};
 ghost use Rattle.kmipa_object.specs.Inventory.{card_of};
 ghost use Rattle.kmipa_object.specs.Life.{dates_of, state};
 ghost use Rattle.kmipa_object.specs.Table.{allowed};
-ghost use Rattle.kmipa_msgs.specs.Messages.{maybe_lent};
-ghost use Rattle.kmipa_ops.specs.After.{Changes, dates_left, material_after, material_left, with_changed};
-ghost use Rattle.kmipa_ops.specs.Blame.{change_speaks, is_not};
-ghost use Rattle.kmipa_ops.specs.Changes.{act_of, dates_after};
+ghost use Rattle.kmipa_msgs.specs.Messages.{maybe_lent, payload_of};
+ghost use Rattle.kmipa_ops.specs.After.{Changes};
+ghost use Rattle.kmipa_ops.specs.Changes.{act_of, dates_after, id_in, seen_changed};
 ghost use Rattle.kmipa_ops.specs.Whys.{whys};
+ghost use Rattle.kmipa_ops.specs.Changes.{dates_left, material_after, material_left, with_changed, change_speaks};
+ghost use Rattle.kmipa_ops.specs.Meant.{is_not};
 
 use crate::echo::is_other_id;
 use crate::objects::{object_meant, place_meant};
@@ -16,6 +17,7 @@ use crate::why::Why;
 use kmipa_object::{
     Act, Allow, Life, Object, WrongState, activated, allows, destroyed, revoked, state_at,
 };
+use kmipa_msgs::Payload;
 use kmipa_store::Ledger;
 use std::alloc::AllocError;
 
@@ -26,6 +28,26 @@ pub enum Change {
     /// With this Revocation Reason Code.
     Revoke(u32),
     Destroy,
+}
+
+/// Whether a payload is the answer of such an operation.
+pub(crate) fn is_change(payload: &Payload) -> bool
+    ensures { result ≡ is_some (seen_changed (payload_of payload.now)) }
+{
+    match payload {
+        Payload::Change(_) => true,
+        _ => false,
+    }
+}
+
+/// The identifier that the answer of a change shows.
+pub(crate) fn id_shown<'a>(payload: &'a Option<Payload<'a>>) -> Option<&'a str>
+    ensures { maybe_lent result ≡ id_in (option_and_then seen_changed (option_map payload_of payload.now)) }
+{
+    match payload {
+        Some(Payload::Change(changed)) => changed.id,
+        _ => None,
+    }
 }
 
 /// The lowest reason against a change that is done: of the object that is meant, whose identifier is shown so if it is.

@@ -1,24 +1,91 @@
 //! Create.
 
-ghost use Rattle.std.specs.Prelude.{◌≡◌, None, Some, find};
+ghost use Rattle.std.specs.Prelude.{◌≡◌, None, Some, find, option_and_then, option_map};
 ghost use Rattle.kmipa_attrs.specs.Sets.{attributes_of};
 ghost use Rattle.kmipa_attrs.specs.declared.object_type.ObjectType.TheVariants.{SymmetricKey};
 ghost use Rattle.kmipa_store.specs.Ledger.{cards_of};
-ghost use Rattle.kmipa_msgs.specs.Messages.{registered_of, rules_of};
-ghost use Rattle.kmipa_ops.specs.After.{Leaves, with_own};
-ghost use Rattle.kmipa_ops.specs.Blame.{create_speaks};
-ghost use Rattle.kmipa_ops.specs.Does.{newborn};
+ghost use Rattle.kmipa_msgs.specs.Messages.{creates, payload_of, registered_of, rules_of};
+ghost use Rattle.kmipa_ops.specs.After.{Leaves};
 ghost use Rattle.kmipa_ops.specs.Placeholders.{placeholder_of};
 ghost use Rattle.kmipa_ops.specs.Whys.{whys};
+ghost use Rattle.kmipa_ops.specs.Adding.{with_own, newborn};
+ghost use Rattle.kmipa_ops.specs.Create.{seen_created, create_speaks};
 
+use crate::deed::{Deed, Subject};
 use crate::adding::{Newborn, add, why_not_added};
 use crate::placeholder::Placeholder;
 use crate::why::Why;
 use kmipa_attrs::{AttrSet, ObjectType};
-use kmipa_msgs::{Registered, Rules};
+use kmipa_msgs::{Create, Payload, Registered, Rules};
 use kmipa_object::Rule;
 use kmipa_store::Ledger;
 use std::alloc::{AllocError, Global};
+
+impl Deed for Create {
+    ghost asked = { λ create. creates (attributes_of create.attributes) };
+
+    fn is_of(&self, payload: &Payload) -> bool {
+        match payload {
+            Payload::Create(_) => true,
+            _ => false,
+        }
+    }
+
+    fn may_lack(&self) -> bool {
+        false
+    }
+
+    fn is_idle(&self) -> bool {
+        false
+    }
+
+    fn subject(&self) -> Subject<'_> {
+        Subject::Names(self.attributes.names.as_slice())
+    }
+
+    fn brings(&self) -> Option<&[u8]> {
+        None
+    }
+
+    fn why_not_done<L: Ledger>(
+        &self,
+        _alloc: Global,
+        ledger: &L,
+        rules: &Rules,
+        _placeholder: &Placeholder,
+        _t: i64,
+        payload: &Option<Payload>,
+    ) -> Option<Why> {
+        match shown(payload) {
+            Some(created) => why_not_created(ledger, rules, &self.attributes, created),
+            None => None,
+        }
+    }
+
+    fn leave<L: Ledger>(
+        &self,
+        alloc: Global,
+        ledger: &mut L,
+        placeholder: &mut Placeholder,
+        t: i64,
+        payload: &Option<Payload>,
+    ) -> Result<(), AllocError> {
+        match shown(payload) {
+            Some(created) => create(alloc, ledger, placeholder, t, &self.attributes, created.id),
+            None => Ok(()),
+        }
+    }
+}
+
+/// What a payload shows, if it is one of a Create.
+fn shown<'a>(payload: &'a Option<Payload<'a>>) -> Option<&'a Registered<'a>>
+    ensures { option_map (λ x. registered_of x.now) result ≡ option_and_then seen_created (option_map payload_of payload.now) }
+{
+    match payload {
+        Some(Payload::Create(created)) => Some(created),
+        _ => None,
+    }
+}
 
 /// The lowest reason against a Create of a key with these attributes that is done.
 pub(crate) fn why_not_created<L: Ledger>(

@@ -7,15 +7,17 @@ ghost use Rattle.kmipa_object.specs.Inventory.{card_of};
 ghost use Rattle.kmipa_object.specs.Life.{state};
 ghost use Rattle.kmipa_object.specs.Table.{allowed};
 ghost use Rattle.kmipa_store.specs.Ledger.{cards_of};
-ghost use Rattle.kmipa_msgs.specs.Messages.{asked_of, maybe_lent, rules_of};
-ghost use Rattle.kmipa_ops.specs.Founded.{founded, has_cause, has_row, holds_about, holds_cause, holds_named, is_about_nothing, is_live_there, is_must, is_refusable};
+ghost use Rattle.kmipa_msgs.specs.Messages.{maybe_lent, rules_of};
+ghost use Rattle.kmipa_ops.specs.Founded.{founded_of, has_cause, has_row, holds_about, holds_of, holds_named, is_live_there, is_must, is_of_nothing, is_refusable};
 ghost use Rattle.kmipa_ops.specs.Objects.{card_meant};
 ghost use Rattle.kmipa_ops.specs.Placeholders.{placeholder_of};
+ghost use Rattle.kmipa_ops.specs.Subjects.{subject_of};
 
+use crate::deed::Subject;
 use crate::objects::{any_named, is_live, object_meant};
 use crate::placeholder::Placeholder;
 use kmipa_attrs::Name;
-use kmipa_msgs::{Asked, Cause, Row, Rules};
+use kmipa_msgs::{Cause, Row, Rules};
 use kmipa_object::{Act, Allow, Object, allows, state_at};
 use kmipa_store::Ledger;
 
@@ -25,16 +27,16 @@ pub(crate) fn is_founded<L: Ledger>(
     rules: &Rules,
     placeholder: &Placeholder,
     t: i64,
-    asked: &Asked,
+    subject: Subject<'_>,
     reason: Option<u32>,
 ) -> bool
-    ensures { result ≡ founded (rules_of rules.now) (cards_of (L.state ledger.now).now.objects) (placeholder_of placeholder.now) t (asked_of asked.now) reason }
+    ensures { result ≡ founded_of (rules_of rules.now) (cards_of (L.state ledger.now).now.objects) (placeholder_of placeholder.now) t (subject_of subject.entry) reason }
 {
     match reason {
         Some(reason) => {
             !has_row(rules, reason)
-                || is_about_nothing(placeholder, asked)
-                || has_cause(ledger, rules, placeholder, t, asked, reason)
+                || is_of_nothing(placeholder, subject)
+                || has_cause(ledger, rules, placeholder, t, subject, reason)
         }
         None => true,
     }
@@ -52,15 +54,12 @@ fn any_reason(rows: &[Row], reason: u32) -> bool
     rows.iter().any(|row| row.reason == reason)
 }
 
-fn is_about_nothing(placeholder: &Placeholder, asked: &Asked) -> bool
-    ensures { result ≡ is_about_nothing (placeholder_of placeholder.now) (asked_of asked.now) }
+fn is_of_nothing(placeholder: &Placeholder, subject: Subject<'_>) -> bool
+    ensures { result ≡ is_of_nothing (placeholder_of placeholder.now) (subject_of subject.entry) }
 {
-    match asked {
-        Asked::Get(get) => placeholder.meant(get.id).is_none(),
-        Asked::GetAttributes(get) => placeholder.meant(get.id).is_none(),
-        Asked::Activate(about) | Asked::Destroy(about) => placeholder.meant(about.id).is_none(),
-        Asked::Revoke(revoke) => placeholder.meant(revoke.id).is_none(),
-        Asked::Create(_) | Asked::Register(_) | Asked::Idle(_) | Asked::Other(_) => false,
+    match subject {
+        Subject::Object(id, _, _) => placeholder.meant(id).is_none(),
+        Subject::Names(_) | Subject::Nothing => false,
     }
 }
 
@@ -70,12 +69,12 @@ fn has_cause<L: Ledger>(
     rules: &Rules,
     placeholder: &Placeholder,
     t: i64,
-    asked: &Asked,
+    subject: Subject<'_>,
     reason: u32,
 ) -> bool
-    ensures { result ≡ has_cause (rules_of rules.now) (cards_of (L.state ledger.now).now.objects) (placeholder_of placeholder.now) t (asked_of asked.now) reason }
+    ensures { result ≡ has_cause (rules_of rules.now) (cards_of (L.state ledger.now).now.objects) (placeholder_of placeholder.now) t (subject_of subject.entry) reason }
 {
-    any_cause(ledger, rules.rows.as_slice(), placeholder, t, asked, reason)
+    any_cause(ledger, rules.rows.as_slice(), placeholder, t, subject, reason)
 }
 
 fn any_cause<L: Ledger>(
@@ -83,13 +82,13 @@ fn any_cause<L: Ledger>(
     rows: &[Row],
     placeholder: &Placeholder,
     t: i64,
-    asked: &Asked,
+    subject: Subject<'_>,
     reason: u32,
 ) -> bool
-    ensures { result ≡ list_any (λ (row : Row). (row.reason == reason) && holds_cause (cards_of (L.state ledger.now).now.objects) (placeholder_of placeholder.now) t (asked_of asked.now) row.cause) rows.now }
+    ensures { result ≡ list_any (λ (row : Row). (row.reason == reason) && holds_of (cards_of (L.state ledger.now).now.objects) (placeholder_of placeholder.now) t (subject_of subject.entry) row.cause) rows.now }
 {
     for row in rows {
-        if is_cause(ledger, placeholder, t, asked, reason, *row) {
+        if is_cause(ledger, placeholder, t, subject, reason, *row) {
             return true;
         }
     }
@@ -100,52 +99,31 @@ fn is_cause<L: Ledger>(
     ledger: &L,
     placeholder: &Placeholder,
     t: i64,
-    asked: &Asked,
+    subject: Subject<'_>,
     reason: u32,
     row: Row,
 ) -> bool
-    ensures { result ≡ ((row.reason == reason) && holds_cause (cards_of (L.state ledger.now).now.objects) (placeholder_of placeholder.now) t (asked_of asked.now) row.cause) }
+    ensures { result ≡ ((row.reason == reason) && holds_of (cards_of (L.state ledger.now).now.objects) (placeholder_of placeholder.now) t (subject_of subject.entry) row.cause) }
 {
-    row.reason == reason && holds_cause(ledger, placeholder, t, asked, row.cause)
+    row.reason == reason && holds_of(ledger, placeholder, t, subject, row.cause)
 }
 
 /// Whether the cause holds. Where it isn't judged for the operation, it counts as holding.
-fn holds_cause<L: Ledger>(
+fn holds_of<L: Ledger>(
     ledger: &L,
     placeholder: &Placeholder,
     t: i64,
-    asked: &Asked,
+    subject: Subject<'_>,
     cause: Cause,
 ) -> bool
-    ensures { result ≡ holds_cause (cards_of (L.state ledger.now).now.objects) (placeholder_of placeholder.now) t (asked_of asked.now) cause }
+    ensures { result ≡ holds_of (cards_of (L.state ledger.now).now.objects) (placeholder_of placeholder.now) t (subject_of subject.entry) cause }
 {
-    match asked {
-        Asked::Create(create) => holds_named(ledger, create.attributes.names.as_slice(), cause),
-        Asked::Register(register) => {
-            holds_named(ledger, register.attributes.names.as_slice(), cause)
+    match subject {
+        Subject::Object(id, act, unjudged) => {
+            unjudged || holds_about(ledger, placeholder.meant(id), t, act, cause)
         }
-        Asked::Get(get) => holds_about(ledger, placeholder.meant(get.id), t, Act::Get, cause),
-        Asked::GetAttributes(get) => {
-            get.is_selective
-                || holds_about(
-                    ledger,
-                    placeholder.meant(get.id),
-                    t,
-                    Act::GetAttributes,
-                    cause,
-                )
-        }
-        Asked::Activate(about) => {
-            holds_about(ledger, placeholder.meant(about.id), t, Act::Activate, cause)
-        }
-        Asked::Revoke(revoke) => {
-            let act = Act::of_revoke(revoke.code);
-            holds_about(ledger, placeholder.meant(revoke.id), t, act, cause)
-        }
-        Asked::Destroy(about) => {
-            holds_about(ledger, placeholder.meant(about.id), t, Act::Destroy, cause)
-        }
-        Asked::Idle(_) | Asked::Other(_) => true,
+        Subject::Names(names) => holds_named(ledger, names, cause),
+        Subject::Nothing => true,
     }
 }
 

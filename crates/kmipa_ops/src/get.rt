@@ -1,22 +1,88 @@
 //! Get.
 
-ghost use Rattle.std.specs.Prelude.{◌≡◌, bytes_eq, cond, find, option_map, slice_get};
+ghost use Rattle.std.specs.Prelude.{◌≡◌, bytes_eq, cond, find, option_and_then, option_map, slice_get};
 ghost use Rattle.kmipa_object.specs.Inventory.{admits};
 ghost use Rattle.kmipa_store.specs.Choices.{IsSound};
 ghost use Rattle.kmipa_store.specs.Ledger.{held};
-ghost use Rattle.kmipa_msgs.specs.Messages.{got_of, maybe_lent};
-ghost use Rattle.kmipa_ops.specs.After.{Changes, taught};
-ghost use Rattle.kmipa_ops.specs.Blame.{get_speaks, object_meant, shows_other};
+ghost use Rattle.kmipa_msgs.specs.Messages.{got_of, gets, id_of, maybe_lent, payload_of};
+ghost use Rattle.kmipa_ops.specs.After.{Changes};
 ghost use Rattle.kmipa_ops.specs.Shown.{HasRule, IsSecretOf, bytes_speak, live_speak, shown_speak};
 ghost use Rattle.kmipa_ops.specs.Whys.{whys};
+ghost use Rattle.kmipa_ops.specs.Get.{get_speaks, seen_got, shows_other, taught};
+ghost use Rattle.kmipa_ops.specs.Meant.{object_meant};
 
+use crate::deed::{Deed, Subject};
 use crate::echo::{clash_lengths, clash_numbers, is_other_id, is_other_type};
 use crate::objects::object_meant;
+use crate::placeholder::Placeholder;
 use crate::why::Why;
-use kmipa_msgs::Got;
-use kmipa_object::{Material, Object, Rule, SecretNo};
+use kmipa_msgs::{Get, Got, Payload, Rules};
+use kmipa_object::{Act, Material, Object, Rule, SecretNo};
 use kmipa_store::Ledger;
-use std::alloc::AllocError;
+use std::alloc::{AllocError, Global};
+
+impl<'a> Deed for Get<'a> {
+    ghost asked = { λ get. gets (id_of get) };
+
+    fn is_of(&self, payload: &Payload) -> bool {
+        match payload {
+            Payload::Get(_) => true,
+            _ => false,
+        }
+    }
+
+    fn may_lack(&self) -> bool {
+        true
+    }
+
+    fn is_idle(&self) -> bool {
+        false
+    }
+
+    fn subject(&self) -> Subject<'_> {
+        Subject::Object(self.id, Act::Get, false)
+    }
+
+    fn brings(&self) -> Option<&[u8]> {
+        None
+    }
+
+    fn why_not_done<L: Ledger>(
+        &self,
+        _alloc: Global,
+        ledger: &L,
+        _rules: &Rules,
+        placeholder: &Placeholder,
+        t: i64,
+        payload: &Option<Payload>,
+    ) -> Option<Why> {
+        why_not_got(ledger, placeholder.meant(self.id), t, shown(payload))
+    }
+
+    fn leave<L: Ledger>(
+        &self,
+        _alloc: Global,
+        ledger: &mut L,
+        placeholder: &mut Placeholder,
+        _t: i64,
+        payload: &Option<Payload>,
+    ) -> Result<(), AllocError> {
+        match shown(payload) {
+            Some(got) => teach(ledger, placeholder.meant(self.id), got.block.material),
+            None => Ok(()),
+        }
+    }
+}
+
+/// What a payload shows, if it is one of a Get.
+fn shown<'a>(payload: &'a Option<Payload<'a>>) -> Option<&'a Got<'a>>
+    ensures { option_map (λ got. got_of got.now) result ≡ option_and_then seen_got (option_map payload_of payload.now) }
+{
+    match payload {
+        Some(Payload::Get(got)) => Some(got),
+        _ => None,
+    }
+}
 
 /// The lowest reason against a Get that is done: of the object that is meant, which is shown so if the payload is there.
 pub(crate) fn why_not_got<L: Ledger>(

@@ -1,25 +1,88 @@
 //! Get Attributes.
 
-ghost use Rattle.std.specs.Prelude.{◌≡◌, find, option_map};
+ghost use Rattle.std.specs.Prelude.{◌≡◌, find, option_and_then, option_map};
 ghost use Rattle.std.specs.Ordering.{int_eq};
 ghost use Rattle.kmipa_attrs.specs.Sets.{attributes_of};
 ghost use Rattle.kmipa_object.specs.Inventory.{card_of};
 ghost use Rattle.kmipa_object.specs.Life.{dates_of};
 ghost use Rattle.kmipa_store.specs.Ledger.{cards_of};
-ghost use Rattle.kmipa_msgs.specs.Messages.{get_attributes_of, got_attributes_of, maybe_lent};
+ghost use Rattle.kmipa_msgs.specs.Messages.{get_attributes_of, gets_attributes, got_attributes_of, maybe_lent, payload_of};
 ghost use Rattle.kmipa_ops.specs.Objects.{clash};
-ghost use Rattle.kmipa_ops.specs.ShownAttributes.{attributes_speak, get_attributes_speaks, is_foreign_date, shows_foreign, shows_other_date, shows_other_value};
+ghost use Rattle.kmipa_ops.specs.ShownAttributes.{seen_attributes, attributes_speak, get_attributes_speaks, is_foreign_date, shows_foreign, shows_other_date, shows_other_value};
 ghost use Rattle.kmipa_ops.specs.Whys.{whys};
 
+use crate::deed::{Deed, Subject};
 use crate::echo::{clash_lengths, clash_numbers, is_other_id, is_other_number};
 use crate::names::has_stranger;
 use crate::objects::object_meant;
+use crate::placeholder::Placeholder;
 use crate::required::lacks_required;
 use crate::why::Why;
 use kmipa_attrs::AttrSet;
-use kmipa_msgs::{GetAttributes, GotAttributes};
-use kmipa_object::{Life, Object, state_at};
+use kmipa_msgs::{GetAttributes, GotAttributes, Payload, Rules};
+use kmipa_object::{Act, Life, Object, state_at};
 use kmipa_store::Ledger;
+use std::alloc::{AllocError, Global};
+
+impl<'a> Deed for GetAttributes<'a> {
+    ghost asked = { λ get. gets_attributes (get_attributes_of get) };
+
+    fn is_of(&self, payload: &Payload) -> bool {
+        match payload {
+            Payload::GetAttributes(_) => true,
+            _ => false,
+        }
+    }
+
+    fn may_lack(&self) -> bool {
+        true
+    }
+
+    fn is_idle(&self) -> bool {
+        false
+    }
+
+    fn subject(&self) -> Subject<'_> {
+        Subject::Object(self.id, Act::GetAttributes, self.is_selective)
+    }
+
+    fn brings(&self) -> Option<&[u8]> {
+        None
+    }
+
+    fn why_not_done<L: Ledger>(
+        &self,
+        _alloc: Global,
+        ledger: &L,
+        _rules: &Rules,
+        placeholder: &Placeholder,
+        t: i64,
+        payload: &Option<Payload>,
+    ) -> Option<Why> {
+        why_not_shown_attributes(ledger, placeholder.meant(self.id), t, self, shown(payload))
+    }
+
+    fn leave<L: Ledger>(
+        &self,
+        _alloc: Global,
+        _ledger: &mut L,
+        _placeholder: &mut Placeholder,
+        _t: i64,
+        _payload: &Option<Payload>,
+    ) -> Result<(), AllocError> {
+        Ok(())
+    }
+}
+
+/// What a payload shows, if it is one of a Get Attributes.
+fn shown<'a>(payload: &'a Option<Payload<'a>>) -> Option<&'a GotAttributes<'a>>
+    ensures { option_map (λ got. got_attributes_of got.now) result ≡ option_and_then seen_attributes (option_map payload_of payload.now) }
+{
+    match payload {
+        Some(Payload::GetAttributes(got)) => Some(got),
+        _ => None,
+    }
+}
 
 /// The lowest reason against a Get Attributes that is done: of the object that is meant these attributes are shown, if the payload is there.
 pub(crate) fn why_not_shown_attributes<L: Ledger>(

@@ -1,13 +1,18 @@
 //! One item of a batch: Ok exactly where some inventory allows it, or the lowest reason why none does.
 #![tactic(auto)]
 
+mod activate;
 mod adding;
 mod change;
 mod create;
+mod deed;
+mod deeds;
+mod destroy;
 mod echo;
 mod failed;
 mod get;
 mod get_attributes;
+mod idle;
 mod judged;
 mod laws;
 mod names;
@@ -16,6 +21,7 @@ mod placeholder;
 mod readable;
 mod register;
 mod required;
+mod revoke;
 mod taking;
 mod why;
 

@@ -7,7 +7,7 @@ ghost use Rattle.kmipa_object.specs.Inventory.{card_of, live};
 ghost use Rattle.kmipa_store.specs.Ledger.{held, cards_of};
 ghost use Rattle.kmipa_msgs.specs.Messages.{maybe_lent};
 ghost use Rattle.kmipa_ops.specs.Objects.{any_live_named, any_named, is_named, same_name};
-ghost use Rattle.kmipa_ops.specs.Blame.{object_meant, place_meant};
+ghost use Rattle.kmipa_ops.specs.Meant.{object_meant, place_meant};
 
 use kmipa_attrs::Name;
 use kmipa_object::Object;

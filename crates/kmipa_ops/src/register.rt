@@ -1,24 +1,91 @@
 //! Register.
 
-ghost use Rattle.std.specs.Prelude.{◌≡◌, IfOk, Some, find};
+ghost use Rattle.std.specs.Prelude.{◌≡◌, IfOk, Some, find, option_and_then, option_map};
 ghost use Rattle.kmipa_attrs.specs.Sets.{attributes_of};
 ghost use Rattle.kmipa_object.specs.Inventory.{rule_for};
 ghost use Rattle.kmipa_store.specs.Ledger.{cards_of};
-ghost use Rattle.kmipa_msgs.specs.Messages.{lent, register_of, registered_of, rules_of};
-ghost use Rattle.kmipa_ops.specs.After.{Leaves, with_own};
-ghost use Rattle.kmipa_ops.specs.Blame.{register_speaks};
-ghost use Rattle.kmipa_ops.specs.Does.{brought, either_of, kept, newborn};
+ghost use Rattle.kmipa_msgs.specs.Messages.{lent, payload_of, register_of, registered_of, registers, rules_of};
+ghost use Rattle.kmipa_ops.specs.After.{Leaves};
 ghost use Rattle.kmipa_ops.specs.Placeholders.{placeholder_of};
 ghost use Rattle.kmipa_ops.specs.Whys.{whys};
+ghost use Rattle.kmipa_ops.specs.Adding.{with_own, kept, newborn};
+ghost use Rattle.kmipa_ops.specs.Register.{seen_registered, register_speaks, brought, either_of};
 
+use crate::deed::{Deed, Subject};
 use crate::adding::{Newborn, add, why_not_added};
 use crate::placeholder::Placeholder;
 use crate::why::Why;
 use kmipa_attrs::AttrSet;
-use kmipa_msgs::{Register, Registered, Rules};
+use kmipa_msgs::{Payload, Register, Registered, Rules};
 use kmipa_object::Rule;
 use kmipa_store::Ledger;
 use std::alloc::{AllocError, Global};
+
+impl<'a> Deed for Register<'a> {
+    ghost asked = { λ register. registers (register_of register) };
+
+    fn is_of(&self, payload: &Payload) -> bool {
+        match payload {
+            Payload::Register(_) => true,
+            _ => false,
+        }
+    }
+
+    fn may_lack(&self) -> bool {
+        false
+    }
+
+    fn is_idle(&self) -> bool {
+        false
+    }
+
+    fn subject(&self) -> Subject<'_> {
+        Subject::Names(self.attributes.names.as_slice())
+    }
+
+    fn brings(&self) -> Option<&[u8]> {
+        Some(self.block.material)
+    }
+
+    fn why_not_done<L: Ledger>(
+        &self,
+        alloc: Global,
+        ledger: &L,
+        rules: &Rules,
+        _placeholder: &Placeholder,
+        _t: i64,
+        payload: &Option<Payload>,
+    ) -> Option<Why> {
+        match shown(payload) {
+            Some(registered) => why_not_registered(alloc, ledger, rules, self, registered),
+            None => None,
+        }
+    }
+
+    fn leave<L: Ledger>(
+        &self,
+        alloc: Global,
+        ledger: &mut L,
+        placeholder: &mut Placeholder,
+        t: i64,
+        payload: &Option<Payload>,
+    ) -> Result<(), AllocError> {
+        match shown(payload) {
+            Some(registered) => register(alloc, ledger, placeholder, t, self, registered.id),
+            None => Ok(()),
+        }
+    }
+}
+
+/// What a payload shows, if it is one of a Register.
+fn shown<'a>(payload: &'a Option<Payload<'a>>) -> Option<&'a Registered<'a>>
+    ensures { option_map (λ x. registered_of x.now) result ≡ option_and_then seen_registered (option_map payload_of payload.now) }
+{
+    match payload {
+        Some(Payload::Register(registered)) => Some(registered),
+        _ => None,
+    }
+}
 
 /// The lowest reason against a Register that is done.
 pub(crate) fn why_not_registered<L: Ledger>(

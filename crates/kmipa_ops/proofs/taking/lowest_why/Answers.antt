@@ -1,7 +1,8 @@
 use Rattle.std.proofs.Common.{◌∙◌, ◌==◌, ℕ, ap, sym, Some, None}
 use Rattle.std.specs.Int.{w64}
 use Rattle.std.proofs.lemmas.Int.{to_z-of_z}
-use Rattle.kmipa_msgs.specs.Messages.{answer_of, ask_of, rules_of}
+use Rattle.kmipa_msgs.specs.Messages.{answer_of, maybe_lent, rules_of}
+use Rattle.kmipa_ops.specs.Asks.{ask_with}
 use Rattle.kmipa_ops.specs.Objects.{is_other}
 use Rattle.kmipa_ops.specs.Placeholders.{placeholder_of}
 use Rattle.kmipa_ops.proofs.LowestLemmas.{own_lowest}
@@ -9,11 +10,11 @@ use Rattle.kmipa_ops.proofs.taking.lowest_why.Goals as goal
 
 pub returns-in-Some : goal.returns-in-Some
 returns-in-Some g c =
-    own_lowest (rules_of c.args.rules.now) (g.L.Ledger.state c.args.ledger.now).now (placeholder_of c.args.placeholder.now) c.args.t _ (ask_of c.args.ask.now) (answer_of c.args.answer.now) (Some c.in-Some.why)
-    (sym (c.is_other_number.ensures ∙ ap (is_other (λ (x y : ℕ). x == y) c.args.answer.now.operation) c.number.ensures) ∙ c.if-is_other_number.false) (to_z-of_z w64 c.args.t c.ranges.t) c.in-Some.ensures
+    own_lowest (rules_of c.args.rules.now) (g.L.Ledger.state c.args.ledger.now).now (placeholder_of c.args.placeholder.now) c.args.t _ (ask_with (maybe_lent c.args.frame.batch_id) (g.D.Deed.asked c.args.deed.now)) (answer_of c.args.answer.now) (Some c.in-Some.why)
+    (sym (c.is_other_number.ensures ∙ ap (is_other (λ (x y : ℕ). x == y) c.args.answer.now.operation) c.requires.number) ∙ c.if-is_other_number.false) (to_z-of_z w64 c.args.t c.ranges.t) c.in-Some.ensures
 
 pub returns-in-None : goal.returns-in-None
 returns-in-None g c =
     c.echo_why.ensures
-    ∙ own_lowest (rules_of c.args.rules.now) (g.L.Ledger.state c.args.ledger.now).now (placeholder_of c.args.placeholder.now) c.args.t _ (ask_of c.args.ask.now) (answer_of c.args.answer.now) None
-    (sym (c.is_other_number.ensures ∙ ap (is_other (λ (x y : ℕ). x == y) c.args.answer.now.operation) c.number.ensures) ∙ c.if-is_other_number.false) (to_z-of_z w64 c.args.t c.ranges.t) c.in-None.ensures
+    ∙ own_lowest (rules_of c.args.rules.now) (g.L.Ledger.state c.args.ledger.now).now (placeholder_of c.args.placeholder.now) c.args.t _ (ask_with (maybe_lent c.args.frame.batch_id) (g.D.Deed.asked c.args.deed.now)) (answer_of c.args.answer.now) None
+    (sym (c.is_other_number.ensures ∙ ap (is_other (λ (x y : ℕ). x == y) c.args.answer.now.operation) c.requires.number) ∙ c.if-is_other_number.false) (to_z-of_z w64 c.args.t c.ranges.t) c.in-None.ensures

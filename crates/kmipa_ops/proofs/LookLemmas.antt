@@ -1,0 +1,43 @@
+-- Operations that only look keep the laws of operations.
+use Rattle.std.proofs.Common.{◌≡◌, ℕ, ℤ, true, false, List, find, Option, Some, None, refl, ap, sym, ◌∙◌, subst, inl}
+use Rattle.kmipa_object.specs.Inventory.{Card, Thing, cards}
+use Rattle.kmipa_store.specs.Ledger.{Meaning, cards_of}
+use Rattle.kmipa_store.specs.Choices.{inv, IsSound}
+use Rattle.kmipa_store.proofs.InventoryLemmas.{cards-inv}
+use Rattle.kmipa_msgs.specs.Messages.{PayloadOf}
+use Rattle.kmipa_ops.specs.declared.why.Why.{Why}
+use Rattle.kmipa_ops.specs.Looking.{Look, look_deed}
+use Rattle.kmipa_ops.proofs.StepLemmas.{Step, still_step}
+use Rattle.kmipa_ops.proofs.DeedLaws.{outer_whys, IsDeed}
+
+pub record IsLook (l : Look) : Type 0 where
+  pub back : (x : l.Shown) → l.seen (l.payload x) ≡ Some x
+  pub one : (p : PayloadOf) (x : l.Shown) → l.seen p ≡ Some x → p ≡ l.payload x
+  pub quiet : (cs : List Card) (before : Option (List ℕ)) (t : ℤ) (shown : Option l.Shown) → find (l.speaks cs before t shown) outer_whys ≡ None
+  pub covers : (cs : List Card) (before : Option (List ℕ)) (t : ℤ) (x : l.Shown) (w : Why) → l.speaks cs before t None w ≡ true → l.speaks cs before t (Some x) w ≡ true
+  -- what is shown is right exactly where nothing speaks against it
+  pub right : (cs : List Card) (before : Option (List ℕ)) (t : ℤ) (x : l.Shown) → ((w : Why) → l.speaks cs before t (Some x) w ≡ false) → l.Sees cs before t x
+  pub wrong : (cs : List Card) (before : Option (List ℕ)) (t : ℤ) (x : l.Shown) (w : Why) → l.speaks cs before t (Some x) w ≡ true → l.Sees cs before t x → ⊥
+  -- where the payload may be left out: something right can be shown, and it leaves the placeholder as no payload does
+  pub hidden : (cs : List Card) (before : Option (List ℕ)) (t : ℤ) → l.may_lack ≡ true → ((w : Why) → l.speaks cs before t None w ≡ false) → (x : l.Shown) × l.says x × l.Sees cs before t x
+  pub keeps : (before : Option (List ℕ)) (x : l.Shown) → l.may_lack ≡ true → l.holds before (Some x) ≡ l.holds before None
+
+pub is_look : (l : Look) → IsLook l → IsDeed (look_deed l)
+is_look l is = record {
+  back = is.back;
+  one = is.one;
+  quiet = λ rules m before t shown. is.quiet (cards_of m.objects) before t shown;
+  covers = λ rules m before t x w h. is.covers (cards_of m.objects) before t x w h;
+  step = λ rules m before t x sound brought shown silent.
+      still_step (λ V V' p. l.Sees (cards V) before t x × (V' ≡ V) × (p ≡ l.holds before (Some x))) m (l.holds before (Some x)) sound
+      (λ c ch. (subst (λ (cs : List Card). l.Sees cs before t x) (sym (cards-inv c m.objects)) (is.right (cards_of m.objects) before t x silent), refl, refl))
+      (λ V V' p y. (y.1, y.2));
+  never = λ rules m before t x w h c ch V p y. is.wrong (cards_of m.objects) before t x w h (subst (λ (cs : List Card). l.Sees cs before t x) (cards-inv c m.objects) y.0);
+  hidden = λ rules m before t may sound silent.
+      still_step (λ V V' p. (x : l.Shown) × l.says x × (l.Sees (cards V) before t x × (V' ≡ V) × (p ≡ l.holds before (Some x)))) m (l.holds before None) sound
+      (λ c ch.
+      let h = is.hidden (cards_of m.objects) before t may silent in
+      (h.0, h.1, (subst (λ (cs : List Card). l.Sees cs before t h.0) (sym (cards-inv c m.objects)) h.2, refl, sym (is.keeps before h.0 may))))
+      (λ V V' p y. (y.2.1, y.2.2 ∙ is.keeps before y.0 may));
+  learns = λ m before t shown number bytes e. inl e;
+}

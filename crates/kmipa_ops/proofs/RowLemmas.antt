@@ -1,0 +1,20 @@
+-- The list of the operations: each keeps the laws.
+use Rattle.kmipa_msgs.specs.Messages.{AskedOf, creates, registers, gets, gets_attributes, activates, revokes, destroys, idles, does_other}
+use Rattle.kmipa_ops.specs.declared.change.Change.TheVariants.{Activate, Revoke, Destroy}
+use Rattle.kmipa_ops.specs.Rows.{row_of}
+use Rattle.kmipa_ops.proofs.DeedLaws.{IsRow}
+use Rattle.kmipa_ops.proofs.NewbornDeed.{is_create, is_register}
+use Rattle.kmipa_ops.proofs.GetDeed.{is_get}
+use Rattle.kmipa_ops.proofs.AttributesDeed.{is_get_attributes}
+use Rattle.kmipa_ops.proofs.ChangeDeed.{is_change}
+
+pub is_row : (asked : AskedOf) → IsRow (row_of asked)
+is_row (creates a) = is_create a
+is_row (registers r) = is_register r
+is_row (gets id) = is_get id
+is_row (gets_attributes g) = is_get_attributes g
+is_row (activates id) = is_change id Activate
+is_row (revokes r) = is_change r.id (Revoke r.code)
+is_row (destroys id) = is_change id Destroy
+is_row (idles number) = tt
+is_row (does_other number) = tt

@@ -1,0 +1,86 @@
+-- Get.
+use Rattle.std.specs.Ordering.{int_eq}
+use Rattle.std.specs.Prelude.{◌≡◌, ℕ, ℤ, Bool, true, false, List, Option, Some, None, ◌||◌, ◌==◌, not, is_none, if◌then◌else◌}
+use Rattle.kmipa_object.specs.Inventory.{Thing, live}
+use Rattle.kmipa_object.specs.declared.life.Material.{Material}
+use Rattle.kmipa_object.specs.declared.life.Material.TheVariants.{Gone, Secret}
+use Rattle.kmipa_store.specs.Calls.{differs, breaks}
+use Rattle.kmipa_store.specs.Ledger.{Held, Meaning, told}
+use Rattle.kmipa_msgs.specs.Messages.{GotOf, PayloadOf, got}
+use Rattle.kmipa_ops.specs.Meant.{object_meant, secret_meant, is_excluded}
+use Rattle.kmipa_ops.specs.Objects.{meant, HasObject, Echoes, Agree, is_other, is_other_id, clash, same_type}
+use Rattle.kmipa_ops.specs.Sayable.{IsSayableId, IsSayableBlock}
+use Rattle.kmipa_ops.specs.Row.{Deed, on_object}
+use Rattle.kmipa_ops.specs.declared.why.Why.{Why}
+use Rattle.kmipa_ops.specs.declared.why.Why.TheVariants.{NoSuchObject, WrongState, BytesDiffer, LengthImpossible, AttributeDiffers, EchoDiffers}
+use Rattle.kmipa_object.specs.declared.allow.Act.TheVariants as act
+
+-- Get succeeds: what it shows is the object's, and its bytes are these
+pub record Gets (V : List Thing) (before : Option (List ℕ)) (asked : Option (List ℕ)) (a : GotOf) (V' : List Thing) (after : Option (List ℕ)) : Type 0 where
+  pub id : List ℕ
+  pub place : ℕ
+  pub object : Thing
+  pub about : meant asked before ≡ Some id
+  pub there : HasObject V id place object
+  pub alive : live object.card ≡ true
+  pub bytes : object.bytes ≡ Some a.block.material
+  pub kind : Echoes a.object_type object.card.kind
+  pub shape : a.shape ≡ object.card.kind
+  pub algorithm : Agree a.block.algorithm object.card.given.algorithm
+  pub length : Agree a.block.length object.card.given.length
+  pub echo : Echoes a.id id
+  pub leaves : V' ≡ V
+  pub placeholder : after ≡ before
+
+-- what a Get shows, but for the bytes and the identifier, isn't the object's: its type, twice, and, where both are there, algorithm and length
+abbrev pub shows_other : GotOf → Option Held → Bool
+shows_other a None = false
+shows_other a (Some h) =
+    is_other same_type a.object_type h.card.kind || not (same_type a.shape h.card.kind)
+    || clash (λ (x y : ℕ). x == y) a.block.algorithm h.card.given.algorithm || clash int_eq a.block.length h.card.given.length
+
+-- against a Get that is done, about this identifier, and shows this if its payload is there
+abbrev pub get_speaks : Meaning → Option (List ℕ) → ℤ → Option GotOf → Why → Bool
+get_speaks m about t shown NoSuchObject = is_none (object_meant m.objects about)
+get_speaks m about t shown WrongState = is_excluded act.Get t (object_meant m.objects about)
+get_speaks m about t (Some a) BytesDiffer = differs (secret_meant m about) a.block.material
+get_speaks m about t (Some a) LengthImpossible = breaks (secret_meant m about) a.block.material
+get_speaks m about t (Some a) AttributeDiffers = shows_other a (object_meant m.objects about)
+get_speaks m about t (Some a) EchoDiffers = is_other_id a.id about
+get_speaks m about t shown why = false
+
+-- with the bytes that a Get shows
+abbrev pub taught_at : Meaning → Material → List ℕ → Meaning
+taught_at m Gone bytes = m
+taught_at m (Secret secret) bytes = record { objects = m.objects; secrets = told m.secrets secret.number bytes }
+
+abbrev pub taught : Meaning → Option Held → List ℕ → Meaning
+taught m None bytes = m
+taught m (Some h) bytes = taught_at m h.material bytes
+
+abbrev pub SaysGot : GotOf → Type 0
+SaysGot a = IsSayableId a.id × IsSayableBlock a.block
+
+abbrev pub seen_got : PayloadOf → Option GotOf
+seen_got (got a) = Some a
+seen_got payload = None
+
+-- where it shows no bytes nothing is learned
+abbrev pub get_leaves : Meaning → Option (List ℕ) → Option GotOf → Meaning
+get_leaves m about None = m
+get_leaves m about (Some a) = taught m (object_meant m.objects about) a.block.material
+
+abbrev pub get_deed : Option (List ℕ) → Deed
+get_deed id = record {
+  Shown = GotOf;
+  payload = got;
+  seen = seen_got;
+  says = SaysGot;
+  subject = on_object id act.Get false;
+  brings = None;
+  may_lack = true;
+  does = λ rules V before t a V' after. Gets V before id a V' after;
+  speaks = λ rules m before t shown why. get_speaks m (meant id before) t shown why;
+  leaves = λ m before t shown. get_leaves m (meant id before) shown;
+  holds = λ before shown. before;
+}

@@ -1,0 +1,38 @@
+-- The object that is meant, in a ledger.
+use Rattle.std.specs.Prelude.{ℕ, ℤ, Bool, true, false, List, Option, Some, None, slice_get, option_and_then}
+use Rattle.kmipa_object.specs.Inventory.{place_of}
+use Rattle.kmipa_object.specs.Life.{state}
+use Rattle.kmipa_object.specs.Table.{allowed}
+use Rattle.kmipa_object.specs.declared.allow.Act.{Act}
+use Rattle.kmipa_object.specs.declared.allow.Allow.{Allow}
+use Rattle.kmipa_object.specs.declared.allow.Allow.TheVariants.{Not, Must, May}
+use Rattle.kmipa_object.specs.declared.life.Material.{Material}
+use Rattle.kmipa_object.specs.declared.life.Material.TheVariants.{Gone, Secret}
+use Rattle.kmipa_store.specs.Ledger.{Held, Known, Meaning, cards_of}
+
+-- the place of the object that is meant, where an identifier is meant and an object has it
+abbrev pub place_meant : List Held → Option (List ℕ) → Option ℕ
+place_meant objects None = None
+place_meant objects (Some id) = place_of id (cards_of objects)
+
+-- the object itself
+abbrev pub object_meant : List Held → Option (List ℕ) → Option Held
+object_meant objects about = option_and_then (slice_get objects) (place_meant objects about)
+
+-- its secret, unless it is gone
+abbrev pub secret_at : List Known → Material → Option Known
+secret_at secrets Gone = None
+secret_at secrets (Secret secret) = slice_get secrets secret.number
+
+abbrev pub secret_meant : Meaning → Option (List ℕ) → Option Known
+secret_meant m about = option_and_then (λ (h : Held). secret_at m.secrets h.material) (object_meant m.objects about)
+
+abbrev pub is_not : Allow → Bool
+is_not Must = false
+is_not May = false
+is_not Not = true
+
+-- the object's state excludes the operation
+abbrev pub is_excluded : Act → ℤ → Option Held → Bool
+is_excluded act t None = false
+is_excluded act t (Some h) = is_not (allowed act (state h.card.dates t))

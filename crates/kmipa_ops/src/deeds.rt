@@ -1,0 +1,31 @@
+//! The list of the operations.
+
+/// What to do with the deed that is asked for, whichever it is.
+macro_rules! with_deed {
+    ($asked:expr, $deed:ident, $then:expr) => {
+        match $asked {
+            Asked::Create($deed) => $then,
+            Asked::Register($deed) => $then,
+            Asked::Get($deed) => $then,
+            Asked::GetAttributes($deed) => $then,
+            Asked::Activate(about) => {
+                let $deed = &Activation { id: about.id };
+                $then
+            }
+            Asked::Revoke($deed) => $then,
+            Asked::Destroy(about) => {
+                let $deed = &Destruction { id: about.id };
+                $then
+            }
+            Asked::Idle(number) => {
+                let $deed = &Idle(*number);
+                $then
+            }
+            Asked::Other(number) => {
+                let $deed = &Unread(*number);
+                $then
+            }
+        }
+    };
+}
+pub(crate) use with_deed;
