@@ -1,6 +1,7 @@
 -- What is read of the children of an Attributes structure is what they say, or their lowest fault.
 use Rattle.std.proofs.Common.{◌≡◌, ◌<◌, ℕ, List, [], ◌∷◌, map, Some, None, Option, Result, Ok, Err, refl, sym, ap, ◌∙◌, subst, arith, inl, inr, ◌⊎◌}
 use Rattle.kmipa_ttlv.specs.Tree.{Tree, Trees, structure, scalar}
+use Rattle.kmipa_attrs.specs.Tags.{activation_date, compromise_date, cryptographic_algorithm, cryptographic_length, cryptographic_usage_mask, deactivation_date, destroy_date, initial_date, name_tag, object_type_tag, state_tag, unique_identifier}
 use Rattle.kmipa_attrs.specs.Sets.{NameOf, Attributes, attributes_of}
 use Rattle.kmipa_attrs.specs.Names.{as_name, distinct}
 use Rattle.kmipa_attrs.specs.Fields.{first, as_structure, as_integer, as_enumeration, as_date}
@@ -130,10 +131,10 @@ reads_all (Some n ∷ held) =
     back NotForClients h = h
     back Memory h = h
 
-pub reads_names : (ts : Trees) → Reads attr_number (SaysNames (each as_name 0x42_0053 ts)) (NamesFault (each as_name 0x42_0053 ts)) (names_in ts)
+pub reads_names : (ts : Trees) → Reads attr_number (SaysNames (each as_name name_tag ts)) (NamesFault (each as_name name_tag ts)) (names_in ts)
 reads_names ts =
-    reads_as attr_number _ _ (SaysNames (each as_name 0x42_0053 ts)) (NamesFault (each as_name 0x42_0053 ts)) distinct (all_named (each as_name 0x42_0053 ts))
-    (λ x s. (x, (s, refl))) (λ y t. (t.0, t.1.0, t.1.1)) (λ k f. f) (λ k f. f) (reads_all (each as_name 0x42_0053 ts))
+    reads_as attr_number _ _ (SaysNames (each as_name name_tag ts)) (NamesFault (each as_name name_tag ts)) distinct (all_named (each as_name name_tag ts))
+    (λ x s. (x, (s, refl))) (λ y t. (t.0, t.1.0, t.1.1)) (λ k f. f) (λ k f. f) (reads_all (each as_name name_tag ts))
 
 -- the set is read
 pub reads_attributes : (side : Side) (ts : Trees) → Reads attr_number (SaysAttributes ts) (AttributesFault side ts) (attributes_in side ts)
@@ -143,15 +144,15 @@ reads_attributes side ts =
     reads_both attr_number _ _ _ _ _ _ (reads_names ts)
     (reads_both attr_number _ _ _ _ _ _
     (reads_both attr_number _ _ _ _ _ _
-    (reads_both attr_number _ _ _ _ _ _ (reads_single (each as_enumeration 0x42_0057 ts)) (reads_single (each as_enumeration 0x42_0028 ts)))
-    (reads_both attr_number _ _ _ _ _ _ (reads_single (each as_integer 0x42_002A ts)) (reads_single (each as_integer 0x42_002C ts))))
+    (reads_both attr_number _ _ _ _ _ _ (reads_single (each as_enumeration object_type_tag ts)) (reads_single (each as_enumeration cryptographic_algorithm ts)))
+    (reads_both attr_number _ _ _ _ _ _ (reads_single (each as_integer cryptographic_length ts)) (reads_single (each as_integer cryptographic_usage_mask ts))))
     (reads_both attr_number _ _ _ _ _ _
     (reads_both attr_number _ _ _ _ _ _
-    (reads_both attr_number _ _ _ _ _ _ (reads_server as_enumeration 0x42_008D side ts) (reads_server as_date 0x42_0039 side ts))
-    (reads_both attr_number _ _ _ _ _ _ (reads_single (each as_date 0x42_0001 ts)) (reads_single (each as_date 0x42_002F ts))))
+    (reads_both attr_number _ _ _ _ _ _ (reads_server as_enumeration state_tag side ts) (reads_server as_date initial_date side ts))
+    (reads_both attr_number _ _ _ _ _ _ (reads_single (each as_date activation_date ts)) (reads_single (each as_date deactivation_date ts))))
     (reads_both attr_number _ _ _ _ _ _
-    (reads_both attr_number _ _ _ _ _ _ (reads_server as_date 0x42_0033 side ts) (reads_server as_date 0x42_0020 side ts))
-    (reads_client side (first 0x42_0094 ts))))) in
+    (reads_both attr_number _ _ _ _ _ _ (reads_server as_date destroy_date side ts) (reads_server as_date compromise_date side ts))
+    (reads_client side (first unique_identifier ts))))) in
     reads_as attr_number _ _ (SaysAttributes ts) (AttributesFault side ts) set_at (rows_in side ts)
     (λ p s. record {
       names = s.0;
@@ -235,8 +236,8 @@ wrong_name side ts e =
 
 pub wrong_names : (side : Side) (ts : Trees) {A : Type 0} (view : A → List NameOf) (f : AttrFault) → Gives view (Err f) (names_in ts) → GivesAttributes (Err f) (attributes_in side ts)
 wrong_names side ts view WrongType h = wrong_name side ts h
-wrong_names side ts view Repeated h = let e : Repeated ≡ WrongType = only_wrong (each as_name 0x42_0053 ts) _ h in cc
-wrong_names side ts view NotForClients h = let e : NotForClients ≡ WrongType = only_wrong (each as_name 0x42_0053 ts) _ h in cc
+wrong_names side ts view Repeated h = let e : Repeated ≡ WrongType = only_wrong (each as_name name_tag ts) _ h in cc
+wrong_names side ts view NotForClients h = let e : NotForClients ≡ WrongType = only_wrong (each as_name name_tag ts) _ h in cc
 wrong_names side ts view Memory h = tt
 
 pub gives_fault : {A B : Type 0} (view : A → B) (f : AttrFault) (read : Result B AttrFault) → read ≡ Err f → Gives view (Err f) read

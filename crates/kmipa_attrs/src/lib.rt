@@ -13,7 +13,7 @@ mod reading;
 pub mod readings;
 mod side;
 mod single;
-mod tags;
+pub mod tags;
 mod writing;
 
 pub use attr_set::{AttrSet, NAMES};
