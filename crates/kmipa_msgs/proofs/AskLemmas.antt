@@ -4,6 +4,7 @@ use Rattle.kmipa_ttlv.specs.Tree.{Tree, Trees}
 use Rattle.kmipa_attrs.specs.Fields.{first, at, inside, or_none, value_in, as_structure, as_enumeration, as_bytes}
 use Rattle.kmipa_attrs.specs.Sets.{Attributes}
 use Rattle.kmipa_attrs.specs.Readings.{Reads, IsWrong, NeededFault, both, map_ok, and_then}
+use Rattle.kmipa_attrs.specs.Tags.{operation_tag, request_payload, unique_batch_item_id}
 use Rattle.kmipa_attrs.specs.declared.fields.Field.{Field}
 use Rattle.kmipa_attrs.specs.declared.fields.Field.TheVariants.{Absent, Wrong, There}
 use Rattle.kmipa_attrs.proofs.ReadingLemmas.{reads_both, reads_as, reads_then}
@@ -81,19 +82,19 @@ reads_form true Wrong k = record { here = (refl, refl, tt); least = λ j lt h. s
 reads_form true (There x) k = record { said = tt; only = λ y h. refl; right = λ j h. h.2 }
 
 abbrev PayloadFault : Operation → Trees → OutsideKind → Type 0
-PayloadFault operation ts k = ((is_judged operation ≡ true) × (k ≡ Missing) × IsWrong (at as_structure 0x42_0079 ts)) ⊎ AskedFault operation (inside 0x42_0079 ts) k
+PayloadFault operation ts k = ((is_judged operation ≡ true) × (k ≡ Missing) × IsWrong (at as_structure request_payload ts)) ⊎ AskedFault operation (inside request_payload ts) k
 
-reads_payload_asked : (operation : Operation) (ts : Trees) → Reads kind_number (SaysAsked operation (inside 0x42_0079 ts)) (PayloadFault operation ts) (payload_asked operation ts)
+reads_payload_asked : (operation : Operation) (ts : Trees) → Reads kind_number (SaysAsked operation (inside request_payload ts)) (PayloadFault operation ts) (payload_asked operation ts)
 reads_payload_asked operation ts =
-    reads_as kind_number _ _ (SaysAsked operation (inside 0x42_0079 ts)) (PayloadFault operation ts) (λ p. p.1) (both kind_number (form_in operation (at as_structure 0x42_0079 ts)) (asked_in operation (inside 0x42_0079 ts)))
+    reads_as kind_number _ _ (SaysAsked operation (inside request_payload ts)) (PayloadFault operation ts) (λ p. p.1) (both kind_number (form_in operation (at as_structure request_payload ts)) (asked_in operation (inside request_payload ts)))
     (λ y s. s.1) (λ y t. ((tt, y), (tt, t), refl)) (λ k w. w) (λ k w. w)
-    (reads_both kind_number _ _ _ _ _ _ (reads_form (is_judged operation) (at as_structure 0x42_0079 ts) Missing) (reads_asked operation (inside 0x42_0079 ts)))
+    (reads_both kind_number _ _ _ _ _ _ (reads_form (is_judged operation) (at as_structure request_payload ts) Missing) (reads_asked operation (inside request_payload ts)))
 
 pub reads_ask : (t : Tree) → Reads kind_number (SaysAsk t) (AskFault t) (ask_in t)
 unfolding ask_in
 reads_ask t =
     let ts = children t in
-    let field = at as_enumeration 0x42_005C ts in
+    let field = at as_enumeration operation_tag ts in
     let off = OutsideKind.TheVariants.Operation in
     reads_as kind_number _ _ (SaysAsk t) (AskFault t) (ask_at ts) (and_then (λ operation. payload_asked operation ts) (operation_in ts))
     (λ a s. record { operation = s.0; is = s.1.0; asked = s.1.1; batch_id = refl })
@@ -108,7 +109,7 @@ reads_ask t =
       | in_payload o l j e a ↦ inr (o, (l, inl (j, e, a)))
       | in_asked o l a ↦ inr (o, (l, inr a))
     ])
-    (reads_then kind_number (Listed field operation_of) (λ k. NeededFault field Missing Missing k ⊎ ((k ≡ off) × Unlisted field operation_of)) (λ operation. SaysAsked operation (inside 0x42_0079 ts)) (λ operation. PayloadFault operation ts)
+    (reads_then kind_number (Listed field operation_of) (λ k. NeededFault field Missing Missing k ⊎ ((k ≡ off) × Unlisted field operation_of)) (λ operation. SaysAsked operation (inside request_payload ts)) (λ operation. PayloadFault operation ts)
     (λ operation. payload_asked operation ts) (operation_in ts) (reads_listed field operation_of Missing off) (λ operation. reads_payload_asked operation ts)
     (λ k x w s. elim w [ inl a ↦ apart_needed field s.number Missing Missing k a s.is | inr b ↦ apart_unlisted field operation_of x b.1 s ]))
   where
@@ -131,7 +132,7 @@ made : Option (List ℕ) → AskedOf → AskOf
 made b a = record { batch_id = b; asked = a }
 
 pub ask_seen : (t : Tree) (ts : Trees) (operation : Operation) (b : Option (List ℕ)) (r : Result AskedOf OutsideKind) → Some ts ≡ as_structure t → Ok operation ≡ operation_in ts
-    → b ≡ value_in (at as_bytes 0x42_0093 ts) → r ≡ payload_asked operation ts → map_ok (λ a. record { batch_id = b; asked = a }) r ≡ ask_in t
+    → b ≡ value_in (at as_bytes unique_batch_item_id ts) → r ≡ payload_asked operation ts → map_ok (λ a. record { batch_id = b; asked = a }) r ≡ ask_in t
 unfolding ask_in whole made
 ask_seen t ts operation b r e o be re =
     ap (λ (x : Option (List ℕ)). map_ok (made x) r) be
@@ -144,8 +145,8 @@ abbrev pub asked_view : Unit {0} × Asked → AskedOf
 asked_view p = asked_of p.1
 
 pub seen_asked : (operation : Operation) (ts : Trees) (shape : Result (Unit {0}) OutsideKind) (us : Trees) (asked : Result Asked OutsideKind) (rows : Result (Unit {0} × Asked) OutsideKind)
-    → rows ≡ both kind_number shape asked → shape ≡ form_in operation (at as_structure 0x42_0079 ts) → map_ok asked_of asked ≡ asked_in operation us → us ≡ inside 0x42_0079 ts
+    → rows ≡ both kind_number shape asked → shape ≡ form_in operation (at as_structure request_payload ts) → map_ok asked_of asked ≡ asked_in operation us → us ≡ inside request_payload ts
     → map_ok asked_view rows ≡ payload_asked operation ts
 seen_asked operation ts shape us asked rows e s a u =
-    seen (λ q. q.1) (λ q. (q.0, asked_of q.1)) rows (both kind_number (form_in operation (at as_structure 0x42_0079 ts)) (asked_in operation (inside 0x42_0079 ts)))
-    (right_seen kind_number asked_of shape asked rows (form_in operation (at as_structure 0x42_0079 ts)) (asked_in operation (inside 0x42_0079 ts)) e s (a ∙ ap (asked_in operation) u))
+    seen (λ q. q.1) (λ q. (q.0, asked_of q.1)) rows (both kind_number (form_in operation (at as_structure request_payload ts)) (asked_in operation (inside request_payload ts)))
+    (right_seen kind_number asked_of shape asked rows (form_in operation (at as_structure request_payload ts)) (asked_in operation (inside request_payload ts)) e s (a ∙ ap (asked_in operation) u))

@@ -5,6 +5,7 @@ use Rattle.kmipa_attrs.specs.Fields.{first, at, inside, as_structure, as_enumera
 use Rattle.kmipa_attrs.specs.ObjectTypes.{type_of}
 use Rattle.kmipa_attrs.specs.Readings.{Reads, NeededFault, both, map_ok, kept_if, passing}
 use Rattle.kmipa_attrs.specs.Sets.{Attributes, attributes_of}
+use Rattle.kmipa_attrs.specs.Tags.{cryptographic_algorithm, cryptographic_length, cryptographic_usage_mask, object_type_tag, attributes_tag}
 use Rattle.kmipa_attrs.specs.declared.attr_set.AttrSet.{AttrSet}
 use Rattle.kmipa_attrs.specs.declared.object_type.ObjectType
 use Rattle.kmipa_attrs.specs.declared.object_type.ObjectType.TheVariants.{SymmetricKey}
@@ -33,17 +34,17 @@ one_created n t e = by (n == 2) e
 -- the parts
 abbrev PartFault : Trees → OutsideKind → Type 0
 PartFault ts k =
-    (((NeededFault (at as_enumeration 0x42_0057 ts) Missing Missing k ⊎ ((k ≡ ObjectType) × Unlisted (at as_enumeration 0x42_0057 ts) created_of)) ⊎ ((k ≡ ObjectType) × Unlisted (at as_enumeration 0x42_0057 (inside 0x42_0125 ts)) type_of))
-    ⊎ ((((k ≡ Missing) × (first 0x42_0028 (inside 0x42_0125 ts) ≡ None)) ⊎ ((k ≡ Missing) × (first 0x42_002A (inside 0x42_0125 ts) ≡ None))) ⊎ ((k ≡ Missing) × (first 0x42_002C (inside 0x42_0125 ts) ≡ None))))
-    ⊎ GivenFault Client (at as_structure 0x42_0125 ts) k
+    (((NeededFault (at as_enumeration object_type_tag ts) Missing Missing k ⊎ ((k ≡ ObjectType) × Unlisted (at as_enumeration object_type_tag ts) created_of)) ⊎ ((k ≡ ObjectType) × Unlisted (at as_enumeration object_type_tag (inside attributes_tag ts)) type_of))
+    ⊎ ((((k ≡ Missing) × (first cryptographic_algorithm (inside attributes_tag ts) ≡ None)) ⊎ ((k ≡ Missing) × (first cryptographic_length (inside attributes_tag ts) ≡ None))) ⊎ ((k ≡ Missing) × (first cryptographic_usage_mask (inside attributes_tag ts) ≡ None))))
+    ⊎ GivenFault Client (at as_structure attributes_tag ts) k
 
 reads_new_key : (ts : Trees) → Reads kind_number (SaysNewKey ts) (PartFault ts) (new_key_in ts)
 unfolding new_key_in
 reads_new_key ts =
-    let us = inside 0x42_0125 ts in
+    let us = inside attributes_tag ts in
     reads_as kind_number _ _ (SaysNewKey ts) (PartFault ts) (λ p. p.1) (new_key_rows ts)
     (λ p s. record {
-      object_type = let P : ObjectType.ObjectType → Type 0 = Listed (at as_enumeration 0x42_0057 ts) created_of in subst P (one_created s.0.0.0.number p.0.0.0 s.0.0.0.listed) s.0.0.0;
+      object_type = let P : ObjectType.ObjectType → Type 0 = Listed (at as_enumeration object_type_tag ts) created_of in subst P (one_created s.0.0.0.number p.0.0.0 s.0.0.0.listed) s.0.0.0;
       attributes = s.1;
       algorithm = s.0.1.0.0;
       length = s.0.1.0.1;
@@ -54,15 +55,15 @@ reads_new_key ts =
     (λ k f. f)
     (reads_both kind_number _ _ _ _ _ _
     (reads_both kind_number _ _ _ _ _ _
-    (reads_both kind_number _ _ _ _ _ _ (reads_listed (at as_enumeration 0x42_0057 ts) created_of Missing ObjectType) (reads_unless_unlisted (at as_enumeration 0x42_0057 us) type_of ObjectType))
-    (reads_both kind_number _ _ _ _ _ _ (reads_both kind_number _ _ _ _ _ _ (reads_unless_absent (first 0x42_0028 us) Missing) (reads_unless_absent (first 0x42_002A us) Missing)) (reads_unless_absent (first 0x42_002C us) Missing)))
-    (reads_given Client (at as_structure 0x42_0125 ts)))
+    (reads_both kind_number _ _ _ _ _ _ (reads_listed (at as_enumeration object_type_tag ts) created_of Missing ObjectType) (reads_unless_unlisted (at as_enumeration object_type_tag us) type_of ObjectType))
+    (reads_both kind_number _ _ _ _ _ _ (reads_both kind_number _ _ _ _ _ _ (reads_unless_absent (first cryptographic_algorithm us) Missing) (reads_unless_absent (first cryptographic_length us) Missing)) (reads_unless_absent (first cryptographic_usage_mask us) Missing)))
+    (reads_given Client (at as_structure attributes_tag ts)))
 
 low_part : (ts : Trees) (k : OutsideKind) → PartFault ts k → kind_number k ≤ 12
 low_part ts k f = elim f [
   | inl g ↦ elim g [
     | inl h ↦ elim h [
-      | inl m ↦ elim m [ inl w ↦ low_needed (at as_enumeration 0x42_0057 ts) Missing Missing k (omega arith) (omega arith) w | inr w ↦ low k ObjectType (omega arith) w.0 ]
+      | inl m ↦ elim m [ inl w ↦ low_needed (at as_enumeration object_type_tag ts) Missing Missing k (omega arith) (omega arith) w | inr w ↦ low k ObjectType (omega arith) w.0 ]
       | inr w ↦ low k ObjectType (omega arith) w.0
     ]
     | inr h ↦ elim h [
@@ -70,7 +71,7 @@ low_part ts k f = elim f [
       | inr w ↦ low k Missing (omega arith) w.0
     ]
   ]
-  | inr w ↦ low_given Client (at as_structure 0x42_0125 ts) k w
+  | inr w ↦ low_given Client (at as_structure attributes_tag ts) k w
 ]
 
 abbrev Fault : Trees → OutsideKind → Type 0
@@ -119,13 +120,13 @@ abbrev pub new_key_view : Plain × AttrSet → Attributes
 new_key_view p = attributes_of p.1
 
 pub seen_new_key : (ts us : Trees) (plain : Result Plain OutsideKind) (given : Result AttrSet OutsideKind) (rows : Result (Plain × AttrSet) OutsideKind)
-    → rows ≡ both kind_number plain given → plain ≡ both kind_number (types_rows ts) (described_rows us) → us ≡ inside 0x42_0125 ts
-    → map_ok attributes_of given ≡ given_in Client (at as_structure 0x42_0125 ts)
+    → rows ≡ both kind_number plain given → plain ≡ both kind_number (types_rows ts) (described_rows us) → us ≡ inside attributes_tag ts
+    → map_ok attributes_of given ≡ given_in Client (at as_structure attributes_tag ts)
     → map_ok new_key_view rows ≡ new_key_in ts
 unfolding new_key_in
 seen_new_key ts us plain given rows e p u g =
     seen (λ q. q.1) (λ q. (q.0, attributes_of q.1)) rows (new_key_rows ts)
-    (right_seen kind_number attributes_of plain given rows (both kind_number (types_rows ts) (described_rows (inside 0x42_0125 ts))) (given_in Client (at as_structure 0x42_0125 ts)) e
+    (right_seen kind_number attributes_of plain given rows (both kind_number (types_rows ts) (described_rows (inside attributes_tag ts))) (given_in Client (at as_structure attributes_tag ts)) e
     (p ∙ ap (λ vs. both kind_number (types_rows ts) (described_rows vs)) u) g)
 
 -- the comparison

@@ -9,6 +9,7 @@ use Rattle.kmipa_attrs.specs.Fields.{tag_of, every, at, inside, as_structure, as
 use Rattle.kmipa_attrs.specs.ObjectTypes.{type_of}
 use Rattle.kmipa_attrs.specs.Readings.{Reads, both, map_ok}
 use Rattle.kmipa_attrs.specs.Sets.{attributes_of}
+use Rattle.kmipa_attrs.specs.Tags.{object_type_tag, unique_identifier, attributes_tag, attribute_reference}
 use Rattle.kmipa_attrs.specs.declared.attr_set.AttrSet.{AttrSet}
 use Rattle.kmipa_attrs.specs.declared.side.Side.TheVariants.{Server}
 use Rattle.kmipa_attrs.proofs.FieldLemmas.{tag_of-view, left_at}
@@ -47,8 +48,8 @@ reads_got_attributes ts =
     (λ k f. elim f [ inl g ↦ elim g [ inl w ↦ in_attribute_type w.0 w.1 | inr w ↦ in_identifier w.0 w.1 ] | inr w ↦ in_attributes w ])
     (λ k f. elim f [ in_identifier e w ↦ inl (inr (e, w)) | in_attributes w ↦ inr w | in_attribute_type e w ↦ inl (inl (e, w)) ])
     (reads_both kind_number _ _ _ _ _ _
-    (reads_both kind_number _ _ _ _ _ _ (reads_unless_unlisted (at as_enumeration 0x42_0057 (inside 0x42_0125 ts)) type_of ObjectType) (reads_identifier ts))
-    (reads_given Server (at as_structure 0x42_0125 ts)))
+    (reads_both kind_number _ _ _ _ _ _ (reads_unless_unlisted (at as_enumeration object_type_tag (inside attributes_tag ts)) type_of ObjectType) (reads_identifier ts))
+    (reads_given Server (at as_structure attributes_tag ts)))
 
 -- what is asked for as the program has it
 pub unread_get : (ts : Trees) (k : OutsideKind) → Err k ≡ identifier_in ts → Err k ≡ get_attributes_in ts
@@ -68,15 +69,15 @@ abbrev pub got_attributes_view : Plain × AttrSet → GotAttributesOf
 got_attributes_view p = got_attributes_at ((p.0.0, maybe_lent p.0.1), attributes_of p.1)
 
 pub seen_got_attributes : (ts us : Trees) (known : Result (Unit {0}) OutsideKind) (id : Result (Option (Bor (List ℕ))) OutsideKind) (plain : Result Plain OutsideKind) (given : Result AttrSet OutsideKind) (rows : Result (Plain × AttrSet) OutsideKind)
-    → rows ≡ both kind_number plain given → plain ≡ both kind_number known id → known ≡ unless_unlisted (at as_enumeration 0x42_0057 us) type_of ObjectType → us ≡ inside 0x42_0125 ts
-    → map_ok maybe_lent id ≡ identifier_in ts → map_ok attributes_of given ≡ given_in Server (at as_structure 0x42_0125 ts)
+    → rows ≡ both kind_number plain given → plain ≡ both kind_number known id → known ≡ unless_unlisted (at as_enumeration object_type_tag us) type_of ObjectType → us ≡ inside attributes_tag ts
+    → map_ok maybe_lent id ≡ identifier_in ts → map_ok attributes_of given ≡ given_in Server (at as_structure attributes_tag ts)
     → map_ok got_attributes_view rows ≡ got_attributes_in ts
 unfolding got_attributes_in
 seen_got_attributes ts us known id plain given rows e p k u i g =
-    let judged = unless_unlisted (at as_enumeration 0x42_0057 (inside 0x42_0125 ts)) type_of ObjectType in
+    let judged = unless_unlisted (at as_enumeration object_type_tag (inside attributes_tag ts)) type_of ObjectType in
     seen got_attributes_at (λ q. ((q.0.0, maybe_lent q.0.1), attributes_of q.1)) rows (got_attributes_rows ts)
-    (both_seen kind_number (λ q. (q.0, maybe_lent q.1)) attributes_of plain given rows (both kind_number judged (identifier_in ts)) (given_in Server (at as_structure 0x42_0125 ts)) e
-    (right_seen kind_number maybe_lent known id plain judged (identifier_in ts) p (k ∙ ap (λ vs. unless_unlisted (at as_enumeration 0x42_0057 vs) type_of ObjectType) u) i)
+    (both_seen kind_number (λ q. (q.0, maybe_lent q.1)) attributes_of plain given rows (both kind_number judged (identifier_in ts)) (given_in Server (at as_structure attributes_tag ts)) e
+    (right_seen kind_number maybe_lent known id plain judged (identifier_in ts) p (k ∙ ap (λ vs. unless_unlisted (at as_enumeration object_type_tag vs) type_of ObjectType) u) i)
     g)
 
 -- THE REFERENCES OF VIEWS
@@ -87,10 +88,10 @@ with_reference (Some tag) tags = tag ∷ tags
 
 references_more : (t : Tree) (ts : Trees) → references (more t ts) ≡ with_reference (as_reference t) (references ts)
 unfolding references every
-references_more t ts = by (tag_of t == 0x42_013B)
+references_more t ts = by (tag_of t == attribute_reference)
   where
     rest : List Tree
-    rest = every 0x42_013B ts
+    rest = every attribute_reference ts
 
     held : (o : Option ℕ) → as_enumeration t ≡ o → filter_map as_enumeration (t ∷ rest) ≡ with_reference o (filter_map as_enumeration rest)
     held None e = rw e refl
@@ -100,15 +101,15 @@ references_more t ts = by (tag_of t == 0x42_013B)
     by true = held (as_enumeration t) refl ∙ refl
     by false = refl
 
-pub reference_at : (v : View) → v.tag.number ≡ 0x42_013B → as_enumeration (view_tree v) ≡ as_reference (view_tree v)
+pub reference_at : (v : View) → v.tag.number ≡ attribute_reference → as_enumeration (view_tree v) ≡ as_reference (view_tree v)
 reference_at v e =
     let held = as_enumeration (view_tree v) in
-    sym (ap (λ (n : ℕ). cond (n == 0x42_013B) held None) (tag_of-view v.tag.number v.value) ∙ ap (λ (b : Bool). cond b held None) (eq-eqb v.tag.number 0x42_013B e))
+    sym (ap (λ (n : ℕ). cond (n == attribute_reference) held None) (tag_of-view v.tag.number v.value) ∙ ap (λ (b : Bool). cond b held None) (eq-eqb v.tag.number attribute_reference e))
 
-pub no_reference : (v : View) → (v.tag.number ≡ 0x42_013B → ⊥) → None ≡ as_reference (view_tree v)
+pub no_reference : (v : View) → (v.tag.number ≡ attribute_reference → ⊥) → None ≡ as_reference (view_tree v)
 no_reference v e =
     let held = as_enumeration (view_tree v) in
-    sym (ap (λ (n : ℕ). cond (n == 0x42_013B) held None) (tag_of-view v.tag.number v.value) ∙ ap (λ (b : Bool). cond b held None) (ne_eqb v.tag.number 0x42_013B e))
+    sym (ap (λ (n : ℕ). cond (n == attribute_reference) held None) (tag_of-view v.tag.number v.value) ∙ ap (λ (b : Bool). cond b held None) (ne_eqb v.tag.number attribute_reference e))
 
 -- the tags so far, and those of what is left
 pub references_begin : (tags : List ℕ) (vs : List View) → tags ≡ [] → references (view_trees vs) ≡ tags ++ references (view_trees (drop 0 vs))
@@ -139,25 +140,25 @@ references_done tags i vs h = ap (λ (us : List View). tags ++ references (view_
 -- THE OTHER ITEMS OF VIEWS
 
 -- an identifier is none of them, and any other item is, where it is no reference
-pub no_other : (v : View) → v.tag.number ≡ 0x42_0094 → not (v.tag.number == 0x42_0094) ≡ is_other (view_tree v)
+pub no_other : (v : View) → v.tag.number ≡ unique_identifier → not (v.tag.number == unique_identifier) ≡ is_other (view_tree v)
 no_other v e =
     let bare = is_none (as_reference (view_tree v)) in
-    let same = eq-eqb v.tag.number 0x42_0094 e in
+    let same = eq-eqb v.tag.number unique_identifier e in
     ap (λ (b : Bool). not b) same
-    ∙ sym (ap (λ (n : ℕ). not (n == 0x42_0094) && bare) (tag_of-view v.tag.number v.value) ∙ ap (λ (b : Bool). not b && bare) same)
+    ∙ sym (ap (λ (n : ℕ). not (n == unique_identifier) && bare) (tag_of-view v.tag.number v.value) ∙ ap (λ (b : Bool). not b && bare) same)
 
 turned : (a b : Bool) → a ≡ not b → b ≡ not a
 turned a true e = sym (ap (λ (x : Bool). not x) e)
 turned a false e = sym (ap (λ (x : Bool). not x) e)
 
-pub other_bare : (v : View) (b : Bool) → (v.tag.number ≡ 0x42_0094 → ⊥) → is_some (as_reference (view_tree v)) ≡ not b → b ≡ is_other (view_tree v)
+pub other_bare : (v : View) (b : Bool) → (v.tag.number ≡ unique_identifier → ⊥) → is_some (as_reference (view_tree v)) ≡ not b → b ≡ is_other (view_tree v)
 other_bare v b e h =
     let bare = is_none (as_reference (view_tree v)) in
-    turned (is_some (as_reference (view_tree v))) b h ∙ sym (ap (λ (n : ℕ). not (n == 0x42_0094) && bare) (tag_of-view v.tag.number v.value) ∙ ap (λ (k : Bool). not k && bare) (ne_eqb v.tag.number 0x42_0094 e))
+    turned (is_some (as_reference (view_tree v))) b h ∙ sym (ap (λ (n : ℕ). not (n == unique_identifier) && bare) (tag_of-view v.tag.number v.value) ∙ ap (λ (k : Bool). not k && bare) (ne_eqb v.tag.number unique_identifier e))
 
 -- with identifiers that are counted
-pub others_counted : (vs : List View) (n : ℕ) → n ≡ count_by (λ v. v.tag.number == 0x42_0094) vs → false ≡ some_other (view_trees vs) → nat_lt 1 n ≡ has_others (view_trees vs)
-others_counted vs n e h = ap (nat_lt 1) (e ∙ counted 0x42_0094 vs) ∙ ap (λ (b : Bool). b || nat_lt 1 (length (every 0x42_0094 (view_trees vs)))) h
+pub others_counted : (vs : List View) (n : ℕ) → n ≡ count_by (λ v. v.tag.number == unique_identifier) vs → false ≡ some_other (view_trees vs) → nat_lt 1 n ≡ has_others (view_trees vs)
+others_counted vs n e h = ap (nat_lt 1) (e ∙ counted unique_identifier vs) ∙ ap (λ (b : Bool). b || nat_lt 1 (length (every unique_identifier (view_trees vs)))) h
 
 pub other_none : (i : ℕ) (vs : List View) → length vs ≤ i → some_other (view_trees (drop i vs)) ≡ false
 unfolding some_other

@@ -4,6 +4,7 @@ use Rattle.kmipa_ttlv.specs.Tree.{Trees}
 use Rattle.kmipa_attrs.specs.Fields.{first, at, map_field, as_enumeration, as_text}
 use Rattle.kmipa_attrs.specs.ObjectTypes.{type_of}
 use Rattle.kmipa_attrs.specs.Readings.{Reads, needed, optional, both, map_ok}
+use Rattle.kmipa_attrs.specs.Tags.{key_wrapping_specification, object_type_tag, unique_identifier}
 use Rattle.kmipa_attrs.specs.declared.fields.Field.{Field}
 use Rattle.kmipa_attrs.specs.declared.object_type.ObjectType
 use Rattle.kmipa_attrs.proofs.ReadingLemmas.{reads_both, reads_as, reads_optional, reads_needed}
@@ -31,7 +32,7 @@ reads_get ts =
     (λ y t. ((tt, y), (tt, t), refl))
     (λ k f. elim f [ inl w ↦ in_specification w.0 w.1 | inr w ↦ in_identifier w.0 w.1 ])
     (λ k f. elim f [ in_specification e w ↦ inl (e, w) | in_identifier e w ↦ inr (e, w) ])
-    (reads_both kind_number _ _ _ _ _ _ (reads_unless (first 0x42_0047 ts) Wrapped) (reads_optional kind_number IdentifierForm (at as_text 0x42_0094 ts)))
+    (reads_both kind_number _ _ _ _ _ _ (reads_unless (first key_wrapping_specification ts) Wrapped) (reads_optional kind_number IdentifierForm (at as_text unique_identifier ts)))
 
 pub reads_got : (ts : Trees) → Reads kind_number (SaysGot ts) (GotFault ts) (got_in ts)
 unfolding got_in
@@ -51,7 +52,7 @@ reads_got ts =
       | in_block w ↦ inr w
     ])
     (reads_both kind_number _ _ _ _ _ _
-    (reads_both kind_number _ _ _ _ _ _ (reads_both kind_number _ _ _ _ _ _ (reads_maybe_listed (at as_enumeration 0x42_0057 ts) type_of Missing ObjectType) (reads_needed kind_number Missing Missing (shape_in ts))) (reads_optional kind_number IdentifierForm (at as_text 0x42_0094 ts)))
+    (reads_both kind_number _ _ _ _ _ _ (reads_both kind_number _ _ _ _ _ _ (reads_maybe_listed (at as_enumeration object_type_tag ts) type_of Missing ObjectType) (reads_needed kind_number Missing Missing (shape_in ts))) (reads_optional kind_number IdentifierForm (at as_text unique_identifier ts)))
     (reads_block (block_inside ts)))
 
 -- the rows of a Get as the program has them
@@ -59,32 +60,32 @@ abbrev pub get_view : Unit {0} × Option (Bor (List ℕ)) → Option (List ℕ)
 get_view p = maybe_lent p.1
 
 pub seen_get : (ts : Trees) (plain : Result (Unit {0}) OutsideKind) (field : Field (Bor (List ℕ))) (id : Result (Option (Bor (List ℕ))) OutsideKind) (rows : Result (Unit {0} × Option (Bor (List ℕ))) OutsideKind)
-    → rows ≡ both kind_number plain id → plain ≡ unless_there (first 0x42_0047 ts) Wrapped → map_field lent field ≡ at as_text 0x42_0094 ts → id ≡ optional field IdentifierForm
+    → rows ≡ both kind_number plain id → plain ≡ unless_there (first key_wrapping_specification ts) Wrapped → map_field lent field ≡ at as_text unique_identifier ts → id ≡ optional field IdentifierForm
     → map_ok get_view rows ≡ get_in ts
 unfolding get_in
 seen_get ts plain field id rows e p f i =
     seen (λ q. q.1) (λ q. (q.0, maybe_lent q.1)) rows (get_rows ts)
-    (right_seen kind_number maybe_lent plain id rows (unless_there (first 0x42_0047 ts) Wrapped) (optional (at as_text 0x42_0094 ts) IdentifierForm) e p
-    (optional_seen lent field (at as_text 0x42_0094 ts) IdentifierForm id i f))
+    (right_seen kind_number maybe_lent plain id rows (unless_there (first key_wrapping_specification ts) Wrapped) (optional (at as_text unique_identifier ts) IdentifierForm) e p
+    (optional_seen lent field (at as_text unique_identifier ts) IdentifierForm id i f))
 
 -- the rows of its answer
 abbrev pub Types : Type 0
 Types = Option ObjectType.ObjectType × ObjectType.ObjectType
 
 abbrev pub types_rows : Trees → Result Types OutsideKind
-types_rows ts = both kind_number (maybe_listed (at as_enumeration 0x42_0057 ts) type_of Missing ObjectType) (needed (shape_in ts) Missing Missing)
+types_rows ts = both kind_number (maybe_listed (at as_enumeration object_type_tag ts) type_of Missing ObjectType) (needed (shape_in ts) Missing Missing)
 
 abbrev pub got_view : (Types × Option (Bor (List ℕ))) × KeyBlock → GotOf
 got_view p = got_at ((p.0.0, maybe_lent p.0.1), block_of p.1)
 
 pub seen_got : (ts us : Trees) (types : Result Types OutsideKind) (field : Field (Bor (List ℕ))) (id : Result (Option (Bor (List ℕ))) OutsideKind) (plain : Result (Types × Option (Bor (List ℕ))) OutsideKind) (block : Result KeyBlock OutsideKind)
     (rows : Result ((Types × Option (Bor (List ℕ))) × KeyBlock) OutsideKind)
-    → rows ≡ both kind_number plain block → plain ≡ both kind_number types id → types ≡ types_rows ts → map_field lent field ≡ at as_text 0x42_0094 ts → id ≡ optional field IdentifierForm
+    → rows ≡ both kind_number plain block → plain ≡ both kind_number types id → types ≡ types_rows ts → map_field lent field ≡ at as_text unique_identifier ts → id ≡ optional field IdentifierForm
     → map_ok block_of block ≡ block_in us → us ≡ block_inside ts
     → map_ok got_view rows ≡ got_in ts
 unfolding got_in
 seen_got ts us types field id plain block rows e p t f i b u =
     seen got_at (λ q. ((q.0.0, maybe_lent q.0.1), block_of q.1)) rows (got_rows ts)
-    (both_seen kind_number (λ q. (q.0, maybe_lent q.1)) block_of plain block rows (both kind_number (types_rows ts) (optional (at as_text 0x42_0094 ts) IdentifierForm)) (block_in (block_inside ts)) e
-    (right_seen kind_number maybe_lent types id plain (types_rows ts) (optional (at as_text 0x42_0094 ts) IdentifierForm) p t (optional_seen lent field (at as_text 0x42_0094 ts) IdentifierForm id i f))
+    (both_seen kind_number (λ q. (q.0, maybe_lent q.1)) block_of plain block rows (both kind_number (types_rows ts) (optional (at as_text unique_identifier ts) IdentifierForm)) (block_in (block_inside ts)) e
+    (right_seen kind_number maybe_lent types id plain (types_rows ts) (optional (at as_text unique_identifier ts) IdentifierForm) p t (optional_seen lent field (at as_text unique_identifier ts) IdentifierForm id i f))
     (b ∙ ap block_in u))

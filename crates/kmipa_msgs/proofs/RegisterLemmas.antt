@@ -5,6 +5,7 @@ use Rattle.kmipa_attrs.specs.Fields.{at, inside, map_field, as_structure, as_enu
 use Rattle.kmipa_attrs.specs.ObjectTypes.{type_number, type_of}
 use Rattle.kmipa_attrs.specs.Readings.{Reads, NeededFault, needed, optional, both, map_ok, kept_if, passing}
 use Rattle.kmipa_attrs.specs.Sets.{attributes_of}
+use Rattle.kmipa_attrs.specs.Tags.{key_format_type, key_material, key_value, object_type_tag, unique_identifier, attributes_tag}
 use Rattle.kmipa_attrs.specs.declared.attr_set.AttrSet.{AttrSet}
 use Rattle.kmipa_attrs.specs.declared.fields.Field.{Field}
 use Rattle.kmipa_attrs.specs.declared.object_type.ObjectType
@@ -32,7 +33,7 @@ use denote.Bor.{Bor}
 
 -- the parts
 abbrev PartFault : Trees → OutsideKind → Type 0
-PartFault ts k = ((((NeededFault (at as_enumeration 0x42_0057 ts) Missing Missing k ⊎ ((k ≡ ObjectType) × Unlisted (at as_enumeration 0x42_0057 ts) type_of)) ⊎ NeededFault (shape_in ts) Missing Missing k) ⊎ ((k ≡ ObjectType) × Unlisted (at as_enumeration 0x42_0057 (inside 0x42_0125 ts)) type_of)) ⊎ BlockFault (block_inside ts) k) ⊎ GivenFault Client (at as_structure 0x42_0125 ts) k
+PartFault ts k = ((((NeededFault (at as_enumeration object_type_tag ts) Missing Missing k ⊎ ((k ≡ ObjectType) × Unlisted (at as_enumeration object_type_tag ts) type_of)) ⊎ NeededFault (shape_in ts) Missing Missing k) ⊎ ((k ≡ ObjectType) × Unlisted (at as_enumeration object_type_tag (inside attributes_tag ts)) type_of)) ⊎ BlockFault (block_inside ts) k) ⊎ GivenFault Client (at as_structure attributes_tag ts) k
 
 reads_brought : (ts : Trees) → Reads kind_number (SaysBrought ts) (PartFault ts) (brought_in ts)
 unfolding brought_in
@@ -44,18 +45,18 @@ reads_brought ts =
     (λ k f. f)
     (reads_both kind_number _ _ _ _ _ _
     (reads_both kind_number _ _ _ _ _ _
-    (reads_both kind_number _ _ _ _ _ _ (reads_both kind_number _ _ _ _ _ _ (reads_listed (at as_enumeration 0x42_0057 ts) type_of Missing ObjectType) (reads_needed kind_number Missing Missing (shape_in ts))) (reads_unless_unlisted (at as_enumeration 0x42_0057 (inside 0x42_0125 ts)) type_of ObjectType))
+    (reads_both kind_number _ _ _ _ _ _ (reads_both kind_number _ _ _ _ _ _ (reads_listed (at as_enumeration object_type_tag ts) type_of Missing ObjectType) (reads_needed kind_number Missing Missing (shape_in ts))) (reads_unless_unlisted (at as_enumeration object_type_tag (inside attributes_tag ts)) type_of ObjectType))
     (reads_block (block_inside ts)))
-    (reads_given Client (at as_structure 0x42_0125 ts)))
+    (reads_given Client (at as_structure attributes_tag ts)))
 
 -- no part is of a kind above Disagree
 low_block : (ts : Trees) (k : OutsideKind) → BlockFault ts k → kind_number k ≤ 12
 low_block ts k f = elim f [
   | in_wrapping e w ↦ low k Wrapped (omega arith) e
-  | in_format w ↦ low_needed (at as_enumeration 0x42_0042 ts) Missing Missing k (omega arith) (omega arith) w
+  | in_format w ↦ low_needed (at as_enumeration key_format_type ts) Missing Missing k (omega arith) (omega arith) w
   | in_format_number e w ↦ low k Format (omega arith) e
-  | in_value w ↦ low_needed (at as_structure 0x42_0045 ts) Missing Format k (omega arith) (omega arith) w
-  | in_material w ↦ low_needed (at as_bytes 0x42_0043 (inside 0x42_0045 ts)) Missing Format k (omega arith) (omega arith) w
+  | in_value w ↦ low_needed (at as_structure key_value ts) Missing Format k (omega arith) (omega arith) w
+  | in_material w ↦ low_needed (at as_bytes key_material (inside key_value ts)) Missing Format k (omega arith) (omega arith) w
   | in_algorithm e w ↦ low k Missing (omega arith) e
   | in_length e w ↦ low k Missing (omega arith) e
 ]
@@ -65,14 +66,14 @@ low_part ts k f = elim f [
   | inl h ↦ elim h [
     | inl m ↦ elim m [
       | inl n ↦ elim n [
-        | inl o ↦ elim o [ inl w ↦ low_needed (at as_enumeration 0x42_0057 ts) Missing Missing k (omega arith) (omega arith) w | inr w ↦ low k ObjectType (omega arith) w.0 ]
+        | inl o ↦ elim o [ inl w ↦ low_needed (at as_enumeration object_type_tag ts) Missing Missing k (omega arith) (omega arith) w | inr w ↦ low k ObjectType (omega arith) w.0 ]
         | inr w ↦ low_needed (shape_in ts) Missing Missing k (omega arith) (omega arith) w
       ]
       | inr w ↦ low k ObjectType (omega arith) w.0
     ]
     | inr w ↦ low_block (block_inside ts) k w
   ]
-  | inr w ↦ low_given Client (at as_structure 0x42_0125 ts) k w
+  | inr w ↦ low_given Client (at as_structure attributes_tag ts) k w
 ]
 
 -- types with one number are one
@@ -138,26 +139,26 @@ reads_registered ts =
     (λ y t. ((y.object_type, y.id), (t.object_type, t.id), refl))
     (λ k f. elim f [ inl w ↦ in_type w.0 w.1 | inr w ↦ in_identifier w ])
     (λ k f. elim f [ in_type e w ↦ inl (e, w) | in_identifier w ↦ inr w ])
-    (reads_both kind_number _ _ _ _ _ _ (reads_optional kind_number Missing (at as_enumeration 0x42_0057 ts)) (reads_needed kind_number Missing IdentifierForm (at as_text 0x42_0094 ts)))
+    (reads_both kind_number _ _ _ _ _ _ (reads_optional kind_number Missing (at as_enumeration object_type_tag ts)) (reads_needed kind_number Missing IdentifierForm (at as_text unique_identifier ts)))
 
 -- the parts as the program has them
 abbrev pub Types : Type 0
 Types = (ObjectType.ObjectType × ObjectType.ObjectType) × Unit {0}
 
 abbrev pub types_rows : Trees → Result Types OutsideKind
-types_rows ts = both kind_number (both kind_number (listed (at as_enumeration 0x42_0057 ts) type_of Missing ObjectType) (needed (shape_in ts) Missing Missing)) (unless_unlisted (at as_enumeration 0x42_0057 (inside 0x42_0125 ts)) type_of ObjectType)
+types_rows ts = both kind_number (both kind_number (listed (at as_enumeration object_type_tag ts) type_of Missing ObjectType) (needed (shape_in ts) Missing Missing)) (unless_unlisted (at as_enumeration object_type_tag (inside attributes_tag ts)) type_of ObjectType)
 
 abbrev pub brought_view : (Types × KeyBlock) × AttrSet → BroughtOf
 brought_view p = brought_at ((p.0.0, block_of p.0.1), attributes_of p.1)
 
 pub seen_brought : (ts us : Trees) (types : Result Types OutsideKind) (block : Result KeyBlock OutsideKind) (plain : Result (Types × KeyBlock) OutsideKind) (given : Result AttrSet OutsideKind) (rows : Result ((Types × KeyBlock) × AttrSet) OutsideKind)
     → rows ≡ both kind_number plain given → plain ≡ both kind_number types block → types ≡ types_rows ts → map_ok block_of block ≡ block_in us → us ≡ block_inside ts
-    → map_ok attributes_of given ≡ given_in Client (at as_structure 0x42_0125 ts)
+    → map_ok attributes_of given ≡ given_in Client (at as_structure attributes_tag ts)
     → map_ok brought_view rows ≡ brought_in ts
 unfolding brought_in
 seen_brought ts us types block plain given rows e p t b u g =
     seen brought_at (λ q. ((q.0.0, block_of q.0.1), attributes_of q.1)) rows (brought_rows ts)
-    (both_seen kind_number (λ q. (q.0, block_of q.1)) attributes_of plain given rows (both kind_number (types_rows ts) (block_in (block_inside ts))) (given_in Client (at as_structure 0x42_0125 ts)) e
+    (both_seen kind_number (λ q. (q.0, block_of q.1)) attributes_of plain given rows (both kind_number (types_rows ts) (block_in (block_inside ts))) (given_in Client (at as_structure attributes_tag ts)) e
     (right_seen kind_number block_of types block plain (types_rows ts) (block_in (block_inside ts)) p t (b ∙ ap block_in u))
     g)
 
@@ -182,10 +183,10 @@ abbrev pub registered_view : Option ℕ × Bor (List ℕ) → RegisteredOf
 registered_view p = registered_at (p.0, lent p.1)
 
 pub seen_registered : (ts : Trees) (object_type : Result (Option ℕ) OutsideKind) (field : Field (Bor (List ℕ))) (id : Result (Bor (List ℕ)) OutsideKind) (rows : Result (Option ℕ × Bor (List ℕ)) OutsideKind)
-    → rows ≡ both kind_number object_type id → object_type ≡ optional (at as_enumeration 0x42_0057 ts) Missing → map_field lent field ≡ at as_text 0x42_0094 ts → id ≡ needed field Missing IdentifierForm
+    → rows ≡ both kind_number object_type id → object_type ≡ optional (at as_enumeration object_type_tag ts) Missing → map_field lent field ≡ at as_text unique_identifier ts → id ≡ needed field Missing IdentifierForm
     → map_ok registered_view rows ≡ registered_in ts
 unfolding registered_in
 seen_registered ts object_type field id rows e o f i =
     seen registered_at (λ q. (q.0, lent q.1)) rows (registered_rows ts)
-    (right_seen kind_number lent object_type id rows (optional (at as_enumeration 0x42_0057 ts) Missing) (needed (at as_text 0x42_0094 ts) Missing IdentifierForm) e o
-    (needed_seen lent field (at as_text 0x42_0094 ts) Missing IdentifierForm id i f))
+    (right_seen kind_number lent object_type id rows (optional (at as_enumeration object_type_tag ts) Missing) (needed (at as_text unique_identifier ts) Missing IdentifierForm) e o
+    (needed_seen lent field (at as_text unique_identifier ts) Missing IdentifierForm id i f))

@@ -6,6 +6,7 @@ use Rattle.kmipa_ttlv.specs.Tree
 use Rattle.kmipa_attrs.specs.Fields.{as_structure, as_text, as_enumeration, at}
 use Rattle.kmipa_attrs.specs.ObjectTypes.{type_number, type_of}
 use Rattle.kmipa_attrs.specs.Readings.{Optional}
+use Rattle.kmipa_attrs.specs.Tags.{object_type_tag, revocation_reason, revocation_reason_code, unique_identifier, attributes_tag}
 use Rattle.kmipa_attrs.specs.declared.fields.Field.{Field}
 use Rattle.kmipa_attrs.specs.declared.object_type.ObjectType.{ObjectType}
 use Rattle.kmipa_attrs.specs.declared.object_type.ObjectType.TheVariants.{SymmetricKey, SecretData}
@@ -38,12 +39,12 @@ maybe_type_listed f (Some x) e = record { number = type_number x; is = e; listed
 
 pub identifier_written : (id : Option (List ℕ)) → SaysIdentifier (in_order (identifier_fields id)) id
 unfolding as_text
-identifier_written id = optional_written as_text Tree.text 0x42_0094 id (identifier_fields id) [] refl refl (λ x. refl) refl
+identifier_written id = optional_written as_text Tree.text unique_identifier id (identifier_fields id) [] refl refl (λ x. refl) refl
 
 -- GET
 
 got_object : (told : Option ℕ) (id : Option (List ℕ)) (s : ObjectType) (b : BlockOf)
-    → object_in (in_order (field Tree.enumeration 0x42_0057 told ∷ field Tree.text 0x42_0094 id ∷ Some (written_object s b) ∷ [])) ≡ Some (written_object s b)
+    → object_in (in_order (field Tree.enumeration object_type_tag told ∷ field Tree.text unique_identifier id ∷ Some (written_object s b) ∷ [])) ≡ Some (written_object s b)
 unfolding object_in
 got_object None None s b = object_here s (Some (written_object s b)) None
 got_object None (Some x) s b = object_here s (Some (written_object s b)) None
@@ -51,11 +52,11 @@ got_object (Some n) None s b = object_here s (Some (written_object s b)) None
 got_object (Some n) (Some x) s b = object_here s (Some (written_object s b)) None
 
 -- the tag of the object is neither of an identifier nor of a type
-no_other : (s : ObjectType) (b : BlockOf) → find 0x42_0094 (Some (written_object s b) ∷ []) ≡ None
+no_other : (s : ObjectType) (b : BlockOf) → find unique_identifier (Some (written_object s b) ∷ []) ≡ None
 no_other SymmetricKey b = refl
 no_other SecretData b = refl
 
-no_type : (s : ObjectType) (b : BlockOf) → find 0x42_0057 (Some (written_object s b) ∷ []) ≡ None
+no_type : (s : ObjectType) (b : BlockOf) → find object_type_tag (Some (written_object s b) ∷ []) ≡ None
 no_type SymmetricKey b = refl
 no_type SecretData b = refl
 
@@ -66,12 +67,12 @@ got_written g =
     let object = Some (written_object g.shape g.block) ∷ [] in
     let e = got_object told g.id g.shape g.block in
     record {
-      object_type = maybe_type_listed (at as_enumeration 0x42_0057 (in_order (got_fields g))) g.object_type
-          (optional_written as_enumeration Tree.enumeration 0x42_0057 told (got_fields g) (field Tree.text 0x42_0094 g.id ∷ object)
-          refl (skipped Tree.text 0x42_0094 0x42_0057 g.id object refl ∙ no_type g.shape g.block) (λ x. refl) refl);
+      object_type = maybe_type_listed (at as_enumeration object_type_tag (in_order (got_fields g))) g.object_type
+          (optional_written as_enumeration Tree.enumeration object_type_tag told (got_fields g) (field Tree.text unique_identifier g.id ∷ object)
+          refl (skipped Tree.text unique_identifier object_type_tag g.id object refl ∙ no_type g.shape g.block) (λ x. refl) refl);
       id =
-          optional_written as_text Tree.text 0x42_0094 g.id (got_fields g) object
-          (skipped Tree.enumeration 0x42_0057 0x42_0094 told (field Tree.text 0x42_0094 g.id ∷ object) refl) (no_other g.shape g.block) (λ x. refl) refl;
+          optional_written as_text Tree.text unique_identifier g.id (got_fields g) object
+          (skipped Tree.enumeration object_type_tag unique_identifier told (field Tree.text unique_identifier g.id ∷ object) refl) (no_other g.shape g.block) (λ x. refl) refl;
       shape = shape_written (in_order (got_fields g)) g.shape g.block e;
       block = block_found (in_order (got_fields g)) g.shape g.block e;
     }
@@ -88,11 +89,11 @@ register_written ts r h = record {
   brought = record {
     object_type = record {
       number = type_number r.object_type;
-      is = required_written as_enumeration 0x42_0057 (register_fields r) (scalar 0x42_0057 (Tree.enumeration (type_number r.object_type))) (type_number r.object_type) refl refl;
+      is = required_written as_enumeration object_type_tag (register_fields r) (scalar object_type_tag (Tree.enumeration (type_number r.object_type))) (type_number r.object_type) refl refl;
       listed = type_listed r.object_type;
     };
     shape = shape_written (in_order (register_fields r)) r.object_type r.block (register_object r);
-    attributes = given_written (at as_structure 0x42_0125 ts) (register_fields r) r.attributes refl h.brought.attributes;
+    attributes = given_written (at as_structure attributes_tag ts) (register_fields r) r.attributes refl h.brought.attributes;
     block = block_found (in_order (register_fields r)) r.object_type r.block (register_object r);
   };
   agrees = h.agrees;
@@ -102,9 +103,9 @@ pub registered_written : (r : RegisteredOf) → SaysRegistered (in_order (regist
 unfolding as_text as_enumeration
 registered_written r = record {
   object_type =
-      optional_written as_enumeration Tree.enumeration 0x42_0057 r.object_type (registered_fields r) (field Tree.text 0x42_0094 (Some r.id) ∷ []) refl refl (λ x. refl) refl;
-  id = required_written as_text 0x42_0094 (registered_fields r) (scalar 0x42_0094 (Tree.text r.id)) r.id
-      (skipped Tree.enumeration 0x42_0057 0x42_0094 r.object_type (field Tree.text 0x42_0094 (Some r.id) ∷ []) refl) refl;
+      optional_written as_enumeration Tree.enumeration object_type_tag r.object_type (registered_fields r) (field Tree.text unique_identifier (Some r.id) ∷ []) refl refl (λ x. refl) refl;
+  id = required_written as_text unique_identifier (registered_fields r) (scalar unique_identifier (Tree.text r.id)) r.id
+      (skipped Tree.enumeration object_type_tag unique_identifier r.object_type (field Tree.text unique_identifier (Some r.id) ∷ []) refl) refl;
 }
 
 -- REVOKE
@@ -112,11 +113,11 @@ registered_written r = record {
 revoke_written : (r : RevokeOf) → SaysRevoke (in_order (revoke_fields r)) r
 unfolding as_text as_enumeration
 revoke_written r = record {
-  id = optional_written as_text Tree.text 0x42_0094 r.id (revoke_fields r) (Some (written_reason r.code) ∷ []) refl refl (λ x. refl) refl;
+  id = optional_written as_text Tree.text unique_identifier r.id (revoke_fields r) (Some (written_reason r.code) ∷ []) refl refl (λ x. refl) refl;
   code =
-      ap (at as_enumeration 0x42_0082)
-      (inside_written 0x42_0081 0x42_0081 (revoke_fields r) (in_order (field Tree.enumeration 0x42_0082 (Some r.code) ∷ [])) (skipped Tree.text 0x42_0094 0x42_0081 r.id (Some (written_reason r.code) ∷ []) refl))
-      ∙ required_written as_enumeration 0x42_0082 (field Tree.enumeration 0x42_0082 (Some r.code) ∷ []) (scalar 0x42_0082 (Tree.enumeration r.code)) r.code refl refl;
+      ap (at as_enumeration revocation_reason_code)
+      (inside_written revocation_reason revocation_reason (revoke_fields r) (in_order (field Tree.enumeration revocation_reason_code (Some r.code) ∷ [])) (skipped Tree.text unique_identifier revocation_reason r.id (Some (written_reason r.code) ∷ []) refl))
+      ∙ required_written as_enumeration revocation_reason_code (field Tree.enumeration revocation_reason_code (Some r.code) ∷ []) (scalar revocation_reason_code (Tree.enumeration r.code)) r.code refl refl;
 }
 
 -- A ROW FOR EACH OPERATION

@@ -3,6 +3,7 @@ use Rattle.std.specs.Prelude.{◌≡◌, true, cond, Result, Ok, Err}
 use Rattle.kmipa_ttlv.specs.Tree.{Tree, Trees}
 use Rattle.kmipa_attrs.specs.Fields.{at, inside, value_in, as_structure, as_enumeration, as_bytes}
 use Rattle.kmipa_attrs.specs.Readings.{NeededFault, IsWrong, both, map_ok, and_then}
+use Rattle.kmipa_attrs.specs.Tags.{operation_tag, request_payload, unique_batch_item_id}
 use Rattle.kmipa_attrs.specs.declared.fields.Field.{Field}
 use Rattle.kmipa_attrs.specs.declared.fields.Field.TheVariants.{Absent, Wrong, There}
 use Rattle.kmipa_msgs.specs.declared.kind.OutsideKind.{OutsideKind}
@@ -48,18 +49,18 @@ AskedFault (Other n) ts k = ⊥
 -- an absent Request Payload is read as empty; a Unique Batch Item ID of another type is read over
 pub record SaysAsk (t : Tree) (a : AskOf) : Type 0 where
   pub operation : Operation
-  pub is : Listed (at as_enumeration 0x42_005C (children t)) operation_of operation
-  pub asked : SaysAsked operation (inside 0x42_0079 (children t)) a.asked
-  pub batch_id : a.batch_id ≡ value_in (at as_bytes 0x42_0093 (children t))
+  pub is : Listed (at as_enumeration operation_tag (children t)) operation_of operation
+  pub asked : SaysAsked operation (inside request_payload (children t)) a.asked
+  pub batch_id : a.batch_id ≡ value_in (at as_bytes unique_batch_item_id (children t))
 
 -- in_unread is that of Locate, until it is read; a Request Payload is to be a structure where it is read
 pub data AskFault (t : Tree) (k : OutsideKind) : Type 0 where
-  in_operation : NeededFault (at as_enumeration 0x42_005C (children t)) Missing Missing k → AskFault t k
-  in_unread : k ≡ OutsideKind.TheVariants.Operation → Unlisted (at as_enumeration 0x42_005C (children t)) operation_of → AskFault t k
-  in_payload : (operation : Operation) → Listed (at as_enumeration 0x42_005C (children t)) operation_of operation
-      → is_judged operation ≡ true → k ≡ Missing → IsWrong (at as_structure 0x42_0079 (children t)) → AskFault t k
-  in_asked : (operation : Operation) → Listed (at as_enumeration 0x42_005C (children t)) operation_of operation
-      → AskedFault operation (inside 0x42_0079 (children t)) k → AskFault t k
+  in_operation : NeededFault (at as_enumeration operation_tag (children t)) Missing Missing k → AskFault t k
+  in_unread : k ≡ OutsideKind.TheVariants.Operation → Unlisted (at as_enumeration operation_tag (children t)) operation_of → AskFault t k
+  in_payload : (operation : Operation) → Listed (at as_enumeration operation_tag (children t)) operation_of operation
+      → is_judged operation ≡ true → k ≡ Missing → IsWrong (at as_structure request_payload (children t)) → AskFault t k
+  in_asked : (operation : Operation) → Listed (at as_enumeration operation_tag (children t)) operation_of operation
+      → AskedFault operation (inside request_payload (children t)) k → AskFault t k
 
 -- the readings
 abbrev pub asked_in : Operation → Trees → Result AskedOf OutsideKind
@@ -83,13 +84,13 @@ abbrev pub form_in : Operation → Field Trees → Result (Unit {0}) OutsideKind
 form_in operation field = cond (is_judged operation) (unless_wrong field Missing) (Ok tt)
 
 abbrev pub payload_asked : Operation → Trees → Result AskedOf OutsideKind
-payload_asked operation ts = map_ok (λ p. p.1) (both kind_number (form_in operation (at as_structure 0x42_0079 ts)) (asked_in operation (inside 0x42_0079 ts)))
+payload_asked operation ts = map_ok (λ p. p.1) (both kind_number (form_in operation (at as_structure request_payload ts)) (asked_in operation (inside request_payload ts)))
 
 abbrev pub operation_in : Trees → Result Operation OutsideKind
-operation_in ts = listed (at as_enumeration 0x42_005C ts) operation_of Missing OutsideKind.TheVariants.Operation
+operation_in ts = listed (at as_enumeration operation_tag ts) operation_of Missing OutsideKind.TheVariants.Operation
 
 abbrev pub ask_at : Trees → AskedOf → AskOf
-ask_at ts asked = record { batch_id = value_in (at as_bytes 0x42_0093 ts); asked = asked }
+ask_at ts asked = record { batch_id = value_in (at as_bytes unique_batch_item_id ts); asked = asked }
 
 unfoldable pub ask_in : Tree → Result AskOf OutsideKind
 ask_in t = map_ok (ask_at (children t)) (and_then (λ operation. payload_asked operation (children t)) (operation_in (children t)))

@@ -6,6 +6,7 @@ use Rattle.kmipa_attrs.specs.Fields.{at, inside, as_structure, as_text, as_enume
 use Rattle.kmipa_attrs.specs.ObjectTypes.{type_number, type_of}
 use Rattle.kmipa_attrs.specs.Readings.{Optional, IsWrong, NeededFault, needed, optional, both, map_ok, passing}
 use Rattle.kmipa_attrs.specs.Sets.{Attributes}
+use Rattle.kmipa_attrs.specs.Tags.{object_type_tag, unique_identifier, attributes_tag}
 use Rattle.kmipa_attrs.specs.declared.fields.Field.TheVariants.{There}
 use Rattle.kmipa_attrs.specs.declared.object_type.ObjectType
 use Rattle.kmipa_attrs.specs.declared.side.Side.TheVariants.{Client}
@@ -28,9 +29,9 @@ pub record BroughtOf : Type 0 where
   pub block : BlockOf
 
 pub record SaysBrought (ts : Trees) (b : BroughtOf) : Type 0 where
-  pub object_type : Listed (at as_enumeration 0x42_0057 ts) type_of b.object_type
+  pub object_type : Listed (at as_enumeration object_type_tag ts) type_of b.object_type
   pub shape : shape_in ts ≡ There b.shape
-  pub attributes : SaysGiven (at as_structure 0x42_0125 ts) b.attributes
+  pub attributes : SaysGiven (at as_structure attributes_tag ts) b.attributes
   pub block : SaysBlock (block_inside ts) b.block
 
 -- Object Type of payload, object and attribute are equal, and so are algorithm and length of Attributes and Key Block
@@ -55,10 +56,10 @@ pub record Disagreeing (ts : Trees) : Type 0 where
 
 -- a row for each field; the Object Type attribute is the first child with its tag
 pub data RegisterFault (ts : Trees) (k : OutsideKind) : Type 0 where
-  in_object_type : NeededFault (at as_enumeration 0x42_0057 ts) Missing Missing k → RegisterFault ts k
-  in_type_number : k ≡ ObjectType → Unlisted (at as_enumeration 0x42_0057 ts) type_of → RegisterFault ts k
-  in_attributes : GivenFault Client (at as_structure 0x42_0125 ts) k → RegisterFault ts k
-  in_attribute_type : k ≡ ObjectType → Unlisted (at as_enumeration 0x42_0057 (inside 0x42_0125 ts)) type_of → RegisterFault ts k
+  in_object_type : NeededFault (at as_enumeration object_type_tag ts) Missing Missing k → RegisterFault ts k
+  in_type_number : k ≡ ObjectType → Unlisted (at as_enumeration object_type_tag ts) type_of → RegisterFault ts k
+  in_attributes : GivenFault Client (at as_structure attributes_tag ts) k → RegisterFault ts k
+  in_attribute_type : k ≡ ObjectType → Unlisted (at as_enumeration object_type_tag (inside attributes_tag ts)) type_of → RegisterFault ts k
   in_object : NeededFault (shape_in ts) Missing Missing k → RegisterFault ts k
   in_block : BlockFault (block_inside ts) k → RegisterFault ts k
   in_brought : k ≡ Disagree → Disagreeing ts → RegisterFault ts k
@@ -68,9 +69,9 @@ abbrev pub brought_rows : Trees → Result ((((ObjectType.ObjectType × ObjectTy
 brought_rows ts =
     both kind_number
     (both kind_number
-    (both kind_number (both kind_number (listed (at as_enumeration 0x42_0057 ts) type_of Missing ObjectType) (needed (shape_in ts) Missing Missing)) (unless_unlisted (at as_enumeration 0x42_0057 (inside 0x42_0125 ts)) type_of ObjectType))
+    (both kind_number (both kind_number (listed (at as_enumeration object_type_tag ts) type_of Missing ObjectType) (needed (shape_in ts) Missing Missing)) (unless_unlisted (at as_enumeration object_type_tag (inside attributes_tag ts)) type_of ObjectType))
     (block_in (block_inside ts)))
-    (given_in Client (at as_structure 0x42_0125 ts))
+    (given_in Client (at as_structure attributes_tag ts))
 
 abbrev pub brought_at : (((ObjectType.ObjectType × ObjectType.ObjectType) × Unit {0}) × BlockOf) × Attributes → BroughtOf
 brought_at p = record { object_type = p.0.0.0.0; shape = p.0.0.0.1; attributes = p.1; block = p.0.1 }
@@ -87,15 +88,15 @@ register_in ts = map_ok register_at (passing agrees Disagree (brought_in ts))
 -- THE ANSWER; its Object Type may be any number
 
 pub record SaysRegistered (ts : Trees) (r : RegisteredOf) : Type 0 where
-  pub object_type : Optional (at as_enumeration 0x42_0057 ts) r.object_type
-  pub id : at as_text 0x42_0094 ts ≡ There r.id
+  pub object_type : Optional (at as_enumeration object_type_tag ts) r.object_type
+  pub id : at as_text unique_identifier ts ≡ There r.id
 
 pub data RegisteredFault (ts : Trees) (k : OutsideKind) : Type 0 where
-  in_type : k ≡ Missing → IsWrong (at as_enumeration 0x42_0057 ts) → RegisteredFault ts k
-  in_identifier : NeededFault (at as_text 0x42_0094 ts) Missing IdentifierForm k → RegisteredFault ts k
+  in_type : k ≡ Missing → IsWrong (at as_enumeration object_type_tag ts) → RegisteredFault ts k
+  in_identifier : NeededFault (at as_text unique_identifier ts) Missing IdentifierForm k → RegisteredFault ts k
 
 abbrev pub registered_rows : Trees → Result (Option ℕ × List ℕ) OutsideKind
-registered_rows ts = both kind_number (optional (at as_enumeration 0x42_0057 ts) Missing) (needed (at as_text 0x42_0094 ts) Missing IdentifierForm)
+registered_rows ts = both kind_number (optional (at as_enumeration object_type_tag ts) Missing) (needed (at as_text unique_identifier ts) Missing IdentifierForm)
 
 abbrev pub registered_at : Option ℕ × List ℕ → RegisteredOf
 registered_at p = record { object_type = p.0; id = p.1 }

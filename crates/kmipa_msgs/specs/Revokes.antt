@@ -3,6 +3,7 @@ use Rattle.std.specs.Prelude.{◌≡◌, ℕ, List, Option, Result}
 use Rattle.kmipa_ttlv.specs.Tree.{Trees}
 use Rattle.kmipa_attrs.specs.Fields.{at, inside, as_text, as_enumeration}
 use Rattle.kmipa_attrs.specs.Readings.{Optional, IsWrong, NeededFault, needed, both, map_ok}
+use Rattle.kmipa_attrs.specs.Tags.{revocation_reason, revocation_reason_code, unique_identifier}
 use Rattle.kmipa_attrs.specs.declared.fields.Field.TheVariants.{There}
 use Rattle.kmipa_msgs.specs.declared.kind.OutsideKind.{OutsideKind}
 use Rattle.kmipa_msgs.specs.declared.kind.OutsideKind.TheVariants.{IdentifierForm, Missing}
@@ -11,17 +12,17 @@ use Rattle.kmipa_msgs.specs.Messages.{RevokeOf}
 use Rattle.kmipa_msgs.specs.Identifiers.{identifier_in}
 
 pub record SaysRevoke (ts : Trees) (r : RevokeOf) : Type 0 where
-  pub id : Optional (at as_text 0x42_0094 ts) r.id
-  pub code : at as_enumeration 0x42_0082 (inside 0x42_0081 ts) ≡ There r.code
+  pub id : Optional (at as_text unique_identifier ts) r.id
+  pub code : at as_enumeration revocation_reason_code (inside revocation_reason ts) ≡ There r.code
 
 -- a Revocation Reason that is absent or no structure has no code
 pub data RevokeFault (ts : Trees) (k : OutsideKind) : Type 0 where
-  in_identifier : k ≡ IdentifierForm → IsWrong (at as_text 0x42_0094 ts) → RevokeFault ts k
-  in_code : NeededFault (at as_enumeration 0x42_0082 (inside 0x42_0081 ts)) Missing Missing k → RevokeFault ts k
+  in_identifier : k ≡ IdentifierForm → IsWrong (at as_text unique_identifier ts) → RevokeFault ts k
+  in_code : NeededFault (at as_enumeration revocation_reason_code (inside revocation_reason ts)) Missing Missing k → RevokeFault ts k
 
 -- the reading
 abbrev pub revoke_rows : Trees → Result (ℕ × Option (List ℕ)) OutsideKind
-revoke_rows ts = both kind_number (needed (at as_enumeration 0x42_0082 (inside 0x42_0081 ts)) Missing Missing) (identifier_in ts)
+revoke_rows ts = both kind_number (needed (at as_enumeration revocation_reason_code (inside revocation_reason ts)) Missing Missing) (identifier_in ts)
 
 abbrev pub revoke_at : ℕ × Option (List ℕ) → RevokeOf
 revoke_at p = record { id = p.1; code = p.0 }

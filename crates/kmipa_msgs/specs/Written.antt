@@ -6,6 +6,7 @@ use Rattle.kmipa_ttlv.specs.Tree
 use Rattle.kmipa_attrs.specs.ObjectTypes.{type_number}
 use Rattle.kmipa_attrs.specs.Sets.{Attributes}
 use Rattle.kmipa_attrs.specs.Writing.{written_children}
+use Rattle.kmipa_attrs.specs.Tags.{batch_count, batch_error_continuation_option, batch_item, batch_order_option, cryptographic_algorithm, cryptographic_length, key_block, key_format_type, key_material, key_value, object_type_tag, operation_tag, protocol_version, protocol_version_major, protocol_version_minor, request_header_tag, request_message, request_payload, response_header_tag, response_message, response_payload, result_reason, result_status, revocation_reason, revocation_reason_code, secret_data, symmetric_key, time_stamp, unique_batch_item_id, unique_identifier, attributes_tag, attribute_reference}
 use Rattle.kmipa_attrs.specs.declared.object_type.ObjectType.{ObjectType}
 use Rattle.kmipa_attrs.specs.declared.object_type.ObjectType.TheVariants.{SymmetricKey, SecretData}
 use Rattle.kmipa_msgs.specs.declared.request.BatchOption.{BatchOption}
@@ -35,23 +36,23 @@ field kind n value = option_map (λ x. scalar n (kind x)) value
 -- KEYS
 
 abbrev pub written_value : List ℕ → Tree
-written_value material = structure 0x42_0045 (in_order (field Tree.byte_string 0x42_0043 (Some material) ∷ []))
+written_value material = structure key_value (in_order (field Tree.byte_string key_material (Some material) ∷ []))
 
 abbrev pub block_fields : BlockOf → List (Option Tree)
 block_fields b =
-    field Tree.enumeration 0x42_0042 (Some (format_number b.format)) ∷
+    field Tree.enumeration key_format_type (Some (format_number b.format)) ∷
     Some (written_value b.material) ∷
-    field Tree.enumeration 0x42_0028 b.algorithm ∷
-    field Tree.integer 0x42_002A b.length ∷
+    field Tree.enumeration cryptographic_algorithm b.algorithm ∷
+    field Tree.integer cryptographic_length b.length ∷
     []
 
 abbrev pub written_block : BlockOf → Tree
-written_block b = structure 0x42_0040 (in_order (block_fields b))
+written_block b = structure key_block (in_order (block_fields b))
 
 -- the tag of an object
 abbrev pub object_tag : ObjectType → ℕ
-object_tag SymmetricKey = 0x42_008F
-object_tag SecretData = 0x42_0085
+object_tag SymmetricKey = symmetric_key
+object_tag SecretData = secret_data
 
 abbrev pub written_object : ObjectType → BlockOf → Tree
 written_object shape b = structure (object_tag shape) (in_order (Some (written_block b) ∷ []))
@@ -59,24 +60,24 @@ written_object shape b = structure (object_tag shape) (in_order (Some (written_b
 -- PAYLOADS
 
 abbrev pub identifier_fields : Option (List ℕ) → List (Option Tree)
-identifier_fields id = field Tree.text 0x42_0094 id ∷ []
+identifier_fields id = field Tree.text unique_identifier id ∷ []
 
 -- Attributes, there also where they are empty
 abbrev pub written_attributes : Attributes → Tree
-written_attributes a = structure 0x42_0125 (written_children a)
+written_attributes a = structure attributes_tag (written_children a)
 
 abbrev pub got_fields : GotOf → List (Option Tree)
 got_fields g =
-    field Tree.enumeration 0x42_0057 (option_map type_number g.object_type) ∷
-    field Tree.text 0x42_0094 g.id ∷
+    field Tree.enumeration object_type_tag (option_map type_number g.object_type) ∷
+    field Tree.text unique_identifier g.id ∷
     Some (written_object g.shape g.block) ∷
     []
 
 abbrev pub registered_fields : RegisteredOf → List (Option Tree)
-registered_fields r = field Tree.enumeration 0x42_0057 r.object_type ∷ field Tree.text 0x42_0094 (Some r.id) ∷ []
+registered_fields r = field Tree.enumeration object_type_tag r.object_type ∷ field Tree.text unique_identifier (Some r.id) ∷ []
 
 abbrev pub got_attributes_fields : GotAttributesOf → List (Option Tree)
-got_attributes_fields g = field Tree.text 0x42_0094 g.id ∷ Some (written_attributes g.attributes) ∷ []
+got_attributes_fields g = field Tree.text unique_identifier g.id ∷ Some (written_attributes g.attributes) ∷ []
 
 abbrev pub payload_fields : PayloadOf → List (Option Tree)
 payload_fields (created r) = registered_fields r
@@ -86,40 +87,40 @@ payload_fields (got_attributes g) = got_attributes_fields g
 payload_fields (changed id) = identifier_fields id
 
 abbrev pub written_payload : PayloadOf → Tree
-written_payload p = structure 0x42_007C (in_order (payload_fields p))
+written_payload p = structure response_payload (in_order (payload_fields p))
 
 -- RESPONSES
 
 abbrev pub answer_fields : AnswerOf → List (Option Tree)
 answer_fields x =
-    field Tree.enumeration 0x42_005C x.operation ∷
-    field Tree.byte_string 0x42_0093 x.batch_id ∷
-    field Tree.enumeration 0x42_007F (Some (status_number x.status)) ∷
-    field Tree.enumeration 0x42_007E x.reason ∷
+    field Tree.enumeration operation_tag x.operation ∷
+    field Tree.byte_string unique_batch_item_id x.batch_id ∷
+    field Tree.enumeration result_status (Some (status_number x.status)) ∷
+    field Tree.enumeration result_reason x.reason ∷
     option_map written_payload x.payload ∷
     []
 
 abbrev pub written_answer : AnswerOf → Tree
-written_answer x = structure 0x42_000F (in_order (answer_fields x))
+written_answer x = structure batch_item (in_order (answer_fields x))
 
 abbrev pub version_fields : List (Option Tree)
-version_fields = field Tree.integer 0x42_006A (Some (pos 2)) ∷ field Tree.integer 0x42_006B (Some (pos 1)) ∷ []
+version_fields = field Tree.integer protocol_version_major (Some (pos 2)) ∷ field Tree.integer protocol_version_minor (Some (pos 1)) ∷ []
 
 abbrev pub written_version : Tree
-written_version = structure 0x42_0069 (in_order version_fields)
+written_version = structure protocol_version (in_order version_fields)
 
 abbrev pub response_header_fields : ResponseOf → List (Option Tree)
 response_header_fields r =
     Some written_version ∷
-    field Tree.date_time 0x42_0092 (Some r.stamp) ∷
-    field Tree.integer 0x42_000D (Some (pos (length r.items))) ∷
+    field Tree.date_time time_stamp (Some r.stamp) ∷
+    field Tree.integer batch_count (Some (pos (length r.items))) ∷
     []
 
 abbrev pub written_response_header : ResponseOf → Tree
-written_response_header r = structure 0x42_007A (in_order (response_header_fields r))
+written_response_header r = structure response_header_tag (in_order (response_header_fields r))
 
 abbrev pub written_response : ResponseOf → Tree
-written_response r = structure 0x42_007B (more (written_response_header r) (forest written_answer r.items))
+written_response r = structure response_message (more (written_response_header r) (forest written_answer r.items))
 
 -- REQUESTS
 
@@ -137,37 +138,37 @@ told_order false = Some false
 abbrev pub request_header_fields : RequestOf → List (Option Tree)
 request_header_fields r =
     Some written_version ∷
-    field Tree.enumeration 0x42_000E (told_option r.option) ∷
-    field Tree.boolean 0x42_0010 (told_order r.ordered) ∷
-    field Tree.integer 0x42_000D (Some (pos (length r.items))) ∷
+    field Tree.enumeration batch_error_continuation_option (told_option r.option) ∷
+    field Tree.boolean batch_order_option (told_order r.ordered) ∷
+    field Tree.integer batch_count (Some (pos (length r.items))) ∷
     []
 
 abbrev pub written_request_header : RequestOf → Tree
-written_request_header r = structure 0x42_0077 (in_order (request_header_fields r))
+written_request_header r = structure request_header_tag (in_order (request_header_fields r))
 
 -- the algorithm and the length of a key stand in its attributes, in its block or in both, as they are given
 abbrev pub register_fields : RegisterOf → List (Option Tree)
 register_fields r =
-    field Tree.enumeration 0x42_0057 (Some (type_number r.object_type)) ∷
+    field Tree.enumeration object_type_tag (Some (type_number r.object_type)) ∷
     Some (written_attributes r.attributes) ∷
     Some (written_object r.object_type r.block) ∷
     []
 
 abbrev pub create_fields : Attributes → List (Option Tree)
-create_fields a = field Tree.enumeration 0x42_0057 (Some (type_number SymmetricKey)) ∷ Some (written_attributes a) ∷ []
+create_fields a = field Tree.enumeration object_type_tag (Some (type_number SymmetricKey)) ∷ Some (written_attributes a) ∷ []
 
 -- Attribute References as Enumerations
 abbrev pub reference_fields : List ℕ → List (Option Tree)
-reference_fields tags = map (λ tag. field Tree.enumeration 0x42_013B (Some tag)) tags
+reference_fields tags = map (λ tag. field Tree.enumeration attribute_reference (Some tag)) tags
 
 abbrev pub get_attributes_fields : GetAttributesOf → List (Option Tree)
-get_attributes_fields g = field Tree.text 0x42_0094 g.id ∷ reference_fields g.references
+get_attributes_fields g = field Tree.text unique_identifier g.id ∷ reference_fields g.references
 
 abbrev pub written_reason : ℕ → Tree
-written_reason code = structure 0x42_0081 (in_order (field Tree.enumeration 0x42_0082 (Some code) ∷ []))
+written_reason code = structure revocation_reason (in_order (field Tree.enumeration revocation_reason_code (Some code) ∷ []))
 
 abbrev pub revoke_fields : RevokeOf → List (Option Tree)
-revoke_fields r = field Tree.text 0x42_0094 r.id ∷ Some (written_reason r.code) ∷ []
+revoke_fields r = field Tree.text unique_identifier r.id ∷ Some (written_reason r.code) ∷ []
 
 -- what isn't read is written empty
 abbrev pub asked_fields : AskedOf → List (Option Tree)
@@ -181,17 +182,17 @@ asked_fields (destroys id) = identifier_fields id
 asked_fields _ = []
 
 abbrev pub written_asked : AskedOf → Tree
-written_asked asked = structure 0x42_0079 (in_order (asked_fields asked))
+written_asked asked = structure request_payload (in_order (asked_fields asked))
 
 abbrev pub ask_fields : AskOf → List (Option Tree)
 ask_fields a =
-    field Tree.enumeration 0x42_005C (Some (operation_number (operation_asked a.asked))) ∷
-    field Tree.byte_string 0x42_0093 a.batch_id ∷
+    field Tree.enumeration operation_tag (Some (operation_number (operation_asked a.asked))) ∷
+    field Tree.byte_string unique_batch_item_id a.batch_id ∷
     Some (written_asked a.asked) ∷
     []
 
 abbrev pub written_ask : AskOf → Tree
-written_ask a = structure 0x42_000F (in_order (ask_fields a))
+written_ask a = structure batch_item (in_order (ask_fields a))
 
 abbrev pub written_request : RequestOf → Tree
-written_request r = structure 0x42_0078 (more (written_request_header r) (forest written_ask r.items))
+written_request r = structure request_message (more (written_request_header r) (forest written_ask r.items))

@@ -11,7 +11,6 @@ mod reading;
 mod request;
 mod response;
 mod rules;
-mod tags;
 mod wanted;
 mod writing;
 

@@ -7,8 +7,8 @@ ghost use Rattle.kmipa_msgs.specs.Messages.{maybe_lent};
 ghost use Rattle.kmipa_msgs.specs.Identifiers.{identifier_in};
 
 use crate::kind::OutsideKind;
-use crate::tags::UNIQUE_IDENTIFIER;
 use kmipa_attrs::fields::text_at;
+use kmipa_attrs::tags::UNIQUE_IDENTIFIER;
 use kmipa_ttlv::View;
 
 /// The Unique Identifier among the children of a payload, if it is there.

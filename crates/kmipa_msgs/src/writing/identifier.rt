@@ -7,7 +7,7 @@ ghost use Rattle.kmipa_msgs.specs.Messages.{maybe_lent};
 ghost use Rattle.kmipa_msgs.specs.Written.{in_order, identifier_fields};
 
 use super::fields::Fields;
-use crate::tags::UNIQUE_IDENTIFIER;
+use kmipa_attrs::tags::UNIQUE_IDENTIFIER;
 use kmipa_ttlv::Item;
 use std::alloc::{AllocError, Global};
 

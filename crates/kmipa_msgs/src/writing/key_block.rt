@@ -7,7 +7,7 @@ ghost use Rattle.kmipa_msgs.specs.Written.{written_value, written_block};
 
 use super::fields::Fields;
 use crate::key_block::KeyBlock;
-use crate::tags::{
+use kmipa_attrs::tags::{
     CRYPTOGRAPHIC_ALGORITHM, CRYPTOGRAPHIC_LENGTH, KEY_BLOCK, KEY_FORMAT_TYPE, KEY_MATERIAL,
     KEY_VALUE,
 };

@@ -8,8 +8,8 @@ ghost use Rattle.kmipa_msgs.specs.Written.{written_object};
 use super::fields::Fields;
 use super::key_block::write_block;
 use crate::key_block::KeyBlock;
-use crate::tags::{SECRET_DATA, SYMMETRIC_KEY};
 use kmipa_attrs::ObjectType;
+use kmipa_attrs::tags::{SECRET_DATA, SYMMETRIC_KEY};
 use kmipa_ttlv::Item;
 use std::alloc::{AllocError, Global};
 

@@ -17,7 +17,7 @@ use super::identifier::write_identifier;
 use super::register::write_register;
 use super::revoke::write_revoke;
 use crate::request::{Ask, Asked, BatchOption, Request};
-use crate::tags::{
+use kmipa_attrs::tags::{
     BATCH_COUNT, BATCH_ERROR_CONTINUATION_OPTION, BATCH_ITEM, BATCH_ORDER_OPTION, OPERATION,
     REQUEST_HEADER, REQUEST_MESSAGE, REQUEST_PAYLOAD, UNIQUE_BATCH_ITEM_ID,
 };

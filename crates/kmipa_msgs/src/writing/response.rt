@@ -15,7 +15,7 @@ use super::header::write_version;
 use super::identifier::write_identifier;
 use super::register::write_registered;
 use crate::response::{Answer, Payload, Response};
-use crate::tags::{
+use kmipa_attrs::tags::{
     BATCH_COUNT, BATCH_ITEM, OPERATION, RESPONSE_HEADER, RESPONSE_MESSAGE, RESPONSE_PAYLOAD,
     RESULT_REASON, RESULT_STATUS, TIME_STAMP, UNIQUE_BATCH_ITEM_ID,
 };
