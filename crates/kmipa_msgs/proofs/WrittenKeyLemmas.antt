@@ -1,6 +1,6 @@
 -- Keys that were written say what was written.
 use Rattle.std.proofs.Common.{◌≡◌, ℕ, cond, List, [], ◌∷◌, Option, Some, refl, sym, ap, ◌∙◌, subst}
-use Rattle.kmipa_ttlv.specs.Tree.{Tree, Trees, structure, scalar, none, more, push}
+use Rattle.kmipa_ttlv.specs.Tree.{Tree, Trees, scalar}
 use Rattle.kmipa_ttlv.specs.Tree
 use Rattle.kmipa_attrs.specs.Fields.{as_structure, as_bytes, as_integer, as_enumeration, typed, at, in_field, inside}
 use Rattle.kmipa_attrs.specs.Tags.{cryptographic_algorithm, cryptographic_length, key_block, key_format_type, key_material, key_value}
@@ -13,7 +13,8 @@ use Rattle.kmipa_msgs.specs.Numbers.{format_number, format_of}
 use Rattle.kmipa_msgs.specs.Messages.{BlockOf}
 use Rattle.kmipa_msgs.specs.KeyBlocks.{SaysBlock}
 use Rattle.kmipa_msgs.specs.Objects.{is_object, object_in, shape_of, as_shape, shape_in, block_inside}
-use Rattle.kmipa_msgs.specs.Written.{in_order, field, block_fields, written_block, object_tag, written_object}
+use Rattle.kmipa_msgs.specs.WrittenFields.{in_order, field}
+use Rattle.kmipa_msgs.specs.WrittenKeys.{block_fields, written_block, object_tag, written_object}
 use Rattle.kmipa_msgs.proofs.WrittenFieldLemmas.{skipped, optional_written, required_written, inside_written}
 
 format_listed : (f : KeyFormat) → format_of (format_number f) ≡ Some f

@@ -9,7 +9,8 @@ use Rattle.kmipa_attrs.specs.declared.fields.Field.{Field}
 use Rattle.kmipa_attrs.specs.declared.fields.Field.TheVariants.{Absent, Wrong, There}
 use Rattle.kmipa_msgs.specs.Headers.{is_number, is_version, count_is, is_count}
 use Rattle.kmipa_msgs.specs.Outside.{SaysEach}
-use Rattle.kmipa_msgs.specs.Written.{in_order, version_fields, written_version}
+use Rattle.kmipa_msgs.specs.WrittenFields.{in_order}
+use Rattle.kmipa_msgs.specs.Written.{version_fields, written_version}
 use Rattle.kmipa_msgs.proofs.WrittenFieldLemmas.{find, inside_written}
 
 second_true : (a b : Bool) → (a && b) ≡ true → b ≡ true

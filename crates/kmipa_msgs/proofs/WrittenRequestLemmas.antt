@@ -1,7 +1,7 @@
 -- A request that was written is said by its item.
 use Rattle.std.proofs.Common.{◌≡◌, ℕ, pos, Bool, true, false, List, [], ◌∷◌, map, length, Some, refl, sym, ap, ◌∙◌, subst}
 use Rattle.std.proofs.lemmas.List.{length-map}
-use Rattle.kmipa_ttlv.specs.Tree.{Tree, Trees, structure, scalar, none, more, push, forest}
+use Rattle.kmipa_ttlv.specs.Tree.{Tree, Trees, scalar}
 use Rattle.kmipa_ttlv.specs.Tree
 use Rattle.kmipa_attrs.specs.Fields.{first, every, as_structure, as_integer, as_enumeration, as_boolean, as_bytes, at, inside}
 use Rattle.kmipa_attrs.specs.Readings.{Optional}
@@ -10,6 +10,7 @@ use Rattle.kmipa_attrs.specs.declared.fields.Field.{Field}
 use Rattle.kmipa_attrs.specs.declared.fields.Field.TheVariants.{There}
 use Rattle.kmipa_msgs.specs.declared.request.BatchOption.{BatchOption}
 use Rattle.kmipa_msgs.specs.declared.request.BatchOption.TheVariants.{Continue, Stop, Undo}
+use Rattle.kmipa_msgs.specs.declared.operation.Operation.{Operation}
 use Rattle.kmipa_msgs.specs.Operations.{operation_number, operation_of}
 use Rattle.kmipa_msgs.specs.Messages.{AskedOf, idles, does_other, AskOf, operation_asked, RequestOf}
 use Rattle.kmipa_msgs.specs.Tables.{children}
@@ -17,10 +18,12 @@ use Rattle.kmipa_msgs.specs.Headers.{is_message, is_version, batch}
 use Rattle.kmipa_msgs.specs.Outside.{SaysEach}
 use Rattle.kmipa_msgs.specs.Asks.{SaysAsked, SaysAsk}
 use Rattle.kmipa_msgs.specs.Requests.{SaysOption, SaysOrder, SaysHeader, header_of, request_header, SaysRequest}
-use Rattle.kmipa_msgs.specs.Written.{in_order, field, told_option, told_order, written_asked, asked_fields, ask_fields, written_ask, request_header_fields, written_request}
+use Rattle.kmipa_msgs.specs.WrittenFields.{in_order, field}
+use Rattle.kmipa_msgs.specs.Written.{told_option, told_order, written_asked, ask_fields, written_ask, request_header_fields, written_request}
+use Rattle.kmipa_msgs.specs.Rows.{asked_fields}
 use Rattle.kmipa_msgs.specs.Writable.{IsWritableAsked, IsWritable}
 use Rattle.kmipa_msgs.proofs.WrittenFieldLemmas.{skipped, optional_written, required_written, inside_written, value_written}
-use Rattle.kmipa_msgs.proofs.WrittenPayloadLemmas.{asked_written}
+use Rattle.kmipa_msgs.proofs.RowLemmas.{is_row}
 use Rattle.kmipa_msgs.proofs.WrittenMessageLemmas.{each_length, each_written, every_written, version_written, count_written}
 
 -- ITEMS
@@ -30,6 +33,11 @@ pub operation_listed : (a : AskedOf) → IsWritableAsked a → operation_of (ope
 operation_listed (idles n) w = absurd w
 operation_listed (does_other n) w = absurd w
 operation_listed _ w = refl
+
+asked_again : (operation : Operation) (ts : Trees) (a : AskedOf) → IsWritableAsked a → SaysAsked operation ts a → SaysAsked (operation_asked a) (in_order (asked_fields a)) a
+asked_again operation ts a w s =
+    let law = is_row operation in
+    subst (λ (o : Operation). SaysAsked o (in_order (asked_fields a)) a) (sym (law.own ts a s)) (law.asked_written ts a w s)
 
 payload_inside : (a : AskOf) → inside request_payload (in_order (ask_fields a)) ≡ in_order (asked_fields a.asked)
 payload_inside a =
@@ -46,7 +54,7 @@ ask_written t a w h =
         is = required_written as_enumeration operation_tag (ask_fields a) (scalar operation_tag (Tree.enumeration number)) number refl refl;
         listed = operation_listed a.asked w;
       };
-      asked = subst (λ (ts : Trees). SaysAsked (operation_asked a.asked) ts a.asked) (sym (payload_inside a)) (asked_written h.operation (inside request_payload (children t)) a.asked w h.asked);
+      asked = subst (λ (ts : Trees). SaysAsked (operation_asked a.asked) ts a.asked) (sym (payload_inside a)) (asked_again h.operation (inside request_payload (children t)) a.asked w h.asked);
       batch_id = value_written (at as_bytes unique_batch_item_id (in_order (ask_fields a))) a.batch_id
           (optional_written as_bytes Tree.byte_string unique_batch_item_id a.batch_id (ask_fields a) (Some (written_asked a.asked) ∷ []) refl refl (λ x. refl) refl);
     }

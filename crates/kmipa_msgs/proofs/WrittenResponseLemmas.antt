@@ -3,72 +3,41 @@ use Rattle.std.proofs.Common.{◌≡◌, ◌==◌, ℕ, pos, Bool, true, false, 
 use Rattle.std.specs.List.{slice_get}
 use Rattle.std.specs.Option.{option_map}
 use Rattle.std.proofs.lemmas.List.{length-map}
-use Rattle.kmipa_ttlv.specs.Tree.{Tree, Trees, structure, scalar, none, more, push, forest}
+use Rattle.kmipa_ttlv.specs.Tree.{Tree, structure, scalar}
 use Rattle.kmipa_ttlv.specs.Tree
 use Rattle.kmipa_attrs.specs.Fields.{first, every, as_structure, as_integer, as_enumeration, as_bytes, as_date, at}
 use Rattle.kmipa_attrs.specs.Readings.{Optional}
 use Rattle.kmipa_attrs.specs.Tags.{batch_count, batch_item, operation_tag, response_header_tag, response_message, response_payload, result_reason, result_status, time_stamp, unique_batch_item_id}
 use Rattle.kmipa_attrs.specs.declared.fields.Field.{Field}
 use Rattle.kmipa_attrs.specs.declared.fields.Field.TheVariants.{There}
-use Rattle.kmipa_attrs.specs.declared.object_type.ObjectType.{ObjectType}
 use Rattle.kmipa_msgs.specs.declared.operation.Operation.{Operation}
 use Rattle.kmipa_msgs.specs.declared.operation.Operation.TheVariants.{Idle, Other}
 use Rattle.kmipa_msgs.specs.declared.response.Status.{Status}
 use Rattle.kmipa_msgs.specs.declared.response.Status.TheVariants.{Success, Failed, Undone}
 use Rattle.kmipa_msgs.specs.Numbers.{status_number, status_of}
-use Rattle.kmipa_msgs.specs.Messages.{AskOf, RequestOf, RegisteredOf, PayloadOf, created, registered, got, got_attributes, changed, AnswerOf, ResponseOf}
+use Rattle.kmipa_msgs.specs.Messages.{AskOf, RequestOf, PayloadOf, AnswerOf, ResponseOf}
 use Rattle.kmipa_msgs.specs.Tables.{children}
 use Rattle.kmipa_msgs.specs.Headers.{is_message, is_version, batch}
 use Rattle.kmipa_msgs.specs.Outside.{SaysEach}
-use Rattle.kmipa_msgs.specs.Payloads.{SaysDone, SaysPayloadOf}
+use Rattle.kmipa_msgs.specs.Payloads.{SaysPayloadOf}
 use Rattle.kmipa_msgs.specs.Replies.{own, or_empty, filled, SaysRequired, SaysMaybe, SaysJudged, SaysShown, SaysAnswer}
 use Rattle.kmipa_msgs.specs.Responses.{response_header, SaysResponse}
-use Rattle.kmipa_msgs.specs.Written.{in_order, field, registered_fields, written_payload, answer_fields, written_answer, response_header_fields, written_response}
-use Rattle.kmipa_msgs.specs.Writable.{IsWritableAnswer, IsWritableResponse}
+use Rattle.kmipa_msgs.specs.WrittenFields.{in_order, field}
+use Rattle.kmipa_msgs.specs.Written.{written_payload, answer_fields, written_answer, response_header_fields, written_response}
+use Rattle.kmipa_msgs.specs.Writable.{SaysNothing, IsWritableAnswer, IsWritableResponse}
 use Rattle.kmipa_msgs.proofs.WrittenFieldLemmas.{find, found, skipped, optional_written, required_written, value_written}
-use Rattle.kmipa_msgs.proofs.WrittenPayloadLemmas.{done_written}
+use Rattle.kmipa_msgs.proofs.RowLemmas.{is_row}
 use Rattle.kmipa_msgs.proofs.WrittenMessageLemmas.{each_length, each_written, every_written, version_written, count_written}
 
 -- PAYLOADS
 
 payload_said : (operation : Operation) (t : Tree) (p : PayloadOf) → SaysPayloadOf operation t p → SaysPayloadOf operation (written_payload p) p
-payload_said operation (structure n ts) p s = done_written operation ts p s
+payload_said operation (structure n ts) p s = (is_row operation).done_written ts p s
 payload_said operation (scalar n k) p s = absurd s
 
 -- a payload that is written has children, but for one that says nothing
-registered_filled : (r : RegisteredOf) → filled (Some (structure response_payload (in_order (registered_fields r)))) ≡ Some (structure response_payload (in_order (registered_fields r)))
-registered_filled r = with_id r.object_type r.id
-  where
-    with_id : (told : Option ℕ) (id : List ℕ)
-        → filled (Some (structure response_payload (in_order (registered_fields (record { object_type = told; id = id })))))
-        ≡ Some (structure response_payload (in_order (registered_fields (record { object_type = told; id = id }))))
-    with_id None id = refl
-    with_id (Some n) id = refl
-
-identifier_filled : (id : Option (List ℕ)) → (id ≡ None → ⊥) → filled (Some (written_payload (changed id))) ≡ Some (written_payload (changed id))
-identifier_filled None bare = absurd (bare refl)
-identifier_filled (Some x) bare = refl
-
-payload_filled : (operation : Operation) (ts : Trees) (p : PayloadOf) → (p ≡ changed None → ⊥) → SaysDone operation ts p → filled (Some (written_payload p)) ≡ Some (written_payload p)
-payload_filled operation ts (created r) bare s = registered_filled r
-payload_filled operation ts (registered r) bare s = registered_filled r
-payload_filled operation ts (got g) bare s = with_object g.object_type g.id
-  where
-    with_object : (told : Option ObjectType) (id : Option (List ℕ))
-        → filled (Some (written_payload (got (record g { object_type = told; id = id })))) ≡ Some (written_payload (got (record g { object_type = told; id = id })))
-    with_object None None = refl
-    with_object None (Some x) = refl
-    with_object (Some m) None = refl
-    with_object (Some m) (Some x) = refl
-payload_filled operation ts (got_attributes g) bare s = with_attributes g.id
-  where
-    with_attributes : (id : Option (List ℕ)) → filled (Some (written_payload (got_attributes (record g { id = id })))) ≡ Some (written_payload (got_attributes (record g { id = id })))
-    with_attributes None = refl
-    with_attributes (Some x) = refl
-payload_filled operation ts (changed id) bare s = identifier_filled id (λ e. bare (ap (λ (o : Option (List ℕ)). changed o) e))
-
-payload_kept : (operation : Operation) (t : Tree) (p : PayloadOf) → (p ≡ changed None → ⊥) → SaysPayloadOf operation t p → filled (Some (written_payload p)) ≡ Some (written_payload p)
-payload_kept operation (structure n ts) p bare s = payload_filled operation ts p bare s
+payload_kept : (operation : Operation) (t : Tree) (p : PayloadOf) → (SaysNothing p → ⊥) → SaysPayloadOf operation t p → filled (Some (written_payload p)) ≡ Some (written_payload p)
+payload_kept operation (structure n ts) p bare s = (is_row operation).done_filled ts p bare s
 payload_kept operation (scalar n k) p bare s = absurd s
 
 required_said : (operation : Operation) (t : Option Tree) (p : Option PayloadOf) → SaysRequired operation t p → SaysRequired operation (or_empty operation (option_map written_payload p)) p
@@ -77,20 +46,20 @@ required_said operation (Some t) None s = absurd s
 required_said operation None (Some p) s = absurd s
 required_said operation None None s = absurd s
 
-maybe_said : (operation : Operation) (t : Option Tree) (p : Option PayloadOf) → (p ≡ Some (changed None) → ⊥) → SaysMaybe operation t p → SaysMaybe operation (filled (option_map written_payload p)) p
+maybe_said : (operation : Operation) (t : Option Tree) (p : Option PayloadOf) → ((q : PayloadOf) → p ≡ Some q → SaysNothing q → ⊥) → SaysMaybe operation t p → SaysMaybe operation (filled (option_map written_payload p)) p
 maybe_said operation (Some t) (Some p) bare s =
-    subst (λ (u : Option Tree). SaysMaybe operation u (Some p)) (sym (payload_kept operation t p (λ e. bare (ap (λ (q : PayloadOf). Some q) e)) s)) (payload_said operation t p s)
+    subst (λ (u : Option Tree). SaysMaybe operation u (Some p)) (sym (payload_kept operation t p (bare p refl) s)) (payload_said operation t p s)
 maybe_said operation (Some t) None bare s = tt
 maybe_said operation None (Some p) bare s = absurd s
 maybe_said operation None None bare s = tt
 
-judged_said : (operation : Operation) (status : Status) (t : Option Tree) (p : Option PayloadOf) → (status ≡ Undone → p ≡ Some (changed None) → ⊥) → SaysJudged operation status t p
+judged_said : (operation : Operation) (status : Status) (t : Option Tree) (p : Option PayloadOf) → (status ≡ Undone → (q : PayloadOf) → p ≡ Some q → SaysNothing q → ⊥) → SaysJudged operation status t p
     → SaysJudged operation status (option_map written_payload p) p
 judged_said operation Success t p bare s = required_said operation (or_empty operation t) p s
 judged_said operation Failed t p bare s = s
 judged_said operation Undone t p bare s = maybe_said operation (filled t) p (bare refl) s
 
-shown_said : (o : Option Operation) (status : Status) (t : Option Tree) (p : Option PayloadOf) → (status ≡ Undone → p ≡ Some (changed None) → ⊥) → SaysShown o status t p
+shown_said : (o : Option Operation) (status : Status) (t : Option Tree) (p : Option PayloadOf) → (status ≡ Undone → (q : PayloadOf) → p ≡ Some q → SaysNothing q → ⊥) → SaysShown o status t p
     → SaysShown o status (option_map written_payload p) p
 shown_said None status t p bare s = s
 shown_said (Some (Idle n)) status t p bare s = s

@@ -10,41 +10,18 @@ use Rattle.kmipa_msgs.specs.declared.kind.OutsideKind.{OutsideKind}
 use Rattle.kmipa_msgs.specs.declared.kind.OutsideKind
 use Rattle.kmipa_msgs.specs.declared.kind.OutsideKind.TheVariants.{Missing}
 use Rattle.kmipa_msgs.specs.declared.operation.Operation.{Operation}
-use Rattle.kmipa_msgs.specs.declared.operation.Operation.TheVariants.{Create, Register, Get, GetAttributes, Activate, Revoke, Destroy, Idle, Other}
 use Rattle.kmipa_msgs.specs.Kinds.{kind_number}
 use Rattle.kmipa_msgs.specs.Operations.{operation_of, is_judged}
-use Rattle.kmipa_msgs.specs.Messages.{AskedOf, creates, registers, gets, gets_attributes, activates, revokes, destroys, idles, does_other, AskOf}
+use Rattle.kmipa_msgs.specs.Messages.{AskedOf, AskOf}
+use Rattle.kmipa_msgs.specs.Rows.{row_of}
 use Rattle.kmipa_msgs.specs.Tables.{children, Listed, Unlisted, listed}
-use Rattle.kmipa_msgs.specs.Registers.{SaysRegister, RegisterFault, register_in}
-use Rattle.kmipa_msgs.specs.Creates.{SaysCreate, CreateFault, create_in}
-use Rattle.kmipa_msgs.specs.Gets.{SaysGet, GetFault, get_in}
-use Rattle.kmipa_msgs.specs.GetsAttributes.{SaysGetAttributes, GetAttributesFault, get_attributes_in}
-use Rattle.kmipa_msgs.specs.Identifiers.{SaysIdentifier, IdentifierFault, identifier_in}
-use Rattle.kmipa_msgs.specs.Revokes.{SaysRevoke, RevokeFault, revoke_in}
 
--- the children of a Request Payload say what the operation asks for: a row for each operation; of the last two any children do
+-- the children of a Request Payload say what the operation asks for, as its row has it
 abbrev pub SaysAsked : Operation → Trees → AskedOf → Type 0
-SaysAsked Create ts (creates a) = SaysCreate ts a
-SaysAsked Register ts (registers r) = SaysRegister ts r
-SaysAsked Get ts (gets id) = SaysGet ts id
-SaysAsked GetAttributes ts (gets_attributes g) = SaysGetAttributes ts g
-SaysAsked Activate ts (activates id) = SaysIdentifier ts id
-SaysAsked Revoke ts (revokes r) = SaysRevoke ts r
-SaysAsked Destroy ts (destroys id) = SaysIdentifier ts id
-SaysAsked (Idle n) ts a = a ≡ idles n
-SaysAsked (Other n) ts a = a ≡ does_other n
-SaysAsked _ ts _ = ⊥
+SaysAsked operation ts a = (row_of operation).SaysAsked ts a
 
 abbrev pub AskedFault : Operation → Trees → OutsideKind → Type 0
-AskedFault Create ts k = CreateFault ts k
-AskedFault Register ts k = RegisterFault ts k
-AskedFault Get ts k = GetFault ts k
-AskedFault GetAttributes ts k = GetAttributesFault ts k
-AskedFault Activate ts k = IdentifierFault ts k
-AskedFault Revoke ts k = RevokeFault ts k
-AskedFault Destroy ts k = IdentifierFault ts k
-AskedFault (Idle n) ts k = ⊥
-AskedFault (Other n) ts k = ⊥
+AskedFault operation ts k = (row_of operation).AskedFault ts k
 
 -- an absent Request Payload is read as empty; a Unique Batch Item ID of another type is read over
 pub record SaysAsk (t : Tree) (a : AskOf) : Type 0 where
@@ -64,15 +41,7 @@ pub data AskFault (t : Tree) (k : OutsideKind) : Type 0 where
 
 -- the readings
 abbrev pub asked_in : Operation → Trees → Result AskedOf OutsideKind
-asked_in Create ts = map_ok creates (create_in ts)
-asked_in Register ts = map_ok registers (register_in ts)
-asked_in Get ts = map_ok gets (get_in ts)
-asked_in GetAttributes ts = map_ok gets_attributes (get_attributes_in ts)
-asked_in Activate ts = map_ok activates (identifier_in ts)
-asked_in Revoke ts = map_ok revokes (revoke_in ts)
-asked_in Destroy ts = map_ok destroys (identifier_in ts)
-asked_in (Idle n) ts = Ok (idles n)
-asked_in (Other n) ts = Ok (does_other n)
+asked_in operation ts = (row_of operation).asked_in ts
 
 abbrev pub unless_wrong : {A : Type 0} → Field A → OutsideKind → Result (Unit {0}) OutsideKind
 unless_wrong Absent k = Ok tt

@@ -1,7 +1,8 @@
 -- Create: the request { Object Type, Attributes } (KMIP 2.1, section 6.1), of a Symmetric Key with an algorithm, a length and a usage mask.
 -- Its answer is that of a Register.
-use Rattle.std.specs.Prelude.{◌≡◌, ℕ, Bool, true, false, ◌==◌, if◌then◌else◌, Option, Some, None, Result}
-use Rattle.kmipa_ttlv.specs.Tree.{Trees}
+use Rattle.std.specs.Prelude.{◌≡◌, ℕ, Bool, true, false, ◌==◌, if◌then◌else◌, Option, Some, None, Result, List, [], ◌∷◌}
+use Rattle.kmipa_ttlv.specs.Tree.{Tree, Trees}
+use Rattle.kmipa_ttlv.specs.Tree
 use Rattle.kmipa_attrs.specs.Fields.{first, at, inside, as_structure, as_enumeration}
 use Rattle.kmipa_attrs.specs.ObjectTypes.{type_number, type_of}
 use Rattle.kmipa_attrs.specs.Readings.{NeededFault, both, map_ok, passing}
@@ -15,6 +16,10 @@ use Rattle.kmipa_msgs.specs.declared.kind.OutsideKind.TheVariants.{ObjectType, M
 use Rattle.kmipa_msgs.specs.Kinds.{kind_number}
 use Rattle.kmipa_msgs.specs.Tables.{Listed, Unlisted, IsThere, listed, unless_absent, unless_unlisted}
 use Rattle.kmipa_msgs.specs.AttributeFields.{SaysGiven, GivenFault, agree, given_in}
+use Rattle.kmipa_msgs.specs.Messages.{AskedOf, creates, PayloadOf, created}
+use Rattle.kmipa_msgs.specs.Registers.{SaysRegistered, RegisteredFault, registered_in}
+use Rattle.kmipa_msgs.specs.Row.{Row}
+use Rattle.kmipa_msgs.specs.WrittenFields.{field, written_attributes}
 
 -- the type of what is created
 abbrev pub created_of : ℕ → Option ObjectType.ObjectType
@@ -70,3 +75,30 @@ new_key_in ts = map_ok (λ p. p.1) (new_key_rows ts)
 
 unfoldable pub create_in : Trees → Result Attributes OutsideKind
 create_in ts = passing is_of_key Disagree (new_key_in ts)
+
+-- AS IT IS WRITTEN
+
+abbrev pub create_fields : Attributes → List (Option Tree)
+create_fields a = field Tree.enumeration object_type_tag (Some (type_number SymmetricKey)) ∷ Some (written_attributes a) ∷ []
+
+-- ITS ROW
+
+abbrev pub AsksCreate : Trees → AskedOf → Type 0
+AsksCreate ts (creates x) = SaysCreate ts x
+AsksCreate ts _ = ⊥
+
+abbrev pub AnswersCreate : Trees → PayloadOf → Type 0
+AnswersCreate ts (created x) = SaysRegistered ts x
+AnswersCreate ts _ = ⊥
+
+abbrev pub create_row : Row
+create_row = record {
+  SaysAsked = AsksCreate;
+  AskedFault = λ ts k. CreateFault ts k;
+  asked_in = λ ts. map_ok creates (create_in ts);
+  SaysDone = AnswersCreate;
+  DoneFault = λ ts k. RegisteredFault ts k;
+  done_in = λ ts. map_ok created (registered_in ts);
+  may_be_bare = false;
+  NeedsPayload = Unit {0};
+}

@@ -1,7 +1,8 @@
 -- Get Attributes: the request { Unique Identifier?, Attribute References } and its answer { Unique Identifier?, Attributes? }
 -- (KMIP 2.1, section 6.1).
-use Rattle.std.specs.Prelude.{◌≡◌, ℕ, Bool, false, ◌==◌, ◌&&◌, ◌||◌, not, nat_lt, cond, is_some, is_none, filter_map, length, List, Option, None, Result}
+use Rattle.std.specs.Prelude.{◌≡◌, ℕ, Bool, false, ◌==◌, ◌&&◌, ◌||◌, not, nat_lt, cond, is_some, is_none, filter_map, length, List, Option, None, Result, true, [], ◌∷◌, Some, map}
 use Rattle.kmipa_ttlv.specs.Tree.{Tree, Trees, none, more}
+use Rattle.kmipa_ttlv.specs.Tree
 use Rattle.kmipa_attrs.specs.Fields.{tag_of, first, every, at, inside, as_structure, as_text, as_enumeration}
 use Rattle.kmipa_attrs.specs.ObjectTypes.{type_of}
 use Rattle.kmipa_attrs.specs.Readings.{Optional, IsWrong, both, map_ok}
@@ -11,10 +12,12 @@ use Rattle.kmipa_attrs.specs.declared.side.Side.TheVariants.{Server}
 use Rattle.kmipa_msgs.specs.declared.kind.OutsideKind.{OutsideKind}
 use Rattle.kmipa_msgs.specs.declared.kind.OutsideKind.TheVariants.{ObjectType, IdentifierForm}
 use Rattle.kmipa_msgs.specs.Kinds.{kind_number}
-use Rattle.kmipa_msgs.specs.Messages.{GetAttributesOf, GotAttributesOf}
+use Rattle.kmipa_msgs.specs.Messages.{GetAttributesOf, AskedOf, gets_attributes, GotAttributesOf, PayloadOf, got_attributes}
 use Rattle.kmipa_msgs.specs.Tables.{Unlisted, unless_unlisted}
 use Rattle.kmipa_msgs.specs.Identifiers.{IdentifierFault, identifier_in}
 use Rattle.kmipa_msgs.specs.AttributeFields.{SaysGiven, GivenFault, given_in}
+use Rattle.kmipa_msgs.specs.Row.{Row}
+use Rattle.kmipa_msgs.specs.WrittenFields.{field, written_attributes}
 
 -- THE REQUEST
 
@@ -82,3 +85,37 @@ got_attributes_at p = record { id = p.0.1; attributes = p.1 }
 
 unfoldable pub got_attributes_in : Trees → Result GotAttributesOf OutsideKind
 got_attributes_in ts = map_ok got_attributes_at (got_attributes_rows ts)
+
+-- AS THEY ARE WRITTEN
+
+-- Attribute References as Enumerations
+abbrev pub reference_fields : List ℕ → List (Option Tree)
+reference_fields tags = map (λ tag. field Tree.enumeration attribute_reference (Some tag)) tags
+
+abbrev pub get_attributes_fields : GetAttributesOf → List (Option Tree)
+get_attributes_fields g = field Tree.text unique_identifier g.id ∷ reference_fields g.references
+
+abbrev pub got_attributes_fields : GotAttributesOf → List (Option Tree)
+got_attributes_fields g = field Tree.text unique_identifier g.id ∷ Some (written_attributes g.attributes) ∷ []
+
+-- ITS ROW
+
+abbrev pub AsksGetAttributes : Trees → AskedOf → Type 0
+AsksGetAttributes ts (gets_attributes x) = SaysGetAttributes ts x
+AsksGetAttributes ts _ = ⊥
+
+abbrev pub AnswersGetAttributes : Trees → PayloadOf → Type 0
+AnswersGetAttributes ts (got_attributes x) = SaysGotAttributes ts x
+AnswersGetAttributes ts _ = ⊥
+
+abbrev pub get_attributes_row : Row
+get_attributes_row = record {
+  SaysAsked = AsksGetAttributes;
+  AskedFault = λ ts k. GetAttributesFault ts k;
+  asked_in = λ ts. map_ok gets_attributes (get_attributes_in ts);
+  SaysDone = AnswersGetAttributes;
+  DoneFault = λ ts k. GotAttributesFault ts k;
+  done_in = λ ts. map_ok got_attributes (got_attributes_in ts);
+  may_be_bare = true;
+  NeedsPayload = ⊥;
+}

@@ -1,7 +1,8 @@
 -- Register: the request { Object Type, Attributes?, the object } and its answer { Object Type?, Unique Identifier } (KMIP 2.1, section 6.1).
-use Rattle.std.specs.Prelude.{◌≡◌, ℕ, Bool, true, false, ◌==◌, ◌&&◌, List, Option, Some, Result}
+use Rattle.std.specs.Prelude.{◌≡◌, ℕ, Bool, true, false, ◌==◌, ◌&&◌, List, Option, Some, Result, [], ◌∷◌}
 use Rattle.std.specs.Ordering.{int_eq}
-use Rattle.kmipa_ttlv.specs.Tree.{Trees}
+use Rattle.kmipa_ttlv.specs.Tree.{Tree, Trees}
+use Rattle.kmipa_ttlv.specs.Tree
 use Rattle.kmipa_attrs.specs.Fields.{at, inside, as_structure, as_text, as_enumeration}
 use Rattle.kmipa_attrs.specs.ObjectTypes.{type_number, type_of}
 use Rattle.kmipa_attrs.specs.Readings.{Optional, IsWrong, NeededFault, needed, optional, both, map_ok, passing}
@@ -13,11 +14,14 @@ use Rattle.kmipa_attrs.specs.declared.side.Side.TheVariants.{Client}
 use Rattle.kmipa_msgs.specs.declared.kind.OutsideKind.{OutsideKind}
 use Rattle.kmipa_msgs.specs.declared.kind.OutsideKind.TheVariants.{ObjectType, IdentifierForm, Missing, Disagree}
 use Rattle.kmipa_msgs.specs.Kinds.{kind_number}
-use Rattle.kmipa_msgs.specs.Messages.{BlockOf, RegisterOf, RegisteredOf}
+use Rattle.kmipa_msgs.specs.Messages.{BlockOf, RegisterOf, AskedOf, registers, RegisteredOf, PayloadOf, registered}
 use Rattle.kmipa_msgs.specs.Tables.{Listed, Unlisted, listed, unless_unlisted}
 use Rattle.kmipa_msgs.specs.KeyBlocks.{SaysBlock, BlockFault, block_in}
 use Rattle.kmipa_msgs.specs.Objects.{shape_in, block_inside}
 use Rattle.kmipa_msgs.specs.AttributeFields.{SaysGiven, GivenFault, agree, given_in}
+use Rattle.kmipa_msgs.specs.Row.{Row}
+use Rattle.kmipa_msgs.specs.WrittenKeys.{written_object}
+use Rattle.kmipa_msgs.specs.WrittenFields.{field, written_attributes}
 
 -- THE REQUEST
 
@@ -103,3 +107,38 @@ registered_at p = record { object_type = p.0; id = p.1 }
 
 unfoldable pub registered_in : Trees → Result RegisteredOf OutsideKind
 registered_in ts = map_ok registered_at (registered_rows ts)
+
+-- AS THEY ARE WRITTEN
+
+-- the algorithm and the length of a key stand in its attributes, in its block or in both, as they are given
+abbrev pub register_fields : RegisterOf → List (Option Tree)
+register_fields r =
+    field Tree.enumeration object_type_tag (Some (type_number r.object_type)) ∷
+    Some (written_attributes r.attributes) ∷
+    Some (written_object r.object_type r.block) ∷
+    []
+
+abbrev pub registered_fields : RegisteredOf → List (Option Tree)
+registered_fields r = field Tree.enumeration object_type_tag r.object_type ∷ field Tree.text unique_identifier (Some r.id) ∷ []
+
+-- ITS ROW
+
+abbrev pub AsksRegister : Trees → AskedOf → Type 0
+AsksRegister ts (registers x) = SaysRegister ts x
+AsksRegister ts _ = ⊥
+
+abbrev pub AnswersRegister : Trees → PayloadOf → Type 0
+AnswersRegister ts (registered x) = SaysRegistered ts x
+AnswersRegister ts _ = ⊥
+
+abbrev pub register_row : Row
+register_row = record {
+  SaysAsked = AsksRegister;
+  AskedFault = λ ts k. RegisterFault ts k;
+  asked_in = λ ts. map_ok registers (register_in ts);
+  SaysDone = AnswersRegister;
+  DoneFault = λ ts k. RegisteredFault ts k;
+  done_in = λ ts. map_ok registered (registered_in ts);
+  may_be_bare = false;
+  NeedsPayload = Unit {0};
+}

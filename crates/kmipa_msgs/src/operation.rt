@@ -19,7 +19,8 @@ pub enum Operation {
 }
 
 impl Operation {
-    ghost use Rattle.kmipa_msgs.specs.Operations.{operation_number, operation_of, is_judged, may_be_bare};
+    ghost use Rattle.kmipa_msgs.specs.Replies.{may_be_bare};
+    ghost use Rattle.kmipa_msgs.specs.Operations.{operation_number, operation_of, is_judged};
 
     /// The number on the wire.
     pub fn number(self) -> u32

@@ -5,7 +5,8 @@ ghost use Rattle.kmipa_ttlv.specs.Tree.{structure};
 ghost use Rattle.kmipa_ttlv.specs.ItemTree.{tree};
 ghost use Rattle.kmipa_attrs.specs.Sets.{attributes_of};
 ghost use Rattle.kmipa_attrs.specs.Tags.{request_payload};
-ghost use Rattle.kmipa_msgs.specs.Written.{in_order, create_fields};
+ghost use Rattle.kmipa_msgs.specs.WrittenFields.{in_order};
+ghost use Rattle.kmipa_msgs.specs.Creates.{create_fields};
 
 use super::fields::Fields;
 use crate::request::Create;

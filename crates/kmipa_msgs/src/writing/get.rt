@@ -5,7 +5,8 @@ ghost use Rattle.kmipa_ttlv.specs.Tree.{structure};
 ghost use Rattle.kmipa_ttlv.specs.ItemTree.{tree};
 ghost use Rattle.kmipa_attrs.specs.Tags.{request_payload, response_payload};
 ghost use Rattle.kmipa_msgs.specs.Messages.{maybe_lent, got_of};
-ghost use Rattle.kmipa_msgs.specs.Written.{in_order, identifier_fields, got_fields};
+ghost use Rattle.kmipa_msgs.specs.WrittenFields.{in_order, identifier_fields};
+ghost use Rattle.kmipa_msgs.specs.Gets.{got_fields};
 
 use super::fields::Fields;
 use super::object::write_object;

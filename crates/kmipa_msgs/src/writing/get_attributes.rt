@@ -5,7 +5,8 @@ ghost use Rattle.kmipa_ttlv.specs.Tree.{structure};
 ghost use Rattle.kmipa_ttlv.specs.ItemTree.{tree};
 ghost use Rattle.kmipa_attrs.specs.Tags.{request_payload, response_payload};
 ghost use Rattle.kmipa_msgs.specs.Messages.{get_attributes_of, got_attributes_of};
-ghost use Rattle.kmipa_msgs.specs.Written.{in_order, get_attributes_fields, got_attributes_fields};
+ghost use Rattle.kmipa_msgs.specs.WrittenFields.{in_order};
+ghost use Rattle.kmipa_msgs.specs.GetsAttributes.{get_attributes_fields, got_attributes_fields};
 
 use super::fields::Fields;
 use crate::request::GetAttributes;

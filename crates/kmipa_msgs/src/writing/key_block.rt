@@ -3,7 +3,7 @@
 ghost use Rattle.std.specs.Prelude.{◌≡◌, IfOk};
 ghost use Rattle.kmipa_ttlv.specs.ItemTree.{tree};
 ghost use Rattle.kmipa_msgs.specs.Messages.{block_of};
-ghost use Rattle.kmipa_msgs.specs.Written.{written_value, written_block};
+ghost use Rattle.kmipa_msgs.specs.WrittenKeys.{written_value, written_block};
 
 use super::fields::Fields;
 use crate::key_block::KeyBlock;

@@ -3,7 +3,7 @@
 ghost use Rattle.std.specs.Prelude.{◌≡◌, IfOk};
 ghost use Rattle.kmipa_ttlv.specs.ItemTree.{tree};
 ghost use Rattle.kmipa_msgs.specs.Messages.{block_of};
-ghost use Rattle.kmipa_msgs.specs.Written.{written_object};
+ghost use Rattle.kmipa_msgs.specs.WrittenKeys.{written_object};
 
 use super::fields::Fields;
 use super::key_block::write_block;
