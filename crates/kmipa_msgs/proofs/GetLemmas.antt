@@ -36,7 +36,7 @@ use Rattle.std.specs.Option.{option_map}
 use Rattle.kmipa_attrs.specs.declared.object_type.ObjectType.TheVariants.{SymmetricKey, SecretData}
 use Rattle.kmipa_msgs.specs.WrittenKeys.{written_object}
 use Rattle.kmipa_msgs.proofs.IdentifierLemmas.{identifier_written}
-use Rattle.kmipa_msgs.proofs.WrittenPayloadLemmas.{maybe_type_listed}
+use Rattle.kmipa_msgs.proofs.WrittenTypeLemmas.{maybe_type_listed}
 use Rattle.kmipa_msgs.proofs.WrittenKeyLemmas.{object_here, shape_written, block_found}
 
 pub reads_get : (ts : Trees) → Reads kind_number (SaysGet ts) (GetFault ts) (get_in ts)

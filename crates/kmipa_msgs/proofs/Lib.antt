@@ -26,7 +26,7 @@ pub mod WritingLemmas
 pub mod WrittenFieldLemmas
 pub mod WrittenKeyLemmas
 pub mod WrittenAttributeLemmas
-pub mod WrittenPayloadLemmas
+pub mod WrittenTypeLemmas
 pub mod WrittenMessageLemmas
 pub mod WrittenRequestLemmas
 pub mod WrittenResponseLemmas

@@ -40,7 +40,7 @@ use Rattle.kmipa_msgs.proofs.RowLaws.{IsRow}
 use Rattle.kmipa_msgs.proofs.WrittenFieldLemmas.{skipped, optional_written, required_written}
 use Rattle.kmipa_msgs.specs.Rows.{asked_fields, payload_fields}
 use Rattle.kmipa_msgs.specs.WrittenKeys.{written_object}
-use Rattle.kmipa_msgs.proofs.WrittenPayloadLemmas.{type_listed}
+use Rattle.kmipa_msgs.proofs.WrittenTypeLemmas.{type_listed}
 use Rattle.kmipa_msgs.proofs.WrittenAttributeLemmas.{given_written}
 use Rattle.kmipa_msgs.proofs.WrittenKeyLemmas.{object_here, shape_written, block_found}
 
