@@ -1,6 +1,7 @@
 -- Tests of fields that may be absent, and the lowest of the reasons that hold.
 use Rattle.std.proofs.Common.{◌≡◌, ◌-◌, slice_get, ◌||◌, ◌⊎◌, Bool, true, false, not, cond, List, [], ◌∷◌, find, is_none, is_some, Option, Some, None, refl, ap, sym, ◌∙◌, inl, inr}
 use Rattle.std.specs.Bool.{Decides}
+use Rattle.std.proofs.lemmas.Bool.{or_parts}
 use Rattle.kmipa_ops.specs.declared.why.Why.{Why}
 use Rattle.kmipa_ops.specs.declared.why.Why.TheVariants.{EarlierCallLate, StampRunsBack, BatchShape, OperationDiffers, NoSuchObject, WrongState, IdentifierTaken, NameTaken, BytesDiffer, LengthImpossible, AttributeDiffers, AttributeMissing, ListedWrongly, ListedTooFew, ReasonUnfounded, EchoDiffers}
 use Rattle.kmipa_ops.specs.Whys.{whys, why_number}
@@ -39,6 +40,27 @@ module _ {A : Type 0} (same : A → A → Bool) (decides : (x y : A) → Decides
   pub agree_not : (a b : Option A) → clash same a b ≡ true → Agree a b → ⊥
   agree_not None b h e = cc
   agree_not (Some x) b h e = echoes_not b x h e
+
+-- tests of several parts
+pub five_parts : (a b c d e : Bool) → (a || b || c || d || e) ≡ false → (a ≡ false) × (b ≡ false) × (c ≡ false) × (d ≡ false) × (e ≡ false)
+five_parts a b c d e h =
+    let w = or_parts (a || b || c || d) e h in
+    let x = or_parts (a || b || c) d w.0 in
+    let y = or_parts (a || b) c x.0 in
+    let z = or_parts a b y.0 in
+    (z.0, z.1, y.1, x.1, w.1)
+
+pub five_cases : (a b c d e : Bool) → (a || b || c || d || e) ≡ true → (a ≡ true → ⊥) → (b ≡ true → ⊥) → (c ≡ true → ⊥) → (d ≡ true → ⊥) → (e ≡ true → ⊥) → ⊥
+five_cases true b c d e h p q r s t = p refl
+five_cases false true c d e h p q r s t = q refl
+five_cases false false true d e h p q r s t = r refl
+five_cases false false false true e h p q r s t = s refl
+five_cases false false false false e h p q r s t = t h
+
+pub three_cases : (a b c : Bool) → (a || b || c) ≡ true → (a ≡ true → ⊥) → (b ≡ true → ⊥) → (c ≡ true → ⊥) → ⊥
+three_cases true b c h p q r = p refl
+three_cases false true c h p q r = q refl
+three_cases false false c h p q r = r h
 
 -- each reason stands in the list
 all_whys : (w : Why) → slice_get whys (why_number w - 1) ≡ Some w

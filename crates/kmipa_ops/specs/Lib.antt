@@ -9,7 +9,7 @@ pub mod Adding
 pub mod Create
 pub mod Register
 pub mod Get
-pub mod ShownAttributes
+pub mod GetAttributes
 pub mod Changes
 pub mod Activate
 pub mod Revoke

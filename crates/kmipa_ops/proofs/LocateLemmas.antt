@@ -1,7 +1,6 @@
--- Locate only looks.
-use Rattle.std.proofs.Common.{◌≡◌, ◌&&◌, ◌||◌, ◌==◌, ℕ, ℤ, Bool, true, false, not, is_none, is_some, bytes_eq, find, length, List, Option, Some, None, refl, ap, sym, ◌∙◌, subst}
+-- Locate only looks: what is listed is right exactly where nothing speaks against it.
+use Rattle.std.proofs.Common.{◌≡◌, ◌&&◌, ◌||◌, ◌==◌, ℕ, ℤ, Bool, true, false, not, is_none, is_some, bytes_eq, find, length, List, Option, Some, None, refl, ap, sym, ◌∙◌, subst, get_or}
 use Rattle.std.specs.List.{Contains, list_any}
-use Rattle.std.proofs.Common.{get_or}
 use Rattle.std.specs.Bool.{Decides}
 use Rattle.std.specs.Ordering.{int_eq}
 use Rattle.std.proofs.lemmas.Bool.{or_parts, and_parts, and_from}
@@ -15,10 +14,10 @@ use Rattle.kmipa_msgs.specs.Messages.{PayloadOf}
 use Rattle.kmipa_ops.specs.declared.why.Why.{Why}
 use Rattle.kmipa_ops.specs.declared.why.Why.TheVariants.{ListedWrongly, ListedTooFew}
 use Rattle.kmipa_ops.specs.Objects.{card_meant, is_other, clash}
-use Rattle.kmipa_ops.specs.ShownAttributes.{has_stranger}
+use Rattle.kmipa_ops.specs.GetAttributes.{has_stranger}
 use Rattle.kmipa_ops.specs.Locate.{FilterOf, May, Must, may_fit, is_doubtful, must_fit, has_repeat, is_over, is_full, IsFitting, fits_here, is_listed, Lists, locate_speaks, locate_look}
-use Rattle.kmipa_ops.proofs.TestLemmas.{not_false, echoes_if, echoes_not, agree_if, agree_not}
-use Rattle.kmipa_ops.proofs.ShownAttributeLemmas.{five_parts, five_cases, three_cases, strangers_if, strangers_not}
+use Rattle.kmipa_ops.proofs.TestLemmas.{five_parts, five_cases, three_cases, not_false, echoes_if, echoes_not, agree_if, agree_not}
+use Rattle.kmipa_ops.proofs.NameLemmas.{strangers_if, strangers_not}
 use Rattle.kmipa_ops.proofs.DeedLaws.{outer_whys}
 use Rattle.kmipa_ops.proofs.LookLemmas.{IsLook}
 
