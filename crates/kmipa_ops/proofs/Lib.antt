@@ -13,8 +13,10 @@ mod MeantLemmas
 mod GetAttributesLemmas
 mod RowLemmas
 mod LowestLemmas
+mod FoundedLemmas
 mod ItemLemmas
 pub mod ExplainLemmas
 mod TakenLemmas
+mod OneInventoryLemmas
 mod LookLemmas
 mod LocateLemmas

@@ -8,9 +8,12 @@ use Rattle.std.proofs.lemmas.List.Folds.{Any-from_list_any, list_any_at}
 use Rattle.std.proofs.lemmas.Slice.Eq.{bytes_eq-Decides}
 use Rattle.kmipa_attrs.specs.Sets.{NameOf, name_of}
 use Rattle.kmipa_attrs.specs.declared.name.Name.{Name}
-use Rattle.kmipa_ops.specs.Objects.{same_name}
+use Rattle.kmipa_object.specs.Inventory.{Card}
+use Rattle.kmipa_ops.specs.Objects.{same_name, is_named, any_named, HasNameOf}
+use Rattle.kmipa_ops.specs.Founded.{IsNameTaken}
 use Rattle.kmipa_ops.specs.GetAttributes.{AreAmong, has_stranger}
 use Rattle.kmipa_ops.proofs.ScanLemmas.{any_map, any_same}
+use Rattle.kmipa_ops.proofs.TestLemmas.{some_if, some_not}
 
 pub same_name-Decides : (m n : NameOf) → Decides (same_name m n) (m ≡ n)
 same_name-Decides m n = (
@@ -68,3 +71,16 @@ stranger_is known names =
     any_same (λ (n : Name). not (list_any (λ (k : Name). same_name (name_of k) (name_of n)) known)) (λ (n : Name). not (is_known (name_of n)))
     (λ n. ap not (sym (any_map (λ (k : NameOf). same_name k (name_of n)) name_of known))) names
     ∙ sym (any_map (λ (n : NameOf). not (is_known n)) name_of names)
+
+-- an object has one of the names
+named_decides : (names : List NameOf) (c : Card) → Decides (is_named names c) (HasNameOf names c)
+named_decides names c = (
+  λ h.
+      let s = some_if (λ (mine : NameOf). list_any (λ (asked : NameOf). same_name asked mine) names) (λ (mine : NameOf). Contains names mine) (λ mine. (known_if names mine, known_not names mine)) c.given.names h in
+      (s.0, s.2, s.1),
+  λ h.
+      some_not (λ (mine : NameOf). list_any (λ (asked : NameOf). same_name asked mine) names) (λ (mine : NameOf). Contains names mine) (λ mine. (known_if names mine, known_not names mine)) c.given.names h.0 h.2 h.1,
+)
+
+pub any_named-Decides : (cs : List Card) (names : List NameOf) → Decides (any_named cs names) (IsNameTaken cs names)
+any_named-Decides cs names = (some_if (is_named names) (HasNameOf names) (named_decides names) cs, λ h. some_not (is_named names) (HasNameOf names) (named_decides names) cs h.0 h.1 h.2)

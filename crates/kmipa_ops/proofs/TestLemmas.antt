@@ -1,6 +1,8 @@
 -- Tests of fields that may be absent, and the lowest of the reasons that hold.
 use Rattle.std.proofs.Common.{◌≡◌, ◌-◌, slice_get, ◌||◌, ◌⊎◌, Bool, true, false, not, cond, List, [], ◌∷◌, find, is_none, is_some, Option, Some, None, refl, ap, sym, ◌∙◌, inl, inr}
 use Rattle.std.specs.Bool.{Decides}
+use Rattle.std.specs.List.{Contains, list_any}
+use Rattle.std.proofs.lemmas.List.Folds.{Any-from_list_any, list_any_at}
 use Rattle.std.proofs.lemmas.Bool.{or_parts}
 use Rattle.kmipa_ops.specs.declared.why.Why.{Why}
 use Rattle.kmipa_ops.specs.declared.why.Why.TheVariants.{EarlierCallLate, StampRunsBack, BatchShape, OperationDiffers, NoSuchObject, WrongState, IdentifierTaken, NameTaken, BytesDiffer, LengthImpossible, AttributeDiffers, AttributeMissing, ListedWrongly, ListedTooFew, ReasonUnfounded, EchoDiffers}
@@ -61,6 +63,40 @@ pub three_cases : (a b c : Bool) → (a || b || c) ≡ true → (a ≡ true → 
 three_cases true b c h p q r = p refl
 three_cases false true c h p q r = q refl
 three_cases false false c h p q r = r h
+
+pub true_not : (b : Bool) → b ≡ true → b ≡ false → ⊥
+true_not b h q = cc
+
+pub false_if : (b : Bool) → (b ≡ true → ⊥) → b ≡ false
+false_if true h = absurd (h refl)
+false_if false h = refl
+
+pub not_true : (b : Bool) → not b ≡ true → b ≡ false
+not_true true h = cc
+not_true false h = refl
+
+-- each element passes a test, or one doesn't
+module _ {X : Type 0} (p : X → Bool) (P : X → Type 0) (decides : (x : X) → Decides (p x) (P x)) where
+  pub each_if : (xs : List X) → list_any (λ (x : X). not (p x)) xs ≡ false → (x : X) → Contains xs x → P x
+  each_if xs h x at =
+      (decides x).0 (not_false (p x) (false_if (not (p x)) (λ e.
+      let found : list_any (λ (y : X). not (p y)) xs ≡ true = list_any_at (λ (y : X). not (p y)) xs at.0 x at.1 (ap (λ (y : X). not (p y)) at.2 ∙ e) in
+      let bad : true ≡ false = sym found ∙ h in
+      cc)))
+
+  pub each_not : (xs : List X) → list_any (λ (x : X). not (p x)) xs ≡ true → ((x : X) → Contains xs x → P x) → ⊥
+  each_not xs h f =
+      let a = Any-from_list_any (λ (x : X). not (p x)) xs h in
+      let is : not (p a.1) ≡ false = ap not ((decides a.1).1 (f a.1 (a.0, a.2, a.3))) in
+      let out : not (p a.1) ≡ true = a.4 in
+      cc
+
+  -- some element passes a test
+  pub some_if : (xs : List X) → list_any p xs ≡ true → (x : X) × Contains xs x × P x
+  some_if xs h = let a = Any-from_list_any p xs h in (a.1, (a.0, a.2, a.3), (decides a.1).0 a.4)
+
+  pub some_not : (xs : List X) (x : X) → Contains xs x → P x → list_any p xs ≡ true
+  some_not xs x at y = list_any_at p xs at.0 x at.1 (ap p at.2 ∙ (decides x).1 y)
 
 -- each reason stands in the list
 all_whys : (w : Why) → slice_get whys (why_number w - 1) ≡ Some w

@@ -22,6 +22,7 @@ pub mod Completes
 pub mod Chains
 pub mod Blame
 pub mod Explains
+pub mod OneInventory
 pub mod After
 pub mod Shown
 pub mod Looking
