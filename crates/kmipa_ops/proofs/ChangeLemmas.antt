@@ -1,5 +1,5 @@
--- Changes of an object: what a ledger leaves whose object was activated, revoked or destroyed.
-use Rattle.std.proofs.Common.{◌≡◌, ◌≢◌, if◌then◌else◌, MatchResult, Result, Ok, Err, ℕ, zero, suc, ℤ, Bool, true, false, List, [], ◌∷◌, slice_get, is_none, bytes_eq, option_map, Option, Some, None, refl, ap, sym, ◌∙◌, subst, arith}
+-- Activate, Revoke and Destroy: what a ledger leaves whose object was changed; they keep the laws of operations.
+use Rattle.std.proofs.Common.{◌≡◌, ◌≢◌, if◌then◌else◌, MatchResult, Result, Ok, Err, ℕ, zero, suc, ℤ, Bool, true, false, List, [], ◌∷◌, slice_get, is_none, bytes_eq, option_map, Option, Some, None, refl, ap, sym, ◌∙◌, subst, arith, find, inl}
 use Rattle.std.proofs.lemmas.Slice.Eq.{bytes_eq-Decides}
 use Rattle.kmipa_object.specs.Inventory.{Thing, place_of}
 use Rattle.kmipa_object.specs.Life.{Dates, dates_of, state, is_active, compromises, or_now, deactivated_dates, revoked_dates}
@@ -13,7 +13,7 @@ use Rattle.kmipa_object.specs.declared.life.Material.{Material}
 use Rattle.kmipa_object.specs.declared.life.Material.TheVariants.{Secret}
 use Rattle.kmipa_object.specs.declared.life.SecretNo.{SecretNo}
 use Rattle.kmipa_object.proofs.ListLemmas.{map-updated}
-use Rattle.kmipa_store.specs.Ledger.{Held, Meaning, LedgerState, cards_of, with_life, changed, replaced}
+use Rattle.kmipa_store.specs.Ledger.{Held, Meaning, LedgerState, cards_of, with_life, changed as now_changed, replaced}
 use Rattle.kmipa_store.specs.Choices.{Choice, inv, thing, bytes_of, IsSound, GoneIfDestroyed}
 use Rattle.kmipa_store.proofs.ChoiceLemmas.{agrees_same, extends_same}
 use Rattle.kmipa_store.proofs.InventoryLemmas.{cards-inv, get-inv}
@@ -23,12 +23,14 @@ use Rattle.kmipa_ops.specs.declared.change.Change.TheVariants.{Activate, Revoke,
 use Rattle.kmipa_ops.specs.declared.why.Why.{Why}
 use Rattle.kmipa_ops.specs.declared.why.Why.TheVariants.{NoSuchObject, WrongState, EchoDiffers}
 use Rattle.kmipa_ops.specs.Objects.{meant, is_other_id}
-use Rattle.kmipa_ops.specs.Changes.{act_of, dates_after, bytes_after, thing_after}
-use Rattle.kmipa_ops.specs.Changes.{ChangesObject, change_speaks, material_after, dates_left, material_left, held_left, changed_at, with_changed}
+use Rattle.kmipa_ops.specs.Changes.{act_of, dates_after, bytes_after, thing_after, ChangesObject, change_speaks, material_after, dates_left, material_left, held_left, changed_at, with_changed, seen_changed, id_in, change_deed}
 use Rattle.kmipa_ops.specs.Meant.{place_meant, object_meant, is_not, is_excluded}
 use Rattle.kmipa_ops.proofs.TestLemmas.{not_none, echoes_if, echoes_not}
-use Rattle.kmipa_ops.proofs.StepLemmas.{Step}
+use Rattle.kmipa_ops.proofs.StepLemmas.{Step, step_as}
 use Rattle.kmipa_ops.proofs.GetLemmas.{meant_is, meant_at}
+use Rattle.kmipa_msgs.specs.Messages.{PayloadOf, changed}
+use Rattle.kmipa_ops.specs.Sayable.{IsSayableId}
+use Rattle.kmipa_ops.proofs.DeedLaws.{IsDeed}
 
 -- two changes that agree on the element
 pub updated-agree : {X : Type 0} (xs : List X) (n : ℕ) (f g : X → X) (x : X) → slice_get xs n ≡ Some x → f x ≡ g x → updated xs n f ≡ updated xs n g
@@ -103,9 +105,9 @@ is_not-Not Not e = refl
 
 -- the calls of a ledger leave what a change leaves
 pub changed_is : (s u : LedgerState) (about : Option (List ℕ)) (place : ℕ) (h : Held) (change : Change) (t : ℤ) (life : Life) → Some place ≡ place_meant s.now.objects about → slice_get s.now.objects place ≡ Some h
-    → with_life h life ≡ held_left change t h → u ≡ replaced s place life → u ≡ changed s (with_changed s.now about t change)
+    → with_life h life ≡ held_left change t h → u ≡ replaced s place life → u ≡ now_changed s (with_changed s.now about t change)
 changed_is s u about place h change t life named at is put =
-    let C : List Held → LedgerState = λ hs. changed s (record { objects = hs; secrets = s.now.secrets }) in
+    let C : List Held → LedgerState = λ hs. now_changed s (record { objects = hs; secrets = s.now.secrets }) in
     put ∙ ap C (updated-agree s.now.objects place (λ g. with_life g life) (held_left change t) h at is) ∙ ap (λ (o : Option ℕ). C (changed_at s.now.objects o (held_left change t))) named
 
 -- a life that is left
@@ -231,3 +233,40 @@ module _ (m : Meaning) (before asked : Option (List ℕ)) (t : ℤ) (change : Ch
       x.may (ap (λ (y : Thing). allowed (act_of change) (state y.card.dates t)) (sym r.2) ∙ is_not-Not (allowed (act_of change) (state r.0.card.dates t)) e)
   change_never EchoDiffers h c V p x = echoes_not bytes_eq bytes_eq-Decides shown x.id (ap (is_other_id shown) (sym x.about) ∙ h) x.echo
   change_never w h c V p x = cc
+
+one_changed : (p : PayloadOf) (id : Option (List ℕ)) → seen_changed p ≡ Some id → p ≡ changed id
+one_changed (changed a) id e = let same : a ≡ id = cc in ap changed same
+one_changed p id e = let bad : ⊥ = cc in absurd bad
+
+none_other : (about : Option (List ℕ)) → is_other_id None about ≡ false
+none_other None = refl
+none_other (Some id) = refl
+
+covers_change : (objects : List Held) (about : Option (List ℕ)) (t : ℤ) (change : Change) (shown : Option (List ℕ)) (w : Why) → change_speaks objects about t change None w ≡ true
+    → change_speaks objects about t change shown w ≡ true
+covers_change objects about t change shown NoSuchObject h = h
+covers_change objects about t change shown WrongState h = h
+covers_change objects about t change shown EchoDiffers h = let none : is_other_id None about ≡ false = none_other about in let bad : ⊥ = cc in absurd bad
+covers_change objects about t change shown w h = cc
+
+-- an answer that shows no identifier completes one without payload
+hidden_change : (m : Meaning) (before id : Option (List ℕ)) (t : ℤ) (change : Change) → IsSound m → ((w : Why) → change_speaks m.objects (meant id before) t change None w ≡ false)
+    → Step (λ V V' p. (shown : Option (List ℕ)) × IsSayableId shown × ChangesObject V before t id change shown V' p) m (with_changed m (meant id before) t change) before
+hidden_change m before id t change sound silent =
+    step_as (λ V V' p. ChangesObject V before t id change None V' p)
+    (λ V V' p. (shown : Option (List ℕ)) × IsSayableId shown × ChangesObject V before t id change shown V' p) m (with_changed m (meant id before) t change) before
+    (λ V V' p x. (None, tt, x))
+    (λ V V' p x. unshown V before t id change x.0 V' p x.2)
+    (change_step m before id t change None sound silent)
+
+pub is_change : (id : Option (List ℕ)) (change : Change) → IsDeed (change_deed id change)
+is_change id change = record {
+  back = λ shown. refl;
+  one = one_changed;
+  quiet = λ rules m before t shown. refl;
+  covers = λ rules m before t shown w h. covers_change m.objects (meant id before) t change shown w h;
+  step = λ rules m before t a sound brought shown silent. change_step m before id t change a sound silent;
+  never = λ rules m before t a w h c ch V p x. change_never m before id t change a w h c V p x;
+  hidden = λ rules m before t may sound silent. hidden_change m before id t change sound silent;
+  learns = λ m before t shown number bytes e. inl e;
+}

@@ -1,5 +1,5 @@
--- Get: what a ledger leaves that was shown an object's bytes.
-use Rattle.std.proofs.Common.{◌≡◌, ◌&&◌, ◌==◌, ◌<◌, ℕ, ℤ, Bool, true, false, not, List, length, slice_get, All, is_none, bytes_eq, option_map, Option, Some, None, refl, ap, sym, ◌∙◌, subst, inl, inr, arith}
+-- Get: where nothing speaks against it the ledger goes on, and what speaks against it allows no choice; it keeps the laws of operations.
+use Rattle.std.proofs.Common.{◌≡◌, ◌&&◌, ◌==◌, ◌<◌, ℕ, ℤ, Bool, true, false, not, List, length, slice_get, All, is_none, bytes_eq, option_map, Option, Some, None, refl, ap, sym, ◌∙◌, subst, inl, inr, arith, ◌||◌, ◌⊎◌, find}
 use Rattle.std.specs.Ordering.{int_eq}
 use Rattle.std.specs.Option.{option_and_then}
 use Rattle.std.specs.Prelude.{if◌then◌else◌}
@@ -12,25 +12,29 @@ use Rattle.std.specs.Bool.{Decides}
 use Rattle.kmipa_object.specs.Inventory.{Card, Thing, Admitted, place_of, rule_of, admits, live}
 use Rattle.kmipa_object.specs.Life.{state, has_come}
 use Rattle.kmipa_object.specs.Table.{allowed}
-use Rattle.kmipa_object.specs.declared.allow.Act.TheVariants as act
 use Rattle.kmipa_object.specs.declared.state.State.TheVariants.{PreActive, Active, Deactivated}
 use Rattle.kmipa_object.specs.declared.life.Material.{Material}
 use Rattle.kmipa_object.specs.declared.life.Material.TheVariants.{Gone, Secret}
 use Rattle.kmipa_object.specs.declared.life.SecretNo.{SecretNo}
-use Rattle.kmipa_store.specs.Ledger.{Held, Known, Meaning, cards_of, told}
+use Rattle.kmipa_store.specs.Ledger.{Held, Known, Meaning, cards_of, told, bytes_at}
 use Rattle.kmipa_store.specs.Calls.{differs, differs_from, breaks}
 use Rattle.kmipa_store.specs.Choices.{Choice, Suits, Chooses, inv, thing, bytes_of, IsSound, GoneIfDestroyed}
 use Rattle.kmipa_store.proofs.ChoiceLemmas.{override, override_same, agrees_same, Chooses-told, told_bytes, Chooses-override, extends_told, length-told}
 use Rattle.kmipa_store.proofs.InventoryLemmas.{cards-inv, get-inv}
 use Rattle.kmipa_store.proofs.SoundLemmas.{inv_found, InRange-extends}
-use Rattle.kmipa_msgs.specs.Messages.{GotOf}
+use Rattle.kmipa_msgs.specs.Messages.{GotOf, RulesOf, PayloadOf, got}
 use Rattle.kmipa_ops.specs.declared.why.Why.{Why}
 use Rattle.kmipa_ops.specs.declared.why.Why.TheVariants.{NoSuchObject, WrongState, BytesDiffer, LengthImpossible, AttributeDiffers, EchoDiffers}
 use Rattle.kmipa_ops.specs.Objects.{meant, Echoes, Agree, is_other, clash, same_type, is_other_id}
-use Rattle.kmipa_ops.specs.Get.{Gets, shows_other, get_speaks, taught, taught_at}
+use Rattle.kmipa_ops.specs.Get.{Gets, shows_other, get_speaks, taught, taught_at, SaysGot, seen_got, get_leaves, get_deed}
 use Rattle.kmipa_ops.specs.Meant.{object_meant, secret_at, secret_meant, is_not, is_excluded}
 use Rattle.kmipa_ops.proofs.TestLemmas.{not_false, not_none, echoes_if, echoes_not, agree_if, agree_not, or_cases}
-use Rattle.kmipa_ops.proofs.StepLemmas.{Step, chose_before}
+use Rattle.kmipa_ops.proofs.StepLemmas.{Step, chose_before, still_step}
+use Rattle.kmipa_msgs.specs.declared.key_block.KeyFormat.TheVariants.{Raw}
+use Rattle.kmipa_ops.specs.Explains.{shows}
+use Rattle.kmipa_ops.proofs.LearnLemmas.{known_at, told_cases}
+use Rattle.kmipa_ops.proofs.DeedLaws.{Learns, outer_whys, IsDeed}
+use Rattle.kmipa_object.specs.declared.allow.Act.TheVariants as act
 
 pub same_type-Decides : (x y : ObjectType) → Decides (same_type x y) (x ≡ y)
 same_type-Decides SymmetricKey SymmetricKey = (λ h. refl, λ h. refl)
@@ -279,3 +283,65 @@ module _ (m : Meaning) (before asked : Option (List ℕ)) (t : ℤ) where
   get_never a AttributeDiffers h c ch V p x = not_other a c V p h x
   get_never a EchoDiffers h c ch V p x = echoes_not bytes_eq bytes_eq-Decides a.id x.id (ap (is_other_id a.id) (sym x.about) ∙ h) x.echo
   get_never a w h c ch V p x = cc
+
+one_got : (p : PayloadOf) (a : GotOf) → seen_got p ≡ Some a → p ≡ got a
+one_got (got b) a e = let same : b ≡ a = cc in ap got same
+one_got p a e = let bad : ⊥ = cc in absurd bad
+
+quiet_get : (m : Meaning) (about : Option (List ℕ)) (t : ℤ) (shown : Option GotOf) → find (get_speaks m about t shown) outer_whys ≡ None
+quiet_get m meant_id t None = refl
+quiet_get m meant_id t (Some a) = refl
+
+covers_get : (m : Meaning) (about : Option (List ℕ)) (t : ℤ) (a : GotOf) (w : Why) → get_speaks m about t None w ≡ true → get_speaks m about t (Some a) w ≡ true
+covers_get m meant_id t a NoSuchObject h = h
+covers_get m meant_id t a WrongState h = h
+covers_get m meant_id t a w h = cc
+
+-- an answer without payload: the object's bytes complete it
+hidden_get : (m : Meaning) (before id : Option (List ℕ)) (t : ℤ) → IsSound m → ((w : Why) → get_speaks m (meant id before) t None w ≡ false)
+    → Step (λ V V' p. (a : GotOf) × SaysGot a × Gets V before id a V' p) m m before
+hidden_get m before id t sound silent =
+    let about : Option (List ℕ) = meant id before in
+    let f = finds m about t sound (silent NoSuchObject) (silent WrongState) in
+    let r = sound.in_range.there f.1 f.2 f.3 f.4.stands f.4.secret in
+    let k : Known = record { rule = rule_of f.2.card; bytes = r.0 } in
+    still_step (λ V V' p. (a : GotOf) × SaysGot a × Gets V before id a V' p) m before sound
+    (λ c ch.
+    let g : GotOf = record { object_type = None; id = None; shape = f.2.card.kind; block = record { format = Raw; material = c f.3.number; algorithm = None; length = None } } in
+    let kind : not (same_type f.2.card.kind f.2.card.kind) ≡ false = ap not ((same_type-Decides f.2.card.kind f.2.card.kind).1 refl) in
+    let other : shows_other g (Some f.2) ≡ false = ap (λ (b : Bool). (false || b) || false || false) kind in
+    let same : shows_other g (object_meant m.objects about) ≡ false = ap (shows_other g) (meant_is m about f.0 f.1 f.2 f.4.about_is f.4.named f.4.stands) ∙ other in (
+      g,
+      (tt, record { material = (ch.suits f.3.number k r.1).admitted.small; algorithm = tt; length = tt }),
+      links m before id t f.0 f.1 f.2 f.3 g f.4 same (ap (is_other_id None) f.4.about_is) c refl,
+    ))
+    (λ V V' p x. (x.2.leaves, x.2.placeholder))
+
+learns_at : (m : Meaning) (mat : Material) (b : List ℕ) → Learns m (taught_at m mat b) None (Some b)
+learns_at m Gone b number bytes e = inl e
+learns_at m (Secret s) b number bytes e =
+    let k = known_at (slice_get (told m.secrets s.number b) number) bytes e in
+    elim (told_cases m.secrets s.number b number k.0 k.1) [
+      | inl q ↦ inl (ap (option_map (λ (y : Known). y.bytes)) q ∙ ap Some k.2)
+      | inr q ↦ inr (inr (q ∙ k.2))
+    ]
+
+learns_taught : (m : Meaning) (o : Option Held) (b : List ℕ) → Learns m (taught m o b) None (Some b)
+learns_taught m None b number bytes e = inl e
+learns_taught m (Some h) b number bytes e = learns_at m h.material b number bytes e
+
+learns_get : (m : Meaning) (about : Option (List ℕ)) (shown : Option GotOf) → Learns m (get_leaves m about shown) None (shows (option_map got shown))
+learns_get m meant_id None number bytes e = inl e
+learns_get m meant_id (Some a) number bytes e = learns_taught m (object_meant m.objects meant_id) a.block.material number bytes e
+
+pub is_get : (id : Option (List ℕ)) → IsDeed (get_deed id)
+is_get id = record {
+  back = λ a. refl;
+  one = one_got;
+  quiet = λ rules m before t shown. quiet_get m (meant id before) t shown;
+  covers = λ rules m before t a w h. covers_get m (meant id before) t a w h;
+  step = λ rules m before t a sound brought shown silent. get_step m before id t a sound shown silent;
+  never = λ rules m before t a w h c ch V p x. get_never m before id t a w h c ch V p x;
+  hidden = λ rules m before t may sound silent. hidden_get m before id t sound silent;
+  learns = λ m before t shown. learns_get m (meant id before) shown;
+}

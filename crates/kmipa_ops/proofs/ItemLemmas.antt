@@ -3,7 +3,7 @@ use Rattle.std.proofs.Common.{◌≡◌, ◌||◌, ◌==◌, ◌⊎◌, ℕ, ℤ
 use Rattle.std.proofs.lemmas.Bool.{or_parts}
 use Rattle.std.proofs.lemmas.Bool.Decides.{Decides-eqb}
 use Rattle.std.proofs.lemmas.Slice.Eq.{bytes_eq-Decides}
-use Rattle.kmipa_object.specs.Inventory.{Card, Thing}
+use Rattle.kmipa_object.specs.Inventory.{Card, Thing, cards}
 use Rattle.kmipa_store.specs.Ledger.{Meaning, cards_of}
 use Rattle.kmipa_store.specs.Choices.{Choice, Chooses, inv, IsSound}
 use Rattle.kmipa_store.proofs.InventoryLemmas.{cards-inv}
@@ -26,6 +26,7 @@ use Rattle.kmipa_ops.proofs.TestLemmas.{not_false, or_cases, echoes_if, echoes_n
 use Rattle.kmipa_ops.proofs.StepLemmas.{Step, step_as, still_step}
 use Rattle.kmipa_ops.proofs.DeedLaws.{Learns, IsDeed, IsRow}
 use Rattle.kmipa_ops.proofs.RowLemmas.{is_row}
+use Rattle.kmipa_ops.proofs.FoundedLemmas.{founded_decides}
 
 module _ (rules : RulesOf) (m : Meaning) (before : Option (List ℕ)) (t : ℤ) where
   -- AN OPERATION WHOSE PAYLOADS ARE READ
@@ -132,7 +133,9 @@ module _ (rules : RulesOf) (m : Meaning) (before : Option (List ℕ)) (t : ℤ) 
   fail_step asked reason sound h =
       still_step (λ V V' p. Fails rules V before t asked reason V' p) m before sound
       (λ c ch. record {
-        founded = ap (λ (cs : List Card). founded rules cs before t asked reason) (cards-inv c m.objects) ∙ not_false (founded rules (cards_of m.objects) before t asked reason) h;
+        founded =
+            (founded_decides rules (cards (inv c m.objects)) before t asked reason).0
+            (ap (λ (cs : List Card). founded rules cs before t asked reason) (cards-inv c m.objects) ∙ not_false (founded rules (cards_of m.objects) before t asked reason) h);
         leaves = refl;
         placeholder = refl;
       })
@@ -163,7 +166,7 @@ module _ (rules : RulesOf) (m : Meaning) (before : Option (List ℕ)) (t : ℤ) 
   fail_never : (asked : AskedOf) (reason : Option ℕ) (w : Why) → outcome_speaks Failed rules m before t asked reason None w ≡ true
       → (c : Choice) (V : List Thing) (p : Option (List ℕ)) → Fails rules (inv c m.objects) before t asked reason V p → ⊥
   fail_never asked reason ReasonUnfounded h c V p x =
-      let e : not (founded rules (cards_of m.objects) before t asked reason) ≡ false = ap not (ap (λ (cs : List Card). founded rules cs before t asked reason) (sym (cards-inv c m.objects)) ∙ x.founded) in
+      let e : not (founded rules (cards_of m.objects) before t asked reason) ≡ false = ap not (ap (λ (cs : List Card). founded rules cs before t asked reason) (sym (cards-inv c m.objects)) ∙ (founded_decides rules (cards (inv c m.objects)) before t asked reason).1 x.founded) in
       cc
   fail_never asked reason w h c V p x = cc
 

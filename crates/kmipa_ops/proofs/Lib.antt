@@ -1,24 +1,22 @@
 mod FirstLemmas
 mod TestLemmas
 mod ScanLemmas
+mod NameLemmas
 mod StepLemmas
 mod DeedLaws
 mod LearnLemmas
 pub mod AddLemmas
 mod NewbornLemmas
-mod NewbornDeed
 mod GetLemmas
-mod GetDeed
 mod ChangeLemmas
-mod ChangeDeed
-mod ShownAttributeLemmas
-mod AttributesDeed
 mod MeantLemmas
-mod ShownReasonLemmas
+mod GetAttributesLemmas
 mod RowLemmas
 mod LowestLemmas
+mod FoundedLemmas
 mod ItemLemmas
 pub mod ExplainLemmas
 mod TakenLemmas
+mod OneInventoryLemmas
 mod LookLemmas
-mod LocateLook
+mod LocateLemmas

@@ -143,14 +143,6 @@ known_made s rule bytes known n v u is number made told =
     told ∙ ap (λ (x : LedgerState). learned x n bytes) made ∙ ap (λ (k : ℕ). learned (with_secret s rule) k bytes) number
     ∙ ap C (told-last s.now.secrets (record { rule = rule; bytes = None }) bytes) ∙ ap (λ (k : Option (List ℕ)). C (s.now.secrets ++ record { rule = rule; bytes = k } ∷ [])) (sym is)
 
--- names, through their meaning
-pub named_is : (own names : List Name) → list_any (λ (mine : Name). list_any (λ (asked : Name). same_name (name_of asked) (name_of mine)) names) own
-    ≡ list_any (λ (mine : NameOf). list_any (λ (asked : NameOf). same_name asked mine) (map name_of names)) (map name_of own)
-named_is own names =
-    any_same (λ (mine : Name). list_any (λ (asked : Name). same_name (name_of asked) (name_of mine)) names) (λ (mine : Name). list_any (λ (asked : NameOf). same_name asked (name_of mine)) (map name_of names))
-    (λ mine. sym (any_map (λ (asked : NameOf). same_name asked (name_of mine)) name_of names)) own
-    ∙ sym (any_map (λ (mine : NameOf). list_any (λ (asked : NameOf). same_name asked mine) (map name_of names)) name_of own)
-
 -- objects seen one after the other
 card_stands : (hs : List Held) (i : ℕ) (h : Held) → slice_get hs i ≡ Some h → slice_get (cards_of hs) i ≡ Some h.card
 card_stands hs i h e = get-cards_of hs i ∙ ap (option_map (λ (g : Held). g.card)) e

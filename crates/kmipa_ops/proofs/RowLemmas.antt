@@ -3,10 +3,10 @@ use Rattle.kmipa_msgs.specs.Messages.{AskedOf, creates, registers, gets, gets_at
 use Rattle.kmipa_ops.specs.declared.change.Change.TheVariants.{Activate, Revoke, Destroy}
 use Rattle.kmipa_ops.specs.Rows.{row_of}
 use Rattle.kmipa_ops.proofs.DeedLaws.{IsRow}
-use Rattle.kmipa_ops.proofs.NewbornDeed.{is_create, is_register}
-use Rattle.kmipa_ops.proofs.GetDeed.{is_get}
-use Rattle.kmipa_ops.proofs.AttributesDeed.{is_get_attributes}
-use Rattle.kmipa_ops.proofs.ChangeDeed.{is_change}
+use Rattle.kmipa_ops.proofs.NewbornLemmas.{is_create, is_register}
+use Rattle.kmipa_ops.proofs.GetLemmas.{is_get}
+use Rattle.kmipa_ops.proofs.GetAttributesLemmas.{is_get_attributes}
+use Rattle.kmipa_ops.proofs.ChangeLemmas.{is_change}
 
 pub is_row : (asked : AskedOf) → IsRow (row_of asked)
 is_row (creates a) = is_create a

@@ -1,6 +1,9 @@
 -- Tests of fields that may be absent, and the lowest of the reasons that hold.
 use Rattle.std.proofs.Common.{◌≡◌, ◌-◌, slice_get, ◌||◌, ◌⊎◌, Bool, true, false, not, cond, List, [], ◌∷◌, find, is_none, is_some, Option, Some, None, refl, ap, sym, ◌∙◌, inl, inr}
 use Rattle.std.specs.Bool.{Decides}
+use Rattle.std.specs.List.{Contains, list_any}
+use Rattle.std.proofs.lemmas.List.Folds.{Any-from_list_any, list_any_at}
+use Rattle.std.proofs.lemmas.Bool.{or_parts}
 use Rattle.kmipa_ops.specs.declared.why.Why.{Why}
 use Rattle.kmipa_ops.specs.declared.why.Why.TheVariants.{EarlierCallLate, StampRunsBack, BatchShape, OperationDiffers, NoSuchObject, WrongState, IdentifierTaken, NameTaken, BytesDiffer, LengthImpossible, AttributeDiffers, AttributeMissing, ListedWrongly, ListedTooFew, ReasonUnfounded, EchoDiffers}
 use Rattle.kmipa_ops.specs.Whys.{whys, why_number}
@@ -39,6 +42,61 @@ module _ {A : Type 0} (same : A → A → Bool) (decides : (x y : A) → Decides
   pub agree_not : (a b : Option A) → clash same a b ≡ true → Agree a b → ⊥
   agree_not None b h e = cc
   agree_not (Some x) b h e = echoes_not b x h e
+
+-- tests of several parts
+pub five_parts : (a b c d e : Bool) → (a || b || c || d || e) ≡ false → (a ≡ false) × (b ≡ false) × (c ≡ false) × (d ≡ false) × (e ≡ false)
+five_parts a b c d e h =
+    let w = or_parts (a || b || c || d) e h in
+    let x = or_parts (a || b || c) d w.0 in
+    let y = or_parts (a || b) c x.0 in
+    let z = or_parts a b y.0 in
+    (z.0, z.1, y.1, x.1, w.1)
+
+pub five_cases : (a b c d e : Bool) → (a || b || c || d || e) ≡ true → (a ≡ true → ⊥) → (b ≡ true → ⊥) → (c ≡ true → ⊥) → (d ≡ true → ⊥) → (e ≡ true → ⊥) → ⊥
+five_cases true b c d e h p q r s t = p refl
+five_cases false true c d e h p q r s t = q refl
+five_cases false false true d e h p q r s t = r refl
+five_cases false false false true e h p q r s t = s refl
+five_cases false false false false e h p q r s t = t h
+
+pub three_cases : (a b c : Bool) → (a || b || c) ≡ true → (a ≡ true → ⊥) → (b ≡ true → ⊥) → (c ≡ true → ⊥) → ⊥
+three_cases true b c h p q r = p refl
+three_cases false true c h p q r = q refl
+three_cases false false c h p q r = r h
+
+pub true_not : (b : Bool) → b ≡ true → b ≡ false → ⊥
+true_not b h q = cc
+
+pub false_if : (b : Bool) → (b ≡ true → ⊥) → b ≡ false
+false_if true h = absurd (h refl)
+false_if false h = refl
+
+pub not_true : (b : Bool) → not b ≡ true → b ≡ false
+not_true true h = cc
+not_true false h = refl
+
+-- each element passes a test, or one doesn't
+module _ {X : Type 0} (p : X → Bool) (P : X → Type 0) (decides : (x : X) → Decides (p x) (P x)) where
+  pub each_if : (xs : List X) → list_any (λ (x : X). not (p x)) xs ≡ false → (x : X) → Contains xs x → P x
+  each_if xs h x at =
+      (decides x).0 (not_false (p x) (false_if (not (p x)) (λ e.
+      let found : list_any (λ (y : X). not (p y)) xs ≡ true = list_any_at (λ (y : X). not (p y)) xs at.0 x at.1 (ap (λ (y : X). not (p y)) at.2 ∙ e) in
+      let bad : true ≡ false = sym found ∙ h in
+      cc)))
+
+  pub each_not : (xs : List X) → list_any (λ (x : X). not (p x)) xs ≡ true → ((x : X) → Contains xs x → P x) → ⊥
+  each_not xs h f =
+      let a = Any-from_list_any (λ (x : X). not (p x)) xs h in
+      let is : not (p a.1) ≡ false = ap not ((decides a.1).1 (f a.1 (a.0, a.2, a.3))) in
+      let out : not (p a.1) ≡ true = a.4 in
+      cc
+
+  -- some element passes a test
+  pub some_if : (xs : List X) → list_any p xs ≡ true → (x : X) × Contains xs x × P x
+  some_if xs h = let a = Any-from_list_any p xs h in (a.1, (a.0, a.2, a.3), (decides a.1).0 a.4)
+
+  pub some_not : (xs : List X) (x : X) → Contains xs x → P x → list_any p xs ≡ true
+  some_not xs x at y = list_any_at p xs at.0 x at.1 (ap p at.2 ∙ (decides x).1 y)
 
 -- each reason stands in the list
 all_whys : (w : Why) → slice_get whys (why_number w - 1) ≡ Some w

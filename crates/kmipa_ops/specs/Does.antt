@@ -6,7 +6,7 @@ use Rattle.kmipa_msgs.specs.Messages.{RulesOf, AskedOf, AskOf, operation_asked, 
 use Rattle.kmipa_msgs.specs.Operations.{operation_number}
 use Rattle.kmipa_msgs.specs.declared.response.Status.{Status}
 use Rattle.kmipa_msgs.specs.declared.response.Status.TheVariants.{Success, Failed, Undone}
-use Rattle.kmipa_ops.specs.Founded.{founded}
+use Rattle.kmipa_ops.specs.Founded.{Founded}
 use Rattle.kmipa_ops.specs.Objects.{Echoes, Agree}
 use Rattle.kmipa_ops.specs.Row.{row_does}
 use Rattle.kmipa_ops.specs.Rows.{row_of}
@@ -17,7 +17,7 @@ Succeeds rules V before t asked payload V' after = row_does (row_of asked) rules
 
 -- a failed answer changes nothing, and is possible where its reason is founded
 pub record Fails (rules : RulesOf) (V : List Thing) (before : Option (List ℕ)) (t : ℤ) (asked : AskedOf) (reason : Option ℕ) (V' : List Thing) (after : Option (List ℕ)) : Type 0 where
-  pub founded : founded rules (cards V) before t asked reason ≡ true
+  pub founded : Founded rules (cards V) before t asked reason
   pub leaves : V' ≡ V
   pub placeholder : after ≡ before
 

@@ -1,6 +1,6 @@
 -- Which reasons of a failed answer are founded (profile).
-use Rattle.std.specs.List.{list_any}
-use Rattle.std.specs.Prelude.{◌&&◌, ℕ, ℤ, Bool, true, false, List, Option, Some, None, ◌||◌, ◌==◌, not, is_none}
+use Rattle.std.specs.List.{Contains, list_any}
+use Rattle.std.specs.Prelude.{◌≡◌, ◌≢◌, ◌↔◌, ◌&&◌, ℕ, ℤ, Bool, true, false, List, Option, Some, None, ◌||◌, ◌==◌, not, is_none}
 use Rattle.kmipa_attrs.specs.Sets.{NameOf}
 use Rattle.kmipa_object.specs.Inventory.{Card, live}
 use Rattle.kmipa_object.specs.Life.{state}
@@ -11,9 +11,53 @@ use Rattle.kmipa_object.specs.declared.allow.Allow.TheVariants.{Not, Must, May}
 use Rattle.kmipa_msgs.specs.Messages.{RulesOf, AskedOf, RowOf}
 use Rattle.kmipa_msgs.specs.declared.rules.Cause.{Cause}
 use Rattle.kmipa_msgs.specs.declared.rules.Cause.TheVariants.{WrongState, NotFound, TakenName}
-use Rattle.kmipa_ops.specs.Objects.{meant, card_meant, any_named}
+use Rattle.kmipa_ops.specs.Objects.{meant, card_meant, any_named, HasNameOf}
 use Rattle.kmipa_ops.specs.Row.{row_subject, SubjectOf, on_object, on_names, on_nothing}
 use Rattle.kmipa_ops.specs.Rows.{row_of}
+
+-- THE DEFINITION
+
+-- no live object has the identifier that is meant
+abbrev pub IsNotFound : List Card → Option (List ℕ) → Type 0
+IsNotFound cs about = (c : Card) → card_meant cs about ≡ Some c → live c ≡ true → ⊥
+
+-- the state of the object that is meant lets the operation be refused: the table has May or Not
+abbrev pub IsInWrongState : List Card → Option (List ℕ) → ℤ → Act → Type 0
+IsInWrongState cs about t act = (c : Card) × (card_meant cs about ≡ Some c) × (allowed act (state c.dates t) ≢ Must)
+
+-- an object has one of the names, destroyed or not
+abbrev pub IsNameTaken : List Card → List NameOf → Type 0
+IsNameTaken cs names = (c : Card) × Contains cs c × HasNameOf names c
+
+-- The cause holds. NotFound and WrongState are judged of operations on an object, and TakenName of new objects; where a cause isn't judged, it
+-- counts as holding.
+abbrev pub Holds : List Card → Option (List ℕ) → ℤ → SubjectOf → Cause → Type 0
+Holds cs before t (on_object id act true) cause = Unit {0}
+Holds cs before t (on_object id act false) NotFound = IsNotFound cs (meant id before)
+Holds cs before t (on_object id act false) WrongState = IsInWrongState cs (meant id before) t act
+Holds cs before t (on_object id act false) TakenName = Unit {0}
+Holds cs before t (on_names names) TakenName = IsNameTaken cs names
+Holds cs before t (on_names names) NotFound = Unit {0}
+Holds cs before t (on_names names) WrongState = Unit {0}
+Holds cs before t on_nothing cause = Unit {0}
+
+-- the operation takes an identifier, none is given, and the placeholder is empty
+abbrev pub IsOfNothing : Option (List ℕ) → SubjectOf → Type 0
+IsOfNothing before (on_object id act unjudged) = meant id before ≡ None
+IsOfNothing before (on_names names) = ⊥
+IsOfNothing before on_nothing = ⊥
+
+-- there is no reason, or no row of the table has it, or the item is about nothing, or the cause of some row that has it holds
+pub data FoundedOf (rules : RulesOf) (cs : List Card) (before : Option (List ℕ)) (t : ℤ) (subject : SubjectOf) (reason : Option ℕ) : Type 0 where
+  unsaid : reason ≡ None → FoundedOf rules cs before t subject reason
+  unlisted : (number : ℕ) → reason ≡ Some number → ((row : RowOf) → Contains rules.rows row → row.reason ≢ number) → FoundedOf rules cs before t subject reason
+  of_nothing : IsOfNothing before subject → FoundedOf rules cs before t subject reason
+  caused : (row : RowOf) → Contains rules.rows row → reason ≡ Some row.reason → Holds cs before t subject row.cause → FoundedOf rules cs before t subject reason
+
+abbrev pub Founded : RulesOf → List Card → Option (List ℕ) → ℤ → AskedOf → Option ℕ → Type 0
+Founded rules cs before t asked reason = FoundedOf rules cs before t (row_subject (row_of asked)) reason
+
+-- THE TEST
 
 -- the object is there, and isn't destroyed
 abbrev pub is_live_there : Option Card → Bool
@@ -41,13 +85,11 @@ abbrev pub holds_named : List Card → List NameOf → Cause → Bool
 holds_named cs names TakenName = any_named cs names
 holds_named cs names cause = true
 
--- The cause holds of the inventory at this moment. Where it isn't judged for the operation, it counts as holding.
 abbrev pub holds_of : List Card → Option (List ℕ) → ℤ → SubjectOf → Cause → Bool
 holds_of cs before t (on_object id act unjudged) cause = unjudged || holds_about cs (meant id before) t act cause
 holds_of cs before t (on_names names) cause = holds_named cs names cause
 holds_of cs before t on_nothing cause = true
 
--- the operation takes an identifier, none is given, and the placeholder is empty
 abbrev pub is_of_nothing : Option (List ℕ) → SubjectOf → Bool
 is_of_nothing before (on_object id act unjudged) = is_none (meant id before)
 is_of_nothing before (on_names names) = false
@@ -62,7 +104,6 @@ abbrev pub has_cause : RulesOf → List Card → Option (List ℕ) → ℤ → S
 has_cause rules cs before t subject reason =
     list_any (λ (row : RowOf). (row.reason == reason) && holds_of cs before t subject row.cause) rules.rows
 
--- there is no reason, or no row has it, or the item is about nothing, or some row's cause holds
 abbrev pub founded_of : RulesOf → List Card → Option (List ℕ) → ℤ → SubjectOf → Option ℕ → Bool
 founded_of rules cs before t subject None = true
 founded_of rules cs before t subject (Some reason) =
@@ -70,3 +111,8 @@ founded_of rules cs before t subject (Some reason) =
 
 abbrev pub founded : RulesOf → List Card → Option (List ℕ) → ℤ → AskedOf → Option ℕ → Bool
 founded rules cs before t asked reason = founded_of rules cs before t (row_subject (row_of asked)) reason
+
+-- the test says exactly the definition
+abbrev pub FoundedIsDecided : Type 0
+FoundedIsDecided =
+    (rules : RulesOf) (cs : List Card) (before : Option (List ℕ)) (t : ℤ) (asked : AskedOf) (reason : Option ℕ) → (founded rules cs before t asked reason ≡ true) ↔ Founded rules cs before t asked reason

@@ -9,7 +9,7 @@ pub mod Adding
 pub mod Create
 pub mod Register
 pub mod Get
-pub mod ShownAttributes
+pub mod GetAttributes
 pub mod Changes
 pub mod Activate
 pub mod Revoke
@@ -22,6 +22,7 @@ pub mod Completes
 pub mod Chains
 pub mod Blame
 pub mod Explains
+pub mod OneInventory
 pub mod After
 pub mod Shown
 pub mod Looking

@@ -10,7 +10,7 @@ use Rattle.kmipa_msgs.specs.Messages.{PayloadOf}
 use Rattle.kmipa_ops.specs.declared.why.Why.{Why}
 use Rattle.kmipa_ops.specs.declared.why.Why.TheVariants.{ListedWrongly, ListedTooFew}
 use Rattle.kmipa_ops.specs.Objects.{card_meant, Echoes, Agree, is_other, clash}
-use Rattle.kmipa_ops.specs.ShownAttributes.{AreAmong, has_stranger}
+use Rattle.kmipa_ops.specs.GetAttributes.{AreAmong, has_stranger}
 use Rattle.kmipa_ops.specs.Row.{Deed, on_nothing}
 use Rattle.kmipa_ops.specs.Looking.{Look, look_deed}
 

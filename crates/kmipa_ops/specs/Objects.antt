@@ -1,6 +1,6 @@
 -- What an item is about: the identifier that is meant, the object that has it, and the fields that repeat what is known.
 use Rattle.std.specs.Prelude.{◌≡◌, ◌&&◌, ◌==◌, ℕ, Bool, false, not, List, Option, Some, None, bytes_eq, slice_get, option_and_then}
-use Rattle.std.specs.List.{list_any}
+use Rattle.std.specs.List.{Contains, list_any}
 use Rattle.kmipa_attrs.specs.Sets.{NameOf}
 use Rattle.kmipa_attrs.specs.ObjectTypes.{type_number}
 use Rattle.kmipa_attrs.specs.declared.object_type.ObjectType.{ObjectType}
@@ -54,6 +54,9 @@ abbrev pub same_name : NameOf → NameOf → Bool
 same_name a b = (a.kind == b.kind) && bytes_eq a.value b.value
 
 -- the object has one of these names
+abbrev pub HasNameOf : List NameOf → Card → Type 0
+HasNameOf names c = (n : NameOf) × Contains names n × Contains c.given.names n
+
 abbrev pub is_named : List NameOf → Card → Bool
 is_named names c = list_any (λ (mine : NameOf). list_any (λ (asked : NameOf). same_name asked mine) names) c.given.names
 

@@ -7,7 +7,7 @@ use Rattle.kmipa_ops.specs.Get.{get_deed}
 use Rattle.kmipa_ops.specs.Register.{register_deed}
 use Rattle.kmipa_ops.specs.Revoke.{revoke_deed}
 use Rattle.kmipa_ops.specs.Row.{deed, idle, unknown, Row}
-use Rattle.kmipa_ops.specs.ShownAttributes.{get_attributes_deed}
+use Rattle.kmipa_ops.specs.GetAttributes.{get_attributes_deed}
 
 abbrev pub row_of : AskedOf → Row
 row_of (creates a) = deed (create_deed a)

@@ -49,7 +49,13 @@ impl<'a> Deed for Activation<'a> {
         t: i64,
         payload: &Option<Payload>,
     ) -> Option<Why> {
-        why_not_changed(ledger, placeholder.meant(self.id), t, Change::Activate, id_shown(payload))
+        why_not_changed(
+            ledger,
+            placeholder.meant(self.id),
+            t,
+            Change::Activate,
+            id_shown(payload),
+        )
     }
 
     fn leave<L: Ledger>(

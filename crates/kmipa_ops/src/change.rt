@@ -14,10 +14,10 @@ ghost use Rattle.kmipa_ops.specs.Meant.{is_not};
 use crate::echo::is_other_id;
 use crate::objects::{object_meant, place_meant};
 use crate::why::Why;
+use kmipa_msgs::Payload;
 use kmipa_object::{
     Act, Allow, Life, Object, WrongState, activated, allows, destroyed, revoked, state_at,
 };
-use kmipa_msgs::Payload;
 use kmipa_store::Ledger;
 use std::alloc::AllocError;
 

@@ -11,8 +11,8 @@ ghost use Rattle.kmipa_ops.specs.Whys.{whys};
 ghost use Rattle.kmipa_ops.specs.Adding.{with_own, newborn};
 ghost use Rattle.kmipa_ops.specs.Create.{seen_created, create_speaks};
 
-use crate::deed::{Deed, Subject};
 use crate::adding::{Newborn, add, why_not_added};
+use crate::deed::{Deed, Subject};
 use crate::placeholder::Placeholder;
 use crate::why::Why;
 use kmipa_attrs::{AttrSet, ObjectType};

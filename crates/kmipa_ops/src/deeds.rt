@@ -28,4 +28,5 @@ macro_rules! with_deed {
         }
     };
 }
+
 pub(crate) use with_deed;

@@ -74,7 +74,14 @@ fn has_cause<L: Ledger>(
 ) -> bool
     ensures { result ≡ has_cause (rules_of rules.now) (cards_of (L.state ledger.now).now.objects) (placeholder_of placeholder.now) t (subject_of subject.entry) reason }
 {
-    any_cause(ledger, rules.rows.as_slice(), placeholder, t, subject, reason)
+    any_cause(
+        ledger,
+        rules.rows.as_slice(),
+        placeholder,
+        t,
+        subject,
+        reason,
+    )
 }
 
 fn any_cause<L: Ledger>(

@@ -8,7 +8,7 @@ ghost use Rattle.kmipa_object.specs.Life.{dates_of};
 ghost use Rattle.kmipa_store.specs.Ledger.{cards_of};
 ghost use Rattle.kmipa_msgs.specs.Messages.{get_attributes_of, gets_attributes, got_attributes_of, maybe_lent, payload_of};
 ghost use Rattle.kmipa_ops.specs.Objects.{clash};
-ghost use Rattle.kmipa_ops.specs.ShownAttributes.{seen_attributes, attributes_speak, get_attributes_speaks, is_foreign_date, shows_foreign, shows_other_date, shows_other_value};
+ghost use Rattle.kmipa_ops.specs.GetAttributes.{seen_attributes, attributes_speak, get_attributes_speaks, is_foreign_date, shows_foreign, shows_other_date, shows_other_value};
 ghost use Rattle.kmipa_ops.specs.Whys.{whys};
 
 use crate::deed::{Deed, Subject};

@@ -18,7 +18,7 @@ pub(crate) enum Judged {
 
 impl Judged {
     ghost use Rattle.std.specs.Prelude.{◌≡◌};
-    ghost use Rattle.kmipa_ops.specs.ShownAttributes.{judged_tag};
+    ghost use Rattle.kmipa_ops.specs.GetAttributes.{judged_tag};
 
     /// Its tag.
     pub(crate) fn tag(self) -> u32

@@ -2,6 +2,8 @@
 
 ghost use Rattle.kmipa_ops.specs.Chains.{ChainsComplete};
 ghost use Rattle.kmipa_ops.specs.Explains.{BlameIsExact};
+ghost use Rattle.kmipa_ops.specs.Founded.{FoundedIsDecided};
+ghost use Rattle.kmipa_ops.specs.OneInventory.{StandsForOne, TakingDecides};
 
 /// A chain whose answers may be completed is a chain of some completed answers.
 pub fn chains_complete()
@@ -11,4 +13,20 @@ pub fn chains_complete()
 /// No reason speaks against an answer exactly where some choice of the unknown bytes allows it.
 pub fn blame_is_exact()
     ensures { BlameIsExact }
+{}
+
+/// A ledger that knows all bytes stands for one inventory.
+pub fn stands_for_one()
+    ensures { StandsForOne }
+{}
+
+/// Taking an item over a ledger that knows all bytes is two-way: it is taken exactly where some completed answer leads on from the one
+/// inventory, and the ledger then stands for just what such an answer leads to.
+pub fn taking_decides()
+    ensures { TakingDecides }
+{}
+
+/// A reason passes the test exactly where it is founded.
+pub fn founded_is_decided()
+    ensures { FoundedIsDecided }
 {}

@@ -25,7 +25,9 @@ mod revoke;
 mod taking;
 mod why;
 
-pub use laws::{blame_is_exact, chains_complete};
+pub use laws::{
+    blame_is_exact, chains_complete, founded_is_decided, stands_for_one, taking_decides,
+};
 pub use placeholder::Placeholder;
 pub use readable::is_readable;
 pub use taking::take;

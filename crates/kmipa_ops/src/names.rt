@@ -4,7 +4,7 @@ ghost use Rattle.std.specs.Prelude.{◌≡◌, map, not};
 ghost use Rattle.std.specs.List.{list_any};
 ghost use Rattle.kmipa_attrs.specs.Sets.{name_of};
 ghost use Rattle.kmipa_ops.specs.Objects.{same_name};
-ghost use Rattle.kmipa_ops.specs.ShownAttributes.{has_stranger};
+ghost use Rattle.kmipa_ops.specs.GetAttributes.{has_stranger};
 
 use crate::objects::is_among;
 use kmipa_attrs::Name;

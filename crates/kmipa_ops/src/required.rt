@@ -6,7 +6,7 @@ ghost use Rattle.kmipa_attrs.specs.Sets.{attributes_of};
 ghost use Rattle.kmipa_object.specs.Inventory.{card_of};
 ghost use Rattle.kmipa_object.specs.Life.{dates_of};
 ghost use Rattle.kmipa_msgs.specs.Messages.{get_attributes_of};
-ghost use Rattle.kmipa_ops.specs.ShownAttributes.{asks_for, lacks_asked, lacks_date, lacks_name, lacks_required, lacks_value, leaves_out};
+ghost use Rattle.kmipa_ops.specs.GetAttributes.{asks_for, lacks_asked, lacks_date, lacks_name, lacks_required, lacks_value, leaves_out};
 
 use crate::judged::Judged;
 use crate::names::has_stranger;

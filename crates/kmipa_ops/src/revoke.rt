@@ -44,7 +44,13 @@ impl<'a> Deed for Revoke<'a> {
         payload: &Option<Payload>,
     ) -> Option<Why> {
         let change = Change::Revoke(self.code);
-        why_not_changed(ledger, placeholder.meant(self.id), t, change, id_shown(payload))
+        why_not_changed(
+            ledger,
+            placeholder.meant(self.id),
+            t,
+            change,
+            id_shown(payload),
+        )
     }
 
     fn leave<L: Ledger>(

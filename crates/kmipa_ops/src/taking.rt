@@ -21,8 +21,7 @@ use crate::failed::is_founded;
 use crate::idle::{Idle, Unread};
 use crate::placeholder::Placeholder;
 use crate::why::{Refusal, Why};
-use kmipa_msgs::{Answer, Ask, Asked, Payload, Rules};
-use kmipa_msgs::Status;
+use kmipa_msgs::{Answer, Ask, Asked, Payload, Rules, Status};
 use kmipa_store::Ledger;
 use std::alloc::{AllocError, Global};
 
@@ -55,7 +54,16 @@ pub fn take<L: Ledger>(
         batch_id: ask.batch_id,
         number: ask.number(),
     };
-    take_asked(alloc, ledger, rules, placeholder, t, frame, &ask.asked, answer)
+    take_asked(
+        alloc,
+        ledger,
+        rules,
+        placeholder,
+        t,
+        frame,
+        &ask.asked,
+        answer,
+    )
 }
 
 /// The list of the operations.

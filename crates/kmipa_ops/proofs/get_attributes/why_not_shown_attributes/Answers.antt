@@ -3,7 +3,7 @@ use Rattle.std.specs.Int.{w64}
 use Rattle.std.proofs.lemmas.Int.{to_z-of_z}
 use Rattle.kmipa_store.specs.Ledger.{held}
 use Rattle.kmipa_msgs.specs.Messages.{maybe_lent, get_attributes_of, got_attributes_of}
-use Rattle.kmipa_ops.proofs.ShownReasonLemmas.{why_there}
+use Rattle.kmipa_ops.proofs.GetAttributesLemmas.{why_there}
 use Rattle.kmipa_ops.proofs.get_attributes.why_not_shown_attributes.Goals as goal
 
 pub returns : goal.returns

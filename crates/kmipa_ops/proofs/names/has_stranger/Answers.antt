@@ -1,5 +1,5 @@
 use Rattle.std.proofs.Common.{◌∙◌}
-use Rattle.kmipa_ops.proofs.ShownReasonLemmas.{stranger_is}
+use Rattle.kmipa_ops.proofs.NameLemmas.{stranger_is}
 use Rattle.kmipa_ops.proofs.names.has_stranger.Goals as goal
 
 pub returns : goal.returns

@@ -3,7 +3,7 @@ use Rattle.std.specs.List.{list_any}
 use Rattle.kmipa_attrs.specs.Sets.{name_of}
 use Rattle.kmipa_attrs.specs.declared.name.Name.{Name}
 use Rattle.kmipa_ops.specs.Objects.{same_name}
-use Rattle.kmipa_ops.proofs.MeantLemmas.{named_is}
+use Rattle.kmipa_ops.proofs.NameLemmas.{named_is}
 use Rattle.kmipa_ops.proofs.objects.is_named.Goals as goal
 
 pub returns : goal.returns

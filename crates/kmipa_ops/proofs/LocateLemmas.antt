@@ -1,7 +1,6 @@
--- Locate only looks.
-use Rattle.std.proofs.Common.{◌≡◌, ◌&&◌, ◌||◌, ◌==◌, ℕ, ℤ, Bool, true, false, not, is_none, is_some, bytes_eq, find, length, List, Option, Some, None, refl, ap, sym, ◌∙◌, subst}
+-- Locate only looks: what is listed is right exactly where nothing speaks against it.
+use Rattle.std.proofs.Common.{◌≡◌, ◌&&◌, ◌||◌, ◌==◌, ℕ, ℤ, Bool, true, false, not, is_none, is_some, bytes_eq, find, length, List, Option, Some, None, refl, ap, sym, ◌∙◌, subst, get_or}
 use Rattle.std.specs.List.{Contains, list_any}
-use Rattle.std.proofs.Common.{get_or}
 use Rattle.std.specs.Bool.{Decides}
 use Rattle.std.specs.Ordering.{int_eq}
 use Rattle.std.proofs.lemmas.Bool.{or_parts, and_parts, and_from}
@@ -15,36 +14,12 @@ use Rattle.kmipa_msgs.specs.Messages.{PayloadOf}
 use Rattle.kmipa_ops.specs.declared.why.Why.{Why}
 use Rattle.kmipa_ops.specs.declared.why.Why.TheVariants.{ListedWrongly, ListedTooFew}
 use Rattle.kmipa_ops.specs.Objects.{card_meant, is_other, clash}
-use Rattle.kmipa_ops.specs.ShownAttributes.{has_stranger}
+use Rattle.kmipa_ops.specs.GetAttributes.{has_stranger}
 use Rattle.kmipa_ops.specs.Locate.{FilterOf, May, Must, may_fit, is_doubtful, must_fit, has_repeat, is_over, is_full, IsFitting, fits_here, is_listed, Lists, locate_speaks, locate_look}
-use Rattle.kmipa_ops.proofs.TestLemmas.{not_false, echoes_if, echoes_not, agree_if, agree_not}
-use Rattle.kmipa_ops.proofs.ShownAttributeLemmas.{five_parts, five_cases, three_cases, strangers_if, strangers_not}
+use Rattle.kmipa_ops.proofs.TestLemmas.{false_if, not_true, each_if, each_not, five_parts, five_cases, three_cases, not_false, echoes_if, echoes_not, agree_if, agree_not}
+use Rattle.kmipa_ops.proofs.NameLemmas.{strangers_if, strangers_not}
 use Rattle.kmipa_ops.proofs.DeedLaws.{outer_whys}
 use Rattle.kmipa_ops.proofs.LookLemmas.{IsLook}
-
-false_if : (b : Bool) → (b ≡ true → ⊥) → b ≡ false
-false_if true h = absurd (h refl)
-false_if false h = refl
-
-not_true : (b : Bool) → not b ≡ true → b ≡ false
-not_true true h = cc
-not_true false h = refl
-
--- each element passes a test, or one doesn't
-module _ {X : Type 0} (p : X → Bool) (P : X → Type 0) (decides : (x : X) → Decides (p x) (P x)) where
-  each_if : (xs : List X) → list_any (λ (x : X). not (p x)) xs ≡ false → (x : X) → Contains xs x → P x
-  each_if xs h x at =
-      (decides x).0 (not_false (p x) (false_if (not (p x)) (λ e.
-      let found : list_any (λ (y : X). not (p y)) xs ≡ true = list_any_at (λ (y : X). not (p y)) xs at.0 x at.1 (ap (λ (y : X). not (p y)) at.2 ∙ e) in
-      let bad : true ≡ false = sym found ∙ h in
-      cc)))
-
-  each_not : (xs : List X) → list_any (λ (x : X). not (p x)) xs ≡ true → ((x : X) → Contains xs x → P x) → ⊥
-  each_not xs h f =
-      let a = Any-from_list_any (λ (x : X). not (p x)) xs h in
-      let is : not (p a.1) ≡ false = ap not ((decides a.1).1 (f a.1 (a.0, a.2, a.3))) in
-      let out : not (p a.1) ≡ true = a.4 in
-      cc
 
 may_decides : (q : FilterOf) (t : ℤ) (c : Card) → Decides (may_fit q t c) (May q t c)
 may_decides q t c = (

@@ -1,5 +1,4 @@
--- Get Attributes: which attributes of an object its answer may show at a moment, and which it must (KMIP 2.1, section 6; what is required:
--- profile).
+-- Get Attributes: which attributes of an object its answer may show at a moment, and which it must (KMIP 2.1, section 6; what is required: profile).
 use Rattle.std.specs.Prelude.{◌≡◌, ◌==◌, ◌&&◌, ◌||◌, ℕ, ℤ, Bool, true, false, not, is_none, is_some, IsSome, cond, List, Option, Some, None}
 use Rattle.std.specs.List.{Contains, list_any}
 use Rattle.std.specs.Ordering.{int_eq}
@@ -8,7 +7,6 @@ use Rattle.kmipa_attrs.specs.ObjectTypes.{type_number}
 use Rattle.kmipa_object.specs.Inventory.{Card, Thing, live}
 use Rattle.kmipa_object.specs.Life.{Dates, state, state_number}
 use Rattle.kmipa_msgs.specs.Messages.{RulesOf, GetAttributesOf, GotAttributesOf, PayloadOf, got_attributes}
-use Rattle.kmipa_object.specs.declared.allow.Act.TheVariants as act
 use Rattle.kmipa_store.specs.Ledger.{Meaning, cards_of}
 use Rattle.kmipa_ops.specs.Sayable.{IsSayableId}
 use Rattle.kmipa_ops.specs.Row.{Deed, on_object}
@@ -17,6 +15,7 @@ use Rattle.kmipa_ops.specs.declared.judged.Judged.TheVariants.{Name, ObjectType,
 use Rattle.kmipa_ops.specs.declared.why.Why.{Why}
 use Rattle.kmipa_ops.specs.declared.why.Why.TheVariants.{NoSuchObject, AttributeDiffers, AttributeMissing, EchoDiffers}
 use Rattle.kmipa_ops.specs.Objects.{meant, HasObject, card_meant, Echoes, Agree, is_other, is_other_id, clash, same_name}
+use Rattle.kmipa_object.specs.declared.allow.Act.TheVariants as act
 
 -- WHAT MAY BE SHOWN
 

@@ -1,5 +1,5 @@
--- Get Attributes: the reasons speak exactly where the answer isn't possible, of inventories and of ledgers.
-use Rattle.std.proofs.Common.{◌≡◌, ◌&&◌, ◌||◌, ◌==◌, ℕ, ℤ, Bool, true, false, not, List, slice_get, get_or, is_none, is_some, bytes_eq, option_map, Option, Some, None, refl, ap, sym, ◌∙◌, subst}
+-- Get Attributes: the reasons speak exactly where the answer isn't possible, of inventories and of ledgers; it keeps the laws of operations.
+use Rattle.std.proofs.Common.{◌≡◌, ◌&&◌, ◌||◌, ◌==◌, ℕ, ℤ, Bool, true, false, not, List, slice_get, get_or, is_none, is_some, bytes_eq, option_map, Option, Some, None, refl, ap, sym, ◌∙◌, subst, IfSome, IsUtf8, find, inl, cond, map}
 use Rattle.std.specs.Bool.{Decides}
 use Rattle.std.specs.List.{Contains, list_any}
 use Rattle.std.specs.Option.{option_and_then}
@@ -9,43 +9,27 @@ use Rattle.std.proofs.lemmas.Bool.Decides.{Decides-eqb, Decides-int_eq}
 use Rattle.std.proofs.lemmas.List.Folds.{Any-from_list_any, list_any_at}
 use Rattle.std.proofs.lemmas.Option.{slice_get-map}
 use Rattle.std.proofs.lemmas.Slice.Eq.{bytes_eq-Decides}
-use Rattle.kmipa_attrs.specs.Sets.{NameOf, Attributes}
+use Rattle.kmipa_attrs.specs.Sets.{NameOf, Attributes, name_of}
 use Rattle.kmipa_attrs.specs.ObjectTypes.{type_number}
 use Rattle.kmipa_object.specs.Inventory.{Card, Thing, cards, place_of, live}
 use Rattle.kmipa_object.specs.Life.{state, state_number}
-use Rattle.kmipa_store.specs.Ledger.{Meaning, cards_of}
+use Rattle.kmipa_store.specs.Ledger.{Meaning, cards_of, Held}
 use Rattle.kmipa_store.specs.Choices.{Choice, inv, IsSound}
 use Rattle.kmipa_store.proofs.InventoryLemmas.{cards-inv}
-use Rattle.kmipa_msgs.specs.Messages.{GetAttributesOf, GotAttributesOf}
+use Rattle.kmipa_msgs.specs.Messages.{GetAttributesOf, GotAttributesOf, PayloadOf, got_attributes}
 use Rattle.kmipa_ops.specs.declared.judged.Judged.TheVariants.{Name, ObjectType, CryptographicAlgorithm, CryptographicLength, CryptographicUsageMask, State, InitialDate, ActivationDate, DeactivationDate, DestroyDate, CompromiseDate}
 use Rattle.kmipa_ops.specs.declared.why.Why.{Why}
 use Rattle.kmipa_ops.specs.declared.why.Why.TheVariants.{NoSuchObject, AttributeDiffers, AttributeMissing, EchoDiffers}
 use Rattle.kmipa_ops.specs.Objects.{meant, HasObject, card_meant, Agree, is_other_id, clash, same_name}
-use Rattle.kmipa_ops.specs.ShownAttributes.{AreAmong, IsHad, IsOwnAt, ShowsAsked, HasRequired, GetsAttributes, has_stranger, is_foreign_date, asks_for, leaves_out, shows_other_value, shows_other_date, shows_foreign, shows_foreign_of, lacks_name, lacks_value, lacks_date, lacks_asked, lacks_required, lacks_required_of, get_attributes_speaks}
-use Rattle.kmipa_ops.proofs.TestLemmas.{not_false, not_none, echoes_if, echoes_not, agree_if, agree_not}
+use Rattle.kmipa_ops.specs.GetAttributes.{AreAmong, IsHad, IsOwnAt, ShowsAsked, HasRequired, GetsAttributes, has_stranger, is_foreign_date, asks_for, leaves_out, shows_other_value, shows_other_date, shows_foreign, shows_foreign_of, lacks_name, lacks_value, lacks_date, lacks_asked, lacks_required, lacks_required_of, get_attributes_speaks, SaysAttributes, seen_attributes, get_attributes_deed, attributes_speak}
+use Rattle.kmipa_ops.proofs.NameLemmas.{strangers_if, strangers_not, stranger_is}
+use Rattle.kmipa_ops.proofs.TestLemmas.{five_parts, five_cases, three_cases, not_false, not_none, echoes_if, echoes_not, agree_if, agree_not}
 use Rattle.kmipa_ops.proofs.StepLemmas.{Step, still_step}
-
--- TESTS OF SEVERAL PARTS
-
-pub five_parts : (a b c d e : Bool) → (a || b || c || d || e) ≡ false → (a ≡ false) × (b ≡ false) × (c ≡ false) × (d ≡ false) × (e ≡ false)
-five_parts a b c d e h =
-    let w = or_parts (a || b || c || d) e h in
-    let x = or_parts (a || b || c) d w.0 in
-    let y = or_parts (a || b) c x.0 in
-    let z = or_parts a b y.0 in
-    (z.0, z.1, y.1, x.1, w.1)
-
-pub five_cases : (a b c d e : Bool) → (a || b || c || d || e) ≡ true → (a ≡ true → ⊥) → (b ≡ true → ⊥) → (c ≡ true → ⊥) → (d ≡ true → ⊥) → (e ≡ true → ⊥) → ⊥
-five_cases true b c d e h p q r s t = p refl
-five_cases false true c d e h p q r s t = q refl
-five_cases false false true d e h p q r s t = r refl
-five_cases false false false true e h p q r s t = s refl
-five_cases false false false false e h p q r s t = t h
-
-pub three_cases : (a b c : Bool) → (a || b || c) ≡ true → (a ≡ true → ⊥) → (b ≡ true → ⊥) → (c ≡ true → ⊥) → ⊥
-three_cases true b c h p q r = p refl
-three_cases false true c h p q r = q refl
-three_cases false false c h p q r = r h
+use Rattle.kmipa_ops.proofs.DeedLaws.{outer_whys, IsDeed}
+use Rattle.kmipa_ops.specs.Whys.{whys}
+use Rattle.kmipa_ops.specs.Meant.{object_meant}
+use Rattle.kmipa_ops.proofs.MeantLemmas.{card_meant_is}
+use Rattle.kmipa_ops.proofs.ScanLemmas.{any_map, any_same}
 
 -- asked for, there, and not shown
 out_if : (asked own shown : Bool) → (asked && own && not shown) ≡ false → asked ≡ true → own ≡ true → shown ≡ true
@@ -68,50 +52,6 @@ lacking_if : (alive others lacks : Bool) → (alive && not others && lacks) ≡ 
 lacking_if true false lacks h a o = h
 lacking_if true true lacks h a o = cc
 lacking_if false others lacks h a o = cc
-
--- NAMES
-
-same_name-Decides : (m n : NameOf) → Decides (same_name m n) (m ≡ n)
-same_name-Decides m n = (
-  λ h.
-      let w = and_parts (m.kind == n.kind) (bytes_eq m.value n.value) h in
-      let p : m.value ≡ n.value = (bytes_eq-Decides m.value n.value).0 w.1 in
-      let q : m.kind ≡ n.kind = (Decides-eqb m.kind n.kind).0 w.0 in
-      λ i. record { value = p i; kind = q i },
-  λ e.
-      and_from (m.kind == n.kind) (bytes_eq m.value n.value) ((Decides-eqb m.kind n.kind).1 (ap (λ (x : NameOf). x.kind) e))
-      ((bytes_eq-Decides m.value n.value).1 (ap (λ (x : NameOf). x.value) e)),
-)
-
-abbrev is_known : List NameOf → NameOf → Bool
-is_known known n = list_any (λ (k : NameOf). same_name k n) known
-
-known_if : (known : List NameOf) (n : NameOf) → is_known known n ≡ true → Contains known n
-known_if known n h =
-    let a = Any-from_list_any (λ (k : NameOf). same_name k n) known h in
-    let P : NameOf → Type 0 = λ x. Contains known x in
-    subst P ((same_name-Decides a.1 n).0 a.4) (a.0, a.2, a.3)
-
-known_not : (known : List NameOf) (n : NameOf) → Contains known n → is_known known n ≡ true
-known_not known n at = list_any_at (λ (k : NameOf). same_name k n) known at.0 n at.1 ((same_name-Decides (get_or known at.0 n) n).1 at.2)
-
-pub strangers_if : (known names : List NameOf) → has_stranger known names ≡ false → AreAmong known names
-strangers_if known names h n at =
-    (elim (is_known known n) as (λ b. is_known known n ≡ b → Contains known n) [
-      | true ↦ λ e. known_if known n e
-      | false ↦ λ e.
-          let found : has_stranger known names ≡ true =
-          list_any_at (λ (m : NameOf). not (is_known known m)) names at.0 n at.1 (ap (λ (m : NameOf). not (is_known known m)) at.2 ∙ ap not e) in
-          let bad : ⊥ = cc in
-          absurd bad
-    ]) refl
-
-pub strangers_not : (known names : List NameOf) → has_stranger known names ≡ true → AreAmong known names → ⊥
-strangers_not known names h among =
-    let a = Any-from_list_any (λ (m : NameOf). not (is_known known m)) names h in
-    let is : not (is_known known a.1) ≡ false = ap not (known_not known a.1 (among a.1 (a.0, a.2, a.3))) in
-    let out : not (is_known known a.1) ≡ true = a.4 in
-    cc
 
 -- WHAT MAY BE SHOWN
 
@@ -401,3 +341,53 @@ module _ (m : Meaning) (before : Option (List ℕ)) (t : ℤ) (asked : GetAttrib
       → (c : Choice) (V : List Thing) (p : Option (List ℕ)) → GetsAttributes (inv c m.objects) before t asked a V p → ⊥
   hidden_attributes_never a w h c V p x =
       gets_not (inv c m.objects) before t asked a w (hidden_speaks (inv c m.objects) before t asked a w (speaks_of c None w ∙ h)) V p x
+
+one_attributes : (p : PayloadOf) (a : GotAttributesOf) → seen_attributes p ≡ Some a → p ≡ got_attributes a
+one_attributes (got_attributes b) a e = let same : b ≡ a = cc in ap got_attributes same
+one_attributes p a e = let bad : ⊥ = cc in absurd bad
+
+quiet_attributes : (cs : List Card) (about : Option (List ℕ)) (t : ℤ) (g : GetAttributesOf) (shown : Option GotAttributesOf) → find (get_attributes_speaks cs about t g shown) outer_whys ≡ None
+quiet_attributes cs meant_id t g None = refl
+quiet_attributes cs meant_id t g (Some a) = refl
+
+covers_attributes : (cs : List Card) (about : Option (List ℕ)) (t : ℤ) (g : GetAttributesOf) (a : GotAttributesOf) (w : Why) → get_attributes_speaks cs about t g None w ≡ true
+    → get_attributes_speaks cs about t g (Some a) w ≡ true
+covers_attributes cs about t g a NoSuchObject h = h
+covers_attributes cs about t g a w h = cc
+
+-- an answer without payload: the object's attributes complete it
+hidden_of : (m : Meaning) (before : Option (List ℕ)) (t : ℤ) (g : GetAttributesOf) → IsSound m → ((w : Why) → get_attributes_speaks (cards_of m.objects) (meant g.id before) t g None w ≡ false)
+    → Step (λ V V' p. (a : GotAttributesOf) × SaysAttributes a × GetsAttributes V before t g a V' p) m m before
+hidden_of m before t g sound silent =
+    let P : Option (List ℕ) → Type 0 = λ o. IfSome o (λ (id : List ℕ). IsUtf8 id) in
+    still_step (λ V V' p. (a : GotAttributesOf) × SaysAttributes a × GetsAttributes V before t g a V' p) m before sound
+    (λ c ch. let h = hidden_attributes m before t g silent c in (h.0, subst P (sym h.1) tt, h.2))
+    (λ V V' p x. (x.2.leaves, x.2.placeholder))
+
+pub is_get_attributes : (g : GetAttributesOf) → IsDeed (get_attributes_deed g)
+is_get_attributes g = record {
+  back = λ a. refl;
+  one = one_attributes;
+  quiet = λ rules m before t shown. quiet_attributes (cards_of m.objects) (meant g.id before) t g shown;
+  covers = λ rules m before t a w h. covers_attributes (cards_of m.objects) (meant g.id before) t g a w h;
+  step = λ rules m before t a sound brought shown silent. attributes_step m before t g a sound silent;
+  never = λ rules m before t a w h c ch V p x. attributes_never m before t g a w h c V p x;
+  hidden = λ rules m before t may sound silent. hidden_of m before t g sound silent;
+  learns = λ m before t shown number bytes e. inl e;
+}
+
+-- against an answer about an object that is there
+module _ (hs : List Held) (about : Option (List ℕ)) (t : ℤ) (g : GetAttributesOf) (h : Held) where
+  meant_card : Some h ≡ object_meant hs about → Some h.card ≡ card_meant (cards_of hs) about
+  meant_card e = ap (option_map (λ (x : Held). x.card)) e ∙ sym (card_meant_is hs about)
+
+  whys_there : (shown : Option GotAttributesOf) → Some h ≡ object_meant hs about → attributes_speak h.card about t g shown ≡ find (get_attributes_speaks (cards_of hs) about t g shown) whys
+  whys_there None e = ap (λ (o : Option Card). cond (is_none o) (Some NoSuchObject) None) (meant_card e)
+  whys_there (Some a) e =
+      ap (λ (o : Option Card). cond (is_none o) (Some NoSuchObject)
+      (cond (shows_foreign_of o t a.attributes) (Some AttributeDiffers)
+      (cond (lacks_required_of g o a.attributes) (Some AttributeMissing) (cond (is_other_id a.id about) (Some EchoDiffers) None)))) (meant_card e)
+
+  pub why_there : (shown : Option GotAttributesOf) (u : ℤ) (why : Option Why) → Some h ≡ object_meant hs about → u ≡ t → why ≡ attributes_speak h.card about u g shown
+      → why ≡ find (get_attributes_speaks (cards_of hs) about t g shown) whys
+  why_there shown u why e is w = w ∙ ap (λ (x : ℤ). attributes_speak h.card about x g shown) is ∙ whys_there shown e
