@@ -11,10 +11,10 @@ use Rattle.kmipa_check.specs.declared.verdict.Refused.{Refused}
 use Rattle.kmipa_check.specs.declared.verdict.Verdict.{Verdict}
 use Rattle.kmipa_check.specs.declared.verdict.Verdict.TheVariants as verdict
 use Rattle.kmipa_check.proofs.StampLemmas.{refused_answered}
-use Rattle.kmip_audit.specs.Statuses.{IsSilent}
-use Rattle.kmip_audit.specs.Lines.{IsDated, PrintsDate, PrintsVerdict, no_line}
-use Rattle.kmip_audit.specs.declared.status.Status.{Status}
-use Rattle.kmip_audit.specs.declared.status.Status.TheVariants as status
+use Rattle.kmipa_runs.specs.Statuses.{IsSilent}
+use Rattle.kmipa_runs.specs.Lines.{IsDated, PrintsDate, PrintsVerdict, no_line}
+use Rattle.kmipa_runs.specs.declared.status.Status.{Status}
+use Rattle.kmipa_runs.specs.declared.status.Status.TheVariants as status
 
 dated_at : (audited : Audited) (t d w : List ℕ) → AreJudged audited t d w → (refused : Refused) → audited.verdict ≡ verdict.No refused → (stamp : Option ℤ)
     → TellsStamp (transcript_of audited.transcript) refused.call stamp → (dated : List ℕ) → PrintsDate stamp dated → (lines : List ℕ) → lines ≡ no_line refused ++ dated → IsDated lines t d w

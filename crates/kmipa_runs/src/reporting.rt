@@ -3,8 +3,8 @@
 ghost use Rattle.std.specs.Prelude.{◌≡◌, ◌⊎◌, IsOkAnd, string_bytes};
 ghost use Rattle.std.specs.Io.{StartsWith, appended_bytes};
 ghost use Rattle.kmipa_record.specs.Transcripts.{transcript_of};
-ghost use Rattle.kmip_audit.specs.Statuses.{IsSilent};
-ghost use Rattle.kmip_audit.specs.Lines.{PrintsVerdict};
+ghost use Rattle.kmipa_runs.specs.Statuses.{IsSilent};
+ghost use Rattle.kmipa_runs.specs.Lines.{PrintsVerdict};
 
 use crate::lines::{Lines, verdict_lines};
 use crate::status::Status;

@@ -3,8 +3,8 @@ use Rattle.std.proofs.lemmas.Int.{to_z-of_z}
 use mir.Val.{SFits}
 use mir.Syntax.{w32}
 use Rattle.kmipa_record.specs.Transcripts.{transcript_of}
-use Rattle.kmip_audit.proofs.LineLemmas.{no_told}
-use Rattle.kmip_audit.proofs.lines.verdict_lines.Goals as goal
+use Rattle.kmipa_runs.proofs.LineLemmas.{no_told}
+use Rattle.kmipa_runs.proofs.lines.verdict_lines.Goals as goal
 
 pub returns-in_ok-format-in-No : goal.returns-in_ok-format-in-No
 returns-in_ok-format-in-No c =

@@ -17,7 +17,7 @@ pub enum Status {
 
 impl Status {
     ghost use Rattle.std.specs.Prelude.{◌≡◌};
-    ghost use Rattle.kmip_audit.specs.Statuses.{status_number};
+    ghost use Rattle.kmipa_runs.specs.Statuses.{status_number};
 
     /// The status as the shell sees it.
     pub fn number(self) -> u8

@@ -1,7 +1,7 @@
 -- The statuses that the process ends with.
 use Rattle.std.specs.Prelude.{◌≡◌, ℕ, List, []}
-use Rattle.kmip_audit.specs.declared.status.Status.{Status}
-use Rattle.kmip_audit.specs.declared.status.Status.TheVariants.{Done, No, Refused, Failed, Usage}
+use Rattle.kmipa_runs.specs.declared.status.Status.{Status}
+use Rattle.kmipa_runs.specs.declared.status.Status.TheVariants.{Done, No, Refused, Failed, Usage}
 
 -- the number that the shell sees
 abbrev pub status_number : Status → ℕ

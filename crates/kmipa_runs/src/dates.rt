@@ -2,7 +2,7 @@
 
 ghost use Rattle.std.specs.Prelude.{◌≡◌, IfOk, string_bytes};
 ghost use Rattle.std.specs.Fmt.{signed_decimal};
-ghost use Rattle.kmip_audit.specs.Dates.{HasDate};
+ghost use Rattle.kmipa_runs.specs.Dates.{HasDate};
 
 use jiff::Timestamp;
 use std::alloc::{AllocError, Global};

@@ -23,10 +23,10 @@ use Rattle.kmipa_check.specs.declared.fault.Side.TheVariants.{Client, Server}
 use Rattle.kmipa_check.specs.declared.verdict.Refused.{Refused}
 use Rattle.kmipa_check.specs.declared.verdict.Verdict.{Verdict}
 use Rattle.kmipa_check.specs.declared.verdict.Verdict.TheVariants as verdict
-use Rattle.kmip_audit.specs.Dates.{HasDate}
-use Rattle.kmip_audit.specs.Statuses.{IsSilent}
-use Rattle.kmip_audit.specs.declared.status.Status.{Status}
-use Rattle.kmip_audit.specs.declared.status.Status.TheVariants as status
+use Rattle.kmipa_runs.specs.Dates.{HasDate}
+use Rattle.kmipa_runs.specs.Statuses.{IsSilent}
+use Rattle.kmipa_runs.specs.declared.status.Status.{Status}
+use Rattle.kmipa_runs.specs.declared.status.Status.TheVariants as status
 
 -- pieces of text on one line, with its line feed
 abbrev pub line : List (List ℕ) → List ℕ

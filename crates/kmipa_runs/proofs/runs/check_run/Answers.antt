@@ -4,9 +4,9 @@ use Rattle.kmipa_ttlv.specs.Input.{came_of}
 use Rattle.kmipa_ttlv.proofs.ReadLemmas.{itself}
 use Rattle.kmipa_record.specs.Transcripts.{transcript_of}
 use Rattle.kmipa_check.proofs.AuditLemmas.{yes_accepted}
-use Rattle.kmip_audit.proofs.LineLemmas.{verdict_dated, done_is_yes}
-use Rattle.kmip_audit.proofs.YesLemmas.{accepted_told, fault_told}
-use Rattle.kmip_audit.proofs.runs.check_run.Goals as goal
+use Rattle.kmipa_runs.proofs.LineLemmas.{verdict_dated, done_is_yes}
+use Rattle.kmipa_runs.proofs.YesLemmas.{accepted_told, fault_told}
+use Rattle.kmipa_runs.proofs.runs.check_run.Goals as goal
 
 pub returns-in-Ok-clause-dated : goal.returns-in-Ok-clause-dated
 returns-in-Ok-clause-dated g c =

@@ -3,12 +3,12 @@
 ghost use Rattle.std.specs.Prelude.{◌≡◌, ◌↔◌, ◌⊎◌, ℕ, List, [], IsTrue, Result};
 ghost use Rattle.std.specs.Io.{StartsWith, appended_bytes};
 ghost use Rattle.kmipa_ttlv.specs.Input.{came_of, is_ended, is_failed, IsFileOf};
-ghost use Rattle.kmip_audit.specs.Statuses.{IsSilent};
-ghost use Rattle.kmip_audit.specs.Lines.{FitsStatus, IsDated, PrintsOutcome, SaysYes, yes_line};
+ghost use Rattle.kmipa_runs.specs.Statuses.{IsSilent};
+ghost use Rattle.kmipa_runs.specs.Lines.{FitsStatus, IsDated, PrintsOutcome, SaysYes, yes_line};
 ghost use Rattle.kmipa_check.specs.Audits.{AreAccepted, Audits};
 
 use crate::lines::fault_lines;
-use crate::report::{append, report};
+use crate::reporting::{append, report};
 use crate::status::Status;
 use kmipa_check::{AuditFault, Audited, audit_with};
 use kmipa_ttlv::Input;
@@ -30,7 +30,7 @@ pub fn check_run<R: Read>(
     // What is printed tells what an audit answers of whatever the inputs may be, or memory ran out.
     ensures prints { (outcome : Result Audited AuditFault)
         × ((t d w : List ℕ) → IsFileOf t transcript.new → IsFileOf d declaration.new → IsFileOf w witness.new
-            → Audits t d w (is_failed transcript.new) (is_failed declaration.new) (is_failed witness.new) outcome)
+        → Audits t d w (is_failed transcript.new) (is_failed declaration.new) (is_failed witness.new) outcome)
         × (PrintsOutcome outcome result (appended_bytes out.old.items out.new.items) ⊎ IsSilent result (appended_bytes out.old.items out.new.items)) }
     // `yes` is printed with status 0, and there alone.
     ensures fits { FitsStatus result (appended_bytes out.old.items out.new.items) }

@@ -2,7 +2,7 @@
 
 ghost use Rattle.std.specs.Prelude.{◌≡◌, IfOk, string_bytes};
 ghost use Rattle.kmipa_record.specs.Transcripts.{transcript_of};
-ghost use Rattle.kmip_audit.specs.Lines.{PrintsVerdict, PrintsDate, PrintsFault, no_line, record_text, record_status, check_text, check_status, side_name};
+ghost use Rattle.kmipa_runs.specs.Lines.{PrintsVerdict, PrintsDate, PrintsFault, no_line, record_text, record_status, check_text, check_status, side_name};
 
 use crate::dates::date_text;
 use crate::status::Status;

@@ -13,11 +13,11 @@ use Rattle.kmipa_check.specs.declared.fault.CheckFault.{CheckFault}
 use Rattle.kmipa_check.specs.declared.fault.CheckFault.TheVariants as check
 use Rattle.kmipa_check.specs.declared.verdict.Verdict.{Verdict}
 use Rattle.kmipa_check.proofs.AcceptedAuditLemmas.{accepted_audit_is_yes_lem}
-use Rattle.kmip_audit.specs.Statuses.{IsSilent}
-use Rattle.kmip_audit.specs.Lines.{PrintsFault, PrintsOutcome, PrintsVerdict, SaysYes, check_status, check_text, record_status, record_text}
-use Rattle.kmip_audit.specs.declared.lines.Lines.{Lines}
-use Rattle.kmip_audit.specs.declared.status.Status.{Status}
-use Rattle.kmip_audit.specs.declared.status.Status.TheVariants as status
+use Rattle.kmipa_runs.specs.Statuses.{IsSilent}
+use Rattle.kmipa_runs.specs.Lines.{PrintsFault, PrintsOutcome, PrintsVerdict, SaysYes, check_status, check_text, record_status, record_text}
+use Rattle.kmipa_runs.specs.declared.lines.Lines.{Lines}
+use Rattle.kmipa_runs.specs.declared.status.Status.{Status}
+use Rattle.kmipa_runs.specs.declared.status.Status.TheVariants as status
 
 silent_record : (file : List ℕ) (offset : ℕ) (kind : RecordKind) (said : Status) (lines : List ℕ) → kind ≡ Memory
     → (said ≡ record_status kind) × (lines ≡ record_text file offset kind) → IsSilent said lines
