@@ -50,11 +50,15 @@ SingleFault held Repeated = 2 ≤ length held
 SingleFault held NotForClients = ⊥
 SingleFault held Memory = ⊥
 
+-- what may be there any number of times is wrong by its type alone
+abbrev pub TypeFault : {A : Type 0} → List (Option A) → AttrFault → Type 0
+TypeFault held WrongType = SomeWrong held
+TypeFault held Repeated = ⊥
+TypeFault held NotForClients = ⊥
+TypeFault held Memory = ⊥
+
 abbrev pub NamesFault : List (Option NameOf) → AttrFault → Type 0
-NamesFault held WrongType = SomeWrong held
-NamesFault held Repeated = ⊥
-NamesFault held NotForClients = ⊥
-NamesFault held Memory = ⊥
+NamesFault held told = TypeFault held told
 
 -- a child that no client may give, of whatever type
 abbrev pub ClientFault : Side → Option Tree → AttrFault → Type 0
