@@ -19,6 +19,3 @@ mod revoke;
 
 pub use request::write_request;
 pub use response::write_response;
-
-#[cfg(test)]
-mod tests;
