@@ -15,6 +15,7 @@ mod get_attributes;
 mod header;
 mod identifier;
 mod key_block;
+mod locate;
 mod object;
 mod operations;
 mod payload;
@@ -30,8 +31,3 @@ pub use response::read_response;
 
 /// What a part of a message says, or why it is outside; want of memory stands apart.
 type Read<T> = Result<Result<T, OutsideKind>, AllocError>;
-
-#[cfg(test)]
-mod lifecycle_tests;
-#[cfg(test)]
-mod tests;

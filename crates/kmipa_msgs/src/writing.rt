@@ -9,6 +9,7 @@ mod get_attributes;
 mod header;
 mod identifier;
 mod key_block;
+mod locate;
 mod object;
 mod operations;
 mod register;
@@ -18,6 +19,3 @@ mod revoke;
 
 pub use request::write_request;
 pub use response::write_response;
-
-#[cfg(test)]
-mod tests;

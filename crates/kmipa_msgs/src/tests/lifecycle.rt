@@ -1,6 +1,7 @@
 //! Tests of the readers and writers: the lifecycle of an object, and operations that are not judged.
 
-use super::tests::{Row, changed, place_of};
+use super::vectors::{ANSWERED_QUERY, LIFECYCLE, LIFECYCLE_ANSWERED, QUERY};
+use super::{Row, bytes_of, changed, place_of};
 use crate::{
     Asked, GotAttributes, OutsideKind, Payload, Status, read_payload, read_request, read_response,
     write_request, write_response,
@@ -8,68 +9,7 @@ use crate::{
 use kmipa_ttlv::{Item, decode_view, encode, spelled_len};
 use std::test::*;
 
-// Under Continue: a Create of AES and 128 with mask 12, and of `k1` a Get Attributes of State and Cryptographic Length, an Activate, a Revoke with code 1 and a Destroy.
-const REQUEST: [u8; 456] = [
-    66, 0, 120, 1, 0, 0, 1, 192, 66, 0, 119, 1, 0, 0, 0, 72, 66, 0, 105, 1, 0, 0, 0, 32, 66, 0,
-    106, 2, 0, 0, 0, 4, 0, 0, 0, 2, 0, 0, 0, 0, 66, 0, 107, 2, 0, 0, 0, 4, 0, 0, 0, 1, 0, 0, 0, 0,
-    66, 0, 14, 5, 0, 0, 0, 4, 0, 0, 0, 1, 0, 0, 0, 0, 66, 0, 13, 2, 0, 0, 0, 4, 0, 0, 0, 5, 0, 0,
-    0, 0, 66, 0, 15, 1, 0, 0, 0, 112, 66, 0, 92, 5, 0, 0, 0, 4, 0, 0, 0, 1, 0, 0, 0, 0, 66, 0, 121,
-    1, 0, 0, 0, 88, 66, 0, 87, 5, 0, 0, 0, 4, 0, 0, 0, 2, 0, 0, 0, 0, 66, 1, 37, 1, 0, 0, 0, 64,
-    66, 0, 87, 5, 0, 0, 0, 4, 0, 0, 0, 2, 0, 0, 0, 0, 66, 0, 40, 5, 0, 0, 0, 4, 0, 0, 0, 3, 0, 0,
-    0, 0, 66, 0, 42, 2, 0, 0, 0, 4, 0, 0, 0, 128, 0, 0, 0, 0, 66, 0, 44, 2, 0, 0, 0, 4, 0, 0, 0,
-    12, 0, 0, 0, 0, 66, 0, 15, 1, 0, 0, 0, 72, 66, 0, 92, 5, 0, 0, 0, 4, 0, 0, 0, 11, 0, 0, 0, 0,
-    66, 0, 121, 1, 0, 0, 0, 48, 66, 0, 148, 7, 0, 0, 0, 2, 107, 49, 0, 0, 0, 0, 0, 0, 66, 1, 59, 5,
-    0, 0, 0, 4, 0, 66, 0, 141, 0, 0, 0, 0, 66, 1, 59, 5, 0, 0, 0, 4, 0, 66, 0, 42, 0, 0, 0, 0, 66,
-    0, 15, 1, 0, 0, 0, 40, 66, 0, 92, 5, 0, 0, 0, 4, 0, 0, 0, 18, 0, 0, 0, 0, 66, 0, 121, 1, 0, 0,
-    0, 16, 66, 0, 148, 7, 0, 0, 0, 2, 107, 49, 0, 0, 0, 0, 0, 0, 66, 0, 15, 1, 0, 0, 0, 64, 66, 0,
-    92, 5, 0, 0, 0, 4, 0, 0, 0, 19, 0, 0, 0, 0, 66, 0, 121, 1, 0, 0, 0, 40, 66, 0, 148, 7, 0, 0, 0,
-    2, 107, 49, 0, 0, 0, 0, 0, 0, 66, 0, 129, 1, 0, 0, 0, 16, 66, 0, 130, 5, 0, 0, 0, 4, 0, 0, 0,
-    1, 0, 0, 0, 0, 66, 0, 15, 1, 0, 0, 0, 40, 66, 0, 92, 5, 0, 0, 0, 4, 0, 0, 0, 20, 0, 0, 0, 0,
-    66, 0, 121, 1, 0, 0, 0, 16, 66, 0, 148, 7, 0, 0, 0, 2, 107, 49, 0, 0, 0, 0, 0, 0,
-];
-
-// Its answer at 1700000000: `c1`; the type, the length and the state Pre-Active of `k1`; and `k1` three times.
-const RESPONSE: [u8; 480] = [
-    66, 0, 123, 1, 0, 0, 1, 216, 66, 0, 122, 1, 0, 0, 0, 72, 66, 0, 105, 1, 0, 0, 0, 32, 66, 0,
-    106, 2, 0, 0, 0, 4, 0, 0, 0, 2, 0, 0, 0, 0, 66, 0, 107, 2, 0, 0, 0, 4, 0, 0, 0, 1, 0, 0, 0, 0,
-    66, 0, 146, 9, 0, 0, 0, 8, 0, 0, 0, 0, 101, 83, 241, 0, 66, 0, 13, 2, 0, 0, 0, 4, 0, 0, 0, 5,
-    0, 0, 0, 0, 66, 0, 15, 1, 0, 0, 0, 72, 66, 0, 92, 5, 0, 0, 0, 4, 0, 0, 0, 1, 0, 0, 0, 0, 66, 0,
-    127, 5, 0, 0, 0, 4, 0, 0, 0, 0, 0, 0, 0, 0, 66, 0, 124, 1, 0, 0, 0, 32, 66, 0, 87, 5, 0, 0, 0,
-    4, 0, 0, 0, 2, 0, 0, 0, 0, 66, 0, 148, 7, 0, 0, 0, 2, 99, 49, 0, 0, 0, 0, 0, 0, 66, 0, 15, 1,
-    0, 0, 0, 112, 66, 0, 92, 5, 0, 0, 0, 4, 0, 0, 0, 11, 0, 0, 0, 0, 66, 0, 127, 5, 0, 0, 0, 4, 0,
-    0, 0, 0, 0, 0, 0, 0, 66, 0, 124, 1, 0, 0, 0, 72, 66, 0, 148, 7, 0, 0, 0, 2, 107, 49, 0, 0, 0,
-    0, 0, 0, 66, 1, 37, 1, 0, 0, 0, 48, 66, 0, 87, 5, 0, 0, 0, 4, 0, 0, 0, 2, 0, 0, 0, 0, 66, 0,
-    42, 2, 0, 0, 0, 4, 0, 0, 0, 128, 0, 0, 0, 0, 66, 0, 141, 5, 0, 0, 0, 4, 0, 0, 0, 1, 0, 0, 0, 0,
-    66, 0, 15, 1, 0, 0, 0, 56, 66, 0, 92, 5, 0, 0, 0, 4, 0, 0, 0, 18, 0, 0, 0, 0, 66, 0, 127, 5, 0,
-    0, 0, 4, 0, 0, 0, 0, 0, 0, 0, 0, 66, 0, 124, 1, 0, 0, 0, 16, 66, 0, 148, 7, 0, 0, 0, 2, 107,
-    49, 0, 0, 0, 0, 0, 0, 66, 0, 15, 1, 0, 0, 0, 56, 66, 0, 92, 5, 0, 0, 0, 4, 0, 0, 0, 19, 0, 0,
-    0, 0, 66, 0, 127, 5, 0, 0, 0, 4, 0, 0, 0, 0, 0, 0, 0, 0, 66, 0, 124, 1, 0, 0, 0, 16, 66, 0,
-    148, 7, 0, 0, 0, 2, 107, 49, 0, 0, 0, 0, 0, 0, 66, 0, 15, 1, 0, 0, 0, 56, 66, 0, 92, 5, 0, 0,
-    0, 4, 0, 0, 0, 20, 0, 0, 0, 0, 66, 0, 127, 5, 0, 0, 0, 4, 0, 0, 0, 0, 0, 0, 0, 0, 66, 0, 124,
-    1, 0, 0, 0, 16, 66, 0, 148, 7, 0, 0, 0, 2, 107, 49, 0, 0, 0, 0, 0, 0,
-];
-
-// A Query with a Request Payload that is no structure.
-const QUERY: [u8; 112] = [
-    66, 0, 120, 1, 0, 0, 0, 104, 66, 0, 119, 1, 0, 0, 0, 56, 66, 0, 105, 1, 0, 0, 0, 32, 66, 0,
-    106, 2, 0, 0, 0, 4, 0, 0, 0, 2, 0, 0, 0, 0, 66, 0, 107, 2, 0, 0, 0, 4, 0, 0, 0, 1, 0, 0, 0, 0,
-    66, 0, 13, 2, 0, 0, 0, 4, 0, 0, 0, 1, 0, 0, 0, 0, 66, 0, 15, 1, 0, 0, 0, 32, 66, 0, 92, 5, 0,
-    0, 0, 4, 0, 0, 0, 24, 0, 0, 0, 0, 66, 0, 121, 8, 0, 0, 0, 1, 1, 0, 0, 0, 0, 0, 0, 0,
-];
-
-// Its answer, with a Response Payload that is no structure.
-const ANSWERED_QUERY: [u8; 144] = [
-    66, 0, 123, 1, 0, 0, 0, 136, 66, 0, 122, 1, 0, 0, 0, 72, 66, 0, 105, 1, 0, 0, 0, 32, 66, 0,
-    106, 2, 0, 0, 0, 4, 0, 0, 0, 2, 0, 0, 0, 0, 66, 0, 107, 2, 0, 0, 0, 4, 0, 0, 0, 1, 0, 0, 0, 0,
-    66, 0, 146, 9, 0, 0, 0, 8, 0, 0, 0, 0, 101, 83, 241, 0, 66, 0, 13, 2, 0, 0, 0, 4, 0, 0, 0, 1,
-    0, 0, 0, 0, 66, 0, 15, 1, 0, 0, 0, 48, 66, 0, 92, 5, 0, 0, 0, 4, 0, 0, 0, 24, 0, 0, 0, 0, 66,
-    0, 127, 5, 0, 0, 0, 4, 0, 0, 0, 0, 0, 0, 0, 0, 66, 0, 124, 8, 0, 0, 0, 1, 1, 0, 0, 0, 0, 0, 0,
-    0,
-];
-
-const BAD_REQUESTS: [Row; 29] = [
-    // Locate, which is not read yet
-    (&[(307, 0x08)], 3, OutsideKind::Operation),
+const BAD_REQUESTS: [Row; 28] = [
     // another Object Type of a Create
     (&[(131, 0x07)], 1, OutsideKind::ObjectType),
     // Object Type as an Integer, of a Create
@@ -203,17 +143,10 @@ const GOOD_RESPONSES: [&[(usize, u8)]; 9] = [
     &[(331, 0x08), (323, 0x01)],
 ];
 
-fn bytes_of(rt: &HostRuntime, item: &Item) -> Result<Vec<u8>, Fail> {
-    spelled_len(item).ok_or("a length")?;
-    let mut bytes = Vec::new(rt.alloc());
-    encode(item, &mut bytes)?;
-    Ok(bytes)
-}
-
 #[test]
 fn lifecycle_requests_outside(rt: HostRuntime) -> Result<(), Fail> {
     for (edits, item, kind) in &BAD_REQUESTS {
-        let bytes = changed(&rt, &REQUEST, edits)?;
+        let bytes = changed(&rt, &LIFECYCLE, edits)?;
         let (view, _) = decode_view(rt.alloc(), &bytes)?;
         let told = place_of(read_request(rt.alloc(), &view));
         assert_eq!(rt; told, Some((*item, kind.number())));
@@ -223,10 +156,10 @@ fn lifecycle_requests_outside(rt: HostRuntime) -> Result<(), Fail> {
 
 #[test]
 fn lifecycle_responses_outside(rt: HostRuntime) -> Result<(), Fail> {
-    let (asked, _) = decode_view(rt.alloc(), &REQUEST)?;
+    let (asked, _) = decode_view(rt.alloc(), &LIFECYCLE)?;
     let request = read_request(rt.alloc(), &asked)?;
     for (edits, item, kind) in &BAD_RESPONSES {
-        let bytes = changed(&rt, &RESPONSE, edits)?;
+        let bytes = changed(&rt, &LIFECYCLE_ANSWERED, edits)?;
         let (view, _) = decode_view(rt.alloc(), &bytes)?;
         let told = place_of(read_response(rt.alloc(), &view, &request));
         assert_eq!(rt; told, Some((*item, kind.number())));
@@ -237,15 +170,15 @@ fn lifecycle_responses_outside(rt: HostRuntime) -> Result<(), Fail> {
 #[test]
 fn lifecycle_messages_inside(rt: HostRuntime) -> Result<(), Fail> {
     for edits in &GOOD_REQUESTS {
-        let bytes = changed(&rt, &REQUEST, edits)?;
+        let bytes = changed(&rt, &LIFECYCLE, edits)?;
         let (view, _) = decode_view(rt.alloc(), &bytes)?;
         let request = read_request(rt.alloc(), &view)?;
         assert_eq!(rt; request.items.len(), 5);
     }
-    let (asked, _) = decode_view(rt.alloc(), &REQUEST)?;
+    let (asked, _) = decode_view(rt.alloc(), &LIFECYCLE)?;
     let request = read_request(rt.alloc(), &asked)?;
     for edits in &GOOD_RESPONSES {
-        let bytes = changed(&rt, &RESPONSE, edits)?;
+        let bytes = changed(&rt, &LIFECYCLE_ANSWERED, edits)?;
         let (view, _) = decode_view(rt.alloc(), &bytes)?;
         let response = read_response(rt.alloc(), &view, &request)?;
         assert_eq!(rt; response.items.len(), 5);
@@ -255,7 +188,7 @@ fn lifecycle_messages_inside(rt: HostRuntime) -> Result<(), Fail> {
 
 #[test]
 fn a_lifecycle_is_asked_for(rt: HostRuntime) -> Result<(), Fail> {
-    let (asked, _) = decode_view(rt.alloc(), &REQUEST)?;
+    let (asked, _) = decode_view(rt.alloc(), &LIFECYCLE)?;
     let request = read_request(rt.alloc(), &asked)?;
     let [create, get, activate, revoke, destroy] = request.items.as_slice() else {
         return Err(Fail::from("five items"));
@@ -294,7 +227,7 @@ fn a_lifecycle_is_asked_for(rt: HostRuntime) -> Result<(), Fail> {
 type Shape = (usize, bool, bool);
 
 fn shape_of(rt: &HostRuntime, edits: &[(usize, u8)]) -> Result<Shape, Fail> {
-    let bytes = changed(rt, &REQUEST, edits)?;
+    let bytes = changed(rt, &LIFECYCLE, edits)?;
     let (view, _) = decode_view(rt.alloc(), &bytes)?;
     let request = read_request(rt.alloc(), &view)?;
     let Some(ask) = request.items.as_slice().get(1) else {
@@ -326,9 +259,9 @@ fn references_and_other_items(rt: HostRuntime) -> Result<(), Fail> {
 
 #[test]
 fn lifecycle_answers(rt: HostRuntime) -> Result<(), Fail> {
-    let (asked, _) = decode_view(rt.alloc(), &REQUEST)?;
+    let (asked, _) = decode_view(rt.alloc(), &LIFECYCLE)?;
     let request = read_request(rt.alloc(), &asked)?;
-    let (answered, _) = decode_view(rt.alloc(), &RESPONSE)?;
+    let (answered, _) = decode_view(rt.alloc(), &LIFECYCLE_ANSWERED)?;
     let response = read_response(rt.alloc(), &answered, &request)?;
     let [created, got, activated, _, _] = response.items.as_slice() else {
         return Err(Fail::from("five answers"));
@@ -355,9 +288,9 @@ fn lifecycle_answers(rt: HostRuntime) -> Result<(), Fail> {
 
 /// The payload of the Activate's answer: that there is none, or its identifier.
 fn activated(rt: &HostRuntime, edits: &[(usize, u8)]) -> Result<Option<bool>, Fail> {
-    let (asked, _) = decode_view(rt.alloc(), &REQUEST)?;
+    let (asked, _) = decode_view(rt.alloc(), &LIFECYCLE)?;
     let request = read_request(rt.alloc(), &asked)?;
-    let bytes = changed(rt, &RESPONSE, edits)?;
+    let bytes = changed(rt, &LIFECYCLE_ANSWERED, edits)?;
     let (view, _) = decode_view(rt.alloc(), &bytes)?;
     let response = read_response(rt.alloc(), &view, &request)?;
     match response.items.as_slice().get(2) {
@@ -380,20 +313,20 @@ fn absent_payloads(rt: HostRuntime) -> Result<(), Fail> {
 
 #[test]
 fn a_lifecycle_is_written_back(rt: HostRuntime) -> Result<(), Fail> {
-    let (asked, _) = decode_view(rt.alloc(), &REQUEST)?;
+    let (asked, _) = decode_view(rt.alloc(), &LIFECYCLE)?;
     let request = read_request(rt.alloc(), &asked)?;
     assert_eq!(rt; request.items.len(), 5);
     let bytes = bytes_of(&rt, &write_request(rt.alloc(), &request)?)?;
-    assert_eq!(rt; bytes.as_slice(), REQUEST.as_slice());
-    let (answered, _) = decode_view(rt.alloc(), &RESPONSE)?;
+    assert_eq!(rt; bytes.as_slice(), LIFECYCLE.as_slice());
+    let (answered, _) = decode_view(rt.alloc(), &LIFECYCLE_ANSWERED)?;
     let response = read_response(rt.alloc(), &answered, &request)?;
     assert_eq!(rt; response.items.len(), 5);
     let bytes = bytes_of(&rt, &write_response(rt.alloc(), &response)?)?;
-    assert_eq!(rt; bytes.as_slice(), RESPONSE.as_slice());
+    assert_eq!(rt; bytes.as_slice(), LIFECYCLE_ANSWERED.as_slice());
     let copy = response.copy(rt.alloc())?;
     assert_eq!(rt; copy.items.len(), 5);
     let bytes = bytes_of(&rt, &write_response(rt.alloc(), &copy)?)?;
-    assert_eq!(rt; bytes.as_slice(), RESPONSE.as_slice());
+    assert_eq!(rt; bytes.as_slice(), LIFECYCLE_ANSWERED.as_slice());
     Ok(())
 }
 

@@ -1,5 +1,7 @@
 //! Tests of the readers: messages of bytes, and what a few changed bytes make of them.
 
+use super::vectors::{GET_K1, GOT_K1, REGISTER_AND_GET, REGISTERED_AND_GOT};
+use super::{Row, changed, place_of};
 use crate::{
     Asked, BatchOption, KeyFormat, OutsideKind, Payload, ReadFault, Rules, Status, is_wanted,
     read_payload, read_request, read_response,
@@ -8,70 +10,7 @@ use kmipa_attrs::ObjectType;
 use kmipa_ttlv::decode_view;
 use std::test::*;
 
-// A request to get `k1`.
-const SPELLED_REQUEST: [u8; 120] = [
-    66, 0, 120, 1, 0, 0, 0, 112, 66, 0, 119, 1, 0, 0, 0, 56, 66, 0, 105, 1, 0, 0, 0, 32, 66, 0,
-    106, 2, 0, 0, 0, 4, 0, 0, 0, 2, 0, 0, 0, 0, 66, 0, 107, 2, 0, 0, 0, 4, 0, 0, 0, 1, 0, 0, 0, 0,
-    66, 0, 13, 2, 0, 0, 0, 4, 0, 0, 0, 1, 0, 0, 0, 0, 66, 0, 15, 1, 0, 0, 0, 40, 66, 0, 92, 5, 0,
-    0, 0, 4, 0, 0, 0, 10, 0, 0, 0, 0, 66, 0, 121, 1, 0, 0, 0, 16, 66, 0, 148, 7, 0, 0, 0, 2, 107,
-    49, 0, 0, 0, 0, 0, 0,
-];
-
-// Its answer at 1700000000, with the bytes 0 to 15.
-const SPELLED_RESPONSE: [u8; 264] = [
-    66, 0, 123, 1, 0, 0, 1, 0, 66, 0, 122, 1, 0, 0, 0, 72, 66, 0, 105, 1, 0, 0, 0, 32, 66, 0, 106,
-    2, 0, 0, 0, 4, 0, 0, 0, 2, 0, 0, 0, 0, 66, 0, 107, 2, 0, 0, 0, 4, 0, 0, 0, 1, 0, 0, 0, 0, 66,
-    0, 146, 9, 0, 0, 0, 8, 0, 0, 0, 0, 101, 83, 241, 0, 66, 0, 13, 2, 0, 0, 0, 4, 0, 0, 0, 1, 0, 0,
-    0, 0, 66, 0, 15, 1, 0, 0, 0, 168, 66, 0, 92, 5, 0, 0, 0, 4, 0, 0, 0, 10, 0, 0, 0, 0, 66, 0,
-    127, 5, 0, 0, 0, 4, 0, 0, 0, 0, 0, 0, 0, 0, 66, 0, 124, 1, 0, 0, 0, 128, 66, 0, 87, 5, 0, 0, 0,
-    4, 0, 0, 0, 2, 0, 0, 0, 0, 66, 0, 148, 7, 0, 0, 0, 2, 107, 49, 0, 0, 0, 0, 0, 0, 66, 0, 143, 1,
-    0, 0, 0, 88, 66, 0, 64, 1, 0, 0, 0, 80, 66, 0, 66, 5, 0, 0, 0, 4, 0, 0, 0, 1, 0, 0, 0, 0, 66,
-    0, 69, 1, 0, 0, 0, 24, 66, 0, 67, 8, 0, 0, 0, 16, 0, 1, 2, 3, 4, 5, 6, 7, 8, 9, 10, 11, 12, 13,
-    14, 15, 66, 0, 40, 5, 0, 0, 0, 4, 0, 0, 0, 3, 0, 0, 0, 0, 66, 0, 42, 2, 0, 0, 0, 4, 0, 0, 0,
-    128, 0, 0, 0, 0,
-];
-
-// Under Undo, a Register of a Symmetric Key with the name `n`, AES and 128 in its attributes and in its key block, and a Get of `k1`.
-const REQUEST: [u8; 424] = [
-    66, 0, 120, 1, 0, 0, 1, 160, 66, 0, 119, 1, 0, 0, 0, 88, 66, 0, 105, 1, 0, 0, 0, 32, 66, 0,
-    106, 2, 0, 0, 0, 4, 0, 0, 0, 2, 0, 0, 0, 0, 66, 0, 107, 2, 0, 0, 0, 4, 0, 0, 0, 1, 0, 0, 0, 0,
-    66, 0, 14, 5, 0, 0, 0, 4, 0, 0, 0, 3, 0, 0, 0, 0, 66, 0, 16, 6, 0, 0, 0, 8, 0, 0, 0, 0, 0, 0,
-    0, 1, 66, 0, 13, 2, 0, 0, 0, 4, 0, 0, 0, 2, 0, 0, 0, 0, 66, 0, 15, 1, 0, 0, 0, 248, 66, 0, 92,
-    5, 0, 0, 0, 4, 0, 0, 0, 3, 0, 0, 0, 0, 66, 0, 147, 8, 0, 0, 0, 1, 1, 0, 0, 0, 0, 0, 0, 0, 66,
-    0, 121, 1, 0, 0, 0, 208, 66, 0, 87, 5, 0, 0, 0, 4, 0, 0, 0, 2, 0, 0, 0, 0, 66, 1, 37, 1, 0, 0,
-    0, 88, 66, 0, 83, 1, 0, 0, 0, 32, 66, 0, 85, 7, 0, 0, 0, 1, 110, 0, 0, 0, 0, 0, 0, 0, 66, 0,
-    84, 5, 0, 0, 0, 4, 0, 0, 0, 1, 0, 0, 0, 0, 66, 0, 87, 5, 0, 0, 0, 4, 0, 0, 0, 2, 0, 0, 0, 0,
-    66, 0, 40, 5, 0, 0, 0, 4, 0, 0, 0, 3, 0, 0, 0, 0, 66, 0, 42, 2, 0, 0, 0, 4, 0, 0, 0, 128, 0, 0,
-    0, 0, 66, 0, 143, 1, 0, 0, 0, 88, 66, 0, 64, 1, 0, 0, 0, 80, 66, 0, 66, 5, 0, 0, 0, 4, 0, 0, 0,
-    1, 0, 0, 0, 0, 66, 0, 69, 1, 0, 0, 0, 24, 66, 0, 67, 8, 0, 0, 0, 16, 0, 1, 2, 3, 4, 5, 6, 7, 8,
-    9, 10, 11, 12, 13, 14, 15, 66, 0, 40, 5, 0, 0, 0, 4, 0, 0, 0, 3, 0, 0, 0, 0, 66, 0, 42, 2, 0,
-    0, 0, 4, 0, 0, 0, 128, 0, 0, 0, 0, 66, 0, 15, 1, 0, 0, 0, 56, 66, 0, 92, 5, 0, 0, 0, 4, 0, 0,
-    0, 10, 0, 0, 0, 0, 66, 0, 147, 8, 0, 0, 0, 1, 2, 0, 0, 0, 0, 0, 0, 0, 66, 0, 121, 1, 0, 0, 0,
-    16, 66, 0, 148, 7, 0, 0, 0, 2, 107, 49, 0, 0, 0, 0, 0, 0,
-];
-
-// Its answer: `r1`, and the key.
-const RESPONSE: [u8; 376] = [
-    66, 0, 123, 1, 0, 0, 1, 112, 66, 0, 122, 1, 0, 0, 0, 72, 66, 0, 105, 1, 0, 0, 0, 32, 66, 0,
-    106, 2, 0, 0, 0, 4, 0, 0, 0, 2, 0, 0, 0, 0, 66, 0, 107, 2, 0, 0, 0, 4, 0, 0, 0, 1, 0, 0, 0, 0,
-    66, 0, 146, 9, 0, 0, 0, 8, 0, 0, 0, 0, 101, 83, 241, 0, 66, 0, 13, 2, 0, 0, 0, 4, 0, 0, 0, 2,
-    0, 0, 0, 0, 66, 0, 15, 1, 0, 0, 0, 88, 66, 0, 92, 5, 0, 0, 0, 4, 0, 0, 0, 3, 0, 0, 0, 0, 66, 0,
-    147, 8, 0, 0, 0, 1, 1, 0, 0, 0, 0, 0, 0, 0, 66, 0, 127, 5, 0, 0, 0, 4, 0, 0, 0, 0, 0, 0, 0, 0,
-    66, 0, 124, 1, 0, 0, 0, 32, 66, 0, 87, 5, 0, 0, 0, 4, 0, 0, 0, 2, 0, 0, 0, 0, 66, 0, 148, 7, 0,
-    0, 0, 2, 114, 49, 0, 0, 0, 0, 0, 0, 66, 0, 15, 1, 0, 0, 0, 184, 66, 0, 92, 5, 0, 0, 0, 4, 0, 0,
-    0, 10, 0, 0, 0, 0, 66, 0, 147, 8, 0, 0, 0, 1, 2, 0, 0, 0, 0, 0, 0, 0, 66, 0, 127, 5, 0, 0, 0,
-    4, 0, 0, 0, 0, 0, 0, 0, 0, 66, 0, 124, 1, 0, 0, 0, 128, 66, 0, 87, 5, 0, 0, 0, 4, 0, 0, 0, 2,
-    0, 0, 0, 0, 66, 0, 148, 7, 0, 0, 0, 2, 107, 49, 0, 0, 0, 0, 0, 0, 66, 0, 143, 1, 0, 0, 0, 88,
-    66, 0, 64, 1, 0, 0, 0, 80, 66, 0, 66, 5, 0, 0, 0, 4, 0, 0, 0, 1, 0, 0, 0, 0, 66, 0, 69, 1, 0,
-    0, 0, 24, 66, 0, 67, 8, 0, 0, 0, 16, 0, 1, 2, 3, 4, 5, 6, 7, 8, 9, 10, 11, 12, 13, 14, 15, 66,
-    0, 40, 5, 0, 0, 0, 4, 0, 0, 0, 3, 0, 0, 0, 0, 66, 0, 42, 2, 0, 0, 0, 4, 0, 0, 0, 128, 0, 0, 0,
-    0,
-];
-
-// Bytes of a message that are changed, and the item and the kind by which it is then outside.
-pub(super) type Row = (&'static [(usize, u8)], usize, OutsideKind);
-
-const BAD_REQUESTS: [Row; 45] = [
+const BAD_REQUESTS: [Row; 44] = [
     // another tag than the message's
     (&[(2, 0x7B)], 0, OutsideKind::NotAMessage),
     // no Request Header
@@ -98,8 +37,6 @@ const BAD_REQUESTS: [Row; 45] = [
     (&[(87, 0x00)], 0, OutsideKind::Unordered),
     // a Batch Item that is a Byte String
     (&[(107, 0x08)], 1, OutsideKind::Missing),
-    // Locate, which isn't read
-    (&[(123, 0x08)], 1, OutsideKind::Operation),
     // Operation as an Integer
     (&[(115, 0x02)], 1, OutsideKind::Missing),
     // a Request Payload that is a Byte String
@@ -256,32 +193,10 @@ const GOOD_RESPONSES: [&[(usize, u8)]; 6] = [
     &[(139, 0x03), (146, 0x79)],
 ];
 
-pub(super) fn changed(
-    rt: &HostRuntime,
-    message: &[u8],
-    edits: &[(usize, u8)],
-) -> Result<Vec<u8>, Fail> {
-    let mut bytes = Vec::from_slice(rt.alloc(), message)?;
-    for (at, byte) in edits {
-        match bytes.get_mut(*at) {
-            Some(place) => *place = *byte,
-            None => return Err(Fail::from("a place in the message")),
-        }
-    }
-    Ok(bytes)
-}
-
-pub(super) fn place_of<T: Drop>(read: Result<T, ReadFault>) -> Option<(usize, u8)> {
-    match read {
-        Err(ReadFault::Outside(outside)) => Some((outside.item, outside.kind.number())),
-        _ => None,
-    }
-}
-
 #[test]
 fn requests_outside(rt: HostRuntime) -> Result<(), Fail> {
     for (edits, item, kind) in &BAD_REQUESTS {
-        let bytes = changed(&rt, &REQUEST, edits)?;
+        let bytes = changed(&rt, &REGISTER_AND_GET, edits)?;
         let (view, _) = decode_view(rt.alloc(), &bytes)?;
         let told = place_of(read_request(rt.alloc(), &view));
         assert_eq!(rt; told, Some((*item, kind.number())));
@@ -291,10 +206,10 @@ fn requests_outside(rt: HostRuntime) -> Result<(), Fail> {
 
 #[test]
 fn responses_outside(rt: HostRuntime) -> Result<(), Fail> {
-    let (asked, _) = decode_view(rt.alloc(), &REQUEST)?;
+    let (asked, _) = decode_view(rt.alloc(), &REGISTER_AND_GET)?;
     let request = read_request(rt.alloc(), &asked)?;
     for (edits, item, kind) in &BAD_RESPONSES {
-        let bytes = changed(&rt, &RESPONSE, edits)?;
+        let bytes = changed(&rt, &REGISTERED_AND_GOT, edits)?;
         let (view, _) = decode_view(rt.alloc(), &bytes)?;
         let told = place_of(read_response(rt.alloc(), &view, &request));
         assert_eq!(rt; told, Some((*item, kind.number())));
@@ -305,7 +220,7 @@ fn responses_outside(rt: HostRuntime) -> Result<(), Fail> {
 #[test]
 fn requests_inside(rt: HostRuntime) -> Result<(), Fail> {
     for edits in &GOOD_REQUESTS {
-        let bytes = changed(&rt, &REQUEST, edits)?;
+        let bytes = changed(&rt, &REGISTER_AND_GET, edits)?;
         let (view, _) = decode_view(rt.alloc(), &bytes)?;
         let request = read_request(rt.alloc(), &view)?;
         assert_eq!(rt; request.items.len(), 2);
@@ -315,10 +230,10 @@ fn requests_inside(rt: HostRuntime) -> Result<(), Fail> {
 
 #[test]
 fn responses_inside(rt: HostRuntime) -> Result<(), Fail> {
-    let (asked, _) = decode_view(rt.alloc(), &REQUEST)?;
+    let (asked, _) = decode_view(rt.alloc(), &REGISTER_AND_GET)?;
     let request = read_request(rt.alloc(), &asked)?;
     for edits in &GOOD_RESPONSES {
-        let bytes = changed(&rt, &RESPONSE, edits)?;
+        let bytes = changed(&rt, &REGISTERED_AND_GOT, edits)?;
         let (view, _) = decode_view(rt.alloc(), &bytes)?;
         let response = read_response(rt.alloc(), &view, &request)?;
         assert_eq!(rt; response.items.len(), 2);
@@ -328,7 +243,7 @@ fn responses_inside(rt: HostRuntime) -> Result<(), Fail> {
 
 #[test]
 fn spelled_example(rt: HostRuntime) -> Result<(), Fail> {
-    let (asked, _) = decode_view(rt.alloc(), &SPELLED_REQUEST)?;
+    let (asked, _) = decode_view(rt.alloc(), &GET_K1)?;
     let request = read_request(rt.alloc(), &asked)?;
     assert_eq!(rt; request.option, BatchOption::Stop);
     assert!(rt; request.ordered);
@@ -341,7 +256,7 @@ fn spelled_example(rt: HostRuntime) -> Result<(), Fail> {
         return Err(Fail::from("a Get"));
     };
     assert_eq!(rt; get.id, Some("k1"));
-    let (answered, _) = decode_view(rt.alloc(), &SPELLED_RESPONSE)?;
+    let (answered, _) = decode_view(rt.alloc(), &GOT_K1)?;
     let response = read_response(rt.alloc(), &answered, &request)?;
     assert_eq!(rt; response.stamp, 1_700_000_000);
     let [answer] = response.items.as_slice() else {
@@ -369,7 +284,7 @@ fn spelled_example(rt: HostRuntime) -> Result<(), Fail> {
 
 #[test]
 fn a_register_is_read(rt: HostRuntime) -> Result<(), Fail> {
-    let (asked, _) = decode_view(rt.alloc(), &REQUEST)?;
+    let (asked, _) = decode_view(rt.alloc(), &REGISTER_AND_GET)?;
     let request = read_request(rt.alloc(), &asked)?;
     assert_eq!(rt; request.option, BatchOption::Undo);
     let [first, second] = request.items.as_slice() else {
@@ -385,7 +300,7 @@ fn a_register_is_read(rt: HostRuntime) -> Result<(), Fail> {
     assert_eq!(rt; register.attributes.length, Some(128));
     assert_eq!(rt; register.attributes.names.len(), 1);
     assert_eq!(rt; register.block.length, Some(128));
-    let undone = changed(&rt, &RESPONSE, &[(139, 3), (146, 0x79), (235, 3)])?;
+    let undone = changed(&rt, &REGISTERED_AND_GOT, &[(139, 3), (146, 0x79), (235, 3)])?;
     let (answered, _) = decode_view(rt.alloc(), &undone)?;
     let response = read_response(rt.alloc(), &answered, &request)?;
     let [registered, got] = response.items.as_slice() else {
@@ -398,7 +313,7 @@ fn a_register_is_read(rt: HostRuntime) -> Result<(), Fail> {
 
 #[test]
 fn a_payload_alone(rt: HostRuntime) -> Result<(), Fail> {
-    let (asked, _) = decode_view(rt.alloc(), &REQUEST)?;
+    let (asked, _) = decode_view(rt.alloc(), &REGISTER_AND_GET)?;
     let request = read_request(rt.alloc(), &asked)?;
     let Some(register) = request.items.as_slice().first() else {
         return Err(Fail::from("an item"));
