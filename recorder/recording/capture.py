@@ -12,6 +12,7 @@ from typing import Deque, Dict, List, Optional
 
 from . import certificate, message
 from .address import Address
+from .gaps import have_gap
 from .message import Side
 from .packets import Packet, read_packets
 from .transcript import TranscriptWriter
@@ -78,7 +79,7 @@ def _take(stream: Stream, packet: Packet, transcript: TranscriptWriter, minor_1:
 
 def _see_that_all_is_there(packets: List[Packet], capture: str, keylog: str) -> None:
     """A transcript without some of the calls would be judged wrongly, so none is made."""
-    if any(packet.lost for packet in packets):
+    if have_gap((packet.stream, packet.by_client, packet.span) for packet in packets if packet.span):
         raise Trouble(f"packets to or from the server are missing in {capture}: capture again, with a larger buffer "
                       "(`dumpcap -B 64`)")
     clients = sorted({str(packet.client) for packet in packets if packet.hidden})

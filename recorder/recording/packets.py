@@ -9,17 +9,21 @@ import subprocess
 from typing import Dict, Iterator, List, NamedTuple, Optional, Set
 
 from .address import Address
+from .gaps import Span
 from .trouble import Trouble
 
 APPLICATION_DATA = "23"
+FINISH = 0x01
+SYNCHRONIZE = 0x02
+RESET = 0x04
 FIELDS = ["tcp.stream", "ip.src", "ipv6.src", "tcp.srcport", "ip.dst", "ipv6.dst", "tcp.dstport",
-          "tls.record.content_type", "tls.record.opaque_type", "tls.handshake.certificate", "data.data",
-          "tcp.analysis.lost_segment", "tcp.analysis.ack_lost_segment"]
+          "tcp.seq", "tcp.len", "tcp.ack", "tcp.flags",
+          "tls.record.content_type", "tls.record.opaque_type", "tls.handshake.certificate", "data.data"]
 
 
 class Packet(NamedTuple):
     """A packet between a client and the server. `sent` is what it completed under TLS; `hidden` says that it had
-    something that could not be read, `lost` that packets ahead of it are not in the capture."""
+    something that could not be read."""
 
     stream: int
     client: Address
@@ -27,7 +31,7 @@ class Packet(NamedTuple):
     sent: bytes
     certificate: Optional[bytes]
     hidden: bool
-    lost: bool
+    span: Optional[Span]
 
 
 def read_packets(capture: str, keylog: str, server: Address) -> List[Packet]:
@@ -83,7 +87,18 @@ def _packets_of(line: str, server: Address, hosts: Set[str]) -> Iterator[Packet]
         stream=int(field["tcp.stream"]), client=source if by_client else target, by_client=by_client, sent=sent,
         certificate=bytes.fromhex(certificates[0].replace(":", "")) or None,
         hidden=_is_hidden(field["tls.record.content_type"], field["tls.record.opaque_type"], sent),
-        lost=bool(field["tcp.analysis.lost_segment"] or field["tcp.analysis.ack_lost_segment"]))
+        span=_span(field))
+
+
+def _span(field: Dict[str, str]) -> Optional[Span]:
+    """The numbers of the packet's bytes, of which the begin and the end of a connection each take one; a packet that
+    resets the connection has none that are to be trusted."""
+    flags = int(field["tcp.flags"], 0)
+    if flags & RESET:
+        return None
+    first = int(field["tcp.seq"])
+    ends = bool(flags & SYNCHRONIZE) + bool(flags & FINISH)
+    return Span(first, first + int(field["tcp.len"]) + ends, int(field["tcp.ack"] or 0))
 
 
 def _is_hidden(types: str, outer_types: str, sent: bytes) -> bool:

@@ -89,11 +89,6 @@ def byte_string(tag: int, value: bytes) -> bytes:
     return _item(tag, Kind.BYTES, value)
 
 
-def date_time(tag: int, seconds: int) -> bytes:
-    """A moment, in seconds since 1970."""
-    return _item(tag, Kind.DATE_TIME, seconds.to_bytes(8, "big", signed=True))
-
-
 def spell(item: Item) -> bytes:
     """The bytes of an item that was read, with zeros as padding."""
     if item.kind == Kind.STRUCTURE:

@@ -23,7 +23,8 @@ def make_certificates(folder: Path, names: Sequence[str], authority: str = "auth
                       subject: str = "/O=Test/CN={name}") -> None:
     """For each name a certificate that the authority signed, NAME.pem and NAME.key."""
     for name in names:
-        _openssl(folder, "req", *NEW_KEY, "-subj", subject.format(name=name), "-keyout", f"{name}.key", "-out", f"{name}.csr")
+        _openssl(folder, "req", *NEW_KEY, "-subj", subject.format(name=name), "-keyout", f"{name}.key",
+                 "-out", f"{name}.csr")
         (folder / "uses").write_text("extendedKeyUsage=clientAuth,serverAuth\nsubjectAltName=IP:127.0.0.1\n")
         _openssl(folder, "x509", "-req", "-in", f"{name}.csr", "-CA", f"{authority}.pem", "-CAkey",
                  f"{authority}.key", "-CAcreateserial", "-days", "2", "-extfile", "uses", "-out", f"{name}.pem")

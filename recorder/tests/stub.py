@@ -6,7 +6,7 @@ import socket
 import ssl
 import threading
 from pathlib import Path
-from typing import Callable, Dict, List, Optional, Tuple
+from typing import Callable, Dict, Optional
 
 Answering = Callable[[ssl.SSLSocket, bytes], None]
 
@@ -56,8 +56,8 @@ def receive(peer: ssl.SSLSocket, first: Optional[Callable[[], None]] = None) -> 
 
 
 class Stub:
-    """Listens on a port of its own. `answering` is called with each request, and sends what it likes; by when it
-    returns, `gave` notes the request as answered."""
+    """Listens on a port of its own. `answering` is called with each request, sends what it likes, and may note in
+    `gave` when it did; `first` is called at the first byte of a request."""
 
     def __init__(self, folder: Path, answering: Answering, first: Optional[Callable[[], None]] = None,
                  newest: bool = True, keylog: Optional[Path] = None) -> None:
@@ -95,11 +95,3 @@ class Stub:
                 self.ended.set()
         except OSError:
             self.ended.set()
-
-
-def answer_with(stub_answer: Callable[[bytes], bytes], gave: Callable[[bytes], None]) -> Answering:
-    """Answers each request whole; `gave` is told just ahead of it."""
-    def answering(peer: ssl.SSLSocket, request: bytes) -> None:
-        gave(request)
-        peer.sendall(stub_answer(request))
-    return answering

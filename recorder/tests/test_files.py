@@ -3,6 +3,7 @@
 from __future__ import annotations
 
 import unittest
+from unittest import mock
 
 import messages
 from laboratory import Laboratory, run
@@ -10,8 +11,8 @@ from laboratory import Laboratory, run
 from recording import certificate, message, ttlv
 from recording.message import Side
 from recording.transcript import TranscriptWriter
+from recording.trouble import Trouble
 
-EXAMPLE = "docs/FORMATS.md"
 HEADER = "54000101 00000010 54000202 00000004 00000001 00000000"
 REQUEST = """42007801 00000070 42007701 00000038 42006901 00000020
 42006A02 00000004 00000002 00000000 42006B02 00000004 00000001 00000000
@@ -66,6 +67,14 @@ class Files(Laboratory):
         self.assertIn("this order is a guess", done.stderr)
         self.assertEqual((self.folder / "witness.ttlv").read_bytes(), bytes.fromhex(WITNESS))
 
+    def test_a_transcript_has_no_more_calls_than_the_auditor_reads(self) -> None:
+        path = self.folder / "transcript.ttlv"
+        with TranscriptWriter(str(path)) as transcript, mock.patch("recording.transcript.MOST_CALLS", 1):
+            transcript.begin("a", messages.get("1"))
+            with self.assertRaisesRegex(Trouble, "record what follows into another file"):
+                transcript.begin("a", messages.get("2"))
+            self.assertTrue(transcript.summary().startswith("1 calls, 1 open calls, "))
+
     def test_stamps_come_ahead_of_ends(self) -> None:
         path = self.folder / "transcript.ttlv"
         with TranscriptWriter(str(path)) as transcript:
@@ -112,7 +121,8 @@ class Items(unittest.TestCase):
     def test_only_version_2_0_of_the_header_changes(self) -> None:
         self.assertEqual(message.with_minor_1(messages.get("k", (2, 0)), Side.CLIENT), messages.get("k", (2, 1)))
         for protocol in ((1, 0), (2, 1), (3, 0)):
-            self.assertEqual(message.with_minor_1(messages.get("k", protocol), Side.CLIENT), messages.get("k", protocol))
+            other = messages.get("k", protocol)
+            self.assertEqual(message.with_minor_1(other, Side.CLIENT), other)
 
     def test_bytes_that_are_no_certificate_have_no_name(self) -> None:
         for data in (b"", b"\x30", b"\x30\x02\x30\x00", b"certificate"):

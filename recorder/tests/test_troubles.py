@@ -94,8 +94,9 @@ class Words(Laboratory):
     """Words that the program does not know."""
 
     def test_wrong_words(self) -> None:
-        for words in (["prox"], ["proxy"], ["declare", "--out", "x"], ["declare", "--empty", "--reason", "1", "--out", "x"],
-                      ["proxy", "--listen", "nowhere"], ["keylog", "a", "b", "--server", "h:99999", "--out", "x"]):
+        for words in (["prox"], ["proxy"], ["proxy", "--listen", "nowhere"], ["declare", "--out", "x"],
+                      ["declare", "--empty", "--reason", "1", "--out", "x"],
+                      ["keylog", "a", "b", "--server", "h:99999", "--out", "x"]):
             done = run(*words, cwd=self.folder)
             self.assertEqual((done.returncode, done.stdout), (64, ""), words)
             self.assertIn("usage: kmip_record", done.stderr)
