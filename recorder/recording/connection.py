@@ -74,7 +74,7 @@ class Connection:
             self.call = self._way.transcript.begin(self.name, self._way.marked(request, Side.CLIENT))
             response = await _unless_gone(_answer(server, request), client)
             if response is None:
-                raise ConnectionTrouble("a side closed before the answer was whole")
+                raise ConnectionTrouble("the client broke off" if client.gone.done() else "the server gave no answer")
             self._way.transcript.end(self.call, self._way.marked(response, Side.SERVER))
             await client.send(response)
             self.call = None
