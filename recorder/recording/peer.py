@@ -59,8 +59,9 @@ class Peer:
     async def close(self) -> None:
         """Closes the connection; one that does not close in time is dropped."""
         self._writer.close()
-        await asyncio.wait({self.gone}, timeout=SECONDS_TO_CLOSE)
-        self._writer.transport.abort()
+        _, still_there = await asyncio.wait({self.gone}, timeout=SECONDS_TO_CLOSE)
+        if still_there:
+            self._writer.transport.abort()
 
 
 async def _closed(writer: asyncio.StreamWriter) -> None:
