@@ -110,8 +110,8 @@ def _say_what_is_missing(identifier: str, object_type: int, told: Item) -> None:
     by_dates = _state(told, int(time.time()))
     if state and state.value != by_dates:
         said = STATES[state.value] if state.value < len(STATES) else f"in state {state.value}"
-        say(f"object {identifier}: the server says that it is {said}, but tells no date that makes it so: it is "
-            f"declared as {STATES[by_dates]}")
+        say(f"object {identifier}: the server says that it is {said}, but tells no date that makes it so: declared as "
+            f"{STATES[by_dates]}")
 
 
 def _state(told: Item, now: int) -> int:

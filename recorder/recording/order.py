@@ -31,6 +31,5 @@ def run(transcript: str, out: str) -> str:
     """Writes the guess, and answers the line that tells of it."""
     calls = guess(transcript)
     write_file(out, witness(calls))
-    say("this order is a guess, by Time Stamps and then by end marks: calls that overlapped within one second may "
-        "have been done in another")
+    say("this order is a guess: calls that overlapped within one second may have been done in another")
     return f"{len(calls)} turns"

@@ -40,7 +40,7 @@ def meaning(error: OSError) -> str:
         return MEANINGS["CERTIFICATE_VERIFY_FAILED"].format(detail=error.verify_message)
     if isinstance(error, ssl.SSLError):
         return MEANINGS.get(error.reason or "", str(error))
-    return error.strerror or str(error) or type(error).__name__
+    return error.strerror or str(error) or "it closed the connection"
 
 
 def _context(protocol: int, certificate: str, key: str, authority: str) -> ssl.SSLContext:
