@@ -44,13 +44,14 @@ class Connection:
         self._socket = client
         self._way = way
         self._ending = False
+        self._busy = False
         self.name = str(address)
-        self.call: Optional[int] = None
+        self.open_call: Optional[int] = None
 
     def end_soon(self, task: asyncio.Task) -> None:
         """Ends the connection, whose work is this task: now where no call is under way, else after the call."""
         self._ending = True
-        if self.call is None:
+        if not self._busy:
             task.cancel()
 
     async def serve(self) -> None:
@@ -71,13 +72,18 @@ class Connection:
             request = await _unless_gone(client.receive(), server)
             if request is None or server.gone.done():
                 return
-            self.call = self._way.transcript.begin(self.name, self._way.marked(request, Side.CLIENT))
-            response = await _unless_gone(_answer(server, request), client)
-            if response is None:
-                raise ConnectionTrouble("the client broke off" if client.gone.done() else "the server gave no answer")
-            self._way.transcript.end(self.call, self._way.marked(response, Side.SERVER))
-            await client.send(response)
-            self.call = None
+            self._busy = True
+            await self._take_call(client, server, request)
+            self._busy = False
+
+    async def _take_call(self, client: Peer, server: Peer, request: bytes) -> None:
+        self.open_call = self._way.transcript.begin(self.name, self._way.marked(request, Side.CLIENT))
+        response = await _unless_gone(_answer(server, request), client)
+        if response is None:
+            raise ConnectionTrouble("the client broke off" if client.gone.done() else "the server gave no answer")
+        self._way.transcript.end(self.open_call, self._way.marked(response, Side.SERVER))
+        self.open_call = None
+        await client.send(response)
 
 
 async def _answer(server: Peer, request: bytes) -> Optional[bytes]:

@@ -62,7 +62,7 @@ class Proxy:
         try:
             await connection.serve()
         except ConnectionTrouble as trouble:
-            left = f"; call {connection.call} stays open" if connection.call else ""
+            left = f"; call {connection.open_call} stays open" if connection.open_call else ""
             say(f"{connection.name}: {trouble}{left}")
         except Exception as failure:
             self._failure = self._failure or failure

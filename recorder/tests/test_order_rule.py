@@ -19,10 +19,12 @@ HEADER_LENGTH = 24
 BEGIN_BESIDES_MESSAGE = 48
 A_MOMENT = 0.2
 
-BEGIN_LINE = "            self.call = self._way.transcript.begin(self.name, self._way.marked(request, Side.CLIENT))\n"
-ASK_LINE = "            response = await _unless_gone(_answer(server, request), client)\n"
-END_LINE = "            self._way.transcript.end(self.call, self._way.marked(response, Side.SERVER))\n"
-SEND_LINE = "            await client.send(response)\n"
+BEGIN_LINE = "        self.open_call = self._way.transcript.begin(self.name, self._way.marked(request, Side.CLIENT))\n"
+ASK_LINE = "        response = await _unless_gone(_answer(server, request), client)\n"
+END_LINES = """        self._way.transcript.end(self.open_call, self._way.marked(response, Side.SERVER))
+        self.open_call = None
+"""
+SEND_LINE = "        await client.send(response)\n"
 
 
 class OrderRule(Laboratory):
@@ -68,7 +70,7 @@ class OrderRule(Laboratory):
         self.assertIn("the request went on", self.unmarked(turned))
 
     def test_an_end_mark_behind_its_answer_is_caught(self) -> None:
-        turned = self.turned(END_LINE + SEND_LINE, SEND_LINE + END_LINE)
+        turned = self.turned(END_LINES + SEND_LINE, SEND_LINE + END_LINES)
         self.assertIn("the answer went on", self.unmarked(turned))
 
     def turned(self, lines: str, others: str) -> Path:

@@ -2,6 +2,7 @@
 
 from __future__ import annotations
 
+import itertools
 import signal
 import socket
 import ssl
@@ -92,6 +93,17 @@ class Breaks(Laboratory):
         wait_until(lambda: recorder.heard("client-1: the client broke off; call 1 stays open"), "a word on the open call")
         self.assertTrue(recorder.end().startswith("1 calls, 1 open calls, "))
         self.assertEqual(kinds(recorder.marks()), [("begin", 1)])
+
+    def test_a_client_that_breaks_off_in_its_answer_leaves_no_open_call(self) -> None:
+        long = messages.not_found(STAMP, text="x" * 1_000_000)
+        recorder = self.start(self.stub(lambda peer, _: peer.sendall(long)).port)
+        client = self.client(recorder.port)
+        client.sendall(messages.get("key-1"))
+        client.recv(1)
+        client.close()
+        wait_until(lambda: recorder.heard("client-1: the client broke off"), "a word on the break")
+        self.assertFalse(recorder.heard("stays open"))
+        self.assertTrue(recorder.end().startswith("1 calls, 0 open calls, "))
 
     def test_a_client_that_breaks_off_in_its_request_leaves_no_mark(self) -> None:
         server = self.stub(at_once)
@@ -216,14 +228,36 @@ class Versions(Laboratory):
 class Ends(Laboratory):
     """How the recorder ends, and who a client is."""
 
-    def test_a_kill_loses_nothing_that_was_marked(self) -> None:
-        recorder = self.start(self.stub(at_once).port)
-        client = self.client(recorder.port)
-        for turn in range(20):
-            client.sendall(messages.get(f"key-{turn}"))
-            stub.receive(client)
+    def test_a_kill_in_the_midst_of_calls_loses_nothing_that_was_marked(self) -> None:
+        server = self.stub(lambda peer, request: peer.sendall(messages.not_found(STAMP, text=request[-32:].hex())))
+        recorder = self.start(server.port)
+        answers: List[bytes] = []
+        clients = [threading.Thread(target=self.ask_on, args=(recorder.port, n, answers)) for n in range(8)]
+        for client in clients:
+            client.start()
+        wait_until(lambda: len(answers) > 300, "calls")
         recorder.end(signal.SIGKILL)
-        self.assertEqual(kinds(recorder.marks()), [(kind, call) for call in range(1, 21) for kind in ("begin", "end")])
+        for client in clients:
+            client.join(SECONDS)
+        marks = recorder.marks()
+        begun = {mark.message for mark in marks if isinstance(mark, Begin)}
+        ended = {mark.message for mark in marks if not isinstance(mark, Begin)}
+        self.assertLessEqual(set(server.got), begun)
+        self.assertLessEqual(set(answers), ended)
+        self.assertGreater(len(ended), 300)
+
+    def ask_on(self, port: int, number: int, answers: List[bytes]) -> None:
+        """Makes calls until the connection breaks."""
+        client = self.client(port)
+        for turn in itertools.count():
+            try:
+                client.sendall(messages.get(f"call {turn} of client {number}"))
+            except OSError:
+                return
+            answer = stub.receive(client)
+            if not answer:
+                return
+            answers.append(answer)
 
     def test_ctrl_c_waits_for_an_answer_under_way(self) -> None:
         may = threading.Event()
@@ -259,10 +293,10 @@ class Ends(Laboratory):
         (self.folder / "authority.pem").write_bytes((self.certificates / "authority.pem").read_bytes())
         recorder = self.start(self.stub(at_once).port)
         with socket.create_connection(("127.0.0.1", recorder.port)) as plain, self.assertRaises(OSError):
-            stranger = stub.context(self.folder, "client-1", server_side=False).wrap_socket(plain)
-            stranger.sendall(messages.get("key-1"))
-            if not stranger.recv(1):
-                raise OSError("closed")
+            with stub.context(self.folder, "client-1", server_side=False).wrap_socket(plain) as stranger:
+                stranger.sendall(messages.get("key-1"))
+                if not stranger.recv(1):
+                    raise OSError("closed")
         wait_until(lambda: recorder.heard("no TLS with the client: its certificate is not signed by the authority"),
                    "a word on the certificate")
         client = self.client(recorder.port)
