@@ -7,6 +7,8 @@ import unittest
 from typing import Dict, List, Optional
 
 import messages
+import stub
+from capturing import captured, need_tshark
 from laboratory import Laboratory, kinds, read_marks, run
 
 from recording import certificate
@@ -71,6 +73,30 @@ class Streams(Laboratory):
         marks = self.take([(True, b""), (True, messages.get("key-1"))], spelled)
         self.assertEqual(marks[0].client, "client-3")
         self.assertIsNone(certificate.common_name(spelled[:-1]), "torn")
+
+
+class Newest(Laboratory):
+    """TLS 1.3, which hides more than 1.2 does, with the server's key log and messages of many packets."""
+
+    def test_calls_of_tls_1_3_are_read_and_none_without_its_secrets(self) -> None:
+        need_tshark(self)
+        keylog, answer = self.folder / "keylog", messages.not_found(STAMP, text="x" * 300_000)
+        requests = [messages.get(f"key-{turn}" + "k" * 300_000) for turn in range(3)]
+        server = self.stub(lambda peer, _: peer.sendall(answer), keylog=keylog)
+        with captured(self, server.port) as capture:
+            client = self.client(server.port)
+            for request in requests:
+                client.sendall(request)
+                self.assertEqual(stub.receive(client), answer)
+            client.close()
+        words = ["--server", f"127.0.0.1:{server.port}", "--out", self.folder / "transcript.ttlv"]
+        (self.folder / "empty").touch()
+        self.assertIn("said can't be read: ", run("keylog", capture, self.folder / "empty", *words).stderr)
+        self.assertTrue(run("keylog", capture, keylog, *words).stdout.startswith("3 calls, 0 open calls, "))
+        marks = read_marks(str(self.folder / "transcript.ttlv"))
+        self.assertEqual([mark.message for mark in marks[::2]], requests)
+        self.assertEqual([mark.message for mark in marks[1::2]], [answer] * 3)
+        self.assertEqual({mark.client for mark in marks[::2]}, {"client-1"})
 
 
 class Needs(Laboratory):

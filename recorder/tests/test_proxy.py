@@ -90,7 +90,7 @@ class Breaks(Laboratory):
         wait_until(lambda: server.got, "the request at the server")
         client.close()
         self.assertTrue(server.ended.wait(SECONDS), "the break goes on to the server")
-        wait_until(lambda: recorder.heard("client-1: the client broke off; call 1 stays open"), "a word on the open call")
+        wait_until(lambda: recorder.heard("client-1: the client broke off; call 1 stays open"), "a word on the call")
         self.assertTrue(recorder.end().startswith("1 calls, 1 open calls, "))
         self.assertEqual(kinds(recorder.marks()), [("begin", 1)])
 

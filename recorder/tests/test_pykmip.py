@@ -2,23 +2,20 @@
 
 from __future__ import annotations
 
-import shutil
-import signal
 import subprocess
-import time
 import unittest
 from pathlib import Path
 
 import messages
 import stub
+from capturing import captured, need_tshark
 from key_server import WithPyKmip
-from laboratory import SECONDS, Begin, audit, read_marks, run, wait_until
+from laboratory import Begin, audit, read_marks, run
 
 CLIENTS = 6
 ROUNDS = 3
 # Of each round: the life of a key, and the meeting on the shared one; besides, the registration of that.
 CALLS = CLIENTS * ROUNDS * (9 + 4) + 1
-SECONDS_FOR_LAST_PACKETS = 1
 
 
 class ByProxy(WithPyKmip):
@@ -48,36 +45,14 @@ class ByKeyLog(WithPyKmip):
     """What a capture of the loopback saw, and the clients' key log."""
 
     def setUp(self) -> None:
-        if not (shutil.which("tshark") and shutil.which("dumpcap")):
-            self.skipTest("tshark is not there (Debian's package tshark)")
+        need_tshark(self)
         super().setUp()
-
-    def capture(self) -> subprocess.Popen:
-        """A capture of all packets of the server."""
-        with open(self.folder / "dumpcap.said", "w") as said:
-            capture = subprocess.Popen(
-                ["dumpcap", "-q", "-B", "64", "-i", "lo", "-f", f"tcp port {self.server_port}", "-w",
-                 self.folder / "capture.pcapng"], stderr=said)
-        self.addCleanup(capture.wait, SECONDS)
-        self.addCleanup(capture.kill)
-        told = self.folder / "dumpcap.said"
-        wait_until(lambda: capture.poll() is not None or "File:" in told.read_text(), "the capture")
-        if capture.poll() is not None:
-            self.skipTest(f"packets can't be captured here: {told.read_text().strip()}")
-        return capture
-
-    def captured(self, keylog: Path) -> None:
-        """Captures the work of clients."""
-        capture = self.capture()
-        self.work(self.server_port, CLIENTS, ROUNDS, keylog)
-        time.sleep(SECONDS_FOR_LAST_PACKETS)
-        capture.send_signal(signal.SIGINT)
-        capture.wait(SECONDS)
 
     def test_clients_at_once_are_explained_by_the_order_of_the_server(self) -> None:
         keylog, transcript = self.folder / "keylog", self.folder / "transcript.ttlv"
-        self.captured(keylog)
-        done = run("keylog", self.folder / "capture.pcapng", keylog, "--server", f"127.0.0.1:{self.server_port}",
+        with captured(self, self.server_port) as capture:
+            self.work(self.server_port, CLIENTS, ROUNDS, keylog)
+        done = run("keylog", capture, keylog, "--server", f"127.0.0.1:{self.server_port}",
                    "--minor", "1", "--out", transcript)
         self.assertEqual(done.returncode, 0, done.stderr)
         self.assertTrue(done.stdout.startswith(f"{CALLS} calls, 0 open calls, "))
@@ -87,16 +62,15 @@ class ByKeyLog(WithPyKmip):
         self.write_witness(marks)
         run("declare", "--empty", "--out", self.folder / "declaration.ttlv")
         self.assertEqual(audit(self.folder), "yes\n")
-        self.refused(keylog)
+        self.refused(capture, keylog)
 
-    def refused(self, keylog: Path) -> None:
+    def refused(self, capture: Path, keylog: Path) -> None:
         """Without some of the secrets, or of another server, no transcript is made."""
         less = self.folder / "less"
         less.write_text("".join(keylog.read_text().splitlines(keepends=True)[:-1]))
         for secrets, port, words in ((less, self.server_port, "said can't be read: "),
                                      (keylog, self.server_port + 1, "has no packet to or from 127.0.0.1:")):
-            done = run("keylog", self.folder / "capture.pcapng", secrets, "--server", f"127.0.0.1:{port}", "--out",
-                       self.folder / "none")
+            done = run("keylog", capture, secrets, "--server", f"127.0.0.1:{port}", "--out", self.folder / "none")
             self.assertEqual(done.returncode, 1)
             self.assertIn(words, done.stderr)
             self.assertFalse((self.folder / "none").exists())
