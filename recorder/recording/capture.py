@@ -1,0 +1,88 @@
+"""The word `keylog`: a transcript from a packet capture and the TLS key log of a client or of the server.
+
+A begin mark stands where the packet with the last byte of a request went by, an end mark where that with the last
+byte of a response did. That is sound where all packets were seen at one place on the way, in the order of the
+capture.
+"""
+
+from __future__ import annotations
+
+from collections import deque
+from typing import Deque, Dict, List, Optional
+
+from . import certificate, message
+from .address import Address
+from .gaps import have_gap
+from .message import Side
+from .packets import Packet, read_packets
+from .transcript import TranscriptWriter
+from .trouble import ConnectionTrouble, Trouble, say
+from .ttlv import HEADER_LENGTH
+
+
+class Stream:
+    """One connection of the capture: what of it is not yet a whole message, and which calls are unanswered."""
+
+    def __init__(self, client: Address) -> None:
+        self.name = str(client)
+        self.broken = False
+        self._open: Deque[int] = deque()
+        self._torn: Dict[Side, bytes] = {Side.CLIENT: b"", Side.SERVER: b""}
+
+    def take(self, packet: Packet, transcript: TranscriptWriter, minor_1: bool) -> None:
+        """Marks the messages that this packet completes."""
+        side = Side.CLIENT if packet.by_client else Side.SERVER
+        if packet.certificate and packet.by_client:
+            self.name = certificate.common_name(packet.certificate) or self.name
+        self._torn[side] += packet.sent
+        while (whole := self._next_message(side)) is not None:
+            marked = message.with_minor_1(whole, side) if minor_1 else whole
+            if side is Side.CLIENT:
+                self._open.append(transcript.begin(self.name, marked))
+            elif self._open:
+                transcript.end(self._open.popleft(), marked)
+            else:
+                raise ConnectionTrouble("the server sent a response without a request")
+
+    def _next_message(self, side: Side) -> Optional[bytes]:
+        torn = self._torn[side]
+        if len(torn) < HEADER_LENGTH:
+            return None
+        length = message.announced_length(torn[:HEADER_LENGTH], side)
+        if len(torn) < length:
+            return None
+        self._torn[side] = torn[length:]
+        message.read(torn[:length], side)
+        return torn[:length]
+
+
+def run(capture: str, keylog: str, server: Address, minor_1: bool, out: str) -> str:
+    """Writes the transcript, and answers the line that tells of it."""
+    packets = read_packets(capture, keylog, server)
+    _see_that_all_is_there(packets, capture, keylog)
+    streams: Dict[int, Stream] = {}
+    with TranscriptWriter(out) as transcript:
+        for packet in packets:
+            stream = streams.setdefault(packet.stream, Stream(packet.client))
+            if not stream.broken:
+                _take(stream, packet, transcript, minor_1)
+        return transcript.summary()
+
+
+def _take(stream: Stream, packet: Packet, transcript: TranscriptWriter, minor_1: bool) -> None:
+    try:
+        stream.take(packet, transcript, minor_1)
+    except ConnectionTrouble as trouble:
+        stream.broken = True
+        say(f"{stream.name}, stream {packet.stream} of the capture: {trouble}; the rest of it is left out")
+
+
+def _see_that_all_is_there(packets: List[Packet], capture: str, keylog: str) -> None:
+    """A transcript without some of the calls would be judged wrongly, so none is made."""
+    if have_gap((packet.stream, packet.by_client, packet.span) for packet in packets if packet.span):
+        raise Trouble(f"packets to or from the server are missing in {capture}: capture again, with a larger buffer "
+                      "(`dumpcap -B 64`)")
+    clients = sorted({str(packet.client) for packet in packets if packet.hidden})
+    if clients:
+        raise Trouble(f"what {', '.join(clients)} said can't be read: {keylog} has not the secrets of that "
+                      f"connection, or it began ahead of {capture}. Start the capture and the key log first")

@@ -1,0 +1,149 @@
+"""What a live server says that it holds, as entries of a declaration. What it does not tell is left out, and said."""
+
+from __future__ import annotations
+
+import ssl
+import time
+from typing import List, NamedTuple, Optional
+
+from . import ttlv
+from .address import Address
+from .questions import Failed, Operation, Questions
+from .trouble import Trouble, say
+from .ttlv import Item, Kind
+
+ENTRY = 0x540034
+ATTRIBUTES = 0x420125
+KEY_BLOCK = 0x420040
+KEY_FORMAT_TYPE = 0x420042
+KEY_MATERIAL = 0x420043
+KEY_VALUE = 0x420045
+LOCATED_ITEMS = 0x4200D5
+OBJECT_TYPE = 0x420057
+STATE = 0x42008D
+UNIQUE_IDENTIFIER = 0x420094
+
+SYMMETRIC_KEY = 2
+OBJECT_TAGS = {SYMMETRIC_KEY: 0x42008F, 7: 0x420085}
+PLAIN_FORMATS = (1, 2)
+
+
+class Attribute(NamedTuple):
+    """An attribute that an entry may have."""
+
+    name: str
+    tag: int
+    kind: Kind
+
+
+NAME = Attribute("Name", 0x420053, Kind.STRUCTURE)
+INITIAL_DATE = Attribute("Initial Date", 0x420039, Kind.DATE_TIME)
+ACTIVATION_DATE = Attribute("Activation Date", 0x420001, Kind.DATE_TIME)
+DEACTIVATION_DATE = Attribute("Deactivation Date", 0x42002F, Kind.DATE_TIME)
+DESTROY_DATE = Attribute("Destroy Date", 0x420033, Kind.DATE_TIME)
+COMPROMISE_DATE = Attribute("Compromise Date", 0x420020, Kind.DATE_TIME)
+OF_KEYS = [
+    Attribute("Cryptographic Algorithm", 0x420028, Kind.ENUMERATION),
+    Attribute("Cryptographic Length", 0x42002A, Kind.INTEGER),
+    Attribute("Cryptographic Usage Mask", 0x42002C, Kind.INTEGER),
+]
+SINGLE = [*OF_KEYS, INITIAL_DATE, ACTIVATION_DATE, DEACTIVATION_DATE, DESTROY_DATE, COMPROMISE_DATE]
+STATES = ["no State", "Pre-Active", "Active", "Deactivated", "Compromised", "Destroyed", "Destroyed Compromised"]
+
+
+async def entries(server: Address, context: ssl.SSLContext, minor_0: bool, with_bytes: bool) -> List[bytes]:
+    """An entry for each object that the server lists and tells of."""
+    async with Questions(server, context, 0 if minor_0 else 1) as questions:
+        found = []
+        for identifier in await _identifiers(questions):
+            entry = await _entry(questions, identifier, with_bytes)
+            if entry is not None:
+                found.append(entry)
+    if found and not with_bytes:
+        say("the bytes of keys are left undeclared: the first Get of each will show them (--bytes asks for them)")
+    return found
+
+
+async def _identifiers(questions: Questions) -> List[str]:
+    try:
+        payload = await questions.ask(Operation.LOCATE, ttlv.structure(ATTRIBUTES))
+    except Failed as failed:
+        raise Trouble(f"the server refused to list its objects: {failed}; servers of 2.0 need --minor 1") from None
+    listed = [item.value for item in payload.every(UNIQUE_IDENTIFIER, Kind.TEXT)]
+    located = payload.first(LOCATED_ITEMS, Kind.INTEGER)
+    if located and located.value > len(listed):
+        say(f"the server found {located.value} objects, and lists {len(listed)}: the others are left out")
+    return listed
+
+
+async def _entry(questions: Questions, identifier: str, with_bytes: bool) -> Optional[bytes]:
+    named = ttlv.text(UNIQUE_IDENTIFIER, identifier)
+    try:
+        payload = await questions.ask(Operation.GET_ATTRIBUTES, named)
+    except Failed as failed:
+        say(f"object {identifier}: left out, for its attributes were refused: {failed}")
+        return None
+    told = payload.first(ATTRIBUTES, Kind.STRUCTURE) or payload
+    object_type = told.first(OBJECT_TYPE, Kind.ENUMERATION)
+    if object_type is None or object_type.value not in OBJECT_TAGS:
+        say(f"object {identifier}: left out, for it is neither a Symmetric Key nor Secret Data, or is not said to be")
+        return None
+    _say_what_is_missing(identifier, object_type.value, told)
+    parts = [named, ttlv.enumeration(OBJECT_TYPE, object_type.value), ttlv.structure(ATTRIBUTES, *_judged(told))]
+    if with_bytes and told.first(DESTROY_DATE.tag, DESTROY_DATE.kind) is None:
+        parts += await _key_material(questions, identifier, object_type.value)
+    return ttlv.structure(ENTRY, *parts)
+
+
+def _judged(told: Item) -> List[bytes]:
+    """What an entry may have of the attributes that were told."""
+    single = [told.first(attribute.tag, attribute.kind) for attribute in SINGLE]
+    return [ttlv.spell(item) for item in told.every(NAME.tag, NAME.kind) + [item for item in single if item]]
+
+
+def _say_what_is_missing(identifier: str, object_type: int, told: Item) -> None:
+    wanted = [INITIAL_DATE] + (OF_KEYS if object_type == SYMMETRIC_KEY else [])
+    missing = [attribute.name for attribute in wanted if told.first(attribute.tag, attribute.kind) is None]
+    if missing:
+        say(f"object {identifier}: the server does not tell its {', '.join(missing)}: left out")
+    state = told.first(STATE, Kind.ENUMERATION)
+    by_dates = _state(told, int(time.time()))
+    if state and state.value != by_dates:
+        said = STATES[state.value] if state.value < len(STATES) else f"in state {state.value}"
+        say(f"object {identifier}: the server says that it is {said}, but tells no date that makes it so: declared as "
+            f"{STATES[by_dates]}")
+
+
+def _state(told: Item, now: int) -> int:
+    """The number of the state that the dates told make at this moment."""
+    def date(attribute: Attribute) -> Optional[int]:
+        item = told.first(attribute.tag, attribute.kind)
+        return item.value if item else None
+
+    activation, deactivation = date(ACTIVATION_DATE), date(DEACTIVATION_DATE)
+    if date(DESTROY_DATE) is not None:
+        return 5 if date(COMPROMISE_DATE) is None else 6
+    if date(COMPROMISE_DATE) is not None:
+        return 4
+    if activation is None or activation > now:
+        return 1
+    return 3 if deactivation is not None and deactivation <= now else 2
+
+
+async def _key_material(questions: Questions, identifier: str, object_type: int) -> List[bytes]:
+    """The item of the object's bytes; nothing where the server does not show them plainly."""
+    try:
+        payload = await questions.ask(Operation.GET, ttlv.text(UNIQUE_IDENTIFIER, identifier))
+    except Failed as failed:
+        say(f"object {identifier}: its bytes are left undeclared, for they were refused: {failed}")
+        return []
+    item: Optional[Item] = payload
+    for tag in (OBJECT_TAGS[object_type], KEY_BLOCK):
+        item = item.first(tag, Kind.STRUCTURE) if item else None
+    form = item.first(KEY_FORMAT_TYPE, Kind.ENUMERATION) if item else None
+    value = item.first(KEY_VALUE, Kind.STRUCTURE) if item else None
+    material = value.first(KEY_MATERIAL, Kind.BYTES) if value else None
+    if material is None or form is None or form.value not in PLAIN_FORMATS:
+        say(f"object {identifier}: its bytes are left undeclared, for they came neither as Raw nor as Opaque")
+        return []
+    return [ttlv.spell(material)]

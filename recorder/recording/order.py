@@ -1,0 +1,35 @@
+"""The word `order`: a guess at the order in which the calls of a transcript were done, as a witness."""
+
+from __future__ import annotations
+
+from typing import List
+
+from . import message, ttlv
+from .files import write_file
+from .transcript import CALL, VERSION, End, read_marks
+from .trouble import say
+
+HEADER = 0x540040
+TURN = 0x540041
+
+
+def guess(path: str) -> List[int]:
+    """The answered calls by their Time Stamps, and those of the same second by their end marks. It never sets a call
+    ahead of one that ended before it began, unless the stamps do."""
+    ends = [mark for mark in read_marks(path) if isinstance(mark, End)]
+    ends.sort(key=lambda end: message.time_stamp(end.message) or 0)
+    return [end.call for end in ends]
+
+
+def witness(calls: List[int]) -> bytes:
+    """The witness with these calls as turns."""
+    turns = [ttlv.structure(TURN, ttlv.integer(CALL, call)) for call in calls]
+    return ttlv.structure(HEADER, ttlv.integer(VERSION, 1)) + b"".join(turns)
+
+
+def run(transcript: str, out: str) -> str:
+    """Writes the guess, and answers the line that tells of it."""
+    calls = guess(transcript)
+    write_file(out, witness(calls))
+    say("this order is a guess: calls that overlapped within one second may have been done in another")
+    return f"{len(calls)} turns"

@@ -1,0 +1,90 @@
+"""Questions to a key server, one at a time: a request of one item, and its answer."""
+
+from __future__ import annotations
+
+import ssl
+from enum import IntEnum
+from types import TracebackType
+from typing import Optional, Type
+
+from . import message, peer, ttlv
+from .address import Address
+from .message import PROTOCOL_VERSION, PROTOCOL_VERSION_MAJOR, PROTOCOL_VERSION_MINOR, Side
+from .peer import Peer
+from .trouble import ConnectionTrouble, Trouble
+from .ttlv import Item, Kind
+
+BATCH_COUNT = 0x42000D
+BATCH_ITEM = 0x42000F
+OPERATION = 0x42005C
+REQUEST_PAYLOAD = 0x420079
+RESPONSE_PAYLOAD = 0x42007C
+RESULT_MESSAGE = 0x42007D
+RESULT_REASON = 0x42007E
+RESULT_STATUS = 0x42007F
+SUCCESS = 0
+
+
+class Operation(IntEnum):
+    """The operations that are asked."""
+
+    LOCATE = 0x08
+    GET = 0x0A
+    GET_ATTRIBUTES = 0x0B
+
+
+class Failed(Exception):
+    """The server refused; the text is its reason."""
+
+
+class Questions:
+    """A connection over which a server is asked; to be used in an `async with`."""
+
+    def __init__(self, server: Address, context: ssl.SSLContext, minor: int) -> None:
+        self._server = server
+        self._context = context
+        self._minor = minor
+        self._peer: Optional[Peer] = None
+
+    async def __aenter__(self) -> Questions:
+        try:
+            self._peer = await peer.connect(self._server, self._context)
+        except ConnectionTrouble as trouble:
+            raise Trouble(f"{trouble}. Look at --server, and that the server runs; then at --server-ca, --server-cert "
+                          "and --server-key") from None
+        return self
+
+    async def __aexit__(self, kind: Optional[Type[BaseException]], error: Optional[BaseException],
+                        trace: Optional[TracebackType]) -> None:
+        await self._peer.close()
+
+    async def ask(self, operation: Operation, *payload: bytes) -> Item:
+        """The Response Payload of a successful answer."""
+        try:
+            await self._peer.send(self._request(operation, payload))
+            received = await self._peer.receive()
+        except ConnectionTrouble as trouble:
+            raise Trouble(f"{self._server} could not be asked: {trouble}") from None
+        if received is None:
+            raise Trouble(f"{self._server} closed the connection in place of an answer")
+        return _payload_of(message.read(received, Side.SERVER))
+
+    def _request(self, operation: Operation, payload: tuple[bytes, ...]) -> bytes:
+        version = ttlv.structure(PROTOCOL_VERSION, ttlv.integer(PROTOCOL_VERSION_MAJOR, 2),
+                                 ttlv.integer(PROTOCOL_VERSION_MINOR, self._minor))
+        header = ttlv.structure(Side.CLIENT.header_tag, version, ttlv.integer(BATCH_COUNT, 1))
+        item = ttlv.structure(BATCH_ITEM, ttlv.enumeration(OPERATION, operation),
+                              ttlv.structure(REQUEST_PAYLOAD, *payload))
+        return ttlv.structure(Side.CLIENT.message_tag, header, item)
+
+
+def _payload_of(response: Item) -> Item:
+    item = response.first(BATCH_ITEM, Kind.STRUCTURE)
+    status = item.first(RESULT_STATUS, Kind.ENUMERATION) if item else None
+    if status is None:
+        raise Failed("the answer has no Result Status")
+    if status.value != SUCCESS:
+        reason = item.first(RESULT_REASON, Kind.ENUMERATION)
+        told = item.first(RESULT_MESSAGE, Kind.TEXT)
+        raise Failed(f"reason {reason.value if reason else 'not told'}, {told.value if told else 'no message'}")
+    return item.first(RESPONSE_PAYLOAD, Kind.STRUCTURE) or Item(RESPONSE_PAYLOAD, Kind.STRUCTURE, [], 0)

@@ -1,0 +1,144 @@
+"""The transcript: a begin mark and an end mark for each call, in the order in which they were seen.
+
+The file is whole after each mark. A mark is one write; where that comes to grief half-way, the file is cut back to
+the marks before it.
+"""
+
+from __future__ import annotations
+
+import os
+from typing import List, NamedTuple, Set, Union
+
+from . import ttlv
+from .trouble import ConnectionTrouble, Trouble
+from .ttlv import Kind
+
+HEADER = 0x540001
+VERSION = 0x540002
+BEGIN_MARK = 0x540010
+CALL = 0x540011
+CLIENT = 0x540012
+MESSAGE = 0x540013
+END_MARK = 0x540020
+
+MOST_CALLS = 100_000
+
+
+class Begin(NamedTuple):
+    """A begin mark: a request was whole, and had not gone on."""
+
+    call: int
+    client: str
+    message: bytes
+
+
+class End(NamedTuple):
+    """An end mark: a response was whole, and had not gone on."""
+
+    call: int
+    message: bytes
+
+
+class TranscriptWriter:
+    """Writes marks into a new file, which only its owner may read: it has the bytes of keys in it."""
+
+    def __init__(self, path: str) -> None:
+        self.path = path
+        self._calls = 0
+        self._open: Set[int] = set()
+        self._length = 0
+        try:
+            self._file = os.open(path, os.O_WRONLY | os.O_CREAT | os.O_EXCL, 0o600)
+        except FileExistsError:
+            raise Trouble(f"{path} is there already, and recorded calls can't be had again: move it away, or "
+                          "give --out another name") from None
+        except OSError as error:
+            raise Trouble(f"{path} can't be written: {error.strerror}; give --out another name") from None
+        self._append(ttlv.structure(HEADER, ttlv.integer(VERSION, 1)))
+
+    def begin(self, client: str, request: bytes) -> int:
+        """Marks that a request is whole, and answers the number of its call."""
+        if self._calls == MOST_CALLS:
+            raise Trouble(f"{self.path} has {MOST_CALLS:,} calls, the most that the auditor reads: record what "
+                          "follows into another file")
+        call = self._calls + 1
+        self._append(_checked(ttlv.structure(
+            BEGIN_MARK, ttlv.integer(CALL, call), ttlv.text(CLIENT, client), ttlv.byte_string(MESSAGE, request))))
+        self._calls = call
+        self._open.add(call)
+        return call
+
+    def end(self, call: int, response: bytes) -> None:
+        """Marks that the response to a call is whole."""
+        self._append(_checked(ttlv.structure(
+            END_MARK, ttlv.integer(CALL, call), ttlv.byte_string(MESSAGE, response))))
+        self._open.remove(call)
+
+    def summary(self) -> str:
+        """The line that tells what was recorded."""
+        return f"{self._calls} calls, {len(self._open)} open calls, {self._length} bytes"
+
+    def __enter__(self) -> TranscriptWriter:
+        return self
+
+    def __exit__(self, *_: object) -> None:
+        os.close(self._file)
+
+    def _append(self, record: bytes) -> None:
+        written = 0
+        try:
+            while written < len(record):
+                written += os.write(self._file, record[written:])
+        except OSError as error:
+            os.ftruncate(self._file, self._length)
+            raise Trouble(f"{self.path} can't be written: {error.strerror}; it is whole up to here, and nothing "
+                          "went on unmarked. Make room and record into another file") from None
+        self._length += len(record)
+
+
+def _checked(mark: bytes) -> bytes:
+    """The mark, where it is short enough for a transcript."""
+    if len(mark) > ttlv.LONGEST_ITEM:
+        raise ConnectionTrouble(f"a message so long that its mark would be of {len(mark):,} bytes, more than "
+                      f"{ttlv.LONGEST_ITEM:,}")
+    return mark
+
+
+def read_marks(path: str) -> List[Union[Begin, End]]:
+    """The marks of a transcript, in their order."""
+    try:
+        with open(path, "rb") as file:
+            data = file.read()
+    except OSError as error:
+        raise Trouble(f"{path} can't be read: {error.strerror}") from None
+    marks: List[Union[Begin, End]] = []
+    place = 0
+    while place < len(data):
+        try:
+            record = _record_at(data, place)
+        except ttlv.NotTtlv as fault:
+            raise Trouble(f"{path} has no whole record at offset {place}: {fault}. Where the recorder was killed "
+                          f"while it wrote there, `truncate -s {place} {path}` leaves the marks before") from None
+        place += len(record)
+        marks += _marks_of(ttlv.read_item(record))
+    return marks
+
+
+def _record_at(data: bytes, place: int) -> bytes:
+    if len(data) - place < ttlv.HEADER_LENGTH:
+        raise ttlv.NotTtlv("its header is torn")
+    record = data[place:place + ttlv.outermost_length(data[place:place + ttlv.HEADER_LENGTH])]
+    ttlv.read_item(record)
+    return record
+
+
+def _marks_of(record: ttlv.Item) -> List[Union[Begin, End]]:
+    """The mark that a record is, where it is one."""
+    call = record.first(CALL, Kind.INTEGER)
+    client = record.first(CLIENT, Kind.TEXT)
+    message = record.first(MESSAGE, Kind.BYTES)
+    if record.tag == BEGIN_MARK and call and client and message:
+        return [Begin(call.value, client.value, message.value)]
+    if record.tag == END_MARK and call and message:
+        return [End(call.value, message.value)]
+    return []

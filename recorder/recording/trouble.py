@@ -1,0 +1,16 @@
+"""What goes wrong, told to people: what it is, and what to do about it."""
+
+import sys
+
+
+class Trouble(Exception):
+    """Ends the whole work. Its text says what is wrong and what to do."""
+
+
+class ConnectionTrouble(Exception):
+    """Ends one connection alone. Its text says what went wrong on it."""
+
+
+def say(words: str) -> None:
+    """Tells the person at the terminal something; what is meant for other programs goes to standard output."""
+    print(f"kmip_record: {words}", file=sys.stderr, flush=True)

@@ -1,0 +1,191 @@
+"""TTLV, the binary encoding of KMIP: items are made and read as docs/FORMATS.md has them."""
+
+from __future__ import annotations
+
+from enum import IntEnum
+from typing import List, NamedTuple, Optional, Union
+
+LONGEST_ITEM = 1_048_576
+DEEPEST_LEVEL = 16
+HEADER_LENGTH = 8
+
+
+class Kind(IntEnum):
+    """The types of items."""
+
+    STRUCTURE = 1
+    INTEGER = 2
+    LONG_INTEGER = 3
+    BIG_INTEGER = 4
+    ENUMERATION = 5
+    BOOLEAN = 6
+    TEXT = 7
+    BYTES = 8
+    DATE_TIME = 9
+    INTERVAL = 10
+    DATE_TIME_EXTENDED = 11
+
+
+SHORT_NUMBERS = (Kind.INTEGER, Kind.ENUMERATION, Kind.INTERVAL)
+LONG_NUMBERS = (Kind.LONG_INTEGER, Kind.BOOLEAN, Kind.DATE_TIME, Kind.DATE_TIME_EXTENDED)
+SIGNED = (Kind.INTEGER, Kind.LONG_INTEGER, Kind.DATE_TIME, Kind.DATE_TIME_EXTENDED)
+
+
+class NotTtlv(ValueError):
+    """The bytes are no item; the text says what is wrong and at which offset."""
+
+
+class Item(NamedTuple):
+    """An item that was read. `place` is the offset of its value in the bytes that it was read from."""
+
+    tag: int
+    kind: Kind
+    value: Union[List["Item"], int, bool, str, bytes]
+    place: int
+
+    def children(self) -> List["Item"]:
+        """The items of a structure; of any other item none."""
+        return self.value if isinstance(self.value, list) else []
+
+    def first(self, tag: int, kind: Kind) -> Optional["Item"]:
+        """The first child with this tag, where it is of this kind."""
+        for child in self.children():
+            if child.tag == tag:
+                return child if child.kind == kind else None
+        return None
+
+    def every(self, tag: int, kind: Kind) -> List["Item"]:
+        """All children with this tag and kind."""
+        return [child for child in self.children() if child.tag == tag and child.kind == kind]
+
+
+def structure(tag: int, *children: bytes) -> bytes:
+    """A structure of these items."""
+    return _item(tag, Kind.STRUCTURE, b"".join(children))
+
+
+def integer(tag: int, number: int) -> bytes:
+    """A signed number of 32 bits."""
+    return _item(tag, Kind.INTEGER, number.to_bytes(4, "big", signed=True))
+
+
+def enumeration(tag: int, number: int) -> bytes:
+    """An unsigned number of 32 bits that stands for something."""
+    return _item(tag, Kind.ENUMERATION, number.to_bytes(4, "big"))
+
+
+def boolean(tag: int, value: bool) -> bytes:
+    """True or false."""
+    return _item(tag, Kind.BOOLEAN, int(value).to_bytes(8, "big"))
+
+
+def text(tag: int, value: str) -> bytes:
+    """A text in UTF-8; what UTF-8 can't spell becomes a question mark."""
+    return _item(tag, Kind.TEXT, value.encode("utf-8", "replace"))
+
+
+def byte_string(tag: int, value: bytes) -> bytes:
+    """A string of bytes."""
+    return _item(tag, Kind.BYTES, value)
+
+
+def spell(item: Item) -> bytes:
+    """The bytes of an item that was read, with zeros as padding."""
+    if item.kind == Kind.STRUCTURE:
+        return structure(item.tag, *map(spell, item.children()))
+    if item.kind == Kind.TEXT:
+        return text(item.tag, item.value)
+    if item.kind in (Kind.BYTES, Kind.BIG_INTEGER):
+        return _item(item.tag, item.kind, item.value)
+    length = 4 if item.kind in SHORT_NUMBERS else 8
+    return _item(item.tag, item.kind, int(item.value).to_bytes(length, "big", signed=item.kind in SIGNED))
+
+
+def _item(tag: int, kind: Kind, value: bytes) -> bytes:
+    header = tag.to_bytes(3, "big") + bytes([kind]) + len(value).to_bytes(4, "big")
+    return header + value + bytes(padding(len(value)))
+
+
+def padding(length: int) -> int:
+    """How many bytes bring a value of this length up to a multiple of 8."""
+    return -length % 8
+
+
+def outermost_length(header: bytes) -> int:
+    """The bytes of the whole outermost item that begins with these 8, padding counted."""
+    length = int.from_bytes(header[4:8], "big")
+    _checked_kind(header[3], length, 0)
+    whole = HEADER_LENGTH + length + padding(length)
+    if whole > LONGEST_ITEM:
+        raise NotTtlv(f"an item of {whole:,} bytes, more than {LONGEST_ITEM:,}")
+    return whole
+
+
+def read_item(data: bytes) -> Item:
+    """The one item that these bytes are."""
+    if len(data) < HEADER_LENGTH:
+        raise NotTtlv(f"{len(data)} bytes, fewer than the {HEADER_LENGTH} of a header")
+    whole = outermost_length(data)
+    if whole != len(data):
+        raise NotTtlv(f"an item of {whole} bytes, in {len(data)}")
+    return _read(data, 0, len(data), 1)
+
+
+def _read(data: bytes, start: int, stop: int, level: int) -> Item:
+    """The item at `start`, on this level, in a structure whose value ends at `stop`."""
+    if level > DEEPEST_LEVEL:
+        raise NotTtlv(f"more than {DEEPEST_LEVEL} levels at offset {start}")
+    place = start + HEADER_LENGTH
+    if place > stop:
+        raise NotTtlv(f"a header that runs past its structure at offset {start}")
+    length = int.from_bytes(data[start + 4:place], "big")
+    kind = _checked_kind(data[start + 3], length, start)
+    if place + length + padding(length) > stop:
+        raise NotTtlv(f"an item that runs past its structure at offset {start}")
+    tag = int.from_bytes(data[start:start + 3], "big")
+    if kind == Kind.STRUCTURE:
+        return Item(tag, kind, _read_children(data, place, place + length, level + 1), place)
+    return Item(tag, kind, _value(kind, data[place:place + length], place), place)
+
+
+def _read_children(data: bytes, start: int, stop: int, level: int) -> List[Item]:
+    children = []
+    while start < stop:
+        child = _read(data, start, stop, level)
+        children.append(child)
+        length = int.from_bytes(data[start + 4:start + HEADER_LENGTH], "big")
+        start = child.place + length + padding(length)
+    return children
+
+
+def _checked_kind(number: int, length: int, start: int) -> Kind:
+    """The type with this number, where such an item may have this length."""
+    try:
+        kind = Kind(number)
+    except ValueError:
+        raise NotTtlv(f"an item of the unknown type {number:02X} at offset {start}") from None
+    wrong = (
+        (kind in SHORT_NUMBERS and length != 4)
+        or (kind in LONG_NUMBERS and length != 8)
+        or (kind == Kind.STRUCTURE and length % 8 != 0)
+        or (kind == Kind.BIG_INTEGER and (length == 0 or length % 8 != 0))
+    )
+    if wrong:
+        raise NotTtlv(f"an item of type {number:02X} with the length {length} at offset {start}")
+    return kind
+
+
+def _value(kind: Kind, spelled: bytes, place: int) -> Union[int, bool, str, bytes]:
+    if kind == Kind.TEXT:
+        try:
+            return spelled.decode("utf-8")
+        except UnicodeDecodeError:
+            raise NotTtlv(f"a text that is not UTF-8 at offset {place}") from None
+    if kind in (Kind.BYTES, Kind.BIG_INTEGER):
+        return spelled
+    number = int.from_bytes(spelled, "big", signed=kind in SIGNED)
+    if kind != Kind.BOOLEAN:
+        return number
+    if number > 1:
+        raise NotTtlv(f"a Boolean that is neither 0 nor 1 at offset {place}")
+    return number == 1

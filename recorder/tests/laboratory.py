@@ -1,0 +1,156 @@
+"""What the tests need: folders with certificates, a recorder under way, clients, and the auditor's verdict."""
+
+from __future__ import annotations
+
+import os
+import re
+import resource
+import signal
+import socket
+import ssl
+import subprocess
+import sys
+import tempfile
+import threading
+import time
+import unittest
+from pathlib import Path
+from typing import Callable, List, Optional, Sequence
+
+import certificates
+import stub
+
+FOLDER = Path(__file__).resolve().parent.parent
+RECORDER = FOLDER / "kmip_record"
+AUDITOR = os.environ.get("KMIP_AUDIT", str(FOLDER.parent / "crates/kmip_audit/out/kmip_audit"))
+PYKMIP_PYTHON = os.environ.get("PYKMIP_PYTHON", "")
+SECONDS = 20
+
+sys.path.insert(0, str(FOLDER))
+
+from recording.transcript import Begin, End, read_marks  # noqa: E402
+
+
+def run(*words: object, **more: object) -> subprocess.CompletedProcess:
+    """Runs kmip_record with these words to its end."""
+    return subprocess.run([sys.executable, str(RECORDER), *map(str, words)], capture_output=True, text=True,
+                          timeout=SECONDS * 3, **more)
+
+
+def audit(folder: Path, transcript: str = "transcript.ttlv", declaration: str = "declaration.ttlv",
+          witness: str = "witness.ttlv") -> str:
+    """What the auditor prints on these files."""
+    done = subprocess.run([AUDITOR, "check", transcript, declaration, witness], cwd=folder, capture_output=True,
+                          text=True, timeout=SECONDS * 3)
+    return done.stdout
+
+
+def wait_until(holds: Callable[[], object], what: str) -> None:
+    """Waits until something holds; it is a failure if it does not in time."""
+    end = time.monotonic() + SECONDS
+    while not holds():
+        if time.monotonic() > end:
+            raise AssertionError(f"waited in vain: {what}")
+        time.sleep(0.01)
+
+
+class Laboratory(unittest.TestCase):
+    """Each test has a folder of its own; all have one set of certificates."""
+
+    made: tempfile.TemporaryDirectory
+    certificates: Path
+
+    @classmethod
+    def setUpClass(cls) -> None:
+        cls.made = tempfile.TemporaryDirectory(prefix="recorder-")
+        cls.certificates = Path(cls.made.name)
+        certificates.make_authority(cls.certificates)
+        certificates.make_certificates(cls.certificates, ["server", "recorder", *(f"client-{n}" for n in range(7))])
+
+    @classmethod
+    def tearDownClass(cls) -> None:
+        cls.made.cleanup()
+
+    def setUp(self) -> None:
+        folder = tempfile.TemporaryDirectory(dir=self.certificates)
+        self.addCleanup(folder.cleanup)
+        self.folder = Path(folder.name)
+
+    def start(self, port: int, *more: str, program: Path = RECORDER, limit: Optional[int] = None) -> Recorder:
+        """A recorder ahead of the server at this port."""
+        recorder = Recorder(self.certificates, self.folder / "transcript.ttlv", port, more, program, limit)
+        self.addCleanup(recorder.kill)
+        return recorder
+
+    def stub(self, answering: stub.Answering, **more: object) -> stub.Stub:
+        """A server that answers as it is told."""
+        made = stub.Stub(self.certificates, answering, **more)
+        self.addCleanup(made.close)
+        return made
+
+    def client(self, port: int, name: str = "client-1") -> ssl.SSLSocket:
+        """A client's connection."""
+        plain = socket.create_connection(("127.0.0.1", port), timeout=SECONDS)
+        peer = stub.context(self.certificates, name, server_side=False).wrap_socket(plain)
+        self.addCleanup(peer.close)
+        return peer
+
+
+class Recorder:
+    """A `kmip_record proxy` under way. `port` is where clients come to."""
+
+    def __init__(self, folder: Path, transcript: Path, server: int, more: Sequence[str], program: Path,
+                 limit: Optional[int]) -> None:
+        self.transcript = transcript
+        self.said: List[str] = []
+        words = ["proxy", "--listen", "127.0.0.1:0", "--server", f"127.0.0.1:{server}", "--cert", "recorder.pem",
+                 "--key", "recorder.key", "--client-ca", "authority.pem", "--out", str(transcript), *more]
+        self._process = subprocess.Popen(
+            [sys.executable, str(program), *words], cwd=folder, stdout=subprocess.PIPE, stderr=subprocess.PIPE,
+            text=True, preexec_fn=lambda: limit and resource.setrlimit(resource.RLIMIT_FSIZE, (limit, limit)))
+        self._listening = threading.Thread(target=self._listen, daemon=True)
+        self._listening.start()
+        wait_until(lambda: self._process.poll() is not None or self.heard("leads to"), "the recorder's first words")
+        found = re.search(r"127\.0\.0\.1:(\d+) leads to", "\n".join(self.said))
+        self.port = int(found.group(1)) if found else 0
+
+    def _listen(self) -> None:
+        for line in self._process.stderr:
+            self.said.append(line.rstrip("\n"))
+
+    def heard(self, words: str) -> bool:
+        """Whether it said this on standard error."""
+        return any(words in line for line in self.said)
+
+    def marks(self) -> List[Begin | End]:
+        """The marks that are in the file now."""
+        return read_marks(str(self.transcript))
+
+    def end(self, number: int = signal.SIGINT) -> str:
+        """Ends it by a signal, and answers its last line."""
+        self._process.send_signal(number)
+        return self.last_words()
+
+    def last_words(self) -> str:
+        """Waits for its end, and answers its last line."""
+        line = self._process.stdout.read().strip()
+        self._process.wait(SECONDS)
+        self._listening.join(SECONDS)
+        return line
+
+    def status(self) -> Optional[int]:
+        """Its status, once it has ended."""
+        return self._process.poll()
+
+    def kill(self) -> None:
+        """Ends it at once."""
+        self._process.kill()
+        self._process.wait(SECONDS)
+        self._listening.join(SECONDS)
+        self._process.stdout.close()
+        self._process.stderr.close()
+
+
+def kinds(marks: Sequence[Begin | End]) -> List[tuple[str, int]]:
+    """The marks without their messages."""
+    return [("begin" if isinstance(mark, Begin) else "end", mark.call) for mark in marks]

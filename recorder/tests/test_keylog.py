@@ -1,0 +1,122 @@
+"""What stands between a capture and its marks: gaps, torn messages, calls ahead of their answers."""
+
+from __future__ import annotations
+
+import subprocess
+import unittest
+from typing import Dict, List, Optional
+
+import messages
+import stub
+from capturing import captured, need_tshark
+from laboratory import Laboratory, kinds, read_marks, run
+
+from recording import certificate
+from recording.address import Address
+from recording.capture import Stream
+from recording.gaps import Span, have_gap
+from recording.packets import Packet
+from recording.transcript import TranscriptWriter
+from recording.trouble import ConnectionTrouble
+
+STAMP = 1_700_000_000
+CLIENT = Address("192.0.2.7", 50_000)
+WHOLE = [(0, True, Span(0, 1, 0)), (0, False, Span(0, 1, 1)), (0, True, Span(1, 101, 1)), (0, False, Span(1, 51, 101)),
+         (0, True, Span(101, 102, 51)), (0, False, Span(51, 52, 102)), (0, True, Span(102, 102, 52))]
+
+
+class Gaps(unittest.TestCase):
+    """A connection with one message each way, in seven packets."""
+
+    def test_all_packets_have_no_gap(self) -> None:
+        self.assertFalse(have_gap(WHOLE))
+
+    def test_late_packets_and_such_that_came_twice_are_no_gap(self) -> None:
+        self.assertFalse(have_gap(WHOLE[::-1] + WHOLE[:3]))
+
+    def test_each_missing_packet_is_a_gap(self) -> None:
+        for missing in range(6):
+            with self.subTest(missing):
+                self.assertTrue(have_gap(WHOLE[:missing] + WHOLE[missing + 1:]))
+
+
+class Streams(Laboratory):
+    """Packets of one connection, as tshark reads them."""
+
+    def take(self, sent: List[tuple[bool, bytes]], shown: Optional[bytes] = None) -> List[tuple[str, int]]:
+        path = self.folder / "transcript.ttlv"
+        stream = Stream(CLIENT)
+        with TranscriptWriter(str(path)) as transcript:
+            for by_client, data in sent:
+                stream.take(Packet(0, CLIENT, by_client, data, shown, False, None), transcript, False)
+        return read_marks(str(path))
+
+    def test_a_mark_stands_where_its_message_is_whole(self) -> None:
+        first, second, answer = messages.get("key-1"), messages.get("key-2"), messages.not_found(STAMP)
+        marks = self.take([(True, first[:20]), (True, first[20:] + second[:9]), (False, answer), (True, second[9:])])
+        self.assertEqual(kinds(marks), [("begin", 1), ("end", 1), ("begin", 2)])
+        self.assertEqual([mark.message for mark in marks], [first, answer, second])
+        self.assertEqual(marks[0].client, "192.0.2.7:50000")
+
+    def test_answers_belong_to_requests_in_their_order(self) -> None:
+        ahead = messages.get("key-1") + messages.get("key-2")
+        marks = self.take([(True, ahead), (False, messages.not_found(STAMP) + messages.not_found(STAMP + 1))])
+        self.assertEqual(kinds(marks), [("begin", 1), ("begin", 2), ("end", 1), ("end", 2)])
+
+    def test_an_answer_without_a_request(self) -> None:
+        with self.assertRaisesRegex(ConnectionTrouble, "a response without a request"):
+            self.take([(False, messages.not_found(STAMP))])
+
+    def test_the_name_is_that_of_the_certificate(self) -> None:
+        spelled = subprocess.run(["openssl", "x509", "-in", "client-3.pem", "-outform", "DER"], check=True,
+                                 cwd=self.certificates, capture_output=True).stdout
+        marks = self.take([(True, b""), (True, messages.get("key-1"))], spelled)
+        self.assertEqual(marks[0].client, "client-3")
+        self.assertIsNone(certificate.common_name(spelled[:-1]), "torn")
+
+
+class Newest(Laboratory):
+    """TLS 1.3, which hides more than 1.2 does, with the server's key log and messages of many packets."""
+
+    def test_calls_of_tls_1_3_are_read_and_none_without_its_secrets(self) -> None:
+        need_tshark(self)
+        keylog, answer = self.folder / "keylog", messages.not_found(STAMP, text="x" * 300_000)
+        requests = [messages.get(f"key-{turn}" + "k" * 300_000) for turn in range(3)]
+        server = self.stub(lambda peer, _: peer.sendall(answer), keylog=keylog)
+        with captured(self, server.port) as capture:
+            client = self.client(server.port)
+            for request in requests:
+                client.sendall(request)
+                self.assertEqual(stub.receive(client), answer)
+            client.close()
+        words = ["--server", f"127.0.0.1:{server.port}", "--out", self.folder / "transcript.ttlv"]
+        (self.folder / "empty").touch()
+        self.assertIn("said can't be read: ", run("keylog", capture, self.folder / "empty", *words).stderr)
+        self.assertTrue(run("keylog", capture, keylog, *words).stdout.startswith("3 calls, 0 open calls, "))
+        marks = read_marks(str(self.folder / "transcript.ttlv"))
+        self.assertEqual([mark.message for mark in marks[::2]], requests)
+        self.assertEqual([mark.message for mark in marks[1::2]], [answer] * 3)
+        self.assertEqual({mark.client for mark in marks[::2]}, {"client-1"})
+
+
+class Needs(Laboratory):
+    """What is not there is named."""
+
+    def keylog(self, environment: Optional[Dict[str, str]] = None) -> str:
+        (self.folder / "keylog").touch()
+        done = run("keylog", "capture", "keylog", "--server", "127.0.0.1:5696", "--out", "transcript.ttlv",
+                   cwd=self.folder, env=environment)
+        self.assertEqual((done.returncode, done.stdout, done.stderr.count("\n")), (1, "", 1))
+        self.assertFalse((self.folder / "transcript.ttlv").exists())
+        return done.stderr
+
+    def test_without_tshark_its_package_is_named(self) -> None:
+        (self.folder / "capture").touch()
+        self.assertIn("install it (`apt-get install tshark` on Debian)", self.keylog({"PATH": "/nowhere"}))
+
+    def test_a_capture_that_is_not_there(self) -> None:
+        self.assertIn("capture can't be read", self.keylog())
+
+
+if __name__ == "__main__":
+    unittest.main()

@@ -1,0 +1,113 @@
+"""What goes wrong before a call, told to people; and wrong words."""
+
+from __future__ import annotations
+
+import socket
+import threading
+import unittest
+from pathlib import Path
+
+import certificates
+from laboratory import Laboratory, run
+from test_proxy import at_once
+
+
+class Troubles(Laboratory):
+    """Each is one line on standard error that says what to do, and the status 1."""
+
+    def proxy(self, server: int, listen: str = "127.0.0.1:0", certificate: str = "recorder", key: str = "recorder",
+              authority: str = "authority.pem", out: str = "transcript.ttlv", more: tuple[object, ...] = ()) -> str:
+        """What the recorder says with these words, on which it ends."""
+        done = run("proxy", "--listen", listen, "--server", f"127.0.0.1:{server}", "--cert", f"{certificate}.pem",
+                   "--key", f"{key}.key", "--client-ca", authority, "--out", self.folder / out, *more,
+                   cwd=self.certificates)
+        self.assertEqual((done.returncode, done.stdout, done.stderr.count("\n")), (1, "", 1), done.stderr)
+        self.assertNotIn("Traceback", done.stderr)
+        return done.stderr
+
+    def test_a_port_that_is_taken(self) -> None:
+        server = self.stub(at_once)
+        said = self.proxy(server.port, listen=f"127.0.0.1:{server.port}")
+        self.assertIn(f"the port of 127.0.0.1:{server.port} is taken: end what listens there, or give --listen", said)
+
+    def test_an_address_of_another_machine(self) -> None:
+        self.assertIn("nothing can listen at 192.0.2.1:5696", self.proxy(1, listen="192.0.2.1:5696"))
+
+    def test_a_server_that_is_not_there(self) -> None:
+        with socket.create_server(("127.0.0.1", 0)) as free:
+            port = free.getsockname()[1]
+        self.assertIn(f"no server at 127.0.0.1:{port}: ", self.proxy(port))
+        self.assertFalse((self.folder / "transcript.ttlv").exists(), "so that the same words serve again")
+
+    def test_a_server_of_another_authority(self) -> None:
+        certificates.make_authority(self.folder, "stranger")
+        said = self.proxy(self.stub(at_once).port, more=("--server-ca", self.folder / "stranger.pem"))
+        self.assertIn("its certificate is not signed by the authority that was given", said)
+
+    def test_a_server_that_does_not_accept_us(self) -> None:
+        certificates.make_authority(self.folder, "stranger")
+        certificates.make_certificates(self.folder, ["other"], authority="stranger")
+        said = self.proxy(self.stub(at_once, newest=False).port, more=(
+            "--server-cert", self.folder / "other.pem", "--server-key", self.folder / "other.key"))
+        self.assertIn("it does not accept our certificate", said)
+
+    def test_a_server_without_tls(self) -> None:
+        def greet() -> None:
+            with plain.accept()[0] as client:
+                client.sendall(b"220 hello\r\n")
+                client.recv(1)
+
+        with socket.create_server(("127.0.0.1", 0)) as plain:
+            threading.Thread(target=greet, daemon=True).start()
+            self.assertIn("it does not speak TLS", self.proxy(plain.getsockname()[1]))
+
+    def test_a_key_of_another_certificate(self) -> None:
+        self.assertIn("the key in client-1.key is not that of the certificate in recorder.pem",
+                      self.proxy(1, key="client-1"))
+
+    def test_a_certificate_that_is_none(self) -> None:
+        self.assertIn("uses has no certificate of an authority in PEM", self.proxy(1, authority="uses"))
+
+    def test_a_certificate_that_is_not_there(self) -> None:
+        self.assertIn("the certificate nobody.pem or the key recorder.key can't be read: No such file",
+                      self.proxy(1, certificate="nobody"))
+
+    def test_a_transcript_that_is_there_already(self) -> None:
+        (self.folder / "old").write_bytes(b"calls")
+        self.assertIn("is there already, and recorded calls can't be had again", self.proxy(
+            self.stub(at_once).port, out="old"))
+        self.assertEqual((self.folder / "old").read_bytes(), b"calls")
+
+    def test_a_folder_that_is_not_there(self) -> None:
+        self.assertIn("can't be written: No such file or directory; give --out another name", self.proxy(
+            self.stub(at_once).port, out="nowhere/transcript.ttlv"))
+
+    def test_a_torn_transcript(self) -> None:
+        torn = Path(self.folder / "torn")
+        torn.write_bytes(bytes.fromhex("540001010000001054000202000000040000000100000000" "5400100100"))
+        done = run("order", torn, "--out", self.folder / "witness.ttlv")
+        self.assertEqual(done.returncode, 1)
+        self.assertIn(f"`truncate -s 24 {torn}` leaves the marks before", done.stderr)
+
+
+class Words(Laboratory):
+    """Words that the program does not know."""
+
+    def test_wrong_words(self) -> None:
+        for words in (["prox"], ["proxy"], ["proxy", "--listen", "nowhere"], ["declare", "--out", "x"],
+                      ["declare", "--empty", "--reason", "1", "--out", "x"],
+                      ["keylog", "a", "b", "--server", "h:99999", "--out", "x"]):
+            done = run(*words, cwd=self.folder)
+            self.assertEqual((done.returncode, done.stdout), (64, ""), words)
+            self.assertIn("usage: kmip_record", done.stderr)
+        self.assertEqual(list(self.folder.iterdir()), [])
+
+    def test_help(self) -> None:
+        for words in ([], ["--help"], ["proxy", "--help"]):
+            done = run(*words)
+            self.assertEqual((done.returncode, done.stderr), (0, ""))
+            self.assertTrue(done.stdout.startswith("usage: kmip_record"))
+
+
+if __name__ == "__main__":
+    unittest.main()
