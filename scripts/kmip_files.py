@@ -1,0 +1,146 @@
+"""Spells KMIP messages and the auditor's three files, for the scripts beside it: items with zero padding, requests, answers, marks and turns."""
+from dataclasses import dataclass, field
+
+STRUCTURE, INTEGER, ENUMERATION, BOOLEAN, TEXT, BYTES, DATE_TIME = 1, 2, 5, 6, 7, 8, 9
+
+CREATE, REGISTER, LOCATE, GET, GET_ATTRIBUTES, ACTIVATE, REVOKE, DESTROY = 1, 3, 8, 0x0A, 0x0B, 0x12, 0x13, 0x14
+SUCCESS, FAILED, UNDONE = 0, 1, 3
+CONTINUE, STOP, UNDO = 1, 2, 3
+SYMMETRIC_KEY = 2
+AES = 3
+
+
+def item(tag: int, kind: int, value: bytes) -> bytes:
+    """An item with zero padding."""
+    return tag.to_bytes(3, "big") + bytes([kind]) + len(value).to_bytes(4, "big") + value + bytes(-len(value) % 8)
+
+
+def structure(tag: int, *children: bytes) -> bytes:
+    return item(tag, STRUCTURE, b"".join(children))
+
+
+def integer(tag: int, number: int) -> bytes:
+    return item(tag, INTEGER, number.to_bytes(4, "big", signed=True))
+
+
+def enumeration(tag: int, number: int) -> bytes:
+    return item(tag, ENUMERATION, number.to_bytes(4, "big"))
+
+
+def text(tag: int, characters: str) -> bytes:
+    return item(tag, TEXT, characters.encode())
+
+
+def date(tag: int, second: int) -> bytes:
+    return item(tag, DATE_TIME, second.to_bytes(8, "big", signed=True))
+
+
+VERSION = structure(0x420069, integer(0x42006A, 2), integer(0x42006B, 1))
+
+
+def identifier(name: str) -> bytes:
+    return text(0x420094, name)
+
+
+def name_attribute(value: str) -> bytes:
+    return structure(0x420053, text(0x420055, value), enumeration(0x420054, 1))
+
+
+def attributes(*, bits: int | None = None, mask: int | None = None, names: tuple[str, ...] = ()) -> bytes:
+    """Attributes of an AES key of so many bits, with a usage mask and names."""
+    children = [name_attribute(name) for name in names]
+    if bits is not None:
+        children += [enumeration(0x420028, AES), integer(0x42002A, bits)]
+    if mask is not None:
+        children.append(integer(0x42002C, mask))
+    return structure(0x420125, *children)
+
+
+def symmetric_key(material: bytes) -> bytes:
+    """A raw AES key."""
+    value = structure(0x420045, item(0x420043, BYTES, material))
+    return structure(0x42008F, structure(0x420040, enumeration(0x420042, 1), value, enumeration(0x420028, AES), integer(0x42002A, 8 * len(material))))
+
+
+def ask(operation: int, *payload: bytes) -> bytes:
+    """An item of a request."""
+    return structure(0x42000F, enumeration(0x42005C, operation), structure(0x420079, *payload))
+
+
+def answer(operation: int, *payload: bytes, status: int = SUCCESS, reason: int | None = None) -> bytes:
+    """An item of a response; a failed one has no payload."""
+    parts = [enumeration(0x42005C, operation), enumeration(0x42007F, status)]
+    if reason is not None:
+        parts.append(enumeration(0x42007E, reason))
+    if status != FAILED:
+        parts.append(structure(0x42007C, *payload))
+    return structure(0x42000F, *parts)
+
+
+def request(*asks: bytes, option: int | None = None) -> bytes:
+    header = [VERSION]
+    if option is not None:
+        header.append(enumeration(0x42000E, option))
+    return structure(0x420078, structure(0x420077, *header, integer(0x42000D, len(asks))), *asks)
+
+
+def response(stamp: int, *answers: bytes) -> bytes:
+    return structure(0x42007B, structure(0x42007A, VERSION, date(0x420092, stamp), integer(0x42000D, len(answers))), *answers)
+
+
+def begin_mark(call: int, client: str, message: bytes) -> bytes:
+    return structure(0x540010, integer(0x540011, call), text(0x540012, client), item(0x540013, BYTES, message))
+
+
+def end_mark(call: int, message: bytes) -> bytes:
+    return structure(0x540020, integer(0x540011, call), item(0x540013, BYTES, message))
+
+
+TRANSCRIPT_HEADER = structure(0x540001, integer(0x540002, 1))
+WITNESS_HEADER = structure(0x540040, integer(0x540002, 1))
+
+
+def declaration_header(unique_names: bool = False) -> bytes:
+    return structure(0x540030, integer(0x540002, 1), item(0x540031, BOOLEAN, int(unique_names).to_bytes(8, "big")))
+
+
+def row(reason: int, cause: int) -> bytes:
+    return structure(0x540032, enumeration(0x42007E, reason), enumeration(0x540033, cause))
+
+
+def entry(name: str, bits: int = 128, names: tuple[str, ...] = (), material: bytes | None = None) -> bytes:
+    """A declared AES key."""
+    parts = [identifier(name), enumeration(0x420057, SYMMETRIC_KEY), attributes(bits=bits, names=names)]
+    if material is not None:
+        parts.append(item(0x420043, BYTES, material))
+    return structure(0x540034, *parts)
+
+
+def turn(call: int) -> bytes:
+    return structure(0x540041, integer(0x540011, call))
+
+
+@dataclass
+class Session:
+    """A session whose calls are taken in the order in which they are added."""
+
+    declared: list[bytes] = field(default_factory=lambda: [declaration_header()])
+    calls: list[tuple[bytes, bytes]] = field(default_factory=list)
+    overlapping: bool = False
+
+    def call(self, asked: bytes, answered: bytes) -> None:
+        self.calls.append((asked, answered))
+
+    def transcript(self) -> bytes:
+        """Its marks: each call by itself, or all begun before the first ends."""
+        begins = [begin_mark(number, "a", asked) for number, (asked, _) in enumerate(self.calls, 1)]
+        ends = [end_mark(number, answered) for number, (_, answered) in enumerate(self.calls, 1)]
+        if self.overlapping:
+            return TRANSCRIPT_HEADER + b"".join(begins) + b"".join(ends)
+        return TRANSCRIPT_HEADER + b"".join(mark for pair in zip(begins, ends) for mark in pair)
+
+    def declaration(self) -> bytes:
+        return b"".join(self.declared)
+
+    def witness(self) -> bytes:
+        return WITNESS_HEADER + b"".join(turn(number) for number in range(1, len(self.calls) + 1))
