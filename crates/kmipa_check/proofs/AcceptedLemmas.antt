@@ -59,13 +59,13 @@ placed_below : (order : List StepOf) (turn : ℕ) → IsPlaced order → turn < 
 placed_below order turn p within t below = let c = some_at order t (omega (arith, below, within)) in (c.0, placed_at order t c.0 p c.1)
 
 -- the inventories before and after a turn
-record AtTurn (rules : RulesOf) (V : List Thing) (order : List StepOf) (turn : ℕ) (c : StepOf) : Type 0 where
-  before : List Thing
-  after : List Thing
-  linked : Linked rules V (take turn order) before
-  call : CallSome rules before c.request c.response after
+pub record AtTurn (rules : RulesOf) (V : List Thing) (order : List StepOf) (turn : ℕ) (c : StepOf) : Type 0 where
+  pub before : List Thing
+  pub after : List Thing
+  pub linked : Linked rules V (take turn order) before
+  pub call : CallSome rules before c.request c.response after
 
-linked_at : (rules : RulesOf) (V : List Thing) (order : List StepOf) (turn : ℕ) (c : StepOf) (W : List Thing) → Linked rules V order W → slice_get order turn ≡ Some c → AtTurn rules V order turn c
+pub linked_at : (rules : RulesOf) (V : List Thing) (order : List StepOf) (turn : ℕ) (c : StepOf) (W : List Thing) → Linked rules V order W → slice_get order turn ≡ Some c → AtTurn rules V order turn c
 linked_at rules V [] turn c W l at = absurd cc
 linked_at rules V (x ∷ order) zero c W l at =
     let is : x ≡ c = cc in
@@ -91,7 +91,7 @@ refuses r = of r.items refl
     of (a ∷ b ∷ items) is = inr (λ h. let x : 1 ≡ suc (suc (length items)) = sym (ap length h.alone) ∙ ap length is in omega (arith, x))
 
 -- a call that is given goes up to each of its items
-goes_up : (rules : RulesOf) (V : List Thing) (c : StepOf) (W : List Thing) (count : ℕ) → CallSome rules V c.request c.response W → GoesUpTo rules V c count
+pub goes_up : (rules : RulesOf) (V : List Thing) (c : StepOf) (W : List Thing) (count : ℕ) → CallSome rules V c.request c.response W → GoesUpTo rules V c count
 goes_up rules V c W count call = elim (refuses c.response) [
   | inl h ↦ inr h
   | inr not ↦

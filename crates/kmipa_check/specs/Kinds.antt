@@ -1,7 +1,14 @@
--- The kinds of faults of a witness.
+-- The numbers of faults, and the kinds of those of a witness.
 use Rattle.std.specs.Prelude.{ℕ, List, codes}
+use Rattle.kmipa_check.specs.declared.fault.CheckFault.{CheckFault}
+use Rattle.kmipa_check.specs.declared.fault.CheckFault.TheVariants.{Outside, Witness, Memory}
 use Rattle.kmipa_check.specs.declared.fault.WitnessKind.{WitnessKind}
 use Rattle.kmipa_check.specs.declared.fault.WitnessKind.TheVariants.{UnknownCall, Twice, LeftOut, FillNotWanted, FillMissing, FillForm}
+
+abbrev pub fault_number : CheckFault → ℕ
+fault_number (Outside number side o) = 1
+fault_number (Witness f) = 2
+fault_number Memory = 3
 
 abbrev pub kind_number : WitnessKind → ℕ
 kind_number UnknownCall = 1

@@ -27,6 +27,22 @@ pub enum CheckFault {
     Memory,
 }
 
+impl CheckFault {
+    ghost use Rattle.std.specs.Prelude.{◌≡◌};
+    ghost use Rattle.kmipa_check.specs.Kinds.{fault_number};
+
+    /// The number of the fault.
+    pub fn number(self) -> u8
+        ensures { result ≡ fault_number self }
+    {
+        match self {
+            CheckFault::Outside(_, _, _) => 1,
+            CheckFault::Witness(_) => 2,
+            CheckFault::Memory => 3,
+        }
+    }
+}
+
 /// What is wrong with a witness for a transcript.
 #[derive(Clone, Copy, Debug, PartialEq, Eq, Error)]
 #[error("{kind:?} at {at}")]
