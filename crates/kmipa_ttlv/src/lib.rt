@@ -20,6 +20,7 @@ mod splitting;
 mod tag;
 mod view;
 
+pub use copying::copy_item;
 pub use decoding::{decode, decode_view};
 pub use encoding::{encode, spelled_len};
 pub use fault::{FaultKind, TtlvFault};
