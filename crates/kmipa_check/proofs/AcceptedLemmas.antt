@@ -18,9 +18,9 @@ use Rattle.kmipa_ops.proofs.ExplainLemmas.{chain_split}
 use Rattle.kmipa_ops.specs.Chains.{ChainSome}
 use Rattle.kmipa_batch.specs.Calls.{pairs_of, RefusesMessage, CallSome}
 use Rattle.kmipa_batch.proofs.CompletionLemmas.{batch_of_call}
-use Rattle.kmipa_check.specs.Steps.{StepOf, NeedsFill}
+use Rattle.kmipa_check.specs.Steps.{StepOf, IsStep}
 use Rattle.kmipa_check.specs.Calls.{CallOf, AreOutside, AreRequest, AreResponse, HasMarks, IsOutsideOn, IsFirstOutside}
-use Rattle.kmipa_check.specs.Orders.{NamesAt, NamesBefore, IsFormed, IsOrder, TurnFault, unknown, twice, unfilled, WitnessFaultAt, in_turn, left_out}
+use Rattle.kmipa_check.specs.Orders.{NamesAt, NamesBefore, IsFormed, IsOrder, TurnFault, unknown, twice, unfit, WitnessFaultAt, in_turn, left_out}
 use Rattle.kmipa_check.specs.Runs.{Linked, Before, IsPlaced, IsAccepted, rules_declared}
 use Rattle.kmipa_check.specs.Verdicts.{IsLate, RunsBack, IsPlacedAt, ArePlaced, GoesUpTo, late, runs_back, in_place, in_item, IsRefused, Checks}
 use Rattle.kmipa_check.specs.declared.fault.CheckFault.{CheckFault}
@@ -33,7 +33,7 @@ use Rattle.kmipa_check.specs.declared.verdict.Verdict.{Verdict}
 use Rattle.kmipa_check.specs.declared.verdict.Verdict.TheVariants.{Yes, No}
 use Rattle.kmipa_check.proofs.PlaceLemmas.{at_contains, contains_at, get_at, some_at}
 use Rattle.kmipa_check.proofs.PermutationLemmas.{IsOnce, once_pairs}
-use Rattle.kmipa_check.proofs.WholeOrderLemmas.{number_of, same_call, one_order_lem}
+use Rattle.kmipa_check.proofs.WholeOrderLemmas.{number_of, same_call, step_right, one_order_lem}
 use Rattle.kmipa_check.proofs.CheckLemmas.{calls_once}
 use Rattle.kmipa_check.proofs.RecordedLemmas.{same_message, not_outside, same_marks, same_calls, recorded_at}
 
@@ -168,17 +168,16 @@ module _ (marks : List MarkOf) (declared : DeclarationOf) (turns : List TurnOf) 
       let f = formed place n at in
       let P : ℤ → Type 0 = λ m. NamesBefore turns place m in
       f.1.first (subst P (sym f.2) before)
-  turn_fault place kind (unfilled c response at known first given needs is) =
-      let f = formed place c.number at in
+  turn_fault place kind (unfit c t there named known first fault) =
+      let f = formed place c.number (t, there, named) in
       let p = at_contains a.calls f.1.call f.1.known in
       let q = at_contains a.calls c known in
       let same : f.1.call ≡ c = same_call a.calls once p.0 q.0 f.1.call c p.1 q.1 (sym f.1.step.named ∙ f.2) in
-      let P : CallOf → Type 0 = λ d. d.response ≡ Some f.1.step.response in
-      let Q : CallOf → Type 0 = λ d. NeedsFill d.request f.1.step.response → ⊥ in
-      let there = subst P same f.1.step.recorded in
-      let e : f.1.step.response ≡ response = cc in
-      let R : ResponseOf → Type 0 = λ x. NeedsFill c.request x → ⊥ in
-      subst R e (subst Q same f.1.step.filled) needs
+      let at = f.1.there in
+      let turn : f.1.turn ≡ t = cc in
+      let P : CallOf → Type 0 = λ d. IsStep d f.1.turn f.0 in
+      let Q : TurnOf → Type 0 = λ u. IsStep c u f.0 in
+      step_right c t f.0 kind (subst Q turn (subst P same f.1.step)) fault
 
   pub accepted_is_yes_lem : (result : Result Verdict CheckFault) → Checks marks declared turns result → (result ≡ Ok Yes) ⊎ (result ≡ Err Memory)
   accepted_is_yes_lem (Ok Yes) h = inl refl

@@ -19,8 +19,8 @@ use Rattle.kmipa_ops.specs.Chains.{ChainSome}
 use Rattle.kmipa_ops.proofs.ExplainLemmas.{chain_split}
 use Rattle.kmipa_batch.specs.Calls.{pairs_of}
 use Rattle.kmipa_check.specs.Calls.{CallOf, AreOutside, no_item, outside, AreRequest, AreResponse, HasMarks, IsRecorded, AreFirstCalls, AreCalls, IsOutsideOn, IsFirstOutside}
-use Rattle.kmipa_check.specs.Steps.{StepOf, NeedsFill}
-use Rattle.kmipa_check.specs.Orders.{NamesAt, NamesBefore, IsFormed, IsOrder, TurnFault, unknown, twice, unfilled, WitnessFaultAt, in_turn, left_out}
+use Rattle.kmipa_check.specs.Steps.{StepOf, IsStep}
+use Rattle.kmipa_check.specs.Orders.{NamesAt, NamesBefore, IsFormed, IsOrder, GivenFault, TurnFault, unknown, twice, unfit, WitnessFaultAt, in_turn, left_out}
 use Rattle.kmipa_check.specs.Runs.{Linked, rules_declared}
 use Rattle.kmipa_check.specs.Verdicts.{IsPlacedAt, GoesUpTo, ArePossibleUpTo, RefusedPlace, late, runs_back, RefusedAt, in_place, in_item, IsRefused, Checks}
 use Rattle.kmipa_check.specs.Laws.{AreOne}
@@ -34,7 +34,7 @@ use Rattle.kmipa_check.specs.declared.verdict.Verdict.{Verdict}
 use Rattle.kmipa_check.specs.declared.verdict.Verdict.TheVariants.{Yes, No}
 use Rattle.kmipa_check.proofs.PlaceLemmas.{at_contains, get_at, some_at}
 use Rattle.kmipa_check.proofs.PermutationLemmas.{IsOnce, once_pairs}
-use Rattle.kmipa_check.proofs.WholeOrderLemmas.{number_of, same_call, one_order_lem}
+use Rattle.kmipa_check.proofs.WholeOrderLemmas.{number_of, same_call, step_right, one_given, one_order_lem}
 use Rattle.kmipa_check.proofs.CheckLemmas.{calls_once}
 use Rattle.kmipa_check.proofs.RecordedLemmas.{apart, taken_at, same_item, same_message, not_outside, same_marks, same_calls}
 use Rattle.kmipa_check.proofs.AcceptedLemmas.{linked_at, goes_up, accepted_is_yes_lem}
@@ -157,37 +157,43 @@ module _ (calls : List CallOf) (turns : List TurnOf) (once : IsOnce (map number_
   formed_right place kind s f (twice n at has before is) =
       let P : ℤ → Type 0 = λ m. NamesBefore turns place m in
       f.first (subst P (sym (named_number place n s f at)) before)
-  formed_right place kind s f (unfilled c response at known first given needs is) =
+  formed_right place kind s f (unfit c t there named known first fault) =
       let p = at_contains calls f.call f.known in
       let q = at_contains calls c known in
-      let same : f.call ≡ c = same_call calls once p.0 q.0 f.call c p.1 q.1 (sym f.step.named ∙ named_number place c.number s f at) in
-      let P : CallOf → Type 0 = λ d. d.response ≡ Some f.step.response in
-      let Q : CallOf → Type 0 = λ d. NeedsFill d.request f.step.response → ⊥ in
-      let there = subst P same f.step.recorded in
-      let e : f.step.response ≡ response = cc in
-      let R : ResponseOf → Type 0 = λ x. NeedsFill c.request x → ⊥ in
-      subst R e (subst Q same f.step.filled) needs
+      let same : f.call ≡ c = same_call calls once p.0 q.0 f.call c p.1 q.1 (sym f.step.named ∙ named_number place c.number s f (t, there, named)) in
+      let at = f.there in
+      let turn : f.turn ≡ t = cc in
+      let P : CallOf → Type 0 = λ d. IsStep d f.turn s in
+      let Q : TurnOf → Type 0 = λ u. IsStep c u s in
+      step_right c t s kind (subst Q turn (subst P same f.step)) fault
 
   fault_within : (place : ℕ) (kind : WitnessKind) → TurnFault calls turns place kind → place < length turns
   fault_within place kind (unknown n at none is) = slice_get_within turns place at.0 at.1
   fault_within place kind (twice n at has before is) = slice_get_within turns place at.0 at.1
-  fault_within place kind (unfilled c response at known first given needs is) = slice_get_within turns place at.0 at.1
+  fault_within place kind (unfit c t there named known first fault) = slice_get_within turns place t there
 
   one_fault : (place : ℕ) (kind other : WitnessKind) → TurnFault calls turns place kind → TurnFault calls turns place other → kind ≡ other
   one_fault place kind other (unknown n at none is) (unknown m there never same) = is ∙ sym same
   one_fault place kind other (unknown n at none is) (twice m there has before same) =
       absurd (none (has.0, has.1, has.2 ∙ same_named turns place m n there at))
-  one_fault place kind other (unknown n at none is) (unfilled c response there known first given needs same) = absurd (none (c, known, same_named turns place c.number n there at))
+  one_fault place kind other (unknown n at none is) (unfit c t there named known first fault) = absurd (none (c, known, sym named ∙ same_named turns place t.call n (t, there, refl) at))
   one_fault place kind other (twice n at has before is) (unknown m there never same) = absurd (never (has.0, has.1, has.2 ∙ same_named turns place n m at there))
   one_fault place kind other (twice n at has before is) (twice m there had earlier same) = is ∙ sym same
-  one_fault place kind other (twice n at has before is) (unfilled c response there known first given needs same) =
+  one_fault place kind other (twice n at has before is) (unfit c t there named known first fault) =
       let P : ℤ → Type 0 = λ x. NamesBefore turns place x in
-      absurd (first (subst P (same_named turns place n c.number at there) before))
-  one_fault place kind other (unfilled c response at known first given needs is) (unknown m there never same) = absurd (never (c, known, same_named turns place c.number m at there))
-  one_fault place kind other (unfilled c response at known first given needs is) (twice m there has before same) =
+      absurd (first (subst P (same_named turns place n t.call at (t, there, refl)) before))
+  one_fault place kind other (unfit c t at named known first fault) (unknown m there never same) = absurd (never (c, known, sym named ∙ same_named turns place t.call m (t, at, refl) there))
+  one_fault place kind other (unfit c t at named known first fault) (twice m there has before same) =
       let P : ℤ → Type 0 = λ x. NamesBefore turns place x in
-      absurd (first (subst P (same_named turns place m c.number there at) before))
-  one_fault place kind other (unfilled c response at known first given needs is) (unfilled d answer there has early had wants same) = is ∙ sym same
+      absurd (first (subst P (same_named turns place m t.call there (t, at, refl)) before))
+  one_fault place kind other (unfit c t at named known first fault) (unfit d u there names has early wrong) =
+      let turn : u ≡ t = cc in
+      let p = at_contains calls c known in
+      let q = at_contains calls d has in
+      let call : d ≡ c = same_call calls once q.0 p.0 d c q.1 p.1 (sym names ∙ ap (λ (x : TurnOf). x.call) turn ∙ named) in
+      let P : CallOf → Type 0 = λ x. GivenFault x u other in
+      let Q : TurnOf → Type 0 = λ x. GivenFault c x other in
+      one_given c t kind other fault (subst Q turn (subst P call wrong))
 
   order_right : (steps : List StepOf) (at : ℕ) (kind : WitnessKind) → IsOrder calls turns steps → WitnessFaultAt calls turns at kind → ⊥
   order_right steps at kind o (in_turn place below t is) =
