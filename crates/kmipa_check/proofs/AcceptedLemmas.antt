@@ -18,9 +18,9 @@ use Rattle.kmipa_ops.proofs.ExplainLemmas.{chain_split}
 use Rattle.kmipa_ops.specs.Chains.{ChainSome}
 use Rattle.kmipa_batch.specs.Calls.{pairs_of, RefusesMessage, CallSome}
 use Rattle.kmipa_batch.proofs.CompletionLemmas.{batch_of_call}
-use Rattle.kmipa_check.specs.Steps.{StepOf, NeedsFill}
+use Rattle.kmipa_check.specs.Steps.{StepOf, IsStep}
 use Rattle.kmipa_check.specs.Calls.{CallOf, AreOutside, AreRequest, AreResponse, HasMarks, IsOutsideOn, IsFirstOutside}
-use Rattle.kmipa_check.specs.Orders.{NamesAt, NamesBefore, IsFormed, IsOrder, TurnFault, unknown, twice, unfilled, WitnessFaultAt, in_turn, left_out}
+use Rattle.kmipa_check.specs.Orders.{NamesAt, NamesBefore, IsFormed, IsOrder, TurnFault, unknown, twice, unfit, WitnessFaultAt, in_turn, left_out}
 use Rattle.kmipa_check.specs.Runs.{Linked, Before, IsPlaced, IsAccepted, rules_declared}
 use Rattle.kmipa_check.specs.Verdicts.{IsLate, RunsBack, IsPlacedAt, ArePlaced, GoesUpTo, late, runs_back, in_place, in_item, IsRefused, Checks}
 use Rattle.kmipa_check.specs.declared.fault.CheckFault.{CheckFault}
@@ -33,7 +33,7 @@ use Rattle.kmipa_check.specs.declared.verdict.Verdict.{Verdict}
 use Rattle.kmipa_check.specs.declared.verdict.Verdict.TheVariants.{Yes, No}
 use Rattle.kmipa_check.proofs.PlaceLemmas.{at_contains, contains_at, get_at, some_at}
 use Rattle.kmipa_check.proofs.PermutationLemmas.{IsOnce, once_pairs}
-use Rattle.kmipa_check.proofs.WholeOrderLemmas.{number_of, same_call, one_order_lem}
+use Rattle.kmipa_check.proofs.WholeOrderLemmas.{number_of, same_call, step_right, one_order_lem}
 use Rattle.kmipa_check.proofs.CheckLemmas.{calls_once}
 use Rattle.kmipa_check.proofs.RecordedLemmas.{same_message, not_outside, same_marks, same_calls, recorded_at}
 
@@ -59,13 +59,13 @@ placed_below : (order : List StepOf) (turn : ℕ) → IsPlaced order → turn < 
 placed_below order turn p within t below = let c = some_at order t (omega (arith, below, within)) in (c.0, placed_at order t c.0 p c.1)
 
 -- the inventories before and after a turn
-record AtTurn (rules : RulesOf) (V : List Thing) (order : List StepOf) (turn : ℕ) (c : StepOf) : Type 0 where
-  before : List Thing
-  after : List Thing
-  linked : Linked rules V (take turn order) before
-  call : CallSome rules before c.request c.response after
+pub record AtTurn (rules : RulesOf) (V : List Thing) (order : List StepOf) (turn : ℕ) (c : StepOf) : Type 0 where
+  pub before : List Thing
+  pub after : List Thing
+  pub linked : Linked rules V (take turn order) before
+  pub call : CallSome rules before c.request c.response after
 
-linked_at : (rules : RulesOf) (V : List Thing) (order : List StepOf) (turn : ℕ) (c : StepOf) (W : List Thing) → Linked rules V order W → slice_get order turn ≡ Some c → AtTurn rules V order turn c
+pub linked_at : (rules : RulesOf) (V : List Thing) (order : List StepOf) (turn : ℕ) (c : StepOf) (W : List Thing) → Linked rules V order W → slice_get order turn ≡ Some c → AtTurn rules V order turn c
 linked_at rules V [] turn c W l at = absurd cc
 linked_at rules V (x ∷ order) zero c W l at =
     let is : x ≡ c = cc in
@@ -91,7 +91,7 @@ refuses r = of r.items refl
     of (a ∷ b ∷ items) is = inr (λ h. let x : 1 ≡ suc (suc (length items)) = sym (ap length h.alone) ∙ ap length is in omega (arith, x))
 
 -- a call that is given goes up to each of its items
-goes_up : (rules : RulesOf) (V : List Thing) (c : StepOf) (W : List Thing) (count : ℕ) → CallSome rules V c.request c.response W → GoesUpTo rules V c count
+pub goes_up : (rules : RulesOf) (V : List Thing) (c : StepOf) (W : List Thing) (count : ℕ) → CallSome rules V c.request c.response W → GoesUpTo rules V c count
 goes_up rules V c W count call = elim (refuses c.response) [
   | inl h ↦ inr h
   | inr not ↦
@@ -168,17 +168,16 @@ module _ (marks : List MarkOf) (declared : DeclarationOf) (turns : List TurnOf) 
       let f = formed place n at in
       let P : ℤ → Type 0 = λ m. NamesBefore turns place m in
       f.1.first (subst P (sym f.2) before)
-  turn_fault place kind (unfilled c response at known first given needs is) =
-      let f = formed place c.number at in
+  turn_fault place kind (unfit c t there named known first fault) =
+      let f = formed place c.number (t, there, named) in
       let p = at_contains a.calls f.1.call f.1.known in
       let q = at_contains a.calls c known in
       let same : f.1.call ≡ c = same_call a.calls once p.0 q.0 f.1.call c p.1 q.1 (sym f.1.step.named ∙ f.2) in
-      let P : CallOf → Type 0 = λ d. d.response ≡ Some f.1.step.response in
-      let Q : CallOf → Type 0 = λ d. NeedsFill d.request f.1.step.response → ⊥ in
-      let there = subst P same f.1.step.recorded in
-      let e : f.1.step.response ≡ response = cc in
-      let R : ResponseOf → Type 0 = λ x. NeedsFill c.request x → ⊥ in
-      subst R e (subst Q same f.1.step.filled) needs
+      let at = f.1.there in
+      let turn : f.1.turn ≡ t = cc in
+      let P : CallOf → Type 0 = λ d. IsStep d f.1.turn f.0 in
+      let Q : TurnOf → Type 0 = λ u. IsStep c u f.0 in
+      step_right c t f.0 kind (subst Q turn (subst P same f.1.step)) fault
 
   pub accepted_is_yes_lem : (result : Result Verdict CheckFault) → Checks marks declared turns result → (result ≡ Ok Yes) ⊎ (result ≡ Err Memory)
   accepted_is_yes_lem (Ok Yes) h = inl refl

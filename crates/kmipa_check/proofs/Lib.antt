@@ -19,3 +19,6 @@ pub mod RecordedLemmas
 pub mod AcceptedLemmas
 pub mod AcceptedAuditLemmas
 pub mod StampLemmas
+pub mod NextLemmas
+pub mod TimedLemmas
+pub mod OneAnswerLemmas

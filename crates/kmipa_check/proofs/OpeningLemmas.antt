@@ -1,15 +1,16 @@
 -- The ledger that a declaration opens: without entries, with one entry more, with all.
-use Rattle.std.proofs.Common.{◌≡◌, ◌≢◌, ◌<◌, ◌≤◌, ℕ, suc, ◌+◌, ℤ, Bool, true, false, cond, List, [], ◌∷◌, ◌++◌, map, length, take, get_or, is_none, Ok, bytes_eq, Option, Some, None, slice_get, refl, sym, ap, ◌∙◌, subst, arith, length-take}
+use Rattle.std.proofs.Common.{◌≡◌, ◌≢◌, ◌<◌, ◌≤◌, ◌⊎◌, inl, inr, ℕ, suc, ◌+◌, ℤ, Bool, true, false, cond, List, [], ◌∷◌, ◌++◌, map, length, take, get_or, is_none, Ok, bytes_eq, Contains, Option, Some, None, option_map, slice_get, refl, sym, ap, ◌∙◌, subst, arith, length-take}
 use Rattle.std.specs.Prelude.{AllPairs}
 use Rattle.std.specs.List.{AllZip, position_from}
 use Rattle.std.proofs.lemmas.Bool.{false_from_ne_true}
 use Rattle.std.proofs.lemmas.List.{get_or-take, take_all, take_more}
+use Rattle.std.proofs.lemmas.List.Elements.{Contains-append_left, Contains-append_right}
 use Rattle.std.proofs.lemmas.Option.{get_or_from_slice_get, slice_get_within}
 use Rattle.std.proofs.lemmas.Slice.Eq.{bytes_eq-Decides}
 use Rattle.kmipa_object.specs.Inventory.{Card, Thing, Admitted, IsInventory, live, place_of, rule_of}
 use Rattle.kmipa_object.specs.declared.life.Material.TheVariants.{Gone, Secret}
 use Rattle.kmipa_object.proofs.ListLemmas.{map-push}
-use Rattle.kmipa_store.specs.Ledger.{Held, Meaning, LedgerState, cards_of}
+use Rattle.kmipa_store.specs.Ledger.{Held, Known, Meaning, LedgerState, bytes_at, cards_of}
 use Rattle.kmipa_store.specs.Choices.{Choice, Chooses, Suits, inv, thing}
 use Rattle.kmipa_store.proofs.ChoiceLemmas.{override, override_same, override_agrees, Chooses-none, Chooses-fewer, Chooses-last, Chooses-more}
 use Rattle.kmipa_store.proofs.InventoryLemmas.{inv-append, inv-same}
@@ -20,8 +21,8 @@ use Rattle.kmipa_record.specs.declared.entry.Entry.{Entry}
 use Rattle.kmipa_record.specs.Declarations.{DeclarationOf, AreDeclared}
 use Rattle.kmipa_check.specs.Described.{IsDescribed, card_declared}
 use Rattle.kmipa_check.specs.Opening.{Opened, Declares, held_declared, known_declared, with_declared, with_declared_at}
-use Rattle.kmipa_check.specs.Verdicts.{AreKnown}
-use Rattle.kmipa_check.proofs.PlaceLemmas.{mapped_at, mapped_from}
+use Rattle.kmipa_check.specs.Verdicts.{AreKnown, by_declaration}
+use Rattle.kmipa_check.proofs.PlaceLemmas.{mapped_at, mapped_from, pushed_at}
 use Rattle.kmipa_check.proofs.DescribedLemmas.{zip_push, zip_last, inventory_before, last_bytes, dead_bytes, live_bytes, thing_is}
 use Rattle.kmipa_check.proofs.DeclarableLemmas.{gone_undeclared, declared_suits}
 
@@ -32,6 +33,7 @@ opened_none = record {
   cards = refl;
   described = λ c h. tt;
   all = all_none;
+  told = λ number bytes known. absurd cc;
 }
   where
     all_none : (things : List Thing) → IsInventory things → AllZip IsDescribed [] things → (c : Choice) × Chooses [] c × (things ≡ [])
@@ -51,6 +53,10 @@ module _ (es : List EntryOf) (e : EntryOf) (m : Meaning) (o : Opened es m) (may 
       ∙ ap (λ (cs : List Card). cs ++ h.card ∷ []) o.cards
       ∙ ap (λ (c : Card). map card_declared es ++ c ∷ []) is
       ∙ sym (map-push card_declared es e)
+
+  -- what was declared ahead of it
+  told_before : (bytes : List ℕ) → (x : EntryOf) × Contains es x × (x.bytes ≡ Some bytes) → (x : EntryOf) × Contains (es ++ e ∷ []) x × (x.bytes ≡ Some bytes)
+  told_before bytes (x, has, is) = (x, Contains-append_left es (e ∷ []) x has, is)
 
   -- a destroyed one
   module _ (date : ℤ) (dead : e.attributes.destroy ≡ Some date) where
@@ -78,6 +84,7 @@ module _ (es : List EntryOf) (e : EntryOf) (m : Meaning) (o : Opened es m) (may 
       cards = cards_more buried refl;
       described = buried_described;
       all = buried_all;
+      told = λ number bytes known. told_before bytes (o.told number bytes known);
     }
 
   -- a live one
@@ -111,6 +118,24 @@ module _ (es : List EntryOf) (e : EntryOf) (m : Meaning) (o : Opened es m) (may 
         let before : p.0 ≡ inv d m.objects = q.2 ∙ sym (inv-same m.objects m.secrets q.0 d o.sound.in_range (override_agrees q.0 (length m.secrets) b.0)) in
         (d, Chooses-more m.secrets (known_declared e) q.0 b.0 q.1 suits, inv_more d m.objects own things p.0 p.1 p.2 before last)
 
+    own_told : (number : ℕ) (bytes : List ℕ) → bytes_at (m.secrets ++ known_declared e ∷ []) number ≡ Some (Some bytes) → (x : EntryOf) × Contains (es ++ e ∷ []) x × (x.bytes ≡ Some bytes)
+    own_told number bytes known = by (slice_get (m.secrets ++ known_declared e ∷ []) number) refl known
+      where
+        at : (k : Known) → k.bytes ≡ Some bytes → (slice_get m.secrets number ≡ Some k) ⊎ ((number ≡ length m.secrets) × (known_declared e ≡ k))
+            → (x : EntryOf) × Contains (es ++ e ∷ []) x × (x.bytes ≡ Some bytes)
+        at k is (inl there) = told_before bytes (o.told number bytes (ap (option_map (λ (x : Known). x.bytes)) there ∙ ap Some is))
+        at k is (inr p) = (e, Contains-append_right es (e ∷ []) e (0, first, refl), ap (λ (x : Known). x.bytes) p.1 ∙ is)
+          where
+            first : 0 < 1
+            first = omega arith
+
+        by : (v : Option Known) → slice_get (m.secrets ++ known_declared e ∷ []) number ≡ v → option_map (λ (k : Known). k.bytes) v ≡ Some (Some bytes)
+            → (x : EntryOf) × Contains (es ++ e ∷ []) x × (x.bytes ≡ Some bytes)
+        by None there is = absurd cc
+        by (Some k) there is =
+            let held : k.bytes ≡ Some bytes = cc in
+            at k held (pushed_at m.secrets (known_declared e) number k there)
+
     opened_own : Opened (es ++ e ∷ []) (with_declared_at None m e)
     opened_own =
         let b = declared_suits e may alive in
@@ -119,6 +144,7 @@ module _ (es : List EntryOf) (e : EntryOf) (m : Meaning) (o : Opened es m) (may 
           cards = cards_more own refl;
           described = own_described;
           all = own_all;
+          told = own_told;
         }
 
   pub opened_more : Opened (es ++ e ∷ []) (with_declared m e)
@@ -183,4 +209,5 @@ opened_known declared n m past p =
       complete = λ start V described linked.
           let q = o.all start described.inventory described.objects in
           (q.0, q.1, linked ∙ q.2);
+      told = λ number bytes known. let e = o.told number bytes known in by_declaration e.0 e.1 e.2;
     }

@@ -1,21 +1,22 @@
 -- The order of a witness: its turns one by one, and the calls that none names.
-use Rattle.std.proofs.Common.{◌≡◌, ◌<◌, ◌≤◌, ◌⊎◌, inl, inr, ◌==◌, ℕ, zero, suc, ◌+◌, ℤ, true, false, List, [], ◌∷◌, ◌++◌, map, length, get_or, Contains, Option, Some, None, slice_get, refl, sym, ap, ◌∙◌, subst, arith, add-one}
+use Rattle.std.proofs.Common.{◌≡◌, ◌<◌, ◌≤◌, ◌⊎◌, inl, inr, ◌==◌, ℕ, zero, suc, ◌+◌, ℤ, Bool, true, false, List, [], ◌∷◌, ◌++◌, map, length, get_or, Contains, Option, Some, None, slice_get, refl, sym, ap, ◌∙◌, subst, arith, add-one}
 use Rattle.std.specs.List.{zip}
 use Rattle.std.proofs.lemmas.List.{length-map, length-append}
 use Rattle.std.proofs.lemmas.Bool.Decides.{nat_tests}
 use Rattle.std.proofs.lemmas.Option.{slice_get_within}
-use Rattle.kmipa_record.specs.declared.witness.Turn.{Turn}
+use Rattle.kmipa_record.specs.declared.turn.Turn.{Turn}
 use Rattle.kmipa_record.specs.Witnesses.{TurnOf, turn_of}
 use Rattle.kmipa_msgs.specs.Messages.{AskOf, AnswerOf, RequestOf, ResponseOf, request_of, response_of}
 use Rattle.kmipa_msgs.specs.Wanted.{Wanted}
 use Rattle.kmipa_batch.specs.Calls.{pairs_of}
 use Rattle.kmipa_check.specs.declared.call.Call.{Call}
 use Rattle.kmipa_check.specs.declared.numbers.FirstPlaces.{FirstPlaces}
-use Rattle.kmipa_check.specs.declared.fault.WitnessKind.TheVariants.{UnknownCall, Twice, FillMissing}
+use Rattle.kmipa_check.specs.declared.fault.WitnessKind.{WitnessKind}
+use Rattle.kmipa_check.specs.declared.fault.WitnessKind.TheVariants.{UnknownCall, Twice}
 use Rattle.kmipa_check.specs.declared.step.Step.{Step}
 use Rattle.kmipa_check.specs.Calls.{CallOf, call_of}
-use Rattle.kmipa_check.specs.Steps.{StepOf, NeedsFill, step_of, step_with}
-use Rattle.kmipa_check.specs.Orders.{NamesAt, HasCall, NamesBefore, IsFormed, AreFormedBelow, TurnFault, unknown, twice, unfilled}
+use Rattle.kmipa_check.specs.Steps.{StepOf, IsAsRecorded, NeedsFill, step_of, step_with}
+use Rattle.kmipa_check.specs.Orders.{NamesAt, HasCall, NamesBefore, IsFormed, AreFormedBelow, GivenFault, TurnFault, unknown, twice, unfit}
 use Rattle.kmipa_check.specs.Numbers.{place_in, IsFirst, StandsFirst, Indexes, is_noted}
 use Rattle.kmipa_check.specs.Ordering.{AreFilledBelow, AreFormed}
 use Rattle.kmipa_check.proofs.PlaceLemmas.{below_suc, mapped_at, mapped_from, contains_at, at_contains, get_at, pushed_at, some_at, at_within}
@@ -146,24 +147,18 @@ module _ (calls : List Call) (turns : List Turn) (known named : FirstPlaces) (kn
       known_call : Contains (map call_of calls) (call_of call)
       known_call = contains_at (map call_of calls) at (call_of call) (mapped_at call_of calls at call call_within there)
 
-      names_call : NamesAt (map turn_of turns) place call.number
-      names_call = let P : ℤ → Type 0 = λ z. NamesAt (map turn_of turns) place z in subst P (sym its_number) names_at
+      pub turn_unfit : is_noted (place_in named turn.call) place ≡ true → (kind : WitnessKind) → GivenFault (call_of call) (turn_of turn) kind → TurnFault (map call_of calls) (map turn_of turns) place kind
+      turn_unfit here_first kind fault = unfit (call_of call) (turn_of turn) (mapped_at turn_of turns place turn below is) (sym its_number) known_call (first_named here_first) fault
 
-      first_call : is_noted (place_in named turn.call) place ≡ true → NamesBefore (map turn_of turns) place call.number → ⊥
-      first_call here_first = let P : ℤ → Type 0 = λ z. NamesBefore (map turn_of turns) place z → ⊥ in subst P (sym its_number) (first_named here_first)
-
-      pub turn_unfilled : is_noted (place_in named turn.call) place ≡ true → NeedsFill (request_of call.request) (response_of call.response) → TurnFault (map call_of calls) (map turn_of turns) place FillMissing
-      turn_unfilled here_first needs = unfilled (call_of call) (response_of call.response) names_call known_call (first_call here_first) refl needs refl
-
-      pub turn_formed : is_noted (place_in named turn.call) place ≡ true → (NeedsFill (request_of call.request) (response_of call.response) → ⊥) → (step : StepOf)
+      pub turn_formed : is_noted (place_in named turn.call) place ≡ true → IsAsRecorded (request_of call.request) (response_of call.response) (turn_of turn) → (step : StepOf)
           → step ≡ step_with (call_of call) (response_of call.response) → IsFormed (map call_of calls) (map turn_of turns) place step
-      turn_formed here_first filled step made = record {
+      turn_formed here_first given step made = record {
         turn = turn_of turn;
         there = mapped_at turn_of turns place turn below is;
         first = first_named here_first;
         call = call_of call;
         known = known_call;
-        step = record { named = sym its_number; response = response_of call.response; recorded = refl; filled = filled; is = made };
+        step = record { named = sym its_number; response = response_of call.response; recorded = refl; given = given; is = made };
       }
 
 -- one turn more
@@ -211,3 +206,11 @@ formed_whole calls turns count steps f past =
 pub pushed_steps : (old : List Step) (s : Step) → map step_of (old ++ s ∷ []) ≡ map step_of old ++ step_of s ∷ []
 pushed_steps [] s = refl
 pushed_steps (x ∷ old) s = ap (λ (l : List StepOf). step_of x ∷ l) (pushed_steps old s)
+
+-- a list whose length was tested
+pub empty_list : {X : Type 0} (xs : List X) (len : ℕ) (b : Bool) → b ≡ (len == 0) → b ≡ true → len ≡ length xs → xs ≡ []
+empty_list [] len b e f g = refl
+empty_list (x ∷ xs) len b e f g =
+    let test : (len == 0) ≡ true = sym e ∙ f in
+    let zero : len ≡ 0 = grind (arith, nat_tests) in
+    absurd (omega (arith, zero, g))

@@ -139,4 +139,4 @@ step_readable marks c t s r i =
     let same : i.response ≡ r.answer = cc in
     let P : ResponseOf → Type 0 = λ x. NeedsFill c.request x → ⊥ in
     let Q : StepOf → Type 0 = λ x. IsReadableCall x.request x.response in
-    subst Q (sym (i.is ∙ ap (λ (x : ResponseOf). step_with c x) same)) (call_readable marks c r (subst P same i.filled))
+    subst Q (sym (i.is ∙ ap (λ (x : ResponseOf). step_with c x) same)) (call_readable marks c r (subst P same i.given.complete))

@@ -51,12 +51,12 @@ begun_once (ends x y ∷ marks) (suc i) zero n a b c d once p q = absurd cc
 begun_once (ends x y ∷ marks) (suc i) (suc j) n a b c d once p q = ap suc (begun_once marks i j n a b c d once p q)
 
 -- a list, cut at an element
-cut : {X : Type 0} (xs : List X) (j : ℕ) (x : X) → slice_get xs j ≡ Some x → xs ≡ take j xs ++ x ∷ drop (suc j) xs
+pub cut : {X : Type 0} (xs : List X) (j : ℕ) (x : X) → slice_get xs j ≡ Some x → xs ≡ take j xs ++ x ∷ drop (suc j) xs
 cut [] j x at = absurd cc
 cut (y ∷ xs) zero x at = let e : y ≡ x = cc in ap (λ (h : _). h ∷ xs) e
 cut (y ∷ xs) (suc j) x at = ap (λ (l : List _). y ∷ l) (cut xs j x at)
 
-taken_at : {X : Type 0} (xs : List X) (i j : ℕ) (x : X) → i < j → slice_get xs i ≡ Some x → slice_get (take j xs) i ≡ Some x
+pub taken_at : {X : Type 0} (xs : List X) (i j : ℕ) (x : X) → i < j → slice_get xs i ≡ Some x → slice_get (take j xs) i ≡ Some x
 taken_at [] i j x below at = absurd cc
 taken_at (y ∷ xs) zero zero x below at = absurd (omega (arith, below))
 taken_at (y ∷ xs) (suc i) zero x below at = absurd (omega (arith, below))
@@ -70,7 +70,7 @@ not_earlier marks i j n a b r below p q =
     let fresh = r.in_order.answered (take j marks) (drop (suc j) marks) n b (cut marks j (ends n b) q) in
     fresh.1 (contains_at (ended (take j marks)) h.0 n h.1)
 
-apart : (i j : ℕ) → (i < j) ⊎ ((j < i) ⊎ (i ≡ j))
+pub apart : (i j : ℕ) → (i < j) ⊎ ((j < i) ⊎ (i ≡ j))
 apart zero zero = inr (inr refl)
 apart zero (suc j) = inl (omega arith)
 apart (suc i) zero = inr (inl (omega arith))
@@ -104,7 +104,7 @@ same_marks marks n b e b' e' asked answered asked' answered' r x y =
 
 -- ---- messages
 
-same_item : (a b : Tree) (bytes : List ℕ) → Spells a bytes → Spells b bytes → a ≡ b
+pub same_item : (a b : Tree) (bytes : List ℕ) → Spells a bytes → Spells b bytes → a ≡ b
 same_item a b bytes p q = (one_spelling_lem a b bytes bytes [] [] p q refl).0
 
 pub same_message : {M : Type 0} (Said : Tree → M → Type 0) (Fault : Tree → ℕ → OutsideKind → Type 0) (bytes : List ℕ) (m n : M)

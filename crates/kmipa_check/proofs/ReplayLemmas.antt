@@ -14,7 +14,7 @@ use Rattle.kmipa_record.specs.Witnesses.{TurnOf}
 use Rattle.kmipa_ops.specs.declared.why.Why.{Why}
 use Rattle.kmipa_ops.specs.declared.why.Why.TheVariants.{EarlierCallLate, StampRunsBack}
 use Rattle.kmipa_ops.specs.Chains.{ChainSome}
-use Rattle.kmipa_batch.specs.Calls.{pairs_of, CallSome, RefusesMessage}
+use Rattle.kmipa_batch.specs.Calls.{pairs_of, RefusesMessage}
 use Rattle.kmipa_batch.specs.Refusals.{CallExplains, CallRefuted, CallTaken, IsPossibleUpTo}
 use Rattle.kmipa_batch.specs.declared.refusal.CallRefusal.TheVariants.{Impossible}
 use Rattle.kmipa_check.specs.Calls.{CallOf, AreCalls}
@@ -25,7 +25,7 @@ use Rattle.kmipa_check.specs.Verdicts.{IsLate, RunsBack, IsPlacedAt, ArePlaced, 
 use Rattle.kmipa_check.specs.declared.verdict.Refused.{Refused}
 use Rattle.kmipa_check.specs.Replays.{Replayed}
 use Rattle.kmipa_check.proofs.PlaceLemmas.{below_suc}
-use Rattle.kmipa_check.proofs.RunLemmas.{linked_join, linked_split}
+use Rattle.kmipa_check.proofs.RunLemmas.{take_next, taken_is_known_lem}
 
 -- an opened ledger has replayed nothing yet
 pub replayed_none : (declared : DeclarationOf) (order : List StepOf) (m : Meaning) → AreKnown declared [] m → IsSound m → Replayed declared order 0 m
@@ -40,18 +40,9 @@ module _ (declared : DeclarationOf) (order : List StepOf) (n : ℕ) (c : StepOf)
       by (inr e) = let P : ℕ → Type 0 = λ k. (d : StepOf) × IsPlacedAt order k d in subst P (sym e) (c, here)
 
   known_more : (k : Meaning) → CallExplains (rules_declared declared) m c.request c.response k → AreKnown declared (take (suc n) order) k
-  known_more k e = record {
-    sound = λ choice h.
-        let f = e.sound choice h in
-        let g = r.known.sound choice f.0 in
-        (g.0, g.1, linked_join (rules_declared declared) n g.0 order c (inv choice m.objects) (inv choice k.objects) g.2 here.there f.1);
-    complete = λ start V d l.
-        let p = linked_split (rules_declared declared) n start order c V l here.there in
-        let q = r.known.complete start p.0 d p.1 in
-        let P : List Thing → Type 0 = λ X. CallSome (rules_declared declared) X c.request c.response V in
-        let f = e.complete q.0 q.1 V (subst P q.2 p.2) in
-        (f.0, f.1, f.3);
-  }
+  known_more k e =
+      let P : List StepOf → Type 0 = λ steps. AreKnown declared steps k in
+      subst P (sym (take_next order n c here.there)) (taken_is_known_lem declared (take n order) c m k r.known e)
 
   -- the call of this turn is taken
   pub replayed_more : (s u : LedgerState) → s.now ≡ m → CallTaken (rules_declared declared) s c.request c.response (Ok tt) u → Replayed declared order (n + 1) u.now

@@ -7,16 +7,17 @@ use Rattle.std.specs.Int.{FitsUnsignedBits}
 use Rattle.std.specs.Result.{result_unwrap_or}
 use Rattle.std.proofs.lemmas.List.{length-map}
 use Rattle.std.proofs.lemmas.Option.{get_or_from_slice_get, slice_get_within, slice_get-get_or}
-use Rattle.kmipa_record.specs.declared.witness.Turn.{Turn}
+use Rattle.kmipa_record.specs.declared.turn.Turn.{Turn}
 use Rattle.kmipa_record.specs.Witnesses.{TurnOf, turn_of}
 use Rattle.kmipa_check.specs.declared.call.Call.{Call}
 use Rattle.kmipa_check.specs.declared.numbers.FirstPlaces.{FirstPlaces}
+use Rattle.kmipa_check.specs.declared.fault.WitnessKind.{WitnessKind}
 use Rattle.kmipa_check.specs.declared.fault.WitnessKind.TheVariants.{LeftOut}
 use Rattle.kmipa_msgs.specs.Messages.{ResponseOf}
 use Rattle.kmipa_check.specs.Calls.{CallOf, call_of}
-use Rattle.kmipa_check.specs.Steps.{StepOf, IsStep, step_with}
+use Rattle.kmipa_check.specs.Steps.{StepOf, IsStep, NeedsFill, step_with}
 use Rattle.kmipa_check.specs.Runs.{IsOfCalls, TakeEachOnce}
-use Rattle.kmipa_check.specs.Orders.{IsNamed, IsFormed, AreFormedBelow, IsOrder, WitnessFaultAt, left_out}
+use Rattle.kmipa_check.specs.Orders.{IsNamed, IsFormed, AreFormedBelow, IsOrder, GivenFault, answered, ordered, filled, unfilled, WitnessFaultAt, left_out}
 use Rattle.kmipa_check.specs.Numbers.{place_in, StandsFirst, Indexes}
 use Rattle.kmipa_check.specs.Ordering.{AreFormed, missing_or, first_missing}
 use Rattle.kmipa_check.proofs.PlaceLemmas.{mapped_from, contains_at, at_contains, same_elements, get_at, some_at}
@@ -175,6 +176,36 @@ module _ (calls : List CallOf) (turns : List TurnOf) (steps : List StepOf) (o : 
     where
       by : (s : StepOf) → (i : ℕ) × (slice_get steps i ≡ Some s) → IsOfCalls calls s
       by s p = let f = o.formed p.0 s p.1 in (f.call, f.turn, f.known, f.step)
+
+-- where they make a step nothing is wrong with what the turn gives
+pub step_right : (c : CallOf) (t : TurnOf) (s : StepOf) (kind : WitnessKind) → IsStep c t s → GivenFault c t kind → ⊥
+step_right c t s kind i (answered some is) = some i.given.unanswered
+step_right c t s kind i (ordered none some is) = some i.given.unordered
+step_right c t s kind i (filled none places some is) = some i.given.unfilled
+step_right c t s kind i (unfilled none places fills response has needs is) =
+    let r = i.recorded in
+    let same : i.response ≡ response = cc in
+    let P : ResponseOf → Type 0 = λ x. NeedsFill c.request x → ⊥ in
+    subst P same i.given.complete needs
+
+-- and else one thing is
+pub one_given : (c : CallOf) (t : TurnOf) (kind other : WitnessKind) → GivenFault c t kind → GivenFault c t other → kind ≡ other
+one_given c t kind other (answered some is) (answered any same) = is ∙ sym same
+one_given c t kind other (answered some is) (ordered none any same) = absurd (some none)
+one_given c t kind other (answered some is) (filled none places any same) = absurd (some none)
+one_given c t kind other (answered some is) (unfilled none places fills response has needs same) = absurd (some none)
+one_given c t kind other (ordered none some is) (answered any same) = absurd (any none)
+one_given c t kind other (ordered none some is) (ordered nothing any same) = is ∙ sym same
+one_given c t kind other (ordered none some is) (filled nothing places any same) = absurd (some places)
+one_given c t kind other (ordered none some is) (unfilled nothing places fills response has needs same) = absurd (some places)
+one_given c t kind other (filled none places some is) (answered any same) = absurd (any none)
+one_given c t kind other (filled none places some is) (ordered nothing any same) = absurd (any places)
+one_given c t kind other (filled none places some is) (filled nothing ps any same) = is ∙ sym same
+one_given c t kind other (filled none places some is) (unfilled nothing ps fills response has needs same) = absurd (some fills)
+one_given c t kind other (unfilled none places fills response has needs is) (answered any same) = absurd (any none)
+one_given c t kind other (unfilled none places fills response has needs is) (ordered nothing any same) = absurd (any places)
+one_given c t kind other (unfilled none places fills response has needs is) (filled nothing ps any same) = absurd (any fills)
+one_given c t kind other (unfilled none places fills response has needs is) (unfilled nothing ps fs answer had wants same) = is ∙ sym same
 
 -- a call and a turn make one step
 pub one_step_lem : (c : CallOf) (t : TurnOf) (s u : StepOf) → IsStep c t s → IsStep c t u → s ≡ u

@@ -1,5 +1,5 @@
 -- The calls of a transcript: what their messages say, and which message is the first that is outside the profile.
-use Rattle.std.specs.Prelude.{◌≡◌, ℕ, ℤ, List, map, length, take, All, slice_get, Option, Some}
+use Rattle.std.specs.Prelude.{◌≡◌, ◌<◌, ℕ, ℤ, List, map, length, take, All, AllPairs, Contains, slice_get, Option, Some}
 use Rattle.kmipa_ttlv.specs.Tree.{Tree}
 use Rattle.kmipa_ttlv.specs.Spelling.{Spells}
 use Rattle.kmipa_record.specs.Marks.{MarkOf, begins, ends, begun}
@@ -66,6 +66,11 @@ pub record AreFirstCalls (marks : List MarkOf) (calls : List CallOf) : Type 0 wh
 pub record AreCalls (marks : List MarkOf) (calls : List CallOf) : Type 0 where
   pub numbers : map (λ (c : CallOf). c.number) calls ≡ begun marks
   pub recorded : All (IsRecorded marks) calls
+
+-- the calls begin one behind the other, and each ends behind its begin
+pub record AreTimed (calls : List CallOf) : Type 0 where
+  pub ascend : AllPairs (λ (a b : CallOf). a.begin < b.begin) calls
+  pub closed : (c : CallOf) (end : ℕ) → Contains calls c → c.end ≡ Some end → c.begin < end
 
 -- a call's request is outside; or it isn't, and its response is
 abbrev pub IsOutsideOn : Side → List ℕ → List ℕ → ℕ → OutsideKind → Type 0

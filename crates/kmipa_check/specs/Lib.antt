@@ -13,3 +13,4 @@ pub mod Audits
 pub mod CallReading
 pub mod Kinds
 pub mod Stamps
+pub mod Laws

@@ -1,10 +1,10 @@
 -- The ledger that a declaration opens, entry by entry. Not promised: `Verdicts` says what is known before the first turn.
-use Rattle.std.specs.Prelude.{◌≡◌, ℤ, List, [], ◌∷◌, ◌++◌, map, length, Option, Some, None, Result, Ok, Err}
+use Rattle.std.specs.Prelude.{◌≡◌, ℕ, ℤ, List, [], ◌∷◌, ◌++◌, map, length, Contains, Option, Some, None, Result, Ok, Err}
 use Rattle.std.specs.List.{AllZip}
 use Rattle.kmipa_object.specs.Inventory.{Thing, IsInventory, rule_of}
 use Rattle.kmipa_object.specs.declared.life.Material.{Material}
 use Rattle.kmipa_object.specs.declared.life.Material.TheVariants.{Gone, Secret}
-use Rattle.kmipa_store.specs.Ledger.{Held, Known, Meaning, LedgerState, cards_of, changed}
+use Rattle.kmipa_store.specs.Ledger.{Held, Known, Meaning, LedgerState, bytes_at, cards_of, changed}
 use Rattle.kmipa_store.specs.Choices.{Choice, Chooses, IsSound, inv}
 use Rattle.kmipa_store.specs.declared.fault.StoreFault.{StoreFault}
 use Rattle.kmipa_store.specs.declared.fault.StoreFault.TheVariants.{Memory}
@@ -53,3 +53,4 @@ pub record Opened (entries : List EntryOf) (m : Meaning) : Type 0 where
   pub cards : cards_of m.objects ≡ map card_declared entries
   pub described : (c : Choice) → Chooses m.secrets c → AllZip IsDescribed entries (inv c m.objects)
   pub all : (things : List Thing) → IsInventory things → AllZip IsDescribed entries things → (c : Choice) × Chooses m.secrets c × (things ≡ inv c m.objects)
+  pub told : (number : ℕ) (bytes : List ℕ) → bytes_at m.secrets number ≡ Some (Some bytes) → (e : EntryOf) × Contains entries e × (e.bytes ≡ Some bytes)

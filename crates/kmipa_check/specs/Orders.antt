@@ -1,11 +1,11 @@
 -- The order of a witness: each turn names a call and makes a step with it, and no call is named twice or left out.
-use Rattle.std.specs.Prelude.{◌≡◌, ◌<◌, ℕ, ◌+◌, ℤ, pos, List, Contains, slice_get, length, Some}
+use Rattle.std.specs.Prelude.{◌≡◌, ◌<◌, ℕ, ◌+◌, ℤ, pos, List, [], Contains, slice_get, length, Some, None}
 use Rattle.kmipa_record.specs.Witnesses.{TurnOf}
 use Rattle.kmipa_msgs.specs.Messages.{ResponseOf}
 use Rattle.kmipa_check.specs.Calls.{CallOf}
 use Rattle.kmipa_check.specs.Steps.{StepOf, IsStep, NeedsFill}
 use Rattle.kmipa_check.specs.declared.fault.WitnessKind.{WitnessKind}
-use Rattle.kmipa_check.specs.declared.fault.WitnessKind.TheVariants.{UnknownCall, Twice, LeftOut, FillMissing}
+use Rattle.kmipa_check.specs.declared.fault.WitnessKind.TheVariants.{UnknownCall, Twice, LeftOut, FillNotWanted, FillMissing, AnswerNotWanted, OrderNotWanted}
 
 -- the turn at this place names this number
 abbrev pub NamesAt : List TurnOf → ℕ → ℤ → Type 0
@@ -42,12 +42,21 @@ pub record IsOrder (calls : List CallOf) (turns : List TurnOf) (steps : List Ste
   pub formed : (place : ℕ) (s : StepOf) → slice_get steps place ≡ Some s → IsFormed calls turns place s
   pub all : (c : CallOf) → Contains calls c → IsNamed turns c.number
 
--- the lowest fault of the turn at this place
+-- The first fault of what the turn gives to a call. For now each call has ended and its items have their order, so that neither an answer
+-- nor an order is wanted; and no fill is taken.
+pub data GivenFault (c : CallOf) (t : TurnOf) (kind : WitnessKind) : Type 0 where
+  answered : (t.answer ≡ None → ⊥) → kind ≡ AnswerNotWanted → GivenFault c t kind
+  ordered : t.answer ≡ None → (t.places ≡ [] → ⊥) → kind ≡ OrderNotWanted → GivenFault c t kind
+  filled : t.answer ≡ None → t.places ≡ [] → (t.fills ≡ [] → ⊥) → kind ≡ FillNotWanted → GivenFault c t kind
+  unfilled : t.answer ≡ None → t.places ≡ [] → t.fills ≡ [] → (response : ResponseOf) → c.response ≡ Some response → NeedsFill c.request response
+      → kind ≡ FillMissing → GivenFault c t kind
+
+-- the first fault of the turn at this place
 pub data TurnFault (calls : List CallOf) (turns : List TurnOf) (place : ℕ) (kind : WitnessKind) : Type 0 where
   unknown : (number : ℤ) → NamesAt turns place number → (HasCall calls number → ⊥) → kind ≡ UnknownCall → TurnFault calls turns place kind
   twice : (number : ℤ) → NamesAt turns place number → HasCall calls number → NamesBefore turns place number → kind ≡ Twice → TurnFault calls turns place kind
-  unfilled : (c : CallOf) (response : ResponseOf) → NamesAt turns place c.number → Contains calls c → (NamesBefore turns place c.number → ⊥)
-      → c.response ≡ Some response → NeedsFill c.request response → kind ≡ FillMissing → TurnFault calls turns place kind
+  unfit : (c : CallOf) (t : TurnOf) → slice_get turns place ≡ Some t → t.call ≡ c.number → Contains calls c → (NamesBefore turns place t.call → ⊥)
+      → GivenFault c t kind → TurnFault calls turns place kind
 
 -- The fault of a witness: that of its first faulty turn, counted from 1; or, where no turn is faulty, the number of the first call, by
 -- begin marks, that no turn names.

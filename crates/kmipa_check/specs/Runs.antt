@@ -66,3 +66,12 @@ pub record IsAccepted (marks : List MarkOf) (declared : DeclarationOf) (turns : 
   pub start : List Thing
   pub described : Describes declared start
   pub run : IsRun (rules_declared declared) calls start steps
+
+-- Some inventory that the declaration describes has a run of all calls of the transcript, in some order.
+pub record IsExplained (marks : List MarkOf) (declared : DeclarationOf) : Type 0 where
+  pub calls : List CallOf
+  pub are : AreCalls marks calls
+  pub start : List Thing
+  pub described : Describes declared start
+  pub steps : List StepOf
+  pub run : IsRun (rules_declared declared) calls start steps

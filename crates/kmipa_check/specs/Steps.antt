@@ -1,5 +1,5 @@
 -- What a turn of a witness takes. Runs, verdicts, lateness and stamps speak of steps alone.
-use Rattle.std.specs.Prelude.{◌≡◌, ℕ, ℤ, Option, Some, slice_get}
+use Rattle.std.specs.Prelude.{◌≡◌, ℕ, ℤ, [], Option, Some, None, slice_get}
 use Rattle.kmipa_record.specs.Witnesses.{TurnOf}
 use Rattle.kmipa_msgs.specs.Messages.{AskOf, AnswerOf, RequestOf, ResponseOf, request_of, response_of}
 use Rattle.kmipa_msgs.specs.Wanted.{Wanted}
@@ -15,7 +15,7 @@ pub record StepOf : Type 0 where
   pub request : RequestOf
   pub response : ResponseOf
 
--- some place of the call waits for a payload that the witness has to give; no turn can give one yet
+-- some place of the call waits for a payload that the witness has to give
 pub record NeedsFill (request : RequestOf) (response : ResponseOf) : Type 0 where
   pub place : ℕ
   pub ask : AskOf
@@ -27,12 +27,19 @@ pub record NeedsFill (request : RequestOf) (response : ResponseOf) : Type 0 wher
 abbrev pub step_with : CallOf → ResponseOf → StepOf
 step_with c response = record { number = c.number; begin = c.begin; end = c.end; request = c.request; response = response }
 
--- The turn names the call, and they make this step: the call is taken with the recorded response, which waits for nothing.
+-- the turn gives nothing to the call but its place, and the response waits for nothing
+pub record IsAsRecorded (request : RequestOf) (response : ResponseOf) (t : TurnOf) : Type 0 where
+  pub unanswered : t.answer ≡ None
+  pub unordered : t.places ≡ []
+  pub unfilled : t.fills ≡ []
+  pub complete : NeedsFill request response → ⊥
+
+-- The turn names the call, and they make this step: the call is taken with the recorded response.
 pub record IsStep (c : CallOf) (t : TurnOf) (s : StepOf) : Type 0 where
   pub named : t.call ≡ c.number
   pub response : ResponseOf
   pub recorded : c.response ≡ Some response
-  pub filled : NeedsFill c.request response → ⊥
+  pub given : IsAsRecorded c.request response t
   pub is : s ≡ step_with c response
 
 -- what a step of the program means

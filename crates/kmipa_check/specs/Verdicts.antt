@@ -1,15 +1,17 @@
 -- What a verdict says: yes, or the first turn, and in it the first item, that is impossible.
-use Rattle.std.specs.Prelude.{◌≡◌, ◌<◌, ◌⊎◌, ◌<ℤ◌, ℕ, ◌+◌, List, take, slice_get, Option, Some, None, Result, Ok, Err}
+use Rattle.std.specs.Prelude.{◌≡◌, ◌<◌, ◌⊎◌, ◌<ℤ◌, ℕ, ◌+◌, List, take, Contains, slice_get, Option, Some, None, Result, Ok, Err}
 use Rattle.kmipa_object.specs.Inventory.{Thing}
-use Rattle.kmipa_store.specs.Ledger.{Meaning}
+use Rattle.kmipa_store.specs.Ledger.{Meaning, bytes_at}
 use Rattle.kmipa_store.specs.Choices.{Choice, Chooses, inv}
 use Rattle.kmipa_record.specs.Marks.{MarkOf, AreRecorded}
 use Rattle.kmipa_record.specs.Declarations.{DeclarationOf}
+use Rattle.kmipa_record.specs.Entries.{EntryOf}
 use Rattle.kmipa_record.specs.Witnesses.{TurnOf}
 use Rattle.kmipa_msgs.specs.Messages.{RulesOf}
 use Rattle.kmipa_ops.specs.declared.why.Why.{Why}
 use Rattle.kmipa_ops.specs.declared.why.Why.TheVariants.{EarlierCallLate, StampRunsBack}
 use Rattle.kmipa_ops.specs.Chains.{ChainSome}
+use Rattle.kmipa_ops.specs.Explains.{Tells}
 use Rattle.kmipa_batch.specs.Shapes.{IsShapedBelow}
 use Rattle.kmipa_batch.specs.Calls.{pairs_of, RefusesMessage}
 use Rattle.kmipa_batch.specs.Refusals.{SpeaksAt}
@@ -67,12 +69,19 @@ pub record ArePossibleUpTo (declared : DeclarationOf) (order : List StepOf) (tur
   pub linked : Linked (rules_declared declared) start (take turn order) before
   pub items : GoesUpTo (rules_declared declared) before c count
 
--- what is known after the first turns: one choice of bytes meets them all, and bytes are known that were declared, registered or shown
+-- the bytes were declared, or one of these steps registered or showed them
+pub data WereTold (declared : DeclarationOf) (steps : List StepOf) (bytes : List ℕ) : Type 0 where
+  by_declaration : (e : EntryOf) → Contains declared.entries e → e.bytes ≡ Some bytes → WereTold declared steps bytes
+  by_step : (s : StepOf) → Contains steps s → Tells (pairs_of s.request s.response) bytes → WereTold declared steps bytes
+
+-- what is known after these steps: one choice of bytes meets them all, and bytes are known that were declared, registered or shown
 pub record AreKnown (declared : DeclarationOf) (order : List StepOf) (m : Meaning) : Type 0 where
-  -- every choice comes from a described inventory by these turns
+  -- every choice comes from a described inventory by these steps
   pub sound : (c : Choice) → Chooses m.secrets c → (start : List Thing) × Describes declared start × Linked (rules_declared declared) start order (inv c m.objects)
   -- every inventory that a described one reaches is one of these
   pub complete : (start V : List Thing) → Describes declared start → Linked (rules_declared declared) start order V → (c : Choice) × Chooses m.secrets c × (V ≡ inv c m.objects)
+  -- no other bytes are known
+  pub told : (number : ℕ) (bytes : List ℕ) → bytes_at m.secrets number ≡ Some (Some bytes) → WereTold declared order bytes
 
 -- the turn is impossible where it stands, for the lower of two reasons
 pub data RefusedPlace (order : List StepOf) (turn : ℕ) (c : StepOf) (why : Why) : Type 0 where

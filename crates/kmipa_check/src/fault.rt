@@ -27,6 +27,22 @@ pub enum CheckFault {
     Memory,
 }
 
+impl CheckFault {
+    ghost use Rattle.std.specs.Prelude.{◌≡◌};
+    ghost use Rattle.kmipa_check.specs.Kinds.{fault_number};
+
+    /// The number of the fault.
+    pub fn number(self) -> u8
+        ensures { result ≡ fault_number self }
+    {
+        match self {
+            CheckFault::Outside(_, _, _) => 1,
+            CheckFault::Witness(_) => 2,
+            CheckFault::Memory => 3,
+        }
+    }
+}
+
 /// What is wrong with a witness for a transcript.
 #[derive(Clone, Copy, Debug, PartialEq, Eq, Error)]
 #[error("{kind:?} at {at}")]
@@ -36,7 +52,8 @@ pub struct WitnessFault {
     pub kind: WitnessKind,
 }
 
-/// The kinds of faults of a witness. In one turn the lowest is told, and `LeftOut` behind all others.
+/// The kinds of faults of a witness. In one turn the first is told in the order 1, 2, 7, 8, 9, 10, 11, 4, 5, 6, and `LeftOut` behind all
+/// others.
 #[derive(Clone, Copy, Debug, PartialEq, Eq)]
 pub enum WitnessKind {
     /// The turn names no call of the transcript.
@@ -51,6 +68,16 @@ pub enum WitnessKind {
     FillMissing = 5,
     /// A fill isn't of the form of its operation's payload.
     FillForm = 6,
+    /// An answer is given to a call that has ended.
+    AnswerNotWanted = 7,
+    /// No answer is given to a call that has not ended.
+    AnswerMissing = 8,
+    /// An answer is outside the profile as a response to its call.
+    AnswerForm = 9,
+    /// An order of items is given to a call that has one.
+    OrderNotWanted = 10,
+    /// An order of items isn't one of the answered items.
+    OrderForm = 11,
 }
 
 impl WitnessKind {
@@ -75,6 +102,11 @@ impl WitnessKind {
             WitnessKind::FillNotWanted => "FillNotWanted",
             WitnessKind::FillMissing => "FillMissing",
             WitnessKind::FillForm => "FillForm",
+            WitnessKind::AnswerNotWanted => "AnswerNotWanted",
+            WitnessKind::AnswerMissing => "AnswerMissing",
+            WitnessKind::AnswerForm => "AnswerForm",
+            WitnessKind::OrderNotWanted => "OrderNotWanted",
+            WitnessKind::OrderForm => "OrderForm",
         }
     }
 }

@@ -1,6 +1,7 @@
 //! Laws of the definitions.
 
 ghost use Rattle.kmipa_check.specs.Audits.{AcceptedAuditIsYes};
+ghost use Rattle.kmipa_check.specs.Laws.{AcceptedIsExplained, CallsAreTimed, KnownIsAccepted, OneAnswer, OneListOfCalls, OneOrder, PlacedOneByOne, RefusedIsNever, StepIsReadable, TakenIsKnown};
 ghost use Rattle.kmipa_check.specs.Verdicts.{AcceptedIsYes};
 
 /// Where a witness is accepted, a check can answer nothing but yes, unless memory runs out.
@@ -11,4 +12,54 @@ pub fn accepted_is_yes()
 /// Where the bytes of three inputs are accepted, and none of them fails, an audit can answer nothing but yes, unless memory runs out.
 pub fn accepted_audit_is_yes()
     ensures { AcceptedAuditIsYes }
+{}
+
+/// A transcript has one list of calls.
+pub fn one_list_of_calls()
+    ensures { OneListOfCalls }
+{}
+
+/// A witness gives one order of the calls.
+pub fn one_order()
+    ensures { OneOrder }
+{}
+
+/// What a check may answer is one answer, unless memory runs out.
+pub fn one_answer()
+    ensures { OneAnswer }
+{}
+
+/// The calls of a transcript begin one behind the other, and each ends behind its begin.
+pub fn calls_are_timed()
+    ensures { CallsAreTimed }
+{}
+
+/// Steps are placed exactly where each may be taken next, when those ahead of it were taken.
+pub fn placed_one_by_one()
+    ensures { PlacedOneByOne }
+{}
+
+/// What is known stays known behind a call that is taken.
+pub fn taken_is_known()
+    ensures { TakenIsKnown }
+{}
+
+/// No run begins with steps whose last one is refused.
+pub fn refused_is_never()
+    ensures { RefusedIsNever }
+{}
+
+/// A step of a recorded call can be judged.
+pub fn step_is_readable()
+    ensures { StepIsReadable }
+{}
+
+/// Steps that take each call once, are placed and known to their end are an accepted witness.
+pub fn known_is_accepted()
+    ensures { KnownIsAccepted }
+{}
+
+/// A transcript with an accepted witness is explained.
+pub fn accepted_is_explained()
+    ensures { AcceptedIsExplained }
 {}

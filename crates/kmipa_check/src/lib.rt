@@ -20,10 +20,16 @@ pub use auditing::{AuditFault, Audited, audit, audit_with};
 pub use call::Call;
 pub use checking::check;
 pub use fault::{CheckFault, Side, WitnessFault, WitnessKind};
-pub use laws::{accepted_audit_is_yes, accepted_is_yes};
+pub use laws::{
+    accepted_audit_is_yes, accepted_is_explained, accepted_is_yes, calls_are_timed,
+    known_is_accepted, one_answer, one_list_of_calls, one_order, placed_one_by_one,
+    refused_is_never, step_is_readable, taken_is_known,
+};
 pub use opening::{open_ledger, rules_of_declaration};
+pub use order::needs_fill;
 pub use reading::read_calls;
 pub use stamp::stamp_of;
+pub use step::Step;
 pub use verdict::{Refused, Verdict};
 
 #[cfg(test)]

@@ -1,13 +1,13 @@
 //! The order that a witness gives.
 
-ghost use Rattle.std.specs.Prelude.{◌≡◌, ◌≢◌, ◌<◌, pos, ◌≤ℤ◌, All, AllPairs, Some, length, map, IfOk, MatchResult};
+ghost use Rattle.std.specs.Prelude.{◌≡◌, ◌≢◌, ◌<◌, pos, ◌≤ℤ◌, All, AllPairs, Some, length, map, IfOk, MatchOption, MatchResult};
 ghost use Rattle.kmipa_msgs.specs.Messages.{request_of, response_of};
 ghost use Rattle.kmipa_record.specs.Witnesses.{turn_of};
 ghost use Rattle.kmipa_check.specs.Calls.{call_of};
 ghost use Rattle.kmipa_check.specs.Numbers.{Indexes};
 ghost use Rattle.kmipa_check.specs.Ordering.{AreFormed, Decided, OrderFault, first_missing};
-ghost use Rattle.kmipa_check.specs.Orders.{IsFormed, IsOrder, TurnFault};
-ghost use Rattle.kmipa_check.specs.Steps.{NeedsFill, step_of};
+ghost use Rattle.kmipa_check.specs.Orders.{GivenFault, IsFormed, IsOrder, TurnFault};
+ghost use Rattle.kmipa_check.specs.Steps.{IsAsRecorded, NeedsFill, step_of};
 
 use crate::call::Call;
 use crate::fault::{CheckFault, WitnessFault, WitnessKind};
@@ -76,10 +76,30 @@ fn step_at<'b, 'a>(
         return Err(WitnessKind::Twice);
     }
     let call = &calls[at];
-    if needs_fill(&call.request, &call.response) {
-        return Err(WitnessKind::FillMissing);
+    match given_fault(turn, call) {
+        Some(kind) => Err(kind),
+        None => Ok(Step::recorded(call)),
     }
-    Ok(Step::recorded(call))
+}
+
+/// The first fault of what a turn gives to a call.
+fn given_fault(turn: &Turn, call: &Call) -> Option<WitnessKind>
+    ensures { MatchOption result (IsAsRecorded (request_of call.now.request) (response_of call.now.response) (turn_of turn.now))
+        (GivenFault (call_of call.now) (turn_of turn.now)) }
+{
+    if turn.answer.is_some() {
+        return Some(WitnessKind::AnswerNotWanted);
+    }
+    if !turn.places.is_empty() {
+        return Some(WitnessKind::OrderNotWanted);
+    }
+    if !turn.fills.is_empty() {
+        return Some(WitnessKind::FillNotWanted);
+    }
+    if needs_fill(&call.request, &call.response) {
+        return Some(WitnessKind::FillMissing);
+    }
+    None
 }
 
 /// Whether a call waits for a payload that the witness has to give.

@@ -4,7 +4,7 @@ ghost use Rattle.std.specs.Prelude.{◌≡◌, ◌<◌, All, IfOk, MatchResult, 
 ghost use Rattle.kmipa_record.specs.Marks.{AreRecorded, mark_of};
 ghost use Rattle.kmipa_record.specs.Transcripts.{transcript_of};
 ghost use Rattle.kmipa_msgs.specs.Messages.{request_of};
-ghost use Rattle.kmipa_check.specs.Calls.{AreCalls, IsRecorded, call_of};
+ghost use Rattle.kmipa_check.specs.Calls.{AreCalls, AreTimed, IsRecorded, call_of};
 ghost use Rattle.kmipa_check.specs.Numbers.{Indexes, end_number};
 ghost use Rattle.kmipa_check.specs.CallReading.{CallsFault, ItemRead, MarkRead, RequestRead, ResponseRead, no_message};
 
@@ -24,6 +24,7 @@ pub fn read_calls<'a>(
     transcript: &'a Transcript,
 ) -> Result<Vec<Call<'a>>, CheckFault>
     ensures each { IfOk result (λ calls. All (IsRecorded (transcript_of transcript.now)) (map call_of calls.items)) }
+    ensures timed { AreRecorded (transcript_of transcript.now) → IfOk result (λ calls. AreTimed (map call_of calls.items)) }
     ensures read { AreRecorded (transcript_of transcript.now)
         → MatchResult result (λ calls. AreCalls (transcript_of transcript.now) (map call_of calls.items)) (CallsFault (transcript_of transcript.now)) }
 {

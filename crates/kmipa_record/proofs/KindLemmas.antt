@@ -57,6 +57,9 @@ memory_cause k D M P e m = subst (λ (x : RecordKind). ByCause x D M P) (sym e) 
 pub number_cause : (k : RecordKind) (D M P : Type 0) → k ≡ Number → P → ByCause k D M P
 number_cause k D M P e p = subst (λ (x : RecordKind). ByCause x D M P) (sym e) p
 
+pub entry_cause : (k : RecordKind) (D M P : Type 0) → k ≡ Entry → P → ByCause k D M P
+entry_cause k D M P e p = subst (λ (x : RecordKind). ByCause x D M P) (sym e) p
+
 pub IfSome-always : {A : Type 0} (o : Option A) (P : A → Type 0) → ((x : A) → P x) → IfSome o P
 IfSome-always None P f = tt
 IfSome-always (Some x) P f = f x

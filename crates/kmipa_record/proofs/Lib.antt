@@ -5,6 +5,7 @@ pub mod FileLemmas
 pub mod MarkLemmas
 pub mod CallLemmas
 pub mod TranscriptLemmas
+pub mod TurnLemmas
 pub mod WitnessLemmas
 pub mod EntryLemmas
 pub mod RecordsLemmas

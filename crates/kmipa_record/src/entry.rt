@@ -10,7 +10,7 @@ ghost use Rattle.kmipa_msgs.specs.Messages.{lent};
 ghost use Rattle.kmipa_record.specs.DeclarationReading.{are_whole_bytes};
 ghost use Rattle.kmipa_record.specs.Entries.{EntryOf, entry_of, items_of, entry_item, material, AreBytes, SaysEntry, AreListed, key_bits, IsDeclarable};
 
-use crate::shape::{bytes_of, children_of, enumeration_of, text_of};
+use crate::shape::{bytes_of, children_of, copied, enumeration_of, text_of};
 use kmipa_attrs::{AttrFault, AttrSet, ObjectType, Side, read_children};
 use kmipa_ttlv::View;
 use std::alloc::{AllocError, Global};
@@ -63,7 +63,7 @@ pub fn entry_in(alloc: Global, item: &View) -> Result<Option<Entry>, AllocError>
         id: String::from_str(alloc, parts.id)?,
         kind: parts.kind,
         attrs,
-        bytes: owned(alloc, parts.bytes)?,
+        bytes: copied(alloc, parts.bytes)?,
     };
     if is_declarable(&entry) {
         Ok(Some(entry))
@@ -142,23 +142,6 @@ fn are_listed(children: &[View]) -> bool
     }
     true
 }
-
-fn owned(alloc: Global, bytes: Option<&[u8]>) -> Result<Option<Vec<u8>>, AllocError>
-    ensures same { IfOk result (λ o. option_map items_of o ≡ option_map lent bytes.entry) }
-    ensures small { IfOk result (λ o. IfSome (option_map items_of o) AreBytes) }
-{
-    match bytes {
-        Some(bytes) => {
-            are_bytes(bytes);
-            Ok(Some(Vec::from_slice(alloc, bytes)?))
-        }
-        None => Ok(None),
-    }
-}
-
-fn are_bytes(bytes: &[u8])
-    ensures { AreBytes bytes.now }
-{}
 
 /// Whether the bytes of an entry may be declared so.
 fn is_declarable(entry: &Entry) -> bool

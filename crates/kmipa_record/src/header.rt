@@ -4,9 +4,11 @@ ghost use Rattle.std.specs.Prelude.{◌≡◌, Bool};
 ghost use Rattle.kmipa_record.specs.Transcripts.{transcript_header};
 ghost use Rattle.kmipa_record.specs.Declarations.{declaration_header};
 ghost use Rattle.kmipa_record.specs.Witnesses.{witness_header};
+ghost use Rattle.kmipa_record.specs.declared.version.Version.{Version};
 
 use crate::record::Record;
 use crate::shape::{boolean_of, children_of, integer_of};
+use crate::version::{Version, version_of};
 use kmipa_ttlv::View;
 use std::alloc::{AllocError, Global};
 
@@ -74,12 +76,14 @@ impl Record for DeclarationHeader {
 
 /// The header of a witness.
 #[derive(Drop)]
-pub struct WitnessHeader;
+pub struct WitnessHeader {
+    pub version: Version,
+}
 
 impl Record for WitnessHeader {
-    ghost says = { λ item _. item ≡ witness_header };
+    ghost says = { λ item h. item ≡ witness_header h.version };
 
-    ghost is_record = { λ item. item ≡ witness_header };
+    ghost is_record = { λ item. (version : Version) × (item ≡ witness_header version) };
 
     fn of(_alloc: Global, item: &View) -> Result<Option<WitnessHeader>, AllocError> {
         let Some(children) = children_of(item, WITNESS) else {
@@ -88,10 +92,12 @@ impl Record for WitnessHeader {
         let [version] = children else {
             return Ok(None);
         };
-        let header = match integer_of(version, VERSION) {
-            Some(1) => Some(WitnessHeader),
-            _ => None,
+        let Some(number) = integer_of(version, VERSION) else {
+            return Ok(None);
         };
-        Ok(header)
+        match version_of(number) {
+            Some(version) => Ok(Some(WitnessHeader { version })),
+            None => Ok(None),
+        }
     }
 }

@@ -8,6 +8,7 @@ mod calls;
 mod declaration;
 mod entry;
 mod fault;
+mod fill;
 mod header;
 mod laws;
 mod record;
@@ -15,19 +16,21 @@ mod records;
 mod row;
 mod shape;
 mod transcript;
+mod turn;
+mod version;
 mod witness;
 
 pub use declaration::{Declaration, read_declaration};
 pub use entry::Entry;
 pub use fault::{RecordFault, RecordKind};
+pub use fill::Fill;
 pub use laws::{
     no_fault_of_declaration, no_fault_of_transcript, no_fault_of_witness, one_declaration,
     one_declaration_fault, one_transcript, one_transcript_fault, one_witness, one_witness_fault,
 };
 pub use transcript::{Begin, End, Mark, Transcript, read_transcript};
-pub use witness::{Turn, Witness, read_witness};
+pub use turn::Turn;
+pub use witness::{Witness, read_witness};
 
-#[cfg(test)]
-mod declaration_tests;
 #[cfg(test)]
 mod tests;

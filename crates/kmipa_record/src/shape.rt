@@ -1,13 +1,16 @@
 //! Items of an exact shape.
 
-ghost use Rattle.std.specs.Prelude.{◌≡◌, ◌≢◌, ℤ, ℕ, Bool, List, MatchOption};
+ghost use Rattle.std.specs.Prelude.{◌≡◌, ◌≢◌, ℤ, ℕ, Bool, List, MatchOption, IfOk, IfSome, option_map};
 ghost use Rattle.kmipa_ttlv.specs.Tree.{Trees, structure, scalar, integer, enumeration, boolean, text, byte_string};
 ghost use Rattle.kmipa_ttlv.specs.ViewTree.{view_tree, view_trees};
+ghost use Rattle.kmipa_msgs.specs.Messages.{lent};
+ghost use Rattle.kmipa_record.specs.Entries.{items_of, AreBytes};
 
 use kmipa_attrs::fields::{
     as_boolean, as_bytes, as_enumeration, as_integer, as_structure, as_text,
 };
 use kmipa_ttlv::View;
+use std::alloc::{AllocError, Global};
 
 /// The children of a Structure with this tag.
 pub fn children_of<'a, 'b>(item: &'b View<'a>, tag: u32) -> Option<&'b [View<'a>]>
@@ -74,3 +77,21 @@ pub fn bytes_of<'a, 'b>(item: &'b View<'a>, tag: u32) -> Option<&'a [u8]>
     }
     as_bytes(item)
 }
+
+/// The bytes in memory of their own, where they are there.
+pub fn copied(alloc: Global, bytes: Option<&[u8]>) -> Result<Option<Vec<u8>>, AllocError>
+    ensures same { IfOk result (λ o. option_map items_of o ≡ option_map lent bytes.entry) }
+    ensures small { IfOk result (λ o. IfSome (option_map items_of o) AreBytes) }
+{
+    match bytes {
+        Some(bytes) => {
+            are_bytes(bytes);
+            Ok(Some(Vec::from_slice(alloc, bytes)?))
+        }
+        None => Ok(None),
+    }
+}
+
+fn are_bytes(bytes: &[u8])
+    ensures { AreBytes bytes.now }
+{}

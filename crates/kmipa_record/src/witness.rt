@@ -1,55 +1,26 @@
 //! Witnesses: an order in which the calls may have been taken.
 
-ghost use Rattle.std.specs.Prelude.{◌≡◌, ◌<◌, ◌<ℤ◌, pos, ◌⊎◌, ℕ, List, [], ◌∷◌, ◌++◌, ◌≢◌, true, false, IsTrue, map, IfOk, IfErr, MatchResult};
+ghost use Rattle.std.specs.Prelude.{◌≡◌, ◌<◌, ◌↔◌, ℕ, List, [], ◌∷◌, ◌++◌, ◌≢◌, true, false, IsTrue, map, IfOk, IfErr, MatchResult};
 ghost use Rattle.std.specs.Io.{StartsWith, appended_bytes};
 ghost use Rattle.kmipa_ttlv.specs.Input.{came_of, taken_of, is_ended, is_failed, Leaves, EndsWith, IsFileOf, StaysOver};
-ghost use Rattle.kmipa_ttlv.specs.Tree.{Tree};
 ghost use Rattle.kmipa_record.specs.Files.{Tells};
 ghost use Rattle.kmipa_record.specs.Marks.{IsCallNumber};
-ghost use Rattle.kmipa_record.specs.Witnesses.{TurnOf, turn_of, turn_item, witness_of, IsWitness, WitnessFault, IsWitnessUpTo};
-ghost use Rattle.kmipa_record.specs.WitnessReading.{IsReadSoFar};
+ghost use Rattle.kmipa_record.specs.Witnesses.{turn_of, witness_of, ArePayloads, Admits, IsWitness, WitnessFault, IsWitnessUpTo};
+ghost use Rattle.kmipa_record.specs.WitnessReading.{IsReadSoFar, RefusesTurn};
 
 use crate::fault::{RecordFault, RecordKind};
 use crate::header::WitnessHeader;
-use crate::record::{Next, Record, read_header, read_next};
-use crate::shape::{children_of, integer_of};
-use kmipa_ttlv::{Input, View};
-use std::alloc::{AllocError, Global};
+use crate::record::{Next, read_header, read_next};
+use crate::turn::Turn;
+use crate::version::Version;
+use kmipa_ttlv::Input;
+use std::alloc::Global;
 use std::io::Read;
-
-const CALL: u32 = 0x54_0011;
-
-const TURN: u32 = 0x54_0041;
 
 /// Calls in the order in which they are to be taken, one at a time.
 #[derive(Debug, Drop)]
 pub struct Witness {
     pub turns: Vec<Turn>,
-}
-
-/// The turn of one call. For now a turn holds its call alone: one with fills is refused by `Entry`.
-#[derive(Debug, Drop)]
-pub struct Turn {
-    pub call: i32,
-}
-
-impl Record for Turn {
-    ghost says = { λ item turn. item ≡ turn_item (turn_of turn) };
-
-    ghost is_record = { λ item. (turn : TurnOf) × (item ≡ turn_item turn) };
-
-    fn of(_alloc: Global, item: &View) -> Result<Option<Turn>, AllocError> {
-        let Some(children) = children_of(item, TURN) else {
-            return Ok(None);
-        };
-        let [call] = children else {
-            return Ok(None);
-        };
-        let Some(call) = integer_of(call, CALL) else {
-            return Ok(None);
-        };
-        Ok(Some(Turn { call }))
-    }
 }
 
 /// Reads a witness of whose bytes none was read.
@@ -66,24 +37,25 @@ pub fn read_witness<R: Read>(alloc: Global, input: &mut Input<R>) -> Result<Witn
     ensures over { StaysOver R.remaining input.old input.new }
 {
     let mut bytes = Vec::new(alloc);
-    let _: WitnessHeader = read_header(alloc, input, &mut bytes)?;
+    let header: WitnessHeader = read_header(alloc, input, &mut bytes)?;
     let mut turns = Vec::new(alloc);
-    'turns: while read_turn(alloc, input, &mut bytes, &mut turns)? {}
+    'turns: while read_turn(alloc, input, header.version, &mut bytes, &mut turns)? {}
     Ok(Witness { turns })
 }
 
-/// Reads the next turn of a witness onto those before it; `false` at the end.
+/// Reads the next turn of a witness of this version onto those before it; `false` at the end.
 fn read_turn<R: Read>(
     alloc: Global,
     input: &mut Input<R>,
+    version: Version,
     bytes: &mut Vec<u8>,
     turns: &mut Vec<Turn>,
 ) -> Result<bool, RecordFault>
     ensures read { (file left after : List ℕ) → Leaves input.old input.new left after
-        → IsReadSoFar file (map turn_of turns.old.items) left (taken_of input.old)
-        → IfOk result (λ more. IsReadSoFar file (map turn_of turns.new.items) after (taken_of input.new)) }
+        → IsReadSoFar file version (map turn_of turns.old.items) left (taken_of input.old)
+        → IfOk result (λ more. IsReadSoFar file version (map turn_of turns.new.items) after (taken_of input.new)) }
     ensures fault { (file left after : List ℕ) → Leaves input.old input.new left after → EndsWith input.new after
-        → IsReadSoFar file (map turn_of turns.old.items) left (taken_of input.old)
+        → IsReadSoFar file version (map turn_of turns.old.items) left (taken_of input.old)
         → IfErr result (Tells WitnessFault IsWitnessUpTo file (is_failed input.new)) }
     ensures end { IfOk result (λ more. more ≡ false → IsTrue (is_ended input.new)) }
     ensures nearer { IfOk result (λ more. more ≡ true → taken_of input.old < taken_of input.new) }
@@ -100,17 +72,29 @@ fn read_turn<R: Read>(
             kind: RecordKind::Entry,
         }),
         Next::Record(turn) => {
-            keep_turn(turns, turn, offset)?;
+            keep_turn(version, turns, turn, offset)?;
             Ok(true)
         }
     }
 }
 
-/// Puts a turn that stands at this place behind the others.
-fn keep_turn(turns: &mut Vec<Turn>, turn: Turn, offset: u64) -> Result<(), RecordFault>
-    ensures { MatchResult result (λ _. IsCallNumber turn.call × (turns.new.items ≡ turns.old.items ++ turn ∷ []))
-        (λ f. (f.offset ≡ offset) × ((f.kind ≡ RecordKind.Memory) ⊎ ((f.kind ≡ RecordKind.Number) × (turn.call <ℤ pos 1)))) }
+/// Puts a turn that stands at this place behind the others, where a witness of this version may have it.
+fn keep_turn(
+    version: Version,
+    turns: &mut Vec<Turn>,
+    turn: Turn,
+    offset: u64,
+) -> Result<(), RecordFault>
+    requires { ArePayloads (turn_of turn).fills }
+    ensures { MatchResult result (λ _. Admits version (turn_of turn) × IsCallNumber turn.call × (turns.new.items ≡ turns.old.items ++ turn ∷ []))
+        (λ f. (f.offset ≡ offset) × RefusesTurn version (turn_of turn) f.kind) }
 {
+    if !admits(version, &turn) {
+        return Err(RecordFault {
+            offset,
+            kind: RecordKind::Entry,
+        });
+    }
     if turn.call < 1 {
         return Err(RecordFault {
             offset,
@@ -123,5 +107,17 @@ fn keep_turn(turns: &mut Vec<Turn>, turn: Turn, offset: u64) -> Result<(), Recor
             offset,
             kind: RecordKind::Memory,
         }),
+    }
+}
+
+/// Whether a witness of this version may have the turn.
+fn admits(version: Version, turn: &Turn) -> bool
+    requires { ArePayloads (turn_of turn.now).fills }
+    ensures { IsTrue result ↔ Admits version (turn_of turn.now) }
+{
+    match version {
+        Version::First => turn.answer.is_none() && turn.places.is_empty(),
+        Version::Second => turn.places.is_empty(),
+        Version::Third => true,
     }
 }

@@ -4,7 +4,7 @@ use Rattle.kmipa_store.specs.States.{state_of_journal}
 use Rattle.kmipa_record.specs.Declarations.{declaration_of}
 use Rattle.kmipa_record.specs.Transcripts.{transcript_of}
 use Rattle.kmipa_record.specs.Witnesses.{turn_of, witness_of}
-use Rattle.kmipa_record.specs.declared.witness.Turn.{Turn}
+use Rattle.kmipa_record.specs.declared.turn.Turn.{Turn}
 use Rattle.kmipa_check.specs.Calls.{call_of, AreCalls}
 use Rattle.kmipa_check.specs.Orders.{IsOrder}
 use Rattle.kmipa_check.specs.Ordering.{AreFormed, OrderFault}

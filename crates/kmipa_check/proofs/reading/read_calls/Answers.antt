@@ -1,8 +1,11 @@
-use Rattle.std.proofs.Common.{◌≡◌, ◌∙◌, Err, Vec, Global, ap, map, rules}
+use Rattle.std.proofs.Common.{◌≡◌, ◌∙◌, Err, Vec, Global, ap, map, arith, rules}
+use Rattle.std.proofs.lemmas.List.{length-map}
+use Rattle.kmipa_record.specs.Marks.{mark_of}
 use Rattle.kmipa_record.specs.Transcripts.{transcript_of}
 use Rattle.kmipa_check.specs.declared.call.Call.{Call}
 use Rattle.kmipa_check.specs.Calls.{AreCalls, call_of}
-use Rattle.kmipa_check.proofs.ReadingLemmas.{read_err, read_more, read_past}
+use Rattle.kmipa_check.proofs.ReadingLemmas.{read_all, read_err, read_more, read_past}
+use Rattle.kmipa_check.proofs.TimedLemmas.{calls_are_timed_lem}
 use Rattle.kmipa_check.proofs.reading.read_calls.Goals as goal
 use Rattle.kmipa_check.proofs.reading.read_calls.Goals.{in-Some+in_ok-push, in_default}
 
@@ -19,3 +22,8 @@ marks-preserved c = elim c.match-branch-3.branch [
   | in_default w ↦ read_past c.deref-in-marks.result.now c.args.transcript.now.marks.items c.marks.place c.marks.calls.items c.match-branch-3.calls.items c.in_ok-call.field-0
       c.deref-in-marks.ensures.value w.in_default.is (ap (λ (v : Vec Call Global). v.items) w.calls-is) c.in_ok-call.ensures c.marks.invariant
 ]
+
+pub returns-clause-timed : goal.returns-clause-timed
+returns-clause-timed c recorded =
+    calls_are_timed_lem (map mark_of c.args.transcript.now.marks.items) recorded (map call_of c.marks.calls.items)
+    (read_all (map mark_of c.args.transcript.now.marks.items) c.marks.place (map call_of c.marks.calls.items) (omega (arith, c.marks-test.false, length-map c.args.transcript.now.marks.items mark_of)) c.marks.invariant recorded)

@@ -12,30 +12,32 @@ use Rattle.kmipa_record.proofs.witness.read_turn.Goals as goal
 pub returns-in_err-next-clause-fault : goal.returns-in_err-next-clause-fault
 returns-in_err-next-clause-fault g c = λ file left after split end s.
     let p = err_from_is_err_and c.from_residual.result c.from_residual.ensures.1 in
-    rw (p.1, p.2) (read_fails file (map turn_of c.args.turns.now.items) left (taken_of c.args.input.now) (is_failed c.read_next.new.input)
+    rw (p.1, p.2) (read_fails file c.args.version (map turn_of c.args.turns.now.items) left (taken_of c.args.input.now) (is_failed c.read_next.new.input)
     c.in_err-next.field-0.0 s (c.in_err-next.ensures.fault left after split end))
 
 pub returns-in-Other-clause-fault : goal.returns-in-Other-clause-fault
 returns-in-Other-clause-fault g c = λ file left after split end s.
     let x = rw c.in-Other.is at (c.in_ok-next.ensures.ok left after split) in
     subst (λ (o : ℕ). Tells WitnessFault IsWitnessUpTo file (is_failed c.read_next.new.input) (record { offset = o; kind = Entry })) (sym c.taken-offset.ensures)
-    (no_turn_told file (map turn_of c.args.turns.now.items) x.0 left after
+    (no_turn_told file c.args.version (map turn_of c.args.turns.now.items) x.0 left after
     (taken_of c.args.input.now) (taken_of c.read_next.new.input) (is_failed c.read_next.new.input) s x.1 x.2)
 
 pub returns-in_err-keep_turn-in-Record-clause-fault : goal.returns-in_err-keep_turn-in-Record-clause-fault
 returns-in_err-keep_turn-in-Record-clause-fault g c = λ file left after split end s.
     let p = err_from_is_err_and c.from_residual-in_err-keep_turn-in-Record.result c.from_residual-in_err-keep_turn-in-Record.ensures.1 in
-    let t = takes_as (turn_item (turn_of c.in-Record.turn)) _ _ _ _ (rw c.in-Record.is at (c.in_ok-next.ensures.ok left after split)) in
+    let x = rw c.in-Record.is at (c.in_ok-next.ensures.ok left after split) in
+    let t = takes_as (turn_item (turn_of c.in-Record.turn)) _ _ _ _ (x.0, x.1, x.2.0) in
     let e = c.in_err-keep_turn-in-Record.ensures in
-    rw (p.1, p.2) (refused_told file (map turn_of c.args.turns.now.items) (turn_of c.in-Record.turn) left after
+    rw (p.1, p.2) (refused_told file c.args.version (map turn_of c.args.turns.now.items) (turn_of c.in-Record.turn) left after
     (taken_of c.args.input.now) (taken_of c.read_next.new.input) (is_failed c.read_next.new.input) c.in_err-keep_turn-in-Record.field-0.0 s t (e.0 ∙ c.taken-offset.ensures) e.1)
 
 pub returns-in_ok-keep_turn-in-Record-clause-read : goal.returns-in_ok-keep_turn-in-Record-clause-read
 returns-in_ok-keep_turn-in-Record-clause-read g c = λ file left after split s.
-    let t = takes_as (turn_item (turn_of c.in-Record.turn)) _ _ _ _ (rw c.in-Record.is at (c.in_ok-next.ensures.ok left after split)) in
+    let x = rw c.in-Record.is at (c.in_ok-next.ensures.ok left after split) in
+    let t = takes_as (turn_item (turn_of c.in-Record.turn)) _ _ _ _ (x.0, x.1, x.2.0) in
     let e = c.in_ok-keep_turn-in-Record.ensures in
-    turn_taken file c.args.turns.now.items c.keep_turn.new.turns.items c.in-Record.turn left after
-    (taken_of c.args.input.now) (taken_of c.read_next.new.input) e.1 t e.0 s
+    turn_taken file c.args.version c.args.turns.now.items c.keep_turn.new.turns.items c.in-Record.turn left after
+    (taken_of c.args.input.now) (taken_of c.read_next.new.input) e.2 t e.0 e.1 s
 
 pub returns-in-End-clause-read : goal.returns-in-End-clause-read
 returns-in-End-clause-read g c = λ file left after split s.
@@ -49,3 +51,6 @@ pub returns-in_ok-keep_turn-in-Record-clause-nearer : goal.returns-in_ok-keep_tu
 returns-in_ok-keep_turn-in-Record-clause-nearer g c = λ _.
     let x = rw c.in-Record.is at (c.in_ok-next.ensures.ok _ [] refl) in
     omega (arith, x.1.taken, x.1.spelled.all)
+
+pub keep_turn-requires : goal.keep_turn-requires
+keep_turn-requires g c = (rw c.in-Record.is at (c.in_ok-next.ensures.ok _ [] refl)).2.1

@@ -7,7 +7,7 @@ use Rattle.kmipa_record.proofs.witness.read_witness.Given as goal
 -- of each file that begins with what came these turns were read
 abbrev pub invariant-turns : goal.invariant-turns
 invariant-turns g l = (
-    (after : List ℕ) → IsReadSoFar (came_of l.input ++ after) (map turn_of l.turns.items) after (taken_of l.input)
+    (after : List ℕ) → IsReadSoFar (came_of l.input ++ after) l.header.version (map turn_of l.turns.items) after (taken_of l.input)
     )
     × (is_failed l.input ≡ false)
     × StaysOver g.R.Read.remaining l.fn.input l.input

@@ -1,73 +1,13 @@
 //! Declarations: their rows and entries, and what is wrong with them.
 
-use crate::tests::{DECLARATION, declaration_fault, joined, told};
+use super::vectors::*;
+use super::{declaration_fault, told};
 use crate::*;
 use kmipa_attrs::ObjectType;
 use kmipa_msgs::{Cause, Row};
 use kmipa_ttlv::Input;
 use std::alloc::Global;
 use std::test::Fail;
-
-// An entry of a declaration: a key `k1` of AES, 128 bits, with its bytes.
-const ENTRY: [u8; 104] = [
-    0x54, 0, 0x34, 1, 0, 0, 0, 0x60, 0x42, 0, 0x94, 7, 0, 0, 0, 2, 0x6B, 0x31, 0, 0, 0, 0, 0, 0,
-    0x42, 0, 0x57, 5, 0, 0, 0, 4, 0, 0, 0, 2, 0, 0, 0, 0, 0x42, 1, 0x25, 1, 0, 0, 0, 0x20, 0x42, 0,
-    0x28, 5, 0, 0, 0, 4, 0, 0, 0, 3, 0, 0, 0, 0, 0x42, 0, 0x2A, 2, 0, 0, 0, 4, 0, 0, 0, 0x80, 0, 0,
-    0, 0, 0x42, 0, 0x43, 8, 0, 0, 0, 0x10, 0, 1, 2, 3, 4, 5, 6, 7, 8, 9, 10, 11, 12, 13, 14, 15,
-];
-
-const INTEGER: u8 = 2;
-
-const ENUMERATION: u8 = 5;
-
-const TEXT: u8 = 7;
-
-const BYTES: u8 = 8;
-
-const STRUCTURE: u8 = 1;
-
-// Attributes: AES, 128 bits, and a Destroy Date.
-const AES: [u8; 16] = [0x42, 0, 0x28, 5, 0, 0, 0, 4, 0, 0, 0, 3, 0, 0, 0, 0];
-
-const BITS_128: [u8; 16] = [0x42, 0, 0x2A, 2, 0, 0, 0, 4, 0, 0, 0, 128, 0, 0, 0, 0];
-
-const DESTROYED: [u8; 16] = [
-    0x42, 0, 0x33, 9, 0, 0, 0, 8, 0, 0, 0, 0, 0x65, 0x53, 0xF1, 0,
-];
-
-// An item with this tag, type and value, padded with zeros.
-fn item(alloc: Global, tag: [u8; 3], kind: u8, value: &[u8]) -> Result<Vec<u8>, Fail> {
-    let Ok(length) = u8::try_from(value.len()) else {
-        return Err(Fail::new("a long value"));
-    };
-    let [a, b, c] = tag;
-    let mut bytes = Vec::new(alloc);
-    bytes.extend_from_slice(&[a, b, c, kind, 0, 0, 0, length])?;
-    bytes.extend_from_slice(value)?;
-    for _ in 0..(8 - value.len() % 8) % 8 {
-        bytes.push(0)?;
-    }
-    Ok(bytes)
-}
-
-// The Cryptographic Length of so many bits.
-fn bits(alloc: Global, number: i32) -> Result<Vec<u8>, Fail> {
-    item(alloc, [0x42, 0, 0x2A], INTEGER, &number.to_be_bytes())
-}
-
-fn material(alloc: Global, value: &[u8]) -> Result<Vec<u8>, Fail> {
-    item(alloc, [0x42, 0, 0x43], BYTES, value)
-}
-
-// The entry of an object `k` of this type with these attributes, and what is behind them.
-fn entry(alloc: Global, kind: u8, attributes: &[&[u8]], behind: &[u8]) -> Result<Vec<u8>, Fail> {
-    let id = item(alloc, [0x42, 0, 0x94], TEXT, b"k")?;
-    let object_type = item(alloc, [0x42, 0, 0x57], ENUMERATION, &[0, 0, 0, kind])?;
-    let inner = joined(alloc, attributes)?;
-    let set = item(alloc, [0x42, 1, 0x25], STRUCTURE, &inner)?;
-    let all = joined(alloc, &[&id, &object_type, &set, behind])?;
-    item(alloc, [0x54, 0, 0x34], STRUCTURE, &all)
-}
 
 // The fault of a declaration with such an entry behind another, at 144.
 fn entry_fault(
@@ -78,14 +18,6 @@ fn entry_fault(
 ) -> Result<Option<RecordFault>, Fail> {
     let entry = entry(alloc, kind, attributes, behind)?;
     declaration_fault(alloc, &[&DECLARATION, &ENTRY, &entry])
-}
-
-// The row of this Result Reason and cause.
-fn row(alloc: Global, reason: u8, cause: u8) -> Result<Vec<u8>, Fail> {
-    let first = item(alloc, [0x42, 0, 0x7E], ENUMERATION, &[0, 0, 0, reason])?;
-    let second = item(alloc, [0x54, 0, 0x33], ENUMERATION, &[0, 0, 0, cause])?;
-    let both = joined(alloc, &[&first, &second])?;
-    item(alloc, [0x54, 0, 0x32], STRUCTURE, &both)
 }
 
 fn read(alloc: Global, parts: &[&[u8]]) -> Result<Declaration, Fail> {

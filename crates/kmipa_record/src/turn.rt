@@ -1,0 +1,103 @@
+//! Turns of a witness: a call, and what the witness says of its answer.
+
+ghost use Rattle.std.specs.Prelude.{◌≡◌, ◌≢◌, ◌∷◌, ◌++◌, ℤ, List, None, map, option_map, IfOk, MatchOption};
+ghost use Rattle.kmipa_ttlv.specs.Tree.{Tree, scalar, integer};
+ghost use Rattle.kmipa_ttlv.specs.ViewTree.{view_tree};
+ghost use Rattle.kmipa_msgs.specs.Messages.{lent};
+ghost use Rattle.kmipa_record.specs.Witnesses.{TurnOf, turn_of, turn_item, answer_item, place_item, listed, ArePayloads};
+ghost use Rattle.kmipa_record.specs.WitnessReading.{NotAhead};
+
+use crate::fill::{Fill, fills_in};
+use crate::record::Record;
+use crate::shape::{bytes_of, children_of, copied, integer_of};
+use kmipa_ttlv::View;
+use std::alloc::{AllocError, Global};
+
+const TURN: u32 = 0x54_0041;
+
+const CALL: u32 = 0x54_0011;
+
+const ANSWER: u32 = 0x54_0044;
+
+const PLACE: u32 = 0x54_0045;
+
+/// The turn of one call.
+#[derive(Debug, Drop)]
+pub struct Turn {
+    /// The number of the call.
+    pub call: i32,
+    /// The response message of a call that did not end.
+    pub answer: Option<Vec<u8>>,
+    /// The places of the call's items, counted from 1, in the order in which they are taken; none: by place.
+    pub places: Vec<i32>,
+    /// The payloads that its response leaves out.
+    pub fills: Vec<Fill>,
+}
+
+impl Record for Turn {
+    ghost says = { λ item turn. (item ≡ turn_item (turn_of turn)) × ArePayloads (turn_of turn).fills };
+
+    ghost is_record = { λ item. (turn : TurnOf) × (item ≡ turn_item turn) × ArePayloads turn.fills };
+
+    fn of(alloc: Global, item: &View) -> Result<Option<Turn>, AllocError> {
+        let Some(children) = children_of(item, TURN) else {
+            return Ok(None);
+        };
+        let Some((call, behind_call)) = integer_ahead(children, CALL) else {
+            return Ok(None);
+        };
+        let (answer, behind_answer) = answer_ahead(behind_call);
+        let (places, behind_places) = places_ahead(alloc, behind_answer)?;
+        let Some(fills) = fills_in(alloc, behind_places)? else {
+            return Ok(None);
+        };
+        Ok(Some(Turn {
+            call,
+            answer: copied(alloc, answer)?,
+            places,
+            fills,
+        }))
+    }
+}
+
+/// The number of an Integer with this tag that the children begin with, and the children behind it.
+fn integer_ahead<'a, 'b>(children: &'b [View<'a>], tag: u32) -> Option<(i32, &'b [View<'a>])>
+    ensures { MatchOption result ((number : ℤ) (rest : List Tree) → map view_tree children.now ≢ scalar tag (integer number) ∷ rest)
+        (λ r. map view_tree children.now ≡ scalar tag (integer r.0) ∷ map view_tree r.1.now) }
+{
+    if children.is_empty() {
+        return None;
+    }
+    Some((integer_of(&children[0], tag)?, &children[1..]))
+}
+
+/// The answer that the children begin with, if any, and the children behind it.
+fn answer_ahead<'a, 'b>(children: &'b [View<'a>]) -> (Option<&'a [u8]>, &'b [View<'a>])
+    ensures split { map view_tree children.now ≡ map answer_item (listed (option_map lent result.0)) ++ map view_tree result.1.now }
+    ensures first { option_map lent result.0 ≡ None → NotAhead answer_item (map view_tree children.now) }
+{
+    if children.is_empty() {
+        return (None, children);
+    }
+    match bytes_of(&children[0], ANSWER) {
+        Some(answer) => (Some(answer), &children[1..]),
+        None => (None, children),
+    }
+}
+
+/// The places that the children begin with, and the children behind them.
+fn places_ahead<'a, 'b>(
+    alloc: Global,
+    children: &'b [View<'a>],
+) -> Result<(Vec<i32>, &'b [View<'a>]), AllocError>
+    ensures { IfOk result (λ r. (map view_tree children.now ≡ map place_item r.0.items ++ map view_tree r.1.now) × NotAhead place_item (map view_tree r.1.now)) }
+{
+    let mut places = Vec::new(alloc);
+    for (n, child) in children.iter().enumerate() {
+        match integer_of(child, PLACE) {
+            Some(place) => places.push(place)?,
+            None => return Ok((places, &children[n..])),
+        }
+    }
+    Ok((places, &children[children.len()..]))
+}
