@@ -3,12 +3,12 @@ use Rattle.std.specs.Prelude.{◌≡◌, ◌⊎◌, List, codes, string_bytes, t
 use Rattle.clap.specs.Words.{App, Row, Rule, Text, Kinds, IsAmong, new_app, new_rule, with_rule, with_subcommand, first_of}
 use Rattle.clap.specs.declared.builder.action.ArgAction.TheVariants.{Set}
 use Rattle.clap.specs.declared.error.kind.ErrorKind.{ErrorKind}
-use Rattle.clap.specs.declared.error.kind.ErrorKind.TheVariants.{DisplayHelp, DisplayHelpOnMissingArgumentOrSubcommand, OutOfMemory}
+use Rattle.clap.specs.declared.error.kind.ErrorKind.TheVariants.{DisplayHelp, DisplayHelpOnMissingArgumentOrSubcommand, DisplayVersion, OutOfMemory}
 use Rattle.kmipa_runs.specs.declared.status.Status.{Status}
 use Rattle.kmipa_runs.specs.declared.status.Status.TheVariants.{Done, Failed, Usage as Mistake}
 use Rattle.kmipa_runs.specs.Statuses.{IsSilent}
 use Rattle.kmip_audit.specs.declared.words.Job.{Job}
-use Rattle.kmip_audit.specs.declared.words.Job.TheVariants.{Check}
+use Rattle.kmip_audit.specs.declared.words.Job.TheVariants.{Check, Show, Write}
 use Rattle.kmip_audit.specs.declared.words.Usage.{Usage}
 
 -- a file that has to be named
@@ -20,23 +20,34 @@ abbrev pub check_app : App
 check_app = with_rule (with_rule (with_rule (new_app (codes "check")) (file_rule (codes "TRANSCRIPT")))
     (file_rule (codes "DECLARATION"))) (file_rule (codes "WITNESS"))
 
--- one of its subcommands has to be named, and nothing at all asks for help
+-- `show FILE`
+abbrev pub show_app : App
+show_app = with_rule (new_app (codes "show")) (file_rule (codes "FILE"))
+
+-- `write HEX OUT`
+abbrev pub write_app : App
+write_app = with_rule (with_rule (new_app (codes "write")) (file_rule (codes "HEX"))) (file_rule (codes "OUT"))
+
+-- it has a version, one of its subcommands has to be named, and nothing at all asks for help
 abbrev pub with_settings : App → App
-with_settings app = record app { top = record app.top { subcommand_required = true; arg_required_else_help = true } }
+with_settings app = record app { top = record app.top { has_version = true; subcommand_required = true; arg_required_else_help = true } }
 
 abbrev pub program_app : App
-program_app = with_subcommand (with_settings (new_app (codes "kmip_audit"))) check_app.top
+program_app = with_subcommand (with_subcommand (with_subcommand (with_settings (new_app (codes "kmip_audit"))) check_app.top) show_app.top) write_app.top
 
--- the subcommand with these values is this job
+-- the subcommand with this name and these values is this job
 abbrev pub IsJob : Job → Option (Text × List Row) → Type 0
-IsJob (Check transcript declaration witness) None = ⊥
-IsJob (Check transcript declaration witness) (Some found) = (first_of (codes "TRANSCRIPT") found.1 ≡ Some transcript.now)
+IsJob job None = ⊥
+IsJob (Check transcript declaration witness) (Some found) = (found.0 ≡ codes "check") × (first_of (codes "TRANSCRIPT") found.1 ≡ Some transcript.now)
     × (first_of (codes "DECLARATION") found.1 ≡ Some declaration.now) × (first_of (codes "WITNESS") found.1 ≡ Some witness.now)
+IsJob (Show file) (Some found) = (found.0 ≡ codes "show") × (first_of (codes "FILE") found.1 ≡ Some file.now)
+IsJob (Write hex out) (Some found) = (found.0 ≡ codes "write") × (first_of (codes "HEX") found.1 ≡ Some hex.now) × (first_of (codes "OUT") found.1 ≡ Some out.now)
 
--- help ends well, and every other kind of mistake as a mistake
+-- help and the version end well, and every other kind of mistake as a mistake
 abbrev pub status_of : ErrorKind → Status
 status_of DisplayHelp = Done
 status_of DisplayHelpOnMissingArgumentOrSubcommand = Done
+status_of DisplayVersion = Done
 status_of OutOfMemory = Failed
 status_of kind = Mistake
 

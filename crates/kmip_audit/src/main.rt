@@ -1,6 +1,8 @@
 //! `kmip_audit`: says whether a recorded KMIP session is possible in the order of a witness.
 #![tactic(auto)]
 
+mod files;
+mod printing;
 mod session;
 mod words;
 

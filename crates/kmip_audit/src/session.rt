@@ -1,20 +1,21 @@
-//! A session: words come in, files are read, and lines go out.
+//! A session: words come in, files are read and written, and lines go out.
 
-use crate::words::{Job, Usage, read_words};
-use kmipa_runs::{Status, check_run};
-use kmipa_ttlv::Input;
+ghost use Rattle.std.specs.Prelude.{◌≡◌, ◌↔◌, [], IfOk};
+ghost use Rattle.kmipa_runs.specs.Lines.{FitsStatus, yes_line};
+ghost use Rattle.kmipa_runs.specs.declared.status.Status.{Status};
+
+use crate::files::{hint_kind, open_input, replace_file};
+use crate::printing::{tell, tell_error, tell_usage, tell_words};
+use crate::words::{Job, read_words};
+use kmipa_runs::{Status, check_run, show_run, write_run};
 use std::rt::{Env, Files};
-use std::{env, fs, io};
-
-const DEVICE: &str = "device\n";
-
-const MEMORY: &str = "memory\n";
+use std::{env, io};
 
 /// Does what the words of the command line ask for, and answers the status to end with.
 pub fn run_session<R: Env + Files + AllocGlobal + Print + Eprint>(rt: &R) -> Status {
     let words = match words_of(rt) {
         Ok(words) => words,
-        Err(error) => return tell_error(rt, &error),
+        Err(error) => return tell_words(rt, &error),
     };
     match read_words(rt.alloc(), words.as_slice()) {
         Ok(job) => run_job(rt, &job),
@@ -22,73 +23,76 @@ pub fn run_session<R: Env + Files + AllocGlobal + Print + Eprint>(rt: &R) -> Sta
     }
 }
 
-/// Opens the files of a job, in the order in which they were named, and prints its lines. A file that can't be
-/// opened is told as `device`.
-pub fn run_job<R: Files + AllocGlobal + Print>(rt: &R, job: &Job<'_>) -> Status {
+fn words_of<R: Env + AllocGlobal>(rt: &R) -> io::Result<Vec<String>> {
+    Ok(env::args(rt)?.collect::<Vec<String>>(rt.alloc())?)
+}
+
+/// Opens the files of a job, in the order in which they were named, and prints its lines.
+fn run_job<R: Files + AllocGlobal + Print + Eprint>(rt: &R, job: &Job<'_>) -> Status {
     let mut out = Vec::new(rt.alloc());
-    match lines_of(rt, job, &mut out) {
+    let done = match *job {
+        Job::Check {
+            transcript,
+            declaration,
+            witness,
+        } => check_files(rt, [transcript, declaration, witness], &mut out),
+        Job::Show { file } => show_file(rt, file, &mut out),
+        Job::Write { hex, out: made } => write_file(rt, hex, made, &mut out),
+    };
+    match done {
         Ok(status) => tell(rt, out.as_slice(), status),
         Err(error) => tell_error(rt, &error),
     }
 }
 
-fn words_of<R: Env + AllocGlobal>(rt: &R) -> io::Result<Vec<String>> {
-    Ok(env::args(rt)?.collect::<Vec<String>>(rt.alloc())?)
+fn check_files<R: Files + AllocGlobal + Eprint>(
+    rt: &R,
+    names: [&str; 3],
+    out: &mut Vec<u8>,
+) -> io::Result<Status>
+    requires { out.old.items ≡ [] }
+    // What goes on to be printed is what the run made.
+    ensures fits { IfOk result (λ status. FitsStatus status out.new.items) }
+    ensures yes { IfOk result (λ status. (status ≡ Status.Done) ↔ (out.new.items ≡ yes_line)) }
+{
+    let mut transcript = open_input(rt, names[0])?;
+    let mut declaration = open_input(rt, names[1])?;
+    let mut witness = open_input(rt, names[2])?;
+    let status = check_run(
+        rt.alloc(),
+        &mut transcript,
+        &mut declaration,
+        &mut witness,
+        out,
+    );
+    if status == Status::Refused {
+        hint_kind(rt, &names, out);
+    }
+    Ok(status)
 }
 
-fn lines_of<R: Files + AllocGlobal>(
+fn show_file<R: Files + AllocGlobal + Eprint>(
     rt: &R,
-    job: &Job<'_>,
+    name: &str,
     out: &mut Vec<u8>,
 ) -> io::Result<Status> {
-    match *job {
-        Job::Check {
-            transcript,
-            declaration,
-            witness,
-        } => {
-            let mut transcript = Input::new(fs::open(rt, transcript)?);
-            let mut declaration = Input::new(fs::open(rt, declaration)?);
-            let mut witness = Input::new(fs::open(rt, witness)?);
-            Ok(check_run(
-                rt.alloc(),
-                &mut transcript,
-                &mut declaration,
-                &mut witness,
-                out,
-            ))
-        }
-    }
+    let mut input = open_input(rt, name)?;
+    Ok(show_run(rt.alloc(), &mut input, out))
 }
 
-/// What came of a run; no lines with `Failed` say that memory ran out. Where printing fails there is nothing left to say.
-fn tell<R: Print>(rt: &R, lines: &[u8], status: Status) -> Status {
-    let lines = match status {
-        Status::Failed if lines.is_empty() => MEMORY.as_bytes(),
-        _ => lines,
-    };
-    match rt.write_all(lines) {
-        Ok(()) => status,
-        Err(_) => Status::Failed,
+/// Makes the file `name` of the digits of another one. Where the status is not `Done` nothing is made.
+fn write_file<R: Files + AllocGlobal + Eprint>(
+    rt: &R,
+    hex: &str,
+    name: &str,
+    out: &mut Vec<u8>,
+) -> io::Result<Status> {
+    let mut input = open_input(rt, hex)?;
+    let mut made = Vec::new(rt.alloc());
+    let status = write_run(rt.alloc(), &mut input, out, &mut made);
+    drop(input);
+    if status == Status::Done {
+        replace_file(rt, name, made.as_slice())?;
     }
-}
-
-fn tell_error<R: Print>(rt: &R, error: &io::Error) -> Status {
-    let line = match error.kind() {
-        io::ErrorKind::OutOfMemory => MEMORY,
-        _ => DEVICE,
-    };
-    tell(rt, line.as_bytes(), Status::Failed)
-}
-
-/// Help goes to standard output, and what is wrong with the words to standard error.
-fn tell_usage<R: Print + Eprint>(rt: &R, usage: &Usage) -> Status {
-    let text = usage.text.as_str();
-    if usage.status != Status::Usage {
-        return tell(rt, text.as_bytes(), usage.status);
-    }
-    match rt.eprint(text) {
-        Ok(()) => usage.status,
-        Err(_) => Status::Failed,
-    }
+    Ok(status)
 }

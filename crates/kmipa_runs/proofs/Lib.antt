@@ -1,2 +1,6 @@
+mod AppendLemmas
+mod InputLemmas
+mod LawLemmas
 mod LineLemmas
+mod ShownLemmas
 mod YesLemmas

@@ -1,6 +1,6 @@
 //! Moments as text.
 
-ghost use Rattle.std.specs.Prelude.{◌≡◌, IfOk, string_bytes};
+ghost use Rattle.std.specs.Prelude.{◌≡◌, IfOk, MatchOption, string_bytes};
 ghost use Rattle.std.specs.Fmt.{signed_decimal};
 ghost use Rattle.kmipa_runs.specs.Dates.{HasDate};
 
@@ -12,8 +12,18 @@ use std::alloc::{AllocError, Global};
 pub fn date_text(alloc: Global, second: i64) -> Result<String, AllocError>
     ensures { IfOk result (λ text. ¬ HasDate second → string_bytes text ≡ signed_decimal second) }
 {
+    match calendar_date(alloc, second)? {
+        Some(date) => Ok(date),
+        None => second.to_string(alloc),
+    }
+}
+
+/// The date of a moment, or `None` where the calendar has no such date.
+pub fn calendar_date(alloc: Global, second: i64) -> Result<Option<String>, AllocError>
+    ensures { IfOk result (λ date. MatchOption date (¬ HasDate second) (λ _. HasDate second)) }
+{
     match Timestamp::from_second(second) {
-        Ok(moment) => moment.to_string(alloc),
-        Err(_) => second.to_string(alloc),
+        Ok(moment) => Ok(Some(moment.to_string(alloc)?)),
+        Err(_) => Ok(None),
     }
 }

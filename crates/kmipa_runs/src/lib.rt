@@ -2,16 +2,25 @@
 #![tactic(auto)]
 
 mod dates;
+mod digits;
+mod flaws;
+mod laws;
 mod lines;
 mod reporting;
 mod runs;
+mod showing;
+mod shown;
 mod status;
+mod values;
+mod writing;
 
-pub use dates::date_text;
-pub use lines::{Lines, fault_lines, verdict_lines};
+pub use laws::items_have_no_fault;
+pub use lines::Lines;
 pub use reporting::report;
 pub use runs::check_run;
+pub use showing::show_run;
 pub use status::Status;
+pub use writing::write_run;
 
 #[cfg(test)]
 mod tests;

@@ -79,7 +79,7 @@ pub fn fault_lines(alloc: Global, fault: &AuditFault) -> Result<Lines, AllocErro
     }
 }
 
-fn record_lines(alloc: Global, file: &str, fault: &RecordFault) -> Result<Lines, AllocError>
+pub fn record_lines(alloc: Global, file: &str, fault: &RecordFault) -> Result<Lines, AllocError>
     ensures status { IfOk result (λ lines. lines.status ≡ record_status fault.now.kind) }
     ensures text { IfOk result (λ lines. string_bytes lines.text ≡ record_text file.now fault.now.offset fault.now.kind) }
 {

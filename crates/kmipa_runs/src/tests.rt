@@ -6,5 +6,7 @@ mod memory;
 mod reads;
 mod records;
 mod runs;
+mod shows;
 mod starved;
+mod vectors;
 mod verdicts;

@@ -6,13 +6,20 @@ use std::test::Fail;
 
 #[test]
 fn reads_words(rt: HostRuntime) -> Result<(), Fail> {
-    let words = ["kmip_audit", "check", "t", "d", "w"];
+    let check = ["kmip_audit", "check", "t", "d", "w"];
     let job = Job::Check {
         transcript: "t",
         declaration: "d",
         witness: "w",
     };
-    assert_eq!(rt; read_words(rt.alloc(), &words)?, job);
+    assert_eq!(rt; read_words(rt.alloc(), &check)?, job);
+    let show = ["kmip_audit", "show", "f"];
+    assert_eq!(rt; read_words(rt.alloc(), &show)?, Job::Show { file: "f" });
+    let write = ["kmip_audit", "write", "h", "o"];
+    assert_eq!(rt;
+        read_words(rt.alloc(), &write)?,
+        Job::Write { hex: "h", out: "o" }
+    );
     Ok(())
 }
 
@@ -30,7 +37,14 @@ fn refuses_words(rt: HostRuntime) -> Result<(), Fail> {
             ["kmip_audit", "check", "t", "d", "w", "x"].as_slice(),
             Status::Usage,
         ),
-        (["kmip_audit", "--version"].as_slice(), Status::Usage),
+        (["kmip_audit", "--version"].as_slice(), Status::Done),
+        (["kmip_audit", "show"].as_slice(), Status::Usage),
+        (["kmip_audit", "show", "--help"].as_slice(), Status::Done),
+        (["kmip_audit", "write", "h"].as_slice(), Status::Usage),
+        (
+            ["kmip_audit", "write", "h", "o", "x"].as_slice(),
+            Status::Usage,
+        ),
     ];
     for (words, status) in cases {
         let usage = read_words(rt.alloc(), words).err().ok_or("a refusal")?;

@@ -9,8 +9,12 @@ use Rattle.kmip_audit.proofs.words.command.Goals as goal
 
 pub returns : goal.returns
 returns c =
-    let above : app_of c.arg_required_else_help.result ≡ with_settings (app_of c.new.result) = settings _ (out-Command c.new.result)
-    (out-Command c.about.result) (out-Command c.subcommand_required.result)
-    (out-Command c.arg_required_else_help.result) c.about.ensures c.subcommand_required.ensures c.arg_required_else_help.ensures in
-    IfOk-weaker c.subcommand.result _ _ (λ r h. whole (app_of c.new.result) (app_of c.in_ok-check.field-0) (app_of r)
-    c.new.ensures.app c.in_ok-check.ensures.app (h.shape c.in_ok-check.ensures.local ∙ ap (λ a. with_subcommand a (shape_of c.in_ok-check.field-0)) above)) c.subcommand.ensures
+    let bare = app_of c.new.result in
+    let set : app_of c.arg_required_else_help.result ≡ with_settings bare = settings _ _ _ (out-Command c.new.result) (out-Command c.about.result)
+    (out-Command c.version.result) (out-Command c.after_help.result) (out-Command c.subcommand_required.result) (out-Command c.arg_required_else_help.result)
+    c.about.ensures c.version.ensures c.after_help.ensures c.subcommand_required.ensures c.arg_required_else_help.ensures in
+    let one = c.in_ok-subcommand.ensures.shape c.in_ok-check.ensures.local ∙ ap (λ a. with_subcommand a (shape_of c.in_ok-check.field-0)) set in
+    let two = c.in_ok-subcommand-2.ensures.shape c.in_ok-show.ensures.local in
+    IfOk-weaker c.subcommand-3.result _ _ (λ r h. whole bare (app_of c.in_ok-check.field-0) (app_of c.in_ok-show.field-0) (app_of c.in_ok-write.field-0)
+    (app_of c.in_ok-subcommand.field-0) (app_of c.in_ok-subcommand-2.field-0) (app_of r) c.new.ensures.app c.in_ok-check.ensures.app c.in_ok-show.ensures.app
+    c.in_ok-write.ensures.app one two (h.shape c.in_ok-write.ensures.local)) c.subcommand-3.ensures

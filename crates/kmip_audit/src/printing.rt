@@ -1,0 +1,84 @@
+//! What is printed, and the status that is left of it.
+
+ghost use Rattle.std.specs.Prelude.{◌≡◌, ◌≢◌, ◌⊎◌, [], codes, MatchResult};
+ghost use Rattle.std.specs.IoError.{error_kind};
+ghost use Rattle.kmipa_runs.specs.declared.status.Status.{Status};
+ghost use Rattle.std.specs.declared.io.ErrorKind.{ErrorKind};
+
+use crate::words::Usage;
+use kmipa_runs::Status;
+use std::io;
+
+/// Prints what came of a run, and answers its status, or `Failed` where that can't be printed.
+pub fn tell<R: Print + Eprint>(rt: &R, lines: &[u8], status: Status) -> Status
+    ensures { (result ≡ status) ⊎ (result ≡ Status.Failed) }
+{
+    let printed = rt.write_all(text_of(lines, status));
+    if let Err(error) = &printed {
+        rt.eprintln(format_args!("kmip_audit: standard output: {error}"))
+            .ok();
+    }
+    status_of(&printed, status)
+}
+
+/// The text of lines: none with `Failed` say that memory ran out.
+fn text_of<'a>(lines: &'a [u8], status: Status) -> &'a [u8]
+    ensures memory { status ≡ Status.Failed → lines.now ≡ [] → result.now ≡ codes "memory\n" }
+    ensures other { status ≢ Status.Failed → result.now ≡ lines.now }
+    ensures lines { lines.now ≢ [] → result.now ≡ lines.now }
+{
+    match status {
+        Status::Failed if lines.is_empty() => b"memory\n",
+        _ => lines,
+    }
+}
+
+/// The status that is left of one: nothing that can't be printed ends well.
+fn status_of(printed: &io::Result<()>, status: Status) -> Status
+    ensures { MatchResult printed.now (λ _. result ≡ status) (λ _. result ≡ Status.Failed) }
+{
+    match printed {
+        Ok(()) => status,
+        Err(_) => Status::Failed,
+    }
+}
+
+/// Prints the line of a file that could not be opened, read or written.
+pub fn tell_error<R: Print + Eprint>(rt: &R, error: &io::Error) -> Status
+    ensures { result ≡ Status.Failed }
+{
+    tell(rt, error_line(error), Status::Failed)
+}
+
+/// Want of memory is told as such, and every other error as that of a device.
+fn error_line(error: &io::Error) -> &'static [u8]
+    ensures memory { error_kind error.now ≡ ErrorKind.OutOfMemory → result.now ≡ codes "memory\n" }
+    ensures device { error_kind error.now ≢ ErrorKind.OutOfMemory → result.now ≡ codes "device\n" }
+{
+    match error.kind() {
+        io::ErrorKind::OutOfMemory => b"memory\n",
+        _ => b"device\n",
+    }
+}
+
+/// Tells why the words can't be read. A word that is not UTF-8 is a mistake in the words.
+pub fn tell_words<R: Print + Eprint>(rt: &R, error: &io::Error) -> Status
+    ensures { (result ≡ Status.Usage) ⊎ (result ≡ Status.Failed) }
+{
+    if error.kind() != io::ErrorKind::InvalidData {
+        return tell_error(rt, error);
+    }
+    let told = rt.eprintln("error: a word of the command line is not UTF-8");
+    status_of(&told, Status::Usage)
+}
+
+/// Help goes to standard output, and what is wrong with the words to standard error.
+pub fn tell_usage<R: Print + Eprint>(rt: &R, usage: &Usage) -> Status
+    ensures { (result ≡ usage.now.status) ⊎ (result ≡ Status.Failed) }
+{
+    let text = usage.text.as_str();
+    if usage.status != Status::Usage {
+        return tell(rt, text.as_bytes(), usage.status);
+    }
+    status_of(&rt.eprint(text), usage.status)
+}
