@@ -27,6 +27,7 @@ fn a_locate_is_asked_for(rt: HostRuntime) -> Result<(), Fail> {
     assert_eq!(rt; locate.filter.length, Some(128));
     assert_eq!(rt; locate.filter.state, Some(1));
     assert_eq!(rt; locate.filter.is_loose, false);
+    assert_eq!(rt; request.items.len(), 1);
     let bytes = bytes_of(&rt, &write_request(rt.alloc(), &request)?)?;
     assert_eq!(rt; bytes.as_slice(), LOCATE.as_slice());
     Ok(())
@@ -148,6 +149,7 @@ fn an_answered_locate_is_written_back(rt: HostRuntime) -> Result<(), Fail> {
     let request = read_request(rt.alloc(), &asked)?;
     let (answered, _) = decode_view(rt.alloc(), &LOCATED)?;
     let response = read_response(rt.alloc(), &answered, &request)?.copy(rt.alloc())?;
+    assert_eq!(rt; response.items.len(), 1);
     let bytes = bytes_of(&rt, &write_response(rt.alloc(), &response)?)?;
     assert_eq!(rt; bytes.as_slice(), LOCATED.as_slice());
     Ok(())

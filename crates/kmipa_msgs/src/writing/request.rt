@@ -21,7 +21,8 @@ use std::alloc::{AllocError, Global};
 
 /// The Request Message that says the request, as far as any does: it has an item, no Register brings a name twice,
 /// and type, algorithm and length of each Register agree. Of more items than an Integer counts none does.
-/// What is read over is not written: the payloads of operations that aren't judged, and the other items of a Get Attributes.
+/// What is read over is not written: the payloads of operations that aren't judged, the other items of a Get Attributes,
+/// and what of a Locate isn't judged.
 /// Stop and an order of true are left out, which means the same. Only want of memory is an error.
 pub fn write_request(alloc: Global, request: &Request) -> Result<Item, AllocError>
     requires { length request.now.items.items < 0x8000_0000 }
