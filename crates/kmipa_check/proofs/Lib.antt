@@ -1,7 +1,7 @@
 pub mod PlaceLemmas
 pub mod RunLemmas
 pub mod ReplayLemmas
-pub mod PermutationLemmas
+pub mod OnceLemmas
 pub mod NumberLemmas
 pub mod LateLemmas
 pub mod OrderLemmas
@@ -16,6 +16,9 @@ pub mod CheckLemmas
 pub mod AuditLemmas
 pub mod ReadingLemmas
 pub mod RecordedLemmas
+pub mod FirstOutsideLemmas
+pub mod WitnessFaultLemmas
+pub mod RefusedLemmas
 pub mod AcceptedLemmas
 pub mod AcceptedAuditLemmas
 pub mod StampLemmas

@@ -12,7 +12,7 @@ use Rattle.kmipa_msgs.specs.Requests.{SaysRequest, RequestFault}
 use Rattle.kmipa_msgs.specs.Responses.{SaysResponse, ResponseFault}
 use Rattle.kmipa_check.specs.Calls.{CallOf, AreMessage, AreOutside, no_item, outside, AreRequest, AreResponse, HasMarks, IsRecorded, AreCalls}
 use Rattle.kmipa_check.proofs.PlaceLemmas.{contains_at, get_at, some_at, same_elements}
-use Rattle.kmipa_check.proofs.PermutationLemmas.{IsOnce, once_pairs}
+use Rattle.kmipa_check.proofs.OnceLemmas.{IsOnce, once_pairs}
 use Rattle.kmipa_check.proofs.WholeOrderLemmas.{number_of}
 
 -- ---- marks

@@ -21,7 +21,7 @@ use Rattle.kmipa_check.specs.Orders.{IsNamed, IsFormed, AreFormedBelow, IsOrder,
 use Rattle.kmipa_check.specs.Numbers.{place_in, StandsFirst, Indexes}
 use Rattle.kmipa_check.specs.Ordering.{AreFormed, missing_or, first_missing}
 use Rattle.kmipa_check.proofs.PlaceLemmas.{mapped_from, contains_at, at_contains, same_elements, get_at, some_at}
-use Rattle.kmipa_check.proofs.PermutationLemmas.{IsOnce}
+use Rattle.kmipa_check.proofs.OnceLemmas.{IsOnce}
 use Rattle.kmipa_check.proofs.OrderLemmas.{formed_below}
 
 abbrev pub number_of : CallOf → ℤ

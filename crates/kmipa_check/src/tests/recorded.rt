@@ -129,3 +129,71 @@ fn register_get_other_byte(rt: HostRuntime) -> Result<(), Fail> {
     assert_eq!(rt; verdict, Ok(Verdict::No(refused)));
     Ok(())
 }
+
+// Witnesses of one turn, that of call 1, which has ended and asks for one item: with an answer, with an order of items, and with a fill.
+const ANSWERED: &str = "540040010000001054000202000000040000000200000000\
+    540041010000001854001102000000040000000100000000\
+    5400440800000000";
+
+const ORDERED: &str = "540040010000001054000202000000040000000300000000\
+    540041010000002054001102000000040000000100000000\
+    54004502000000040000000100000000";
+
+const FILLED: &str = "540040010000001054000202000000040000000100000000\
+    540041010000003054001102000000040000000100000000\
+    540042010000001854004302000000040000000100000000\
+    42007C0100000000";
+
+/// What is told of the session with this witness.
+fn told_of(rt: &HostRuntime, witness: &str) -> Result<Result<Verdict, AuditFault>, Fail> {
+    let transcript = bytes_of(rt, transcript())?;
+    let declaration = bytes_of(rt, declaration())?;
+    let witness = bytes_of(rt, witness)?;
+    let mut transcript = Input::new(transcript.as_slice());
+    let mut declaration = Input::new(declaration.as_slice());
+    let mut witness = Input::new(witness.as_slice());
+    Ok(audit(rt.alloc(), &mut transcript, &mut declaration, &mut witness))
+}
+
+/// The fault of the first turn.
+fn first_turn(kind: WitnessKind) -> Result<Verdict, AuditFault> {
+    let fault = WitnessFault { at: 1, kind };
+    Err(AuditFault::Check(CheckFault::Witness(fault)))
+}
+
+#[test]
+fn turns_that_give_what_is_not_wanted(rt: HostRuntime) -> Result<(), Fail> {
+    let answered = first_turn(WitnessKind::AnswerNotWanted);
+    assert_eq!(rt; told_of(&rt, ANSWERED)?, answered);
+    let ordered = first_turn(WitnessKind::OrderNotWanted);
+    assert_eq!(rt; told_of(&rt, ORDERED)?, ordered);
+    let filled = first_turn(WitnessKind::FillNotWanted);
+    assert_eq!(rt; told_of(&rt, FILLED)?, filled);
+    Ok(())
+}
+
+#[test]
+fn numbers_of_faults(rt: HostRuntime) -> Result<(), Fail> {
+    let fault = WitnessFault {
+        at: 1,
+        kind: WitnessKind::OrderForm,
+    };
+    assert_eq!(rt; CheckFault::Witness(fault).number(), 2);
+    assert_eq!(rt; CheckFault::Memory.number(), 3);
+    assert_eq!(rt; WitnessKind::OrderForm.number(), 11);
+    assert_eq!(rt; WitnessKind::AnswerMissing.name(), "AnswerMissing");
+    Ok(())
+}
+
+#[test]
+fn calls_that_wait_for_nothing(rt: HostRuntime) -> Result<(), Fail> {
+    let bytes = bytes_of(&rt, transcript())?;
+    let transcript = read_transcript(rt.alloc(), &mut Input::new(bytes.as_slice()))?;
+    let calls = read_calls(rt.alloc(), &transcript)?;
+    let call = calls.first().ok_or("a call")?;
+    assert!(rt; !needs_fill(&call.request, &call.response));
+    let step = Step::recorded(call);
+    assert_eq!(rt; step.number, 1);
+    assert_eq!(rt; step.begin, 0);
+    Ok(())
+}

@@ -1,6 +1,6 @@
 use Rattle.std.proofs.Common.{map}
 use Rattle.kmipa_check.proofs.CheckLemmas.{calls_once}
-use Rattle.kmipa_check.proofs.PermutationLemmas.{once_pairs}
+use Rattle.kmipa_check.proofs.OnceLemmas.{once_pairs}
 use Rattle.kmipa_check.proofs.WholeOrderLemmas.{number_of, one_order_lem}
 use Rattle.kmipa_check.proofs.laws.one_order.Goals as goal
 

@@ -1,4 +1,4 @@
-use Rattle.std.proofs.Common.{◌≡◌, [], None, List, length, map, vec_len, refl, ap, rules}
+use Rattle.std.proofs.Common.{◌≡◌, None, List, length, map, vec_len, refl, ap, rules}
 use Rattle.kmipa_msgs.specs.Messages.{response_of}
 use Rattle.kmipa_record.specs.Witnesses.{turn_of, fill_of}
 use Rattle.kmipa_record.specs.declared.fill.Fill.{Fill}
