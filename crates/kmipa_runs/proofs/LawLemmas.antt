@@ -1,10 +1,10 @@
 -- Items one behind the other have no fault.
-use Rattle.std.proofs.Common.{◌≡◌, ◌≢◌, ◌⊎◌, inl, inr, ◌<◌, ℕ, Bool, List, [], ◌∷◌, ◌++◌, length, refl, sym, ap, subst, ◌∙◌, arith, length-append}
+use Rattle.std.proofs.Common.{◌≡◌, ◌⊎◌, inl, inr, ℕ, Bool, List, [], ◌∷◌, ◌++◌, length, refl, sym, ap, subst, arith, length-append}
 use Rattle.kmipa_ttlv.specs.Tree.{Tree}
 use Rattle.kmipa_ttlv.specs.Flaw.{OuterFlaw}
-use Rattle.kmipa_ttlv.specs.Stream.{Begins, TellsFlaw}
+use Rattle.kmipa_ttlv.specs.Stream.{Begins}
 use Rattle.kmipa_ttlv.specs.Items.{AreItems}
-use Rattle.kmipa_ttlv.specs.Reading.{ByCause, TellsKnown}
+use Rattle.kmipa_ttlv.specs.Reading.{ByCause}
 use Rattle.kmipa_ttlv.specs.declared.fault.FaultKind.{FaultKind}
 use Rattle.kmipa_ttlv.specs.declared.fault.FaultKind.TheVariants.{Truncated, UnknownType, BadLength, BadBoolean, BadText, Overrun, TooDeep, TooLong, Device, Memory}
 use Rattle.kmipa_ttlv.specs.declared.fault.TtlvFault.{TtlvFault}

@@ -1,7 +1,6 @@
 -- The lines of items, from what is appended.
 use Rattle.std.proofs.Common.{◌≡◌, ℕ, ◌+◌, ◌/◌, ◌%◌, ◌<◌, List, [], ◌∷◌, ◌++◌, length, get_or, drop, suc, refl, sym, ap, ◌∙◌, append_assoc, add-one, drop-cons}
 use Rattle.std.specs.Prelude.{codes}
-use Rattle.std.specs.List.{flat_map}
 use Rattle.hex.specs.Hex.{encode_with}
 use Rattle.kmipa_ttlv.specs.Tree.{more}
 use Rattle.kmipa_ttlv.specs.ItemTree.{tree, trees, value_tree, IsPlain}

@@ -1,8 +1,8 @@
 //! `write`: a file of the items that hexadecimal digits spell.
 
-ghost use Rattle.std.specs.Prelude.{◌≡◌, ◌<◌, ◌≤◌, ◌≢◌, ◌-◌, ◌⊎◌, ℕ, List, [], ◌++◌, false, IsTrue, IfOk, IfErr, OnOk, length, take, string_bytes, Ok, Err};
+ghost use Rattle.std.specs.Prelude.{◌≡◌, ◌<◌, ◌≤◌, ◌≢◌, ◌-◌, ◌⊎◌, [], ◌++◌, false, IsTrue, IfOk, IfErr, OnOk, length, take, string_bytes, Ok, Err};
 ghost use Rattle.std.specs.Io.{StartsWith, appended_bytes};
-ghost use Rattle.kmipa_ttlv.specs.Input.{came_of, is_ended, is_failed, IsFileOf};
+ghost use Rattle.kmipa_ttlv.specs.Input.{came_of, is_ended, is_failed};
 ghost use Rattle.kmipa_ttlv.specs.Reading.{TellsKnown};
 ghost use Rattle.kmipa_ttlv.specs.Spelling.{Spells};
 ghost use Rattle.kmipa_ttlv.specs.Tree.{Tree};

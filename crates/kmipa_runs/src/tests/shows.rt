@@ -45,7 +45,7 @@ fn shows_items(rt: HostRuntime) -> Result<(), Fail> {
 fn shows_faults_alone(rt: HostRuntime) -> Result<(), Fail> {
     let bytes = bytes_of(rt.alloc(), GET_K1)?;
     for cut in 1..120usize {
-        let (status, out) = show(rt.alloc(), &bytes[..cut])?;
+        let (status, out) = show(rt.alloc(), &bytes[..cut.min(bytes.len())])?;
         let line = format!(in rt.alloc(); "malformed: input offset {cut} kind 1 Ttlv Truncated\n")?;
         assert_eq!(rt; out.as_str(), line.as_str());
         assert_eq!(rt; status, Status::Refused);

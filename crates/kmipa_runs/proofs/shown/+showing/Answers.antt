@@ -1,15 +1,15 @@
-use Rattle.std.proofs.Common.{◌≡◌, ◌≤◌, ◌+◌, ◌++◌, ℕ, List, [], drop, length, refl, sym, ap, subst, ◌∙◌, append_assoc, arith, rules}
+use Rattle.std.proofs.Common.{◌≡◌, ◌+◌, ◌++◌, ℕ, List, [], drop, refl, sym, ap, subst, ◌∙◌, append_assoc, arith}
 use Rattle.std.specs.Prelude.{codes}
-use Rattle.std.specs.Io.{StartsWith, appended_bytes}
+use Rattle.std.specs.Io.{appended_bytes}
 use Rattle.std.proofs.lemmas.List.{drop_all, append-nil}
 use Rattle.std.proofs.lemmas.Result.{on_ok_weaker}
-use Rattle.kmipa_ttlv.specs.Tree.{Tree, Trees, structure, more}
+use Rattle.kmipa_ttlv.specs.Tree.{Tree, Trees, structure}
 use Rattle.kmipa_ttlv.specs.ItemTree.{value_tree, tree, trees}
 use Rattle.kmipa_ttlv.specs.Written.{depth, depths}
 use Rattle.kmipa_ttlv.specs.declared.item.Item.{Item}
 use Rattle.kmipa_ttlv.proofs.ItemTreeLemmas.{tree_of_structure}
 use Rattle.kmipa_runs.specs.Shown.{head, ShowsItem, ShowsItems}
-use Rattle.kmipa_runs.proofs.AppendLemmas.{since, split, onto, starts_on}
+use Rattle.kmipa_runs.proofs.AppendLemmas.{split, onto, starts_on}
 use Rattle.kmipa_runs.proofs.ShownLemmas.{next_item}
 use Rattle.kmipa_runs.proofs.shown.+showing.Goals as goal
 
