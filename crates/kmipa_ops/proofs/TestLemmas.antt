@@ -18,6 +18,10 @@ pub or_cases : (x y : Bool) → (x || y) ≡ true → (x ≡ true) ⊎ (y ≡ tr
 or_cases true y h = inl refl
 or_cases false y h = inr h
 
+pub or_right : (x y : Bool) → y ≡ true → (x || y) ≡ true
+or_right true y h = refl
+or_right false y h = h
+
 pub not_none : {A : Type 0} (o : Option A) → is_none o ≡ false → (x : A) × (o ≡ Some x)
 not_none None h = let bad : ⊥ = cc in absurd bad
 not_none (Some x) h = (x, refl)

@@ -26,7 +26,8 @@ mod taking;
 mod why;
 
 pub use laws::{
-    blame_is_exact, chains_complete, founded_is_decided, stands_for_one, taking_decides,
+    blame_is_exact, chains_complete, founded_is_decided, lists_are_decided, stands_for_one,
+    taking_decides,
 };
 pub use placeholder::Placeholder;
 pub use readable::is_readable;
