@@ -1,3 +1,1 @@
-mod LineLemmas
 mod WordLemmas
-mod YesLemmas

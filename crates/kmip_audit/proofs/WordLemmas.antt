@@ -7,7 +7,7 @@ use Rattle.clap.proofs.WalkLemmas.{first_value-rows}
 use Rattle.clap.specs.declared.parser.matches.Found.{Found}
 use Rattle.clap.specs.declared.error.Error.{Error}
 use Rattle.clap.specs.declared.error.kind.ErrorKind.TheVariants.{OutOfMemory}
-use Rattle.kmip_audit.specs.Statuses.{IsSilent}
+use Rattle.kmipa_runs.specs.Statuses.{IsSilent}
 use Rattle.kmip_audit.specs.Words.{IsJob, IsTold, status_of, program_app, with_settings, check_app}
 use Rattle.kmip_audit.specs.declared.words.Job.TheVariants.{Check}
 use Rattle.kmip_audit.specs.declared.words.Usage.{Usage}

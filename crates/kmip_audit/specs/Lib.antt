@@ -1,4 +1,1 @@
-pub mod Dates
-pub mod Lines
-pub mod Statuses
 pub mod Words

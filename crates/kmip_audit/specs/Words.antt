@@ -4,9 +4,9 @@ use Rattle.clap.specs.Words.{App, Row, Rule, Text, Kinds, IsAmong, new_app, new_
 use Rattle.clap.specs.declared.builder.action.ArgAction.TheVariants.{Set}
 use Rattle.clap.specs.declared.error.kind.ErrorKind.{ErrorKind}
 use Rattle.clap.specs.declared.error.kind.ErrorKind.TheVariants.{DisplayHelp, DisplayHelpOnMissingArgumentOrSubcommand, OutOfMemory}
-use Rattle.kmip_audit.specs.declared.status.Status.{Status}
-use Rattle.kmip_audit.specs.declared.status.Status.TheVariants.{Done, Failed, Usage as Mistake}
-use Rattle.kmip_audit.specs.Statuses.{IsSilent}
+use Rattle.kmipa_runs.specs.declared.status.Status.{Status}
+use Rattle.kmipa_runs.specs.declared.status.Status.TheVariants.{Done, Failed, Usage as Mistake}
+use Rattle.kmipa_runs.specs.Statuses.{IsSilent}
 use Rattle.kmip_audit.specs.declared.words.Job.{Job}
 use Rattle.kmip_audit.specs.declared.words.Job.TheVariants.{Check}
 use Rattle.kmip_audit.specs.declared.words.Usage.{Usage}

@@ -1,12 +1,7 @@
 //! `kmip_audit`: says whether a recorded KMIP session is possible in the order of a witness.
 #![tactic(auto)]
 
-mod dates;
-mod lines;
-mod report;
-mod runs;
 mod session;
-mod status;
 mod words;
 
 use std::process::ExitCode;

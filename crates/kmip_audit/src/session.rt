@@ -1,8 +1,7 @@
 //! A session: words come in, files are read, and lines go out.
 
-use crate::runs::check_run;
-use crate::status::Status;
 use crate::words::{Job, Usage, read_words};
+use kmipa_runs::{Status, check_run};
 use kmipa_ttlv::Input;
 use std::rt::{Env, Files};
 use std::{env, fs, io};

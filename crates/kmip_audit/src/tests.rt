@@ -1,11 +1,3 @@
-//! What no clause says: printed text, the verdicts on small sessions, and what refused reads and memory leave.
+//! What no clause says: which words are understood.
 
-mod lines;
-mod memory;
-mod reads;
-mod records;
-mod runs;
-mod sessions;
-mod starved;
-mod verdicts;
 mod words;

@@ -3,12 +3,12 @@
 ghost use Rattle.std.specs.Prelude.{◌≡◌, ◌≢◌, ◌⊎◌, false, [], IfErr, IfOk, IfSome, OnOk, map, string_bytes};
 ghost use Rattle.clap.specs.Words.{app_of, shape_of, rule_of, kind_of, subcommand_of, subcommand_rows_of, fault_of};
 ghost use Rattle.clap.specs.declared.builder.command.Command.TheViews.{out-Command};
-ghost use Rattle.kmip_audit.specs.Statuses.{IsSilent};
+ghost use Rattle.kmipa_runs.specs.Statuses.{IsSilent};
 ghost use Rattle.kmip_audit.specs.Words.{program_app, check_app, file_rule, status_of, IsJob, IsTold};
 
-use crate::status::Status;
 use clap::error::ErrorKind;
 use clap::{Arg, ArgAction, ArgMatches, Command, Error};
+use kmipa_runs::Status;
 use std::alloc::{AllocError, Global};
 use std::convert::AsStr;
 

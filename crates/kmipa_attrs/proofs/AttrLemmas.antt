@@ -1,6 +1,7 @@
 -- What is read of the children of an Attributes structure is what they say, or their lowest fault.
 use Rattle.std.proofs.Common.{◌≡◌, ◌<◌, ℕ, List, [], ◌∷◌, map, Some, None, Option, Result, Ok, Err, refl, sym, ap, ◌∙◌, subst, arith, inl, inr, ◌⊎◌}
 use Rattle.kmipa_ttlv.specs.Tree.{Tree, Trees, structure, scalar}
+use Rattle.kmipa_attrs.specs.Tags.{activation_date, compromise_date, cryptographic_algorithm, cryptographic_length, cryptographic_usage_mask, deactivation_date, destroy_date, initial_date, name_tag, object_type_tag, state_tag, unique_identifier}
 use Rattle.kmipa_attrs.specs.Sets.{NameOf, Attributes, attributes_of}
 use Rattle.kmipa_attrs.specs.Names.{as_name, distinct}
 use Rattle.kmipa_attrs.specs.Fields.{first, as_structure, as_integer, as_enumeration, as_date}
@@ -26,7 +27,7 @@ after_repeat (None ∷ held) = inl (tt, after_wrong held)
 after_repeat (Some x ∷ held) = after_repeat held
 
 -- nothing has a number below 1
-below_wrong : (j : AttrFault) → attr_number j < 1 → ⊥
+pub below_wrong : (j : AttrFault) → attr_number j < 1 → ⊥
 below_wrong WrongType lt = omega arith
 below_wrong Repeated lt = omega arith
 below_wrong NotForClients lt = omega arith
@@ -130,10 +131,10 @@ reads_all (Some n ∷ held) =
     back NotForClients h = h
     back Memory h = h
 
-pub reads_names : (ts : Trees) → Reads attr_number (SaysNames (each as_name 0x42_0053 ts)) (NamesFault (each as_name 0x42_0053 ts)) (names_in ts)
+pub reads_names : (ts : Trees) → Reads attr_number (SaysNames (each as_name name_tag ts)) (NamesFault (each as_name name_tag ts)) (names_in ts)
 reads_names ts =
-    reads_as attr_number _ _ (SaysNames (each as_name 0x42_0053 ts)) (NamesFault (each as_name 0x42_0053 ts)) distinct (all_named (each as_name 0x42_0053 ts))
-    (λ x s. (x, (s, refl))) (λ y t. (t.0, t.1.0, t.1.1)) (λ k f. f) (λ k f. f) (reads_all (each as_name 0x42_0053 ts))
+    reads_as attr_number _ _ (SaysNames (each as_name name_tag ts)) (NamesFault (each as_name name_tag ts)) distinct (all_named (each as_name name_tag ts))
+    (λ x s. (x, (s, refl))) (λ y t. (t.0, t.1.0, t.1.1)) (λ k f. f) (λ k f. f) (reads_all (each as_name name_tag ts))
 
 -- the set is read
 pub reads_attributes : (side : Side) (ts : Trees) → Reads attr_number (SaysAttributes ts) (AttributesFault side ts) (attributes_in side ts)
@@ -143,15 +144,15 @@ reads_attributes side ts =
     reads_both attr_number _ _ _ _ _ _ (reads_names ts)
     (reads_both attr_number _ _ _ _ _ _
     (reads_both attr_number _ _ _ _ _ _
-    (reads_both attr_number _ _ _ _ _ _ (reads_single (each as_enumeration 0x42_0057 ts)) (reads_single (each as_enumeration 0x42_0028 ts)))
-    (reads_both attr_number _ _ _ _ _ _ (reads_single (each as_integer 0x42_002A ts)) (reads_single (each as_integer 0x42_002C ts))))
+    (reads_both attr_number _ _ _ _ _ _ (reads_single (each as_enumeration object_type_tag ts)) (reads_single (each as_enumeration cryptographic_algorithm ts)))
+    (reads_both attr_number _ _ _ _ _ _ (reads_single (each as_integer cryptographic_length ts)) (reads_single (each as_integer cryptographic_usage_mask ts))))
     (reads_both attr_number _ _ _ _ _ _
     (reads_both attr_number _ _ _ _ _ _
-    (reads_both attr_number _ _ _ _ _ _ (reads_server as_enumeration 0x42_008D side ts) (reads_server as_date 0x42_0039 side ts))
-    (reads_both attr_number _ _ _ _ _ _ (reads_single (each as_date 0x42_0001 ts)) (reads_single (each as_date 0x42_002F ts))))
+    (reads_both attr_number _ _ _ _ _ _ (reads_server as_enumeration state_tag side ts) (reads_server as_date initial_date side ts))
+    (reads_both attr_number _ _ _ _ _ _ (reads_single (each as_date activation_date ts)) (reads_single (each as_date deactivation_date ts))))
     (reads_both attr_number _ _ _ _ _ _
-    (reads_both attr_number _ _ _ _ _ _ (reads_server as_date 0x42_0033 side ts) (reads_server as_date 0x42_0020 side ts))
-    (reads_client side (first 0x42_0094 ts))))) in
+    (reads_both attr_number _ _ _ _ _ _ (reads_server as_date destroy_date side ts) (reads_server as_date compromise_date side ts))
+    (reads_client side (first unique_identifier ts))))) in
     reads_as attr_number _ _ (SaysAttributes ts) (AttributesFault side ts) set_at (rows_in side ts)
     (λ p s. record {
       names = s.0;
@@ -227,17 +228,16 @@ least_wrong (Err Repeated) = refl
 least_wrong (Err NotForClients) = refl
 least_wrong (Err Memory) = refl
 
-wrong_name : (side : Side) (ts : Trees) → names_in ts ≡ Err WrongType → attributes_in side ts ≡ Err WrongType
-unfolding attributes_in
-wrong_name side ts e =
-    let rest = both attr_number (description_in ts) (both attr_number (stages_in side ts) (ends_in side ts)) in
-    ap (λ r. map_ok set_at (both attr_number r rest)) e ∙ ap Err (least_wrong rest)
+pub wrong_first : {A B C D : Type 0} (ts : Trees) (rest : Result B AttrFault) (f : List NameOf × B → C) (view : A → List NameOf) (seen : D → C) (k : AttrFault)
+    → Gives view (Err k) (names_in ts) → Gives seen (Err k) (map_ok f (both attr_number (names_in ts) rest))
+wrong_first ts rest f view seen WrongType h = ap (λ r. map_ok f (both attr_number r rest)) h ∙ ap Err (least_wrong rest)
+wrong_first ts rest f view seen Repeated h = let e : Repeated ≡ WrongType = only_wrong (each as_name name_tag ts) _ h in cc
+wrong_first ts rest f view seen NotForClients h = let e : NotForClients ≡ WrongType = only_wrong (each as_name name_tag ts) _ h in cc
+wrong_first ts rest f view seen Memory h = tt
 
-pub wrong_names : (side : Side) (ts : Trees) {A : Type 0} (view : A → List NameOf) (f : AttrFault) → Gives view (Err f) (names_in ts) → GivesAttributes (Err f) (attributes_in side ts)
-wrong_names side ts view WrongType h = wrong_name side ts h
-wrong_names side ts view Repeated h = let e : Repeated ≡ WrongType = only_wrong (each as_name 0x42_0053 ts) _ h in cc
-wrong_names side ts view NotForClients h = let e : NotForClients ≡ WrongType = only_wrong (each as_name 0x42_0053 ts) _ h in cc
-wrong_names side ts view Memory h = tt
+pub wrong_names : (side : Side) (ts : Trees) {A : Type 0} (view : A → List NameOf) (k : AttrFault) → Gives view (Err k) (names_in ts) → GivesAttributes (Err k) (attributes_in side ts)
+unfolding attributes_in
+wrong_names side ts view k h = wrong_first ts (both attr_number (description_in ts) (both attr_number (stages_in side ts) (ends_in side ts))) set_at view attributes_of k h
 
 pub gives_fault : {A B : Type 0} (view : A → B) (f : AttrFault) (read : Result B AttrFault) → read ≡ Err f → Gives view (Err f) read
 gives_fault view WrongType read e = e
@@ -246,17 +246,20 @@ gives_fault view NotForClients read e = e
 gives_fault view Memory read e = tt
 
 -- what is read of the whole, by what is read of the names and of the rest
+pub with_first : {B C : Type 0} (ts : Trees) (names : List NameOf) (rest : Result B AttrFault) (f : List NameOf × B → C) → names_in ts ≡ Ok names
+    → map_ok f (both attr_number (names_in ts) rest) ≡ map_ok (λ r. f (names, r)) rest
+with_first {B} {C} ts names rest f e = ap (λ r. map_ok f (both attr_number r rest)) e ∙ by rest
+  where
+    by : (r : Result B AttrFault) → map_ok f (map_ok (λ y. (names, y)) r) ≡ map_ok (λ r. f (names, r)) r
+    by (Ok x) = refl
+    by (Err k) = refl
+
 pub with_rest : (side : Side) (ts : Trees) (names : List NameOf) (rest : Result (Description × (Stages × Ends)) AttrFault) → names_in ts ≡ Ok names
     → rest ≡ both attr_number (description_in ts) (both attr_number (stages_in side ts) (ends_in side ts))
     → attributes_in side ts ≡ map_ok (λ r. set_at (names, r)) rest
 unfolding attributes_in
 with_rest side ts names rest e is =
-    let whole = both attr_number (description_in ts) (both attr_number (stages_in side ts) (ends_in side ts)) in
-    ap (λ r. map_ok set_at (both attr_number r whole)) e ∙ by whole ∙ ap (map_ok (λ r. set_at (names, r))) (sym is)
-  where
-    by : (r : Result (Description × (Stages × Ends)) AttrFault) → map_ok set_at (map_ok (λ y. (names, y)) r) ≡ map_ok (λ r. set_at (names, r)) r
-    by (Ok x) = refl
-    by (Err k) = refl
+    with_first ts names (both attr_number (description_in ts) (both attr_number (stages_in side ts) (ends_in side ts))) set_at e ∙ ap (map_ok (λ r. set_at (names, r))) (sym is)
 
 -- the reading of an item, by that of its children
 pub reads_item : (side : Side) (t : Tree) (ts : Trees) (result : Result AttrSet AttrFault) → Some ts ≡ as_structure t → GivesAttributes result (attributes_in side ts) → ReadsSet side t result

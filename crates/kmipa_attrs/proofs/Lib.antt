@@ -4,4 +4,5 @@ pub mod ViewLemmas
 pub mod NameLemmas
 pub mod DistinctLemmas
 pub mod AttrLemmas
+pub mod FilterLemmas
 pub mod WriteLemmas

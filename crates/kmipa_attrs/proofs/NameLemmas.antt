@@ -7,6 +7,7 @@ use Rattle.std.proofs.lemmas.Slice.Eq.{bytes_eq-Decides}
 use Rattle.std.specs.List.{filter, list_any}
 use Rattle.std.specs.Str.{bytes_eq}
 use Rattle.kmipa_ttlv.specs.Tree.{Tree, Trees}
+use Rattle.kmipa_attrs.specs.Tags.{name_type, name_value}
 use Rattle.kmipa_attrs.specs.Sets.{NameOf, name_of, names_of}
 use Rattle.kmipa_attrs.specs.Fields.{as_structure, as_text, as_enumeration, at, map_field}
 use Rattle.kmipa_attrs.specs.Readings.{map_ok}
@@ -106,7 +107,7 @@ pub as_name-none : (t : Tree) → None ≡ as_structure t → as_name t ≡ None
 unfolding as_name
 as_name-none t e = ap name_inside (sym e)
 
-pub as_name-some : (t : Tree) (ts : Trees) → Some ts ≡ as_structure t → as_name t ≡ name_from (at as_text 0x42_0055 ts) (at as_enumeration 0x42_0054 ts)
+pub as_name-some : (t : Tree) (ts : Trees) → Some ts ≡ as_structure t → as_name t ≡ name_from (at as_text name_value ts) (at as_enumeration name_type ts)
 unfolding as_name
 as_name-some t ts e = ap name_inside (sym e)
 

@@ -7,6 +7,7 @@ use Rattle.kmipa_ttlv.specs.Tree
 use Rattle.kmipa_ttlv.specs.ItemTree.{tree, trees}
 use Rattle.kmipa_ttlv.proofs.StandsLemmas.{forest-push}
 use Rattle.kmipa_ttlv.specs.declared.item.Item.{Item}
+use Rattle.kmipa_attrs.specs.Tags.{activation_date, compromise_date, cryptographic_algorithm, cryptographic_length, cryptographic_usage_mask, deactivation_date, destroy_date, initial_date, name_tag, object_type_tag, state_tag, attributes_tag}
 use Rattle.kmipa_attrs.specs.Sets.{NameOf, Attributes, name_of}
 use Rattle.kmipa_attrs.specs.declared.name.Name.{Name}
 use Rattle.kmipa_attrs.specs.Names.{as_name, HasNoRepeats}
@@ -59,17 +60,17 @@ as_name-tree : (n : NameOf) → as_name (name_tree n) ≡ Some n
 unfolding as_name as_structure first as_text as_enumeration
 as_name-tree n = refl
 
-each_name : (names : List NameOf) → each as_name 0x42_0053 (forest name_tree names) ≡ map Some names
+each_name : (names : List NameOf) → each as_name name_tag (forest name_tree names) ≡ map Some names
 unfolding each every
 each_name [] = refl
 each_name (n ∷ names) = λ i. as_name-tree n i ∷ each_name names i
 
-each_of_names : {A : Type 0} (how : Tree → Option A) (n : ℕ) (names : List NameOf) → (0x42_0053 == n) ≡ false → each how n (forest name_tree names) ≡ []
+each_of_names : {A : Type 0} (how : Tree → Option A) (n : ℕ) (names : List NameOf) → (name_tag == n) ≡ false → each how n (forest name_tree names) ≡ []
 unfolding each every
 each_of_names how n [] e = refl
 each_of_names how n (m ∷ names) e = ap (λ (b : Bool). map how (cond b (name_tree m ∷ every n (forest name_tree names)) (every n (forest name_tree names)))) e ∙ each_of_names how n names e
 
-each_written : {A : Type 0} (how : Tree → Option A) (n : ℕ) (a : Attributes) → (0x42_0053 == n) ≡ false → each how n (written_children a) ≡ in_rows how n (single_rows a)
+each_written : {A : Type 0} (how : Tree → Option A) (n : ℕ) (a : Attributes) → (name_tag == n) ≡ false → each how n (written_children a) ≡ in_rows how n (single_rows a)
 each_written how n a e = each_scalars how n (forest name_tree a.names) (single_rows a) ∙ ap (λ us. us ++ in_rows how n (single_rows a)) (each_of_names how n a.names e)
 
 enumerated_said : (n : ℕ) (v : Option ℕ) (held : List (Option ℕ)) → held ≡ held_by as_enumeration n (elim v [ None ↦ None | Some x ↦ Some (Tree.enumeration x) ]) → Single held v
@@ -89,17 +90,17 @@ dated_said n (Some x) held e = e
 
 pub written_said : (a : Attributes) → SaysAttributes (written_children a) (each_once a)
 written_said a = record {
-  names = (a.names, (each_scalars as_name 0x42_0053 (forest name_tree a.names) (single_rows a) ∙ append-nil _ ∙ each_name a.names, refl));
-  object_type = enumerated_said 0x42_0057 a.object_type _ (each_written as_enumeration 0x42_0057 a refl ∙ append-nil _);
-  algorithm = enumerated_said 0x42_0028 a.algorithm _ (each_written as_enumeration 0x42_0028 a refl ∙ append-nil _);
-  length = counted_said 0x42_002A a.length _ (each_written as_integer 0x42_002A a refl ∙ append-nil _);
-  mask = counted_said 0x42_002C a.mask _ (each_written as_integer 0x42_002C a refl ∙ append-nil _);
-  state = enumerated_said 0x42_008D a.state _ (each_written as_enumeration 0x42_008D a refl ∙ append-nil _);
-  initial = dated_said 0x42_0039 a.initial _ (each_written as_date 0x42_0039 a refl ∙ append-nil _);
-  activation = dated_said 0x42_0001 a.activation _ (each_written as_date 0x42_0001 a refl ∙ append-nil _);
-  deactivation = dated_said 0x42_002F a.deactivation _ (each_written as_date 0x42_002F a refl ∙ append-nil _);
-  destroy = dated_said 0x42_0033 a.destroy _ (each_written as_date 0x42_0033 a refl ∙ append-nil _);
-  compromise = dated_said 0x42_0020 a.compromise _ (each_written as_date 0x42_0020 a refl ∙ append-nil _);
+  names = (a.names, (each_scalars as_name name_tag (forest name_tree a.names) (single_rows a) ∙ append-nil _ ∙ each_name a.names, refl));
+  object_type = enumerated_said object_type_tag a.object_type _ (each_written as_enumeration object_type_tag a refl ∙ append-nil _);
+  algorithm = enumerated_said cryptographic_algorithm a.algorithm _ (each_written as_enumeration cryptographic_algorithm a refl ∙ append-nil _);
+  length = counted_said cryptographic_length a.length _ (each_written as_integer cryptographic_length a refl ∙ append-nil _);
+  mask = counted_said cryptographic_usage_mask a.mask _ (each_written as_integer cryptographic_usage_mask a refl ∙ append-nil _);
+  state = enumerated_said state_tag a.state _ (each_written as_enumeration state_tag a refl ∙ append-nil _);
+  initial = dated_said initial_date a.initial _ (each_written as_date initial_date a refl ∙ append-nil _);
+  activation = dated_said activation_date a.activation _ (each_written as_date activation_date a refl ∙ append-nil _);
+  deactivation = dated_said deactivation_date a.deactivation _ (each_written as_date deactivation_date a refl ∙ append-nil _);
+  destroy = dated_said destroy_date a.destroy _ (each_written as_date destroy_date a refl ∙ append-nil _);
+  compromise = dated_said compromise_date a.compromise _ (each_written as_date compromise_date a refl ∙ append-nil _);
 }
 
 -- a set that children say has no repeats
@@ -110,10 +111,10 @@ said-HasNoRepeats ts a h = let P : List NameOf → Type 0 = HasNoRepeats in subs
 pub once-same : (a : Attributes) → HasNoRepeats a.names → each_once a ≡ a
 once-same a h = λ i. record a { names = distinct-same a.names h i }
 
-pub says_once : (t : Tree) (a : Attributes) → t ≡ structure 0x42_0125 (written_children a) → SaysWhole t (each_once a)
+pub says_once : (t : Tree) (a : Attributes) → t ≡ structure attributes_tag (written_children a) → SaysWhole t (each_once a)
 says_once t a e = (written_children a, (e, written_said a))
 
-pub says_exact : (t : Tree) (a : Attributes) → t ≡ structure 0x42_0125 (written_children a) → HasNoRepeats a.names → SaysWhole t a
+pub says_exact : (t : Tree) (a : Attributes) → t ≡ structure attributes_tag (written_children a) → HasNoRepeats a.names → SaysWhole t a
 says_exact t a e h = let P : Attributes → Type 0 = SaysWhole t in subst P (once-same a h) (says_once t a e)
 
 -- one more name is written

@@ -1,6 +1,7 @@
 -- What the children of an Attributes structure say, and what is wrong with them.
 use Rattle.std.specs.Prelude.{◌≡◌, ◌≤◌, ℕ, ℤ, List, [], ◌∷◌, map, length, Option, Some, None, Result, Ok, Err, codes}
 use Rattle.kmipa_ttlv.specs.Tree.{Tree, Trees, structure, scalar}
+use Rattle.kmipa_attrs.specs.Tags.{activation_date, compromise_date, cryptographic_algorithm, cryptographic_length, cryptographic_usage_mask, deactivation_date, destroy_date, initial_date, name_tag, object_type_tag, state_tag, unique_identifier}
 use Rattle.kmipa_attrs.specs.Sets.{NameOf, Attributes, attributes_of}
 use Rattle.kmipa_attrs.specs.Names.{as_name, distinct}
 use Rattle.kmipa_attrs.specs.Fields.{first, every, as_integer, as_enumeration, as_date}
@@ -49,11 +50,15 @@ SingleFault held Repeated = 2 ≤ length held
 SingleFault held NotForClients = ⊥
 SingleFault held Memory = ⊥
 
+-- what may be there any number of times is wrong by its type alone
+abbrev pub TypeFault : {A : Type 0} → List (Option A) → AttrFault → Type 0
+TypeFault held WrongType = SomeWrong held
+TypeFault held Repeated = ⊥
+TypeFault held NotForClients = ⊥
+TypeFault held Memory = ⊥
+
 abbrev pub NamesFault : List (Option NameOf) → AttrFault → Type 0
-NamesFault held WrongType = SomeWrong held
-NamesFault held Repeated = ⊥
-NamesFault held NotForClients = ⊥
-NamesFault held Memory = ⊥
+NamesFault held told = TypeFault held told
 
 -- a child that no client may give, of whatever type
 abbrev pub ClientFault : Side → Option Tree → AttrFault → Type 0
@@ -62,35 +67,35 @@ ClientFault side there told = ⊥
 
 -- THE DEFINITIONS: a row for each attribute
 pub record SaysAttributes (ts : Trees) (a : Attributes) : Type 0 where
-  pub names : SaysNames (each as_name 0x42_0053 ts) a.names
-  pub object_type : Single (each as_enumeration 0x42_0057 ts) a.object_type
-  pub algorithm : Single (each as_enumeration 0x42_0028 ts) a.algorithm
-  pub length : Single (each as_integer 0x42_002A ts) a.length
-  pub mask : Single (each as_integer 0x42_002C ts) a.mask
-  pub state : Single (each as_enumeration 0x42_008D ts) a.state
-  pub initial : Single (each as_date 0x42_0039 ts) a.initial
-  pub activation : Single (each as_date 0x42_0001 ts) a.activation
-  pub deactivation : Single (each as_date 0x42_002F ts) a.deactivation
-  pub destroy : Single (each as_date 0x42_0033 ts) a.destroy
-  pub compromise : Single (each as_date 0x42_0020 ts) a.compromise
+  pub names : SaysNames (each as_name name_tag ts) a.names
+  pub object_type : Single (each as_enumeration object_type_tag ts) a.object_type
+  pub algorithm : Single (each as_enumeration cryptographic_algorithm ts) a.algorithm
+  pub length : Single (each as_integer cryptographic_length ts) a.length
+  pub mask : Single (each as_integer cryptographic_usage_mask ts) a.mask
+  pub state : Single (each as_enumeration state_tag ts) a.state
+  pub initial : Single (each as_date initial_date ts) a.initial
+  pub activation : Single (each as_date activation_date ts) a.activation
+  pub deactivation : Single (each as_date deactivation_date ts) a.deactivation
+  pub destroy : Single (each as_date destroy_date ts) a.destroy
+  pub compromise : Single (each as_date compromise_date ts) a.compromise
 
 pub data AttributesFault (side : Side) (ts : Trees) (told : AttrFault) : Type 0 where
-  in_names : NamesFault (each as_name 0x42_0053 ts) told → AttributesFault side ts told
-  in_object_type : SingleFault (each as_enumeration 0x42_0057 ts) told → AttributesFault side ts told
-  in_algorithm : SingleFault (each as_enumeration 0x42_0028 ts) told → AttributesFault side ts told
-  in_length : SingleFault (each as_integer 0x42_002A ts) told → AttributesFault side ts told
-  in_mask : SingleFault (each as_integer 0x42_002C ts) told → AttributesFault side ts told
-  in_state : SingleFault (each as_enumeration 0x42_008D ts) told → AttributesFault side ts told
-  in_initial : SingleFault (each as_date 0x42_0039 ts) told → AttributesFault side ts told
-  in_activation : SingleFault (each as_date 0x42_0001 ts) told → AttributesFault side ts told
-  in_deactivation : SingleFault (each as_date 0x42_002F ts) told → AttributesFault side ts told
-  in_destroy : SingleFault (each as_date 0x42_0033 ts) told → AttributesFault side ts told
-  in_compromise : SingleFault (each as_date 0x42_0020 ts) told → AttributesFault side ts told
-  of_client_state : ClientFault side (first 0x42_008D ts) told → AttributesFault side ts told
-  of_client_initial : ClientFault side (first 0x42_0039 ts) told → AttributesFault side ts told
-  of_client_destroy : ClientFault side (first 0x42_0033 ts) told → AttributesFault side ts told
-  of_client_compromise : ClientFault side (first 0x42_0020 ts) told → AttributesFault side ts told
-  of_client_identifier : ClientFault side (first 0x42_0094 ts) told → AttributesFault side ts told
+  in_names : NamesFault (each as_name name_tag ts) told → AttributesFault side ts told
+  in_object_type : SingleFault (each as_enumeration object_type_tag ts) told → AttributesFault side ts told
+  in_algorithm : SingleFault (each as_enumeration cryptographic_algorithm ts) told → AttributesFault side ts told
+  in_length : SingleFault (each as_integer cryptographic_length ts) told → AttributesFault side ts told
+  in_mask : SingleFault (each as_integer cryptographic_usage_mask ts) told → AttributesFault side ts told
+  in_state : SingleFault (each as_enumeration state_tag ts) told → AttributesFault side ts told
+  in_initial : SingleFault (each as_date initial_date ts) told → AttributesFault side ts told
+  in_activation : SingleFault (each as_date activation_date ts) told → AttributesFault side ts told
+  in_deactivation : SingleFault (each as_date deactivation_date ts) told → AttributesFault side ts told
+  in_destroy : SingleFault (each as_date destroy_date ts) told → AttributesFault side ts told
+  in_compromise : SingleFault (each as_date compromise_date ts) told → AttributesFault side ts told
+  of_client_state : ClientFault side (first state_tag ts) told → AttributesFault side ts told
+  of_client_initial : ClientFault side (first initial_date ts) told → AttributesFault side ts told
+  of_client_destroy : ClientFault side (first destroy_date ts) told → AttributesFault side ts told
+  of_client_compromise : ClientFault side (first compromise_date ts) told → AttributesFault side ts told
+  of_client_identifier : ClientFault side (first unique_identifier ts) told → AttributesFault side ts told
 
 -- an item says what its children do, whatever its tag; one that is no structure says nothing
 abbrev pub SaysSet : Tree → Attributes → Type 0
@@ -154,7 +159,7 @@ all_named (None ∷ held) = Err WrongType
 all_named (Some n ∷ held) = map_ok (λ names. n ∷ names) (all_named held)
 
 abbrev pub names_in : Trees → Result (List NameOf) AttrFault
-names_in ts = map_ok distinct (all_named (each as_name 0x42_0053 ts))
+names_in ts = map_ok distinct (all_named (each as_name name_tag ts))
 
 -- what describes a key: type, algorithm, length, mask
 abbrev pub Description : Type 0
@@ -163,8 +168,8 @@ Description = (Option ℕ × Option ℕ) × (Option ℤ × Option ℤ)
 abbrev pub description_in : Trees → Result Description AttrFault
 description_in ts =
     both attr_number
-    (both attr_number (single as_enumeration 0x42_0057 ts) (single as_enumeration 0x42_0028 ts))
-    (both attr_number (single as_integer 0x42_002A ts) (single as_integer 0x42_002C ts))
+    (both attr_number (single as_enumeration object_type_tag ts) (single as_enumeration cryptographic_algorithm ts))
+    (both attr_number (single as_integer cryptographic_length ts) (single as_integer cryptographic_usage_mask ts))
 
 -- what tells the state: State, and Initial, Activation and Deactivation Date
 abbrev pub Stages : Type 0
@@ -173,8 +178,8 @@ Stages = (Option ℕ × Option ℤ) × (Option ℤ × Option ℤ)
 abbrev pub stages_in : Side → Trees → Result Stages AttrFault
 stages_in side ts =
     both attr_number
-    (both attr_number (server_single as_enumeration 0x42_008D side ts) (server_single as_date 0x42_0039 side ts))
-    (both attr_number (single as_date 0x42_0001 ts) (single as_date 0x42_002F ts))
+    (both attr_number (server_single as_enumeration state_tag side ts) (server_single as_date initial_date side ts))
+    (both attr_number (single as_date activation_date ts) (single as_date deactivation_date ts))
 
 -- how it ended: Destroy and Compromise Date; and no client names the object in its attributes
 abbrev pub Ends : Type 0
@@ -183,8 +188,8 @@ Ends = (Option ℤ × Option ℤ) × Unit {0}
 abbrev pub ends_in : Side → Trees → Result Ends AttrFault
 ends_in side ts =
     both attr_number
-    (both attr_number (server_single as_date 0x42_0033 side ts) (server_single as_date 0x42_0020 side ts))
-    (server_only side (first 0x42_0094 ts))
+    (both attr_number (server_single as_date destroy_date side ts) (server_single as_date compromise_date side ts))
+    (server_only side (first unique_identifier ts))
 
 abbrev pub Rows : Type 0
 Rows = List NameOf × (Description × (Stages × Ends))

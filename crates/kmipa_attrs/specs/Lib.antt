@@ -6,3 +6,4 @@ pub mod Names
 pub mod Attributes
 pub mod Tags
 pub mod Writing
+pub mod Filters

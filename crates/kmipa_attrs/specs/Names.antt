@@ -3,6 +3,7 @@ use Rattle.std.specs.Prelude.{ℕ, Bool, ◌&&◌, ◌==◌, not, cond, List, []
 use Rattle.std.specs.List.{Contains, filter, list_any}
 use Rattle.std.specs.Str.{bytes_eq}
 use Rattle.kmipa_ttlv.specs.Tree.{Tree, Trees}
+use Rattle.kmipa_attrs.specs.Tags.{name_type, name_value}
 use Rattle.kmipa_attrs.specs.Sets.{NameOf}
 use Rattle.kmipa_attrs.specs.Fields.{as_structure, as_text, as_enumeration, at}
 use Rattle.kmipa_attrs.specs.declared.fields.Field.{Field}
@@ -18,7 +19,7 @@ name_from Wrong kind = None
 
 abbrev pub name_inside : Option Trees → Option NameOf
 name_inside None = None
-name_inside (Some ts) = name_from (at as_text 0x42_0055 ts) (at as_enumeration 0x42_0054 ts)
+name_inside (Some ts) = name_from (at as_text name_value ts) (at as_enumeration name_type ts)
 
 -- the name that a tree says (KMIP 2.1, the attribute Name): a structure of Name Value and Name Type, where other children are read over
 unfoldable pub as_name : Tree → Option NameOf

@@ -1,55 +1,197 @@
--- The names of tags, as the standard writes them (KMIP 2.1, the Tag enumeration), those that the profile speaks of.
+-- Tags: a name for each that the profile speaks of, and how the standard writes it (KMIP 2.1, the Tag enumeration).
+-- A tag whose words name elsewhere what it holds ends in `_tag`; the others are the standard's words.
 use Rattle.std.specs.Prelude.{ℕ, ◌==◌, cond, List, [], ◌∷◌, codes}
+
+abbrev pub activation_date : ℕ
+activation_date = 0x42_0001
+
+abbrev pub batch_count : ℕ
+batch_count = 0x42_000D
+
+abbrev pub batch_error_continuation_option : ℕ
+batch_error_continuation_option = 0x42_000E
+
+abbrev pub batch_item : ℕ
+batch_item = 0x42_000F
+
+abbrev pub batch_order_option : ℕ
+batch_order_option = 0x42_0010
+
+abbrev pub compromise_date : ℕ
+compromise_date = 0x42_0020
+
+abbrev pub cryptographic_algorithm : ℕ
+cryptographic_algorithm = 0x42_0028
+
+abbrev pub cryptographic_length : ℕ
+cryptographic_length = 0x42_002A
+
+abbrev pub cryptographic_usage_mask : ℕ
+cryptographic_usage_mask = 0x42_002C
+
+abbrev pub deactivation_date : ℕ
+deactivation_date = 0x42_002F
+
+abbrev pub destroy_date : ℕ
+destroy_date = 0x42_0033
+
+abbrev pub initial_date : ℕ
+initial_date = 0x42_0039
+
+abbrev pub key_block : ℕ
+key_block = 0x42_0040
+
+abbrev pub key_format_type : ℕ
+key_format_type = 0x42_0042
+
+abbrev pub key_material : ℕ
+key_material = 0x42_0043
+
+abbrev pub key_value : ℕ
+key_value = 0x42_0045
+
+abbrev pub key_wrapping_data : ℕ
+key_wrapping_data = 0x42_0046
+
+abbrev pub key_wrapping_specification : ℕ
+key_wrapping_specification = 0x42_0047
+
+abbrev pub maximum_items : ℕ
+maximum_items = 0x42_004F
+
+abbrev pub name_tag : ℕ
+name_tag = 0x42_0053
+
+abbrev pub name_type : ℕ
+name_type = 0x42_0054
+
+abbrev pub name_value : ℕ
+name_value = 0x42_0055
+
+abbrev pub object_type_tag : ℕ
+object_type_tag = 0x42_0057
+
+abbrev pub operation_tag : ℕ
+operation_tag = 0x42_005C
+
+abbrev pub protocol_version : ℕ
+protocol_version = 0x42_0069
+
+abbrev pub protocol_version_major : ℕ
+protocol_version_major = 0x42_006A
+
+abbrev pub protocol_version_minor : ℕ
+protocol_version_minor = 0x42_006B
+
+abbrev pub request_header_tag : ℕ
+request_header_tag = 0x42_0077
+
+abbrev pub request_message : ℕ
+request_message = 0x42_0078
+
+abbrev pub request_payload : ℕ
+request_payload = 0x42_0079
+
+abbrev pub response_header_tag : ℕ
+response_header_tag = 0x42_007A
+
+abbrev pub response_message : ℕ
+response_message = 0x42_007B
+
+abbrev pub response_payload : ℕ
+response_payload = 0x42_007C
+
+abbrev pub result_message : ℕ
+result_message = 0x42_007D
+
+abbrev pub result_reason : ℕ
+result_reason = 0x42_007E
+
+abbrev pub result_status : ℕ
+result_status = 0x42_007F
+
+abbrev pub revocation_reason : ℕ
+revocation_reason = 0x42_0081
+
+abbrev pub revocation_reason_code : ℕ
+revocation_reason_code = 0x42_0082
+
+abbrev pub secret_data : ℕ
+secret_data = 0x42_0085
+
+abbrev pub secret_data_type : ℕ
+secret_data_type = 0x42_0086
+
+abbrev pub state_tag : ℕ
+state_tag = 0x42_008D
+
+abbrev pub symmetric_key : ℕ
+symmetric_key = 0x42_008F
+
+abbrev pub time_stamp : ℕ
+time_stamp = 0x42_0092
+
+abbrev pub unique_batch_item_id : ℕ
+unique_batch_item_id = 0x42_0093
+
+abbrev pub unique_identifier : ℕ
+unique_identifier = 0x42_0094
+
+abbrev pub attributes_tag : ℕ
+attributes_tag = 0x42_0125
+
+abbrev pub attribute_reference : ℕ
+attribute_reference = 0x42_013B
 
 abbrev pub tag_names : List (ℕ × List ℕ)
 tag_names =
-    (0x42_0001, codes "Activation Date") ∷
-    (0x42_000D, codes "Batch Count") ∷
-    (0x42_000E, codes "Batch Error Continuation Option") ∷
-    (0x42_000F, codes "Batch Item") ∷
-    (0x42_0010, codes "Batch Order Option") ∷
-    (0x42_0020, codes "Compromise Date") ∷
-    (0x42_0028, codes "Cryptographic Algorithm") ∷
-    (0x42_002A, codes "Cryptographic Length") ∷
-    (0x42_002C, codes "Cryptographic Usage Mask") ∷
-    (0x42_002F, codes "Deactivation Date") ∷
-    (0x42_0033, codes "Destroy Date") ∷
-    (0x42_0039, codes "Initial Date") ∷
-    (0x42_0040, codes "Key Block") ∷
-    (0x42_0042, codes "Key Format Type") ∷
-    (0x42_0043, codes "Key Material") ∷
-    (0x42_0045, codes "Key Value") ∷
-    (0x42_0046, codes "Key Wrapping Data") ∷
-    (0x42_0047, codes "Key Wrapping Specification") ∷
-    (0x42_004F, codes "Maximum Items") ∷
-    (0x42_0053, codes "Name") ∷
-    (0x42_0054, codes "Name Type") ∷
-    (0x42_0055, codes "Name Value") ∷
-    (0x42_0057, codes "Object Type") ∷
-    (0x42_005C, codes "Operation") ∷
-    (0x42_0069, codes "Protocol Version") ∷
-    (0x42_006A, codes "Protocol Version Major") ∷
-    (0x42_006B, codes "Protocol Version Minor") ∷
-    (0x42_0077, codes "Request Header") ∷
-    (0x42_0078, codes "Request Message") ∷
-    (0x42_0079, codes "Request Payload") ∷
-    (0x42_007A, codes "Response Header") ∷
-    (0x42_007B, codes "Response Message") ∷
-    (0x42_007C, codes "Response Payload") ∷
-    (0x42_007D, codes "Result Message") ∷
-    (0x42_007E, codes "Result Reason") ∷
-    (0x42_007F, codes "Result Status") ∷
-    (0x42_0081, codes "Revocation Reason") ∷
-    (0x42_0082, codes "Revocation Reason Code") ∷
-    (0x42_0085, codes "Secret Data") ∷
-    (0x42_0086, codes "Secret Data Type") ∷
-    (0x42_008D, codes "State") ∷
-    (0x42_008F, codes "Symmetric Key") ∷
-    (0x42_0092, codes "Time Stamp") ∷
-    (0x42_0093, codes "Unique Batch Item ID") ∷
-    (0x42_0094, codes "Unique Identifier") ∷
-    (0x42_0125, codes "Attributes") ∷
-    (0x42_013B, codes "Attribute Reference") ∷
+    (activation_date, codes "Activation Date") ∷
+    (batch_count, codes "Batch Count") ∷
+    (batch_error_continuation_option, codes "Batch Error Continuation Option") ∷
+    (batch_item, codes "Batch Item") ∷
+    (batch_order_option, codes "Batch Order Option") ∷
+    (compromise_date, codes "Compromise Date") ∷
+    (cryptographic_algorithm, codes "Cryptographic Algorithm") ∷
+    (cryptographic_length, codes "Cryptographic Length") ∷
+    (cryptographic_usage_mask, codes "Cryptographic Usage Mask") ∷
+    (deactivation_date, codes "Deactivation Date") ∷
+    (destroy_date, codes "Destroy Date") ∷
+    (initial_date, codes "Initial Date") ∷
+    (key_block, codes "Key Block") ∷
+    (key_format_type, codes "Key Format Type") ∷
+    (key_material, codes "Key Material") ∷
+    (key_value, codes "Key Value") ∷
+    (key_wrapping_data, codes "Key Wrapping Data") ∷
+    (key_wrapping_specification, codes "Key Wrapping Specification") ∷
+    (maximum_items, codes "Maximum Items") ∷
+    (name_tag, codes "Name") ∷
+    (name_type, codes "Name Type") ∷
+    (name_value, codes "Name Value") ∷
+    (object_type_tag, codes "Object Type") ∷
+    (operation_tag, codes "Operation") ∷
+    (protocol_version, codes "Protocol Version") ∷
+    (protocol_version_major, codes "Protocol Version Major") ∷
+    (protocol_version_minor, codes "Protocol Version Minor") ∷
+    (request_header_tag, codes "Request Header") ∷
+    (request_message, codes "Request Message") ∷
+    (request_payload, codes "Request Payload") ∷
+    (response_header_tag, codes "Response Header") ∷
+    (response_message, codes "Response Message") ∷
+    (response_payload, codes "Response Payload") ∷
+    (result_message, codes "Result Message") ∷
+    (result_reason, codes "Result Reason") ∷
+    (result_status, codes "Result Status") ∷
+    (revocation_reason, codes "Revocation Reason") ∷
+    (revocation_reason_code, codes "Revocation Reason Code") ∷
+    (secret_data, codes "Secret Data") ∷
+    (secret_data_type, codes "Secret Data Type") ∷
+    (state_tag, codes "State") ∷
+    (symmetric_key, codes "Symmetric Key") ∷
+    (time_stamp, codes "Time Stamp") ∷
+    (unique_batch_item_id, codes "Unique Batch Item ID") ∷
+    (unique_identifier, codes "Unique Identifier") ∷
+    (attributes_tag, codes "Attributes") ∷
+    (attribute_reference, codes "Attribute Reference") ∷
     []
 
 -- the name in the table, else a dash

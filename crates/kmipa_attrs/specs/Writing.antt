@@ -3,13 +3,14 @@ use Rattle.std.specs.Prelude.{◌≡◌, ℕ, ℤ, List, [], ◌∷◌, Option, 
 use Rattle.std.specs.Option.{option_map}
 use Rattle.kmipa_ttlv.specs.Tree.{Tree, Trees, Scalar, structure, scalar, none, more, push, forest}
 use Rattle.kmipa_ttlv.specs.Tree
+use Rattle.kmipa_attrs.specs.Tags.{activation_date, compromise_date, cryptographic_algorithm, cryptographic_length, cryptographic_usage_mask, deactivation_date, destroy_date, initial_date, name_tag, name_type, name_value, object_type_tag, state_tag, attributes_tag}
 use Rattle.kmipa_attrs.specs.Sets.{NameOf, Attributes}
 use Rattle.kmipa_attrs.specs.Names.{distinct}
 use Rattle.kmipa_attrs.specs.Attributes.{SaysAttributes}
 
 -- a Name: its value and its type, written out
 abbrev pub name_tree : NameOf → Tree
-name_tree n = structure 0x42_0053 (more (scalar 0x42_0055 (Tree.text n.value)) (more (scalar 0x42_0054 (Tree.enumeration n.kind)) none))
+name_tree n = structure name_tag (more (scalar name_value (Tree.text n.value)) (more (scalar name_type (Tree.enumeration n.kind)) none))
 
 -- the children with one more, if it is there
 abbrev pub with_scalar : Trees → ℕ → Option Scalar → Trees
@@ -32,16 +33,16 @@ dated v = option_map Tree.date_time v
 -- the attributes that have one value, each with its tag, in the order in which they are written
 abbrev pub single_rows : Attributes → List (ℕ × Option Scalar)
 single_rows a =
-    (0x42_0057, enumerated a.object_type) ∷
-    (0x42_0028, enumerated a.algorithm) ∷
-    (0x42_002A, counted a.length) ∷
-    (0x42_002C, counted a.mask) ∷
-    (0x42_008D, enumerated a.state) ∷
-    (0x42_0039, dated a.initial) ∷
-    (0x42_0001, dated a.activation) ∷
-    (0x42_002F, dated a.deactivation) ∷
-    (0x42_0033, dated a.destroy) ∷
-    (0x42_0020, dated a.compromise) ∷
+    (object_type_tag, enumerated a.object_type) ∷
+    (cryptographic_algorithm, enumerated a.algorithm) ∷
+    (cryptographic_length, counted a.length) ∷
+    (cryptographic_usage_mask, counted a.mask) ∷
+    (state_tag, enumerated a.state) ∷
+    (initial_date, dated a.initial) ∷
+    (activation_date, dated a.activation) ∷
+    (deactivation_date, dated a.deactivation) ∷
+    (destroy_date, dated a.destroy) ∷
+    (compromise_date, dated a.compromise) ∷
     []
 
 -- names first, then each other attribute that is there
@@ -50,7 +51,7 @@ written_children a = with_scalars (forest name_tree a.names) (single_rows a)
 
 -- the item is Attributes, and its children say the set
 abbrev pub SaysWhole : Tree → Attributes → Type 0
-SaysWhole t a = (ts : Trees) × ((t ≡ structure 0x42_0125 ts) × SaysAttributes ts a)
+SaysWhole t a = (ts : Trees) × ((t ≡ structure attributes_tag ts) × SaysAttributes ts a)
 
 -- the set with each of its names once
 abbrev pub each_once : Attributes → Attributes

@@ -1,11 +1,12 @@
 //! Laws of the definitions.
 
-ghost use Rattle.std.specs.Prelude.{◌↔◌, List};
+ghost use Rattle.std.specs.Prelude.{◌↔◌, ℤ, Bool, List, Option};
 ghost use Rattle.std.specs.List.{Contains};
 ghost use Rattle.kmipa_ttlv.specs.Tree.{Trees};
 ghost use Rattle.kmipa_attrs.specs.Sets.{NameOf, Attributes};
 ghost use Rattle.kmipa_attrs.specs.Names.{distinct, HasNoRepeats};
 ghost use Rattle.kmipa_attrs.specs.Attributes.{attr_number, SaysAttributes, AttributesFault, attributes_in};
+ghost use Rattle.kmipa_attrs.specs.Filters.{SaysFilter, FilterFault, filter_in};
 ghost use Rattle.kmipa_attrs.specs.Readings.{Reads};
 ghost use Rattle.kmipa_attrs.specs.declared.fault.AttrFault.TheVariants.{Memory};
 ghost use Rattle.kmipa_attrs.specs.declared.side.Side.{Side};
@@ -13,6 +14,11 @@ ghost use Rattle.kmipa_attrs.specs.declared.side.Side.{Side};
 /// What is read of attributes is said, nothing else is, and the fault is the lowest that holds.
 pub fn attributes_are_read()
     ensures { (side : Side) (ts : Trees) → Reads attr_number (SaysAttributes ts) (AttributesFault side ts) (attributes_in side ts) }
+{}
+
+/// What is read of a filter is said, nothing else is, and the fault is the lowest that holds.
+pub fn filters_are_read()
+    ensures { (ts : Trees) (maximum : Option ℤ) (is_unknown : Bool) → Reads attr_number (SaysFilter ts maximum is_unknown) (FilterFault ts) (filter_in maximum is_unknown ts) }
 {}
 
 /// Memory is no fault of attributes.

@@ -4,6 +4,8 @@
 mod attr_set;
 mod fault;
 pub mod fields;
+mod filter;
+mod filtering;
 mod held;
 mod laws;
 mod name;
@@ -13,15 +15,17 @@ mod reading;
 pub mod readings;
 mod side;
 mod single;
-mod tags;
+pub mod tags;
 mod writing;
 
 pub use attr_set::{AttrSet, NAMES};
 pub use fault::AttrFault;
 pub use fields::Field;
+pub use filter::Filter;
+pub use filtering::{read_filter, read_filter_children};
 pub use laws::{
     attributes_are_read, distinct_names_are_the_same, distinct_names_do_not_repeat,
-    memory_is_no_fault, said_names_do_not_repeat,
+    filters_are_read, memory_is_no_fault, said_names_do_not_repeat,
 };
 pub use name::Name;
 pub use object_type::ObjectType;

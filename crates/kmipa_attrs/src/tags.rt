@@ -1,92 +1,156 @@
-//! Tags: their names, and those of attributes.
+//! Tags: a constant for each that the profile speaks of, and its name (KMIP 2.1, the Tag enumeration).
 
 ghost use Rattle.std.specs.Prelude.{◌≡◌};
 ghost use Rattle.kmipa_attrs.specs.Tags.{tag_name_of};
 
 use kmipa_ttlv::Tag;
 
-pub(crate) const ACTIVATION_DATE: u32 = 0x42_0001;
+pub const ACTIVATION_DATE: u32 = 0x42_0001;
 
-pub(crate) const COMPROMISE_DATE: u32 = 0x42_0020;
+pub const BATCH_COUNT: u32 = 0x42_000D;
 
-pub(crate) const CRYPTOGRAPHIC_ALGORITHM: u32 = 0x42_0028;
+pub const BATCH_ERROR_CONTINUATION_OPTION: u32 = 0x42_000E;
 
-pub(crate) const CRYPTOGRAPHIC_LENGTH: u32 = 0x42_002A;
+pub const BATCH_ITEM: u32 = 0x42_000F;
 
-pub(crate) const CRYPTOGRAPHIC_USAGE_MASK: u32 = 0x42_002C;
+pub const BATCH_ORDER_OPTION: u32 = 0x42_0010;
 
-pub(crate) const DEACTIVATION_DATE: u32 = 0x42_002F;
+pub const COMPROMISE_DATE: u32 = 0x42_0020;
 
-pub(crate) const DESTROY_DATE: u32 = 0x42_0033;
+pub const CRYPTOGRAPHIC_ALGORITHM: u32 = 0x42_0028;
 
-pub(crate) const INITIAL_DATE: u32 = 0x42_0039;
+pub const CRYPTOGRAPHIC_LENGTH: u32 = 0x42_002A;
 
-pub(crate) const NAME: u32 = 0x42_0053;
+pub const CRYPTOGRAPHIC_USAGE_MASK: u32 = 0x42_002C;
 
-pub(crate) const NAME_TYPE: u32 = 0x42_0054;
+pub const DEACTIVATION_DATE: u32 = 0x42_002F;
 
-pub(crate) const NAME_VALUE: u32 = 0x42_0055;
+pub const DESTROY_DATE: u32 = 0x42_0033;
 
-pub(crate) const OBJECT_TYPE: u32 = 0x42_0057;
+pub const INITIAL_DATE: u32 = 0x42_0039;
 
-pub(crate) const STATE: u32 = 0x42_008D;
+pub const KEY_BLOCK: u32 = 0x42_0040;
 
-pub(crate) const UNIQUE_IDENTIFIER: u32 = 0x42_0094;
+pub const KEY_FORMAT_TYPE: u32 = 0x42_0042;
 
-pub(crate) const ATTRIBUTES: u32 = 0x42_0125;
+pub const KEY_MATERIAL: u32 = 0x42_0043;
 
-/// The name of a tag that the profile speaks of (KMIP 2.1, the Tag enumeration), else `-`.
+pub const KEY_VALUE: u32 = 0x42_0045;
+
+pub const KEY_WRAPPING_DATA: u32 = 0x42_0046;
+
+pub const KEY_WRAPPING_SPECIFICATION: u32 = 0x42_0047;
+
+pub const MAXIMUM_ITEMS: u32 = 0x42_004F;
+
+pub const NAME: u32 = 0x42_0053;
+
+pub const NAME_TYPE: u32 = 0x42_0054;
+
+pub const NAME_VALUE: u32 = 0x42_0055;
+
+pub const OBJECT_TYPE: u32 = 0x42_0057;
+
+pub const OPERATION: u32 = 0x42_005C;
+
+pub const PROTOCOL_VERSION: u32 = 0x42_0069;
+
+pub const PROTOCOL_VERSION_MAJOR: u32 = 0x42_006A;
+
+pub const PROTOCOL_VERSION_MINOR: u32 = 0x42_006B;
+
+pub const REQUEST_HEADER: u32 = 0x42_0077;
+
+pub const REQUEST_MESSAGE: u32 = 0x42_0078;
+
+pub const REQUEST_PAYLOAD: u32 = 0x42_0079;
+
+pub const RESPONSE_HEADER: u32 = 0x42_007A;
+
+pub const RESPONSE_MESSAGE: u32 = 0x42_007B;
+
+pub const RESPONSE_PAYLOAD: u32 = 0x42_007C;
+
+pub const RESULT_MESSAGE: u32 = 0x42_007D;
+
+pub const RESULT_REASON: u32 = 0x42_007E;
+
+pub const RESULT_STATUS: u32 = 0x42_007F;
+
+pub const REVOCATION_REASON: u32 = 0x42_0081;
+
+pub const REVOCATION_REASON_CODE: u32 = 0x42_0082;
+
+pub const SECRET_DATA: u32 = 0x42_0085;
+
+pub const SECRET_DATA_TYPE: u32 = 0x42_0086;
+
+pub const STATE: u32 = 0x42_008D;
+
+pub const SYMMETRIC_KEY: u32 = 0x42_008F;
+
+pub const TIME_STAMP: u32 = 0x42_0092;
+
+pub const UNIQUE_BATCH_ITEM_ID: u32 = 0x42_0093;
+
+pub const UNIQUE_IDENTIFIER: u32 = 0x42_0094;
+
+pub const ATTRIBUTES: u32 = 0x42_0125;
+
+pub const ATTRIBUTE_REFERENCE: u32 = 0x42_013B;
+
+/// The name of a tag that the profile speaks of, as the standard writes it, else `-`.
 pub fn tag_name(tag: Tag) -> &'static str
     ensures { result.now ≡ tag_name_of tag.number }
 {
     match tag.number {
-        0x42_0001 => "Activation Date",
-        0x42_000D => "Batch Count",
-        0x42_000E => "Batch Error Continuation Option",
-        0x42_000F => "Batch Item",
-        0x42_0010 => "Batch Order Option",
-        0x42_0020 => "Compromise Date",
-        0x42_0028 => "Cryptographic Algorithm",
-        0x42_002A => "Cryptographic Length",
-        0x42_002C => "Cryptographic Usage Mask",
-        0x42_002F => "Deactivation Date",
-        0x42_0033 => "Destroy Date",
-        0x42_0039 => "Initial Date",
-        0x42_0040 => "Key Block",
-        0x42_0042 => "Key Format Type",
-        0x42_0043 => "Key Material",
-        0x42_0045 => "Key Value",
-        0x42_0046 => "Key Wrapping Data",
-        0x42_0047 => "Key Wrapping Specification",
-        0x42_004F => "Maximum Items",
-        0x42_0053 => "Name",
-        0x42_0054 => "Name Type",
-        0x42_0055 => "Name Value",
-        0x42_0057 => "Object Type",
-        0x42_005C => "Operation",
-        0x42_0069 => "Protocol Version",
-        0x42_006A => "Protocol Version Major",
-        0x42_006B => "Protocol Version Minor",
-        0x42_0077 => "Request Header",
-        0x42_0078 => "Request Message",
-        0x42_0079 => "Request Payload",
-        0x42_007A => "Response Header",
-        0x42_007B => "Response Message",
-        0x42_007C => "Response Payload",
-        0x42_007D => "Result Message",
-        0x42_007E => "Result Reason",
-        0x42_007F => "Result Status",
-        0x42_0081 => "Revocation Reason",
-        0x42_0082 => "Revocation Reason Code",
-        0x42_0085 => "Secret Data",
-        0x42_0086 => "Secret Data Type",
-        0x42_008D => "State",
-        0x42_008F => "Symmetric Key",
-        0x42_0092 => "Time Stamp",
-        0x42_0093 => "Unique Batch Item ID",
-        0x42_0094 => "Unique Identifier",
-        0x42_0125 => "Attributes",
-        0x42_013B => "Attribute Reference",
+        ACTIVATION_DATE => "Activation Date",
+        BATCH_COUNT => "Batch Count",
+        BATCH_ERROR_CONTINUATION_OPTION => "Batch Error Continuation Option",
+        BATCH_ITEM => "Batch Item",
+        BATCH_ORDER_OPTION => "Batch Order Option",
+        COMPROMISE_DATE => "Compromise Date",
+        CRYPTOGRAPHIC_ALGORITHM => "Cryptographic Algorithm",
+        CRYPTOGRAPHIC_LENGTH => "Cryptographic Length",
+        CRYPTOGRAPHIC_USAGE_MASK => "Cryptographic Usage Mask",
+        DEACTIVATION_DATE => "Deactivation Date",
+        DESTROY_DATE => "Destroy Date",
+        INITIAL_DATE => "Initial Date",
+        KEY_BLOCK => "Key Block",
+        KEY_FORMAT_TYPE => "Key Format Type",
+        KEY_MATERIAL => "Key Material",
+        KEY_VALUE => "Key Value",
+        KEY_WRAPPING_DATA => "Key Wrapping Data",
+        KEY_WRAPPING_SPECIFICATION => "Key Wrapping Specification",
+        MAXIMUM_ITEMS => "Maximum Items",
+        NAME => "Name",
+        NAME_TYPE => "Name Type",
+        NAME_VALUE => "Name Value",
+        OBJECT_TYPE => "Object Type",
+        OPERATION => "Operation",
+        PROTOCOL_VERSION => "Protocol Version",
+        PROTOCOL_VERSION_MAJOR => "Protocol Version Major",
+        PROTOCOL_VERSION_MINOR => "Protocol Version Minor",
+        REQUEST_HEADER => "Request Header",
+        REQUEST_MESSAGE => "Request Message",
+        REQUEST_PAYLOAD => "Request Payload",
+        RESPONSE_HEADER => "Response Header",
+        RESPONSE_MESSAGE => "Response Message",
+        RESPONSE_PAYLOAD => "Response Payload",
+        RESULT_MESSAGE => "Result Message",
+        RESULT_REASON => "Result Reason",
+        RESULT_STATUS => "Result Status",
+        REVOCATION_REASON => "Revocation Reason",
+        REVOCATION_REASON_CODE => "Revocation Reason Code",
+        SECRET_DATA => "Secret Data",
+        SECRET_DATA_TYPE => "Secret Data Type",
+        STATE => "State",
+        SYMMETRIC_KEY => "Symmetric Key",
+        TIME_STAMP => "Time Stamp",
+        UNIQUE_BATCH_ITEM_ID => "Unique Batch Item ID",
+        UNIQUE_IDENTIFIER => "Unique Identifier",
+        ATTRIBUTES => "Attributes",
+        ATTRIBUTE_REFERENCE => "Attribute Reference",
         _ => "-",
     }
 }

@@ -6,6 +6,7 @@ ghost use Rattle.kmipa_ttlv.specs.Tree.{structure, forest};
 ghost use Rattle.kmipa_ttlv.specs.ItemTree.{tree, trees};
 ghost use Rattle.kmipa_attrs.specs.Sets.{name_of, attributes_of};
 ghost use Rattle.kmipa_attrs.specs.Names.{HasNoRepeats};
+ghost use Rattle.kmipa_attrs.specs.Tags.{attributes_tag};
 ghost use Rattle.kmipa_attrs.specs.Writing.{name_tree, with_scalar, written_children, SaysWhole, each_once};
 
 use crate::attr_set::AttrSet;
@@ -22,7 +23,7 @@ use std::alloc::{AllocError, Global};
 /// The Attributes item that says the set: names first, then each other attribute that is there.
 /// A name that stands in the set twice is said once.
 pub fn write_attrs(alloc: Global, set: &AttrSet) -> Result<Item, AllocError>
-    ensures order { IfOk result (λ item. tree item ≡ structure 0x42_0125 (written_children (attributes_of set.now))) }
+    ensures order { IfOk result (λ item. tree item ≡ structure attributes_tag (written_children (attributes_of set.now))) }
     ensures once { IfOk result (λ item. SaysWhole (tree item) (each_once (attributes_of set.now))) }
     ensures exact { IfOk result (λ item. HasNoRepeats (attributes_of set.now).names → SaysWhole (tree item) (attributes_of set.now)) }
 {

@@ -68,8 +68,8 @@ accepted_audit_is_yes_lem t d w a (Ok audited) h =
     (one_transcript_lem t (transcript_of audited.transcript) a.marks h.transcript a.transcript) (one_declaration_lem d h.declared a.declared h.declaration a.declaration)
     (one_witness_lem w (witness_of audited.witness) a.turns h.witness a.witness) a.transcript.recorded a.accepted h.verdict)
 accepted_audit_is_yes_lem t d w a (Err (audit.Transcript f)) h = only_memory f.kind _ _ _ works (no_fault_of_transcript_lem t a.marks f.offset f.kind a.transcript) h
-accepted_audit_is_yes_lem t d w a (Err (audit.Declaration f)) h = only_memory f.kind _ _ _ works (no_fault_of_declaration_lem d a.declared f.offset f.kind a.declaration) h
-accepted_audit_is_yes_lem t d w a (Err (audit.Witness f)) h = only_memory f.kind _ _ _ works (no_fault_of_witness_lem w a.turns f.offset f.kind a.witness) h
+accepted_audit_is_yes_lem t d w a (Err (audit.Declaration f)) h = only_memory f.kind _ _ _ works (no_fault_of_declaration_lem d a.declared f.offset f.kind a.declaration) h.1
+accepted_audit_is_yes_lem t d w a (Err (audit.Witness f)) h = only_memory f.kind _ _ _ works (no_fault_of_witness_lem w a.turns f.offset f.kind a.witness) h.2
 accepted_audit_is_yes_lem t d w a (Err (audit.Check f)) h =
     fault_of f
     (said_yes a.marks h.marks a.declared h.declared a.turns h.turns (Err f) (one_transcript_lem t h.marks a.marks h.transcript a.transcript)

@@ -3,7 +3,6 @@ use Rattle.std.proofs.Common.{◌≡◌, ◌<◌, ◌⊎◌, inl, inr, ℕ, zero
 use Rattle.std.specs.Prelude.{AllPairs}
 use Rattle.std.specs.Int.Signed.{clash_ℤ}
 use Rattle.std.proofs.lemmas.List.{length-map, take-append-drop}
-use Rattle.std.proofs.lemmas.List.Sorted.{IsPermutation-sym, Contains-permutation}
 use Rattle.std.proofs.lemmas.Option.{get_or_from_slice_get, slice_get_within}
 use Rattle.kmipa_object.specs.Inventory.{Thing}
 use Rattle.kmipa_record.specs.Marks.{MarkOf, AreRecorded}
@@ -19,10 +18,11 @@ use Rattle.kmipa_ops.proofs.ExplainLemmas.{chain_split}
 use Rattle.kmipa_ops.specs.Chains.{ChainSome}
 use Rattle.kmipa_batch.specs.Calls.{pairs_of, RefusesMessage, CallSome}
 use Rattle.kmipa_batch.proofs.CompletionLemmas.{batch_of_call}
+use Rattle.kmipa_check.specs.Steps.{StepOf, NeedsFill}
 use Rattle.kmipa_check.specs.Calls.{CallOf, AreOutside, AreRequest, AreResponse, HasMarks, IsOutsideOn, IsFirstOutside}
-use Rattle.kmipa_check.specs.Orders.{NamesAt, NamesBefore, IsFormed, NeedsFill, TurnFault, unknown, twice, unfilled, WitnessFaultAt, in_turn, left_out}
+use Rattle.kmipa_check.specs.Orders.{NamesAt, NamesBefore, IsFormed, IsOrder, TurnFault, unknown, twice, unfilled, WitnessFaultAt, in_turn, left_out}
 use Rattle.kmipa_check.specs.Runs.{Linked, Before, IsPlaced, IsAccepted, rules_declared}
-use Rattle.kmipa_check.specs.Verdicts.{IsLate, RunsBack, IsPlacedAt, ArePlaced, GoesUpTo, late, runs_back, in_place, in_item, IsRefused, IsOrder, Checks}
+use Rattle.kmipa_check.specs.Verdicts.{IsLate, RunsBack, IsPlacedAt, ArePlaced, GoesUpTo, late, runs_back, in_place, in_item, IsRefused, Checks}
 use Rattle.kmipa_check.specs.declared.fault.CheckFault.{CheckFault}
 use Rattle.kmipa_check.specs.declared.fault.CheckFault.TheVariants.{Outside, Witness, Memory}
 use Rattle.kmipa_check.specs.declared.fault.Side.{Side}
@@ -31,9 +31,9 @@ use Rattle.kmipa_check.specs.declared.fault.WitnessKind.{WitnessKind}
 use Rattle.kmipa_check.specs.declared.verdict.Refused.{Refused}
 use Rattle.kmipa_check.specs.declared.verdict.Verdict.{Verdict}
 use Rattle.kmipa_check.specs.declared.verdict.Verdict.TheVariants.{Yes, No}
-use Rattle.kmipa_check.proofs.PlaceLemmas.{at_contains, contains_at, get_at, some_at, same_elements, mapped_from}
+use Rattle.kmipa_check.proofs.PlaceLemmas.{at_contains, contains_at, get_at, some_at}
 use Rattle.kmipa_check.proofs.PermutationLemmas.{IsOnce, once_pairs}
-use Rattle.kmipa_check.proofs.WholeOrderLemmas.{number_of, same_call, order_permutes}
+use Rattle.kmipa_check.proofs.WholeOrderLemmas.{number_of, same_call, one_order_lem}
 use Rattle.kmipa_check.proofs.CheckLemmas.{calls_once}
 use Rattle.kmipa_check.proofs.RecordedLemmas.{same_message, not_outside, same_marks, same_calls, recorded_at}
 
@@ -45,31 +45,31 @@ pair_at R xs i j x y all below p q =
     let B : _ → Type 0 = λ v. R x v in
     subst B (get_or_from_slice_get xs j y x q) (subst A (get_or_from_slice_get xs i x x p) (all i j x below (slice_get_within xs j y q)))
 
-never_late : (order : List CallOf) (turn : ℕ) (c : CallOf) → IsPlaced order → slice_get order turn ≡ Some c → IsLate order turn c → ⊥
-never_late order turn c p at l = pair_at (λ (a b : CallOf). ¬ (Before b a)) order turn l.0 c l.1 p.kept l.2 at l.3 l.4
+never_late : (order : List StepOf) (turn : ℕ) (c : StepOf) → IsPlaced order → slice_get order turn ≡ Some c → IsLate order turn c → ⊥
+never_late order turn c p at l = pair_at (λ (a b : StepOf). ¬ (Before b a)) order turn l.0 c l.1 p.kept l.2 at l.3 l.4
 
-never_back : (order : List CallOf) (turn : ℕ) (c : CallOf) → IsPlaced order → slice_get order turn ≡ Some c → RunsBack order turn c → ⊥
+never_back : (order : List StepOf) (turn : ℕ) (c : StepOf) → IsPlaced order → slice_get order turn ≡ Some c → RunsBack order turn c → ⊥
 never_back order turn c p at l =
-    clash_ℤ l.4 (pair_at (λ (a b : CallOf). a.response.stamp ≤ℤ b.response.stamp) order l.0 turn l.1 c p.stamped (omega (arith, l.2)) l.3 at)
+    clash_ℤ l.4 (pair_at (λ (a b : StepOf). a.response.stamp ≤ℤ b.response.stamp) order l.0 turn l.1 c p.stamped (omega (arith, l.2)) l.3 at)
 
-placed_at : (order : List CallOf) (turn : ℕ) (c : CallOf) → IsPlaced order → slice_get order turn ≡ Some c → IsPlacedAt order turn c
+placed_at : (order : List StepOf) (turn : ℕ) (c : StepOf) → IsPlaced order → slice_get order turn ≡ Some c → IsPlacedAt order turn c
 placed_at order turn c p at = record { there = at; kept = never_late order turn c p at; stamped = never_back order turn c p at }
 
-placed_below : (order : List CallOf) (turn : ℕ) → IsPlaced order → turn < length order → ArePlaced order turn
+placed_below : (order : List StepOf) (turn : ℕ) → IsPlaced order → turn < length order → ArePlaced order turn
 placed_below order turn p within t below = let c = some_at order t (omega (arith, below, within)) in (c.0, placed_at order t c.0 p c.1)
 
 -- the inventories before and after a turn
-record AtTurn (rules : RulesOf) (V : List Thing) (order : List CallOf) (turn : ℕ) (c : CallOf) : Type 0 where
+record AtTurn (rules : RulesOf) (V : List Thing) (order : List StepOf) (turn : ℕ) (c : StepOf) : Type 0 where
   before : List Thing
   after : List Thing
   linked : Linked rules V (take turn order) before
   call : CallSome rules before c.request c.response after
 
-linked_at : (rules : RulesOf) (V : List Thing) (order : List CallOf) (turn : ℕ) (c : CallOf) (W : List Thing) → Linked rules V order W → slice_get order turn ≡ Some c → AtTurn rules V order turn c
+linked_at : (rules : RulesOf) (V : List Thing) (order : List StepOf) (turn : ℕ) (c : StepOf) (W : List Thing) → Linked rules V order W → slice_get order turn ≡ Some c → AtTurn rules V order turn c
 linked_at rules V [] turn c W l at = absurd cc
 linked_at rules V (x ∷ order) zero c W l at =
     let is : x ≡ c = cc in
-    let P : CallOf → Type 0 = λ d. CallSome rules V d.request d.response l.0 in
+    let P : StepOf → Type 0 = λ d. CallSome rules V d.request d.response l.0 in
     record { before = V; after = l.0; linked = refl; call = subst P is l.1 }
 linked_at rules V (x ∷ order) (suc turn) c W l at =
     let t = linked_at rules l.0 order turn c W l.2 at in
@@ -91,7 +91,7 @@ refuses r = of r.items refl
     of (a ∷ b ∷ items) is = inr (λ h. let x : 1 ≡ suc (suc (length items)) = sym (ap length h.alone) ∙ ap length is in omega (arith, x))
 
 -- a call that is given goes up to each of its items
-goes_up : (rules : RulesOf) (V : List Thing) (c : CallOf) (W : List Thing) (count : ℕ) → CallSome rules V c.request c.response W → GoesUpTo rules V c count
+goes_up : (rules : RulesOf) (V : List Thing) (c : StepOf) (W : List Thing) (count : ℕ) → CallSome rules V c.request c.response W → GoesUpTo rules V c count
 goes_up rules V c W count call = elim (refuses c.response) [
   | inl h ↦ inr h
   | inr not ↦
@@ -108,41 +108,19 @@ module _ (marks : List MarkOf) (declared : DeclarationOf) (turns : List TurnOf) 
   once : IsOnce (map number_of a.calls)
   once = once_pairs (map number_of a.calls) (calls_once marks a.calls r a.are)
 
-  -- a call of the run is one of the transcript
-  in_calls : (i : ℕ) (c : CallOf) → slice_get a.order i ≡ Some c → (j : ℕ) × (slice_get a.calls j ≡ Some c)
-  in_calls i c at = at_contains a.calls c (Contains-permutation a.order a.calls c (IsPermutation-sym a.calls a.order a.run.once) (contains_at a.order i c at))
-
-  same_order : (order : List CallOf) → IsOrder a.calls turns order → order ≡ a.order
-  same_order order o =
-      let e : map number_of order ≡ map number_of a.order = o.named ∙ sym a.named in
-      same_elements order a.order (sym (length-map order number_of) ∙ ap length e ∙ length-map a.order number_of) (λ i c at. by e i c at)
-    where
-      by : map number_of order ≡ map number_of a.order → (i : ℕ) (c : CallOf) → slice_get order i ≡ Some c → slice_get a.order i ≡ Some c
-      by e i c at =
-          let within : i < length a.order = omega (arith, slice_get_within order i c at, length-map order number_of, ap length e, length-map a.order number_of) in
-          let d = some_at a.order i within in
-          let p = in_calls i d.0 d.1 in
-          let permuted = order_permutes a.calls order turns once o in
-          let q = at_contains a.calls c (Contains-permutation order a.calls c (IsPermutation-sym a.calls order permuted) (contains_at order i c at)) in
-          let P : List ℤ → Type 0 = λ xs. slice_get xs i ≡ Some c.number in
-          let u = subst P e (get_at number_of order i c at) in
-          let v = get_at number_of a.order i d.0 d.1 in
-          let n : d.0.number ≡ c.number = cc in
-          d.1 ∙ ap Some (same_call a.calls once p.0 q.0 d.0 c p.1 q.1 n)
-
   -- ---- no other answer
 
-  not_refused : (v : Refused) → IsRefused declared a.order v → ⊥
+  not_refused : (v : Refused) → IsRefused declared a.steps v → ⊥
   not_refused v h = elim h.refused [
     | in_place is p ↦ elim p [
-      | late l w ↦ never_late a.order h.turn h.call a.run.placed h.there l
-      | runs_back k l w ↦ never_back a.order h.turn h.call a.run.placed h.there l
+      | late l w ↦ never_late a.steps h.turn h.call a.run.placed h.there l
+      | runs_back k l w ↦ never_back a.steps h.turn h.call a.run.placed h.there l
     ]
     | in_item count is item ↦
-        let t = linked_at (rules_declared declared) a.start a.order h.turn h.call a.run.last a.run.linked h.there in
+        let t = linked_at (rules_declared declared) a.start a.steps h.turn h.call a.run.last a.run.linked h.there in
         item.never (record {
-          placed = placed_below a.order h.turn a.run.placed (slice_get_within a.order h.turn h.call h.there);
-          here = placed_at a.order h.turn h.call a.run.placed h.there;
+          placed = placed_below a.steps h.turn a.run.placed (slice_get_within a.steps h.turn h.call h.there);
+          here = placed_at a.steps h.turn h.call a.run.placed h.there;
           start = a.start;
           described = a.described;
           before = t.before;
@@ -160,11 +138,11 @@ module _ (marks : List MarkOf) (declared : DeclarationOf) (turns : List TurnOf) 
       let x = recorded_at marks a.calls (length f.before) c.0 a.are c.1 in
       let u = get_at number_of a.calls (length f.before) c.0 c.1 in
       let n : c.0.number ≡ number = cc in
-      let Q : ℤ → Type 0 = λ m. HasMarks marks m c.0.begin c.0.end x.asked x.answered in
-      let m = same_marks marks number c.0.begin c.0.end f.begin f.end x.asked x.answered f.asked f.answered r (subst Q n x.carried) f.carried in
+      let Q : ℤ → Type 0 = λ m. HasMarks marks m c.0.begin x.end x.asked x.answered in
+      let m = same_marks marks number c.0.begin x.end f.begin f.end x.asked x.answered f.asked f.answered r (subst Q n x.carried) f.carried in
       let A : List ℕ → Type 0 = λ bytes. AreRequest bytes c.0.request in
-      let B : List ℕ → Type 0 = λ bytes. AreResponse c.0.request bytes c.0.response in
-      on side f.asked f.answered c.0.request c.0.response (subst A m.asked_same x.request) (subst B m.answered_same x.response) f.outside
+      let B : List ℕ → Type 0 = λ bytes. AreResponse c.0.request bytes x.answer in
+      on side f.asked f.answered c.0.request x.answer (subst A m.asked_same x.request) (subst B m.answered_same x.response) f.outside
     where
       on : (s : Side) (asked answered : List ℕ) (q : RequestOf) (p : ResponseOf) → AreRequest asked q → AreResponse q answered p → IsOutsideOn s asked answered item kind → ⊥
       on Client asked answered q p x y o = not_outside SaysRequest RequestFault asked q item kind x o
@@ -173,37 +151,34 @@ module _ (marks : List MarkOf) (declared : DeclarationOf) (turns : List TurnOf) 
           let P : RequestOf → Type 0 = λ w. AreOutside (λ t. ResponseFault t w) answered item kind in
           not_outside (λ t. SaysResponse t q) (λ t. ResponseFault t q) answered p item kind y (subst P e o.2)
 
-  -- the formed turn at a place
-  formed : (place : ℕ) (n : ℤ) → NamesAt turns place n → (c : CallOf) × IsFormed a.calls turns place c × (c.number ≡ n)
-  formed place n at =
-      let f = a.formed place (slice_get_within turns place (record { call = n }) at) in
-      let u = f.1.named in
-      let e : record { call = f.0.number } ≡ record { call = n } = cc in
-      (f.0, f.1, ap (λ (t : TurnOf). t.call) e)
+  -- the formed turn that names a number at a place
+  formed : (place : ℕ) (n : ℤ) → NamesAt turns place n → (s : StepOf) × (f : IsFormed a.calls turns place s) × (f.turn.call ≡ n)
+  formed place n (turn, there, named) =
+      let s = some_at a.steps place (omega (arith, slice_get_within turns place turn there, a.order.counted)) in
+      let f = a.order.formed place s.0 s.1 in
+      let at = f.there in
+      let e : f.turn ≡ turn = cc in
+      (s.0, f, ap (λ (t : TurnOf). t.call) e ∙ named)
 
   turn_fault : (place : ℕ) (kind : WitnessKind) → TurnFault a.calls turns place kind → ⊥
   turn_fault place kind (unknown n at none is) =
       let f = formed place n at in
-      none (f.0, f.1.known, f.2)
+      none (f.1.call, f.1.known, sym f.1.step.named ∙ f.2)
   turn_fault place kind (twice n at has before is) =
       let f = formed place n at in
       let P : ℤ → Type 0 = λ m. NamesBefore turns place m in
       f.1.first (subst P (sym f.2) before)
-  turn_fault place kind (unfilled c at known first needs is) =
+  turn_fault place kind (unfilled c response at known first given needs is) =
       let f = formed place c.number at in
-      let p = at_contains a.calls f.0 f.1.known in
+      let p = at_contains a.calls f.1.call f.1.known in
       let q = at_contains a.calls c known in
-      let P : CallOf → Type 0 = λ d. NeedsFill d in
-      f.1.filled (subst P (sym (same_call a.calls once p.0 q.0 f.0 c p.1 q.1 f.2)) needs)
-
-  not_left_out : (place : ℕ) (c : CallOf) → slice_get a.calls place ≡ Some c → ((turn : ℕ) → NamesAt turns turn c.number → ⊥) → ⊥
-  not_left_out place c at none =
-      let p = at_contains a.order c (Contains-permutation a.calls a.order c a.run.once (contains_at a.calls place c at)) in
-      let P : List ℤ → Type 0 = λ xs. slice_get xs p.0 ≡ Some c.number in
-      let here : slice_get (map (λ (t : TurnOf). t.call) turns) p.0 ≡ Some c.number = subst P a.named (get_at number_of a.order p.0 c p.1) in
-      let m = mapped_from (λ (t : TurnOf). t.call) turns p.0 c.number here in
-      let Q : ℤ → Type 0 = λ z. slice_get turns p.0 ≡ Some (record { call = z }) in
-      none p.0 (subst Q m.2 m.1)
+      let same : f.1.call ≡ c = same_call a.calls once p.0 q.0 f.1.call c p.1 q.1 (sym f.1.step.named ∙ f.2) in
+      let P : CallOf → Type 0 = λ d. d.response ≡ Some f.1.step.response in
+      let Q : CallOf → Type 0 = λ d. NeedsFill d.request f.1.step.response → ⊥ in
+      let there = subst P same f.1.step.recorded in
+      let e : f.1.step.response ≡ response = cc in
+      let R : ResponseOf → Type 0 = λ x. NeedsFill c.request x → ⊥ in
+      subst R e (subst Q same f.1.step.filled) needs
 
   pub accepted_is_yes_lem : (result : Result Verdict CheckFault) → Checks marks declared turns result → (result ≡ Ok Yes) ⊎ (result ≡ Err Memory)
   accepted_is_yes_lem (Ok Yes) h = inl refl
@@ -211,8 +186,8 @@ module _ (marks : List MarkOf) (declared : DeclarationOf) (turns : List TurnOf) 
   accepted_is_yes_lem (Ok (No v)) h =
       let e : h.0 ≡ a.calls = same_calls marks h.0 a.calls r h.1 a.are in
       let P : List CallOf → Type 0 = λ calls. IsOrder calls turns h.2.0 in
-      let o = same_order h.2.0 (subst P e h.2.1) in
-      let Q : List CallOf → Type 0 = λ order. IsRefused declared order v in
+      let o = one_order_lem a.calls turns h.2.0 a.steps once (subst P e h.2.1) a.order in
+      let Q : List StepOf → Type 0 = λ order. IsRefused declared order v in
       absurd (not_refused v (subst Q o h.2.2))
   accepted_is_yes_lem (Err (Outside number side o)) h = absurd (not_outside_first number side o.item o.kind h)
   accepted_is_yes_lem (Err (Witness f)) h =
@@ -220,5 +195,5 @@ module _ (marks : List MarkOf) (declared : DeclarationOf) (turns : List TurnOf) 
       let P : List CallOf → Type 0 = λ calls. WitnessFaultAt calls turns f.at f.kind in
       absurd (elim (subst P e h.2) [
         | in_turn place below t is ↦ turn_fault place f.kind t
-        | left_out place c below at none first is kind ↦ not_left_out place c at none
+        | left_out place c below at none first is kind ↦ none (a.order.all c (contains_at a.calls place c at))
       ])

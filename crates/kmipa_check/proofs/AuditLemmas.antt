@@ -10,7 +10,7 @@ use Rattle.kmipa_record.specs.Witnesses.{witness_of, IsWitness}
 use Rattle.kmipa_record.specs.declared.declaration.Declaration.{Declaration}
 use Rattle.kmipa_record.specs.declared.transcript.Transcript.{Transcript}
 use Rattle.kmipa_record.specs.declared.witness.Witness.{Witness}
-use Rattle.kmipa_check.specs.Audits.{AreAccepted, AreJudged, AreUnjudged}
+use Rattle.kmipa_check.specs.Audits.{AreAccepted, AreJudged, AreJudgedAs, AreUnjudged, AreATranscript, AreADeclaration}
 use Rattle.kmipa_check.specs.Verdicts.{Checks, TellsVerdict}
 use Rattle.kmipa_check.specs.declared.auditing.Audited.{Audited}
 use Rattle.kmipa_check.specs.declared.fault.CheckFault.{CheckFault}
@@ -58,3 +58,24 @@ accepted_at Yes e audited is t d w j =
 
 pub yes_accepted : (t d w : List ℕ) (audited : Audited) → audited.verdict ≡ Yes → AreJudged audited t d w → AreAccepted t d w
 yes_accepted t d w audited said j = accepted_at Yes refl audited said t d w j
+
+-- the verdict without the records
+pub judged_as : (t d w : List ℕ) (audited : Audited) → AreJudged audited t d w → AreJudgedAs audited.verdict t d w
+judged_as t d w audited j = record {
+  marks = transcript_of audited.transcript;
+  transcript = j.transcript;
+  declared = j.declared;
+  declaration = j.declaration;
+  turns = witness_of audited.witness;
+  witness = j.witness;
+  verdict = j.verdict;
+}
+
+-- the file whose bytes came to the end that was seen is the transcript that was read
+pub a_transcript : {R : Type 0} (ti : Input R) (t : List ℕ) (transcript : Transcript) → IsFileOf t ti → IsTranscript (came_of ti) (transcript_of transcript) × IsTrue (is_ended ti)
+    → AreATranscript t
+a_transcript ti t transcript tf p = (transcript_of transcript, whole_file t ti (λ bytes. IsTranscript bytes (transcript_of transcript)) p.1 tf p.0)
+
+pub a_declaration : {R : Type 0} (di : Input R) (d : List ℕ) (declaration : Declaration) → IsFileOf d di → IsDeclaration (came_of di) (declaration_of declaration) × IsTrue (is_ended di)
+    → AreADeclaration d
+a_declaration di d declaration df q = (declaration_of declaration, whole_file d di (λ bytes. IsDeclaration bytes (declaration_of declaration)) q.1 df q.0)

@@ -7,8 +7,10 @@ use Rattle.kmipa_record.specs.Declarations.{DeclarationOf}
 use Rattle.kmipa_record.specs.Marks.{MarkOf, AreRecorded, IsCallNumber, begun}
 use Rattle.kmipa_record.specs.Marks
 use Rattle.kmipa_record.specs.Witnesses.{TurnOf}
-use Rattle.kmipa_check.specs.Calls.{CallOf, call_of, no_call, ordered, AreCalls, IsRecorded}
-use Rattle.kmipa_check.specs.Ordering.{AreFilled, AreOrdered, OrderFault}
+use Rattle.kmipa_check.specs.Calls.{CallOf, call_of, AreCalls, IsRecorded}
+use Rattle.kmipa_check.specs.Steps.{StepOf}
+use Rattle.kmipa_check.specs.Orders.{IsOrder}
+use Rattle.kmipa_check.specs.Ordering.{AreFormed, OrderFault}
 use Rattle.kmipa_check.specs.Replays.{TellsRun, AllReadable}
 use Rattle.kmipa_check.specs.Verdicts.{Checks}
 use Rattle.kmipa_check.specs.CallReading.{CallsFault}
@@ -17,11 +19,10 @@ use Rattle.kmipa_check.specs.declared.fault.CheckFault.{CheckFault}
 use Rattle.kmipa_check.specs.declared.fault.CheckFault.TheVariants.{Outside, Witness, Memory}
 use Rattle.kmipa_check.specs.declared.verdict.Verdict.{Verdict}
 use Rattle.kmipa_check.specs.declared.verdict.Verdict.TheVariants.{Yes, No}
-use Rattle.kmipa_check.proofs.PlaceLemmas.{mapped_from, at_contains}
-use Rattle.kmipa_check.proofs.PermutationLemmas.{once_pairs}
-use Rattle.kmipa_check.proofs.ReadableLemmas.{call_readable}
+use Rattle.kmipa_check.proofs.PlaceLemmas.{at_contains}
+use Rattle.kmipa_check.proofs.ReadableLemmas.{step_readable}
 use Rattle.kmipa_check.proofs.ReplayLemmas.{replayed_accepts}
-use Rattle.kmipa_check.proofs.WholeOrderLemmas.{order_permutes}
+use Rattle.kmipa_check.proofs.WholeOrderLemmas.{order_takes}
 
 -- each call of a recorded transcript has a number from 1 on
 pub calls_numbered : (marks : List MarkOf) (calls : List Call) → AreRecorded marks → AreCalls marks (map call_of calls) → All (λ (c : Call). pos 1 ≤ℤ c.number) calls
@@ -42,17 +43,13 @@ calls_once marks calls r are =
     let P : List ℤ → Type 0 = λ xs. AllPairs (λ (x y : ℤ). x ≢ y) xs in
     subst P (sym are.numbers) r.in_order.once
 
--- the calls of an order that waits for nothing can be judged
-pub ordered_readable : (marks : List MarkOf) (calls : List Call) (places : List ℕ) → All (IsRecorded marks) (map call_of calls) → All (λ place. place < length calls) places
-    → AreFilled (ordered (map call_of calls) places) → AllReadable (ordered (map call_of calls) places)
-ordered_readable marks calls places each within filled c there =
-    let p = at_contains (ordered (map call_of calls) places) c there in
-    let m = mapped_from (λ (place : ℕ). get_or (map call_of calls) place no_call) places p.0 c p.1 in
-    let Q : ℕ → Type 0 = λ n. n < length calls in
-    let below : m.0 < length calls = subst Q (get_or_from_slice_get places p.0 m.0 m.0 m.1) (within p.0 m.0 (slice_get_within places p.0 m.0 m.1)) in
-    let inside : m.0 < length (map call_of calls) = omega (arith, length-map calls call_of) in
-    let P : CallOf → Type 0 = λ x. IsRecorded marks x in
-    call_readable marks c (subst P m.2 (each m.0 no_call inside)) (filled c there)
+-- each step can be judged
+pub steps_readable : (marks : List MarkOf) (calls : List CallOf) (turns : List TurnOf) (count : ℕ) (steps : List StepOf) → All (IsRecorded marks) calls → AreFormed calls turns count steps → AllReadable steps
+steps_readable marks calls turns count steps each formed s has =
+    let p = at_contains steps s has in
+    let f = formed.each p.0 s p.1 in
+    let P : CallOf → Type 0 = λ c. IsRecorded marks c in
+    step_readable marks f.call f.turn s (subst P f.known.2 (each f.known.0 f.call f.known.1)) f.step
 
 -- a fault of the order
 pub order_faults : (marks : List MarkOf) (declared : DeclarationOf) (turns : List TurnOf) (calls : List CallOf) (f : CheckFault) → AreCalls marks calls
@@ -68,12 +65,10 @@ call_faults marks declared turns (Witness f) h = absurd h
 call_faults marks declared turns Memory h = tt
 
 -- what the replay tells
-pub run_told : (marks : List MarkOf) (declared : DeclarationOf) (turns : List TurnOf) (calls : List CallOf) (places : List ℕ) (result : Result Verdict CheckFault)
-    → AreRecorded marks → AreCalls marks calls → AreOrdered calls turns places → TellsRun declared (ordered calls places) result → Checks marks declared turns result
-run_told marks declared turns calls places (Ok Yes) r are o h =
-    replayed_accepts marks declared turns calls (ordered calls places) h.0 are o.order
-    (order_permutes calls (ordered calls places) turns (once_pairs (map (λ (c : CallOf). c.number) calls) (calls_once marks calls r are)) o.order) h.1
-run_told marks declared turns calls places (Ok (No refused)) r are o h = (calls, are, (ordered calls places, o.order, h))
-run_told marks declared turns calls places (Err Memory) r are o h = tt
-run_told marks declared turns calls places (Err (Outside number side o)) r are p h = absurd h
-run_told marks declared turns calls places (Err (Witness f)) r are o h = absurd h
+pub run_told : (marks : List MarkOf) (declared : DeclarationOf) (turns : List TurnOf) (calls : List CallOf) (steps : List StepOf) (result : Result Verdict CheckFault)
+    → AreCalls marks calls → IsOrder calls turns steps → TellsRun declared steps result → Checks marks declared turns result
+run_told marks declared turns calls steps (Ok Yes) are o h = replayed_accepts marks declared turns calls steps h.0 are o (order_takes calls turns steps o) h.1
+run_told marks declared turns calls steps (Ok (No refused)) are o h = (calls, are, (steps, o, h))
+run_told marks declared turns calls steps (Err Memory) are o h = tt
+run_told marks declared turns calls steps (Err (Outside number side o)) are p h = absurd h
+run_told marks declared turns calls steps (Err (Witness f)) are o h = absurd h

@@ -4,7 +4,6 @@ pub mod ReplayLemmas
 pub mod PermutationLemmas
 pub mod NumberLemmas
 pub mod LateLemmas
-pub mod OrderedLemmas
 pub mod OrderLemmas
 pub mod WholeOrderLemmas
 pub mod DescribedLemmas

@@ -10,7 +10,7 @@ use Rattle.kmipa_attrs.specs.Fields.{first, at, as_enumeration}
 use Rattle.kmipa_msgs.specs.declared.response.Status.{Status}
 use Rattle.kmipa_msgs.specs.declared.response.Status.TheVariants.{Success, Failed, Undone}
 use Rattle.kmipa_msgs.specs.Operations.{operation_number, is_judged}
-use Rattle.kmipa_msgs.specs.Messages.{AskedOf, creates, registers, gets, gets_attributes, activates, revokes, destroys, idles, does_other, AskOf, operation_asked, PayloadOf, created, registered, got, got_attributes, changed, AnswerOf}
+use Rattle.kmipa_msgs.specs.Messages.{AskedOf, creates, registers, gets, gets_attributes, activates, revokes, destroys, idles, does_other, AskOf, operation_asked, PayloadOf, created, registered, got, got_attributes, changed, AnswerOf, ResponseOf}
 use Rattle.kmipa_msgs.specs.Tables.{children}
 use Rattle.kmipa_msgs.specs.Headers.{batch}
 use Rattle.kmipa_msgs.specs.Outside.{SaysEach}
@@ -22,8 +22,9 @@ use Rattle.kmipa_ops.specs.Completes.{is_of, can_judge, has_payload, may_have, m
 use Rattle.kmipa_ops.specs.Explains.{is_readable}
 use Rattle.kmipa_batch.specs.Readable.{AreReadable, IsReadableCall}
 use Rattle.kmipa_record.specs.Marks.{MarkOf}
+use Rattle.kmipa_record.specs.Witnesses.{TurnOf}
 use Rattle.kmipa_check.specs.Calls.{CallOf, IsRecorded}
-use Rattle.kmipa_check.specs.Orders.{NeedsFill}
+use Rattle.kmipa_check.specs.Steps.{StepOf, IsStep, NeedsFill, step_with}
 
 -- a payload that is said is one of the operation asked for
 of_asked : (asked : AskedOf) (t : Tree) (p : PayloadOf) → SaysPayloadOf (operation_asked asked) t p → is_of asked p ≡ true
@@ -125,8 +126,17 @@ each_readable (ask ∷ asks) (t ∷ ts) (answer ∷ answers) h never = (
   each_readable asks ts answers h.1 (λ place x y there. never (suc place) x y there),
 )
 
--- a call that waits for no payload can be judged
-pub call_readable : (marks : List MarkOf) (c : CallOf) → IsRecorded marks c → (NeedsFill c → ⊥) → IsReadableCall c.request c.response
+-- a call whose response waits for no payload can be judged
+pub call_readable : (marks : List MarkOf) (c : CallOf) (r : IsRecorded marks c) → (NeedsFill c.request r.answer → ⊥) → IsReadableCall c.request r.answer
 call_readable marks c r filled unrefused =
-    each_readable c.request.items (batch r.response.item) c.response.items r.response.inside.said.items
+    each_readable c.request.items (batch r.response.item) r.answer.items r.response.inside.said.items
     (λ place ask answer there wanted. filled (record { place = place; ask = ask; answer = answer; there = there; wanted = wanted }))
+
+pub step_readable : (marks : List MarkOf) (c : CallOf) (t : TurnOf) (s : StepOf) → IsRecorded marks c → IsStep c t s → IsReadableCall s.request s.response
+step_readable marks c t s r i =
+    let a = i.recorded in
+    let b = r.given in
+    let same : i.response ≡ r.answer = cc in
+    let P : ResponseOf → Type 0 = λ x. NeedsFill c.request x → ⊥ in
+    let Q : StepOf → Type 0 = λ x. IsReadableCall x.request x.response in
+    subst Q (sym (i.is ∙ ap (λ (x : ResponseOf). step_with c x) same)) (call_readable marks c r (subst P same i.filled))

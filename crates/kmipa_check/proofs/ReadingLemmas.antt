@@ -265,10 +265,10 @@ response_wrong marks place end number a asked answered request r fault has same 
     by CheckFault.TheVariants.Memory h = tt
 
 pub call_recorded : (marks : List MarkOf) (place end : ℕ) (number n : ℤ) (asked answered : List ℕ) (request : RequestOf) (response : ResponseOf) → HasMarks marks number place end asked answered → n ≡ number
-    → AreRequest asked request → AreResponse request answered response → IsRecorded marks (record { number = n; begin = place; end = end; request = request; response = response })
+    → AreRequest asked request → AreResponse request answered response → IsRecorded marks (record { number = n; begin = place; end = Some end; request = request; response = Some response })
 call_recorded marks place end number n asked answered request response has same said told =
     let P : ℤ → Type 0 = λ z. HasMarks marks z place end asked answered in
-    record { asked = asked; answered = answered; carried = subst P (sym same) has; request = said; response = told }
+    record { end = end; ended = refl; asked = asked; answered = answered; carried = subst P (sym same) has; request = said; answer = response; given = refl; response = told }
 
 -- ---- one message
 

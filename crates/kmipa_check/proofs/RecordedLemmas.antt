@@ -1,5 +1,5 @@
 -- The marks of a recorded transcript say each call in one way.
-use Rattle.std.proofs.Common.{◌≡◌, ◌<◌, ◌⊎◌, inl, inr, ℕ, zero, suc, ℤ, List, [], ◌∷◌, ◌++◌, map, length, take, drop, Contains, Some, slice_get, refl, sym, ap, ◌∙◌, subst, arith}
+use Rattle.std.proofs.Common.{◌≡◌, ◌<◌, ◌⊎◌, inl, inr, ℕ, zero, suc, ℤ, List, [], ◌∷◌, ◌++◌, map, length, take, drop, Contains, Option, Some, slice_get, refl, sym, ap, ◌∙◌, subst, arith}
 use Rattle.std.proofs.lemmas.List.{length-map}
 use Rattle.std.proofs.lemmas.Option.{get_or_from_slice_get, slice_get_within}
 use Rattle.kmipa_ttlv.specs.Tree.{Tree}
@@ -122,12 +122,13 @@ not_outside Said Fault bytes m place kind x (outside t spelled o) =
 
 -- ---- calls
 
-made : ℤ → ℕ → ℕ → RequestOf → ResponseOf → CallOf
+made : ℤ → ℕ → Option ℕ → RequestOf → Option ResponseOf → CallOf
 made n b e q a = record { number = n; begin = b; end = e; request = q; response = a }
 
-same_made : (n m : ℤ) (b c e f : ℕ) (q r : RequestOf) (a s : ResponseOf) → n ≡ m → b ≡ c → e ≡ f → q ≡ r → a ≡ s → made n b e q a ≡ made m c f r s
+same_made : (n m : ℤ) (b c : ℕ) (e f : Option ℕ) (q r : RequestOf) (a s : Option ResponseOf) → n ≡ m → b ≡ c → e ≡ f → q ≡ r → a ≡ s → made n b e q a ≡ made m c f r s
 same_made n m b c e f q r a s h i j k l =
-    ap (λ (x : ℤ). made x b e q a) h ∙ ap (λ (x : ℕ). made m x e q a) i ∙ ap (λ (x : ℕ). made m c x q a) j ∙ ap (λ (x : RequestOf). made m c f x a) k ∙ ap (λ (x : ResponseOf). made m c f r x) l
+    ap (λ (x : ℤ). made x b e q a) h ∙ ap (λ (x : ℕ). made m x e q a) i ∙ ap (λ (x : Option ℕ). made m c x q a) j ∙ ap (λ (x : RequestOf). made m c f x a) k
+    ∙ ap (λ (x : Option ResponseOf). made m c f r x) l
 
 whole : (c : CallOf) → c ≡ made c.number c.begin c.end c.request c.response
 unfolding made
@@ -135,14 +136,16 @@ whole c = refl
 
 pub same_recorded : (marks : List MarkOf) (c d : CallOf) → AreRecorded marks → IsRecorded marks c → IsRecorded marks d → c.number ≡ d.number → c ≡ d
 same_recorded marks c d r x y e =
-    let P : ℤ → Type 0 = λ n. HasMarks marks n d.begin d.end y.asked y.answered in
-    let m = same_marks marks c.number c.begin c.end d.begin d.end x.asked x.answered y.asked y.answered r x.carried (subst P (sym e) y.carried) in
+    let P : ℤ → Type 0 = λ n. HasMarks marks n d.begin y.end y.asked y.answered in
+    let m = same_marks marks c.number c.begin x.end d.begin y.end x.asked x.answered y.asked y.answered r x.carried (subst P (sym e) y.carried) in
     let A : List ℕ → Type 0 = λ bytes. AreRequest bytes d.request in
     let q : c.request ≡ d.request = same_message SaysRequest RequestFault x.asked c.request d.request x.request (subst A (sym m.asked_same) y.request) in
-    let B : List ℕ → Type 0 = λ bytes. AreResponse d.request bytes d.response in
-    let C : RequestOf → Type 0 = λ w. AreResponse w x.answered d.response in
-    let s : c.response ≡ d.response = same_message (λ t. SaysResponse t c.request) (λ t. ResponseFault t c.request) x.answered c.response d.response x.response (subst C (sym q) (subst B (sym m.answered_same) y.response)) in
-    whole c ∙ same_made c.number d.number c.begin d.begin c.end d.end c.request d.request c.response d.response e m.begin m.end q s ∙ sym (whole d)
+    let B : List ℕ → Type 0 = λ bytes. AreResponse d.request bytes y.answer in
+    let C : RequestOf → Type 0 = λ w. AreResponse w x.answered y.answer in
+    let s : x.answer ≡ y.answer = same_message (λ t. SaysResponse t c.request) (λ t. ResponseFault t c.request) x.answered x.answer y.answer x.response (subst C (sym q) (subst B (sym m.answered_same) y.response)) in
+    whole c
+    ∙ same_made c.number d.number c.begin d.begin c.end d.end c.request d.request c.response d.response e m.begin (x.ended ∙ ap Some m.end ∙ sym y.ended) q (x.given ∙ ap Some s ∙ sym y.given)
+    ∙ sym (whole d)
 
 pub recorded_at : (marks : List MarkOf) (calls : List CallOf) (i : ℕ) (c : CallOf) → AreCalls marks calls → slice_get calls i ≡ Some c → IsRecorded marks c
 recorded_at marks calls i c are at =

@@ -1,6 +1,6 @@
 -- A replay, event by event: placed and taken, late, back, refused, at its end.
 use Rattle.std.proofs.Common.{◌≡◌, ◌<◌, ◌≤◌, ◌⊎◌, inl, inr, ℕ, zero, suc, ◌+◌, ℤ, ◌≤ℤ◌, List, [], length, take, Some, None, slice_get, get_or, Ok, Err, refl, sym, ◌∙◌, subst, arith, add-one}
-use Rattle.std.specs.Prelude.{AllPairs, IsPermutation}
+use Rattle.std.specs.Prelude.{AllPairs}
 use Rattle.std.proofs.lemmas.List.{take_all}
 use Rattle.std.proofs.lemmas.Option.{slice_get-get_or}
 use Rattle.std.proofs.lemmas.Int.{by_lt_z}
@@ -18,24 +18,26 @@ use Rattle.kmipa_batch.specs.Calls.{pairs_of, CallSome, RefusesMessage}
 use Rattle.kmipa_batch.specs.Refusals.{CallExplains, CallRefuted, CallTaken, IsPossibleUpTo}
 use Rattle.kmipa_batch.specs.declared.refusal.CallRefusal.TheVariants.{Impossible}
 use Rattle.kmipa_check.specs.Calls.{CallOf, AreCalls}
-use Rattle.kmipa_check.specs.Runs.{Linked, rules_declared, Before, IsPlaced, IsAccepted}
-use Rattle.kmipa_check.specs.Verdicts.{IsOrder, IsLate, RunsBack, IsPlacedAt, ArePlaced, ArePossible, AreKnown, RefusedItem, late, runs_back, RefusedAt, in_place, in_item, IsRefused, GoesUpTo}
+use Rattle.kmipa_check.specs.Steps.{StepOf}
+use Rattle.kmipa_check.specs.Runs.{Linked, rules_declared, Before, IsPlaced, TakeEachOnce, IsAccepted}
+use Rattle.kmipa_check.specs.Orders.{IsOrder}
+use Rattle.kmipa_check.specs.Verdicts.{IsLate, RunsBack, IsPlacedAt, ArePlaced, ArePossible, AreKnown, RefusedItem, late, runs_back, RefusedAt, in_place, in_item, IsRefused, GoesUpTo}
 use Rattle.kmipa_check.specs.declared.verdict.Refused.{Refused}
 use Rattle.kmipa_check.specs.Replays.{Replayed}
 use Rattle.kmipa_check.proofs.PlaceLemmas.{below_suc}
 use Rattle.kmipa_check.proofs.RunLemmas.{linked_join, linked_split}
 
 -- an opened ledger has replayed nothing yet
-pub replayed_none : (declared : DeclarationOf) (order : List CallOf) (m : Meaning) → AreKnown declared [] m → IsSound m → Replayed declared order 0 m
+pub replayed_none : (declared : DeclarationOf) (order : List StepOf) (m : Meaning) → AreKnown declared [] m → IsSound m → Replayed declared order 0 m
 replayed_none declared order m known sound = record { placed = λ turn below. absurd (omega (arith, below)); known = known; sound = sound }
 
-module _ (declared : DeclarationOf) (order : List CallOf) (n : ℕ) (c : CallOf) (m : Meaning) (r : Replayed declared order n m) (here : IsPlacedAt order n c) where
+module _ (declared : DeclarationOf) (order : List StepOf) (n : ℕ) (c : StepOf) (m : Meaning) (r : Replayed declared order n m) (here : IsPlacedAt order n c) where
   placed_more : ArePlaced order (suc n)
   placed_more turn below = by (below_suc turn n below)
     where
-      by : (turn < n) ⊎ (turn ≡ n) → (d : CallOf) × IsPlacedAt order turn d
+      by : (turn < n) ⊎ (turn ≡ n) → (d : StepOf) × IsPlacedAt order turn d
       by (inl h) = r.placed turn h
-      by (inr e) = let P : ℕ → Type 0 = λ k. (d : CallOf) × IsPlacedAt order k d in subst P (sym e) (c, here)
+      by (inr e) = let P : ℕ → Type 0 = λ k. (d : StepOf) × IsPlacedAt order k d in subst P (sym e) (c, here)
 
   known_more : (k : Meaning) → CallExplains (rules_declared declared) m c.request c.response k → AreKnown declared (take (suc n) order) k
   known_more k e = record {
@@ -93,14 +95,14 @@ module _ (declared : DeclarationOf) (order : List CallOf) (n : ℕ) (c : CallOf)
       never_from count V choice h is never unrefused (inr g) = unrefused g
 
 -- the turns before are possible
-module _ (declared : DeclarationOf) (order : List CallOf) (n : ℕ) (m : Meaning) (r : Replayed declared order n m) where
+module _ (declared : DeclarationOf) (order : List StepOf) (n : ℕ) (m : Meaning) (r : Replayed declared order n m) where
   pub replayed_possible : ArePossible declared order n
   replayed_possible =
       let c = r.sound.choice in
       let f = r.known.sound c.0 c.1 in
       record { placed = r.placed; start = f.0; described = f.1; last = inv c.0 m.objects; linked = f.2 }
 
-  module _ (c : CallOf) (there : slice_get order n ≡ Some c) where
+  module _ (c : StepOf) (there : slice_get order n ≡ Some c) where
     refused : (item : ℕ) (why : Why) (v : Refused) → v.turn ≡ n + 1 → c.number ≡ v.call → v.item ≡ item → v.why ≡ why → RefusedAt declared order n c item why → IsRefused declared order v
     refused item why v told number at is h =
         let P : ℕ → Type 0 = λ k. RefusedAt declared order n c k why in
@@ -121,9 +123,9 @@ module _ (declared : DeclarationOf) (order : List CallOf) (n : ℕ) (m : Meaning
         refused item why v told number at is (in_item p.0 p.1 p.2)
 
 -- past the last turn all are replayed
-pub replayed_all : (declared : DeclarationOf) (order : List CallOf) (turn : ℕ) (m : Meaning) → length order ≤ turn → Replayed declared order turn m → Replayed declared order (length order) m
+pub replayed_all : (declared : DeclarationOf) (order : List StepOf) (turn : ℕ) (m : Meaning) → length order ≤ turn → Replayed declared order turn m → Replayed declared order (length order) m
 replayed_all declared order turn m past r =
-    let P : List CallOf → Type 0 = λ o. AreKnown declared o m in
+    let P : List StepOf → Type 0 = λ o. AreKnown declared o m in
     record {
       placed = λ k below. r.placed k (omega (arith, past, below));
       known = subst P (take_all turn order past ∙ sym (take_all (length order) order (omega arith))) r.known;
@@ -131,21 +133,21 @@ replayed_all declared order turn m past r =
     }
 
 -- at the end: no turn is late, and stamps rise from turn to turn
-at_place : (order : List CallOf) (count turn : ℕ) (d : CallOf) → ArePlaced order count → turn < count → turn < length order → IsPlacedAt order turn (get_or order turn d)
+at_place : (order : List StepOf) (count turn : ℕ) (d : StepOf) → ArePlaced order count → turn < count → turn < length order → IsPlacedAt order turn (get_or order turn d)
 at_place order count turn d placed below within =
     let p = placed turn below in
-    let P : CallOf → Type 0 = λ x. IsPlacedAt order turn x in
+    let P : StepOf → Type 0 = λ x. IsPlacedAt order turn x in
     let q = slice_get-get_or order turn d within in
     let r = p.1.there in
     let e : p.0 ≡ get_or order turn d = cc in
     subst P e p.1
 
-all_kept : (order : List CallOf) → ArePlaced order (length order) → AllPairs (λ (a b : CallOf). ¬ (Before b a)) order
+all_kept : (order : List StepOf) → ArePlaced order (length order) → AllPairs (λ (a b : StepOf). ¬ (Before b a)) order
 all_kept order placed i j d below within before =
     let p = at_place order (length order) i d placed (omega (arith, below, within)) (omega (arith, below, within)) in
     p.kept (j, get_or order j d, below, slice_get-get_or order j d within, before)
 
-step_rises : (order : List CallOf) → ArePlaced order (length order) → (j : ℕ) (d : CallOf) → suc j < length order → (get_or order j d).response.stamp ≤ℤ (get_or order (suc j) d).response.stamp
+step_rises : (order : List StepOf) → ArePlaced order (length order) → (j : ℕ) (d : StepOf) → suc j < length order → (get_or order j d).response.stamp ≤ℤ (get_or order (suc j) d).response.stamp
 step_rises order placed j d within =
     let p = at_place order (length order) (suc j) d placed within within in
     by_lt_z (get_or order (suc j) d).response.stamp (get_or order j d).response.stamp
@@ -155,7 +157,7 @@ step_rises order placed j d within =
 over : (x y z : ℤ) → x ≤ℤ y → y ≤ℤ z → x ≤ℤ z
 over x y z p q = by_lt_z z x (λ h. clash_ℤ (<ℤ-≤ℤ_trans h p) q) (λ h. h)
 
-rises_on : (order : List CallOf) (i j : ℕ) (d : CallOf) → (get_or order j d).response.stamp ≤ℤ (get_or order (suc j) d).response.stamp
+rises_on : (order : List StepOf) (i j : ℕ) (d : StepOf) → (get_or order j d).response.stamp ≤ℤ (get_or order (suc j) d).response.stamp
     → (i < j → (get_or order i d).response.stamp ≤ℤ (get_or order j d).response.stamp) → (i < j) ⊎ (i ≡ j)
     → (get_or order i d).response.stamp ≤ℤ (get_or order (suc j) d).response.stamp
 rises_on order i j d step before (inl h) =
@@ -164,26 +166,25 @@ rises_on order i j d step before (inr e) =
     let P : ℕ → Type 0 = λ k. (get_or order k d).response.stamp ≤ℤ (get_or order (suc j) d).response.stamp in
     subst P (sym e) step
 
-rises : (order : List CallOf) → ArePlaced order (length order) → (i j : ℕ) (d : CallOf) → i < j → j < length order → (get_or order i d).response.stamp ≤ℤ (get_or order j d).response.stamp
+rises : (order : List StepOf) → ArePlaced order (length order) → (i j : ℕ) (d : StepOf) → i < j → j < length order → (get_or order i d).response.stamp ≤ℤ (get_or order j d).response.stamp
 rises order placed i zero d below within = absurd (omega (arith, below))
 rises order placed i (suc j) d below within =
     rises_on order i j d (step_rises order placed j d within) (λ h. rises order placed i j d h (omega (arith, within))) (below_suc i j below)
 
-is_placed : (order : List CallOf) → ArePlaced order (length order) → IsPlaced order
+is_placed : (order : List StepOf) → ArePlaced order (length order) → IsPlaced order
 is_placed order placed = record { kept = all_kept order placed; stamped = rises order placed }
 
-pub replayed_accepts : (marks : List MarkOf) (declared : DeclarationOf) (turns : List TurnOf) (calls order : List CallOf) (m : Meaning) → AreCalls marks calls
-    → IsOrder calls turns order → IsPermutation calls order → Replayed declared order (length order) m → IsAccepted marks declared turns
+pub replayed_accepts : (marks : List MarkOf) (declared : DeclarationOf) (turns : List TurnOf) (calls : List CallOf) (order : List StepOf) (m : Meaning) → AreCalls marks calls
+    → IsOrder calls turns order → TakeEachOnce calls order → Replayed declared order (length order) m → IsAccepted marks declared turns
 replayed_accepts marks declared turns calls order m are o once r =
     let c = r.sound.choice in
     let f = r.known.sound c.0 c.1 in
-    let P : List CallOf → Type 0 = λ o. Linked (rules_declared declared) f.0 o (inv c.0 m.objects) in
+    let P : List StepOf → Type 0 = λ o. Linked (rules_declared declared) f.0 o (inv c.0 m.objects) in
     record {
       calls = calls;
       are = are;
-      formed = o.formed;
-      order = order;
-      named = o.named;
+      steps = order;
+      order = o;
       start = f.0;
       described = f.1;
       run = record { once = once; placed = is_placed order r.placed; last = inv c.0 m.objects; linked = subst P (take_all (length order) order (omega arith)) f.2 };

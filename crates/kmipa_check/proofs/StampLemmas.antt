@@ -1,5 +1,5 @@
 -- The stamp of the one call of a number.
-use Rattle.std.proofs.Common.{◌≡◌, ◌<◌, ℕ, ℤ, List, length, map, get_or, Option, Some, None, slice_get, Result, Ok, Err, refl, sym, ◌∙◌, subst}
+use Rattle.std.proofs.Common.{◌≡◌, ◌<◌, ℕ, ℤ, List, length, map, get_or, Option, Some, None, slice_get, Result, Ok, Err, refl, sym, ap, ◌∙◌, subst}
 use Rattle.std.specs.String.{string_bytes}
 use Rattle.kmipa_record.specs.Marks.{MarkOf, begins, ends, AreRecorded, mark_of}
 use Rattle.kmipa_record.specs.declared.transcript.Mark
@@ -13,6 +13,7 @@ use Rattle.kmipa_msgs.specs.Requests.{SaysRequest, RequestFault}
 use Rattle.kmipa_msgs.specs.Responses.{SaysResponse, ResponseFault}
 use Rattle.kmipa_msgs.specs.declared.response.Response.{Response}
 use Rattle.kmipa_msgs.specs.declared.fault.Outside as Message
+use Rattle.kmipa_check.specs.Steps.{StepOf}
 use Rattle.kmipa_check.specs.Calls.{CallOf, AreRequest, AreResponse, HasMarks, IsRecorded}
 use Rattle.kmipa_check.specs.CallReading.{MessageFault, ResponseRead}
 use Rattle.kmipa_check.specs.Stamps.{IsAnsweredAt, TellsStamp, BeginsAt, EndsAt, AnswerRead}
@@ -23,7 +24,7 @@ use Rattle.kmipa_check.specs.declared.fault.Side.TheVariants.{Client}
 use Rattle.kmipa_check.specs.declared.verdict.Refused.{Refused}
 use Rattle.kmipa_check.specs.declared.verdict.Verdict.TheVariants.{No}
 use Rattle.kmipa_check.specs.Verdicts.{TellsVerdict}
-use Rattle.kmipa_check.proofs.PlaceLemmas.{at_within, get_at, mapped_at, mapped_from}
+use Rattle.kmipa_check.proofs.PlaceLemmas.{mapped_at}
 use Rattle.kmipa_check.proofs.RecordedLemmas.{not_outside, same_marks, same_message}
 
 -- ---- the mark at a place
@@ -76,8 +77,20 @@ response_told asked answered number request (Err Memory) said h = tt
 answered_at : (marks : List MarkOf) (number : ℤ) (asked answered : List ℕ) (begin end : ℕ) (request : RequestOf) (response : ResponseOf) → BeginsAt marks number asked begin
     → EndsAt marks number answered end → AreRequest asked request → AreResponse request answered response → IsAnsweredAt marks number response.stamp
 answered_at marks number asked answered begin end request response b e said told = (
-  record { number = number; begin = begin; end = end; request = request; response = response },
-  record { asked = asked; answered = answered; carried = record { client = b.0; begins = b.1; ends = e }; request = said; response = told },
+  record { number = number; begin = begin; end = Some end; request = request; response = Some response },
+  response,
+  record {
+    end = end;
+    ended = refl;
+    asked = asked;
+    answered = answered;
+    carried = record { client = b.0; begins = b.1; ends = e };
+    request = said;
+    answer = response;
+    given = refl;
+    response = told;
+  },
+  refl,
   refl,
   refl,
 )
@@ -89,17 +102,17 @@ unbegun marks number none = λ recorded c is same.
 
 unended : (marks : List MarkOf) (number : ℤ) → ((place : ℕ) (answered : List ℕ) → ¬ (EndsAt marks number answered place)) → TellsStamp marks number None
 unended marks number none = λ recorded c is same.
-    let P : ℤ → Type 0 = λ n. slice_get marks c.end ≡ Some (ends n is.answered) in
-    none c.end is.answered (subst P same is.carried.ends)
+    let P : ℤ → Type 0 = λ n. slice_get marks is.end ≡ Some (ends n is.answered) in
+    none is.end is.answered (subst P same is.carried.ends)
 
 unsaid : (marks : List MarkOf) (number : ℤ) (asked answered : List ℕ) (begin end : ℕ) → BeginsAt marks number asked begin → EndsAt marks number answered end
     → ((request : RequestOf) (response : ResponseOf) → AreRequest asked request → AreResponse request answered response → ⊥) → TellsStamp marks number None
 unsaid marks number asked answered begin end b e none = λ recorded c is same.
-    let P : ℤ → Type 0 = λ n. HasMarks marks n c.begin c.end is.asked is.answered in
+    let P : ℤ → Type 0 = λ n. HasMarks marks n c.begin is.end is.asked is.answered in
     let R : List ℕ → Type 0 = λ bytes. AreRequest bytes c.request in
-    let S : List ℕ → Type 0 = λ bytes. AreResponse c.request bytes c.response in
-    let m = same_marks marks number c.begin c.end begin end is.asked is.answered asked answered recorded (subst P same is.carried) (record { client = b.0; begins = b.1; ends = e }) in
-    none c.request c.response (subst R m.asked_same is.request) (subst S m.answered_same is.response)
+    let S : List ℕ → Type 0 = λ bytes. AreResponse c.request bytes is.answer in
+    let m = same_marks marks number c.begin is.end begin end is.asked is.answered asked answered recorded (subst P same is.carried) (record { client = b.0; begins = b.1; ends = e }) in
+    none c.request is.answer (subst R m.asked_same is.request) (subst S m.answered_same is.response)
 
 -- ---- the same of the program's values
 
@@ -152,14 +165,11 @@ none_told items number asked answered fault n side o both e read =
 pub refused_recorded : (marks : List MarkOf) (declared : DeclarationOf) (turns : List TurnOf) (r : Refused) → TellsVerdict marks declared turns (No r)
     → (c : CallOf) × IsRecorded marks c × (c.number ≡ r.call)
 refused_recorded marks declared turns r (calls, are, (order, is, refused)) =
-    let P : List ℤ → Type 0 = λ numbers. slice_get numbers refused.turn ≡ Some refused.call.number in
-    let turn = mapped_from (λ (t : TurnOf). t.call) turns refused.turn refused.call.number (subst P is.named (get_at (λ (c : CallOf). c.number) order refused.turn refused.call refused.there)) in
-    let formed = is.formed refused.turn (at_within turns refused.turn turn.0 turn.1) in
-    let same : Some turn.0 ≡ Some (record { call = formed.0.number }) = sym turn.1 ∙ formed.1.named in
-    let numbers : turn.0.call ≡ formed.0.number = cc in
-    let known = formed.1.known in
-    let Q : CallOf → Type 0 = λ c. IsRecorded marks c in
-    (formed.0, subst Q known.2 (are.recorded known.0 formed.0 known.1), sym numbers ∙ turn.2 ∙ refused.number)
+    let formed = is.formed refused.turn refused.call refused.there in
+    let known = formed.known in
+    let P : CallOf → Type 0 = λ c. IsRecorded marks c in
+    let made : refused.call.number ≡ formed.call.number = ap (λ (s : StepOf). s.number) formed.step.is in
+    (formed.call, subst P known.2 (are.recorded known.0 formed.call known.1), sym made ∙ refused.number)
 
 -- so it has a Time Stamp
 pub refused_answered : (marks : List MarkOf) (declared : DeclarationOf) (turns : List TurnOf) (r : Refused) → AreRecorded marks → TellsVerdict marks declared turns (No r)

@@ -1,10 +1,9 @@
 -- What a turn comes to.
 use Rattle.std.proofs.Common.{◌≡◌, ◌≢◌, ◌<◌, ◌⊎◌, inl, inr, ℕ, zero, suc, ◌+◌, ◌-◌, ℤ, ◌<ℤ◌, Bool, true, false, List, map, length, get_or, Option, Some, None, slice_get, Result, Ok, Err, refl, sym, ap, subst, arith}
-use Rattle.std.specs.Prelude.{All, int_lt}
+use Rattle.std.specs.Prelude.{int_lt}
 use Rattle.std.specs.Int.Signed.{clash_ℤ}
 use Rattle.std.proofs.lemmas.Bool.Decides.{nat_tests}
 use Rattle.std.proofs.lemmas.Int.{ints}
-use Rattle.std.proofs.lemmas.Option.{slice_get-get_or}
 use Rattle.kmipa_store.specs.Ledger.{Meaning, LedgerState}
 use Rattle.kmipa_msgs.specs.Messages.{RulesOf}
 use Rattle.kmipa_ops.specs.declared.why.Why.{Why}
@@ -16,25 +15,20 @@ use Rattle.kmipa_batch.specs.declared.refusal.CallRefusal.TheVariants as refusal
 use Rattle.kmipa_check.specs.declared.fault.CheckFault.{CheckFault}
 use Rattle.kmipa_check.specs.declared.fault.CheckFault.TheVariants.{Memory}
 use Rattle.kmipa_check.specs.declared.verdict.Refused.{Refused}
-use Rattle.kmipa_check.specs.declared.call.Call.{Call}
-use Rattle.kmipa_check.specs.Calls.{CallOf, call_of, ordered}
+use Rattle.kmipa_check.specs.declared.step.Step.{Step}
+use Rattle.kmipa_check.specs.Steps.{StepOf, step_of}
 use Rattle.kmipa_check.specs.Verdicts.{IsLate, RunsBack, ArePlaced}
 use Rattle.kmipa_check.specs.Late.{FirstLate, is_at}
 use Rattle.kmipa_check.specs.Ordering.{Decided}
 use Rattle.kmipa_check.specs.Replays.{TurnTaken, AllReadable}
 use Rattle.kmipa_check.proofs.ReplayLemmas.{replayed_more, refused_late, refused_back, refused_call}
-use Rattle.kmipa_check.proofs.PlaceLemmas.{contains_at}
-use Rattle.kmipa_check.proofs.OrderedLemmas.{ordered_get}
+use Rattle.kmipa_check.proofs.PlaceLemmas.{mapped_at, contains_at}
 
--- a place of an order is one of its calls
-pub place_below : (count : ℕ) (order : List ℕ) (turn place : ℕ) → All (λ p. p < count) order → turn < length order → place ≡ get_or order turn place → place < count
-place_below count order turn place all below is = let P : ℕ → Type 0 = λ p. p < count in subst P (sym is) (all turn place below)
-
-pub late_here : (order : List CallOf) (late : Option ℕ) (turn : ℕ) (c : CallOf) → FirstLate order late → slice_get order turn ≡ Some c → is_at late turn ≡ true → IsLate order turn c
+pub late_here : (order : List StepOf) (late : Option ℕ) (turn : ℕ) (c : StepOf) → FirstLate order late → slice_get order turn ≡ Some c → is_at late turn ≡ true → IsLate order turn c
 late_here order None turn c h at e = absurd cc
 late_here order (Some late) turn c h at e =
     let same : late ≡ turn = grind (arith, nat_tests) in
-    let P : ℕ → Type 0 = λ n. (x : CallOf) → slice_get order n ≡ Some x → IsLate order n x in
+    let P : ℕ → Type 0 = λ n. (x : StepOf) → slice_get order n ≡ Some x → IsLate order n x in
     subst P same h.1 c at
 
 apart : (a b : ℕ) → (a < b) ⊎ ((a ≡ b) ⊎ (b < a))
@@ -49,7 +43,7 @@ apart (suc a) (suc b) = up (apart a b)
     up (inr (inr h)) = inr (inr (omega (arith, h)))
 
 -- where the turns before are placed and the first late turn isn't this one, it isn't late
-pub none_late : (order : List CallOf) (late : Option ℕ) (turn : ℕ) (c : CallOf) → FirstLate order late → ArePlaced order turn → slice_get order turn ≡ Some c → is_at late turn ≡ false
+pub none_late : (order : List StepOf) (late : Option ℕ) (turn : ℕ) (c : StepOf) → FirstLate order late → ArePlaced order turn → slice_get order turn ≡ Some c → is_at late turn ≡ false
     → IsLate order turn c → ⊥
 none_late order None turn c h placed at never is = h turn c (omega arith) at is
 none_late order (Some late) turn c h placed at never is = by (apart turn late)
@@ -59,7 +53,7 @@ none_late order (Some late) turn c h placed at never is = by (apart turn late)
     by (inr (inl e)) = grind (arith, nat_tests)
     by (inr (inr b)) = let p = placed late b in p.1.kept (h.1 p.0 p.1.there)
 
-module _ (rules : RulesOf) (order : List CallOf) (turn : ℕ) (c : CallOf) (there : slice_get order turn ≡ Some c) (s : LedgerState) where
+module _ (rules : RulesOf) (order : List StepOf) (turn : ℕ) (c : StepOf) (there : slice_get order turn ≡ Some c) (s : LedgerState) where
   pub turn_late : (m : Meaning) (v : Refused) → v ≡ record { turn = turn + 1; call = c.number; item = 0; why = EarlierCallLate } → IsLate order turn c → TurnTaken rules order turn s.now (Ok (Some v)) m
   turn_late m v e late = λ declared is r.
       refused_late declared order turn s.now r c there v (ap (λ (x : Refused). x.turn) e) (sym (ap (λ (x : Refused). x.call) e)) (ap (λ (x : Refused). x.item) e) (ap (λ (x : Refused). x.why) e) late
@@ -93,39 +87,36 @@ module _ (rules : RulesOf) (order : List CallOf) (turn : ℕ) (c : CallOf) (ther
         let P : RulesOf → Type 0 = λ x. CallTaken x s c.request c.response (Ok tt) u in
         replayed_more declared order turn c s.now r (record { there = there; kept = none_late order late turn c first r.placed there here; stamped = stamped }) s u refl (subst P is t)
 
--- the call at a turn
-pub turn_at : (calls : List Call) (order : List ℕ) (turn : ℕ) (c : Call) → turn < length order → All (λ p. p < length calls) order → c ≡ get_or calls (get_or order turn 0) c
-    → slice_get (ordered (map call_of calls) order) turn ≡ Some (call_of c)
-turn_at calls order turn c below all is = ordered_get calls order turn (get_or order turn 0) c (slice_get-get_or order turn 0 below) (all turn 0 below) is
+-- the step at a turn
+pub turn_at : (steps : List Step) (turn : ℕ) (s : Step) → turn < length steps → s ≡ get_or steps turn s → slice_get (map step_of steps) turn ≡ Some (step_of s)
+turn_at steps turn s below is = mapped_at step_of steps turn s below is
 
-pub turn_readable : (calls : List Call) (order : List ℕ) (turn : ℕ) (c : Call) → turn < length order → All (λ p. p < length calls) order → c ≡ get_or calls (get_or order turn 0) c
-    → AllReadable (ordered (map call_of calls) order) → IsReadableCall (call_of c).request (call_of c).response
-turn_readable calls order turn c below all is readable =
-    readable (call_of c) (contains_at (ordered (map call_of calls) order) turn (call_of c) (turn_at calls order turn c below all is))
+pub turn_readable : (steps : List Step) (turn : ℕ) (s : Step) → turn < length steps → s ≡ get_or steps turn s
+    → AllReadable (map step_of steps) → IsReadableCall (step_of s).request (step_of s).response
+turn_readable steps turn s below is readable = readable (step_of s) (contains_at (map step_of steps) turn (step_of s) (turn_at steps turn s below is))
 
 -- the stamp is less than that of the turn before, or it isn't
-module _ (calls : List Call) (order : List ℕ) (turn : ℕ) (now last : Call) (below : turn < length order) (all : All (λ p. p < length calls) order) (some : turn ≢ 0)
-    (here : now ≡ get_or calls (get_or order turn 0) now) (before : last ≡ get_or calls (get_or order (turn - 1) 0) last) where
-  last_at : slice_get (ordered (map call_of calls) order) (turn - 1) ≡ Some (call_of last)
-  last_at = turn_at calls order (turn - 1) last (omega (arith, below)) all before
+module _ (steps : List Step) (turn : ℕ) (now last : Step) (below : turn < length steps) (some : turn ≢ 0) (here : now ≡ get_or steps turn now) (before : last ≡ get_or steps (turn - 1) last) where
+  last_at : slice_get (map step_of steps) (turn - 1) ≡ Some (step_of last)
+  last_at = turn_at steps (turn - 1) last (omega (arith, below)) before
 
-  same_now : (c : CallOf) → slice_get (ordered (map call_of calls) order) turn ≡ Some c → c ≡ call_of now
-  same_now c at = let there = turn_at calls order turn now below all here in cc
+  same_now : (c : StepOf) → slice_get (map step_of steps) turn ≡ Some c → c ≡ step_of now
+  same_now c at = let there = turn_at steps turn now below here in cc
 
-  pub back_decided : (c : CallOf) → slice_get (ordered (map call_of calls) order) turn ≡ Some c → (less : Bool) → Decided less (now.response.stamp <ℤ last.response.stamp)
-      → Decided less (RunsBack (ordered (map call_of calls) order) turn c)
+  pub back_decided : (c : StepOf) → slice_get (map step_of steps) turn ≡ Some c → (less : Bool) → Decided less (now.response.now.stamp <ℤ last.response.now.stamp)
+      → Decided less (RunsBack (map step_of steps) turn c)
   back_decided c at true h =
-      let P : CallOf → Type 0 = λ x. RunsBack (ordered (map call_of calls) order) turn x in
-      subst P (sym (same_now c at)) (turn - 1, call_of last, omega (arith, some), last_at, h)
+      let P : StepOf → Type 0 = λ x. RunsBack (map step_of steps) turn x in
+      subst P (sym (same_now c at)) (turn - 1, step_of last, omega (arith, some), last_at, h)
   back_decided c at false h = λ back.
-      let P : CallOf → Type 0 = λ x. RunsBack (ordered (map call_of calls) order) turn x in
+      let P : StepOf → Type 0 = λ x. RunsBack (map step_of steps) turn x in
       let b = subst P (same_now c at) back in
       let place : b.0 ≡ turn - 1 = omega (arith, b.2) in
-      let Q : ℕ → Type 0 = λ n. slice_get (ordered (map call_of calls) order) n ≡ Some b.1 in
+      let Q : ℕ → Type 0 = λ n. slice_get (map step_of steps) n ≡ Some b.1 in
       let there = subst Q place b.3 in
       let that = last_at in
-      let same : b.1 ≡ call_of last = cc in
-      let R : CallOf → Type 0 = λ x. now.response.stamp <ℤ x.response.stamp in
+      let same : b.1 ≡ step_of last = cc in
+      let R : StepOf → Type 0 = λ x. now.response.now.stamp <ℤ x.response.stamp in
       h (subst R same b.4)
 
 less_decided : (a b : ℤ) → Decided (int_lt a b) (a <ℤ b)

@@ -12,6 +12,7 @@ use Rattle.kmipa_check.specs.declared.auditing.AuditFault.{AuditFault}
 use Rattle.kmipa_check.specs.declared.auditing.AuditFault.TheVariants as audit
 use Rattle.kmipa_check.specs.declared.fault.CheckFault.{CheckFault}
 use Rattle.kmipa_check.specs.declared.fault.CheckFault.TheVariants.{Memory}
+use Rattle.kmipa_check.specs.declared.verdict.Verdict.{Verdict}
 use Rattle.kmipa_check.specs.declared.verdict.Verdict.TheVariants.{Yes}
 use Rattle.kmipa_record.specs.declared.fault.RecordKind.TheVariants as record_kind
 
@@ -34,6 +35,16 @@ pub record AreJudged (audited : Audited) (t d w : List ℕ) : Type 0 where
   pub witness : IsWitness w (witness_of audited.witness)
   pub verdict : TellsVerdict (transcript_of audited.transcript) declared (witness_of audited.witness) audited.verdict
 
+-- the bytes are some records, and the verdict is right for these
+pub record AreJudgedAs (said : Verdict) (t d w : List ℕ) : Type 0 where
+  pub marks : List MarkOf
+  pub transcript : IsTranscript t marks
+  pub declared : DeclarationOf
+  pub declaration : IsDeclaration d declared
+  pub turns : List TurnOf
+  pub witness : IsWitness w turns
+  pub verdict : TellsVerdict marks declared turns said
+
 -- the bytes are records of which the check tells this fault
 pub record AreUnjudged (fault : CheckFault) (t d w : List ℕ) : Type 0 where
   pub marks : List MarkOf
@@ -44,17 +55,31 @@ pub record AreUnjudged (fault : CheckFault) (t d w : List ℕ) : Type 0 where
   pub witness : IsWitness w turns
   pub checks : Checks marks declared turns (Err fault)
 
--- a fault: the first of the first file that has one, or one of the check. The three truths say which inputs failed
+-- the bytes are a transcript
+abbrev pub AreATranscript : List ℕ → Type 0
+AreATranscript t = (marks : List MarkOf) × IsTranscript t marks
+
+-- the bytes are a declaration
+abbrev pub AreADeclaration : List ℕ → Type 0
+AreADeclaration d = (declared : DeclarationOf) × IsDeclaration d declared
+
+-- a fault: the first of the first file that is no record, in the order of the three, or one of the check. The three truths say which inputs
+-- failed
 abbrev pub AuditFails : List ℕ → List ℕ → List ℕ → Bool → Bool → Bool → AuditFault → Type 0
 AuditFails t d w failed_t failed_d failed_w (audit.Transcript f) = Tells TranscriptFault IsTranscriptUpTo t failed_t f
-AuditFails t d w failed_t failed_d failed_w (audit.Declaration f) = Tells DeclarationFault IsDeclarationUpTo d failed_d f
-AuditFails t d w failed_t failed_d failed_w (audit.Witness f) = Tells WitnessFault IsWitnessUpTo w failed_w f
+AuditFails t d w failed_t failed_d failed_w (audit.Declaration f) = AreATranscript t × Tells DeclarationFault IsDeclarationUpTo d failed_d f
+AuditFails t d w failed_t failed_d failed_w (audit.Witness f) = AreATranscript t × AreADeclaration d × Tells WitnessFault IsWitnessUpTo w failed_w f
 AuditFails t d w failed_t failed_d failed_w (audit.Check f) = AreUnjudged f t d w
 
 -- what an audit of these three files answers
 abbrev pub Audits : List ℕ → List ℕ → List ℕ → Bool → Bool → Bool → Result Audited AuditFault → Type 0
 Audits t d w failed_t failed_d failed_w (Ok audited) = AreJudged audited t d w
 Audits t d w failed_t failed_d failed_w (Err fault) = AuditFails t d w failed_t failed_d failed_w fault
+
+-- and where it hands out the verdict alone
+abbrev pub AuditsAs : List ℕ → List ℕ → List ℕ → Bool → Bool → Bool → Result Verdict AuditFault → Type 0
+AuditsAs t d w failed_t failed_d failed_w (Ok verdict) = AreJudgedAs verdict t d w
+AuditsAs t d w failed_t failed_d failed_w (Err fault) = AuditFails t d w failed_t failed_d failed_w fault
 
 -- the verdict is yes, or memory ran out
 abbrev pub IsYes : Result Audited AuditFault → Type 0

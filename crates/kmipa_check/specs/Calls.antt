@@ -1,11 +1,10 @@
 -- The calls of a transcript: what their messages say, and which message is the first that is outside the profile.
-use Rattle.std.specs.Prelude.{◌≡◌, ℕ, ℤ, pos, true, List, [], map, length, take, All, slice_get, slice_index_or, Some}
+use Rattle.std.specs.Prelude.{◌≡◌, ℕ, ℤ, List, map, length, take, All, slice_get, Option, Some}
 use Rattle.kmipa_ttlv.specs.Tree.{Tree}
 use Rattle.kmipa_ttlv.specs.Spelling.{Spells}
 use Rattle.kmipa_record.specs.Marks.{MarkOf, begins, ends, begun}
 use Rattle.kmipa_msgs.specs.declared.kind.OutsideKind.{OutsideKind}
 use Rattle.kmipa_msgs.specs.declared.kind.OutsideKind.TheVariants.{NotAMessage}
-use Rattle.kmipa_msgs.specs.declared.request.BatchOption.TheVariants.{Stop}
 use Rattle.kmipa_msgs.specs.Messages.{RequestOf, ResponseOf, request_of, response_of}
 use Rattle.kmipa_msgs.specs.Outside.{Inside, OutsideAt}
 use Rattle.kmipa_msgs.specs.Requests.{SaysRequest, RequestFault}
@@ -31,13 +30,14 @@ AreRequest = AreMessage SaysRequest RequestFault
 abbrev pub AreResponse : RequestOf → List ℕ → ResponseOf → Type 0
 AreResponse request = AreMessage (λ t. SaysResponse t request) (λ t. ResponseFault t request)
 
--- a recorded call: its number, the places of its two marks among the marks, and what its messages say
+-- A call as it was recorded: its number, the place of its begin mark among the marks, that of its end mark where it has one, what its
+-- request says, and what its response says where it has one.
 pub record CallOf : Type 0 where
   pub number : ℤ
   pub begin : ℕ
-  pub end : ℕ
+  pub end : Option ℕ
   pub request : RequestOf
-  pub response : ResponseOf
+  pub response : Option ResponseOf
 
 -- the marks of a call of this number stand at these places, and carry these messages
 pub record HasMarks (marks : List MarkOf) (number : ℤ) (begin end : ℕ) (asked answered : List ℕ) : Type 0 where
@@ -45,13 +45,17 @@ pub record HasMarks (marks : List MarkOf) (number : ℤ) (begin end : ℕ) (aske
   pub begins : slice_get marks begin ≡ Some (begins number client asked)
   pub ends : slice_get marks end ≡ Some (ends number answered)
 
--- the call is recorded so
+-- the call is recorded so; for now each has ended
 pub record IsRecorded (marks : List MarkOf) (c : CallOf) : Type 0 where
+  pub end : ℕ
+  pub ended : c.end ≡ Some end
   pub asked : List ℕ
   pub answered : List ℕ
-  pub carried : HasMarks marks c.number c.begin c.end asked answered
+  pub carried : HasMarks marks c.number c.begin end asked answered
   pub request : AreRequest asked c.request
-  pub response : AreResponse c.request answered c.response
+  pub answer : ResponseOf
+  pub given : c.response ≡ Some answer
+  pub response : AreResponse c.request answered answer
 
 -- these are the first calls of a transcript, in the order of their begin marks
 pub record AreFirstCalls (marks : List MarkOf) (calls : List CallOf) : Type 0 where
@@ -82,12 +86,4 @@ pub record IsFirstOutside (marks : List MarkOf) (number : ℤ) (side : Side) (it
 
 -- what a call of the program means
 abbrev pub call_of : Call → CallOf
-call_of c = record { number = c.number; begin = c.begin; end = c.end; request = request_of c.request; response = response_of c.response }
-
--- what stands at a place where no call does
-abbrev pub no_call : CallOf
-no_call = record { number = pos 0; begin = 0; end = 0; request = record { option = Stop; ordered = true; items = [] }; response = record { stamp = pos 0; items = [] } }
-
--- the calls at these places
-abbrev pub ordered : List CallOf → List ℕ → List CallOf
-ordered calls places = map (λ place. slice_index_or calls place no_call) places
+call_of c = record { number = c.number; begin = c.begin; end = Some c.end; request = request_of c.request; response = Some (response_of c.response) }

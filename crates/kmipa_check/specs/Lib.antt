@@ -1,4 +1,5 @@
 pub mod Calls
+pub mod Steps
 pub mod Described
 pub mod Runs
 pub mod Orders

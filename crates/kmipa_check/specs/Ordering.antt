@@ -1,12 +1,12 @@
--- What the order of a witness comes to. Not promised: `Orders` and `Verdicts` say what an order is.
-use Rattle.std.specs.Prelude.{◌≡◌, ◌<◌, ℕ, ℤ, Bool, true, false, List, [], ◌∷◌, length, Contains, Option, Some, None, slice_get}
+-- What the order of a witness comes to. Not promised: `Orders` says what an order is.
+use Rattle.std.specs.Prelude.{◌≡◌, ◌<◌, ℕ, ℤ, Bool, true, false, List, [], ◌∷◌, length, Option, Some, None, slice_get}
 use Rattle.kmipa_record.specs.Witnesses.{TurnOf}
-use Rattle.kmipa_msgs.specs.Messages.{AskOf, AnswerOf}
+use Rattle.kmipa_msgs.specs.Messages.{AskOf, AnswerOf, RequestOf, ResponseOf}
 use Rattle.kmipa_msgs.specs.Wanted.{Wanted}
 use Rattle.kmipa_batch.specs.Calls.{pairs_of}
-use Rattle.kmipa_check.specs.Calls.{CallOf, ordered}
-use Rattle.kmipa_check.specs.Orders.{NeedsFill, IsFormed, WitnessFaultAt}
-use Rattle.kmipa_check.specs.Verdicts.{IsOrder}
+use Rattle.kmipa_check.specs.Calls.{CallOf}
+use Rattle.kmipa_check.specs.Steps.{StepOf}
+use Rattle.kmipa_check.specs.Orders.{IsFormed, WitnessFaultAt}
 use Rattle.kmipa_check.specs.Numbers.{place_in}
 use Rattle.kmipa_check.specs.declared.numbers.FirstPlaces.{FirstPlaces}
 use Rattle.kmipa_check.specs.declared.fault.CheckFault.{CheckFault}
@@ -18,21 +18,13 @@ Decided true P = P
 Decided false P = P → ⊥
 
 -- no place below this one waits for a payload
-abbrev pub AreFilledBelow : CallOf → ℕ → Type 0
-AreFilledBelow c count = (place : ℕ) (ask : AskOf) (answer : AnswerOf) → place < count → slice_get (pairs_of c.request c.response) place ≡ Some (ask, answer) → Wanted ask answer → ⊥
+abbrev pub AreFilledBelow : RequestOf → ResponseOf → ℕ → Type 0
+AreFilledBelow request response count = (place : ℕ) (ask : AskOf) (answer : AnswerOf) → place < count → slice_get (pairs_of request response) place ≡ Some (ask, answer) → Wanted ask answer → ⊥
 
--- none of these calls waits for a payload
-abbrev pub AreFilled : List CallOf → Type 0
-AreFilled calls = (c : CallOf) → Contains calls c → NeedsFill c → ⊥
-
--- the turn names the call at a place, as it should
-abbrev pub NamesCall : List CallOf → List TurnOf → ℕ → ℕ → Type 0
-NamesCall calls turns turn place = (c : CallOf) × (slice_get calls place ≡ Some c) × IsFormed calls turns turn c
-
--- these are the places of the calls of the first turns
-pub record AreFormed (calls : List CallOf) (turns : List TurnOf) (count : ℕ) (places : List ℕ) : Type 0 where
-  pub counted : length places ≡ count
-  pub each : (turn place : ℕ) → slice_get places turn ≡ Some place → NamesCall calls turns turn place
+-- these are the steps of the first turns
+pub record AreFormed (calls : List CallOf) (turns : List TurnOf) (count : ℕ) (steps : List StepOf) : Type 0 where
+  pub counted : length steps ≡ count
+  pub each : (place : ℕ) (s : StepOf) → slice_get steps place ≡ Some s → IsFormed calls turns place s
 
 -- the number of the first call without a place, if there is one
 abbrev pub missing_or : Option ℕ → ℤ → Option ℤ → Option ℤ
@@ -42,11 +34,6 @@ missing_or (Some place) number rest = rest
 abbrev pub first_missing : FirstPlaces → List CallOf → Option ℤ
 first_missing named [] = None
 first_missing named (c ∷ calls) = missing_or (place_in named c.number) c.number (first_missing named calls)
-
--- the places of an order of the calls, each formed
-pub record AreOrdered (calls : List CallOf) (turns : List TurnOf) (places : List ℕ) : Type 0 where
-  pub formed : AreFormed calls turns (length turns) places
-  pub order : IsOrder calls turns (ordered calls places)
 
 -- what ordering comes to
 abbrev pub OrderFault : List CallOf → List TurnOf → CheckFault → Type 0

@@ -1,5 +1,5 @@
--- Runs: the calls one at a time, in an order, from an inventory that the declaration describes.
-use Rattle.std.specs.Prelude.{◌≡◌, ◌<◌, ◌≤ℤ◌, List, [], ◌∷◌, map, length, AllPairs, IsPermutation}
+-- Runs: steps one at a time, in an order, from an inventory that the declaration describes.
+use Rattle.std.specs.Prelude.{◌≡◌, ◌≢◌, ◌<◌, ◌≤ℤ◌, ℕ, Option, Some, None, List, [], ◌∷◌, AllPairs, Contains}
 use Rattle.kmipa_object.specs.Inventory.{Thing}
 use Rattle.kmipa_record.specs.Marks.{MarkOf}
 use Rattle.kmipa_record.specs.Declarations.{DeclarationOf}
@@ -7,29 +7,45 @@ use Rattle.kmipa_record.specs.Witnesses.{TurnOf}
 use Rattle.kmipa_msgs.specs.Messages.{RulesOf, RowOf, default_rules}
 use Rattle.kmipa_batch.specs.Calls.{CallSome}
 use Rattle.kmipa_check.specs.Calls.{CallOf, AreCalls}
+use Rattle.kmipa_check.specs.Steps.{StepOf, IsStep}
 use Rattle.kmipa_check.specs.Described.{Describes}
-use Rattle.kmipa_check.specs.Orders.{AreFormedBelow}
+use Rattle.kmipa_check.specs.Orders.{IsOrder}
 
--- the end mark of one call stands ahead of the begin mark of another
-abbrev pub Before : CallOf → CallOf → Type 0
-Before a b = a.end < b.begin
+-- there is an end, and it stands ahead of the place
+abbrev pub EndsAhead : Option ℕ → ℕ → Type 0
+EndsAhead None place = ⊥
+EndsAhead (Some end) place = end < place
 
--- no call stands behind one that it is before, and stamps never fall
-pub record IsPlaced (order : List CallOf) : Type 0 where
-  pub kept : AllPairs (λ (a b : CallOf). ¬ (Before b a)) order
-  pub stamped : AllPairs (λ (a b : CallOf). a.response.stamp ≤ℤ b.response.stamp) order
+-- the end mark of one call stands ahead of the begin mark of another; a call without an end is before nothing
+abbrev pub Before : StepOf → StepOf → Type 0
+Before a b = EndsAhead a.end b.begin
 
--- the calls lead from one inventory to another, one after the other; each recorded response is given, or a completion of it
-abbrev pub Linked : RulesOf → List Thing → List CallOf → List Thing → Type 0
+-- no step stands behind one that it is before, and stamps never fall
+pub record IsPlaced (steps : List StepOf) : Type 0 where
+  pub kept : AllPairs (λ (a b : StepOf). ¬ (Before b a)) steps
+  pub stamped : AllPairs (λ (a b : StepOf). a.response.stamp ≤ℤ b.response.stamp) steps
+
+-- the steps lead from one inventory to another, one after the other; each response is given, or a completion of it
+abbrev pub Linked : RulesOf → List Thing → List StepOf → List Thing → Type 0
 Linked rules V [] W = W ≡ V
-Linked rules V (c ∷ order) W = (M : List Thing) × CallSome rules V c.request c.response M × Linked rules M order W
+Linked rules V (s ∷ steps) W = (M : List Thing) × CallSome rules V s.request s.response M × Linked rules M steps W
 
--- a run of the calls in this order, from this inventory: each call once, none before one that it stands behind, stamps never falling
-pub record IsRun (rules : RulesOf) (calls : List CallOf) (start : List Thing) (order : List CallOf) : Type 0 where
-  pub once : IsPermutation calls order
-  pub placed : IsPlaced order
+-- some turn makes this step with one of the calls
+abbrev pub IsOfCalls : List CallOf → StepOf → Type 0
+IsOfCalls calls s = (c : CallOf) × (t : TurnOf) × Contains calls c × IsStep c t s
+
+-- the steps take each of these calls once, and no other
+pub record TakeEachOnce (calls : List CallOf) (steps : List StepOf) : Type 0 where
+  pub of_calls : (s : StepOf) → Contains steps s → IsOfCalls calls s
+  pub once : AllPairs (λ (a b : StepOf). a.number ≢ b.number) steps
+  pub all : (c : CallOf) → Contains calls c → (s : StepOf) × Contains steps s × (s.number ≡ c.number)
+
+-- a run of the calls by these steps, from this inventory: each call once, none before one that it stands behind, stamps never falling
+pub record IsRun (rules : RulesOf) (calls : List CallOf) (start : List Thing) (steps : List StepOf) : Type 0 where
+  pub once : TakeEachOnce calls steps
+  pub placed : IsPlaced steps
   pub last : List Thing
-  pub linked : Linked rules start order last
+  pub linked : Linked rules start steps last
 
 -- the rows of a declaration; one without rows has the default one
 abbrev pub rows_declared : List RowOf → List RowOf
@@ -40,14 +56,13 @@ rows_declared (row ∷ rows) = row ∷ rows
 abbrev pub rules_declared : DeclarationOf → RulesOf
 rules_declared declared = record { unique_names = declared.unique_names; rows = rows_declared declared.rows }
 
--- The witness is formed for the calls of the transcript, and some inventory that the declaration describes has a run of all calls in the
--- order of the witness, which gives every recorded response.
+-- The witness is formed for the calls of the transcript, and some inventory that the declaration describes has a run of all calls by the
+-- steps of the witness, which gives every recorded response.
 pub record IsAccepted (marks : List MarkOf) (declared : DeclarationOf) (turns : List TurnOf) : Type 0 where
   pub calls : List CallOf
   pub are : AreCalls marks calls
-  pub formed : AreFormedBelow calls turns (length turns)
-  pub order : List CallOf
-  pub named : map (λ (c : CallOf). c.number) order ≡ map (λ (t : TurnOf). t.call) turns
+  pub steps : List StepOf
+  pub order : IsOrder calls turns steps
   pub start : List Thing
   pub described : Describes declared start
-  pub run : IsRun (rules_declared declared) calls start order
+  pub run : IsRun (rules_declared declared) calls start steps

@@ -9,7 +9,7 @@ use Rattle.kmipa_check.specs.declared.fault.CheckFault.TheVariants.{Outside, Wit
 
 -- a recorded call of this number has a response with this Time Stamp
 abbrev pub IsAnsweredAt : List MarkOf → ℤ → ℤ → Type 0
-IsAnsweredAt marks number stamp = (c : CallOf) × IsRecorded marks c × (c.number ≡ number) × (c.response.stamp ≡ stamp)
+IsAnsweredAt marks number stamp = (c : CallOf) × (response : ResponseOf) × IsRecorded marks c × (c.number ≡ number) × (c.response ≡ Some response) × (response.stamp ≡ stamp)
 
 -- the Time Stamp of the response of the call of this number; none where a whole transcript records no such call
 abbrev pub TellsStamp : List MarkOf → ℤ → Option ℤ → Type 0

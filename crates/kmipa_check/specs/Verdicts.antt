@@ -1,5 +1,5 @@
 -- What a verdict says: yes, or the first turn, and in it the first item, that is impossible.
-use Rattle.std.specs.Prelude.{◌≡◌, ◌<◌, ◌⊎◌, ◌<ℤ◌, ℕ, ◌+◌, List, map, take, length, slice_get, Option, Some, None, Result, Ok, Err}
+use Rattle.std.specs.Prelude.{◌≡◌, ◌<◌, ◌⊎◌, ◌<ℤ◌, ℕ, ◌+◌, List, take, slice_get, Option, Some, None, Result, Ok, Err}
 use Rattle.kmipa_object.specs.Inventory.{Thing}
 use Rattle.kmipa_store.specs.Ledger.{Meaning}
 use Rattle.kmipa_store.specs.Choices.{Choice, Chooses, inv}
@@ -14,9 +14,10 @@ use Rattle.kmipa_batch.specs.Shapes.{IsShapedBelow}
 use Rattle.kmipa_batch.specs.Calls.{pairs_of, RefusesMessage}
 use Rattle.kmipa_batch.specs.Refusals.{SpeaksAt}
 use Rattle.kmipa_check.specs.Calls.{CallOf, AreCalls, IsFirstOutside}
+use Rattle.kmipa_check.specs.Steps.{StepOf}
 use Rattle.kmipa_check.specs.Described.{Describes}
 use Rattle.kmipa_check.specs.Runs.{Before, Linked, rules_declared, IsAccepted}
-use Rattle.kmipa_check.specs.Orders.{AreFormedBelow, WitnessFaultAt}
+use Rattle.kmipa_check.specs.Orders.{IsOrder, WitnessFaultAt}
 use Rattle.kmipa_check.specs.declared.fault.CheckFault.{CheckFault}
 use Rattle.kmipa_check.specs.declared.fault.CheckFault.TheVariants.{Outside, Witness, Memory}
 use Rattle.kmipa_check.specs.declared.verdict.Refused.{Refused}
@@ -24,25 +25,25 @@ use Rattle.kmipa_check.specs.declared.verdict.Verdict.{Verdict}
 use Rattle.kmipa_check.specs.declared.verdict.Verdict.TheVariants.{Yes, No}
 
 -- a call that no earlier turn took ended before this one began
-abbrev pub IsLate : List CallOf → ℕ → CallOf → Type 0
-IsLate order turn c = (later : ℕ) × (d : CallOf) × (turn < later) × (slice_get order later ≡ Some d) × Before d c
+abbrev pub IsLate : List StepOf → ℕ → StepOf → Type 0
+IsLate order turn c = (later : ℕ) × (d : StepOf) × (turn < later) × (slice_get order later ≡ Some d) × Before d c
 
 -- the stamp is less than that of the turn before
-abbrev pub RunsBack : List CallOf → ℕ → CallOf → Type 0
-RunsBack order turn c = (earlier : ℕ) × (d : CallOf) × (earlier + 1 ≡ turn) × (slice_get order earlier ≡ Some d) × (c.response.stamp <ℤ d.response.stamp)
+abbrev pub RunsBack : List StepOf → ℕ → StepOf → Type 0
+RunsBack order turn c = (earlier : ℕ) × (d : StepOf) × (earlier + 1 ≡ turn) × (slice_get order earlier ≡ Some d) × (c.response.stamp <ℤ d.response.stamp)
 
 -- the turn of this call, at this place of the order, is placed
-pub record IsPlacedAt (order : List CallOf) (turn : ℕ) (c : CallOf) : Type 0 where
+pub record IsPlacedAt (order : List StepOf) (turn : ℕ) (c : StepOf) : Type 0 where
   pub there : slice_get order turn ≡ Some c
   pub kept : IsLate order turn c → ⊥
   pub stamped : RunsBack order turn c → ⊥
 
 -- the first turns are placed
-abbrev pub ArePlaced : List CallOf → ℕ → Type 0
-ArePlaced order count = (turn : ℕ) → turn < count → (c : CallOf) × IsPlacedAt order turn c
+abbrev pub ArePlaced : List StepOf → ℕ → Type 0
+ArePlaced order count = (turn : ℕ) → turn < count → (c : StepOf) × IsPlacedAt order turn c
 
 -- from some described inventory the first turns are placed and linked
-pub record ArePossible (declared : DeclarationOf) (order : List CallOf) (count : ℕ) : Type 0 where
+pub record ArePossible (declared : DeclarationOf) (order : List StepOf) (count : ℕ) : Type 0 where
   pub placed : ArePlaced order count
   pub start : List Thing
   pub described : Describes declared start
@@ -50,14 +51,14 @@ pub record ArePossible (declared : DeclarationOf) (order : List CallOf) (count :
   pub linked : Linked (rules_declared declared) start (take count order) last
 
 -- from an inventory the first items of a call have their shape and are done, or its message is refused
-abbrev pub GoesUpTo : RulesOf → List Thing → CallOf → ℕ → Type 0
+abbrev pub GoesUpTo : RulesOf → List Thing → StepOf → ℕ → Type 0
 GoesUpTo rules V c count =
     (IsShapedBelow c.request c.response count
     × ((W : List Thing) × (placeholder : Option (List ℕ)) × ChainSome rules c.response.stamp V None (take count (pairs_of c.request c.response)) W placeholder))
     ⊎ RefusesMessage c.response
 
 -- besides the turns before it, this turn is placed, and its first items are done
-pub record ArePossibleUpTo (declared : DeclarationOf) (order : List CallOf) (turn : ℕ) (c : CallOf) (count : ℕ) : Type 0 where
+pub record ArePossibleUpTo (declared : DeclarationOf) (order : List StepOf) (turn : ℕ) (c : StepOf) (count : ℕ) : Type 0 where
   pub placed : ArePlaced order turn
   pub here : IsPlacedAt order turn c
   pub start : List Thing
@@ -67,19 +68,19 @@ pub record ArePossibleUpTo (declared : DeclarationOf) (order : List CallOf) (tur
   pub items : GoesUpTo (rules_declared declared) before c count
 
 -- what is known after the first turns: one choice of bytes meets them all, and bytes are known that were declared, registered or shown
-pub record AreKnown (declared : DeclarationOf) (order : List CallOf) (m : Meaning) : Type 0 where
+pub record AreKnown (declared : DeclarationOf) (order : List StepOf) (m : Meaning) : Type 0 where
   -- every choice comes from a described inventory by these turns
   pub sound : (c : Choice) → Chooses m.secrets c → (start : List Thing) × Describes declared start × Linked (rules_declared declared) start order (inv c m.objects)
   -- every inventory that a described one reaches is one of these
   pub complete : (start V : List Thing) → Describes declared start → Linked (rules_declared declared) start order V → (c : Choice) × Chooses m.secrets c × (V ≡ inv c m.objects)
 
 -- the turn is impossible where it stands, for the lower of two reasons
-pub data RefusedPlace (order : List CallOf) (turn : ℕ) (c : CallOf) (why : Why) : Type 0 where
+pub data RefusedPlace (order : List StepOf) (turn : ℕ) (c : StepOf) (why : Why) : Type 0 where
   late : IsLate order turn c → why ≡ EarlierCallLate → RefusedPlace order turn c why
   runs_back : (IsLate order turn c → ⊥) → RunsBack order turn c → why ≡ StampRunsBack → RefusedPlace order turn c why
 
 -- the items before this one are possible, with it they are not, and this is the lowest reason
-pub record RefusedItem (declared : DeclarationOf) (order : List CallOf) (turn : ℕ) (c : CallOf) (count : ℕ) (why : Why) : Type 0 where
+pub record RefusedItem (declared : DeclarationOf) (order : List StepOf) (turn : ℕ) (c : StepOf) (count : ℕ) (why : Why) : Type 0 where
   pub before : ArePossibleUpTo declared order turn c count
   pub never : ArePossibleUpTo declared order turn c (count + 1) → ⊥
   pub known : Meaning
@@ -87,30 +88,24 @@ pub record RefusedItem (declared : DeclarationOf) (order : List CallOf) (turn : 
   pub speaks : SpeaksAt (rules_declared declared) known c.request c.response count why
 
 -- where the turn is refused: itself, item 0, or at an item, counted from 1
-pub data RefusedAt (declared : DeclarationOf) (order : List CallOf) (turn : ℕ) (c : CallOf) (item : ℕ) (why : Why) : Type 0 where
+pub data RefusedAt (declared : DeclarationOf) (order : List StepOf) (turn : ℕ) (c : StepOf) (item : ℕ) (why : Why) : Type 0 where
   in_place : item ≡ 0 → RefusedPlace order turn c why → RefusedAt declared order turn c item why
   in_item : (count : ℕ) → item ≡ count + 1 → RefusedItem declared order turn c count why → RefusedAt declared order turn c item why
 
 -- a no: the turns before are possible, and this one, counted from 1, of this call, is refused there
-pub record IsRefused (declared : DeclarationOf) (order : List CallOf) (r : Refused) : Type 0 where
+pub record IsRefused (declared : DeclarationOf) (order : List StepOf) (r : Refused) : Type 0 where
   pub turn : ℕ
   pub told : r.turn ≡ turn + 1
-  pub call : CallOf
+  pub call : StepOf
   pub there : slice_get order turn ≡ Some call
   pub number : call.number ≡ r.call
   pub before : ArePossible declared order turn
   pub refused : RefusedAt declared order turn call r.item r.why
 
--- the turns of the witness, each once, as calls
-pub record IsOrder (calls : List CallOf) (turns : List TurnOf) (order : List CallOf) : Type 0 where
-  pub formed : AreFormedBelow calls turns (length turns)
-  pub named : map (λ (c : CallOf). c.number) order ≡ map (λ (t : TurnOf). t.call) turns
-  pub all : (number : ℕ) (c : CallOf) → slice_get calls number ≡ Some c → (turn : ℕ) × (slice_get order turn ≡ Some c)
-
 abbrev pub TellsVerdict : List MarkOf → DeclarationOf → List TurnOf → Verdict → Type 0
 TellsVerdict marks declared turns Yes = IsAccepted marks declared turns
 TellsVerdict marks declared turns (No r) =
-    (calls : List CallOf) × AreCalls marks calls × ((order : List CallOf) × IsOrder calls turns order × IsRefused declared order r)
+    (calls : List CallOf) × AreCalls marks calls × ((order : List StepOf) × IsOrder calls turns order × IsRefused declared order r)
 
 -- what a check answers: a verdict; or the first message that is outside; or, where none is, the fault of the witness
 abbrev pub Checks : List MarkOf → DeclarationOf → List TurnOf → Result Verdict CheckFault → Type 0

@@ -2,7 +2,7 @@
 
 ghost use Rattle.std.specs.Prelude.{◌≡◌, ℕ, List, [], IsTrue, IfOk, OnOk};
 ghost use Rattle.kmipa_ttlv.specs.Input.{came_of, is_ended, is_failed, IsFileOf};
-ghost use Rattle.kmipa_check.specs.Audits.{AreAccepted, Audits};
+ghost use Rattle.kmipa_check.specs.Audits.{AreAccepted, Audits, AuditsAs};
 
 use crate::checking::check;
 use crate::fault::CheckFault;
@@ -84,6 +84,10 @@ pub fn audit<R: Read>(
     requires transcript { came_of transcript.old ≡ [] }
     requires declaration { came_of declaration.old ≡ [] }
     requires witness { came_of witness.old ≡ [] }
+    // What `audit_with` answers, but for the records.
+    ensures audits { (t d w : List ℕ) → IsFileOf t transcript.new → IsFileOf d declaration.new → IsFileOf w witness.new
+        → AuditsAs t d w (is_failed transcript.new) (is_failed declaration.new) (is_failed witness.new) result }
+    // So a yes is told only of accepted bytes.
     ensures accepted { IfOk result (λ verdict. verdict ≡ Verdict.Yes → AreAccepted (came_of transcript.new) (came_of declaration.new) (came_of witness.new)) }
     ensures ended { OnOk result (IsTrue (is_ended transcript.new) × IsTrue (is_ended declaration.new) × IsTrue (is_ended witness.new)) }
 {

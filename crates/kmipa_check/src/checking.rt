@@ -8,7 +8,7 @@ ghost use Rattle.kmipa_check.specs.Verdicts.{Checks};
 
 use crate::fault::CheckFault;
 use crate::opening::{open_ledger, rules_of_declaration};
-use crate::order::order_of;
+use crate::order::steps_of;
 use crate::reading::read_calls;
 use crate::replay::replay;
 use crate::verdict::Verdict;
@@ -30,8 +30,8 @@ pub fn check(
     ensures { AreRecorded (transcript_of transcript.now) → Checks (transcript_of transcript.now) (declaration_of declaration.now) (witness_of witness.now) result }
 {
     let calls = read_calls(alloc, transcript)?;
-    let order = order_of(alloc, &calls, &witness.turns)?;
+    let steps = steps_of(alloc, &calls, &witness.turns)?;
     let rules = rules_of_declaration(alloc, declaration)?;
     let mut ledger = open_ledger(alloc, declaration)?;
-    replay(alloc, &mut ledger, &rules, &calls, &order)
+    replay(alloc, &mut ledger, &rules, &steps)
 }

@@ -1,25 +1,24 @@
-//! The first call of an order that comes too late.
+//! The first step of an order that comes too late.
 
-ghost use Rattle.std.specs.Prelude.{◌≡◌, ◌<◌, All, length, map};
-ghost use Rattle.kmipa_check.specs.Calls.{call_of, ordered};
-ghost use Rattle.kmipa_check.specs.Late.{FirstLate, is_at, is_below, lesser, next_late};
+ghost use Rattle.std.specs.Prelude.{◌≡◌, map};
+ghost use Rattle.kmipa_check.specs.Late.{FirstLate, is_at, is_below, least_of, lesser, next_late};
+ghost use Rattle.kmipa_check.specs.Steps.{step_of};
 
-use crate::call::Call;
+use crate::step::Step;
 
-/// The place in an order, whose elements are the places of the calls, of the first call that stands ahead of one which ended before it began. One pass from the end: behind each place the least
-/// end is known.
-pub fn first_late(calls: &[Call], order: &[usize]) -> Option<usize>
-    requires { All (λ place. place < length calls.now) order.now }
-    ensures { FirstLate (ordered (map call_of calls.now) order.now) result }
+/// The place of the first step that stands ahead of one whose call ended before its own began. One pass from the end: behind each place
+/// the least end is known.
+pub fn first_late(steps: &[Step]) -> Option<usize>
+    ensures { FirstLate (map step_of steps.now) result }
 {
     let mut late = None;
     let mut least = None;
-    let mut place = order.len();
-    'calls: while place > 0 {
+    let mut place = steps.len();
+    'steps: while place > 0 {
         place -= 1;
-        let call = &calls[order[place]];
-        late = later_found(late, is_below(least, call.begin), place);
-        least = Some(lesser(least, call.end));
+        let step = &steps[place];
+        late = later_found(late, is_below(least, step.begin), place);
+        least = least_of(least, step.end);
     }
     late
 }
@@ -39,6 +38,16 @@ fn later_found(late: Option<usize>, here: bool, place: usize) -> Option<usize>
     ensures { result ≡ next_late late here place }
 {
     if here { Some(place) } else { late }
+}
+
+/// The least end, where there may be no end here.
+fn least_of(least: Option<usize>, end: Option<usize>) -> Option<usize>
+    ensures { result ≡ least_of least end }
+{
+    match end {
+        Some(end) => Some(lesser(least, end)),
+        None => least,
+    }
 }
 
 /// The lesser of an end and the least so far.

@@ -13,6 +13,7 @@ mod order;
 mod reading;
 mod replay;
 mod stamp;
+mod step;
 mod verdict;
 
 pub use auditing::{AuditFault, Audited, audit, audit_with};

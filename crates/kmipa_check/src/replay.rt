@@ -1,19 +1,19 @@
-//! The replay of an order: the calls one at a time, from a ledger.
+//! The replay of an order: its steps one at a time, from a ledger.
 
-ghost use Rattle.std.specs.Prelude.{◌≡◌, ◌<◌, ◌^◌, ◌+◌, All, IfOk, length, map, slice_get, ℕ, Some, Ok, Err};
+ghost use Rattle.std.specs.Prelude.{◌≡◌, ◌<◌, ◌^◌, ◌+◌, IfOk, length, map, slice_get, ℕ, Some, Ok, Err};
 ghost use Rattle.kmipa_store.specs.Choices.{IsSound};
 ghost use Rattle.kmipa_record.specs.Declarations.{DeclarationOf};
 ghost use Rattle.kmipa_msgs.specs.Messages.{rules_of};
-ghost use Rattle.kmipa_check.specs.Calls.{CallOf, call_of, ordered};
 ghost use Rattle.kmipa_check.specs.Late.{FirstLate};
 ghost use Rattle.kmipa_check.specs.Ordering.{Decided};
 ghost use Rattle.kmipa_check.specs.Runs.{rules_declared};
+ghost use Rattle.kmipa_check.specs.Steps.{StepOf, step_of};
 ghost use Rattle.kmipa_check.specs.Verdicts.{RunsBack};
 ghost use Rattle.kmipa_check.specs.Replays.{Replayed, TellsRun, TurnTaken, AllReadable};
 
-use crate::call::Call;
 use crate::fault::CheckFault;
 use crate::late::{first_late, is_at};
+use crate::step::Step;
 use crate::verdict::{Refused, Verdict};
 use kmipa_batch::{CallRefusal, take_call};
 use kmipa_msgs::Rules;
@@ -21,26 +21,23 @@ use kmipa_ops::Why;
 use kmipa_store::Ledger;
 use std::alloc::Global;
 
-/// Takes the calls at these places, one after the other: whether all are possible, or the first that isn't, the item and the lowest
-/// reason.
+/// Takes the steps one after the other: whether all are possible, or the first that isn't, the item and the lowest reason.
 pub fn replay<L: Ledger>(
     alloc: Global,
     ledger: &mut L,
     rules: &Rules,
-    calls: &[Call],
-    order: &[usize],
+    steps: &[Step],
 ) -> Result<Verdict, CheckFault>
-    requires within { All (λ place. place < length calls.now) order.now }
     requires sound { IsSound (L.state ledger.old).now }
-    requires readable { AllReadable (ordered (map call_of calls.now) order.now) }
+    requires readable { AllReadable (map step_of steps.now) }
     ensures { (declared : DeclarationOf) → rules_of rules.now ≡ rules_declared declared
-        → Replayed declared (ordered (map call_of calls.now) order.now) 0 (L.state ledger.old).now
-        → TellsRun declared (ordered (map call_of calls.now) order.now) result }
+        → Replayed declared (map step_of steps.now) 0 (L.state ledger.old).now
+        → TellsRun declared (map step_of steps.now) result }
 {
-    let late = first_late(calls, order);
+    let late = first_late(steps);
     let mut turn = 0;
-    'turns: while turn < order.len() {
-        match take_turn(alloc, ledger, rules, calls, order, late, turn) {
+    'turns: while turn < steps.len() {
+        match take_turn(alloc, ledger, rules, steps, late, turn) {
             Ok(None) => {}
             Ok(Some(refused)) => return Ok(Verdict::No(refused)),
             Err(fault) => return Err(fault),
@@ -50,45 +47,43 @@ pub fn replay<L: Ledger>(
     Ok(Verdict::Yes)
 }
 
-/// Takes the call of a turn; or says why it is impossible.
+/// Takes the step of a turn; or says why it is impossible.
 fn take_turn<L: Ledger>(
     alloc: Global,
     ledger: &mut L,
     rules: &Rules,
-    calls: &[Call],
-    order: &[usize],
+    steps: &[Step],
     late: Option<usize>,
     turn: usize,
 ) -> Result<Option<Refused>, CheckFault>
-    requires below { turn < length order.now }
-    requires within { All (λ place. place < length calls.now) order.now }
-    requires late { FirstLate (ordered (map call_of calls.now) order.now) late }
+    requires below { turn < length steps.now }
+    requires late { FirstLate (map step_of steps.now) late }
     requires sound { IsSound (L.state ledger.old).now }
-    requires readable { AllReadable (ordered (map call_of calls.now) order.now) }
+    requires readable { AllReadable (map step_of steps.now) }
     ensures sound { IfOk result (λ refused. IsSound (L.state ledger.new).now) }
-    ensures taken { TurnTaken (rules_of rules.now) (ordered (map call_of calls.now) order.now) turn (L.state ledger.old).now result (L.state ledger.new).now }
+    ensures taken { TurnTaken (rules_of rules.now) (map step_of steps.now) turn (L.state ledger.old).now result (L.state ledger.new).now }
 {
-    let call = &calls[order[turn]];
+    let step = &steps[turn];
     if is_at(late, turn) {
-        return Ok(Some(refused_turn(turn, call, Why::EarlierCallLate)));
+        return Ok(Some(refused_turn(turn, step, Why::EarlierCallLate)));
     }
-    if runs_back(calls, order, turn) {
-        return Ok(Some(refused_turn(turn, call, Why::StampRunsBack)));
+    if runs_back(steps, turn) {
+        return Ok(Some(refused_turn(turn, step, Why::StampRunsBack)));
     }
-    match take_call(alloc, ledger, rules, &call.request, &call.response) {
+    match take_call(alloc, ledger, rules, step.request, step.response) {
         Ok(()) => Ok(None),
-        Err(refusal) => refused_call(turn, call, refusal),
+        Err(refusal) => refused_call(turn, step, refusal),
     }
 }
 
 /// A turn, counted from 0, that is impossible itself.
-fn refused_turn(turn: usize, call: &Call, why: Why) -> Refused
+fn refused_turn(turn: usize, step: &Step, why: Why) -> Refused
     requires { turn < 2 ^ 63 }
-    ensures { result ≡ record { turn = turn + 1; call = call.now.number; item = 0; why = why } }
+    ensures { result ≡ record { turn = turn + 1; call = step.now.number; item = 0; why = why } }
 {
     Refused {
         turn: turn + 1,
-        call: call.number,
+        call: step.number,
         item: 0,
         why,
     }
@@ -97,18 +92,18 @@ fn refused_turn(turn: usize, call: &Call, why: Why) -> Refused
 /// A turn, counted from 0, whose call was not taken.
 fn refused_call(
     turn: usize,
-    call: &Call,
+    step: &Step,
     refusal: CallRefusal,
 ) -> Result<Option<Refused>, CheckFault>
     requires { turn < 2 ^ 63 }
     ensures item { (item : ℕ) (why : Why) → refusal ≡ CallRefusal.Impossible item why
-        → result ≡ Ok (Some (record { turn = turn + 1; call = call.now.number; item = item; why = why })) }
+        → result ≡ Ok (Some (record { turn = turn + 1; call = step.now.number; item = item; why = why })) }
     ensures memory { refusal ≡ CallRefusal.Memory → result ≡ Err CheckFault.Memory }
 {
     match refusal {
         CallRefusal::Impossible(item, why) => Ok(Some(Refused {
             turn: turn + 1,
-            call: call.number,
+            call: step.number,
             item,
             why,
         })),
@@ -116,22 +111,21 @@ fn refused_call(
     }
 }
 
-/// Whether the Time Stamp of a turn's call is less than that of the turn before.
-fn runs_back(calls: &[Call], order: &[usize], turn: usize) -> bool
-    requires below { turn < length order.now }
-    requires within { All (λ place. place < length calls.now) order.now }
-    ensures { (c : CallOf) → slice_get (ordered (map call_of calls.now) order.now) turn ≡ Some c → Decided result (RunsBack (ordered (map call_of calls.now) order.now) turn c) }
+/// Whether the Time Stamp of a turn's step is less than that of the turn before.
+fn runs_back(steps: &[Step], turn: usize) -> bool
+    requires below { turn < length steps.now }
+    ensures { (s : StepOf) → slice_get (map step_of steps.now) turn ≡ Some s → Decided result (RunsBack (map step_of steps.now) turn s) }
 {
     if turn == 0 {
         return false;
     }
-    let now = stamp_of(&calls[order[turn]]);
-    let last = stamp_of(&calls[order[turn - 1]]);
+    let now = stamp_of(&steps[turn]);
+    let last = stamp_of(&steps[turn - 1]);
     now < last
 }
 
-fn stamp_of(call: &Call) -> i64
-    ensures { result ≡ call.now.response.stamp }
+fn stamp_of(step: &Step) -> i64
+    ensures { result ≡ step.now.response.now.stamp }
 {
-    call.response.stamp
+    step.response.stamp
 }

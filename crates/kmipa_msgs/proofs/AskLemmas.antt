@@ -2,8 +2,8 @@
 use Rattle.std.proofs.Common.{◌≡◌, ℕ, Bool, true, false, cond, List, Option, Some, None, Result, Ok, Err, refl, ap, ◌∙◌, inl, inr, ◌⊎◌}
 use Rattle.kmipa_ttlv.specs.Tree.{Tree, Trees}
 use Rattle.kmipa_attrs.specs.Fields.{first, at, inside, or_none, value_in, as_structure, as_enumeration, as_bytes}
-use Rattle.kmipa_attrs.specs.Sets.{Attributes}
 use Rattle.kmipa_attrs.specs.Readings.{Reads, IsWrong, NeededFault, both, map_ok, and_then}
+use Rattle.kmipa_attrs.specs.Tags.{operation_tag, request_payload, unique_batch_item_id}
 use Rattle.kmipa_attrs.specs.declared.fields.Field.{Field}
 use Rattle.kmipa_attrs.specs.declared.fields.Field.TheVariants.{Absent, Wrong, There}
 use Rattle.kmipa_attrs.proofs.ReadingLemmas.{reads_both, reads_as, reads_then}
@@ -11,68 +11,16 @@ use Rattle.kmipa_msgs.specs.declared.kind.OutsideKind.{OutsideKind}
 use Rattle.kmipa_msgs.specs.declared.kind.OutsideKind
 use Rattle.kmipa_msgs.specs.declared.kind.OutsideKind.TheVariants.{Missing}
 use Rattle.kmipa_msgs.specs.declared.operation.Operation.{Operation}
-use Rattle.kmipa_msgs.specs.declared.operation.Operation.TheVariants.{Create, Register, Get, GetAttributes, Activate, Revoke, Destroy, Idle, Other}
 use Rattle.kmipa_msgs.specs.Kinds.{kind_number}
 use Rattle.kmipa_msgs.specs.Operations.{operation_of, is_judged}
-use Rattle.kmipa_msgs.specs.Messages.{RegisterOf, GetAttributesOf, RevokeOf, AskedOf, creates, registers, gets, gets_attributes, activates, revokes, destroys, asked_of, AskOf}
+use Rattle.kmipa_msgs.specs.Messages.{AskedOf, asked_of, AskOf}
 use Rattle.kmipa_msgs.specs.declared.request.Asked.{Asked}
 use Rattle.kmipa_msgs.specs.Tables.{children, Listed, Unlisted}
-use Rattle.kmipa_msgs.specs.Registers.{SaysRegister, register_in}
-use Rattle.kmipa_msgs.specs.Creates.{SaysCreate, create_in}
-use Rattle.kmipa_msgs.specs.Gets.{SaysGet, get_in}
-use Rattle.kmipa_msgs.specs.GetsAttributes.{SaysGetAttributes, get_attributes_in}
-use Rattle.kmipa_msgs.specs.Identifiers.{SaysIdentifier, identifier_in}
-use Rattle.kmipa_msgs.specs.Revokes.{SaysRevoke, revoke_in}
 use Rattle.kmipa_msgs.specs.Asks.{SaysAsked, AskedFault, SaysAsk, AskFault, asked_in, unless_wrong, form_in, payload_asked, operation_in, ask_at, ask_in}
 use Rattle.kmipa_msgs.specs.Asks.AskFault.{in_operation, in_unread, in_payload, in_asked}
 use Rattle.kmipa_msgs.proofs.TableLemmas.{same_kind, reads_listed, apart_needed, apart_unlisted}
+use Rattle.kmipa_msgs.proofs.RowLemmas.{is_row}
 use Rattle.kmipa_msgs.proofs.ViewLemmas.{seen, right_seen}
-use Rattle.kmipa_msgs.proofs.RegisterLemmas.{reads_register}
-use Rattle.kmipa_msgs.proofs.CreateLemmas.{reads_create}
-use Rattle.kmipa_msgs.proofs.GetLemmas.{reads_get}
-use Rattle.kmipa_msgs.proofs.GetAttributesLemmas.{reads_get_attributes}
-use Rattle.kmipa_msgs.proofs.IdentifierLemmas.{reads_identifier}
-use Rattle.kmipa_msgs.proofs.RevokeLemmas.{reads_revoke}
-
--- what is asked: a clause for each operation
-pub reads_asked : (operation : Operation) (ts : Trees) → Reads kind_number (SaysAsked operation ts) (AskedFault operation ts) (asked_in operation ts)
-reads_asked Create ts = reads_as kind_number _ _ (SaysAsked Create ts) (AskedFault Create ts) creates (create_in ts) (λ x s. s) from (λ k f. f) (λ k f. f) (reads_create ts)
-  where
-    from : (y : AskedOf) → SaysAsked Create ts y → (x : Attributes) × SaysCreate ts x × (y ≡ creates x)
-    from (creates x) s = (x, s, refl)
-    from _ s = absurd s
-reads_asked Register ts = reads_as kind_number _ _ (SaysAsked Register ts) (AskedFault Register ts) registers (register_in ts) (λ x s. s) from (λ k f. f) (λ k f. f) (reads_register ts)
-  where
-    from : (y : AskedOf) → SaysAsked Register ts y → (x : RegisterOf) × SaysRegister ts x × (y ≡ registers x)
-    from (registers x) s = (x, s, refl)
-    from _ s = absurd s
-reads_asked Get ts = reads_as kind_number _ _ (SaysAsked Get ts) (AskedFault Get ts) gets (get_in ts) (λ x s. s) from (λ k f. f) (λ k f. f) (reads_get ts)
-  where
-    from : (y : AskedOf) → SaysAsked Get ts y → (x : Option (List ℕ)) × SaysGet ts x × (y ≡ gets x)
-    from (gets x) s = (x, s, refl)
-    from _ s = absurd s
-reads_asked GetAttributes ts = reads_as kind_number _ _ (SaysAsked GetAttributes ts) (AskedFault GetAttributes ts) gets_attributes (get_attributes_in ts) (λ x s. s) from (λ k f. f) (λ k f. f) (reads_get_attributes ts)
-  where
-    from : (y : AskedOf) → SaysAsked GetAttributes ts y → (x : GetAttributesOf) × SaysGetAttributes ts x × (y ≡ gets_attributes x)
-    from (gets_attributes x) s = (x, s, refl)
-    from _ s = absurd s
-reads_asked Activate ts = reads_as kind_number _ _ (SaysAsked Activate ts) (AskedFault Activate ts) activates (identifier_in ts) (λ x s. s) from (λ k f. f) (λ k f. f) (reads_identifier ts)
-  where
-    from : (y : AskedOf) → SaysAsked Activate ts y → (x : Option (List ℕ)) × SaysIdentifier ts x × (y ≡ activates x)
-    from (activates x) s = (x, s, refl)
-    from _ s = absurd s
-reads_asked Revoke ts = reads_as kind_number _ _ (SaysAsked Revoke ts) (AskedFault Revoke ts) revokes (revoke_in ts) (λ x s. s) from (λ k f. f) (λ k f. f) (reads_revoke ts)
-  where
-    from : (y : AskedOf) → SaysAsked Revoke ts y → (x : RevokeOf) × SaysRevoke ts x × (y ≡ revokes x)
-    from (revokes x) s = (x, s, refl)
-    from _ s = absurd s
-reads_asked Destroy ts = reads_as kind_number _ _ (SaysAsked Destroy ts) (AskedFault Destroy ts) destroys (identifier_in ts) (λ x s. s) from (λ k f. f) (λ k f. f) (reads_identifier ts)
-  where
-    from : (y : AskedOf) → SaysAsked Destroy ts y → (x : Option (List ℕ)) × SaysIdentifier ts x × (y ≡ destroys x)
-    from (destroys x) s = (x, s, refl)
-    from _ s = absurd s
-reads_asked (Idle n) ts = record { said = refl; only = λ y e. e; right = λ k w. w }
-reads_asked (Other n) ts = record { said = refl; only = λ y e. e; right = λ k w. w }
 
 reads_form : {A : Type 0} (b : Bool) (f : Field A) (k : OutsideKind) → Reads kind_number (λ (u : Unit {0}). Unit {0}) (λ j. (b ≡ true) × (j ≡ k) × IsWrong f) (cond b (unless_wrong f k) (Ok tt))
 reads_form false f k = record { said = tt; only = λ y h. refl; right = λ j h. let e : false ≡ true = h.0 in cc }
@@ -81,19 +29,19 @@ reads_form true Wrong k = record { here = (refl, refl, tt); least = λ j lt h. s
 reads_form true (There x) k = record { said = tt; only = λ y h. refl; right = λ j h. h.2 }
 
 abbrev PayloadFault : Operation → Trees → OutsideKind → Type 0
-PayloadFault operation ts k = ((is_judged operation ≡ true) × (k ≡ Missing) × IsWrong (at as_structure 0x42_0079 ts)) ⊎ AskedFault operation (inside 0x42_0079 ts) k
+PayloadFault operation ts k = ((is_judged operation ≡ true) × (k ≡ Missing) × IsWrong (at as_structure request_payload ts)) ⊎ AskedFault operation (inside request_payload ts) k
 
-reads_payload_asked : (operation : Operation) (ts : Trees) → Reads kind_number (SaysAsked operation (inside 0x42_0079 ts)) (PayloadFault operation ts) (payload_asked operation ts)
+reads_payload_asked : (operation : Operation) (ts : Trees) → Reads kind_number (SaysAsked operation (inside request_payload ts)) (PayloadFault operation ts) (payload_asked operation ts)
 reads_payload_asked operation ts =
-    reads_as kind_number _ _ (SaysAsked operation (inside 0x42_0079 ts)) (PayloadFault operation ts) (λ p. p.1) (both kind_number (form_in operation (at as_structure 0x42_0079 ts)) (asked_in operation (inside 0x42_0079 ts)))
+    reads_as kind_number _ _ (SaysAsked operation (inside request_payload ts)) (PayloadFault operation ts) (λ p. p.1) (both kind_number (form_in operation (at as_structure request_payload ts)) (asked_in operation (inside request_payload ts)))
     (λ y s. s.1) (λ y t. ((tt, y), (tt, t), refl)) (λ k w. w) (λ k w. w)
-    (reads_both kind_number _ _ _ _ _ _ (reads_form (is_judged operation) (at as_structure 0x42_0079 ts) Missing) (reads_asked operation (inside 0x42_0079 ts)))
+    (reads_both kind_number _ _ _ _ _ _ (reads_form (is_judged operation) (at as_structure request_payload ts) Missing) ((is_row operation).reads_asked (inside request_payload ts)))
 
 pub reads_ask : (t : Tree) → Reads kind_number (SaysAsk t) (AskFault t) (ask_in t)
 unfolding ask_in
 reads_ask t =
     let ts = children t in
-    let field = at as_enumeration 0x42_005C ts in
+    let field = at as_enumeration operation_tag ts in
     let off = OutsideKind.TheVariants.Operation in
     reads_as kind_number _ _ (SaysAsk t) (AskFault t) (ask_at ts) (and_then (λ operation. payload_asked operation ts) (operation_in ts))
     (λ a s. record { operation = s.0; is = s.1.0; asked = s.1.1; batch_id = refl })
@@ -108,7 +56,7 @@ reads_ask t =
       | in_payload o l j e a ↦ inr (o, (l, inl (j, e, a)))
       | in_asked o l a ↦ inr (o, (l, inr a))
     ])
-    (reads_then kind_number (Listed field operation_of) (λ k. NeededFault field Missing Missing k ⊎ ((k ≡ off) × Unlisted field operation_of)) (λ operation. SaysAsked operation (inside 0x42_0079 ts)) (λ operation. PayloadFault operation ts)
+    (reads_then kind_number (Listed field operation_of) (λ k. NeededFault field Missing Missing k ⊎ ((k ≡ off) × Unlisted field operation_of)) (λ operation. SaysAsked operation (inside request_payload ts)) (λ operation. PayloadFault operation ts)
     (λ operation. payload_asked operation ts) (operation_in ts) (reads_listed field operation_of Missing off) (λ operation. reads_payload_asked operation ts)
     (λ k x w s. elim w [ inl a ↦ apart_needed field s.number Missing Missing k a s.is | inr b ↦ apart_unlisted field operation_of x b.1 s ]))
   where
@@ -131,7 +79,7 @@ made : Option (List ℕ) → AskedOf → AskOf
 made b a = record { batch_id = b; asked = a }
 
 pub ask_seen : (t : Tree) (ts : Trees) (operation : Operation) (b : Option (List ℕ)) (r : Result AskedOf OutsideKind) → Some ts ≡ as_structure t → Ok operation ≡ operation_in ts
-    → b ≡ value_in (at as_bytes 0x42_0093 ts) → r ≡ payload_asked operation ts → map_ok (λ a. record { batch_id = b; asked = a }) r ≡ ask_in t
+    → b ≡ value_in (at as_bytes unique_batch_item_id ts) → r ≡ payload_asked operation ts → map_ok (λ a. record { batch_id = b; asked = a }) r ≡ ask_in t
 unfolding ask_in whole made
 ask_seen t ts operation b r e o be re =
     ap (λ (x : Option (List ℕ)). map_ok (made x) r) be
@@ -144,8 +92,8 @@ abbrev pub asked_view : Unit {0} × Asked → AskedOf
 asked_view p = asked_of p.1
 
 pub seen_asked : (operation : Operation) (ts : Trees) (shape : Result (Unit {0}) OutsideKind) (us : Trees) (asked : Result Asked OutsideKind) (rows : Result (Unit {0} × Asked) OutsideKind)
-    → rows ≡ both kind_number shape asked → shape ≡ form_in operation (at as_structure 0x42_0079 ts) → map_ok asked_of asked ≡ asked_in operation us → us ≡ inside 0x42_0079 ts
+    → rows ≡ both kind_number shape asked → shape ≡ form_in operation (at as_structure request_payload ts) → map_ok asked_of asked ≡ asked_in operation us → us ≡ inside request_payload ts
     → map_ok asked_view rows ≡ payload_asked operation ts
 seen_asked operation ts shape us asked rows e s a u =
-    seen (λ q. q.1) (λ q. (q.0, asked_of q.1)) rows (both kind_number (form_in operation (at as_structure 0x42_0079 ts)) (asked_in operation (inside 0x42_0079 ts)))
-    (right_seen kind_number asked_of shape asked rows (form_in operation (at as_structure 0x42_0079 ts)) (asked_in operation (inside 0x42_0079 ts)) e s (a ∙ ap (asked_in operation) u))
+    seen (λ q. q.1) (λ q. (q.0, asked_of q.1)) rows (both kind_number (form_in operation (at as_structure request_payload ts)) (asked_in operation (inside request_payload ts)))
+    (right_seen kind_number asked_of shape asked rows (form_in operation (at as_structure request_payload ts)) (asked_in operation (inside request_payload ts)) e s (a ∙ ap (asked_in operation) u))

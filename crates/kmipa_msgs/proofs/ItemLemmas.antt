@@ -6,6 +6,7 @@ use Rattle.kmipa_ttlv.specs.Tree.{Tree, Trees, more}
 use Rattle.kmipa_ttlv.specs.ViewTree.{view_tree, view_trees}
 use Rattle.kmipa_ttlv.specs.declared.view.View.{View}
 use Rattle.kmipa_attrs.specs.Fields.{every}
+use Rattle.kmipa_attrs.specs.Tags.{batch_item}
 use Rattle.kmipa_attrs.proofs.FieldLemmas.{tag_of-view, left_at}
 use Rattle.kmipa_msgs.specs.declared.kind.OutsideKind.{OutsideKind}
 use Rattle.kmipa_msgs.specs.Outside.{before, each_in, from_one}
@@ -44,7 +45,7 @@ every_at tag v ts b e = ap (λ (n : ℕ). cond (n == tag) (view_tree v ∷ every
 
 -- the items of what is left
 abbrev pub left_items : {X : Type 0} → (ℕ → Tree → Result X OutsideKind) → ℕ → List View → Result (List X) (ℕ × OutsideKind)
-left_items read i vs = each_in read (every 0x42_000F (view_trees (drop i vs)))
+left_items read i vs = each_in read (every batch_item (view_trees (drop i vs)))
 
 -- the items so far, and those that are left behind them
 abbrev pub split_items : {X : Type 0} → (ℕ → Tree → Result X OutsideKind) → List X → ℕ → List View → Result (List X) (ℕ × OutsideKind)
@@ -60,21 +61,21 @@ items_begin {X} read xs vs e = by (left_items read 0 vs) ∙ ap (λ (ys : List X
         err : ℕ → OutsideKind → Result (List X) (ℕ × OutsideKind)
         err n k = Err (n, k)
 
-pub items_passed : {X : Type 0} (read : ℕ → Tree → Result X OutsideKind) (xs : List X) (i : ℕ) (vs : List View) (v : View) → i < length vs → v ≡ get_or vs i v → (v.tag.number ≡ 0x42_000F → ⊥)
+pub items_passed : {X : Type 0} (read : ℕ → Tree → Result X OutsideKind) (xs : List X) (i : ℕ) (vs : List View) (v : View) → i < length vs → v ≡ get_or vs i v → (v.tag.number ≡ batch_item → ⊥)
     → split_items read xs i vs ≡ split_items read xs (i + 1) vs
-items_passed read xs i vs v h is e = ap (λ (ts : List Tree). prefixed xs (each_in (behind xs read) ts)) (ap (every 0x42_000F) (left_at i vs v h is) ∙ every_at 0x42_000F v _ false (ne_eqb v.tag.number 0x42_000F e))
+items_passed read xs i vs v h is e = ap (λ (ts : List Tree). prefixed xs (each_in (behind xs read) ts)) (ap (every batch_item) (left_at i vs v h is) ∙ every_at batch_item v _ false (ne_eqb v.tag.number batch_item e))
 
 -- an item that is met
-items_met : {X : Type 0} (read : ℕ → Tree → Result X OutsideKind) (xs : List X) (r : Result X OutsideKind) (i : ℕ) (vs : List View) (v : View) → i < length vs → v ≡ get_or vs i v → v.tag.number ≡ 0x42_000F
+items_met : {X : Type 0} (read : ℕ → Tree → Result X OutsideKind) (xs : List X) (r : Result X OutsideKind) (i : ℕ) (vs : List View) (v : View) → i < length vs → v ≡ get_or vs i v → v.tag.number ≡ batch_item
     → r ≡ read (length xs) (view_tree v) → split_items read xs i vs ≡ prefixed xs (before r (left_items (λ j. behind xs read (suc j)) (i + 1) vs))
 items_met {X} read xs r i vs v h is e re =
     let rest = left_items (λ j. behind xs read (suc j)) (i + 1) vs in
-    ap (λ (ts : List Tree). prefixed xs (each_in (behind xs read) ts)) (ap (every 0x42_000F) (left_at i vs v h is) ∙ every_at 0x42_000F v _ true (eq-eqb v.tag.number 0x42_000F e))
+    ap (λ (ts : List Tree). prefixed xs (each_in (behind xs read) ts)) (ap (every batch_item) (left_at i vs v h is) ∙ every_at batch_item v _ true (eq-eqb v.tag.number batch_item e))
     ∙ ap (λ (f : Tree → Result X OutsideKind). prefixed xs (before (f (view_tree v)) rest)) (behind_first xs read 0)
     ∙ ap (λ (n : ℕ). prefixed xs (before (read n (view_tree v)) rest)) (omega arith)
     ∙ ap (λ (q : Result X OutsideKind). prefixed xs (before q rest)) (sym re)
 
-pub items_found : {X : Type 0} (read : ℕ → Tree → Result X OutsideKind) (xs ys : List X) (x : X) (i : ℕ) (vs : List View) (v : View) → i < length vs → v ≡ get_or vs i v → v.tag.number ≡ 0x42_000F
+pub items_found : {X : Type 0} (read : ℕ → Tree → Result X OutsideKind) (xs ys : List X) (x : X) (i : ℕ) (vs : List View) (v : View) → i < length vs → v ≡ get_or vs i v → v.tag.number ≡ batch_item
     → Ok x ≡ read (length xs) (view_tree v) → ys ≡ xs ++ x ∷ [] → split_items read xs i vs ≡ split_items read ys (i + 1) vs
 items_found {X} read xs ys x i vs v h is e xe ye =
     items_met read xs (Ok x) i vs v h is e xe
@@ -82,7 +83,7 @@ items_found {X} read xs ys x i vs v h is e xe ye =
     ∙ ap (λ (f : ℕ → Tree → Result X OutsideKind). prefixed (xs ++ x ∷ []) (left_items f (i + 1) vs)) (sym (behind_more xs x read))
     ∙ ap (λ (zs : List X). split_items read zs (i + 1) vs) (sym ye)
 
-pub items_faulty : {X : Type 0} (read : ℕ → Tree → Result X OutsideKind) (xs : List X) (n : ℕ) (k : OutsideKind) (i : ℕ) (vs : List View) (v : View) → i < length vs → v ≡ get_or vs i v → v.tag.number ≡ 0x42_000F
+pub items_faulty : {X : Type 0} (read : ℕ → Tree → Result X OutsideKind) (xs : List X) (n : ℕ) (k : OutsideKind) (i : ℕ) (vs : List View) (v : View) → i < length vs → v ≡ get_or vs i v → v.tag.number ≡ batch_item
     → Err k ≡ read (length xs) (view_tree v) → n ≡ length xs → from_one (split_items read xs i vs) ≡ Err (n + 1, k)
 items_faulty {X} read xs n k i vs v h is e ke ne =
     ap (λ (r : Result (List X) (ℕ × OutsideKind)). from_one r) (items_met read xs (Err k) i vs v h is e ke) ∙ ap (λ (m : ℕ). err m) (omega (arith, ne))
@@ -92,7 +93,7 @@ items_faulty {X} read xs n k i vs v h is e ke ne =
 
 pub items_done : {X : Type 0} (read : ℕ → Tree → Result X OutsideKind) (xs : List X) (i : ℕ) (vs : List View) → length vs ≤ i → from_one (split_items read xs i vs) ≡ Ok xs
 unfolding every
-items_done {X} read xs i vs h = ap (λ (us : List View). from_one (prefixed xs (each_in (behind xs read) (every 0x42_000F (view_trees us))))) (drop_all i vs h) ∙ ap (λ (zs : List X). ok zs) (append_nil xs)
+items_done {X} read xs i vs h = ap (λ (us : List View). from_one (prefixed xs (each_in (behind xs read) (every batch_item (view_trees us))))) (drop_all i vs h) ∙ ap (λ (zs : List X). ok zs) (append_nil xs)
   where
     ok : List X → Result (List X) (ℕ × OutsideKind)
     ok zs = Ok zs

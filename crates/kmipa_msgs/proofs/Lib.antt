@@ -7,6 +7,10 @@ pub mod OutsideLemmas
 pub mod BlockLemmas
 pub mod AttributeFieldLemmas
 pub mod LowKindLemmas
+pub mod RowLaws
+pub mod RowLemmas
+pub mod ActivateLemmas
+pub mod DestroyLemmas
 pub mod IdentifierLemmas
 pub mod GetLemmas
 pub mod GetAttributesLemmas
@@ -22,7 +26,7 @@ pub mod WritingLemmas
 pub mod WrittenFieldLemmas
 pub mod WrittenKeyLemmas
 pub mod WrittenAttributeLemmas
-pub mod WrittenPayloadLemmas
+pub mod WrittenTypeLemmas
 pub mod WrittenMessageLemmas
 pub mod WrittenRequestLemmas
 pub mod WrittenResponseLemmas

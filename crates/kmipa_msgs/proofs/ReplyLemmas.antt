@@ -11,6 +11,7 @@ use Rattle.kmipa_ttlv.specs.ViewTree.{view_trees}
 use Rattle.kmipa_ttlv.specs.declared.view.View.{View}
 use Rattle.kmipa_attrs.specs.Fields.{first, at, value_in, or_none, as_structure, as_enumeration, as_bytes}
 use Rattle.kmipa_attrs.specs.Readings.{Reads, optional, both, map_ok, and_then}
+use Rattle.kmipa_attrs.specs.Tags.{operation_tag, response_payload, result_reason, result_status, unique_batch_item_id}
 use Rattle.kmipa_attrs.specs.declared.fields.Field.{Field}
 use Rattle.kmipa_attrs.specs.declared.fields.Field.TheVariants.{Absent, Wrong, There}
 use Rattle.kmipa_attrs.proofs.ReadingLemmas.{reads_both, reads_as, reads_then, reads_optional}
@@ -183,10 +184,10 @@ pub reads_answer : (a : Option AskOf) (t : Tree) → Reads kind_number (SaysAnsw
 unfolding answer_in
 reads_answer a t =
     let ts = children t in
-    let name = at as_enumeration 0x42_005C ts in
-    let reason = at as_enumeration 0x42_007E ts in
-    let status = at as_enumeration 0x42_007F ts in
-    let shown = first 0x42_007C ts in
+    let name = at as_enumeration operation_tag ts in
+    let reason = at as_enumeration result_reason ts in
+    let status = at as_enumeration result_status ts in
+    let shown = first response_payload ts in
     reads_as kind_number _ _ (SaysAnswer a t) (AnswerFault a t) (answer_at ts) (answer_rows a ts)
     (λ p s. record {
       operation = s.0.0;
@@ -225,27 +226,27 @@ abbrev pub answer_view : Option (List ℕ) → (Option ℕ × Option ℕ) × (St
 answer_view b p = record { operation = p.0.0; batch_id = b; status = p.1.0; reason = p.0.1; payload = option_map payload_of p.1.1 }
 
 pub seen_answer : (a : Option AskOf) (t : Tree) (ts : Trees) (b : Option (List ℕ)) (plain : Result (Option ℕ × Option ℕ) OutsideKind) (outcome : Result (Status × Option Payload) OutsideKind) (rows : Result ((Option ℕ × Option ℕ) × (Status × Option Payload)) OutsideKind)
-    → Some ts ≡ as_structure t → b ≡ value_in (at as_bytes 0x42_0093 ts) → rows ≡ both kind_number plain outcome
-    → plain ≡ both kind_number (optional (at as_enumeration 0x42_005C ts) Missing) (optional (at as_enumeration 0x42_007E ts) Missing)
-    → map_ok outcome_of outcome ≡ outcome_in (own a (at as_enumeration 0x42_005C ts)) ts
+    → Some ts ≡ as_structure t → b ≡ value_in (at as_bytes unique_batch_item_id ts) → rows ≡ both kind_number plain outcome
+    → plain ≡ both kind_number (optional (at as_enumeration operation_tag ts) Missing) (optional (at as_enumeration result_reason ts) Missing)
+    → map_ok outcome_of outcome ≡ outcome_in (own a (at as_enumeration operation_tag ts)) ts
     → map_ok (answer_view b) rows ≡ answer_in a t
 unfolding answer_in whole
 seen_answer a t ts b plain outcome rows te be e p o =
     ap (λ (x : Option (List ℕ)). map_ok (answer_view x) rows) be
     ∙ seen (answer_at ts) (λ q. (q.0, outcome_of q.1)) rows (answer_rows a ts)
-    (right_seen kind_number outcome_of plain outcome rows (both kind_number (optional (at as_enumeration 0x42_005C ts) Missing) (optional (at as_enumeration 0x42_007E ts) Missing)) (outcome_in (own a (at as_enumeration 0x42_005C ts)) ts) e p o)
+    (right_seen kind_number outcome_of plain outcome rows (both kind_number (optional (at as_enumeration operation_tag ts) Missing) (optional (at as_enumeration result_reason ts) Missing)) (outcome_in (own a (at as_enumeration operation_tag ts)) ts) e p o)
     ∙ ap (λ (u : Option Trees). whole a (or_none u)) te
 
 -- the outcome as the program has it
-pub no_status : (operation : Option Operation) (ts : Trees) (k : OutsideKind) → Err k ≡ status_in (at as_enumeration 0x42_007F ts) → Err k ≡ outcome_in operation ts
-no_status operation ts k e = ap (and_then (λ status. beside status (shown_in operation status (first 0x42_007C ts)))) e
+pub no_status : (operation : Option Operation) (ts : Trees) (k : OutsideKind) → Err k ≡ status_in (at as_enumeration result_status ts) → Err k ≡ outcome_in operation ts
+no_status operation ts k e = ap (and_then (λ status. beside status (shown_in operation status (first response_payload ts)))) e
 
-pub outcome_seen : (operation : Option Operation) (ts : Trees) (status : Status) (t : Option Tree) (r : Result (Option PayloadOf) OutsideKind) → Ok status ≡ status_in (at as_enumeration 0x42_007F ts) → t ≡ first 0x42_007C ts
+pub outcome_seen : (operation : Option Operation) (ts : Trees) (status : Status) (t : Option Tree) (r : Result (Option PayloadOf) OutsideKind) → Ok status ≡ status_in (at as_enumeration result_status ts) → t ≡ first response_payload ts
     → r ≡ shown_in operation status t → map_ok (λ p. (status, p)) r ≡ outcome_in operation ts
 outcome_seen operation ts status t r s te re =
     ap (beside status) re
     ∙ ap (λ (u : Option Tree). beside status (shown_in operation status u)) te
-    ∙ ap (and_then (λ z. beside z (shown_in operation z (first 0x42_007C ts)))) s
+    ∙ ap (and_then (λ z. beside z (shown_in operation z (first response_payload ts)))) s
 
 -- a structure without children
 pub bare : (t : Tree) (vs : List View) → Some (view_trees vs) ≡ as_structure t → is_bare t ≡ (length vs == 0)

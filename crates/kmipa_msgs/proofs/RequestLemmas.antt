@@ -4,6 +4,7 @@ use Rattle.std.proofs.lemmas.Bool.{ltb-false}
 use Rattle.kmipa_ttlv.specs.Tree.{Tree, Trees}
 use Rattle.kmipa_attrs.specs.Fields.{every, at, inside, as_enumeration, as_boolean}
 use Rattle.kmipa_attrs.specs.Readings.{Reads, IsWrong, both, kept_if, map_ok}
+use Rattle.kmipa_attrs.specs.Tags.{batch_error_continuation_option, batch_item, batch_order_option, request_header_tag, request_message}
 use Rattle.kmipa_attrs.specs.declared.fields.Field.{Field}
 use Rattle.kmipa_attrs.specs.declared.fields.Field.TheVariants.{Absent, Wrong, There}
 use Rattle.kmipa_attrs.proofs.ReadingLemmas.{reads_both, reads_as}
@@ -65,29 +66,29 @@ reads_bar true k = record { said = tt; only = λ y e. refl; right = λ j h. let 
 reads_bar false k = record { here = (refl, refl); least = λ j lt h. same_kind j k lt h.0 }
 
 abbrev RowFault : Trees → ℕ → OutsideKind → Type 0
-RowFault hs n k = (((k ≡ Version) × (is_version hs ≡ false)) ⊎ (((k ≡ Count) × (is_count hs n ≡ false)) ⊎ ((k ≡ Unordered) × (in_order (at as_boolean 0x42_0010 hs) n ≡ false))))
-    ⊎ (OptionFault (at as_enumeration 0x42_000E hs) k ⊎ ((k ≡ Missing) × IsWrong (at as_boolean 0x42_0010 hs)))
+RowFault hs n k = (((k ≡ Version) × (is_version hs ≡ false)) ⊎ (((k ≡ Count) × (is_count hs n ≡ false)) ⊎ ((k ≡ Unordered) × (in_order (at as_boolean batch_order_option hs) n ≡ false))))
+    ⊎ (OptionFault (at as_enumeration batch_error_continuation_option hs) k ⊎ ((k ≡ Missing) × IsWrong (at as_boolean batch_order_option hs)))
 
 abbrev RowSaid : Trees → ℕ → BatchOption × Bool → Type 0
-RowSaid hs n p = ((is_version hs ≡ true) × (is_count hs n ≡ true)) × (SaysOption (at as_enumeration 0x42_000E hs) p.0 × SaysOrder (at as_boolean 0x42_0010 hs) p.1)
+RowSaid hs n p = ((is_version hs ≡ true) × (is_count hs n ≡ true)) × (SaysOption (at as_enumeration batch_error_continuation_option hs) p.0 × SaysOrder (at as_boolean batch_order_option hs) p.1)
 
 reads_said : (hs : Trees) (n : ℕ) → Reads kind_number (RowSaid hs n) (RowFault hs n) (order_said hs n)
 unfolding order_said
 reads_said hs n =
-    let order = at as_boolean 0x42_0010 hs in
+    let order = at as_boolean batch_order_option hs in
     reads_as kind_number _ _ (RowSaid hs n) (RowFault hs n) (λ p. p.1) (both kind_number (plain_rows hs n) (said_rows hs))
     (λ p s. ((s.0.0, s.0.1.0), s.1)) (λ y s. (((tt, (tt, tt)), y), ((s.0.0, (s.0.1, tt)), s.1), refl)) (λ k w. w) (λ k w. w)
     (reads_both kind_number _ _ _ _ _ _
     (reads_both kind_number _ _ _ _ _ _ (reads_test (is_version hs) Version) (reads_both kind_number _ _ _ _ _ _ (reads_test (is_count hs n) Count) (reads_bar (in_order order n) Unordered)))
-    (reads_both kind_number _ _ _ _ _ _ (reads_option (at as_enumeration 0x42_000E hs)) (reads_order order)))
+    (reads_both kind_number _ _ _ _ _ _ (reads_option (at as_enumeration batch_error_continuation_option hs)) (reads_order order)))
 
 pub reads_header : (t : Tree) → Reads kind_number (SaysHeader t) (HeaderFault t) (header_in t)
 unfolding header_in
 reads_header t =
     let hs = request_header t in
     let n = length (batch t) in
-    let order = at as_boolean 0x42_0010 hs in
-    reads_gated (is_message 0x42_0078 0x42_0077 t) (RowSaid hs n) (RowFault hs n) (SaysHeader t) (HeaderFault t) header_at (order_said hs n)
+    let order = at as_boolean batch_order_option hs in
+    reads_gated (is_message request_message request_header_tag t) (RowSaid hs n) (RowFault hs n) (SaysHeader t) (HeaderFault t) header_at (order_said hs n)
     (λ e p s. record { message = e; version = s.0.0; count = s.0.1; option = s.1.0; ordered = s.1.1 })
     (λ h s. ((h.option, h.ordered), s.message, ((s.version, s.count), (s.option, s.ordered)), refl))
     (λ k w. elim w [
@@ -127,29 +128,29 @@ unfolding order_said
 seen_order hs n rows e = ap (map_ok (λ p. p.1)) e
 
 -- no message, a header at fault, items at fault, and a request
-pub no_request : (t : Tree) → is_message 0x42_0078 0x42_0077 t ≡ false → request_in t ≡ Err (0, NotAMessage)
+pub no_request : (t : Tree) → is_message request_message request_header_tag t ≡ false → request_in t ≡ Err (0, NotAMessage)
 unfolding request_in header_in
 no_request t e = ap (λ (b : Bool). headed request_at (gated b (map_ok header_at (order_said (request_header t) (length (batch t))))) (each_in (λ place. ask_in) (batch t))) e
 
 items_in : Trees → Result (List AskOf) (ℕ × OutsideKind)
-items_in ts = each_in (λ place. ask_in) (every 0x42_000F ts)
+items_in ts = each_in (λ place. ask_in) (every batch_item ts)
 
 request_of_parts : Trees → Result (BatchOption × Bool) OutsideKind → Result RequestOf (ℕ × OutsideKind)
 request_of_parts ts said = headed request_at (map_ok header_at said) (items_in ts)
 
-opened : (t : Tree) (ts hs : Trees) (n : ℕ) (said : Result (BatchOption × Bool) OutsideKind) → (is_message 0x42_0078 0x42_0077 t ≡ true) × (ts ≡ children t) × (hs ≡ inside 0x42_0077 (children t))
-    → n ≡ length (every 0x42_000F ts) → said ≡ order_said hs n → request_in t ≡ request_of_parts ts said
+opened : (t : Tree) (ts hs : Trees) (n : ℕ) (said : Result (BatchOption × Bool) OutsideKind) → (is_message request_message request_header_tag t ≡ true) × (ts ≡ children t) × (hs ≡ inside request_header_tag (children t))
+    → n ≡ length (every batch_item ts) → said ≡ order_said hs n → request_in t ≡ request_of_parts ts said
 unfolding request_in header_in request_of_parts items_in
 opened t ts hs n said p ne se =
     ap (λ (b : Bool). headed request_at (gated b (map_ok header_at (order_said (request_header t) (length (batch t))))) (each_in (λ place. ask_in) (batch t))) p.0
-    ∙ sym (λ i. headed request_at (map_ok header_at ((se ∙ (λ j. order_said (p.2 j) ((ne ∙ ap (λ (us : Trees). length (every 0x42_000F us)) p.1) j))) i)) (each_in (λ place. ask_in) (every 0x42_000F (p.1 i))))
+    ∙ sym (λ i. headed request_at (map_ok header_at ((se ∙ (λ j. order_said (p.2 j) ((ne ∙ ap (λ (us : Trees). length (every batch_item us)) p.1) j))) i)) (each_in (λ place. ask_in) (every batch_item (p.1 i))))
 
-pub no_header : (t : Tree) (ts hs : Trees) (n : ℕ) (k : OutsideKind) → (is_message 0x42_0078 0x42_0077 t ≡ true) × (ts ≡ children t) × (hs ≡ inside 0x42_0077 (children t))
-    → n ≡ length (every 0x42_000F ts) → Err k ≡ order_said hs n → request_in t ≡ Err (0, k)
+pub no_header : (t : Tree) (ts hs : Trees) (n : ℕ) (k : OutsideKind) → (is_message request_message request_header_tag t ≡ true) × (ts ≡ children t) × (hs ≡ inside request_header_tag (children t))
+    → n ≡ length (every batch_item ts) → Err k ≡ order_said hs n → request_in t ≡ Err (0, k)
 unfolding request_of_parts
 no_header t ts hs n k p ne se = opened t ts hs n (Err k) p ne se
 
-pub whole_request : (t : Tree) (ts hs : Trees) (n : ℕ) (q : BatchOption × Bool) → (is_message 0x42_0078 0x42_0077 t ≡ true) × (ts ≡ children t) × (hs ≡ inside 0x42_0077 (children t))
-    → n ≡ length (every 0x42_000F ts) → Ok q ≡ order_said hs n → request_in t ≡ map_ok (request_at (header_at q)) (from_one (each_in (λ place. ask_in) (every 0x42_000F ts)))
+pub whole_request : (t : Tree) (ts hs : Trees) (n : ℕ) (q : BatchOption × Bool) → (is_message request_message request_header_tag t ≡ true) × (ts ≡ children t) × (hs ≡ inside request_header_tag (children t))
+    → n ≡ length (every batch_item ts) → Ok q ≡ order_said hs n → request_in t ≡ map_ok (request_at (header_at q)) (from_one (each_in (λ place. ask_in) (every batch_item ts)))
 unfolding request_of_parts items_in
 whole_request t ts hs n q p ne se = opened t ts hs n (Ok q) p ne se

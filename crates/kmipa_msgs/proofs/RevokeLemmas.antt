@@ -1,19 +1,27 @@
 -- Revokes are read.
-use Rattle.std.proofs.Common.{◌≡◌, ℕ, List, Option, Result, refl, inl, inr}
-use Rattle.kmipa_ttlv.specs.Tree.{Trees}
-use Rattle.kmipa_attrs.specs.Fields.{at, inside, as_enumeration}
+use Rattle.std.proofs.Common.{◌≡◌, ℕ, List, Option, Result, refl, inl, inr, ◌==◌, [], ◌∷◌, Some, ap, ◌∙◌}
+use Rattle.kmipa_ttlv.specs.Tree.{Trees, Tree, scalar}
+use Rattle.kmipa_attrs.specs.Fields.{at, inside, as_enumeration, as_text}
 use Rattle.kmipa_attrs.specs.Readings.{Reads, needed, both, map_ok}
+use Rattle.kmipa_attrs.specs.Tags.{revocation_reason, revocation_reason_code, unique_identifier}
 use Rattle.kmipa_attrs.proofs.ReadingLemmas.{reads_both, reads_as, reads_needed}
 use Rattle.kmipa_msgs.specs.declared.kind.OutsideKind.{OutsideKind}
 use Rattle.kmipa_msgs.specs.declared.kind.OutsideKind.TheVariants.{Missing}
+use Rattle.kmipa_msgs.specs.declared.operation.Operation
 use Rattle.kmipa_msgs.specs.Kinds.{kind_number}
-use Rattle.kmipa_msgs.specs.Messages.{maybe_lent, RevokeOf}
+use Rattle.kmipa_msgs.specs.Messages.{operation_asked, maybe_lent, RevokeOf, AskedOf, revokes}
 use Rattle.kmipa_msgs.specs.Identifiers.{identifier_in}
-use Rattle.kmipa_msgs.specs.Revokes.{SaysRevoke, RevokeFault, revoke_rows, revoke_at, revoke_in}
+use Rattle.kmipa_msgs.specs.Revokes.{SaysRevoke, RevokeFault, revoke_rows, revoke_at, revoke_in, written_reason, revoke_fields, AsksRevoke, revoke_row}
 use Rattle.kmipa_msgs.specs.Revokes.RevokeFault.{in_identifier, in_code}
-use Rattle.kmipa_msgs.proofs.IdentifierLemmas.{reads_identifier}
+use Rattle.kmipa_msgs.proofs.IdentifierLemmas.{reads_identifier, reads_changed, changed_written, changed_filled}
 use Rattle.kmipa_msgs.proofs.ViewLemmas.{seen, right_seen}
 use denote.Bor.{Bor}
+use Rattle.kmipa_ttlv.specs.Tree
+use Rattle.kmipa_msgs.specs.WrittenFields.{in_order, field}
+use Rattle.kmipa_msgs.specs.Writable.{IsWritableAsked}
+use Rattle.kmipa_msgs.proofs.RowLaws.{IsRow}
+use Rattle.kmipa_msgs.proofs.WrittenFieldLemmas.{skipped, optional_written, required_written, inside_written}
+use Rattle.kmipa_msgs.specs.Rows.{asked_fields}
 
 pub reads_revoke : (ts : Trees) → Reads kind_number (SaysRevoke ts) (RevokeFault ts) (revoke_in ts)
 unfolding revoke_in
@@ -23,16 +31,52 @@ reads_revoke ts =
     (λ y t. ((y.code, y.id), (t.code, t.id), refl))
     (λ k f. elim f [ inl w ↦ in_code w | inr w ↦ in_identifier w.0 w.1 ])
     (λ k f. elim f [ in_identifier e w ↦ inr (e, w) | in_code w ↦ inl w ])
-    (reads_both kind_number _ _ _ _ _ _ (reads_needed kind_number Missing Missing (at as_enumeration 0x42_0082 (inside 0x42_0081 ts))) (reads_identifier ts))
+    (reads_both kind_number _ _ _ _ _ _ (reads_needed kind_number Missing Missing (at as_enumeration revocation_reason_code (inside revocation_reason ts))) (reads_identifier ts))
 
 -- the rows as the program has them
 abbrev pub revoke_view : ℕ × Option (Bor (List ℕ)) → RevokeOf
 revoke_view p = revoke_at (p.0, maybe_lent p.1)
 
 pub seen_revoke : (ts : Trees) (code : Result ℕ OutsideKind) (id : Result (Option (Bor (List ℕ))) OutsideKind) (rows : Result (ℕ × Option (Bor (List ℕ))) OutsideKind)
-    → rows ≡ both kind_number code id → code ≡ needed (at as_enumeration 0x42_0082 (inside 0x42_0081 ts)) Missing Missing → map_ok maybe_lent id ≡ identifier_in ts
+    → rows ≡ both kind_number code id → code ≡ needed (at as_enumeration revocation_reason_code (inside revocation_reason ts)) Missing Missing → map_ok maybe_lent id ≡ identifier_in ts
     → map_ok revoke_view rows ≡ revoke_in ts
 unfolding revoke_in
 seen_revoke ts code id rows e c i =
     seen revoke_at (λ q. (q.0, maybe_lent q.1)) rows (revoke_rows ts)
-    (right_seen kind_number maybe_lent code id rows (needed (at as_enumeration 0x42_0082 (inside 0x42_0081 ts)) Missing Missing) (identifier_in ts) e c i)
+    (right_seen kind_number maybe_lent code id rows (needed (at as_enumeration revocation_reason_code (inside revocation_reason ts)) Missing Missing) (identifier_in ts) e c i)
+
+-- AS IT IS WRITTEN
+
+revoke_written : (r : RevokeOf) → SaysRevoke (in_order (revoke_fields r)) r
+unfolding as_text as_enumeration
+revoke_written r = record {
+  id = optional_written as_text Tree.text unique_identifier r.id (revoke_fields r) (Some (written_reason r.code) ∷ []) refl refl (λ x. refl) refl;
+  code =
+      ap (at as_enumeration revocation_reason_code)
+      (inside_written revocation_reason revocation_reason (revoke_fields r) (in_order (field Tree.enumeration revocation_reason_code (Some r.code) ∷ [])) (skipped Tree.text unique_identifier revocation_reason r.id (Some (written_reason r.code) ∷ []) refl))
+      ∙ required_written as_enumeration revocation_reason_code (field Tree.enumeration revocation_reason_code (Some r.code) ∷ []) (scalar revocation_reason_code (Tree.enumeration r.code)) r.code refl refl;
+}
+
+-- ITS ROW
+
+asked_from : (ts : Trees) (y : AskedOf) → AsksRevoke ts y → (x : RevokeOf) × SaysRevoke ts x × (y ≡ revokes x)
+asked_from ts (revokes x) s = (x, s, refl)
+asked_from ts _ s = absurd s
+
+asked_written : (ts : Trees) (a : AskedOf) → IsWritableAsked a → AsksRevoke ts a → AsksRevoke (in_order (asked_fields a)) a
+asked_written ts (revokes x) w s = revoke_written x
+asked_written ts _ w s = absurd s
+
+asked_own : (ts : Trees) (a : AskedOf) → AsksRevoke ts a → operation_asked a ≡ Operation.TheVariants.Revoke
+asked_own ts (revokes x) s = refl
+asked_own ts _ s = absurd s
+
+pub is_revoke_row : IsRow Operation.TheVariants.Revoke revoke_row
+is_revoke_row = record {
+  own = asked_own;
+  reads_asked = λ ts. reads_as kind_number _ _ (AsksRevoke ts) (revoke_row.AskedFault ts) revokes _ (λ x s. s) (asked_from ts) (λ k f. f) (λ k f. f) (reads_revoke ts);
+  reads_done = reads_changed;
+  asked_written = asked_written;
+  done_written = changed_written;
+  done_filled = changed_filled;
+}

@@ -5,7 +5,7 @@ use Rattle.kmipa_attrs.specs.Fields.{tag_of, first, as_structure, field_of, type
 use Rattle.kmipa_attrs.specs.Readings.{Optional}
 use Rattle.kmipa_attrs.specs.declared.fields.Field.{Field}
 use Rattle.kmipa_attrs.specs.declared.fields.Field.TheVariants.{There}
-use Rattle.kmipa_msgs.specs.Written.{with_field, with_fields, in_order, field}
+use Rattle.kmipa_msgs.specs.WrittenFields.{with_field, with_fields, in_order, field}
 
 -- the first of the fields that is there with the tag
 abbrev pub find : ℕ → List (Option Tree) → Option Tree

@@ -4,11 +4,13 @@ use Rattle.std.specs.Prelude.{All}
 use Rattle.std.proofs.lemmas.List.Elements.{All-head, All-tail}
 use Rattle.kmipa_ttlv.specs.Tree.{Tree, Trees, forest}
 use Rattle.kmipa_attrs.specs.Fields.{tag_of, first, every, as_integer, at}
+use Rattle.kmipa_attrs.specs.Tags.{batch_count, protocol_version, protocol_version_major, protocol_version_minor}
 use Rattle.kmipa_attrs.specs.declared.fields.Field.{Field}
 use Rattle.kmipa_attrs.specs.declared.fields.Field.TheVariants.{Absent, Wrong, There}
 use Rattle.kmipa_msgs.specs.Headers.{is_number, is_version, count_is, is_count}
 use Rattle.kmipa_msgs.specs.Outside.{SaysEach}
-use Rattle.kmipa_msgs.specs.Written.{in_order, version_fields, written_version}
+use Rattle.kmipa_msgs.specs.WrittenFields.{in_order}
+use Rattle.kmipa_msgs.specs.Written.{version_fields, written_version}
 use Rattle.kmipa_msgs.proofs.WrittenFieldLemmas.{find, inside_written}
 
 second_true : (a b : Bool) → (a && b) ≡ true → b ≡ true
@@ -43,21 +45,21 @@ every_written made n same (x ∷ xs) =
     ap (λ (b : Bool). cond b (made x ∷ every n (forest made xs)) (every n (forest made xs))) (same x)
     ∙ ap (λ (ts : List Tree). made x ∷ ts) (every_written made n same xs)
 
-version_is : is_number (at as_integer 0x42_006A (in_order version_fields)) (pos 2) && is_number (at as_integer 0x42_006B (in_order version_fields)) (pos 1) ≡ true
+version_is : is_number (at as_integer protocol_version_major (in_order version_fields)) (pos 2) && is_number (at as_integer protocol_version_minor (in_order version_fields)) (pos 1) ≡ true
 unfolding first as_integer
 version_is = refl
 
-pub version_written : (fields : List (Option Tree)) → find 0x42_0069 fields ≡ Some written_version → is_version (in_order fields) ≡ true
+pub version_written : (fields : List (Option Tree)) → find protocol_version fields ≡ Some written_version → is_version (in_order fields) ≡ true
 version_written fields e =
-    ap (λ (ts : Trees). is_number (at as_integer 0x42_006A ts) (pos 2) && is_number (at as_integer 0x42_006B ts) (pos 1)) (inside_written 0x42_0069 0x42_0069 fields (in_order version_fields) e)
+    ap (λ (ts : Trees). is_number (at as_integer protocol_version_major ts) (pos 2) && is_number (at as_integer protocol_version_minor ts) (pos 1)) (inside_written protocol_version protocol_version fields (in_order version_fields) e)
     ∙ version_is
 
 -- the count is that of the items, of which there is one
 pub count_written : {X : Type 0} (hs gs : Trees) (ts us : List Tree) (xs : List X) → is_count gs (length us) ≡ true → length us ≡ length xs → length ts ≡ length xs
-    → at as_integer 0x42_000D hs ≡ There (pos (length xs)) → is_count hs (length ts) ≡ true
+    → at as_integer batch_count hs ≡ There (pos (length xs)) → is_count hs (length ts) ≡ true
 count_written hs gs ts us xs counted old new e =
     ap (is_count hs) new
     ∙ ap (λ (f : Field ℤ). count_is f (length xs)) e
     ∙ ap (λ (b : Bool). b && nat_lt 0 (length xs)) (eq-eqb (length xs) (length xs) refl)
     ∙ ap (nat_lt 0) (sym old)
-    ∙ some_counted (at as_integer 0x42_000D gs) (length us) counted
+    ∙ some_counted (at as_integer batch_count gs) (length us) counted

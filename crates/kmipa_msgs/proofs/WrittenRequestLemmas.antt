@@ -1,14 +1,16 @@
 -- A request that was written is said by its item.
 use Rattle.std.proofs.Common.{◌≡◌, ℕ, pos, Bool, true, false, List, [], ◌∷◌, map, length, Some, refl, sym, ap, ◌∙◌, subst}
 use Rattle.std.proofs.lemmas.List.{length-map}
-use Rattle.kmipa_ttlv.specs.Tree.{Tree, Trees, structure, scalar, none, more, push, forest}
+use Rattle.kmipa_ttlv.specs.Tree.{Tree, Trees, scalar}
 use Rattle.kmipa_ttlv.specs.Tree
 use Rattle.kmipa_attrs.specs.Fields.{first, every, as_structure, as_integer, as_enumeration, as_boolean, as_bytes, at, inside}
 use Rattle.kmipa_attrs.specs.Readings.{Optional}
+use Rattle.kmipa_attrs.specs.Tags.{batch_count, batch_error_continuation_option, batch_item, batch_order_option, operation_tag, request_header_tag, request_message, request_payload, unique_batch_item_id}
 use Rattle.kmipa_attrs.specs.declared.fields.Field.{Field}
 use Rattle.kmipa_attrs.specs.declared.fields.Field.TheVariants.{There}
 use Rattle.kmipa_msgs.specs.declared.request.BatchOption.{BatchOption}
 use Rattle.kmipa_msgs.specs.declared.request.BatchOption.TheVariants.{Continue, Stop, Undo}
+use Rattle.kmipa_msgs.specs.declared.operation.Operation.{Operation}
 use Rattle.kmipa_msgs.specs.Operations.{operation_number, operation_of}
 use Rattle.kmipa_msgs.specs.Messages.{AskedOf, idles, does_other, AskOf, operation_asked, RequestOf}
 use Rattle.kmipa_msgs.specs.Tables.{children}
@@ -16,10 +18,12 @@ use Rattle.kmipa_msgs.specs.Headers.{is_message, is_version, batch}
 use Rattle.kmipa_msgs.specs.Outside.{SaysEach}
 use Rattle.kmipa_msgs.specs.Asks.{SaysAsked, SaysAsk}
 use Rattle.kmipa_msgs.specs.Requests.{SaysOption, SaysOrder, SaysHeader, header_of, request_header, SaysRequest}
-use Rattle.kmipa_msgs.specs.Written.{in_order, field, told_option, told_order, written_asked, asked_fields, ask_fields, written_ask, request_header_fields, written_request}
+use Rattle.kmipa_msgs.specs.WrittenFields.{in_order, field}
+use Rattle.kmipa_msgs.specs.Written.{told_option, told_order, written_asked, ask_fields, written_ask, request_header_fields, written_request}
+use Rattle.kmipa_msgs.specs.Rows.{asked_fields}
 use Rattle.kmipa_msgs.specs.Writable.{IsWritableAsked, IsWritable}
 use Rattle.kmipa_msgs.proofs.WrittenFieldLemmas.{skipped, optional_written, required_written, inside_written, value_written}
-use Rattle.kmipa_msgs.proofs.WrittenPayloadLemmas.{asked_written}
+use Rattle.kmipa_msgs.proofs.RowLemmas.{is_row}
 use Rattle.kmipa_msgs.proofs.WrittenMessageLemmas.{each_length, each_written, every_written, version_written, count_written}
 
 -- ITEMS
@@ -30,9 +34,14 @@ operation_listed (idles n) w = absurd w
 operation_listed (does_other n) w = absurd w
 operation_listed _ w = refl
 
-payload_inside : (a : AskOf) → inside 0x42_0079 (in_order (ask_fields a)) ≡ in_order (asked_fields a.asked)
+asked_again : (operation : Operation) (ts : Trees) (a : AskedOf) → IsWritableAsked a → SaysAsked operation ts a → SaysAsked (operation_asked a) (in_order (asked_fields a)) a
+asked_again operation ts a w s =
+    let law = is_row operation in
+    subst (λ (o : Operation). SaysAsked o (in_order (asked_fields a)) a) (sym (law.own ts a s)) (law.asked_written ts a w s)
+
+payload_inside : (a : AskOf) → inside request_payload (in_order (ask_fields a)) ≡ in_order (asked_fields a.asked)
 payload_inside a =
-    inside_written 0x42_0079 0x42_0079 (ask_fields a) (in_order (asked_fields a.asked)) (skipped Tree.byte_string 0x42_0093 0x42_0079 a.batch_id (Some (written_asked a.asked) ∷ []) refl)
+    inside_written request_payload request_payload (ask_fields a) (in_order (asked_fields a.asked)) (skipped Tree.byte_string unique_batch_item_id request_payload a.batch_id (Some (written_asked a.asked) ∷ []) refl)
 
 ask_written : (t : Tree) (a : AskOf) → IsWritableAsked a.asked → SaysAsk t a → SaysAsk (written_ask a) a
 unfolding as_structure as_enumeration as_bytes
@@ -42,12 +51,12 @@ ask_written t a w h =
       operation = operation_asked a.asked;
       is = record {
         number = number;
-        is = required_written as_enumeration 0x42_005C (ask_fields a) (scalar 0x42_005C (Tree.enumeration number)) number refl refl;
+        is = required_written as_enumeration operation_tag (ask_fields a) (scalar operation_tag (Tree.enumeration number)) number refl refl;
         listed = operation_listed a.asked w;
       };
-      asked = subst (λ (ts : Trees). SaysAsked (operation_asked a.asked) ts a.asked) (sym (payload_inside a)) (asked_written h.operation (inside 0x42_0079 (children t)) a.asked w h.asked);
-      batch_id = value_written (at as_bytes 0x42_0093 (in_order (ask_fields a))) a.batch_id
-          (optional_written as_bytes Tree.byte_string 0x42_0093 a.batch_id (ask_fields a) (Some (written_asked a.asked) ∷ []) refl refl (λ x. refl) refl);
+      asked = subst (λ (ts : Trees). SaysAsked (operation_asked a.asked) ts a.asked) (sym (payload_inside a)) (asked_again h.operation (inside request_payload (children t)) a.asked w h.asked);
+      batch_id = value_written (at as_bytes unique_batch_item_id (in_order (ask_fields a))) a.batch_id
+          (optional_written as_bytes Tree.byte_string unique_batch_item_id a.batch_id (ask_fields a) (Some (written_asked a.asked) ∷ []) refl refl (λ x. refl) refl);
     }
 
 -- THE HEADER
@@ -65,36 +74,36 @@ header_inside : (r : RequestOf) → request_header (written_request r) ≡ in_or
 unfolding first as_structure
 header_inside r = refl
 
-is_request : (r : RequestOf) → is_message 0x42_0078 0x42_0077 (written_request r) ≡ true
+is_request : (r : RequestOf) → is_message request_message request_header_tag (written_request r) ≡ true
 unfolding first as_structure
 is_request r = refl
 
 batch_written : (r : RequestOf) → batch (written_request r) ≡ map written_ask r.items
 unfolding every as_structure
-batch_written r = every_written written_ask 0x42_000F (λ a. refl) r.items
+batch_written r = every_written written_ask batch_item (λ a. refl) r.items
 
-counted : (r : RequestOf) → at as_integer 0x42_000D (in_order (request_header_fields r)) ≡ There (pos (length r.items))
+counted : (r : RequestOf) → at as_integer batch_count (in_order (request_header_fields r)) ≡ There (pos (length r.items))
 unfolding as_integer
 counted r =
-    let count = field Tree.integer 0x42_000D (Some (pos (length r.items))) ∷ [] in
-    required_written as_integer 0x42_000D (request_header_fields r) (scalar 0x42_000D (Tree.integer (pos (length r.items)))) (pos (length r.items))
-    (skipped Tree.enumeration 0x42_000E 0x42_000D (told_option r.option) (field Tree.boolean 0x42_0010 (told_order r.ordered) ∷ count) refl
-    ∙ skipped Tree.boolean 0x42_0010 0x42_000D (told_order r.ordered) count refl)
+    let count = field Tree.integer batch_count (Some (pos (length r.items))) ∷ [] in
+    required_written as_integer batch_count (request_header_fields r) (scalar batch_count (Tree.integer (pos (length r.items)))) (pos (length r.items))
+    (skipped Tree.enumeration batch_error_continuation_option batch_count (told_option r.option) (field Tree.boolean batch_order_option (told_order r.ordered) ∷ count) refl
+    ∙ skipped Tree.boolean batch_order_option batch_count (told_order r.ordered) count refl)
     refl
 
-option_written : (r : RequestOf) → Optional (at as_enumeration 0x42_000E (in_order (request_header_fields r))) (told_option r.option)
+option_written : (r : RequestOf) → Optional (at as_enumeration batch_error_continuation_option (in_order (request_header_fields r))) (told_option r.option)
 unfolding as_enumeration
 option_written r =
-    let count = field Tree.integer 0x42_000D (Some (pos (length r.items))) ∷ [] in
-    optional_written as_enumeration Tree.enumeration 0x42_000E (told_option r.option) (request_header_fields r) (field Tree.boolean 0x42_0010 (told_order r.ordered) ∷ count)
-    refl (skipped Tree.boolean 0x42_0010 0x42_000E (told_order r.ordered) count refl) (λ x. refl) refl
+    let count = field Tree.integer batch_count (Some (pos (length r.items))) ∷ [] in
+    optional_written as_enumeration Tree.enumeration batch_error_continuation_option (told_option r.option) (request_header_fields r) (field Tree.boolean batch_order_option (told_order r.ordered) ∷ count)
+    refl (skipped Tree.boolean batch_order_option batch_error_continuation_option (told_order r.ordered) count refl) (λ x. refl) refl
 
-order_written : (r : RequestOf) → Optional (at as_boolean 0x42_0010 (in_order (request_header_fields r))) (told_order r.ordered)
+order_written : (r : RequestOf) → Optional (at as_boolean batch_order_option (in_order (request_header_fields r))) (told_order r.ordered)
 unfolding as_boolean
 order_written r =
-    let count = field Tree.integer 0x42_000D (Some (pos (length r.items))) ∷ [] in
-    optional_written as_boolean Tree.boolean 0x42_0010 (told_order r.ordered) (request_header_fields r) count
-    (skipped Tree.enumeration 0x42_000E 0x42_0010 (told_option r.option) (field Tree.boolean 0x42_0010 (told_order r.ordered) ∷ count) refl) refl (λ x. refl) refl
+    let count = field Tree.integer batch_count (Some (pos (length r.items))) ∷ [] in
+    optional_written as_boolean Tree.boolean batch_order_option (told_order r.ordered) (request_header_fields r) count
+    (skipped Tree.enumeration batch_error_continuation_option batch_order_option (told_option r.option) (field Tree.boolean batch_order_option (told_order r.ordered) ∷ count) refl) refl (λ x. refl) refl
 
 header_written : (t : Tree) (r : RequestOf) → SaysRequest t r → SaysHeader (written_request r) (header_of r)
 header_written t r h = record {
@@ -102,11 +111,11 @@ header_written t r h = record {
   version = ap is_version (header_inside r) ∙ version_written (request_header_fields r) refl;
   count = count_written (request_header (written_request r)) (request_header t) (batch (written_request r)) (batch t) r.items h.header.count
       (each_length (λ place. SaysAsk) (batch t) r.items h.items) (ap length (batch_written r) ∙ length-map r.items written_ask)
-      (ap (at as_integer 0x42_000D) (header_inside r) ∙ counted r);
-  option = option_said (at as_enumeration 0x42_000E (request_header (written_request r))) r.option
-      (subst (λ (hs : Trees). Optional (at as_enumeration 0x42_000E hs) (told_option r.option)) (sym (header_inside r)) (option_written r));
-  ordered = order_said (at as_boolean 0x42_0010 (request_header (written_request r))) r.ordered
-      (subst (λ (hs : Trees). Optional (at as_boolean 0x42_0010 hs) (told_order r.ordered)) (sym (header_inside r)) (order_written r));
+      (ap (at as_integer batch_count) (header_inside r) ∙ counted r);
+  option = option_said (at as_enumeration batch_error_continuation_option (request_header (written_request r))) r.option
+      (subst (λ (hs : Trees). Optional (at as_enumeration batch_error_continuation_option hs) (told_option r.option)) (sym (header_inside r)) (option_written r));
+  ordered = order_said (at as_boolean batch_order_option (request_header (written_request r))) r.ordered
+      (subst (λ (hs : Trees). Optional (at as_boolean batch_order_option hs) (told_order r.ordered)) (sym (header_inside r)) (order_written r));
 }
 
 -- THE MESSAGE

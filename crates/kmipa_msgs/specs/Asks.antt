@@ -3,75 +3,45 @@ use Rattle.std.specs.Prelude.{◌≡◌, true, cond, Result, Ok, Err}
 use Rattle.kmipa_ttlv.specs.Tree.{Tree, Trees}
 use Rattle.kmipa_attrs.specs.Fields.{at, inside, value_in, as_structure, as_enumeration, as_bytes}
 use Rattle.kmipa_attrs.specs.Readings.{NeededFault, IsWrong, both, map_ok, and_then}
+use Rattle.kmipa_attrs.specs.Tags.{operation_tag, request_payload, unique_batch_item_id}
 use Rattle.kmipa_attrs.specs.declared.fields.Field.{Field}
 use Rattle.kmipa_attrs.specs.declared.fields.Field.TheVariants.{Absent, Wrong, There}
 use Rattle.kmipa_msgs.specs.declared.kind.OutsideKind.{OutsideKind}
 use Rattle.kmipa_msgs.specs.declared.kind.OutsideKind
 use Rattle.kmipa_msgs.specs.declared.kind.OutsideKind.TheVariants.{Missing}
 use Rattle.kmipa_msgs.specs.declared.operation.Operation.{Operation}
-use Rattle.kmipa_msgs.specs.declared.operation.Operation.TheVariants.{Create, Register, Get, GetAttributes, Activate, Revoke, Destroy, Idle, Other}
 use Rattle.kmipa_msgs.specs.Kinds.{kind_number}
 use Rattle.kmipa_msgs.specs.Operations.{operation_of, is_judged}
-use Rattle.kmipa_msgs.specs.Messages.{AskedOf, creates, registers, gets, gets_attributes, activates, revokes, destroys, idles, does_other, AskOf}
+use Rattle.kmipa_msgs.specs.Messages.{AskedOf, AskOf}
+use Rattle.kmipa_msgs.specs.Rows.{row_of}
 use Rattle.kmipa_msgs.specs.Tables.{children, Listed, Unlisted, listed}
-use Rattle.kmipa_msgs.specs.Registers.{SaysRegister, RegisterFault, register_in}
-use Rattle.kmipa_msgs.specs.Creates.{SaysCreate, CreateFault, create_in}
-use Rattle.kmipa_msgs.specs.Gets.{SaysGet, GetFault, get_in}
-use Rattle.kmipa_msgs.specs.GetsAttributes.{SaysGetAttributes, GetAttributesFault, get_attributes_in}
-use Rattle.kmipa_msgs.specs.Identifiers.{SaysIdentifier, IdentifierFault, identifier_in}
-use Rattle.kmipa_msgs.specs.Revokes.{SaysRevoke, RevokeFault, revoke_in}
 
--- the children of a Request Payload say what the operation asks for: a row for each operation; of the last two any children do
+-- the children of a Request Payload say what the operation asks for, as its row has it
 abbrev pub SaysAsked : Operation → Trees → AskedOf → Type 0
-SaysAsked Create ts (creates a) = SaysCreate ts a
-SaysAsked Register ts (registers r) = SaysRegister ts r
-SaysAsked Get ts (gets id) = SaysGet ts id
-SaysAsked GetAttributes ts (gets_attributes g) = SaysGetAttributes ts g
-SaysAsked Activate ts (activates id) = SaysIdentifier ts id
-SaysAsked Revoke ts (revokes r) = SaysRevoke ts r
-SaysAsked Destroy ts (destroys id) = SaysIdentifier ts id
-SaysAsked (Idle n) ts a = a ≡ idles n
-SaysAsked (Other n) ts a = a ≡ does_other n
-SaysAsked _ ts _ = ⊥
+SaysAsked operation ts a = (row_of operation).SaysAsked ts a
 
 abbrev pub AskedFault : Operation → Trees → OutsideKind → Type 0
-AskedFault Create ts k = CreateFault ts k
-AskedFault Register ts k = RegisterFault ts k
-AskedFault Get ts k = GetFault ts k
-AskedFault GetAttributes ts k = GetAttributesFault ts k
-AskedFault Activate ts k = IdentifierFault ts k
-AskedFault Revoke ts k = RevokeFault ts k
-AskedFault Destroy ts k = IdentifierFault ts k
-AskedFault (Idle n) ts k = ⊥
-AskedFault (Other n) ts k = ⊥
+AskedFault operation ts k = (row_of operation).AskedFault ts k
 
 -- an absent Request Payload is read as empty; a Unique Batch Item ID of another type is read over
 pub record SaysAsk (t : Tree) (a : AskOf) : Type 0 where
   pub operation : Operation
-  pub is : Listed (at as_enumeration 0x42_005C (children t)) operation_of operation
-  pub asked : SaysAsked operation (inside 0x42_0079 (children t)) a.asked
-  pub batch_id : a.batch_id ≡ value_in (at as_bytes 0x42_0093 (children t))
+  pub is : Listed (at as_enumeration operation_tag (children t)) operation_of operation
+  pub asked : SaysAsked operation (inside request_payload (children t)) a.asked
+  pub batch_id : a.batch_id ≡ value_in (at as_bytes unique_batch_item_id (children t))
 
 -- in_unread is that of Locate, until it is read; a Request Payload is to be a structure where it is read
 pub data AskFault (t : Tree) (k : OutsideKind) : Type 0 where
-  in_operation : NeededFault (at as_enumeration 0x42_005C (children t)) Missing Missing k → AskFault t k
-  in_unread : k ≡ OutsideKind.TheVariants.Operation → Unlisted (at as_enumeration 0x42_005C (children t)) operation_of → AskFault t k
-  in_payload : (operation : Operation) → Listed (at as_enumeration 0x42_005C (children t)) operation_of operation
-      → is_judged operation ≡ true → k ≡ Missing → IsWrong (at as_structure 0x42_0079 (children t)) → AskFault t k
-  in_asked : (operation : Operation) → Listed (at as_enumeration 0x42_005C (children t)) operation_of operation
-      → AskedFault operation (inside 0x42_0079 (children t)) k → AskFault t k
+  in_operation : NeededFault (at as_enumeration operation_tag (children t)) Missing Missing k → AskFault t k
+  in_unread : k ≡ OutsideKind.TheVariants.Operation → Unlisted (at as_enumeration operation_tag (children t)) operation_of → AskFault t k
+  in_payload : (operation : Operation) → Listed (at as_enumeration operation_tag (children t)) operation_of operation
+      → is_judged operation ≡ true → k ≡ Missing → IsWrong (at as_structure request_payload (children t)) → AskFault t k
+  in_asked : (operation : Operation) → Listed (at as_enumeration operation_tag (children t)) operation_of operation
+      → AskedFault operation (inside request_payload (children t)) k → AskFault t k
 
 -- the readings
 abbrev pub asked_in : Operation → Trees → Result AskedOf OutsideKind
-asked_in Create ts = map_ok creates (create_in ts)
-asked_in Register ts = map_ok registers (register_in ts)
-asked_in Get ts = map_ok gets (get_in ts)
-asked_in GetAttributes ts = map_ok gets_attributes (get_attributes_in ts)
-asked_in Activate ts = map_ok activates (identifier_in ts)
-asked_in Revoke ts = map_ok revokes (revoke_in ts)
-asked_in Destroy ts = map_ok destroys (identifier_in ts)
-asked_in (Idle n) ts = Ok (idles n)
-asked_in (Other n) ts = Ok (does_other n)
+asked_in operation ts = (row_of operation).asked_in ts
 
 abbrev pub unless_wrong : {A : Type 0} → Field A → OutsideKind → Result (Unit {0}) OutsideKind
 unless_wrong Absent k = Ok tt
@@ -83,13 +53,13 @@ abbrev pub form_in : Operation → Field Trees → Result (Unit {0}) OutsideKind
 form_in operation field = cond (is_judged operation) (unless_wrong field Missing) (Ok tt)
 
 abbrev pub payload_asked : Operation → Trees → Result AskedOf OutsideKind
-payload_asked operation ts = map_ok (λ p. p.1) (both kind_number (form_in operation (at as_structure 0x42_0079 ts)) (asked_in operation (inside 0x42_0079 ts)))
+payload_asked operation ts = map_ok (λ p. p.1) (both kind_number (form_in operation (at as_structure request_payload ts)) (asked_in operation (inside request_payload ts)))
 
 abbrev pub operation_in : Trees → Result Operation OutsideKind
-operation_in ts = listed (at as_enumeration 0x42_005C ts) operation_of Missing OutsideKind.TheVariants.Operation
+operation_in ts = listed (at as_enumeration operation_tag ts) operation_of Missing OutsideKind.TheVariants.Operation
 
 abbrev pub ask_at : Trees → AskedOf → AskOf
-ask_at ts asked = record { batch_id = value_in (at as_bytes 0x42_0093 ts); asked = asked }
+ask_at ts asked = record { batch_id = value_in (at as_bytes unique_batch_item_id ts); asked = asked }
 
 unfoldable pub ask_in : Tree → Result AskOf OutsideKind
 ask_in t = map_ok (ask_at (children t)) (and_then (λ operation. payload_asked operation (children t)) (operation_in (children t)))

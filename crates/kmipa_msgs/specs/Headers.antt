@@ -5,6 +5,7 @@ use Rattle.kmipa_ttlv.specs.Tree.{Tree, Trees}
 use Rattle.kmipa_ttlv.specs.ViewTree.{view_trees}
 use Rattle.kmipa_ttlv.specs.declared.view.View.{View}
 use Rattle.kmipa_attrs.specs.Fields.{tag_of, every, at, inside, as_structure, as_integer}
+use Rattle.kmipa_attrs.specs.Tags.{batch_count, batch_item, protocol_version, protocol_version_major, protocol_version_minor}
 use Rattle.kmipa_attrs.specs.declared.fields.Field.{Field}
 use Rattle.kmipa_attrs.specs.declared.fields.Field.TheVariants.{Absent, Wrong, There}
 use Rattle.kmipa_msgs.specs.declared.kind.OutsideKind.{OutsideKind}
@@ -28,7 +29,7 @@ is_number (There m) n = int_eq m n
 
 -- Protocol Version { Major 2, Minor 1 }, in a header
 abbrev pub is_version : Trees → Bool
-is_version hs = is_number (at as_integer 0x42_006A (inside 0x42_0069 hs)) (pos 2) && is_number (at as_integer 0x42_006B (inside 0x42_0069 hs)) (pos 1)
+is_version hs = is_number (at as_integer protocol_version_major (inside protocol_version hs)) (pos 2) && is_number (at as_integer protocol_version_minor (inside protocol_version hs)) (pos 1)
 
 abbrev pub counts : ℤ → ℕ → Bool
 counts (pos m) n = (m == n) && nat_lt 0 n
@@ -41,11 +42,11 @@ count_is Wrong n = false
 count_is (There z) n = counts z n
 
 abbrev pub is_count : Trees → ℕ → Bool
-is_count hs n = count_is (at as_integer 0x42_000D hs) n
+is_count hs n = count_is (at as_integer batch_count hs) n
 
 -- the Batch Items
 abbrev pub batch : Tree → List Tree
-batch t = every 0x42_000F (children t)
+batch t = every batch_item (children t)
 
 -- the children of the message and of its header, where the item is the message
 abbrev pub Opens : ℕ → ℕ → Tree → Option (Bor (List View) × Bor (List View)) → Type 0

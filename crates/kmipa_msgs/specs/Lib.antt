@@ -3,6 +3,12 @@ pub mod Numbers
 pub mod Operations
 pub mod Messages
 pub mod Outside
+pub mod Row
+pub mod Rows
+pub mod WrittenFields
+pub mod WrittenKeys
+pub mod Activates
+pub mod Destroys
 pub mod Tables
 pub mod KeyBlocks
 pub mod Objects

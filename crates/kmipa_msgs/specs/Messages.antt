@@ -12,7 +12,8 @@ use Rattle.kmipa_msgs.specs.declared.request.BatchOption.{BatchOption}
 use Rattle.kmipa_msgs.specs.declared.request.Register.{Register}
 use Rattle.kmipa_msgs.specs.declared.request.Get.{Get}
 use Rattle.kmipa_msgs.specs.declared.request.GetAttributes.{GetAttributes}
-use Rattle.kmipa_msgs.specs.declared.request.About.{About}
+use Rattle.kmipa_msgs.specs.declared.request.Activate.{Activate}
+use Rattle.kmipa_msgs.specs.declared.request.Destroy.{Destroy}
 use Rattle.kmipa_msgs.specs.declared.request.Revoke.{Revoke}
 use Rattle.kmipa_msgs.specs.declared.request.Asked.{Asked}
 use Rattle.kmipa_msgs.specs.declared.request.Asked
@@ -95,17 +96,20 @@ pub data AskedOf : Type 0 where
 abbrev pub id_of : Get → Option (List ℕ)
 id_of g = maybe_lent g.id
 
-abbrev pub about_of : About → Option (List ℕ)
-about_of a = maybe_lent a.id
+abbrev pub activate_of : Activate → Option (List ℕ)
+activate_of a = maybe_lent a.id
+
+abbrev pub destroy_of : Destroy → Option (List ℕ)
+destroy_of d = maybe_lent d.id
 
 abbrev pub asked_of : Asked → AskedOf
 asked_of (Asked.TheVariants.Create c) = creates (attributes_of c.attributes)
 asked_of (Asked.TheVariants.Register r) = registers (register_of r)
 asked_of (Asked.TheVariants.Get g) = gets (id_of g)
 asked_of (Asked.TheVariants.GetAttributes g) = gets_attributes (get_attributes_of g)
-asked_of (Asked.TheVariants.Activate a) = activates (about_of a)
+asked_of (Asked.TheVariants.Activate a) = activates (activate_of a)
 asked_of (Asked.TheVariants.Revoke r) = revokes (revoke_of r)
-asked_of (Asked.TheVariants.Destroy a) = destroys (about_of a)
+asked_of (Asked.TheVariants.Destroy d) = destroys (destroy_of d)
 asked_of (Asked.TheVariants.Idle n) = idles n
 asked_of (Asked.TheVariants.Other n) = does_other n
 

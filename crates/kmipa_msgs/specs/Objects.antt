@@ -2,12 +2,13 @@
 use Rattle.std.specs.Prelude.{ℕ, Bool, cond, ◌==◌, ◌||◌, Option, Some, None}
 use Rattle.kmipa_ttlv.specs.Tree.{Tree, Trees, none, more}
 use Rattle.kmipa_attrs.specs.Fields.{tag_of, typed, inside, in_field, as_structure}
+use Rattle.kmipa_attrs.specs.Tags.{key_block, secret_data, symmetric_key}
 use Rattle.kmipa_attrs.specs.declared.fields.Field.{Field}
 use Rattle.kmipa_attrs.specs.declared.object_type.ObjectType.{ObjectType}
 use Rattle.kmipa_attrs.specs.declared.object_type.ObjectType.TheVariants.{SymmetricKey, SecretData}
 
 abbrev pub is_object : ℕ → Bool
-is_object n = (n == 0x42_008F) || (n == 0x42_0085)
+is_object n = (n == symmetric_key) || (n == secret_data)
 
 -- the first child with either of the two tags
 unfoldable pub object_in : Trees → Option Tree
@@ -16,7 +17,7 @@ object_in (more t ts) = cond (is_object (tag_of t)) (Some t) (object_in ts)
 
 -- the type that its tag tells
 abbrev pub shape_of : ℕ → ObjectType
-shape_of n = cond (n == 0x42_008F) SymmetricKey SecretData
+shape_of n = cond (n == symmetric_key) SymmetricKey SecretData
 
 abbrev pub as_shape : Tree → Option ObjectType
 as_shape t = Some (shape_of (tag_of t))
@@ -26,4 +27,4 @@ shape_in ts = typed as_shape (object_in ts)
 
 -- the children of its Key Block
 abbrev pub block_inside : Trees → Trees
-block_inside ts = inside 0x42_0040 (in_field (typed as_structure (object_in ts)))
+block_inside ts = inside key_block (in_field (typed as_structure (object_in ts)))

@@ -35,11 +35,3 @@ abbrev pub is_judged : Operation → Bool
 is_judged (Idle n) = false
 is_judged (Other n) = false
 is_judged _ = true
-
--- its Response Payload may be absent, and is then read as empty
-abbrev pub may_be_bare : Operation → Bool
-may_be_bare GetAttributes = true
-may_be_bare Activate = true
-may_be_bare Revoke = true
-may_be_bare Destroy = true
-may_be_bare _ = false

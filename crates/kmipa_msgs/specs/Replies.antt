@@ -4,6 +4,7 @@ use Rattle.std.specs.Option.{option_map}
 use Rattle.kmipa_ttlv.specs.Tree.{Tree, Trees, structure, scalar, none, more}
 use Rattle.kmipa_attrs.specs.Fields.{first, at, value_in, as_enumeration, as_bytes}
 use Rattle.kmipa_attrs.specs.Readings.{Optional, NeededFault, IsWrong, optional, both, map_ok, and_then}
+use Rattle.kmipa_attrs.specs.Tags.{operation_tag, response_payload, result_reason, result_status, unique_batch_item_id}
 use Rattle.kmipa_attrs.specs.declared.fields.Field.{Field}
 use Rattle.kmipa_attrs.specs.declared.fields.Field.TheVariants.{Absent, Wrong, There}
 use Rattle.kmipa_msgs.specs.declared.kind.OutsideKind.{OutsideKind}
@@ -16,8 +17,9 @@ use Rattle.kmipa_msgs.specs.declared.response.Status.TheVariants.{Success, Faile
 use Rattle.kmipa_msgs.specs.declared.response.Payload.{Payload}
 use Rattle.kmipa_msgs.specs.Kinds.{kind_number}
 use Rattle.kmipa_msgs.specs.Numbers.{status_of}
-use Rattle.kmipa_msgs.specs.Operations.{operation_number, may_be_bare}
+use Rattle.kmipa_msgs.specs.Operations.{operation_number}
 use Rattle.kmipa_msgs.specs.Messages.{AskOf, operation_asked, PayloadOf, payload_of, AnswerOf}
+use Rattle.kmipa_msgs.specs.Rows.{row_of}
 use Rattle.kmipa_msgs.specs.Tables.{children, Listed, of_table}
 use Rattle.kmipa_msgs.specs.Payloads.{SaysPayloadOf, PayloadOfFault, payload_in}
 
@@ -31,9 +33,13 @@ own (Some a) Absent = Some (operation_asked a.asked)
 own (Some a) Wrong = None
 own (Some a) (There n) = named n (operation_asked a.asked)
 
+-- its Response Payload may be absent
+abbrev pub may_be_bare : Operation → Bool
+may_be_bare operation = (row_of operation).may_be_bare
+
 -- an absent payload is read as empty where one may be absent
 abbrev pub or_empty : Operation → Option Tree → Option Tree
-or_empty operation None = cond (may_be_bare operation) (Some (structure 0x42_007C none)) None
+or_empty operation None = cond (may_be_bare operation) (Some (structure response_payload none)) None
 or_empty operation (Some t) = Some t
 
 -- a payload that is to be there
@@ -107,18 +113,18 @@ pub data StatusFault (field : Field ℕ) (k : OutsideKind) : Type 0 where
 
 -- the answer at the place of this request item, if there is one
 pub record SaysAnswer (a : Option AskOf) (t : Tree) (x : AnswerOf) : Type 0 where
-  pub operation : Optional (at as_enumeration 0x42_005C (children t)) x.operation
-  pub batch_id : x.batch_id ≡ value_in (at as_bytes 0x42_0093 (children t))
-  pub status : Listed (at as_enumeration 0x42_007F (children t)) status_of x.status
-  pub reason : Optional (at as_enumeration 0x42_007E (children t)) x.reason
-  pub payload : SaysShown (own a (at as_enumeration 0x42_005C (children t))) x.status (first 0x42_007C (children t)) x.payload
+  pub operation : Optional (at as_enumeration operation_tag (children t)) x.operation
+  pub batch_id : x.batch_id ≡ value_in (at as_bytes unique_batch_item_id (children t))
+  pub status : Listed (at as_enumeration result_status (children t)) status_of x.status
+  pub reason : Optional (at as_enumeration result_reason (children t)) x.reason
+  pub payload : SaysShown (own a (at as_enumeration operation_tag (children t))) x.status (first response_payload (children t)) x.payload
 
 pub data AnswerFault (a : Option AskOf) (t : Tree) (k : OutsideKind) : Type 0 where
-  in_operation : k ≡ Missing → IsWrong (at as_enumeration 0x42_005C (children t)) → AnswerFault a t k
-  in_status : StatusFault (at as_enumeration 0x42_007F (children t)) k → AnswerFault a t k
-  in_reason : k ≡ Missing → IsWrong (at as_enumeration 0x42_007E (children t)) → AnswerFault a t k
-  in_payload : (status : Status) → Listed (at as_enumeration 0x42_007F (children t)) status_of status
-      → ShownFault (own a (at as_enumeration 0x42_005C (children t))) status (first 0x42_007C (children t)) k → AnswerFault a t k
+  in_operation : k ≡ Missing → IsWrong (at as_enumeration operation_tag (children t)) → AnswerFault a t k
+  in_status : StatusFault (at as_enumeration result_status (children t)) k → AnswerFault a t k
+  in_reason : k ≡ Missing → IsWrong (at as_enumeration result_reason (children t)) → AnswerFault a t k
+  in_payload : (status : Status) → Listed (at as_enumeration result_status (children t)) status_of status
+      → ShownFault (own a (at as_enumeration operation_tag (children t))) status (first response_payload (children t)) k → AnswerFault a t k
 
 -- the readings
 abbrev pub status_in : Field ℕ → Result Status OutsideKind
@@ -154,16 +160,16 @@ abbrev pub beside : Status → Result (Option PayloadOf) OutsideKind → Result 
 beside status shown = map_ok (λ p. (status, p)) shown
 
 abbrev pub outcome_in : Option Operation → Trees → Result (Status × Option PayloadOf) OutsideKind
-outcome_in operation ts = and_then (λ status. beside status (shown_in operation status (first 0x42_007C ts))) (status_in (at as_enumeration 0x42_007F ts))
+outcome_in operation ts = and_then (λ status. beside status (shown_in operation status (first response_payload ts))) (status_in (at as_enumeration result_status ts))
 
 abbrev pub answer_rows : Option AskOf → Trees → Result ((Option ℕ × Option ℕ) × (Status × Option PayloadOf)) OutsideKind
 answer_rows a ts =
-    both kind_number (both kind_number (optional (at as_enumeration 0x42_005C ts) Missing) (optional (at as_enumeration 0x42_007E ts) Missing)) (outcome_in (own a (at as_enumeration 0x42_005C ts)) ts)
+    both kind_number (both kind_number (optional (at as_enumeration operation_tag ts) Missing) (optional (at as_enumeration result_reason ts) Missing)) (outcome_in (own a (at as_enumeration operation_tag ts)) ts)
 
 abbrev pub answer_at : Trees → (Option ℕ × Option ℕ) × (Status × Option PayloadOf) → AnswerOf
 answer_at ts p = record {
   operation = p.0.0;
-  batch_id = value_in (at as_bytes 0x42_0093 ts);
+  batch_id = value_in (at as_bytes unique_batch_item_id ts);
   status = p.1.0;
   reason = p.0.1;
   payload = p.1.1;

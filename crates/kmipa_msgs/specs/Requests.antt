@@ -3,6 +3,7 @@ use Rattle.std.specs.Prelude.{◌≡◌, ◌<◌, ℕ, Bool, true, false, nat_lt
 use Rattle.kmipa_ttlv.specs.Tree.{Tree, Trees}
 use Rattle.kmipa_attrs.specs.Fields.{at, inside, as_enumeration, as_boolean}
 use Rattle.kmipa_attrs.specs.Readings.{IsWrong, both, kept_if, map_ok}
+use Rattle.kmipa_attrs.specs.Tags.{batch_error_continuation_option, batch_order_option, request_header_tag, request_message}
 use Rattle.kmipa_attrs.specs.declared.fields.Field.{Field}
 use Rattle.kmipa_attrs.specs.declared.fields.Field.TheVariants.{Absent, Wrong, There}
 use Rattle.kmipa_msgs.specs.declared.fault.ReadFault.{ReadFault}
@@ -20,7 +21,7 @@ use Rattle.kmipa_msgs.specs.Outside.{SaysEach, EachFault, ByItem, Tells, each_in
 use Rattle.kmipa_msgs.specs.Asks.{SaysAsk, AskFault, ask_in}
 
 abbrev pub request_header : Tree → Trees
-request_header t = inside 0x42_0077 (children t)
+request_header t = inside request_header_tag (children t)
 
 -- an absent Batch Error Continuation Option means Stop
 abbrev pub SaysOption : Field ℕ → BatchOption → Type 0
@@ -45,19 +46,19 @@ pub record HeaderOf : Type 0 where
   pub ordered : Bool
 
 pub record SaysHeader (t : Tree) (h : HeaderOf) : Type 0 where
-  pub message : is_message 0x42_0078 0x42_0077 t ≡ true
+  pub message : is_message request_message request_header_tag t ≡ true
   pub version : is_version (request_header t) ≡ true
   pub count : is_count (request_header t) (length (batch t)) ≡ true
-  pub option : SaysOption (at as_enumeration 0x42_000E (request_header t)) h.option
-  pub ordered : SaysOrder (at as_boolean 0x42_0010 (request_header t)) h.ordered
+  pub option : SaysOption (at as_enumeration batch_error_continuation_option (request_header t)) h.option
+  pub ordered : SaysOrder (at as_boolean batch_order_option (request_header t)) h.ordered
 
 pub data HeaderFault (t : Tree) (k : OutsideKind) : Type 0 where
-  in_message : k ≡ NotAMessage → is_message 0x42_0078 0x42_0077 t ≡ false → HeaderFault t k
+  in_message : k ≡ NotAMessage → is_message request_message request_header_tag t ≡ false → HeaderFault t k
   in_version : k ≡ Version → is_version (request_header t) ≡ false → HeaderFault t k
   in_count : k ≡ Count → is_count (request_header t) (length (batch t)) ≡ false → HeaderFault t k
-  in_option : OptionFault (at as_enumeration 0x42_000E (request_header t)) k → HeaderFault t k
-  in_ordered : k ≡ Missing → IsWrong (at as_boolean 0x42_0010 (request_header t)) → HeaderFault t k
-  in_batch : k ≡ Unordered → at as_boolean 0x42_0010 (request_header t) ≡ There false → 1 < length (batch t) → HeaderFault t k
+  in_option : OptionFault (at as_enumeration batch_error_continuation_option (request_header t)) k → HeaderFault t k
+  in_ordered : k ≡ Missing → IsWrong (at as_boolean batch_order_option (request_header t)) → HeaderFault t k
+  in_batch : k ≡ Unordered → at as_boolean batch_order_option (request_header t) ≡ There false → 1 < length (batch t) → HeaderFault t k
 
 abbrev pub header_of : RequestOf → HeaderOf
 header_of r = record { option = r.option; ordered = r.ordered }
@@ -96,10 +97,10 @@ in_order (There true) n = true
 in_order (There false) n = nat_lt n 2
 
 abbrev pub plain_rows : Trees → ℕ → Result (Unit {0} × (Unit {0} × Unit {0})) OutsideKind
-plain_rows hs n = both kind_number (kept_if (is_version hs) tt Version) (both kind_number (kept_if (is_count hs n) tt Count) (kept_if (in_order (at as_boolean 0x42_0010 hs) n) tt Unordered))
+plain_rows hs n = both kind_number (kept_if (is_version hs) tt Version) (both kind_number (kept_if (is_count hs n) tt Count) (kept_if (in_order (at as_boolean batch_order_option hs) n) tt Unordered))
 
 abbrev pub said_rows : Trees → Result (BatchOption × Bool) OutsideKind
-said_rows hs = both kind_number (option_in (at as_enumeration 0x42_000E hs)) (order_in (at as_boolean 0x42_0010 hs))
+said_rows hs = both kind_number (option_in (at as_enumeration batch_error_continuation_option hs)) (order_in (at as_boolean batch_order_option hs))
 
 -- of a header before so many items
 unfoldable pub order_said : Trees → ℕ → Result (BatchOption × Bool) OutsideKind
@@ -109,7 +110,7 @@ abbrev pub header_at : BatchOption × Bool → HeaderOf
 header_at p = record { option = p.0; ordered = p.1 }
 
 unfoldable pub header_in : Tree → Result HeaderOf OutsideKind
-header_in t = gated (is_message 0x42_0078 0x42_0077 t) (map_ok header_at (order_said (request_header t) (length (batch t))))
+header_in t = gated (is_message request_message request_header_tag t) (map_ok header_at (order_said (request_header t) (length (batch t))))
 
 abbrev pub request_at : HeaderOf → List AskOf → RequestOf
 request_at h items = record { option = h.option; ordered = h.ordered; items = items }

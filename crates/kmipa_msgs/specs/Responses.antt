@@ -4,6 +4,7 @@ use Rattle.std.specs.List.{slice_get}
 use Rattle.kmipa_ttlv.specs.Tree.{Tree, Trees}
 use Rattle.kmipa_attrs.specs.Fields.{at, inside, as_date}
 use Rattle.kmipa_attrs.specs.Readings.{NeededFault, needed, both, kept_if, map_ok}
+use Rattle.kmipa_attrs.specs.Tags.{response_header_tag, response_message, time_stamp}
 use Rattle.kmipa_attrs.specs.declared.fields.Field.TheVariants.{There}
 use Rattle.kmipa_msgs.specs.declared.fault.ReadFault.{ReadFault}
 use Rattle.kmipa_msgs.specs.declared.kind.OutsideKind.{OutsideKind}
@@ -17,19 +18,19 @@ use Rattle.kmipa_msgs.specs.Outside.{SaysEach, EachFault, ByItem, Tells, each_in
 use Rattle.kmipa_msgs.specs.Replies.{SaysAnswer, AnswerFault, answer_in}
 
 abbrev pub response_header : Tree → Trees
-response_header t = inside 0x42_007A (children t)
+response_header t = inside response_header_tag (children t)
 
 pub record SaysStamp (t : Tree) (z : ℤ) : Type 0 where
-  pub message : is_message 0x42_007B 0x42_007A t ≡ true
+  pub message : is_message response_message response_header_tag t ≡ true
   pub version : is_version (response_header t) ≡ true
   pub count : is_count (response_header t) (length (batch t)) ≡ true
-  pub stamp : at as_date 0x42_0092 (response_header t) ≡ There z
+  pub stamp : at as_date time_stamp (response_header t) ≡ There z
 
 pub data StampFault (t : Tree) (k : OutsideKind) : Type 0 where
-  in_message : k ≡ NotAMessage → is_message 0x42_007B 0x42_007A t ≡ false → StampFault t k
+  in_message : k ≡ NotAMessage → is_message response_message response_header_tag t ≡ false → StampFault t k
   in_version : k ≡ Version → is_version (response_header t) ≡ false → StampFault t k
   in_count : k ≡ Count → is_count (response_header t) (length (batch t)) ≡ false → StampFault t k
-  in_stamp : NeededFault (at as_date 0x42_0092 (response_header t)) Missing Missing k → StampFault t k
+  in_stamp : NeededFault (at as_date time_stamp (response_header t)) Missing Missing k → StampFault t k
 
 -- THE DEFINITIONS
 
@@ -53,10 +54,10 @@ plain_rows hs n = both kind_number (kept_if (is_version hs) tt Version) (kept_if
 
 -- of a header before so many items
 unfoldable pub stamp_said : Trees → ℕ → Result ℤ OutsideKind
-stamp_said hs n = map_ok (λ p. p.1) (both kind_number (plain_rows hs n) (needed (at as_date 0x42_0092 hs) Missing Missing))
+stamp_said hs n = map_ok (λ p. p.1) (both kind_number (plain_rows hs n) (needed (at as_date time_stamp hs) Missing Missing))
 
 unfoldable pub stamp_in : Tree → Result ℤ OutsideKind
-stamp_in t = gated (is_message 0x42_007B 0x42_007A t) (stamp_said (response_header t) (length (batch t)))
+stamp_in t = gated (is_message response_message response_header_tag t) (stamp_said (response_header t) (length (batch t)))
 
 abbrev pub response_at : ℤ → List AnswerOf → ResponseOf
 response_at stamp items = record { stamp = stamp; items = items }

@@ -11,7 +11,6 @@ mod reading;
 mod request;
 mod response;
 mod rules;
-mod tags;
 mod wanted;
 mod writing;
 
@@ -22,7 +21,8 @@ pub use laws::{one_payload, one_request, one_response};
 pub use operation::Operation;
 pub use reading::{read_payload, read_request, read_response};
 pub use request::{
-    About, Ask, Asked, BatchOption, Create, Get, GetAttributes, Register, Request, Revoke,
+    Activate, Ask, Asked, BatchOption, Create, Destroy, Get, GetAttributes, Register, Request,
+    Revoke,
 };
 pub use response::{Answer, Changed, Got, GotAttributes, Payload, Registered, Response, Status};
 pub use rules::{Cause, Row, Rules};

@@ -19,7 +19,10 @@ pub enum Operation {
 }
 
 impl Operation {
-    ghost use Rattle.kmipa_msgs.specs.Operations.{operation_number, operation_of, is_judged, may_be_bare};
+    ghost use Rattle.std.specs.Prelude.{IsTrue, ◌↔◌};
+    ghost use Rattle.kmipa_msgs.specs.Replies.{may_be_bare};
+    ghost use Rattle.kmipa_msgs.specs.Wanted.{NeedsPayload};
+    ghost use Rattle.kmipa_msgs.specs.Operations.{operation_number, operation_of, is_judged};
 
     /// The number on the wire.
     pub fn number(self) -> u32
@@ -83,6 +86,22 @@ impl Operation {
             Operation::Create
             | Operation::Register
             | Operation::Get
+            | Operation::Idle(_)
+            | Operation::Other(_) => false,
+        }
+    }
+
+    /// Whether what it did can't be judged without its Response Payload.
+    pub(crate) fn needs_payload(self) -> bool
+        ensures { IsTrue result ↔ NeedsPayload self }
+    {
+        match self {
+            Operation::Create | Operation::Register => true,
+            Operation::Get
+            | Operation::GetAttributes
+            | Operation::Activate
+            | Operation::Revoke
+            | Operation::Destroy
             | Operation::Idle(_)
             | Operation::Other(_) => false,
         }

@@ -3,17 +3,20 @@
 use crate::kind::OutsideKind;
 use std::alloc::AllocError;
 
+mod activate;
 mod answer;
 mod ask;
 mod attributes;
 mod brought;
 mod create;
+mod destroy;
 mod get;
 mod get_attributes;
 mod header;
 mod identifier;
 mod key_block;
 mod object;
+mod operations;
 mod payload;
 mod register;
 mod request;

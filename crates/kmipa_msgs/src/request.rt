@@ -62,9 +62,9 @@ pub enum Asked<'a> {
     Register(Register<'a>),
     Get(Get<'a>),
     GetAttributes(GetAttributes<'a>),
-    Activate(About<'a>),
+    Activate(Activate<'a>),
     Revoke(Revoke<'a>),
-    Destroy(About<'a>),
+    Destroy(Destroy<'a>),
     /// An operation without effect, by its number.
     Idle(u32),
     /// Any other operation, by its number.
@@ -108,9 +108,9 @@ pub struct GetAttributes<'a> {
     pub has_others: bool,
 }
 
-/// What an Activate or a Destroy asks for (KMIP 2.1, section 6.1).
+/// What an Activate asks for (KMIP 2.1, section 6.1).
 #[derive(Clone, Copy, Debug)]
-pub struct About<'a> {
+pub struct Activate<'a> {
     /// Unique Identifier; where it is absent the ID Placeholder is meant.
     pub id: Option<&'a str>,
 }
@@ -122,6 +122,13 @@ pub struct Revoke<'a> {
     pub id: Option<&'a str>,
     /// Revocation Reason Code, by its number.
     pub code: u32,
+}
+
+/// What a Destroy asks for (KMIP 2.1, section 6.1).
+#[derive(Clone, Copy, Debug)]
+pub struct Destroy<'a> {
+    /// Unique Identifier; where it is absent the ID Placeholder is meant.
+    pub id: Option<&'a str>,
 }
 
 impl<'a> Ask<'a> {

@@ -2,9 +2,8 @@
 
 ghost use Rattle.std.specs.Prelude.{IsTrue, ◌↔◌};
 ghost use Rattle.kmipa_msgs.specs.Messages.{ask_of, answer_of};
-ghost use Rattle.kmipa_msgs.specs.Wanted.{NeedsPayload, IsOwn, Wanted};
+ghost use Rattle.kmipa_msgs.specs.Wanted.{IsOwn, Wanted};
 
-use crate::operation::Operation;
 use crate::request::Ask;
 use crate::response::{Answer, Status};
 
@@ -12,25 +11,10 @@ use crate::response::{Answer, Status};
 pub fn is_wanted(ask: &Ask, answer: &Answer) -> bool
     ensures { IsTrue result ↔ Wanted (ask_of ask.now) (answer_of answer.now) }
 {
-    needs_payload(ask.operation())
+    ask.operation().needs_payload()
         && answer.status == Status::Undone
         && answer.payload.is_none()
         && is_own(ask.number(), answer.operation)
-}
-
-fn needs_payload(operation: Operation) -> bool
-    ensures { IsTrue result ↔ NeedsPayload operation }
-{
-    match operation {
-        Operation::Create | Operation::Register => true,
-        Operation::Get
-        | Operation::GetAttributes
-        | Operation::Activate
-        | Operation::Revoke
-        | Operation::Destroy
-        | Operation::Idle(_)
-        | Operation::Other(_) => false,
-    }
 }
 
 /// Whether an answer names no operation, or this one.

@@ -1,6 +1,8 @@
 //! Items from messages, with the fields of each structure in the order of the standard's tables.
 
+mod activate;
 mod create;
+mod destroy;
 mod fields;
 mod get;
 mod get_attributes;
@@ -8,6 +10,7 @@ mod header;
 mod identifier;
 mod key_block;
 mod object;
+mod operations;
 mod register;
 mod request;
 mod response;

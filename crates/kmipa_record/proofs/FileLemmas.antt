@@ -1,18 +1,13 @@
 -- Files that are read item by item.
-use Rattle.std.proofs.Common.{◌≡◌, ℕ, ◌+◌, List, [], ◌∷◌, ◌++◌, length, Bool, false, IsTrue, Option, None, IfSome, IfOk, IfErr, Result, Ok, Err, ◌≢◌, refl, sym, ap, subst, ◌∙◌, arith}
-use Rattle.std.specs.Prelude.{MatchResult}
-use Rattle.kmipa_ttlv.specs.Input.{reader_of, came_of, is_ended, is_failed, IsFileOf, StaysOver}
-use Rattle.kmipa_ttlv.specs.declared.input.Input.{Input}
-use Rattle.kmipa_ttlv.proofs.ReadLemmas.{starts_over, over_file, whole_file, where_known}
+use Rattle.std.proofs.Common.{◌≡◌, ℕ, ◌+◌, List, [], ◌∷◌, ◌++◌, length, Bool, None, refl, sym, ap, subst, ◌∙◌, arith}
 use Rattle.kmipa_ttlv.specs.Tree.{Tree}
 use Rattle.kmipa_ttlv.specs.Stream.{Begins, capped, IsSplit}
 use Rattle.kmipa_ttlv.proofs.StreamLemmas.{item_given}
-use Rattle.kmipa_record.specs.Kinds.{ByCause}
 use Rattle.kmipa_record.specs.Files.{IsRightUpTo, FirstFault, in_bytes, in_item, at_end, Tells, place_of}
 use Rattle.kmipa_record.specs.Reading.{IsReading, TellsFlawOf, ReadFails, Takes, HeaderFault, torn, absent, other, HeaderFails}
 use Rattle.kmipa_record.specs.declared.fault.RecordFault.{RecordFault}
 use Rattle.kmipa_record.specs.declared.fault.RecordKind.{RecordKind}
-use Rattle.kmipa_record.specs.declared.fault.RecordKind.TheVariants.{Header, Device}
+use Rattle.kmipa_record.specs.declared.fault.RecordKind.TheVariants.{Header}
 use Rattle.kmipa_record.proofs.KindLemmas.{ByCause-map}
 
 -- one more item was read
@@ -82,23 +77,3 @@ module _ (AreRight : List Tree → Type 0) where
         let here : (offset : ℕ) → offset ≡ place → IsRightUpTo AreRight file offset
         = λ offset e. subst (IsRightUpTo AreRight file) (sym e) (right_here file [] file place (record { right = right; reading = starts file place zero })) in
         ByCause-map f.kind _ _ _ _ _ _ (λ d. (d.0, here f.offset d.1)) (λ m. here f.offset m) (header_told is_header right no_item no_end file place f zero) h
-
--- ---- a reader whose bytes are known
-
-pub known_ok : {R T : Type 0} (remaining : R → Option (List ℕ)) (old new : Input R) (reader : R) (P : T → List ℕ → Type 0) (S : RecordFault → Type 0) (r : Result T RecordFault)
-    → reader_of old ≡ reader → came_of old ≡ [] → is_ended old ≡ false → StaysOver remaining old new → MatchResult r (λ _. is_failed new ≡ false) S
-    → IfOk r (λ t. P t (came_of new) × IsTrue (is_ended new)) → IfOk r (λ t. IfSome (remaining reader) (P t))
-known_ok remaining old new reader P S (Ok t) is none goes_on over works h =
-    where_known (remaining reader) (P t) (λ bytes e.
-    whole_file bytes new (P t) h.1 (over_file remaining new bytes works (over bytes (starts_over remaining old bytes none goes_on (ap remaining is ∙ e)))) h.0)
-known_ok remaining old new reader P S (Err f) is none goes_on over works h = tt
-
-pub known_err : {R T : Type 0} (remaining : R → Option (List ℕ)) (old new : Input R) (reader : R) (Fault : List ℕ → ℕ → RecordKind → Type 0) (UpTo : List ℕ → ℕ → Type 0) (r : Result T RecordFault)
-    → reader_of old ≡ reader → came_of old ≡ [] → is_ended old ≡ false → StaysOver remaining old new
-    → MatchResult r (λ _. is_failed new ≡ false) (λ f. f.kind ≢ Device → is_failed new ≡ false)
-    → ((file : List ℕ) → IsFileOf file new → IfErr r (Tells Fault UpTo file (is_failed new))) → IfErr r (λ f. f.kind ≢ Device → IfSome (remaining reader) (λ bytes. Tells Fault UpTo bytes false f))
-known_err remaining old new reader Fault UpTo (Ok t) is none goes_on over works h = tt
-known_err remaining old new reader Fault UpTo (Err f) is none goes_on over works h = λ other.
-    where_known (remaining reader) _ (λ bytes e.
-    subst (λ (b : Bool). Tells Fault UpTo bytes b f) (works other)
-    (h bytes (over_file remaining new bytes (works other) (over bytes (starts_over remaining old bytes none goes_on (ap remaining is ∙ e))))))

@@ -1,19 +1,14 @@
 -- The next item of a file.
-use Rattle.std.proofs.Common.{◌≡◌, ◌≢◌, ◌≤◌, ℕ, ◌+◌, List, [], ◌∷◌, length, Bool, ◌<◌, ◌++◌, IsTrue, drop, append_assoc, refl, sym, ap, subst, ◌∙◌, arith}
+use Rattle.std.proofs.Common.{◌≡◌, ℕ, List, [], length, Bool, ◌++◌, IsTrue, drop, append_assoc, refl, sym, ap, subst, ◌∙◌, arith}
 use Rattle.std.proofs.lemmas.List.{length-append}
 use Rattle.std.specs.Io.{StartsWith, appended_bytes}
 use Rattle.kmipa_ttlv.specs.Tree.{Tree}
-use Rattle.kmipa_ttlv.specs.Flaw.{OuterFlaw, outer_flaw, IsOwn}
-use Rattle.kmipa_ttlv.specs.Stream.{TellsFlaw, capped}
-use Rattle.kmipa_ttlv.specs.Reading.{IsWhole, ReadTells, TellsKnown}
-use Rattle.kmipa_ttlv.specs.declared.fault.FaultKind.{FaultKind}
-use Rattle.kmipa_ttlv.specs.declared.fault.FaultKind.TheVariants.{Truncated, Device, Memory}
+use Rattle.kmipa_ttlv.specs.Reading.{IsWhole, ReadTells}
 use Rattle.kmipa_ttlv.specs.declared.fault.TtlvFault.{TtlvFault}
-use Rattle.kmipa_ttlv.proofs.ReadLemmas.{whole_stays, outer_flaw_own, known_flaw_lem, starts_with_rest}
-use Rattle.kmipa_ttlv.proofs.StreamLemmas.{ByKind-lasting}
+use Rattle.kmipa_ttlv.proofs.ReadLemmas.{whole_stays, known_flaw_lem, starts_with_rest}
 use Rattle.kmipa_record.specs.Reading.{record_kind, TellsFlawOf, WholeFails, ReadFails, Takes, HeaderFault, absent, other}
 use Rattle.kmipa_record.specs.declared.fault.RecordFault.{RecordFault}
-use Rattle.kmipa_record.specs.declared.fault.RecordKind.TheVariants.{Ttlv, Header}
+use Rattle.kmipa_record.specs.declared.fault.RecordKind.TheVariants.{Header}
 use Rattle.kmipa_record.proofs.KindLemmas.{ByCause-map, cause_same}
 
 -- the fault of what was read, as a fault of a file

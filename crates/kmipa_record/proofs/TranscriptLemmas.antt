@@ -1,5 +1,5 @@
 -- A transcript that is read mark by mark.
-use Rattle.std.proofs.Common.{◌≡◌, ◌≢◌, ◌<◌, ℕ, ℤ, List, [], ◌∷◌, ◌++◌, Bool, Option, None, Some, IfSome, refl, sym, ap, subst, ◌∙◌, arith, map, ◌⊎◌, inl, inr}
+use Rattle.std.proofs.Common.{◌≡◌, ◌≢◌, ◌<◌, ℕ, ℤ, List, [], ◌∷◌, ◌++◌, Bool, Option, None, Some, refl, sym, ap, subst, ◌∙◌, arith, map, ◌⊎◌, inl, inr}
 use Rattle.std.specs.Prelude.{Contains}
 use Rattle.std.proofs.lemmas.List.{map-append}
 use Rattle.kmipa_ttlv.specs.Tree.{Tree}

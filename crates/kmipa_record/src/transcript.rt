@@ -8,7 +8,7 @@ ghost use Rattle.kmipa_ttlv.specs.Tree.{Tree};
 ghost use Rattle.kmipa_ttlv.specs.ViewTree.{view_tree, view_trees};
 ghost use Rattle.kmipa_record.specs.Calls.{Takes, Refuses};
 ghost use Rattle.kmipa_record.specs.Files.{Tells};
-ghost use Rattle.kmipa_record.specs.Marks.{MarkOf, mark_of, mark_item, begin_fields, end_fields};
+ghost use Rattle.kmipa_record.specs.Marks.{MarkOf, mark_of, mark_item, begin_fields, end_fields, AreRecorded};
 ghost use Rattle.kmipa_record.specs.Transcripts.{transcript_of, IsTranscript, TranscriptFault, IsTranscriptUpTo};
 ghost use Rattle.kmipa_record.specs.TranscriptReading.{IsReadSoFar};
 
@@ -147,6 +147,8 @@ pub fn read_transcript<R: Read>(
     requires { came_of input.old ≡ [] }
     // What is read is what the bytes are that came, to the end that was seen.
     ensures found { IfOk result (λ transcript. IsTranscript (came_of input.new) (transcript_of transcript) × IsTrue (is_ended input.new)) }
+    // Its calls begin and end as those of a transcript do.
+    ensures recorded { IfOk result (λ transcript. AreRecorded (transcript_of transcript)) }
     // Else the first fault is told, whatever follows what came, and nothing where the end was seen; unless a read failed or memory ran out.
     ensures fault { (file : List ℕ) → IsFileOf file input.new → IfErr result (Tells TranscriptFault IsTranscriptUpTo file (is_failed input.new)) }
     ensures sound { MatchResult result (λ _. is_failed input.new ≡ false) (λ f. f.kind ≢ RecordKind.Device → is_failed input.new ≡ false) }
@@ -223,13 +225,4 @@ fn keep_mark(
             kind: RecordKind::Memory,
         }),
     }
-}
-
-/// Reads a transcript of a reader whose bytes are known.
-pub fn read_known<R: Read + Drop>(alloc: Global, reader: R) -> Result<Transcript, RecordFault>
-    ensures found { IfOk result (λ transcript. IfSome (R.remaining reader) (λ bytes. IsTranscript bytes (transcript_of transcript))) }
-    ensures fault { IfErr result (λ f. f.kind ≢ RecordKind.Device → IfSome (R.remaining reader) (λ bytes. Tells TranscriptFault IsTranscriptUpTo bytes false f)) }
-{
-    let mut input = Input::new(reader);
-    read_transcript(alloc, &mut input)
 }

@@ -7,3 +7,4 @@ pub mod HistoryLemmas
 pub mod ChangeLemmas
 pub mod LearnLemmas
 pub mod JournalLemmas
+pub mod QueryLemmas

@@ -2,6 +2,7 @@ pub mod Ledger
 pub mod Faults
 pub mod Memory
 pub mod Calls
+pub mod Queries
 pub mod Choices
 pub mod Objects
 pub mod Secrets

@@ -1,5 +1,5 @@
 -- What the ledgers in memory mean.
-use Rattle.std.specs.Prelude.{List, map, reverse}
+use Rattle.std.specs.Prelude.{ℤ, List, map, reverse}
 use Rattle.kmipa_store.specs.Ledger.{LedgerState, Meaning}
 use Rattle.kmipa_store.specs.Journal.{journal_state}
 use Rattle.kmipa_store.specs.declared.copies.Copies.{Copies}
@@ -18,3 +18,10 @@ marks_of saved = map meaning_of (reverse saved)
 
 abbrev pub state_of_copies : Copies → LedgerState
 state_of_copies c = record { now = record { objects = c.objects; secrets = c.secrets }; marks = marks_of c.marks.items }
+
+-- the moment at which they tell states
+abbrev pub moment_of_journal : Journal → ℤ
+moment_of_journal j = j.moment
+
+abbrev pub moment_of_copies : Copies → ℤ
+moment_of_copies c = c.moment

@@ -4,13 +4,14 @@ use crate::fault::StoreFault;
 use crate::ledger::{Ledger, Mark};
 use crate::objects::Objects;
 use crate::secrets::{Lesson, Secrets};
-use kmipa_object::{Life, Object, Rule, SecretNo};
+use kmipa_object::{Life, Object, Rule, SecretNo, State};
 use std::alloc::Global;
 
 /// A ledger of which each mark is a whole copy: the plainest that keeps the laws.
 #[derive(Drop)]
 pub struct Copies {
     alloc: Global,
+    moment: i64,
     objects: Objects,
     secrets: Secrets,
     marks: Vec<Saved>,
@@ -24,15 +25,17 @@ pub struct Saved {
 }
 
 impl Copies {
-    ghost use Rattle.std.specs.Prelude.{◌≡◌, []};
-    ghost use Rattle.kmipa_store.specs.States.{state_of_copies};
+    ghost use Rattle.std.specs.Prelude.{◌≡◌, pos, []};
+    ghost use Rattle.kmipa_store.specs.States.{moment_of_copies, state_of_copies};
 
     /// A ledger without objects, secrets and marks.
     pub fn new(alloc: Global) -> Copies
-        ensures { state_of_copies result ≡ record { now = record { objects = []; secrets = [] }; marks = [] } }
+        ensures meaning { state_of_copies result ≡ record { now = record { objects = []; secrets = [] }; marks = [] } }
+        ensures moment { moment_of_copies result ≡ pos 0 }
     {
         Copies {
             alloc,
+            moment: 0,
             objects: Objects::new(alloc),
             secrets: Secrets::new(alloc),
             marks: Vec::new(alloc),
@@ -41,9 +44,11 @@ impl Copies {
 }
 
 impl Ledger for Copies {
-    ghost use Rattle.kmipa_store.specs.States.{state_of_copies};
+    ghost use Rattle.kmipa_store.specs.States.{moment_of_copies, state_of_copies};
 
     ghost state = { state_of_copies };
+
+    ghost moment = { moment_of_copies };
 
     fn find(&self, id: &str) -> Option<usize> {
         self.objects.find(id)
@@ -55,6 +60,26 @@ impl Ledger for Copies {
 
     fn at(&self, place: usize) -> &Object {
         self.objects.at(place)
+    }
+
+    fn next_named(&self, value: &str, kind: u32, from: usize) -> Option<usize> {
+        self.objects.next_named(value, kind, from)
+    }
+
+    fn any_live_named(&self, value: &str, kind: u32) -> bool {
+        self.objects.any_live_named(value, kind)
+    }
+
+    fn moment(&self) -> i64 {
+        self.moment
+    }
+
+    fn set_moment(&mut self, t: i64) {
+        self.moment = t;
+    }
+
+    fn state(&self, place: usize) -> State {
+        self.objects.state(place, self.moment)
     }
 
     fn add(&mut self, object: Object) -> Result<usize, StoreFault> {

@@ -11,7 +11,7 @@ use crate::fault::StoreFault;
 use crate::ledger::{Ledger, Mark};
 use crate::objects::Objects;
 use crate::secrets::{Lesson, Secrets};
-use kmipa_object::{Life, Object, Rule, SecretNo};
+use kmipa_object::{Life, Object, Rule, SecretNo, State};
 use std::alloc::Global;
 
 /// A ledger that writes down each change.
@@ -23,6 +23,7 @@ use std::alloc::Global;
 #[derive(Drop)]
 pub struct Journal {
     alloc: Global,
+    moment: i64,
     objects: Objects,
     object_changes: Vec<ObjectChange>,
     secrets: Secrets,
@@ -33,16 +34,18 @@ pub struct Journal {
 }
 
 impl Journal {
-    ghost use Rattle.std.specs.Prelude.{[]};
+    ghost use Rattle.std.specs.Prelude.{pos, []};
     ghost use Rattle.kmipa_store.specs.Ledger.{LedgerState};
-    ghost use Rattle.kmipa_store.specs.States.{state_of_journal};
+    ghost use Rattle.kmipa_store.specs.States.{moment_of_journal, state_of_journal};
 
     /// A ledger without objects, secrets and marks.
     pub fn new(alloc: Global) -> Journal
-        ensures { state_of_journal result ≡ record { now = record { objects = []; secrets = [] }; marks = [] } }
+        ensures meaning { state_of_journal result ≡ record { now = record { objects = []; secrets = [] }; marks = [] } }
+        ensures moment { moment_of_journal result ≡ pos 0 }
     {
         Journal {
             alloc,
+            moment: 0,
             objects: Objects::new(alloc),
             object_changes: Vec::new(alloc),
             secrets: Secrets::new(alloc),
@@ -53,9 +56,11 @@ impl Journal {
 }
 
 impl Ledger for Journal {
-    ghost use Rattle.kmipa_store.specs.States.{state_of_journal};
+    ghost use Rattle.kmipa_store.specs.States.{moment_of_journal, state_of_journal};
 
     ghost state = { state_of_journal };
+
+    ghost moment = { moment_of_journal };
 
     fn find(&self, id: &str) -> Option<usize> {
         self.objects.find(id)
@@ -67,6 +72,26 @@ impl Ledger for Journal {
 
     fn at(&self, place: usize) -> &Object {
         self.objects.at(place)
+    }
+
+    fn next_named(&self, value: &str, kind: u32, from: usize) -> Option<usize> {
+        self.objects.next_named(value, kind, from)
+    }
+
+    fn any_live_named(&self, value: &str, kind: u32) -> bool {
+        self.objects.any_live_named(value, kind)
+    }
+
+    fn moment(&self) -> i64 {
+        self.moment
+    }
+
+    fn set_moment(&mut self, t: i64) {
+        self.moment = t;
+    }
+
+    fn state(&self, place: usize) -> State {
+        self.objects.state(place, self.moment)
     }
 
     fn add(&mut self, object: Object) -> Result<usize, StoreFault> {

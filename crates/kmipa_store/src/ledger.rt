@@ -1,7 +1,7 @@
 //! What every ledger promises.
 
 use crate::fault::StoreFault;
-use kmipa_object::{Life, Object, Rule, SecretNo};
+use kmipa_object::{Life, Object, Rule, SecretNo, State};
 
 /// A place in the history of a ledger. It must be spent, by `keep`, `undo` or `back`, the newest first.
 pub struct Mark {
@@ -12,15 +12,24 @@ pub struct Mark {
 /// Objects in the order of arrival, secrets whose bytes may be unknown, and marks to go back to.
 ///
 /// # Laws
-/// Each call is one equation on the ledger's meaning. A refused call changes nothing, and of several faults the lowest is told. `find`,
-/// `len`, `at`, `secret`, `keep`, `undo`, `back` and `learn` of bytes already known take no memory.
+/// Each call is one equation on the ledger's meaning. A refused call changes nothing, and of several faults the lowest is told.
+///
+/// # The moment
+/// States are told at one moment, which is no part of the meaning: only `set_moment` changes it, and no mark goes back to it.
+///
+/// # Memory
+/// `add`, `replace`, `new_secret`, `mark` and `learn` of bytes that were unknown may take memory, and no other call does.
 pub trait Ledger {
-    ghost use Rattle.std.specs.Prelude.{◌≡◌, ◌<◌, length, slice_get, Some, IfSome, option_map};
+    ghost use Rattle.std.specs.Prelude.{◌≡◌, ◌<◌, ℤ, length, slice_get, Some, IfSome, option_map};
     ghost use Rattle.kmipa_store.specs.Ledger.{LedgerState, held, cards_of, place_of, bytes_at, kept, undone, gone_back};
     ghost use Rattle.kmipa_store.specs.Calls.{Adds, Replaces, MakesSecret, Learns, SetsMark};
+    ghost use Rattle.kmipa_store.specs.Queries.{state_of_place, next_named, any_live_named};
 
     /// Its objects, secrets and marks.
     ghost state: { Self → LedgerState };
+
+    /// The moment at which states are told.
+    ghost moment: { Self → ℤ };
 
     /// The place of the object with this identifier.
     fn find(&self, id: &str) -> Option<usize>
@@ -36,18 +45,44 @@ pub trait Ledger {
         requires { place < length (state self.now).now.objects }
         ensures { slice_get (state self.now).now.objects place ≡ Some (held result.now) };
 
+    /// The first place from this one on whose object has this name, a value and a type, destroyed or not.
+    fn next_named(&self, value: &str, kind: u32, from: usize) -> Option<usize>
+        ensures place { result ≡ next_named value.now kind from (state self.now).now.objects }
+        ensures within { IfSome result (λ place. place < length (state self.now).now.objects) };
+
+    /// Whether an object without a Destroy Date has this name.
+    fn any_live_named(&self, value: &str, kind: u32) -> bool
+        ensures { result ≡ any_live_named value.now kind (state self.now).now.objects };
+
+    /// The moment at which states are told, in seconds since 1970-01-01T00:00:00Z; 0 until it is set.
+    fn moment(&self) -> i64
+        ensures { result ≡ moment self.now };
+
+    /// From now on states are told at this moment.
+    fn set_moment(&mut self, t: i64)
+        ensures meaning { state self.new ≡ state self.old }
+        ensures moment { moment self.new ≡ t };
+
+    /// The state of the object at a place: what its dates say at the moment.
+    fn state(&self, place: usize) -> State
+        requires { place < length (state self.now).now.objects }
+        ensures { state_of_place (state self.now).now.objects place (moment self.now) ≡ Some result };
+
     /// Adds an object behind the others, and answers its place. Refused with IdentifierTaken or for memory; the object is then let go.
     fn add(&mut self, object: Object) -> Result<usize, StoreFault>
-        ensures { Adds (state self.old) (held object) result (state self.new) };
+        ensures meaning { Adds (state self.old) (held object) result (state self.new) }
+        ensures moment { moment self.new ≡ moment self.old };
 
     /// Gives the object at a place other dates and other material. Refused for memory alone.
     fn replace(&mut self, place: usize, life: Life) -> Result<(), StoreFault>
         requires { place < length (state self.old).now.objects }
-        ensures { Replaces (state self.old) place life result (state self.new) };
+        ensures meaning { Replaces (state self.old) place life result (state self.new) }
+        ensures moment { moment self.new ≡ moment self.old };
 
     /// A new secret of unknown bytes under this rule. Refused with LengthImpossible or for memory.
     fn new_secret(&mut self, rule: Rule) -> Result<SecretNo, StoreFault>
-        ensures { MakesSecret (state self.old) rule result (state self.new) };
+        ensures meaning { MakesSecret (state self.old) rule result (state self.new) }
+        ensures moment { moment self.new ≡ moment self.old };
 
     /// The bytes of a secret, where they are known.
     fn secret(&self, secret: SecretNo) -> Option<&[u8]>
@@ -57,24 +92,29 @@ pub trait Ledger {
     /// From now on a secret has these bytes. Refused with BytesDiffer, LengthImpossible or, where they were unknown, for memory.
     fn learn(&mut self, secret: SecretNo, bytes: &[u8]) -> Result<(), StoreFault>
         requires { secret.number < length (state self.old).now.secrets }
-        ensures { Learns (state self.old) secret.number bytes.now result (state self.new) };
+        ensures meaning { Learns (state self.old) secret.number bytes.now result (state self.new) }
+        ensures moment { moment self.new ≡ moment self.old };
 
     /// A new mark at this moment. Refused for memory alone.
     fn mark(&mut self) -> Result<Mark, StoreFault>
-        ensures { SetsMark (state self.old) result (state self.new) };
+        ensures meaning { SetsMark (state self.old) result (state self.new) }
+        ensures moment { moment self.new ≡ moment self.old };
 
     /// Spends the newest mark: nothing goes back.
     fn keep(&mut self, mark: Mark)
         requires { mark.depth ≡ length (state self.old).marks }
-        ensures { state self.new ≡ kept (state self.old) };
+        ensures meaning { state self.new ≡ kept (state self.old) }
+        ensures moment { moment self.new ≡ moment self.old };
 
     /// Spends the newest mark: objects go back to it, secrets and what was learned stay.
     fn undo(&mut self, mark: Mark)
         requires { mark.depth ≡ length (state self.old).marks }
-        ensures { state self.new ≡ undone (state self.old) };
+        ensures meaning { state self.new ≡ undone (state self.old) }
+        ensures moment { moment self.new ≡ moment self.old };
 
     /// Spends the newest mark: objects, secrets and what was learned go back to it.
     fn back(&mut self, mark: Mark)
         requires { mark.depth ≡ length (state self.old).marks }
-        ensures { state self.new ≡ gone_back (state self.old) };
+        ensures meaning { state self.new ≡ gone_back (state self.old) }
+        ensures moment { moment self.new ≡ moment self.old };
 }

@@ -1,8 +1,16 @@
 //! Objects in the order of arrival, found by their identifiers.
 
+ghost use Rattle.std.specs.Prelude.{◌≡◌, ◌&&◌};
+ghost use Rattle.std.specs.List.{list_any};
+ghost use Rattle.kmipa_attrs.specs.Sets.{name_of};
+ghost use Rattle.kmipa_object.specs.Inventory.{card_of, live};
+ghost use Rattle.kmipa_store.specs.Ledger.{held};
+ghost use Rattle.kmipa_store.specs.Queries.{has_name, is_name};
+
 use crate::fault::StoreFault;
 use indexmap::IndexMap;
-use kmipa_object::{Life, Object};
+use kmipa_attrs::Name;
+use kmipa_object::{Life, Object, State, state_at};
 use std::alloc::Global;
 use std::marker::Model;
 
@@ -28,6 +36,7 @@ impl Objects {
     ghost use Rattle.std.specs.Prelude.{◌≡◌, ◌-◌, ◌<◌, [], length, take, slice_get, string_bytes, Some, None, IfSome, IfOk, IfErr};
     ghost use Rattle.kmipa_store.specs.Ledger.{held, cards_of, place_of, relived};
     ghost use Rattle.kmipa_store.specs.Memory.{Pushes};
+    ghost use Rattle.kmipa_store.specs.Queries.{has_name, next_named, any_live_named, state_of_place};
 
     /// No objects.
     pub fn new(alloc: Global) -> Objects
@@ -64,6 +73,39 @@ impl Objects {
         }
     }
 
+    /// The state of the object at a place, at a moment.
+    pub fn state(&self, place: usize, t: i64) -> State
+        requires { place < length self.now }
+        ensures { state_of_place self.now place t ≡ Some result }
+    {
+        state_at(&self.at(place).life, t)
+    }
+
+    /// The first place from this one on whose object has this name.
+    pub fn next_named(&self, value: &str, kind: u32, from: usize) -> Option<usize>
+        ensures place { result ≡ next_named value.now kind from self.now }
+        ensures within { IfSome result (λ place. place < length self.now) }
+    {
+        for place in from..self.len() {
+            if has_name(self.at(place), value, kind) {
+                return Some(place);
+            }
+        }
+        None
+    }
+
+    /// Whether an object without a Destroy Date has this name.
+    pub fn any_live_named(&self, value: &str, kind: u32) -> bool
+        ensures { result ≡ any_live_named value.now kind self.now }
+    {
+        for place in 0..self.len() {
+            if is_live_named(self.at(place), value, kind) {
+                return true;
+            }
+        }
+        false
+    }
+
     /// Adds an object, whose identifier no other has, behind the others.
     pub fn push(&mut self, object: Object) -> Result<(), StoreFault>
         requires { place_of (string_bytes object.id) (cards_of self.old) ≡ None }
@@ -90,6 +132,7 @@ impl Objects {
     {
         let _ = self.by_id.pop();
     }
+
     /// Equal objects, with memory of their own.
     pub fn copy(&self, alloc: Global) -> Result<Objects, StoreFault>
         ensures same { IfOk result (λ copy. copy ≡ self.now) }
@@ -103,4 +146,30 @@ impl Objects {
         }
         Ok(copy)
     }
+}
+
+/// Whether the object is without a Destroy Date, and has this name.
+fn is_live_named(object: &Object, value: &str, kind: u32) -> bool
+    ensures { result ≡ (live (card_of object.now) && has_name value.now kind (held object.now)) }
+{
+    object.life.destroy.is_none() && has_name(object, value, kind)
+}
+
+/// Whether the object has this name.
+fn has_name(object: &Object, value: &str, kind: u32) -> bool
+    ensures { result ≡ has_name value.now kind (held object.now) }
+{
+    is_among(object.given.names.as_slice(), value, kind)
+}
+
+fn is_among(names: &[Name], value: &str, kind: u32) -> bool
+    ensures { result ≡ list_any (λ (n : Name). is_name value.now kind (name_of n)) names.now }
+{
+    names.iter().any(|name| is_name(name, value, kind))
+}
+
+fn is_name(name: &Name, value: &str, kind: u32) -> bool
+    ensures { result ≡ is_name value.now kind (name_of name.now) }
+{
+    kind == name.kind && value == name.value.as_str()
 }

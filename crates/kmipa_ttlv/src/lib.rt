@@ -4,13 +4,13 @@
 //! of a stream that comes in pieces, `read_item` those of an `Input`. A `TtlvFault` says what is wrong, and where.
 #![tactic(auto)]
 
+mod came;
 mod copying;
 mod decoding;
 mod encoding;
 mod fault;
 mod frames;
 mod head;
-mod came;
 mod input;
 mod item;
 mod laws;
@@ -20,6 +20,7 @@ mod splitting;
 mod tag;
 mod view;
 
+pub use copying::copy_item;
 pub use decoding::{decode, decode_view};
 pub use encoding::{encode, spelled_len};
 pub use fault::{FaultKind, TtlvFault};
@@ -27,8 +28,8 @@ pub use frames::Frames;
 pub use input::Input;
 pub use item::{Item, Value};
 pub use laws::{
-    cut_short, decoded_again, joined, known_flaw, no_flaw, no_others, one_flaw, one_list, one_spelling,
-    own_kinds, settled,
+    begins_or_flawed, cut_short, decoded_again, joined, known_flaw, no_flaw, no_others, one_flaw,
+    one_list, one_spelling, own_kinds, settled,
 };
 pub use lending::lend;
 pub use reading::{read_all, read_bytes, read_item, read_item_into};

@@ -6,6 +6,7 @@ ghost use Rattle.std.specs.List.{slice_get};
 ghost use Rattle.kmipa_ttlv.specs.ViewTree.{view_tree, view_trees};
 ghost use Rattle.kmipa_attrs.specs.Fields.{every, first, at, as_enumeration};
 ghost use Rattle.kmipa_attrs.specs.Readings.{map_ok};
+ghost use Rattle.kmipa_attrs.specs.Tags.{batch_item, response_payload};
 ghost use Rattle.kmipa_msgs.specs.Messages.{ask_of, asks_of, payload_of, answer_of, answers_of};
 ghost use Rattle.kmipa_msgs.specs.Outside.{Gives, each_in, from_one};
 ghost use Rattle.kmipa_msgs.specs.Replies.{own, or_empty, status_in, is_bare, required_in, judged_in, unjudged_in, shown_in, outcome_in, outcome_of, answer_in};
@@ -14,14 +15,15 @@ use crate::fault::{Outside, ReadFault};
 use crate::kind::OutsideKind;
 use crate::operation::Operation;
 use crate::reading::Read;
-use crate::reading::payload::{read_done, read_payload_of};
+use crate::reading::operations::read_done;
+use crate::reading::payload::read_payload_of;
 use crate::reading::rows::of_table;
 use crate::request::Ask;
 use crate::response::{Answer, Payload, Status};
-use crate::tags::{
+use kmipa_attrs::fields::{as_structure, bytes_at, enumeration_at, first};
+use kmipa_attrs::tags::{
     BATCH_ITEM, OPERATION, RESPONSE_PAYLOAD, RESULT_REASON, RESULT_STATUS, UNIQUE_BATCH_ITEM_ID,
 };
-use kmipa_attrs::fields::{as_structure, bytes_at, enumeration_at, first};
 use kmipa_attrs::{Field, both};
 use kmipa_ttlv::View;
 use std::alloc::Global;
@@ -35,7 +37,7 @@ pub fn read_answers<'a>(
     children: &[View<'a>],
     asks: &[Ask],
 ) -> Result<Vec<Answer<'a>>, ReadFault>
-    ensures { Gives answers_of result (from_one (each_in (λ place. answer_in (slice_get (map ask_of asks.now) place)) (every 0x42_000F (view_trees children.now)))) }
+    ensures { Gives answers_of result (from_one (each_in (λ place. answer_in (slice_get (map ask_of asks.now) place)) (every batch_item (view_trees children.now)))) }
 {
     let mut answers = Vec::new(alloc);
     let mut place = 0;
@@ -125,7 +127,7 @@ fn shown<'a>(
     status: Status,
     children: &[View<'a>],
 ) -> Read<Option<Payload<'a>>>
-    ensures { IfOk result (λ r. map_ok (option_map payload_of) r ≡ shown_in own status (first 0x42_007C (view_trees children.now))) }
+    ensures { IfOk result (λ r. map_ok (option_map payload_of) r ≡ shown_in own status (first response_payload (view_trees children.now))) }
 {
     let Some(operation) = own else {
         return Ok(Ok(None));
@@ -153,7 +155,7 @@ fn judged<'a>(
     status: Status,
     children: &[View<'a>],
 ) -> Read<Option<Payload<'a>>>
-    ensures { IfOk result (λ r. map_ok (option_map payload_of) r ≡ judged_in operation status (first 0x42_007C (view_trees children.now))) }
+    ensures { IfOk result (λ r. map_ok (option_map payload_of) r ≡ judged_in operation status (first response_payload (view_trees children.now))) }
 {
     match (status, first(children, RESPONSE_PAYLOAD)) {
         (Status::Failed, _) => Ok(Ok(None)),

@@ -4,31 +4,27 @@ ghost use Rattle.std.specs.Prelude.{◌≡◌, IfOk};
 ghost use Rattle.kmipa_ttlv.specs.ViewTree.{view_tree, view_trees};
 ghost use Rattle.kmipa_attrs.specs.Fields.{every, at, as_structure};
 ghost use Rattle.kmipa_attrs.specs.Readings.{map_ok};
+ghost use Rattle.kmipa_attrs.specs.Tags.{batch_item, request_payload};
 ghost use Rattle.kmipa_msgs.specs.Messages.{asked_of, ask_of, asks_of};
 ghost use Rattle.kmipa_msgs.specs.Outside.{Gives, each_in, from_one};
-ghost use Rattle.kmipa_msgs.specs.Asks.{operation_in, form_in, asked_in, payload_asked, ask_in};
+ghost use Rattle.kmipa_msgs.specs.Asks.{operation_in, form_in, payload_asked, ask_in};
 
 use crate::fault::{Outside, ReadFault};
 use crate::kind::OutsideKind;
 use crate::operation::Operation;
 use crate::reading::Read;
-use crate::reading::create::read_create;
-use crate::reading::get::read_get;
-use crate::reading::get_attributes::read_get_attributes;
-use crate::reading::identifier::read_identifier;
-use crate::reading::register::read_register;
-use crate::reading::revoke::read_revoke;
+use crate::reading::operations::read_asked;
 use crate::reading::rows::of_table;
-use crate::request::{About, Ask, Asked};
-use crate::tags::{BATCH_ITEM, OPERATION, REQUEST_PAYLOAD, UNIQUE_BATCH_ITEM_ID};
+use crate::request::{Ask, Asked};
 use kmipa_attrs::fields::{as_structure, bytes_at, enumeration_at, inside, structure_at};
+use kmipa_attrs::tags::{BATCH_ITEM, OPERATION, REQUEST_PAYLOAD, UNIQUE_BATCH_ITEM_ID};
 use kmipa_attrs::{Field, both};
 use kmipa_ttlv::View;
 use std::alloc::Global;
 
 /// The items of a message with these children, up to the first that is outside.
 pub fn read_asks<'a>(alloc: Global, children: &[View<'a>]) -> Result<Vec<Ask<'a>>, ReadFault>
-    ensures { Gives asks_of result (from_one (each_in (λ place. ask_in) (every 0x42_000F (view_trees children.now)))) }
+    ensures { Gives asks_of result (from_one (each_in (λ place. ask_in) (every batch_item (view_trees children.now)))) }
 {
     let mut asks = Vec::new(alloc);
     let mut place = 0;
@@ -93,7 +89,7 @@ fn read_request_payload<'a>(
 
 /// That a Request Payload is a structure, where it is read.
 fn payload_shape(operation: Operation, children: &[View]) -> Result<(), OutsideKind>
-    ensures { result ≡ form_in operation (at as_structure 0x42_0079 (view_trees children.now)) }
+    ensures { result ≡ form_in operation (at as_structure request_payload (view_trees children.now)) }
 {
     if !operation.is_judged() {
         return Ok(());
@@ -101,43 +97,5 @@ fn payload_shape(operation: Operation, children: &[View]) -> Result<(), OutsideK
     match structure_at(children, REQUEST_PAYLOAD) {
         Field::Wrong => Err(OutsideKind::Missing),
         _ => Ok(()),
-    }
-}
-
-/// What the children of a Request Payload ask for.
-fn read_asked<'a>(alloc: Global, operation: Operation, payload: &[View<'a>]) -> Read<Asked<'a>>
-    ensures { IfOk result (λ r. map_ok asked_of r ≡ asked_in operation (view_trees payload.now)) }
-{
-    match operation {
-        Operation::Create => match read_create(alloc, payload)? {
-            Ok(create) => Ok(Ok(Asked::Create(create))),
-            Err(kind) => Ok(Err(kind)),
-        },
-        Operation::Register => match read_register(alloc, payload)? {
-            Ok(register) => Ok(Ok(Asked::Register(register))),
-            Err(kind) => Ok(Err(kind)),
-        },
-        Operation::Get => match read_get(payload) {
-            Ok(get) => Ok(Ok(Asked::Get(get))),
-            Err(kind) => Ok(Err(kind)),
-        },
-        Operation::GetAttributes => match read_get_attributes(alloc, payload)? {
-            Ok(get) => Ok(Ok(Asked::GetAttributes(get))),
-            Err(kind) => Ok(Err(kind)),
-        },
-        Operation::Activate => match read_identifier(payload) {
-            Ok(id) => Ok(Ok(Asked::Activate(About { id }))),
-            Err(kind) => Ok(Err(kind)),
-        },
-        Operation::Revoke => match read_revoke(payload) {
-            Ok(revoke) => Ok(Ok(Asked::Revoke(revoke))),
-            Err(kind) => Ok(Err(kind)),
-        },
-        Operation::Destroy => match read_identifier(payload) {
-            Ok(id) => Ok(Ok(Asked::Destroy(About { id }))),
-            Err(kind) => Ok(Err(kind)),
-        },
-        Operation::Idle(number) => Ok(Ok(Asked::Idle(number))),
-        Operation::Other(number) => Ok(Ok(Asked::Other(number))),
     }
 }

@@ -5,6 +5,7 @@ ghost use Rattle.kmipa_ttlv.specs.ViewTree.{view_trees};
 ghost use Rattle.kmipa_attrs.specs.Fields.{at, as_enumeration};
 ghost use Rattle.kmipa_attrs.specs.Readings.{map_ok};
 ghost use Rattle.kmipa_attrs.specs.Sets.{attributes_of};
+ghost use Rattle.kmipa_attrs.specs.Tags.{object_type_tag};
 ghost use Rattle.kmipa_msgs.specs.Tables.{listed};
 ghost use Rattle.kmipa_msgs.specs.Creates.{created_of, is_of_key, described_rows, new_key_in, create_in};
 
@@ -13,11 +14,11 @@ use crate::reading::Read;
 use crate::reading::attributes::{agree, read_attributes, type_known};
 use crate::reading::rows::unless_absent;
 use crate::request::Create;
-use crate::tags::{
+use kmipa_attrs::fields::{enumeration_at, inside};
+use kmipa_attrs::tags::{
     ATTRIBUTES, CRYPTOGRAPHIC_ALGORITHM, CRYPTOGRAPHIC_LENGTH, CRYPTOGRAPHIC_USAGE_MASK,
     OBJECT_TYPE,
 };
-use kmipa_attrs::fields::{enumeration_at, inside};
 use kmipa_attrs::{AttrSet, Field, ObjectType, Side, both};
 use kmipa_ttlv::View;
 use std::alloc::Global;
@@ -52,7 +53,7 @@ fn read_new_key(alloc: Global, payload: &[View]) -> Read<AttrSet>
 
 /// The Object Type of what is created: a Symmetric Key.
 fn type_created(payload: &[View]) -> Result<ObjectType, OutsideKind>
-    ensures { result ≡ listed (at as_enumeration 0x42_0057 (view_trees payload.now)) created_of OutsideKind.Missing OutsideKind.ObjectType }
+    ensures { result ≡ listed (at as_enumeration object_type_tag (view_trees payload.now)) created_of OutsideKind.Missing OutsideKind.ObjectType }
 {
     match enumeration_at(payload, OBJECT_TYPE) {
         Field::There(number) if number == ObjectType::SymmetricKey.number() => {

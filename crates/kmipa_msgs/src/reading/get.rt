@@ -5,6 +5,7 @@ ghost use Rattle.kmipa_ttlv.specs.ViewTree.{view_trees};
 ghost use Rattle.kmipa_attrs.specs.Fields.{at, as_enumeration};
 ghost use Rattle.kmipa_attrs.specs.ObjectTypes.{type_of};
 ghost use Rattle.kmipa_attrs.specs.Readings.{map_ok};
+ghost use Rattle.kmipa_attrs.specs.Tags.{object_type_tag};
 ghost use Rattle.kmipa_msgs.specs.Messages.{id_of, got_of};
 ghost use Rattle.kmipa_msgs.specs.Tables.{maybe_listed};
 ghost use Rattle.kmipa_msgs.specs.Gets.{get_in, got_in};
@@ -15,8 +16,8 @@ use crate::reading::object::{block_inside, read_shape};
 use crate::reading::rows::unless_there;
 use crate::request::Get;
 use crate::response::Got;
-use crate::tags::{KEY_WRAPPING_SPECIFICATION, OBJECT_TYPE, UNIQUE_IDENTIFIER};
 use kmipa_attrs::fields::{enumeration_at, text_at};
+use kmipa_attrs::tags::{KEY_WRAPPING_SPECIFICATION, OBJECT_TYPE, UNIQUE_IDENTIFIER};
 use kmipa_attrs::{Field, ObjectType, both};
 use kmipa_ttlv::View;
 
@@ -51,7 +52,7 @@ pub fn read_got<'a>(payload: &[View<'a>]) -> Result<Got<'a>, OutsideKind>
 }
 
 fn type_shown(payload: &[View]) -> Result<Option<ObjectType>, OutsideKind>
-    ensures { result ≡ maybe_listed (at as_enumeration 0x42_0057 (view_trees payload.now)) type_of OutsideKind.Missing OutsideKind.ObjectType }
+    ensures { result ≡ maybe_listed (at as_enumeration object_type_tag (view_trees payload.now)) type_of OutsideKind.Missing OutsideKind.ObjectType }
 {
     match enumeration_at(payload, OBJECT_TYPE) {
         Field::There(number) => match ObjectType::of(number) {

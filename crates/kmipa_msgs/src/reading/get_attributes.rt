@@ -3,6 +3,7 @@
 ghost use Rattle.std.specs.Prelude.{◌≡◌, ◌==◌, IfOk, count_by};
 ghost use Rattle.kmipa_ttlv.specs.ViewTree.{view_tree, view_trees};
 ghost use Rattle.kmipa_attrs.specs.Readings.{map_ok};
+ghost use Rattle.kmipa_attrs.specs.Tags.{unique_identifier};
 ghost use Rattle.kmipa_msgs.specs.Messages.{get_attributes_of, got_attributes_of};
 ghost use Rattle.kmipa_msgs.specs.GetsAttributes.{references, is_selective, as_reference, is_other, some_other, has_others, get_attributes_in, got_attributes_in};
 
@@ -12,8 +13,8 @@ use crate::reading::attributes::{read_attributes, type_known};
 use crate::reading::identifier::read_identifier;
 use crate::request::GetAttributes;
 use crate::response::GotAttributes;
-use crate::tags::{ATTRIBUTE_REFERENCE, ATTRIBUTES, UNIQUE_IDENTIFIER};
 use kmipa_attrs::fields::{as_enumeration, first, inside};
+use kmipa_attrs::tags::{ATTRIBUTE_REFERENCE, ATTRIBUTES, UNIQUE_IDENTIFIER};
 use kmipa_attrs::{Side, both};
 use kmipa_ttlv::View;
 use std::alloc::{AllocError, Global};
@@ -74,7 +75,7 @@ fn has_others(payload: &[View]) -> bool
 
 /// How many Unique Identifiers there are.
 fn identifier_count(payload: &[View]) -> usize
-    ensures { result ≡ count_by (λ v. v.tag.number == 0x42_0094) payload.now }
+    ensures { result ≡ count_by (λ v. v.tag.number == unique_identifier) payload.now }
 {
     payload
         .iter()

@@ -2,13 +2,14 @@
 
 ghost use Rattle.std.specs.Prelude.{◌≡◌, ◌==◌, count_by, pos};
 ghost use Rattle.kmipa_ttlv.specs.ViewTree.{view_tree, view_trees};
+ghost use Rattle.kmipa_attrs.specs.Tags.{batch_item};
 ghost use Rattle.kmipa_msgs.specs.Headers.{is_number, is_version, counts, is_count, Opens};
 
-use crate::tags::{
-    BATCH_COUNT, BATCH_ITEM, PROTOCOL_VERSION, PROTOCOL_VERSION_MAJOR, PROTOCOL_VERSION_MINOR,
-};
 use kmipa_attrs::Field;
 use kmipa_attrs::fields::{as_structure, inside, integer_at, structure_at};
+use kmipa_attrs::tags::{
+    BATCH_COUNT, BATCH_ITEM, PROTOCOL_VERSION, PROTOCOL_VERSION_MAJOR, PROTOCOL_VERSION_MINOR,
+};
 use kmipa_ttlv::View;
 
 /// The children of a message and those of its header, where the item is the message with this tag.
@@ -33,7 +34,7 @@ pub fn message_parts<'a, 'b>(
 
 /// How many Batch Items there are.
 pub fn item_count(children: &[View]) -> usize
-    ensures { result ≡ count_by (λ v. v.tag.number == 0x42_000F) children.now }
+    ensures { result ≡ count_by (λ v. v.tag.number == batch_item) children.now }
 {
     children
         .iter()

@@ -3,12 +3,13 @@
 ghost use Rattle.std.specs.Prelude.{◌≡◌};
 ghost use Rattle.kmipa_ttlv.specs.ViewTree.{view_trees};
 ghost use Rattle.kmipa_attrs.specs.Readings.{map_ok};
-ghost use Rattle.kmipa_msgs.specs.Messages.{maybe_lent};
+ghost use Rattle.kmipa_msgs.specs.Messages.{maybe_lent, changed_of};
 ghost use Rattle.kmipa_msgs.specs.Identifiers.{identifier_in};
 
 use crate::kind::OutsideKind;
-use crate::tags::UNIQUE_IDENTIFIER;
+use crate::response::Changed;
 use kmipa_attrs::fields::text_at;
+use kmipa_attrs::tags::UNIQUE_IDENTIFIER;
 use kmipa_ttlv::View;
 
 /// The Unique Identifier among the children of a payload, if it is there.
@@ -16,4 +17,14 @@ pub fn read_identifier<'a>(payload: &[View<'a>]) -> Result<Option<&'a str>, Outs
     ensures { map_ok maybe_lent result ≡ identifier_in (view_trees payload.now) }
 {
     text_at(payload, UNIQUE_IDENTIFIER).optional(OutsideKind::IdentifierForm)
+}
+
+/// What the children of the Response Payload of an Activate, a Revoke or a Destroy say.
+pub fn read_changed<'a>(payload: &[View<'a>]) -> Result<Changed<'a>, OutsideKind>
+    ensures { map_ok changed_of result ≡ identifier_in (view_trees payload.now) }
+{
+    match read_identifier(payload) {
+        Ok(id) => Ok(Changed { id }),
+        Err(kind) => Err(kind),
+    }
 }

@@ -4,6 +4,7 @@ ghost use Rattle.std.specs.Prelude.{◌≡◌};
 ghost use Rattle.kmipa_ttlv.specs.ViewTree.{view_trees};
 ghost use Rattle.kmipa_attrs.specs.Fields.{at, as_enumeration, as_structure};
 ghost use Rattle.kmipa_attrs.specs.Readings.{map_ok};
+ghost use Rattle.kmipa_attrs.specs.Tags.{key_format_type, key_value};
 ghost use Rattle.kmipa_msgs.specs.Messages.{block_of};
 ghost use Rattle.kmipa_msgs.specs.Numbers.{format_of};
 ghost use Rattle.kmipa_msgs.specs.Tables.{listed, there};
@@ -12,11 +13,11 @@ ghost use Rattle.kmipa_msgs.specs.KeyBlocks.{block_in};
 use crate::key_block::{KeyBlock, KeyFormat};
 use crate::kind::OutsideKind;
 use crate::reading::rows::{of_table, unless_there};
-use crate::tags::{
+use kmipa_attrs::fields::{bytes_at, enumeration_at, inside, integer_at, structure_at};
+use kmipa_attrs::tags::{
     CRYPTOGRAPHIC_ALGORITHM, CRYPTOGRAPHIC_LENGTH, KEY_FORMAT_TYPE, KEY_MATERIAL, KEY_VALUE,
     KEY_WRAPPING_DATA,
 };
-use kmipa_attrs::fields::{bytes_at, enumeration_at, inside, integer_at, structure_at};
 use kmipa_attrs::{Field, both};
 use kmipa_ttlv::View;
 
@@ -50,7 +51,7 @@ pub fn read_key_block<'a>(block: &[View<'a>]) -> Result<KeyBlock<'a>, OutsideKin
 }
 
 fn format(block: &[View]) -> Result<KeyFormat, OutsideKind>
-    ensures { result ≡ listed (at as_enumeration 0x42_0042 (view_trees block.now)) format_of OutsideKind.Missing OutsideKind.Format }
+    ensures { result ≡ listed (at as_enumeration key_format_type (view_trees block.now)) format_of OutsideKind.Missing OutsideKind.Format }
 {
     match enumeration_at(block, KEY_FORMAT_TYPE) {
         Field::There(number) => of_table(KeyFormat::of(number), OutsideKind::Format),
@@ -60,7 +61,7 @@ fn format(block: &[View]) -> Result<KeyFormat, OutsideKind>
 
 /// That there is a Key Value.
 fn value_there(block: &[View]) -> Result<(), OutsideKind>
-    ensures { result ≡ there (at as_structure 0x42_0045 (view_trees block.now)) OutsideKind.Missing OutsideKind.Format }
+    ensures { result ≡ there (at as_structure key_value (view_trees block.now)) OutsideKind.Missing OutsideKind.Format }
 {
     match structure_at(block, KEY_VALUE) {
         Field::There(_) => Ok(()),

@@ -7,9 +7,9 @@ ghost use Rattle.kmipa_attrs.specs.Readings.{needed};
 ghost use Rattle.kmipa_msgs.specs.Objects.{is_object, object_in, shape_of, shape_in, block_inside};
 
 use crate::kind::OutsideKind;
-use crate::tags::{KEY_BLOCK, SECRET_DATA, SYMMETRIC_KEY};
 use kmipa_attrs::ObjectType;
 use kmipa_attrs::fields::{as_structure, inside};
+use kmipa_attrs::tags::{KEY_BLOCK, SECRET_DATA, SYMMETRIC_KEY};
 use kmipa_ttlv::View;
 
 /// The type that the object's tag tells.

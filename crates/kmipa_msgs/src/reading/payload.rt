@@ -1,21 +1,18 @@
 //! Response Payloads.
 
 ghost use Rattle.std.specs.Prelude.{◌≡◌, IfOk};
-ghost use Rattle.kmipa_ttlv.specs.ViewTree.{view_tree, view_trees};
+ghost use Rattle.kmipa_ttlv.specs.ViewTree.{view_tree};
 ghost use Rattle.kmipa_attrs.specs.Readings.{map_ok};
 ghost use Rattle.kmipa_msgs.specs.Messages.{ask_of, payload_of};
-ghost use Rattle.kmipa_msgs.specs.Payloads.{TellsPayload, done_in, payload_in};
+ghost use Rattle.kmipa_msgs.specs.Payloads.{TellsPayload, payload_in};
 
 use crate::fault::{Outside, ReadFault};
 use crate::kind::OutsideKind;
 use crate::operation::Operation;
 use crate::reading::Read;
-use crate::reading::get::read_got;
-use crate::reading::get_attributes::read_got_attributes;
-use crate::reading::identifier::read_identifier;
-use crate::reading::register::read_registered;
+use crate::reading::operations::read_done;
 use crate::request::Ask;
-use crate::response::{Changed, Payload};
+use crate::response::Payload;
 use kmipa_attrs::fields::as_structure;
 use kmipa_ttlv::View;
 use std::alloc::Global;
@@ -47,40 +44,5 @@ pub(super) fn read_payload_of<'a>(
     match as_structure(payload) {
         Some(children) => read_done(alloc, operation, children),
         None => Ok(Err(OutsideKind::Missing)),
-    }
-}
-
-/// What the children of a payload answer to an operation.
-pub(super) fn read_done<'a>(
-    alloc: Global,
-    operation: Operation,
-    payload: &[View<'a>],
-) -> Read<Payload<'a>>
-    ensures { IfOk result (λ r. map_ok payload_of r ≡ done_in operation (view_trees payload.now)) }
-{
-    match operation {
-        Operation::Create => match read_registered(payload) {
-            Ok(created) => Ok(Ok(Payload::Create(created))),
-            Err(kind) => Ok(Err(kind)),
-        },
-        Operation::Register => match read_registered(payload) {
-            Ok(registered) => Ok(Ok(Payload::Register(registered))),
-            Err(kind) => Ok(Err(kind)),
-        },
-        Operation::Get => match read_got(payload) {
-            Ok(got) => Ok(Ok(Payload::Get(got))),
-            Err(kind) => Ok(Err(kind)),
-        },
-        Operation::GetAttributes => match read_got_attributes(alloc, payload)? {
-            Ok(got) => Ok(Ok(Payload::GetAttributes(got))),
-            Err(kind) => Ok(Err(kind)),
-        },
-        Operation::Activate | Operation::Revoke | Operation::Destroy => {
-            match read_identifier(payload) {
-                Ok(id) => Ok(Ok(Payload::Change(Changed { id }))),
-                Err(kind) => Ok(Err(kind)),
-            }
-        }
-        Operation::Idle(_) | Operation::Other(_) => Ok(Err(OutsideKind::Missing)),
     }
 }

@@ -5,6 +5,7 @@ ghost use Rattle.kmipa_ttlv.specs.ViewTree.{view_trees};
 ghost use Rattle.kmipa_attrs.specs.Fields.{at, as_enumeration};
 ghost use Rattle.kmipa_attrs.specs.ObjectTypes.{type_of};
 ghost use Rattle.kmipa_attrs.specs.Readings.{map_ok};
+ghost use Rattle.kmipa_attrs.specs.Tags.{object_type_tag};
 ghost use Rattle.kmipa_msgs.specs.Messages.{register_of, registered_of, block_of};
 ghost use Rattle.kmipa_msgs.specs.Tables.{listed};
 ghost use Rattle.kmipa_msgs.specs.Brought.{brought_of};
@@ -19,8 +20,8 @@ use crate::reading::object::{block_inside, read_shape};
 use crate::reading::rows::of_table;
 use crate::request::Register;
 use crate::response::Registered;
-use crate::tags::{ATTRIBUTES, OBJECT_TYPE, UNIQUE_IDENTIFIER};
 use kmipa_attrs::fields::{enumeration_at, inside, text_at};
+use kmipa_attrs::tags::{ATTRIBUTES, OBJECT_TYPE, UNIQUE_IDENTIFIER};
 use kmipa_attrs::{Field, ObjectType, Side, both};
 use kmipa_ttlv::View;
 use std::alloc::Global;
@@ -63,7 +64,7 @@ fn read_brought<'a>(alloc: Global, payload: &[View<'a>]) -> Read<Brought<'a>>
 }
 
 fn type_brought(payload: &[View]) -> Result<ObjectType, OutsideKind>
-    ensures { result ≡ listed (at as_enumeration 0x42_0057 (view_trees payload.now)) type_of OutsideKind.Missing OutsideKind.ObjectType }
+    ensures { result ≡ listed (at as_enumeration object_type_tag (view_trees payload.now)) type_of OutsideKind.Missing OutsideKind.ObjectType }
 {
     match enumeration_at(payload, OBJECT_TYPE) {
         Field::There(number) => of_table(ObjectType::of(number), OutsideKind::ObjectType),

@@ -3,6 +3,7 @@
 ghost use Rattle.std.specs.Prelude.{◌≡◌};
 ghost use Rattle.kmipa_ttlv.specs.ViewTree.{view_tree, view_trees};
 ghost use Rattle.kmipa_attrs.specs.Fields.{at, as_enumeration, as_boolean};
+ghost use Rattle.kmipa_attrs.specs.Tags.{batch_error_continuation_option, batch_order_option};
 ghost use Rattle.kmipa_msgs.specs.Messages.{request_of};
 ghost use Rattle.kmipa_msgs.specs.Outside.{Gives};
 ghost use Rattle.kmipa_msgs.specs.Requests.{TellsRequest, option_in, order_in, in_order, order_said, request_in};
@@ -13,10 +14,10 @@ use crate::reading::ask::read_asks;
 use crate::reading::header::{is_count, is_version, item_count, message_parts};
 use crate::reading::rows::of_table;
 use crate::request::{BatchOption, Request};
-use crate::tags::{
+use kmipa_attrs::fields::{boolean_at, enumeration_at};
+use kmipa_attrs::tags::{
     BATCH_ERROR_CONTINUATION_OPTION, BATCH_ORDER_OPTION, REQUEST_HEADER, REQUEST_MESSAGE,
 };
-use kmipa_attrs::fields::{boolean_at, enumeration_at};
 use kmipa_attrs::{Field, both, passing};
 use kmipa_ttlv::View;
 use std::alloc::Global;
@@ -68,7 +69,7 @@ fn request_header(header: &[View], items: usize) -> Result<(BatchOption, bool), 
 
 /// Stop where no option is there.
 fn batch_option(header: &[View]) -> Result<BatchOption, OutsideKind>
-    ensures { result ≡ option_in (at as_enumeration 0x42_000E (view_trees header.now)) }
+    ensures { result ≡ option_in (at as_enumeration batch_error_continuation_option (view_trees header.now)) }
 {
     match enumeration_at(header, BATCH_ERROR_CONTINUATION_OPTION) {
         Field::There(number) => of_table(BatchOption::of(number), OutsideKind::Missing),
@@ -79,7 +80,7 @@ fn batch_option(header: &[View]) -> Result<BatchOption, OutsideKind>
 
 /// True where no option is there.
 fn ordered(header: &[View]) -> Result<bool, OutsideKind>
-    ensures { result ≡ order_in (at as_boolean 0x42_0010 (view_trees header.now)) }
+    ensures { result ≡ order_in (at as_boolean batch_order_option (view_trees header.now)) }
 {
     match boolean_at(header, BATCH_ORDER_OPTION) {
         Field::There(ordered) => Ok(ordered),
@@ -90,7 +91,7 @@ fn ordered(header: &[View]) -> Result<bool, OutsideKind>
 
 /// Whether there aren't several items in no order.
 fn in_order(header: &[View], items: usize) -> bool
-    ensures { result ≡ in_order (at as_boolean 0x42_0010 (view_trees header.now)) items }
+    ensures { result ≡ in_order (at as_boolean batch_order_option (view_trees header.now)) items }
 {
     match boolean_at(header, BATCH_ORDER_OPTION) {
         Field::There(false) => items < 2,

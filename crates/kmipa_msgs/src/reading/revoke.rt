@@ -9,9 +9,9 @@ ghost use Rattle.kmipa_msgs.specs.Revokes.{revoke_in};
 use crate::kind::OutsideKind;
 use crate::reading::identifier::read_identifier;
 use crate::request::Revoke;
-use crate::tags::{REVOCATION_REASON, REVOCATION_REASON_CODE};
 use kmipa_attrs::both;
 use kmipa_attrs::fields::{enumeration_at, inside};
+use kmipa_attrs::tags::{REVOCATION_REASON, REVOCATION_REASON_CODE};
 use kmipa_ttlv::View;
 
 /// What the children of a Revoke's Request Payload ask for.

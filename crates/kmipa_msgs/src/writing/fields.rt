@@ -5,7 +5,7 @@ ghost use Rattle.kmipa_ttlv.specs.Tree.{none, structure};
 ghost use Rattle.kmipa_ttlv.specs.Tree;
 ghost use Rattle.kmipa_ttlv.specs.ItemTree.{tree};
 ghost use Rattle.kmipa_msgs.specs.Messages.{maybe_lent};
-ghost use Rattle.kmipa_msgs.specs.Written.{with_field, field};
+ghost use Rattle.kmipa_msgs.specs.WrittenFields.{with_field, field};
 
 use kmipa_ttlv::{Item, Tag};
 use std::alloc::{AllocError, Global};

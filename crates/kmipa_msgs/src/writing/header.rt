@@ -5,7 +5,7 @@ ghost use Rattle.kmipa_ttlv.specs.ItemTree.{tree};
 ghost use Rattle.kmipa_msgs.specs.Written.{written_version};
 
 use super::fields::Fields;
-use crate::tags::{PROTOCOL_VERSION, PROTOCOL_VERSION_MAJOR, PROTOCOL_VERSION_MINOR};
+use kmipa_attrs::tags::{PROTOCOL_VERSION, PROTOCOL_VERSION_MAJOR, PROTOCOL_VERSION_MINOR};
 use kmipa_ttlv::Item;
 use std::alloc::{AllocError, Global};
 

@@ -4,10 +4,10 @@ ghost use Rattle.std.specs.Prelude.{◌≡◌, ◌<◌, IfOk};
 ghost use Rattle.kmipa_ttlv.specs.Tree.{structure};
 ghost use Rattle.kmipa_ttlv.specs.ItemTree.{tree};
 ghost use Rattle.kmipa_msgs.specs.Messages.{maybe_lent};
-ghost use Rattle.kmipa_msgs.specs.Written.{in_order, identifier_fields};
+ghost use Rattle.kmipa_msgs.specs.WrittenFields.{in_order, identifier_fields};
 
 use super::fields::Fields;
-use crate::tags::UNIQUE_IDENTIFIER;
+use kmipa_attrs::tags::UNIQUE_IDENTIFIER;
 use kmipa_ttlv::Item;
 use std::alloc::{AllocError, Global};
 

@@ -3,11 +3,11 @@
 ghost use Rattle.std.specs.Prelude.{◌≡◌, IfOk};
 ghost use Rattle.kmipa_ttlv.specs.ItemTree.{tree};
 ghost use Rattle.kmipa_msgs.specs.Messages.{block_of};
-ghost use Rattle.kmipa_msgs.specs.Written.{written_value, written_block};
+ghost use Rattle.kmipa_msgs.specs.WrittenKeys.{written_value, written_block};
 
 use super::fields::Fields;
 use crate::key_block::KeyBlock;
-use crate::tags::{
+use kmipa_attrs::tags::{
     CRYPTOGRAPHIC_ALGORITHM, CRYPTOGRAPHIC_LENGTH, KEY_BLOCK, KEY_FORMAT_TYPE, KEY_MATERIAL,
     KEY_VALUE,
 };

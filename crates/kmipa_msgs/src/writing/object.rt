@@ -3,13 +3,13 @@
 ghost use Rattle.std.specs.Prelude.{◌≡◌, IfOk};
 ghost use Rattle.kmipa_ttlv.specs.ItemTree.{tree};
 ghost use Rattle.kmipa_msgs.specs.Messages.{block_of};
-ghost use Rattle.kmipa_msgs.specs.Written.{written_object};
+ghost use Rattle.kmipa_msgs.specs.WrittenKeys.{written_object};
 
 use super::fields::Fields;
 use super::key_block::write_block;
 use crate::key_block::KeyBlock;
-use crate::tags::{SECRET_DATA, SYMMETRIC_KEY};
 use kmipa_attrs::ObjectType;
+use kmipa_attrs::tags::{SECRET_DATA, SYMMETRIC_KEY};
 use kmipa_ttlv::Item;
 use std::alloc::{AllocError, Global};
 

@@ -3,23 +3,18 @@
 ghost use Rattle.std.specs.Prelude.{◌≡◌, ◌<◌, IfOk, length};
 ghost use Rattle.kmipa_ttlv.specs.Tree.{Tree};
 ghost use Rattle.kmipa_ttlv.specs.ItemTree.{tree};
-ghost use Rattle.kmipa_msgs.specs.Messages.{asked_of, ask_of, request_of};
+ghost use Rattle.kmipa_msgs.specs.Messages.{ask_of, request_of};
 ghost use Rattle.kmipa_msgs.specs.Requests.{SaysRequest};
 ghost use Rattle.kmipa_msgs.specs.Writable.{IsWritable};
-ghost use Rattle.kmipa_msgs.specs.Written.{told_option, told_order, written_asked, written_ask, written_request_header, written_request};
+ghost use Rattle.kmipa_msgs.specs.Written.{told_option, told_order, written_ask, written_request_header, written_request};
 
-use super::create::write_create;
 use super::fields::Fields;
-use super::get::write_get;
-use super::get_attributes::write_get_attributes;
 use super::header::write_version;
-use super::identifier::write_identifier;
-use super::register::write_register;
-use super::revoke::write_revoke;
-use crate::request::{Ask, Asked, BatchOption, Request};
-use crate::tags::{
+use super::operations::write_asked;
+use crate::request::{Ask, BatchOption, Request};
+use kmipa_attrs::tags::{
     BATCH_COUNT, BATCH_ERROR_CONTINUATION_OPTION, BATCH_ITEM, BATCH_ORDER_OPTION, OPERATION,
-    REQUEST_HEADER, REQUEST_MESSAGE, REQUEST_PAYLOAD, UNIQUE_BATCH_ITEM_ID,
+    REQUEST_HEADER, REQUEST_MESSAGE, UNIQUE_BATCH_ITEM_ID,
 };
 use kmipa_ttlv::Item;
 use std::alloc::{AllocError, Global};
@@ -81,21 +76,4 @@ fn write_ask(alloc: Global, ask: &Ask) -> Result<Item, AllocError>
     fields.bytes(UNIQUE_BATCH_ITEM_ID, ask.batch_id)?;
     fields.item(write_asked(alloc, &ask.asked)?)?;
     Ok(fields.structure(BATCH_ITEM))
-}
-
-/// Request Payload.
-fn write_asked(alloc: Global, asked: &Asked) -> Result<Item, AllocError>
-    ensures { IfOk result (λ item. tree item ≡ written_asked (asked_of asked.now)) }
-{
-    match asked {
-        Asked::Create(create) => write_create(alloc, create),
-        Asked::Register(register) => write_register(alloc, register),
-        Asked::Get(get) => write_get(alloc, get),
-        Asked::GetAttributes(get) => write_get_attributes(alloc, get),
-        Asked::Revoke(revoke) => write_revoke(alloc, revoke),
-        Asked::Activate(about) | Asked::Destroy(about) => {
-            write_identifier(alloc, REQUEST_PAYLOAD, about.id)
-        }
-        Asked::Idle(_) | Asked::Other(_) => Ok(Fields::new(alloc).structure(REQUEST_PAYLOAD)),
-    }
 }

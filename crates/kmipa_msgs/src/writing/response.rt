@@ -3,21 +3,18 @@
 ghost use Rattle.std.specs.Prelude.{◌≡◌, ◌<◌, IfOk, length};
 ghost use Rattle.kmipa_ttlv.specs.ItemTree.{tree};
 ghost use Rattle.kmipa_ttlv.specs.Tree.{Tree};
-ghost use Rattle.kmipa_msgs.specs.Messages.{payload_of, answer_of, RequestOf, response_of};
+ghost use Rattle.kmipa_msgs.specs.Messages.{answer_of, RequestOf, response_of};
 ghost use Rattle.kmipa_msgs.specs.Responses.{SaysResponse};
 ghost use Rattle.kmipa_msgs.specs.Writable.{IsWritableResponse};
-ghost use Rattle.kmipa_msgs.specs.Written.{written_payload, written_answer, written_response_header, written_response};
+ghost use Rattle.kmipa_msgs.specs.Written.{written_answer, written_response_header, written_response};
 
 use super::fields::Fields;
-use super::get::write_got;
-use super::get_attributes::write_got_attributes;
 use super::header::write_version;
-use super::identifier::write_identifier;
-use super::register::write_registered;
-use crate::response::{Answer, Payload, Response};
-use crate::tags::{
-    BATCH_COUNT, BATCH_ITEM, OPERATION, RESPONSE_HEADER, RESPONSE_MESSAGE, RESPONSE_PAYLOAD,
-    RESULT_REASON, RESULT_STATUS, TIME_STAMP, UNIQUE_BATCH_ITEM_ID,
+use super::operations::write_payload;
+use crate::response::{Answer, Response};
+use kmipa_attrs::tags::{
+    BATCH_COUNT, BATCH_ITEM, OPERATION, RESPONSE_HEADER, RESPONSE_MESSAGE, RESULT_REASON,
+    RESULT_STATUS, TIME_STAMP, UNIQUE_BATCH_ITEM_ID,
 };
 use kmipa_ttlv::Item;
 use std::alloc::{AllocError, Global};
@@ -65,16 +62,4 @@ fn write_answer(alloc: Global, answer: &Answer) -> Result<Item, AllocError>
         fields.item(write_payload(alloc, payload)?)?;
     }
     Ok(fields.structure(BATCH_ITEM))
-}
-
-/// Response Payload.
-fn write_payload(alloc: Global, payload: &Payload) -> Result<Item, AllocError>
-    ensures { IfOk result (λ item. tree item ≡ written_payload (payload_of payload.now)) }
-{
-    match payload {
-        Payload::Create(made) | Payload::Register(made) => write_registered(alloc, made),
-        Payload::Get(got) => write_got(alloc, got),
-        Payload::GetAttributes(got) => write_got_attributes(alloc, got),
-        Payload::Change(changed) => write_identifier(alloc, RESPONSE_PAYLOAD, changed.id),
-    }
 }

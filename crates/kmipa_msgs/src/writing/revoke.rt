@@ -3,18 +3,22 @@
 ghost use Rattle.std.specs.Prelude.{◌≡◌, IfOk};
 ghost use Rattle.kmipa_ttlv.specs.Tree.{structure};
 ghost use Rattle.kmipa_ttlv.specs.ItemTree.{tree};
+ghost use Rattle.kmipa_attrs.specs.Tags.{request_payload};
 ghost use Rattle.kmipa_msgs.specs.Messages.{revoke_of};
-ghost use Rattle.kmipa_msgs.specs.Written.{in_order, written_reason, revoke_fields};
+ghost use Rattle.kmipa_msgs.specs.WrittenFields.{in_order};
+ghost use Rattle.kmipa_msgs.specs.Revokes.{written_reason, revoke_fields};
 
 use super::fields::Fields;
 use crate::request::Revoke;
-use crate::tags::{REQUEST_PAYLOAD, REVOCATION_REASON, REVOCATION_REASON_CODE, UNIQUE_IDENTIFIER};
+use kmipa_attrs::tags::{
+    REQUEST_PAYLOAD, REVOCATION_REASON, REVOCATION_REASON_CODE, UNIQUE_IDENTIFIER,
+};
 use kmipa_ttlv::Item;
 use std::alloc::{AllocError, Global};
 
 /// The Request Payload of a Revoke.
 pub(super) fn write_revoke(alloc: Global, revoke: &Revoke) -> Result<Item, AllocError>
-    ensures { IfOk result (λ item. tree item ≡ structure 0x42_0079 (in_order (revoke_fields (revoke_of revoke.now)))) }
+    ensures { IfOk result (λ item. tree item ≡ structure request_payload (in_order (revoke_fields (revoke_of revoke.now)))) }
 {
     let mut fields = Fields::new(alloc);
     fields.text(UNIQUE_IDENTIFIER, revoke.id)?;

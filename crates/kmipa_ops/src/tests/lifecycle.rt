@@ -10,8 +10,8 @@ use super::{
 use crate::{Placeholder, Why};
 use kmipa_attrs::AttrSet;
 use kmipa_msgs::{
-    About, Answer, Ask, Asked, Cause, Changed, Create, GetAttributes, GotAttributes, Payload,
-    Registered, Revoke, Row, Rules, Status,
+    Activate, Answer, Ask, Asked, Cause, Changed, Create, Destroy, GetAttributes, GotAttributes,
+    Payload, Registered, Revoke, Row, Rules, Status,
 };
 use kmipa_object::{Act, Allow, State};
 use kmipa_store::Ledger;
@@ -51,7 +51,7 @@ fn changed<'a>() -> Answer<'a> {
 }
 
 fn activate(id: &str) -> Item<'_> {
-    item_of(Asked::Activate(About { id: Some(id) }), changed())
+    item_of(Asked::Activate(Activate { id: Some(id) }), changed())
 }
 
 fn revoke(id: &str, code: u32) -> Item<'_> {
@@ -59,7 +59,7 @@ fn revoke(id: &str, code: u32) -> Item<'_> {
 }
 
 fn destroy(id: &str) -> Item<'_> {
-    item_of(Asked::Destroy(About { id: Some(id) }), changed())
+    item_of(Asked::Destroy(Destroy { id: Some(id) }), changed())
 }
 
 /// A Create of an AES key of so many bits.
@@ -334,7 +334,7 @@ fn created_and_got(rt: HostRuntime) -> Result<(), Fail> {
         Some(Why::BytesDiffer)
     );
     let answer = answered(Status::Undone, None, None);
-    let item = item_of(Asked::Destroy(About { id: None }), answer);
+    let item = item_of(Asked::Destroy(Destroy { id: None }), answer);
     assert_eq!(rt;
         judged(alloc, &mut ledger, &rules, &mut placeholder, item)?,
         None
@@ -359,7 +359,7 @@ fn echoes_of_changes(rt: HostRuntime) -> Result<(), Fail> {
     );
     let payload = Payload::Change(Changed { id: Some("j") });
     let answer = answered(Status::Success, None, Some(payload));
-    let item = item_of(Asked::Activate(About { id: Some("k") }), answer);
+    let item = item_of(Asked::Activate(Activate { id: Some("k") }), answer);
     assert_eq!(rt;
         judged(alloc, &mut ledger, &rules, &mut placeholder, item)?,
         Some(Why::EchoDiffers)

@@ -1,5 +1,6 @@
 use Rattle.std.proofs.Common.{◌∙◌, sym, ap, Ok}
 use Rattle.kmipa_ttlv.specs.ViewTree.{view_tree, view_trees}
+use Rattle.kmipa_attrs.specs.Tags.{name_type, name_value}
 use Rattle.kmipa_attrs.specs.Names.{name_from}
 use Rattle.kmipa_attrs.specs.Attributes.{named}
 use Rattle.kmipa_attrs.specs.Fields.{at, as_text, as_enumeration}
@@ -14,7 +15,7 @@ pub returns-in_default-text_at : goal.returns-in_default-text_at
 returns-in_default-text_at c =
     let ts = view_trees c.in-Some.children.now in
     ap named (as_name-some (view_tree c.args.view.now) ts (c.in-Some.ensures)
-    ∙ no_value c.text_at.result (at as_text 0x42_0055 ts) (at as_enumeration 0x42_0054 ts) c.in_default-text_at.not-There c.text_at.ensures)
+    ∙ no_value c.text_at.result (at as_text name_value ts) (at as_enumeration name_type ts) c.in_default-text_at.not-There c.text_at.ensures)
 
 pub returns-in-Wrong : goal.returns-in-Wrong
 returns-in-Wrong c =

@@ -1,6 +1,6 @@
-use Rattle.std.proofs.Common.{Option, Ok, get_or, map, subst, arith}
+use Rattle.std.proofs.Common.{Option, Ok, map, subst, arith}
 use Rattle.std.proofs.lemmas.List.{length-map}
-use Rattle.kmipa_check.specs.Calls.{call_of, no_call, ordered}
+use Rattle.kmipa_check.specs.Steps.{step_of}
 use Rattle.kmipa_check.specs.Replays.{TurnTold}
 use Rattle.kmipa_check.specs.declared.verdict.Refused.{Refused}
 use Rattle.kmipa_check.proofs.ReplayLemmas.{replayed_all}
@@ -8,22 +8,22 @@ use Rattle.kmipa_check.proofs.replay.replay.Goals as goal
 
 pub returns-in-Ok-Some : goal.returns-in-Ok-Some
 returns-in-Ok-Some g c = λ declared is r.
-    let P : Option Refused → Type 0 = λ o. TurnTold declared (ordered (map call_of c.args.calls.now) c.args.order.now) c.turns.turn (Ok o) (g.L.Ledger.state c.take_turn.new.ledger).now in
+    let P : Option Refused → Type 0 = λ o. TurnTold declared (map step_of c.args.steps.now) c.turns.turn (Ok o) (g.L.Ledger.state c.take_turn.new.ledger).now in
     subst P c.in-Ok-Some.field-0-is (c.in-Ok-Some.ensures.taken declared is (c.turns.invariant.replayed declared is r))
 
 pub turns-preserved : goal.turns-preserved
 turns-preserved g c = record {
   replayed = λ declared is r.
-      let P : Option Refused → Type 0 = λ o. TurnTold declared (ordered (map call_of c.args.calls.now) c.args.order.now) c.turns.turn (Ok o) (g.L.Ledger.state c.take_turn.new.ledger).now in
+      let P : Option Refused → Type 0 = λ o. TurnTold declared (map step_of c.args.steps.now) c.turns.turn (Ok o) (g.L.Ledger.state c.take_turn.new.ledger).now in
       subst P c.in-Ok-None.field-0-is (c.in-Ok-None.ensures.taken declared is (c.turns.invariant.replayed declared is r));
   sound = c.in-Ok-None.ensures.sound;
 }
 
 pub returns : goal.returns
 returns g c = λ declared is r.
-    let order = ordered (map call_of c.args.calls.now) c.args.order.now in (
+    let order = map step_of c.args.steps.now in (
       (g.L.Ledger.state c.turns.ledger).now,
       replayed_all declared order c.turns.turn (g.L.Ledger.state c.turns.ledger).now
-          (omega (arith, c.turns-test.false, length-map c.args.order.now (λ place. get_or (map call_of c.args.calls.now) place no_call)))
+          (omega (arith, c.turns-test.false, length-map c.args.steps.now step_of))
           (c.turns.invariant.replayed declared is r),
     )

@@ -2,17 +2,17 @@ use Rattle.std.proofs.Common.{◌≡◌, ◌-◌, length, map}
 use Rattle.kmipa_store.specs.Choices.{IsSound}
 use Rattle.kmipa_record.specs.Declarations.{DeclarationOf}
 use Rattle.kmipa_msgs.specs.Messages.{rules_of}
-use Rattle.kmipa_check.specs.Calls.{call_of, ordered}
+use Rattle.kmipa_check.specs.Steps.{step_of}
 use Rattle.kmipa_check.specs.Runs.{rules_declared}
 use Rattle.kmipa_check.specs.Replays.{Replayed}
 use Rattle.kmipa_check.proofs.replay.replay.Given as goal
 
 abbrev pub invariant-turns : goal.invariant-turns
 invariant-turns g l = record {
-  replayed : (declared : DeclarationOf) → rules_of l.rules ≡ rules_declared declared → Replayed declared (ordered (map call_of l.calls) l.order) 0 (g.L.Ledger.state l.fn.ledger).now
-      → Replayed declared (ordered (map call_of l.calls) l.order) l.turn (g.L.Ledger.state l.ledger).now;
+  replayed : (declared : DeclarationOf) → rules_of l.rules ≡ rules_declared declared → Replayed declared (map step_of l.steps) 0 (g.L.Ledger.state l.fn.ledger).now
+      → Replayed declared (map step_of l.steps) l.turn (g.L.Ledger.state l.ledger).now;
   sound : IsSound (g.L.Ledger.state l.ledger).now;
 }
 
 abbrev pub decreases-turns : goal.decreases-turns
-decreases-turns g l = length l.order - l.turn
+decreases-turns g l = length l.steps - l.turn

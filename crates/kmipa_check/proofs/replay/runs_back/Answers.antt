@@ -9,7 +9,6 @@ pub returns : goal.returns
 returns c = λ x at.
     let now : FitsSigned w64 c.stamp_of-now.result = search rules in
     let last : FitsSigned w64 c.stamp_of-last.result = search rules in
-    back_decided c.args.calls.now c.args.order.now c.args.turn c.index-calls-order.result c.index-calls-order-2.result c.requires.below c.requires.within c.if-turn-eq0.false
-    c.index-calls-order.is c.index-calls-order-2.is x at _
-    (less_decided_of (to_z w64 (of_z w64 c.stamp_of-now.result)) (to_z w64 (of_z w64 c.stamp_of-last.result)) c.index-calls-order.result.response.stamp c.index-calls-order-2.result.response.stamp
+    back_decided c.args.steps.now c.args.turn c.index-steps-turn.result c.index-steps-turn-2.result c.requires.below c.if-turn-eq0.false c.index-steps-turn.is c.index-steps-turn-2.is x at _
+    (less_decided_of (to_z w64 (of_z w64 c.stamp_of-now.result)) (to_z w64 (of_z w64 c.stamp_of-last.result)) c.index-steps-turn.result.response.now.stamp c.index-steps-turn-2.result.response.now.stamp
     (to_z-of_z w64 c.stamp_of-now.result now ∙ c.stamp_of-now.ensures) (to_z-of_z w64 c.stamp_of-last.result last ∙ c.stamp_of-last.ensures))

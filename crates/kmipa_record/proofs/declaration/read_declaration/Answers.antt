@@ -2,7 +2,7 @@ use Rattle.std.proofs.Common.{◌≡◌, sym, ap, subst, ◌∙◌, List, ℕ, [
 use Rattle.std.specs.Io.{appended_bytes, StartsWith}
 use Rattle.std.proofs.lemmas.Result.{err_from_is_err_and}
 use Rattle.std.proofs.lemmas.List.{append-nil}
-use Rattle.kmipa_ttlv.specs.Input.{came_of, taken_of, is_ended, is_failed}
+use Rattle.kmipa_ttlv.specs.Input.{came_of, taken_of, is_failed}
 use Rattle.kmipa_record.specs.DeclarationReading.{declared_by, IsReadSoFar}
 use Rattle.kmipa_record.specs.Declarations.{DeclarationOf, AreDeclared, declaration_header, IsDeclaration}
 use Rattle.kmipa_record.proofs.DeclarationLemmas.{objects, header_fails, header_read, whole}

@@ -1,6 +1,6 @@
-use Rattle.std.proofs.Common.{rules, inl, inr, ◌≡◌, ◌∙◌, subst, sym}
+use Rattle.std.proofs.Common.{inl, inr}
 use Rattle.std.proofs.lemmas.Result.{err_from_is_err_and}
-use Rattle.kmipa_ttlv.specs.Input.{came_of, taken_of, is_ended, is_failed}
+use Rattle.kmipa_ttlv.specs.Input.{taken_of}
 use Rattle.kmipa_record.specs.Reading.{torn}
 use Rattle.kmipa_record.proofs.KindLemmas.{ByCause-map}
 use Rattle.kmipa_record.proofs.NextLemmas.{no_header_left, other_header}

@@ -1,8 +1,7 @@
-use Rattle.std.proofs.Common.{rules, ◌≡◌, ◌++◌, subst, List, ℕ, sym, ap, ◌∙◌}
+use Rattle.std.proofs.Common.{rules, ◌++◌, subst, List, ℕ, sym, ap, ◌∙◌}
 use Rattle.kmipa_ttlv.specs.Input.{came_of, taken_of, is_ended, is_failed}
 use Rattle.kmipa_ttlv.proofs.ReadLemmas.{since}
 use Rattle.kmipa_record.specs.Reading.{WholeFails, ReadFails}
-use Rattle.kmipa_record.specs.declared.fault.RecordFault.{RecordFault}
 use Rattle.kmipa_record.proofs.NextLemmas.{read_fails, whole_fails}
 use Rattle.kmipa_record.proofs.record.read_next.Goals as goal
 

@@ -2,12 +2,12 @@ use Rattle.std.proofs.Common.{◌≡◌, sym, ap, subst, ◌∙◌, List, ℕ, [
 use Rattle.std.specs.Io.{appended_bytes, StartsWith}
 use Rattle.std.proofs.lemmas.Result.{err_from_is_err_and}
 use Rattle.std.proofs.lemmas.List.{append-nil}
-use Rattle.kmipa_ttlv.specs.Input.{came_of, taken_of, is_ended, is_failed}
+use Rattle.kmipa_ttlv.specs.Input.{came_of, taken_of, is_failed}
 use Rattle.kmipa_record.specs.Calls.{first_place, open_place}
 use Rattle.kmipa_record.specs.Marks.{MarkOf, mark_of}
 use Rattle.kmipa_record.specs.declared.calls.Calls.{Calls}
 use Rattle.kmipa_record.specs.declared.transcript.Mark.{Mark}
-use Rattle.kmipa_record.specs.Transcripts.{transcript_header, IsTranscript}
+use Rattle.kmipa_record.specs.Transcripts.{transcript_header}
 use Rattle.kmipa_record.specs.TranscriptReading.{IsReadSoFar}
 use Rattle.kmipa_record.proofs.NextLemmas.{takes_as, none_before, regrouped}
 use Rattle.kmipa_record.proofs.TranscriptLemmas.{header_fails, header_read, closed, open_told}
@@ -85,3 +85,7 @@ returns-clause-found g c =
 
 pub returns-clause-over : goal.returns-clause-over
 returns-clause-over g c = λ xs h. c.read_mark.ensures.over xs (c.marks.invariant.2 xs h)
+
+pub returns-clause-recorded : goal.returns-clause-recorded
+unfolding returns-clause-found
+returns-clause-recorded g c = (returns-clause-found g c).0.recorded

@@ -1,4 +1,4 @@
-use Rattle.std.proofs.Common.{rules, sym, subst, ◌∙◌, ℕ, map, refl, arith, [], ◌≡◌}
+use Rattle.std.proofs.Common.{sym, subst, ◌∙◌, ℕ, map, refl, arith, []}
 use Rattle.std.proofs.lemmas.Result.{err_from_is_err_and}
 use Rattle.kmipa_ttlv.specs.Input.{taken_of, is_failed}
 use Rattle.kmipa_record.specs.Files.{Tells}

@@ -1,8 +1,8 @@
-use Rattle.std.proofs.Common.{◌≡◌, sym, ap, subst, ◌∙◌, List, ℕ, [], ◌++◌, map, Some, None, refl, length}
+use Rattle.std.proofs.Common.{◌≡◌, sym, ap, subst, ◌∙◌, List, ℕ, [], ◌++◌, map, refl, length}
 use Rattle.std.specs.Io.{appended_bytes, StartsWith}
 use Rattle.std.proofs.lemmas.Result.{err_from_is_err_and}
 use Rattle.std.proofs.lemmas.List.{append-nil}
-use Rattle.kmipa_ttlv.specs.Input.{came_of, taken_of, is_ended, is_failed}
+use Rattle.kmipa_ttlv.specs.Input.{came_of, taken_of, is_failed}
 use Rattle.kmipa_record.specs.Witnesses.{TurnOf, turn_of, witness_header}
 use Rattle.kmipa_record.specs.WitnessReading.{IsReadSoFar}
 use Rattle.kmipa_record.proofs.NextLemmas.{takes_as, none_before, regrouped}

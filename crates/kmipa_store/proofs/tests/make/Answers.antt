@@ -5,6 +5,6 @@ pub returns : goal.returns
 returns g c =
     let state = g.L.Ledger.state in
     record {
-      there = makes_there (state c.args.ledger.now) c.args.rule c.new_secret.result c.expect.result (state c.new_secret.new.self) c.new_secret.ensures c.expect.ensures;
-      marks = (makes_more (state c.args.ledger.now) c.args.rule c.new_secret.result (state c.new_secret.new.self) c.new_secret.ensures).2;
+      there = makes_there (state c.args.ledger.now) c.args.rule c.new_secret.result c.expect.result (state c.new_secret.new.self) c.new_secret.ensures.meaning c.expect.ensures;
+      marks = (makes_more (state c.args.ledger.now) c.args.rule c.new_secret.result (state c.new_secret.new.self) c.new_secret.ensures.meaning).2;
     }

@@ -1,6 +1,6 @@
 use Rattle.std.proofs.Common.{◌≡◌, ◌+◌, vec_len, ◌-◌, ◌≤◌, ◌<◌, ◌++◌, false}
 use Rattle.std.specs.Io.{StartsWith, appended_bytes}
-use Rattle.kmipa_ttlv.specs.Input.{came_of, taken_of, is_failed, StaysOver}
+use Rattle.kmipa_ttlv.specs.Input.{came_of, is_failed, StaysOver}
 use Rattle.kmipa_ttlv.proofs.reading.append_up_to.Given as goal
 
 -- what was appended is what came

@@ -1,4 +1,4 @@
-use Rattle.std.proofs.Common.{rules, ◌≡◌, ◌≤◌, ◌<◌, ◌+◌, ◌++◌, length, arith, subst, refl, ◌∙◌, List, ℕ, None, Some}
+use Rattle.std.proofs.Common.{rules, ◌≡◌, ◌≤◌, ◌<◌, ◌+◌, length, arith, subst, refl, ◌∙◌, List, ℕ, None, Some}
 use Rattle.kmipa_ttlv.specs.Input.{came_of, taken_of, is_ended, is_failed}
 use Rattle.kmipa_ttlv.specs.Spelling.{extent}
 use Rattle.kmipa_ttlv.specs.Flaw.{head_flaw}

@@ -1,12 +1,14 @@
-use Rattle.std.proofs.Common.{◌≡◌, ◌+◌, ℕ, List, [], ◌∷◌, ◌++◌, Vec, Global, map, take, sym, subst, ap, ◌∙◌, arith, take_all}
+use Rattle.std.proofs.Common.{◌≡◌, ◌+◌, ℕ, List, [], ◌∷◌, ◌++◌, Vec, Global, map, take, drop, sym, subst, ap, ◌∙◌, arith, take_all}
 use Rattle.std.specs.Prelude.{flat_map}
-use Rattle.std.proofs.lemmas.List.{map-append}
+use Rattle.std.proofs.lemmas.Grind.{flat_map-append}
+use Rattle.std.proofs.lemmas.List.{map-append, take-append-drop}
+use Rattle.std.proofs.lemmas.Result.{err_from_is_err_and}
 use Rattle.kmipa_ttlv.specs.ItemTree.{tree}
-use Rattle.kmipa_ttlv.specs.Frames.{rest_of, IsAfter}
-use Rattle.kmipa_ttlv.specs.Stream.{Begins, IsCutShort}
+use Rattle.kmipa_ttlv.specs.Frames.{rest_of, place_of, fault_of, IsAfter}
+use Rattle.kmipa_ttlv.specs.Stream.{Begins, IsCutShort, IsFlawedBehind}
 use Rattle.kmipa_ttlv.specs.Tree.{Tree}
 use Rattle.kmipa_ttlv.specs.declared.fault.FaultKind.TheVariants.{Truncated}
-use Rattle.kmipa_ttlv.proofs.StreamLemmas.{all_given}
+use Rattle.kmipa_ttlv.proofs.StreamLemmas.{all_given, ByKind-together, flawed_behind}
 use Rattle.kmipa_ttlv.proofs.ReadLemmas.{no_header}
 use Rattle.kmipa_ttlv.proofs.splitting.split_stream.Goals as goal
 
@@ -38,3 +40,17 @@ returns-clause-only c = λ others rest b.
     let short = c.pieces.invariant.short in
     let b' : Begins others (bytes_of (take i pieces)) rest = subst (λ (ps : List (Vec ℕ Global)). Begins others (bytes_of ps) rest) (sym all) b in
     all_given (map tree c.pieces.items.items) others (bytes_of (take i pieces)) (rest_of c.pieces.frames) rest short.0 Truncated c.pieces.invariant.after.begins short.1 b'
+
+pub returns-in_err-item-clause-fault : goal.returns-in_err-item-clause-fault
+returns-in_err-item-clause-fault c =
+    let p = err_from_is_err_and c.from_residual-in_err-item.result c.from_residual-in_err-item.ensures.1 in
+    let f = c.in_err-item.field-0.0 in
+    let pieces = c.args.pieces.now in
+    let i = c.pieces.piece-index + 1 in
+    let came = bytes_of (take i pieces) in
+    let given = map tree c.items.items.items in
+    let s = c.next.new.self in
+    let all : came ++ bytes_of (drop i pieces) ≡ bytes_of pieces = sym (flat_map-append (λ (piece : Vec ℕ Global). piece.items) (take i pieces) (drop i pieces)) ∙ ap bytes_of (take-append-drop i pieces) in
+    rw (p.1, p.2) (ByKind-together f.kind _ _ _ _ (IsFlawedBehind (bytes_of pieces) f)
+    (λ tells stays. flawed_behind came (bytes_of (drop i pieces)) (bytes_of pieces) given (rest_of s) (place_of s) (fault_of s) f all stays (tells came given c.items.invariant).0)
+    c.in_err-item.ensures.tells c.in_err-item.ensures.stays)

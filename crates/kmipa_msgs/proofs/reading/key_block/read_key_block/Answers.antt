@@ -2,6 +2,7 @@ use Rattle.std.proofs.Common.{◌≡◌, ◌∙◌, sym, ap}
 use Rattle.kmipa_ttlv.specs.ViewTree.{view_trees}
 use Rattle.kmipa_attrs.specs.Fields.{at, as_enumeration, as_integer}
 use Rattle.kmipa_attrs.specs.Readings.{map_ok}
+use Rattle.kmipa_attrs.specs.Tags.{cryptographic_algorithm, cryptographic_length}
 use Rattle.kmipa_msgs.specs.declared.kind.OutsideKind.TheVariants.{Missing}
 use Rattle.kmipa_msgs.specs.Kinds.{kind_number}
 use Rattle.kmipa_msgs.proofs.ViewLemmas.{joined, optional_row}
@@ -11,8 +12,8 @@ use Rattle.kmipa_msgs.proofs.reading.key_block.read_key_block.Goals as goal
 pub returns-in-Ok : goal.returns-in-Ok
 returns-in-Ok c =
     let ts = view_trees c.args.block.now in
-    let algorithm = optional_row c.enumeration_at.result (at as_enumeration 0x42_0028 ts) Missing c.optional-algorithm.result c.optional-algorithm.ensures c.enumeration_at.ensures in
-    let bits = optional_row c.integer_at.result (at as_integer 0x42_002A ts) Missing c.optional-length.result c.optional-length.ensures c.integer_at.ensures in
+    let algorithm = optional_row c.enumeration_at.result (at as_enumeration cryptographic_algorithm ts) Missing c.optional-algorithm.result c.optional-algorithm.ensures c.enumeration_at.ensures in
+    let bits = optional_row c.integer_at.result (at as_integer cryptographic_length ts) Missing c.optional-length.result c.optional-length.ensures c.integer_at.ensures in
     let described = joined kind_number _ _ c.both-2.result _ _ c.both-2.ensures (joined kind_number _ _ c.both.result _ _ c.both.ensures c.format.ensures algorithm) bits in
     let value = joined kind_number _ _ c.both-3.result _ _ c.both-3.ensures c.unless_there-unwrapped.ensures c.value_there.ensures in
     let plain : c.both-4.result ≡ plain_rows ts = joined kind_number _ _ c.both-4.result _ _ c.both-4.ensures described value in
@@ -22,8 +23,8 @@ returns-in-Ok c =
 pub returns-in-Err : goal.returns-in-Err
 returns-in-Err c =
     let ts = view_trees c.args.block.now in
-    let algorithm = optional_row c.enumeration_at.result (at as_enumeration 0x42_0028 ts) Missing c.optional-algorithm.result c.optional-algorithm.ensures c.enumeration_at.ensures in
-    let bits = optional_row c.integer_at.result (at as_integer 0x42_002A ts) Missing c.optional-length.result c.optional-length.ensures c.integer_at.ensures in
+    let algorithm = optional_row c.enumeration_at.result (at as_enumeration cryptographic_algorithm ts) Missing c.optional-algorithm.result c.optional-algorithm.ensures c.enumeration_at.ensures in
+    let bits = optional_row c.integer_at.result (at as_integer cryptographic_length ts) Missing c.optional-length.result c.optional-length.ensures c.integer_at.ensures in
     let described = joined kind_number _ _ c.both-2.result _ _ c.both-2.ensures (joined kind_number _ _ c.both.result _ _ c.both.ensures c.format.ensures algorithm) bits in
     let value = joined kind_number _ _ c.both-3.result _ _ c.both-3.ensures c.unless_there-unwrapped.ensures c.value_there.ensures in
     let plain : c.both-4.result ≡ plain_rows ts = joined kind_number _ _ c.both-4.result _ _ c.both-4.ensures described value in

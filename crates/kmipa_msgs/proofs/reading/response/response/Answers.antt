@@ -4,6 +4,7 @@ use Rattle.std.specs.List.{slice_get}
 use Rattle.kmipa_ttlv.specs.ViewTree.{view_tree, view_trees}
 use Rattle.kmipa_attrs.specs.Fields.{every}
 use Rattle.kmipa_attrs.specs.Readings.{map_ok}
+use Rattle.kmipa_attrs.specs.Tags.{batch_item}
 use Rattle.kmipa_ttlv.specs.Tree.{Trees}
 use Rattle.kmipa_msgs.specs.declared.kind.OutsideKind.{OutsideKind}
 use Rattle.kmipa_msgs.specs.declared.request.Ask.{Ask}
@@ -19,20 +20,20 @@ use mir.Syntax.{w64}
 use Rattle.kmipa_msgs.proofs.reading.response.response.Goals as goal
 
 answers_at : Trees → List Ask → Result (List AnswerOf) (ℕ × OutsideKind)
-answers_at ts asks = from_one (each_in (λ place. answer_in (slice_get (map ask_of asks) place)) (every 0x42_000F ts))
+answers_at ts asks = from_one (each_in (λ place. answer_in (slice_get (map ask_of asks) place)) (every batch_item ts))
 
 pub returns-in_default : goal.returns-in_default
 returns-in_default c = no_response (view_tree c.args.message.now) (request_of c.args.request.now) c.in_default.ensures
 
 pub returns-in-Err : goal.returns-in-Err
 returns-in-Err c =
-    let count = c.item_count.ensures ∙ counted 0x42_000F c.in-Some.children.now in
+    let count = c.item_count.ensures ∙ counted batch_item c.in-Some.children.now in
     no_stamp (view_tree c.args.message.now) (request_of c.args.request.now) (view_trees c.in-Some.children.now) (view_trees c.in-Some.header.now) c.item_count.result c.in-Err.kind c.in-Some.ensures count c.in-Err.ensures
 
 pub returns-in_err-items : goal.returns-in_err-items
 unfolding answers_at
 returns-in_err-items c =
-    let count = c.item_count.ensures ∙ counted 0x42_000F c.in-Some.children.now in
+    let count = c.item_count.ensures ∙ counted batch_item c.in-Some.children.now in
     let t = view_tree c.args.message.now in
     let ts = view_trees c.in-Some.children.now in
     let asked = request_of c.args.request.now in
@@ -44,7 +45,7 @@ returns-in_err-items c =
 pub returns : goal.returns
 unfolding answers_at
 returns c =
-    let count = c.item_count.ensures ∙ counted 0x42_000F c.in-Some.children.now in
+    let count = c.item_count.ensures ∙ counted batch_item c.in-Some.children.now in
     let ts = view_trees c.in-Some.children.now in
     let fits : SFits w64 c.in-Ok.stamp = search rules in
     whole_response (view_tree c.args.message.now) (request_of c.args.request.now) ts (view_trees c.in-Some.header.now) c.item_count.result c.in-Ok.stamp c.in-Some.ensures count c.in-Ok.ensures

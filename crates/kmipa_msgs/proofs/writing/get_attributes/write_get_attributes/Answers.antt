@@ -1,7 +1,7 @@
 use Rattle.std.proofs.lemmas.List.{take_more}
 use Rattle.kmipa_msgs.specs.Messages.{maybe_lent}
-use Rattle.kmipa_msgs.specs.Written.{in_order, identifier_fields}
-use Rattle.kmipa_msgs.proofs.WrittenAttributeLemmas.{reference_more}
+use Rattle.kmipa_msgs.specs.WrittenFields.{in_order, identifier_fields}
+use Rattle.kmipa_msgs.proofs.GetAttributesLemmas.{reference_more}
 use Rattle.kmipa_msgs.proofs.writing.get_attributes.write_get_attributes.Goals as goal
 
 pub loop-tag-preserved : goal.loop-tag-preserved

@@ -1,6 +1,7 @@
 use Rattle.std.proofs.Common.{◌≡◌, take}
 use Rattle.kmipa_msgs.specs.Messages.{maybe_lent}
-use Rattle.kmipa_msgs.specs.Written.{in_order, with_fields, identifier_fields, reference_fields}
+use Rattle.kmipa_msgs.specs.WrittenFields.{in_order, with_fields, identifier_fields}
+use Rattle.kmipa_msgs.specs.GetsAttributes.{reference_fields}
 use Rattle.kmipa_msgs.specs.Writing.{fields_of}
 use Rattle.kmipa_msgs.proofs.writing.get_attributes.write_get_attributes.Given as goal
 

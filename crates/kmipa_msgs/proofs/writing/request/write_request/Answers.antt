@@ -2,6 +2,7 @@ use Rattle.std.proofs.Common.{◌≡◌, ◌∙◌, ◌++◌, ◌∷◌, [], sym
 use Rattle.std.proofs.lemmas.List.{take_all, take_more}
 use Rattle.kmipa_ttlv.specs.Tree.{Tree, structure, more, forest}
 use Rattle.kmipa_ttlv.specs.ItemTree.{tree}
+use Rattle.kmipa_attrs.specs.Tags.{request_message}
 use Rattle.kmipa_msgs.specs.declared.request.Ask.{Ask}
 use Rattle.kmipa_msgs.specs.Messages.{ask_of, request_of}
 use Rattle.kmipa_msgs.specs.Written.{written_ask, written_request_header, written_request}
@@ -22,7 +23,7 @@ written : (c : goal.After-structure) → tree c.structure.result ≡ written_req
 written c =
     let header = written_request_header (request_of c.args.request.now) in
     c.structure.ensures
-    ∙ ap (structure 0x42_0078) (c.loop-ask.invariant ∙ ap (λ xs. more header (forest written_ask (map ask_of xs))) (take_all c.loop-ask.ask-index c.deref-ask-items.result.now c.loop-ask-test.false ∙ c.deref-ask-items.ensures.value))
+    ∙ ap (structure request_message) (c.loop-ask.invariant ∙ ap (λ xs. more header (forest written_ask (map ask_of xs))) (take_all c.loop-ask.ask-index c.deref-ask-items.result.now c.loop-ask-test.false ∙ c.deref-ask-items.ensures.value))
 
 pub returns-clause-order : goal.returns-clause-order
 returns-clause-order c = written c

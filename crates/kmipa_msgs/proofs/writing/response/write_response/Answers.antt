@@ -2,6 +2,7 @@ use Rattle.std.proofs.Common.{◌≡◌, ◌∙◌, ◌++◌, ◌∷◌, [], sym
 use Rattle.std.proofs.lemmas.List.{take_all, take_more}
 use Rattle.kmipa_ttlv.specs.Tree.{Tree, structure, more, forest}
 use Rattle.kmipa_ttlv.specs.ItemTree.{tree}
+use Rattle.kmipa_attrs.specs.Tags.{response_message}
 use Rattle.kmipa_msgs.specs.declared.response.Answer.{Answer}
 use Rattle.kmipa_msgs.specs.Messages.{answer_of, response_of}
 use Rattle.kmipa_msgs.specs.Written.{written_answer, written_response_header, written_response}
@@ -22,7 +23,7 @@ written : (c : goal.After-structure) → tree c.structure.result ≡ written_res
 written c =
     let header = written_response_header (response_of c.args.response.now) in
     c.structure.ensures
-    ∙ ap (structure 0x42_007B) (c.loop-answer.invariant ∙ ap (λ xs. more header (forest written_answer (map answer_of xs))) (take_all c.loop-answer.answer-index c.deref-answer-items.result.now c.loop-answer-test.false ∙ c.deref-answer-items.ensures.value))
+    ∙ ap (structure response_message) (c.loop-answer.invariant ∙ ap (λ xs. more header (forest written_answer (map answer_of xs))) (take_all c.loop-answer.answer-index c.deref-answer-items.result.now c.loop-answer-test.false ∙ c.deref-answer-items.ensures.value))
 
 pub returns-clause-order : goal.returns-clause-order
 returns-clause-order c = written c

@@ -15,8 +15,8 @@ invariant_of-self c =
       secrets_fit = j.secrets_fit;
     }
 
-pub returns : goal.returns
-returns c =
+pub returns-clause-meaning : goal.returns-clause-meaning
+returns-clause-meaning c =
     let j = c.args.self.now in
     let p = c.push_object in (
       ap (λ id. is_some (place_of id (cards_of j.objects))) (sym c.as_str.ensures.value) ∙ ap is_some (sym c.in_default.ensures.place),

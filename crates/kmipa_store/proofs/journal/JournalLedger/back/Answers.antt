@@ -11,8 +11,8 @@ invariant_of-self-2 c =
       secrets_fit = fits_back secret_unmade j.secrets c.roll_back-2.new.subject j.secret_changes.items c.roll_back-2.new.changes.items (λ (p : Place). p.secrets) j.places.items c.pop.new.self.items c.in-Some.place c.in-Some.ensures.items c.roll_back-2.ensures j.secrets_fit;
     }
 
-pub returns : goal.returns
-returns c =
+pub returns-clause-meaning : goal.returns-clause-meaning
+returns-clause-meaning c =
     let j = c.args.self.now in
     journal_back j.objects c.roll_back.new.subject j.object_changes.items c.roll_back.new.changes.items j.secrets c.roll_back-2.new.subject j.secret_changes.items c.roll_back-2.new.changes.items
     j.places.items c.pop.new.self.items c.in-Some.place c.in-Some.ensures.items c.roll_back.ensures c.roll_back-2.ensures

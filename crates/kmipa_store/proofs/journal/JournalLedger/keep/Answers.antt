@@ -11,8 +11,8 @@ invariant_of-self c =
       secrets_fit = fits_popped (λ (p : Place). p.secrets) (length j.secret_changes.items) j.places.items c.pop.new.self.items c.pop.result c.pop.ensures.items j.secrets_fit;
     }
 
-pub returns : goal.returns
-returns c =
+pub returns-clause-meaning : goal.returns-clause-meaning
+returns-clause-meaning c =
     let j = c.args.self.now in
     journal_kept j.objects j.object_changes.items j.secrets j.secret_changes.items j.places.items c.pop.new.self.items j.places.len c.pop.new.self.len
     c.pop.result j.places.ok.0 c.pop.new.self.ok.0 c.pop.ensures.items c.pop.ensures.cases j.objects_fit j.secrets_fit

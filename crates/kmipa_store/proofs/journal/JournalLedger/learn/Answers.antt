@@ -18,13 +18,13 @@ invariant_of-self c =
       secrets_fit = fits_logs secret_unmade (told j.secrets c.args.secret.number c.in_ok-bytes-in-Ok-New.bytes.items) j.secrets p.new.secrets j.secret_changes.items p.new.changes.items (secret_places j.places.items) p.result p.ensures j.secrets_fit;
     }
 
-pub returns-in-Ok-Old : goal.returns-in-Ok-Old
-returns-in-Ok-Old c =
+pub returns-in-Ok-Old-clause-meaning : goal.returns-in-Ok-Old-clause-meaning
+returns-in-Ok-Old-clause-meaning c =
     let P : Lesson → Type 0 = λ x. Judges (slice_get c.args.self.now.secrets c.args.secret.number) c.args.bytes.now (Ok x) in
     learns_known (state_of_journal c.args.self.now) c.args.secret.number c.args.bytes.now (subst P c.in-Ok-Old.field-0-is c.in-Ok-Old.ensures)
 
-pub returns-in_ok-bytes-in-Ok-New : goal.returns-in_ok-bytes-in-Ok-New
-returns-in_ok-bytes-in-Ok-New c =
+pub returns-in_ok-bytes-in-Ok-New-clause-meaning : goal.returns-in_ok-bytes-in-Ok-New-clause-meaning
+returns-in_ok-bytes-in-Ok-New-clause-meaning c =
     let j = c.args.self.now in
     let p = c.tell_secret in
     let P : Lesson → Type 0 = λ x. Judges (slice_get j.secrets c.args.secret.number) c.args.bytes.now (Ok x) in

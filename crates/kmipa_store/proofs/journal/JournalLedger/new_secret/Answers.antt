@@ -15,8 +15,8 @@ invariant_of-self c =
       secrets_fit = fits_logs secret_unmade wanted j.secrets p.new.secrets j.secret_changes.items p.new.changes.items (secret_places j.places.items) p.result p.ensures j.secrets_fit;
     }
 
-pub returns : goal.returns
-returns c =
+pub returns-clause-meaning : goal.returns-clause-meaning
+returns-clause-meaning c =
     let j = c.args.self.now in
     let p = c.push_secret in
     let wanted : List Known = j.secrets ++ record { rule = c.args.rule; bytes = None } ∷ [] in

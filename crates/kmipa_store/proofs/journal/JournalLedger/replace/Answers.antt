@@ -13,8 +13,8 @@ invariant_of-self c =
       secrets_fit = j.secrets_fit;
     }
 
-pub returns : goal.returns
-returns c =
+pub returns-clause-meaning : goal.returns-clause-meaning
+returns-clause-meaning c =
     let j = c.args.self.now in
     let p = c.set_life in
     journal_replaces j.objects p.new.objects j.object_changes.items p.new.changes.items j.secrets j.secret_changes.items j.places.items c.args.place c.args.life p.result p.ensures j.objects_fit

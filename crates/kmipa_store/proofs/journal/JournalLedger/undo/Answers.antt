@@ -13,8 +13,8 @@ invariant_of-self-2 c =
       secrets_fit = fits_popped (λ (p : Place). p.secrets) (length j.secret_changes.items) j.places.items c.pop.new.self.items (Some c.in-Some.newest) c.in-Some.ensures.items j.secrets_fit;
     }
 
-pub returns : goal.returns
-returns c =
+pub returns-clause-meaning : goal.returns-clause-meaning
+returns-clause-meaning c =
     let j = c.args.self.now in
     let r = c.roll_back in
     journal_undone j.objects r.new.subject j.object_changes.items r.new.changes.items j.secrets j.secret_changes.items j.places.items c.pop.new.self.items c.in-Some.newest c.in-Some.ensures.items r.ensures j.secrets_fit

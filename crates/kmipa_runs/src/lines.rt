@@ -1,0 +1,142 @@
+//! The lines that tell a verdict or a fault.
+
+ghost use Rattle.std.specs.Prelude.{◌≡◌, IfOk, string_bytes};
+ghost use Rattle.kmipa_record.specs.Transcripts.{transcript_of};
+ghost use Rattle.kmipa_runs.specs.Lines.{PrintsVerdict, PrintsDate, PrintsFault, no_line, record_text, record_status, check_text, check_status, side_name};
+
+use crate::dates::date_text;
+use crate::status::Status;
+use kmipa_check::{AuditFault, CheckFault, Refused, Side, Verdict, stamp_of};
+use kmipa_record::{RecordFault, RecordKind, Transcript};
+use std::alloc::{AllocError, Global};
+
+/// Whole lines, each ended by a line feed, and the status that goes with them.
+#[derive(Debug, Drop)]
+pub struct Lines {
+    pub text: String,
+    pub status: Status,
+}
+
+/// The lines of a verdict on this transcript.
+pub fn verdict_lines(
+    alloc: Global,
+    verdict: &Verdict,
+    transcript: &Transcript,
+) -> Result<Lines, AllocError>
+    ensures { IfOk result (λ lines. PrintsVerdict (transcript_of transcript.now) verdict.now lines.status (string_bytes lines.text)) }
+{
+    match verdict {
+        Verdict::Yes => Ok(Lines {
+            text: String::from_str(alloc, "yes\n")?,
+            status: Status::Done,
+        }),
+        Verdict::No(refused) => {
+            let line = no_text(alloc, refused)?;
+            let stamp = stamp_of(alloc, transcript, refused.call)?;
+            let date = date_lines(alloc, stamp)?;
+            Ok(Lines {
+                text: format!(in alloc; "{line}{date}")?,
+                status: Status::No,
+            })
+        }
+    }
+}
+
+fn no_text(alloc: Global, refused: &Refused) -> Result<String, AllocError>
+    ensures { IfOk result (λ text. string_bytes text ≡ no_line refused.now) }
+{
+    let Refused {
+        turn,
+        call,
+        item,
+        why,
+    } = *refused;
+    let number = why.number();
+    let name = why.name();
+    format!(in alloc; "no: turn {turn} call {call} item {item} why {number} {name}\n")
+}
+
+/// The line with the date of a moment.
+fn date_lines(alloc: Global, stamp: Option<i64>) -> Result<String, AllocError>
+    ensures { IfOk result (λ text. PrintsDate stamp (string_bytes text)) }
+{
+    let Some(stamp) = stamp else {
+        return Ok(String::new(alloc));
+    };
+    let date = date_text(alloc, stamp)?;
+    format!(in alloc; "at {date}\n")
+}
+
+/// The line of a fault, or no line where memory ran out.
+pub fn fault_lines(alloc: Global, fault: &AuditFault) -> Result<Lines, AllocError>
+    ensures { IfOk result (λ lines. PrintsFault fault.now lines.status (string_bytes lines.text)) }
+{
+    match fault {
+        AuditFault::Transcript(fault) => record_lines(alloc, "transcript", fault),
+        AuditFault::Declaration(fault) => record_lines(alloc, "declaration", fault),
+        AuditFault::Witness(fault) => record_lines(alloc, "witness", fault),
+        AuditFault::Check(fault) => check_lines(alloc, fault),
+    }
+}
+
+fn record_lines(alloc: Global, file: &str, fault: &RecordFault) -> Result<Lines, AllocError>
+    ensures status { IfOk result (λ lines. lines.status ≡ record_status fault.now.kind) }
+    ensures text { IfOk result (λ lines. string_bytes lines.text ≡ record_text file.now fault.now.offset fault.now.kind) }
+{
+    let RecordFault { offset, kind } = *fault;
+    let (text, status) = match kind {
+        RecordKind::Device => (String::from_str(alloc, "device\n")?, Status::Failed),
+        RecordKind::Memory => (String::new(alloc), Status::Failed),
+        RecordKind::Ttlv(flaw) => {
+            let flaw = flaw.name();
+            let text = format!(in alloc; "malformed: {file} offset {offset} kind 1 Ttlv {flaw}\n")?;
+            (text, Status::Refused)
+        }
+        _ => {
+            let number = kind.number();
+            let name = kind.name();
+            let text = format!(in alloc;
+                "malformed: {file} offset {offset} kind {number} {name}\n"
+            )?;
+            (text, Status::Refused)
+        }
+    };
+    Ok(Lines { text, status })
+}
+
+fn check_lines(alloc: Global, fault: &CheckFault) -> Result<Lines, AllocError>
+    ensures status { IfOk result (λ lines. lines.status ≡ check_status fault.now) }
+    ensures text { IfOk result (λ lines. string_bytes lines.text ≡ check_text fault.now) }
+{
+    let (text, status) = match *fault {
+        CheckFault::Outside(call, side, outside) => {
+            let side = message_name(side);
+            let item = outside.item;
+            let number = outside.kind.number();
+            let name = outside.kind.name();
+            let text = format!(in alloc;
+                "outside: call {call} {side} item {item} kind {number} {name}\n"
+            )?;
+            (text, Status::Refused)
+        }
+        CheckFault::Witness(fault) => {
+            let at = fault.at;
+            let number = fault.kind.number();
+            let name = fault.kind.name();
+            let text = format!(in alloc; "witness: at {at} kind {number} {name}\n")?;
+            (text, Status::Refused)
+        }
+        CheckFault::Memory => (String::new(alloc), Status::Failed),
+    };
+    Ok(Lines { text, status })
+}
+
+/// Which of its two messages a call's fault is of.
+fn message_name(side: Side) -> &'static str
+    ensures { result.now ≡ side_name side }
+{
+    match side {
+        Side::Client => "request",
+        Side::Server => "response",
+    }
+}

@@ -1,0 +1,44 @@
+//! The report of a verdict, printed whole or not at all.
+
+ghost use Rattle.std.specs.Prelude.{◌≡◌, ◌⊎◌, IsOkAnd, string_bytes};
+ghost use Rattle.std.specs.Io.{StartsWith, appended_bytes};
+ghost use Rattle.kmipa_record.specs.Transcripts.{transcript_of};
+ghost use Rattle.kmipa_runs.specs.Statuses.{IsSilent};
+ghost use Rattle.kmipa_runs.specs.Lines.{PrintsVerdict};
+
+use crate::lines::{Lines, verdict_lines};
+use crate::status::Status;
+use kmipa_check::Verdict;
+use kmipa_record::Transcript;
+use std::alloc::{AllocError, Global};
+
+/// Appends the lines of a verdict on this transcript, and answers their status. Where memory runs out nothing is
+/// appended, and the status is `Failed`.
+pub fn report(
+    alloc: Global,
+    verdict: &Verdict,
+    transcript: &Transcript,
+    out: &mut Vec<u8>,
+) -> Status
+    ensures prints { PrintsVerdict (transcript_of transcript.now) verdict.now result (appended_bytes out.old.items out.new.items)
+        ⊎ IsSilent result (appended_bytes out.old.items out.new.items) }
+    ensures appends { StartsWith out.new.items out.old.items }
+{
+    append(verdict_lines(alloc, verdict, transcript), out)
+}
+
+/// Appends lines, all or, where memory runs out, none.
+pub fn append(lines: Result<Lines, AllocError>, out: &mut Vec<u8>) -> Status
+    ensures prints { IsOkAnd lines (λ told. (result ≡ told.status)
+        × (appended_bytes out.old.items out.new.items ≡ string_bytes told.text))
+        ⊎ IsSilent result (appended_bytes out.old.items out.new.items) }
+    ensures appends { StartsWith out.new.items out.old.items }
+{
+    let Ok(lines) = lines else {
+        return Status::Failed;
+    };
+    if out.extend_from_slice(lines.text.as_bytes()).is_err() {
+        return Status::Failed;
+    }
+    lines.status
+}

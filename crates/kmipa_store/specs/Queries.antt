@@ -1,0 +1,28 @@
+-- What a ledger answers of its objects' names and states.
+use Rattle.std.specs.Prelude.{◌&&◌, ◌==◌, ℕ, ℤ, Bool, List, Option, option_map, bytes_eq, slice_get, drop}
+use Rattle.std.specs.List.{list_any, position_from}
+use Rattle.kmipa_attrs.specs.Sets.{NameOf}
+use Rattle.kmipa_object.specs.Inventory.{live}
+use Rattle.kmipa_object.specs.Life.{state}
+use Rattle.kmipa_object.specs.declared.state.State.{State}
+use Rattle.kmipa_store.specs.Ledger.{Held}
+
+-- a name of this value and this type
+abbrev pub is_name : List ℕ → ℕ → NameOf → Bool
+is_name value kind n = (kind == n.kind) && bytes_eq value n.value
+
+-- the object has the name
+abbrev pub has_name : List ℕ → ℕ → Held → Bool
+has_name value kind h = list_any (is_name value kind) h.card.given.names
+
+-- the first place from this one on whose object has the name
+abbrev pub next_named : List ℕ → ℕ → ℕ → List Held → Option ℕ
+next_named value kind from objects = position_from (has_name value kind) from (drop from objects)
+
+-- an object without a Destroy Date has the name
+abbrev pub any_live_named : List ℕ → ℕ → List Held → Bool
+any_live_named value kind objects = list_any (λ (h : Held). live h.card && has_name value kind h) objects
+
+-- the state that the dates of the object at a place say at a moment, where there is one
+abbrev pub state_of_place : List Held → ℕ → ℤ → Option State
+state_of_place objects place t = option_map (λ (h : Held). state h.card.dates t) (slice_get objects place)
