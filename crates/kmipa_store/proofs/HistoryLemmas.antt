@@ -1,10 +1,10 @@
 -- Values with the changes that led to them, and the values at earlier places.
-use Rattle.std.proofs.Common.{◌≡◌, ℕ, suc, ◌+◌, ◌-◌, ◌<◌, ◌≤◌, Bool, true, ◌&&◌, nat_le, List, [], ◌∷◌, ◌++◌, length, take, drop, reverse, Result, Ok, Err, refl, ap, sym, ◌∙◌, arith, length-append, length-drop}
+use Rattle.std.proofs.Common.{◌≡◌, ℕ, suc, ◌+◌, ◌-◌, ◌<◌, ◌≤◌, Bool, true, ◌&&◌, nat_le, List, [], ◌∷◌, ◌++◌, length, map, take, drop, reverse, Result, Ok, Err, refl, ap, sym, ◌∙◌, arith, length-append, length-drop}
 use Rattle.std.proofs.lemmas.Bool.{and_parts}
 use Rattle.std.proofs.lemmas.Bool.Decides.{nat_tests}
 use Rattle.std.proofs.lemmas.List.{reverse-append, length-reverse, drop-drop}
 use Rattle.std.proofs.Math.Seq.{take-add}
-use Rattle.kmipa_store.specs.Histories.{rolled, history, fits, Logged, Logs, RolledTo}
+use Rattle.kmipa_store.specs.Histories.{rolled, history, fits, while_marked, Logged, Logs, RolledTo}
 use Rattle.kmipa_store.specs.declared.fault.StoreFault.{StoreFault}
 
 le_is : (p n : ℕ) → nat_le p n ≡ true → p ≤ n
@@ -63,20 +63,37 @@ module _ {X C : Type 0} (unmade : X → C → X) where
       ap (λ (z : X). z ∷ history unmade z (drop (length cs - q) cs) qs) one
       ∙ ap (λ (ds : List C). rolled unmade (rolled unmade x (take k cs)) (take j (drop k cs)) ∷ history unmade (rolled unmade (rolled unmade x (take k cs)) (take j (drop k cs))) ds qs) two
 
-  -- a change that is written down leaves the value at each mark
-  pub history_logged : (x y : X) (cs ds : List C) (ps : List ℕ) → Logged unmade x cs y ds → fits (length cs) ps ≡ true → history unmade y (reverse ds) ps ≡ history unmade x (reverse cs) ps
-  history_logged x y cs ds ps l h =
-      let r : reverse ds ≡ l.change ∷ reverse cs = ap reverse l.written ∙ reverse-append cs (l.change ∷ []) in
+  logged_marked : (x y : X) (c : C) (cs ds : List C) (ps : List ℕ) → ds ≡ cs ++ c ∷ [] → unmade y c ≡ x → fits (length cs) ps ≡ true → history unmade y (reverse ds) ps ≡ history unmade x (reverse cs) ps
+  logged_marked x y c cs ds ps written back h =
+      let r : reverse ds ≡ c ∷ reverse cs = ap reverse written ∙ reverse-append cs (c ∷ []) in
       let f : fits (length (reverse cs)) ps ≡ true = ap (λ (n : ℕ). fits n ps) (length-reverse cs) ∙ h in
-      ap (λ (es : List C). history unmade y es ps) r ∙ history_push x y l.change (reverse cs) ps l.back f
+      ap (λ (es : List C). history unmade y es ps) r ∙ history_push x y c (reverse cs) ps back f
 
-  pub fits_logged : (x y : X) (cs ds : List C) (ps : List ℕ) → Logged unmade x cs y ds → fits (length cs) ps ≡ true → fits (length ds) ps ≡ true
-  fits_logged x y cs ds ps l h = fits_more (length cs) (length ds) ps (omega (arith, ap length l.written, length-append cs (l.change ∷ []))) h
+  -- a change that is written down while a mark stands leaves the value at each mark
+  pub history_logged : {P : Type 0} (f : P → ℕ) (ps : List P) (x y : X) (cs ds : List C) → Logged unmade ps x cs y ds → fits (length cs) (map f (reverse ps)) ≡ true
+      → history unmade y (reverse ds) (map f (reverse ps)) ≡ history unmade x (reverse cs) (map f (reverse ps))
+  history_logged f [] x y cs ds l h = refl
+  history_logged f (p ∷ ps) x y cs ds l h = logged_marked x y l.change cs ds (map f (reverse (p ∷ ps))) l.written l.back h
+
+  fits_logged : {P : Type 0} (f : P → ℕ) (ps : List P) (x y : X) (cs ds : List C) → Logged unmade ps x cs y ds → fits (length cs) (map f (reverse ps)) ≡ true → fits (length ds) (map f (reverse ps)) ≡ true
+  fits_logged f [] x y cs ds l h = refl
+  fits_logged f (p ∷ ps) x y cs ds l h =
+      let more : length ds ≡ length cs + 1 = ap length l.written ∙ length-append cs (l.change ∷ []) in
+      fits_more (length cs) (length ds) (map f (reverse (p ∷ ps))) (omega (arith, more)) h
 
   -- whatever the answer
-  pub fits_logs : (wanted x y : X) (cs ds : List C) (ps : List ℕ) (r : Result (Unit {0}) StoreFault) → Logs unmade x cs wanted r y ds → fits (length cs) ps ≡ true → fits (length ds) ps ≡ true
-  fits_logs wanted x y cs ds ps (Ok u) l h = fits_logged x y cs ds ps l.1 h
-  fits_logs wanted x y cs ds ps (Err fault) l h = ap (λ (es : List C). fits (length es) ps) l.2 ∙ h
+  pub fits_logs : {P : Type 0} (f : P → ℕ) (ps : List P) (wanted x y : X) (cs ds : List C) (r : Result (Unit {0}) StoreFault) → Logs unmade ps x cs wanted r y ds → fits (length cs) (map f (reverse ps)) ≡ true → fits (length ds) (map f (reverse ps)) ≡ true
+  fits_logs f ps wanted x y cs ds (Ok u) l h = fits_logged f ps x y cs ds l.1 h
+  fits_logs f ps wanted x y cs ds (Err fault) l h = ap (λ (es : List C). fits (length es) (map f (reverse ps))) l.2 ∙ h
+
+  -- nothing is written down where no mark stands
+  logged_forgotten : {P : Type 0} (ps : List P) (x y : X) (cs ds : List C) → Logged unmade ps x cs y ds → while_marked ps ds ≡ ds
+  logged_forgotten [] x y cs ds l = sym l.written
+  logged_forgotten (p ∷ ps) x y cs ds l = refl
+
+  pub forgotten_logs : {P : Type 0} (ps : List P) (wanted x y : X) (cs ds : List C) (r : Result (Unit {0}) StoreFault) → Logs unmade ps x cs wanted r y ds → while_marked ps cs ≡ cs → while_marked ps ds ≡ ds
+  forgotten_logs ps wanted x y cs ds (Ok u) l h = logged_forgotten ps x y cs ds l.1
+  forgotten_logs ps wanted x y cs ds (Err fault) l h = ap (while_marked ps) l.2 ∙ h ∙ sym l.2
 
   -- rolled back to the newest place, the value is that at the newest mark, and those at the others stay
   pub history_rolled : (x y : X) (cs ds : List C) (p : ℕ) (ps : List ℕ) → RolledTo unmade x cs p y ds → history unmade x (reverse cs) (p ∷ ps) ≡ y ∷ history unmade y (reverse ds) ps
@@ -113,3 +130,17 @@ module _ {X C : Type 0} (unmade : X → C → X) where
       → drop (length cs - count) (reverse cs) ≡ drop (length es - count) (reverse es)
       → (rolled unmade y (take (length ds - count) (reverse ds)) ≡ rolled unmade z (take (length es - count) (reverse es))) × (drop (length ds - count) (reverse ds) ≡ drop (length es - count) (reverse es)) × (count ≤ length ds)
   roll_on x y z cs ds es c count e h is f g = let s = roll_step x y cs ds c count e h is in (s.0 ∙ f, s.1 ∙ g, s.2)
+
+module _ {C P : Type 0} where
+  pub forgotten_again : (ps : List P) (cs ds : List C) → ds ≡ while_marked ps cs → while_marked ps ds ≡ ds
+  forgotten_again [] cs ds e = sym e
+  forgotten_again (p ∷ ps) cs ds e = refl
+
+  -- with a mark nothing is forgotten
+  pub marked_stays : (ps ps1 : List P) (p : P) (cs : List C) → ps1 ≡ ps ++ p ∷ [] → while_marked ps1 cs ≡ cs
+  marked_stays [] ps1 p cs e = ap (λ (x : List P). while_marked x cs) e
+  marked_stays (q ∷ ps) ps1 p cs e = ap (λ (x : List P). while_marked x cs) e
+
+  pub fits_forgotten : (f : P → ℕ) (ps : List P) (cs ds : List C) → ds ≡ while_marked ps cs → fits (length cs) (map f (reverse ps)) ≡ true → fits (length ds) (map f (reverse ps)) ≡ true
+  fits_forgotten f [] cs ds e h = refl
+  fits_forgotten f (p ∷ ps) cs ds e h = ap (λ (x : List C). fits (length x) (map f (reverse (p ∷ ps)))) e ∙ h

@@ -6,7 +6,7 @@ use Rattle.kmipa_store.specs.Ledger.{Held, Known, LedgerState, relived, told, ch
 use Rattle.kmipa_store.specs.Memory.{RefusedForMemory}
 use Rattle.kmipa_store.specs.Calls.{Replaces, Learns}
 use Rattle.kmipa_store.specs.Secrets.{Judges}
-use Rattle.kmipa_store.specs.Histories.{history, rolled, fits, Logged, Logs, RolledTo}
+use Rattle.kmipa_store.specs.Histories.{history, rolled, fits, while_marked, Logged, Logs, RolledTo}
 use Rattle.kmipa_store.specs.Journal.{object_unmade, secret_unmade, object_places, secret_places, paired, journal_state}
 use Rattle.kmipa_store.specs.declared.fault.StoreFault.{StoreFault}
 use Rattle.kmipa_store.specs.declared.secrets.Lesson.TheVariants.{New}
@@ -22,19 +22,19 @@ places_last f ps ps1 p e = ap (map f) (ap reverse e ∙ reverse-append ps1 (p �
 
 -- the objects changed, and that was written down
 pub objects_logged : (os os1 wanted : List Held) (cs cs1 : List ObjectChange) (ks : List Known) (ds : List SecretChange) (ps : List Place)
-    → os1 ≡ wanted → Logged object_unmade os cs os1 cs1 → fits (length cs) (object_places ps) ≡ true
+    → os1 ≡ wanted → Logged object_unmade ps os cs os1 cs1 → fits (length cs) (object_places ps) ≡ true
     → journal_state os1 cs1 ks ds ps ≡ changed (journal_state os cs ks ds ps) (record { objects = wanted; secrets = ks })
 objects_logged os os1 wanted cs cs1 ks ds ps e l f =
     ap (λ (x : List Held). record { now = record { objects = x; secrets = ks }; marks = paired (history object_unmade os1 (reverse cs1) (object_places ps)) (history secret_unmade ks (reverse ds) (secret_places ps)) }) e
-    ∙ ap (λ (x : List (List Held)). record { now = record { objects = wanted; secrets = ks }; marks = paired x (history secret_unmade ks (reverse ds) (secret_places ps)) }) (history_logged object_unmade os os1 cs cs1 (object_places ps) l f)
+    ∙ ap (λ (x : List (List Held)). record { now = record { objects = wanted; secrets = ks }; marks = paired x (history secret_unmade ks (reverse ds) (secret_places ps)) }) (history_logged object_unmade (λ (p : Place). p.objects) ps os os1 cs cs1 l f)
 
 -- the secrets changed, and that was written down
 pub secrets_logged : (os : List Held) (cs : List ObjectChange) (ks ks1 wanted : List Known) (ds ds1 : List SecretChange) (ps : List Place)
-    → ks1 ≡ wanted → Logged secret_unmade ks ds ks1 ds1 → fits (length ds) (secret_places ps) ≡ true
+    → ks1 ≡ wanted → Logged secret_unmade ps ks ds ks1 ds1 → fits (length ds) (secret_places ps) ≡ true
     → journal_state os cs ks1 ds1 ps ≡ changed (journal_state os cs ks ds ps) (record { objects = os; secrets = wanted })
 secrets_logged os cs ks ks1 wanted ds ds1 ps e l f =
     ap (λ (x : List Known). record { now = record { objects = os; secrets = x }; marks = paired (history object_unmade os (reverse cs) (object_places ps)) (history secret_unmade ks1 (reverse ds1) (secret_places ps)) }) e
-    ∙ ap (λ (x : List (List Known)). record { now = record { objects = os; secrets = wanted }; marks = paired (history object_unmade os (reverse cs) (object_places ps)) x }) (history_logged secret_unmade ks ks1 ds ds1 (secret_places ps) l f)
+    ∙ ap (λ (x : List (List Known)). record { now = record { objects = os; secrets = wanted }; marks = paired (history object_unmade os (reverse cs) (object_places ps)) x }) (history_logged secret_unmade (λ (p : Place). p.secrets) ps ks ks1 ds ds1 l f)
 
 -- nothing changed
 pub objects_same : (os os1 : List Held) (cs cs1 : List ObjectChange) (ks : List Known) (ds : List SecretChange) (ps : List Place)
@@ -44,6 +44,12 @@ objects_same os os1 cs cs1 ks ds ps e f = ap (λ (x : List Held). journal_state 
 pub secrets_same : (os : List Held) (cs : List ObjectChange) (ks ks1 : List Known) (ds ds1 : List SecretChange) (ps : List Place)
     → ks1 ≡ ks → ds1 ≡ ds → journal_state os cs ks1 ds1 ps ≡ journal_state os cs ks ds ps
 secrets_same os cs ks ks1 ds ds1 ps e f = ap (λ (x : List Known). journal_state os cs x ds1 ps) e ∙ ap (λ (x : List SecretChange). journal_state os cs ks x ps) f
+
+-- what was written down while no mark stands doesn't matter
+pub state_forgotten : (os : List Held) (cs cs1 : List ObjectChange) (ks : List Known) (ds ds1 : List SecretChange) (ps : List Place)
+    → cs1 ≡ while_marked ps cs → ds1 ≡ while_marked ps ds → journal_state os cs1 ks ds1 ps ≡ journal_state os cs ks ds ps
+state_forgotten os cs cs1 ks ds ds1 [] e f = refl
+state_forgotten os cs cs1 ks ds ds1 (p ∷ ps) e f = ap (λ (x : List ObjectChange). journal_state os x ks ds1 (p ∷ ps)) e ∙ ap (λ (x : List SecretChange). journal_state os cs ks x (p ∷ ps)) f
 
 length-paired : (ps : List Place) (os : List Held) (cs : List ObjectChange) (ks : List Known) (ds : List SecretChange)
     → length (paired (history object_unmade os cs (map (λ (p : Place). p.objects) ps)) (history secret_unmade ks ds (map (λ (p : Place). p.secrets) ps))) ≡ length ps
@@ -153,7 +159,7 @@ fits_back unmade x y cs ds f ps ps1 p e b h = fits_rolled unmade x y cs ds (f p)
 
 -- what `replace` answers
 pub journal_replaces : (os os1 : List Held) (cs cs1 : List ObjectChange) (ks : List Known) (ds : List SecretChange) (ps : List Place) (place : ℕ) (life : Life) (r : Result (Unit {0}) StoreFault)
-    → Logs object_unmade os cs (relived os place life) r os1 cs1 → fits (length cs) (object_places ps) ≡ true
+    → Logs object_unmade ps os cs (relived os place life) r os1 cs1 → fits (length cs) (object_places ps) ≡ true
     → Replaces (journal_state os cs ks ds ps) place life r (journal_state os1 cs1 ks ds ps)
 journal_replaces os os1 cs cs1 ks ds ps place life (Ok u) l f = objects_logged os os1 (relived os place life) cs cs1 ks ds ps l.0 l.1 f
 journal_replaces os os1 cs cs1 ks ds ps place life (Err fault) l f =
@@ -162,10 +168,14 @@ journal_replaces os os1 cs cs1 ks ds ps place life (Err fault) l f =
 
 -- what `learn` answers, of bytes that are new
 pub journal_tells : (os : List Held) (cs : List ObjectChange) (ks ks1 : List Known) (ds ds1 : List SecretChange) (ps : List Place) (number : ℕ) (b bytes : List ℕ) (r : Result (Unit {0}) StoreFault)
-    → Logs secret_unmade ks ds (told ks number b) r ks1 ds1 → b ≡ bytes → Judges (slice_get ks number) bytes (Ok New) → fits (length ds) (secret_places ps) ≡ true
+    → Logs secret_unmade ps ks ds (told ks number b) r ks1 ds1 → b ≡ bytes → Judges (slice_get ks number) bytes (Ok New) → fits (length ds) (secret_places ps) ≡ true
     → Learns (journal_state os cs ks ds ps) number bytes r (journal_state os cs ks1 ds1 ps)
 journal_tells os cs ks ks1 ds ds1 ps number b bytes (Ok u) l e j f =
     (unknown_differs (slice_get ks number) bytes j.0, j.1, secrets_logged os cs ks ks1 (told ks number bytes) ds ds1 ps (l.0 ∙ ap (told ks number) e) l.1 f)
 journal_tells os cs ks ks1 ds ds1 ps number b bytes (Err fault) l e j f =
     let P : StoreFault → Type 0 = λ x. Learns (journal_state os cs ks ds ps) number bytes (Err x) (journal_state os cs ks1 ds1 ps) in
     subst P (sym l.0) (j.0, j.1, secrets_same os cs ks ks1 ds ds1 ps l.1 l.2)
+
+-- no mark stood
+pub forgotten_empty : {C : Type 0} (ps ps1 : List Place) (cs : List C) → ps ≡ ps1 ++ [] → while_marked ps cs ≡ cs → while_marked ps1 cs ≡ cs
+forgotten_empty ps ps1 cs e h = ap (λ (x : List Place). while_marked x cs) (sym (e ∙ append-nil ps1)) ∙ h

@@ -8,3 +8,4 @@ pub mod ChangeLemmas
 pub mod LearnLemmas
 pub mod JournalLemmas
 pub mod QueryLemmas
+pub mod SoundLedgerLemmas

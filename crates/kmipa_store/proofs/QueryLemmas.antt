@@ -1,11 +1,9 @@
 -- Objects that have a name, looked for from place to place.
-use Rattle.std.proofs.Common.{◌≡◌, ℕ, zero, suc, ◌+◌, ◌≤◌, ◌<◌, Bool, true, false, ◌&&◌, ◌||◌, cond, List, [], ◌∷◌, length, map, drop, slice_get, Option, Some, None, IfSome, refl, ap, sym, ◌∙◌, add-one, arith}
+use Rattle.std.proofs.Common.{◌≡◌, ℕ, zero, suc, ◌+◌, ◌≤◌, Bool, true, false, ◌||◌, cond, List, [], ◌∷◌, length, map, drop, slice_get, Some, None, refl, ap, sym, ◌∙◌, add-one, arith}
 use Rattle.std.specs.List.{list_any, position_from}
 use Rattle.kmipa_attrs.specs.declared.name.Name.{Name}
-use Rattle.kmipa_attrs.specs.Sets.{NameOf, name_of}
-use Rattle.kmipa_object.specs.Inventory.{live}
-use Rattle.kmipa_store.specs.Ledger.{Held}
-use Rattle.kmipa_store.specs.Queries.{is_name, has_name, next_named, any_live_named}
+use Rattle.kmipa_attrs.specs.Sets.{name_of}
+use Rattle.kmipa_store.specs.Queries.{is_name}
 
 pub list_any-map : {X Y : Type 0} (f : X → Y) (p : Y → Bool) (xs : List X) → list_any p (map f xs) ≡ list_any (λ x. p (f x)) xs
 list_any-map f p [] = refl

@@ -10,6 +10,7 @@ use Rattle.kmipa_object.proofs.ListLemmas.{get_below, get-append_cases}
 use Rattle.kmipa_object.proofs.RuleLemmas.{possible_admits}
 use Rattle.kmipa_store.specs.Ledger.{Held, Known, Meaning, relived, told, with_life}
 use Rattle.kmipa_store.specs.Choices.{Choice, Chooses, Suits, InRange, GoneIfDestroyed, IsSound, Extends, inv, thing, bytes_of}
+use Rattle.kmipa_store.specs.Soundness.{Fits}
 use Rattle.kmipa_store.proofs.InventoryLemmas.{get-inv}
 use Rattle.kmipa_store.proofs.ChoiceLemmas.{override, override_same, Chooses-none, Chooses-more, Chooses-override, Chooses-told, extends_push, extends_told}
 
@@ -84,11 +85,6 @@ sound_told m number s bytes sound at none admitted =
       distinct = sound.distinct;
       choice = (c, Chooses-told m.secrets number s bytes c at (override_same sound.choice.0 number bytes) (Chooses-override m.secrets number s bytes sound.choice.0 at suits sound.choice.1));
     }
-
--- what is asked of an object beside its identifier
-pub record Fits (h : Held) (secrets : List Known) : Type 0 where
-  pub gone : GoneIfDestroyed (live h.card) h.material
-  pub there : (secret : SecretNo) → h.material ≡ Secret secret → (known : Option (List ℕ)) × (slice_get secrets secret.number ≡ Some (record { rule = rule_of h.card; bytes = known }))
 
 -- one more object, of an identifier that no other has
 pub sound_added : (m : Meaning) (h : Held) → IsSound m → ((p : ℕ) (g : Held) → slice_get m.objects p ≡ Some g → g.card.id ≡ h.card.id → ⊥) → Fits h m.secrets

@@ -19,16 +19,21 @@ abbrev pub fits : ℕ → List ℕ → Bool
 fits n [] = true
 fits n (p ∷ ps) = nat_le p n && fits p ps
 
--- one change was made and written down so that it can be taken back
-pub record Logged {X C : Type 0} (unmade : X → C → X) (x : X) (cs : List C) (y : X) (ds : List C) : Type 0 where
+-- what stays written down: nothing where no mark stands
+abbrev pub while_marked : {P C : Type 0} → List P → List C → List C
+while_marked [] cs = []
+while_marked (p ∷ ps) cs = cs
+
+-- one change was made, and written down while a mark stands so that it can be taken back
+pub record Logged {X C P : Type 0} (unmade : X → C → X) (ps : List P) (x : X) (cs : List C) (y : X) (ds : List C) : Type 0 where
   pub change : C
-  pub written : ds ≡ cs ++ change ∷ []
+  pub written : ds ≡ while_marked ps (cs ++ change ∷ [])
   pub back : unmade y change ≡ x
 
 -- the wanted change was made and written down, or want of memory and nothing changed
-abbrev pub Logs : {X C : Type 0} → (X → C → X) → X → List C → X → Result (Unit {0}) StoreFault → X → List C → Type 0
-Logs unmade x cs wanted (Ok u) y ds = (y ≡ wanted) × Logged unmade x cs y ds
-Logs unmade x cs wanted (Err fault) y ds = (fault ≡ Memory) × (y ≡ x) × (ds ≡ cs)
+abbrev pub Logs : {X C P : Type 0} → (X → C → X) → List P → X → List C → X → Result (Unit {0}) StoreFault → X → List C → Type 0
+Logs unmade ps x cs wanted (Ok u) y ds = (y ≡ wanted) × Logged unmade ps x cs y ds
+Logs unmade ps x cs wanted (Err fault) y ds = (fault ≡ Memory) × (y ≡ x) × (ds ≡ cs)
 
 -- the newest changes were taken back, so that this many are left
 pub record RolledTo {X C : Type 0} (unmade : X → C → X) (x : X) (cs : List C) (count : ℕ) (y : X) (ds : List C) : Type 0 where

@@ -9,3 +9,4 @@ pub mod Secrets
 pub mod Histories
 pub mod Journal
 pub mod States
+pub mod Soundness

@@ -3,7 +3,7 @@
 ghost use Rattle.std.specs.Prelude.{◌≡◌, ◌<◌, ◌≤◌, ◌++◌, ◌∷◌, [], true, length, slice_get, string_bytes, None};
 ghost use Rattle.kmipa_store.specs.Ledger.{held, cards_of, place_of, relived, told};
 ghost use Rattle.kmipa_store.specs.Calls.{is_unknown};
-ghost use Rattle.kmipa_store.specs.Histories.{Logs, RolledTo};
+ghost use Rattle.kmipa_store.specs.Histories.{Logs, RolledTo, while_marked};
 ghost use Rattle.kmipa_store.specs.Journal.{object_unmade, secret_unmade};
 
 use crate::fault::StoreFault;
@@ -79,18 +79,31 @@ pub fn roll_back<C, T: Undo<C>>(subject: &mut T, changes: &mut Vec<C>, count: us
     }
 }
 
+/// Where no mark stands nothing stays written down.
+pub fn forget_unmarked<C: Drop>(changes: &mut Vec<C>, places: &Vec<Place>)
+    ensures { changes.new.items ≡ while_marked places.now.items changes.old.items }
+{
+    if places.is_empty() {
+        changes.clear();
+    }
+}
+
 /// Adds an object, whose identifier no other has, and writes that down, or neither.
 pub fn push_object(
     objects: &mut Objects,
     changes: &mut Vec<ObjectChange>,
+    places: &Vec<Place>,
     object: Object,
 ) -> Result<(), StoreFault>
     requires { place_of (string_bytes object.id) (cards_of objects.old) ≡ None }
-    ensures { Logs object_unmade objects.old changes.old.items (objects.old ++ held object ∷ []) result objects.new changes.new.items }
+    ensures { Logs object_unmade places.now.items objects.old changes.old.items (objects.old ++ held object ∷ []) result objects.new changes.new.items }
 {
     changes.push(ObjectChange::Added)?;
     match objects.push(object) {
-        Ok(()) => Ok(()),
+        Ok(()) => {
+            forget_unmarked(changes, places);
+            Ok(())
+        }
         Err(fault) => {
             let _ = changes.pop();
             Err(fault)
@@ -102,15 +115,17 @@ pub fn push_object(
 pub fn set_life(
     objects: &mut Objects,
     changes: &mut Vec<ObjectChange>,
+    places: &Vec<Place>,
     place: usize,
     life: Life,
 ) -> Result<(), StoreFault>
     requires { place < length objects.old }
-    ensures { Logs object_unmade objects.old changes.old.items (relived objects.old place life) result objects.new changes.new.items }
+    ensures { Logs object_unmade places.now.items objects.old changes.old.items (relived objects.old place life) result objects.new changes.new.items }
 {
     let before = objects.at(place).life;
     changes.push(ObjectChange::Replaced(place, before))?;
     objects.set_life(place, life);
+    forget_unmarked(changes, places);
     Ok(())
 }
 
@@ -118,13 +133,17 @@ pub fn set_life(
 pub fn push_secret(
     secrets: &mut Secrets,
     changes: &mut Vec<SecretChange>,
+    places: &Vec<Place>,
     rule: Rule,
 ) -> Result<(), StoreFault>
-    ensures { Logs secret_unmade secrets.old changes.old.items (secrets.old ++ record { rule = rule; bytes = None } ∷ []) result secrets.new changes.new.items }
+    ensures { Logs secret_unmade places.now.items secrets.old changes.old.items (secrets.old ++ record { rule = rule; bytes = None } ∷ []) result secrets.new changes.new.items }
 {
     changes.push(SecretChange::Made)?;
     match secrets.push(rule) {
-        Ok(()) => Ok(()),
+        Ok(()) => {
+            forget_unmarked(changes, places);
+            Ok(())
+        }
         Err(fault) => {
             let _ = changes.pop();
             Err(fault)
@@ -136,14 +155,16 @@ pub fn push_secret(
 pub fn tell_secret(
     secrets: &mut Secrets,
     changes: &mut Vec<SecretChange>,
+    places: &Vec<Place>,
     number: usize,
     bytes: Vec<u8>,
 ) -> Result<(), StoreFault>
     requires there { number < length secrets.old }
     requires unknown { is_unknown (slice_get secrets.old number) ≡ true }
-    ensures { Logs secret_unmade secrets.old changes.old.items (told secrets.old number bytes.items) result secrets.new changes.new.items }
+    ensures { Logs secret_unmade places.now.items secrets.old changes.old.items (told secrets.old number bytes.items) result secrets.new changes.new.items }
 {
     changes.push(SecretChange::Learned(number))?;
     secrets.tell(number, bytes);
+    forget_unmarked(changes, places);
     Ok(())
 }

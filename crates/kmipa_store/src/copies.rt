@@ -4,6 +4,7 @@ use crate::fault::StoreFault;
 use crate::ledger::{Ledger, Mark};
 use crate::objects::Objects;
 use crate::secrets::{Lesson, Secrets};
+use crate::seed::Seed;
 use kmipa_object::{Life, Object, Rule, SecretNo, State};
 use std::alloc::Global;
 
@@ -36,7 +37,7 @@ impl Copies {
         Copies {
             alloc,
             moment: 0,
-            objects: Objects::new(alloc),
+            objects: Objects::new(alloc, Seed::new(0, 0)),
             secrets: Secrets::new(alloc),
             marks: Vec::new(alloc),
         }

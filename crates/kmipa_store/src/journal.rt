@@ -1,16 +1,18 @@
 //! A ledger that writes down what changes.
 
 ghost use Rattle.std.specs.Prelude.{◌≡◌, true, length};
-ghost use Rattle.kmipa_store.specs.Histories.{fits};
+ghost use Rattle.kmipa_store.specs.Histories.{fits, while_marked};
 ghost use Rattle.kmipa_store.specs.Journal.{object_places, secret_places};
 
 use crate::changes::{
-    ObjectChange, Place, SecretChange, push_object, push_secret, roll_back, set_life, tell_secret,
+    ObjectChange, Place, SecretChange, forget_unmarked, push_object, push_secret, roll_back,
+    set_life, tell_secret,
 };
 use crate::fault::StoreFault;
 use crate::ledger::{Ledger, Mark};
 use crate::objects::Objects;
 use crate::secrets::{Lesson, Secrets};
+use crate::seed::Seed;
 use kmipa_object::{Life, Object, Rule, SecretNo, State};
 use std::alloc::Global;
 
@@ -31,6 +33,8 @@ pub struct Journal {
     places: Vec<Place>,
     ghost objects_fit: { fits (length object_changes.items) (object_places places.items) ≡ true },
     ghost secrets_fit: { fits (length secret_changes.items) (secret_places places.items) ≡ true },
+    ghost objects_forgotten: { while_marked places.items object_changes.items ≡ object_changes.items },
+    ghost secrets_forgotten: { while_marked places.items secret_changes.items ≡ secret_changes.items },
 }
 
 impl Journal {
@@ -38,15 +42,23 @@ impl Journal {
     ghost use Rattle.kmipa_store.specs.Ledger.{LedgerState};
     ghost use Rattle.kmipa_store.specs.States.{moment_of_journal, state_of_journal};
 
-    /// A ledger without objects, secrets and marks.
+    /// A ledger without objects, secrets and marks, of a seed that is always the same.
     pub fn new(alloc: Global) -> Journal
+        ensures meaning { state_of_journal result ≡ record { now = record { objects = []; secrets = [] }; marks = [] } }
+        ensures moment { moment_of_journal result ≡ pos 0 }
+    {
+        Journal::seeded(alloc, Seed::new(0, 0))
+    }
+
+    /// A ledger without objects, secrets and marks. With a seed drawn at random it finds identifiers fast whoever picks them.
+    pub fn seeded(alloc: Global, seed: Seed) -> Journal
         ensures meaning { state_of_journal result ≡ record { now = record { objects = []; secrets = [] }; marks = [] } }
         ensures moment { moment_of_journal result ≡ pos 0 }
     {
         Journal {
             alloc,
             moment: 0,
-            objects: Objects::new(alloc),
+            objects: Objects::new(alloc, seed),
             object_changes: Vec::new(alloc),
             secrets: Secrets::new(alloc),
             secret_changes: Vec::new(alloc),
@@ -99,12 +111,23 @@ impl Ledger for Journal {
             return Err(StoreFault::IdentifierTaken);
         }
         let place = self.objects.len();
-        push_object(&mut self.objects, &mut self.object_changes, object)?;
+        push_object(
+            &mut self.objects,
+            &mut self.object_changes,
+            &self.places,
+            object,
+        )?;
         Ok(place)
     }
 
     fn replace(&mut self, place: usize, life: Life) -> Result<(), StoreFault> {
-        set_life(&mut self.objects, &mut self.object_changes, place, life)
+        set_life(
+            &mut self.objects,
+            &mut self.object_changes,
+            &self.places,
+            place,
+            life,
+        )
     }
 
     fn new_secret(&mut self, rule: Rule) -> Result<SecretNo, StoreFault> {
@@ -112,7 +135,12 @@ impl Ledger for Journal {
             return Err(StoreFault::LengthImpossible);
         }
         let number = self.secrets.len();
-        push_secret(&mut self.secrets, &mut self.secret_changes, rule)?;
+        push_secret(
+            &mut self.secrets,
+            &mut self.secret_changes,
+            &self.places,
+            rule,
+        )?;
         Ok(SecretNo { number })
     }
 
@@ -128,6 +156,7 @@ impl Ledger for Journal {
                 tell_secret(
                     &mut self.secrets,
                     &mut self.secret_changes,
+                    &self.places,
                     secret.number,
                     bytes,
                 )
@@ -150,6 +179,8 @@ impl Ledger for Journal {
     fn keep(&mut self, mark: Mark) {
         let Mark { depth: _ } = mark;
         let _ = self.places.pop();
+        forget_unmarked(&mut self.object_changes, &self.places);
+        forget_unmarked(&mut self.secret_changes, &self.places);
     }
 
     fn undo(&mut self, mark: Mark) {
@@ -158,6 +189,8 @@ impl Ledger for Journal {
             return;
         };
         roll_back(&mut self.objects, &mut self.object_changes, newest.objects);
+        forget_unmarked(&mut self.object_changes, &self.places);
+        forget_unmarked(&mut self.secret_changes, &self.places);
     }
 
     fn back(&mut self, mark: Mark) {
@@ -167,5 +200,7 @@ impl Ledger for Journal {
         };
         roll_back(&mut self.objects, &mut self.object_changes, place.objects);
         roll_back(&mut self.secrets, &mut self.secret_changes, place.secrets);
+        forget_unmarked(&mut self.object_changes, &self.places);
+        forget_unmarked(&mut self.secret_changes, &self.places);
     }
 }

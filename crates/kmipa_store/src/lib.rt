@@ -9,12 +9,14 @@ mod laws;
 mod ledger;
 mod objects;
 mod secrets;
+mod seed;
 
 pub use copies::Copies;
 pub use fault::StoreFault;
 pub use journal::Journal;
-pub use laws::every_choice_gives_an_inventory;
+pub use laws::{calls_keep_ledgers_sound, every_choice_gives_an_inventory};
 pub use ledger::{Ledger, Mark};
+pub use seed::Seed;
 
 #[cfg(test)]
 mod tests;

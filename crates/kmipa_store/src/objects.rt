@@ -8,6 +8,7 @@ ghost use Rattle.kmipa_store.specs.Ledger.{held};
 ghost use Rattle.kmipa_store.specs.Queries.{has_name, is_name};
 
 use crate::fault::StoreFault;
+use crate::seed::Seed;
 use indexmap::IndexMap;
 use kmipa_attrs::Name;
 use kmipa_object::{Life, Object, State, state_at};
@@ -17,7 +18,7 @@ use std::marker::Model;
 /// Objects by their identifiers, in the order of arrival.
 #[derive(Drop)]
 pub struct Objects {
-    by_id: IndexMap<String, Object>,
+    by_id: IndexMap<String, Object, Seed>,
 }
 
 impl Model for Objects {
@@ -38,12 +39,12 @@ impl Objects {
     ghost use Rattle.kmipa_store.specs.Memory.{Pushes};
     ghost use Rattle.kmipa_store.specs.Queries.{has_name, next_named, any_live_named, state_of_place};
 
-    /// No objects.
-    pub fn new(alloc: Global) -> Objects
+    /// No objects. Their identifiers are found by hashes that start from a seed.
+    pub fn new(alloc: Global, seed: Seed) -> Objects
         ensures { result ≡ [] }
     {
         Objects {
-            by_id: IndexMap::new(alloc),
+            by_id: IndexMap::with_hasher(alloc, seed),
         }
     }
 
@@ -139,7 +140,7 @@ impl Objects {
         ensures err { IfErr result (λ fault. fault ≡ StoreFault.Memory) }
     {
         let count = self.by_id.len();
-        let mut copy = Objects::new(alloc);
+        let mut copy = Objects::new(alloc, *self.by_id.hasher());
         for place in 0..count {
             let object = self.at(place).copy(alloc)?;
             copy.push(object)?;

@@ -1,10 +1,11 @@
 use Rattle.std.proofs.Common.{Ok, slice_get, subst}
 use Rattle.kmipa_store.specs.Ledger.{told}
 use Rattle.kmipa_store.specs.Secrets.{Judges}
-use Rattle.kmipa_store.specs.Journal.{secret_unmade, secret_places}
+use Rattle.kmipa_store.specs.Journal.{secret_unmade}
+use Rattle.kmipa_store.specs.declared.changes.Place.{Place}
 use Rattle.kmipa_store.specs.States.{state_of_journal}
 use Rattle.kmipa_store.specs.declared.secrets.Lesson.{Lesson}
-use Rattle.kmipa_store.proofs.HistoryLemmas.{fits_logs}
+use Rattle.kmipa_store.proofs.HistoryLemmas.{fits_logs, forgotten_logs}
 use Rattle.kmipa_store.proofs.LearnLemmas.{learns_known}
 use Rattle.kmipa_store.proofs.JournalLemmas.{journal_tells}
 use Rattle.kmipa_store.proofs.journal.JournalLedger.learn.Goals as goal
@@ -15,7 +16,9 @@ invariant_of-self c =
     let p = c.tell_secret in
     record {
       objects_fit = j.objects_fit;
-      secrets_fit = fits_logs secret_unmade (told j.secrets c.args.secret.number c.in_ok-bytes-in-Ok-New.bytes.items) j.secrets p.new.secrets j.secret_changes.items p.new.changes.items (secret_places j.places.items) p.result p.ensures j.secrets_fit;
+      secrets_fit = fits_logs secret_unmade (λ (q : Place). q.secrets) j.places.items (told j.secrets c.args.secret.number c.in_ok-bytes-in-Ok-New.bytes.items) j.secrets p.new.secrets j.secret_changes.items p.new.changes.items p.result p.ensures j.secrets_fit;
+      objects_forgotten = j.objects_forgotten;
+      secrets_forgotten = forgotten_logs secret_unmade j.places.items (told j.secrets c.args.secret.number c.in_ok-bytes-in-Ok-New.bytes.items) j.secrets p.new.secrets j.secret_changes.items p.new.changes.items p.result p.ensures j.secrets_forgotten;
     }
 
 pub returns-in-Ok-Old-clause-meaning : goal.returns-in-Ok-Old-clause-meaning

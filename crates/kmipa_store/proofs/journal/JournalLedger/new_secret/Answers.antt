@@ -1,7 +1,8 @@
 use Rattle.std.proofs.Common.{◌++◌, ◌∷◌, [], None, List, sym, ◌∙◌}
 use Rattle.kmipa_store.specs.Ledger.{Known}
-use Rattle.kmipa_store.specs.Journal.{secret_unmade, secret_places}
-use Rattle.kmipa_store.proofs.HistoryLemmas.{fits_logs}
+use Rattle.kmipa_store.specs.Journal.{secret_unmade}
+use Rattle.kmipa_store.specs.declared.changes.Place.{Place}
+use Rattle.kmipa_store.proofs.HistoryLemmas.{fits_logs, forgotten_logs}
 use Rattle.kmipa_store.proofs.JournalLemmas.{secrets_logged}
 use Rattle.kmipa_store.proofs.journal.JournalLedger.new_secret.Goals as goal
 
@@ -12,7 +13,9 @@ invariant_of-self c =
     let wanted : List Known = j.secrets ++ record { rule = c.args.rule; bytes = None } ∷ [] in
     record {
       objects_fit = j.objects_fit;
-      secrets_fit = fits_logs secret_unmade wanted j.secrets p.new.secrets j.secret_changes.items p.new.changes.items (secret_places j.places.items) p.result p.ensures j.secrets_fit;
+      secrets_fit = fits_logs secret_unmade (λ (q : Place). q.secrets) j.places.items wanted j.secrets p.new.secrets j.secret_changes.items p.new.changes.items p.result p.ensures j.secrets_fit;
+      objects_forgotten = j.objects_forgotten;
+      secrets_forgotten = forgotten_logs secret_unmade j.places.items wanted j.secrets p.new.secrets j.secret_changes.items p.new.changes.items p.result p.ensures j.secrets_forgotten;
     }
 
 pub returns-clause-meaning : goal.returns-clause-meaning

@@ -1,6 +1,7 @@
 use Rattle.kmipa_store.specs.Ledger.{relived}
-use Rattle.kmipa_store.specs.Journal.{object_unmade, object_places}
-use Rattle.kmipa_store.proofs.HistoryLemmas.{fits_logs}
+use Rattle.kmipa_store.specs.Journal.{object_unmade}
+use Rattle.kmipa_store.specs.declared.changes.Place.{Place}
+use Rattle.kmipa_store.proofs.HistoryLemmas.{fits_logs, forgotten_logs}
 use Rattle.kmipa_store.proofs.JournalLemmas.{journal_replaces}
 use Rattle.kmipa_store.proofs.journal.JournalLedger.replace.Goals as goal
 
@@ -9,8 +10,10 @@ invariant_of-self c =
     let j = c.args.self.now in
     let p = c.set_life in
     record {
-      objects_fit = fits_logs object_unmade (relived j.objects c.args.place c.args.life) j.objects p.new.objects j.object_changes.items p.new.changes.items (object_places j.places.items) p.result p.ensures j.objects_fit;
+      objects_fit = fits_logs object_unmade (λ (q : Place). q.objects) j.places.items (relived j.objects c.args.place c.args.life) j.objects p.new.objects j.object_changes.items p.new.changes.items p.result p.ensures j.objects_fit;
       secrets_fit = j.secrets_fit;
+      objects_forgotten = forgotten_logs object_unmade j.places.items (relived j.objects c.args.place c.args.life) j.objects p.new.objects j.object_changes.items p.new.changes.items p.result p.ensures j.objects_forgotten;
+      secrets_forgotten = j.secrets_forgotten;
     }
 
 pub returns-clause-meaning : goal.returns-clause-meaning

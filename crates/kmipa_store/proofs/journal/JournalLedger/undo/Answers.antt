@@ -1,20 +1,41 @@
-use Rattle.std.proofs.Common.{length, Some}
+use Rattle.std.proofs.Common.{◌∙◌, length, Some, None}
 use Rattle.kmipa_store.specs.declared.changes.Place.{Place}
 use Rattle.kmipa_store.specs.Journal.{object_unmade}
-use Rattle.kmipa_store.proofs.JournalLemmas.{fits_back, fits_popped, journal_undone}
+use Rattle.kmipa_store.proofs.HistoryLemmas.{fits_forgotten, forgotten_again}
+use Rattle.kmipa_store.proofs.JournalLemmas.{fits_back, fits_popped, forgotten_empty, journal_undone, state_forgotten}
 use Rattle.kmipa_store.proofs.journal.JournalLedger.undo.Goals as goal
+
+pub invariant_of-self : goal.invariant_of-self
+invariant_of-self c =
+    let j = c.args.self.now in
+    let ps = c.pop.new.self.items in
+    record {
+      objects_fit = fits_popped (λ (p : Place). p.objects) (length j.object_changes.items) j.places.items ps None c.in_default.ensures.items j.objects_fit;
+      secrets_fit = fits_popped (λ (p : Place). p.secrets) (length j.secret_changes.items) j.places.items ps None c.in_default.ensures.items j.secrets_fit;
+      objects_forgotten = forgotten_empty j.places.items ps j.object_changes.items c.in_default.ensures.items j.objects_forgotten;
+      secrets_forgotten = forgotten_empty j.places.items ps j.secret_changes.items c.in_default.ensures.items j.secrets_forgotten;
+    }
 
 pub invariant_of-self-2 : goal.invariant_of-self-2
 invariant_of-self-2 c =
     let j = c.args.self.now in
+    let ps = c.pop.new.self.items in
     let r = c.roll_back in
+    let o = c.forget_unmarked in
+    let s = c.forget_unmarked-2 in
     record {
-      objects_fit = fits_back object_unmade j.objects r.new.subject j.object_changes.items r.new.changes.items (λ (p : Place). p.objects) j.places.items c.pop.new.self.items c.in-Some.newest c.in-Some.ensures.items r.ensures j.objects_fit;
-      secrets_fit = fits_popped (λ (p : Place). p.secrets) (length j.secret_changes.items) j.places.items c.pop.new.self.items (Some c.in-Some.newest) c.in-Some.ensures.items j.secrets_fit;
+      objects_fit = fits_forgotten (λ (p : Place). p.objects) ps r.new.changes.items o.new.changes.items o.ensures
+          (fits_back object_unmade j.objects r.new.subject j.object_changes.items r.new.changes.items (λ (p : Place). p.objects) j.places.items ps c.in-Some.newest c.in-Some.ensures.items r.ensures j.objects_fit);
+      secrets_fit = fits_forgotten (λ (p : Place). p.secrets) ps j.secret_changes.items s.new.changes.items s.ensures
+          (fits_popped (λ (p : Place). p.secrets) (length j.secret_changes.items) j.places.items ps (Some c.in-Some.newest) c.in-Some.ensures.items j.secrets_fit);
+      objects_forgotten = forgotten_again ps r.new.changes.items o.new.changes.items o.ensures;
+      secrets_forgotten = forgotten_again ps j.secret_changes.items s.new.changes.items s.ensures;
     }
 
 pub returns-clause-meaning : goal.returns-clause-meaning
 returns-clause-meaning c =
     let j = c.args.self.now in
+    let ps = c.pop.new.self.items in
     let r = c.roll_back in
-    journal_undone j.objects r.new.subject j.object_changes.items r.new.changes.items j.secrets j.secret_changes.items j.places.items c.pop.new.self.items c.in-Some.newest c.in-Some.ensures.items r.ensures j.secrets_fit
+    state_forgotten r.new.subject r.new.changes.items c.forget_unmarked.new.changes.items j.secrets j.secret_changes.items c.forget_unmarked-2.new.changes.items ps c.forget_unmarked.ensures c.forget_unmarked-2.ensures
+    ∙ journal_undone j.objects r.new.subject j.object_changes.items r.new.changes.items j.secrets j.secret_changes.items j.places.items ps c.in-Some.newest c.in-Some.ensures.items r.ensures j.secrets_fit

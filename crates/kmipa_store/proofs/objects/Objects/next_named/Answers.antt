@@ -1,7 +1,7 @@
 use Rattle.std.proofs.Common.{◌∙◌, sym}
 use Rattle.kmipa_store.specs.Ledger.{held}
 use Rattle.kmipa_store.specs.Queries.{has_name}
-use Rattle.kmipa_store.proofs.QueryLemmas.{position_here, position_on, position_past}
+use Rattle.kmipa_store.proofs.QueryLemmas.{position_here, position_on}
 use Rattle.kmipa_store.proofs.objects.Objects.next_named.Goals as goal
 
 pub returns-then-has_name-clause-place : goal.returns-then-has_name-clause-place
