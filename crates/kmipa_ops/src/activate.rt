@@ -1,24 +1,18 @@
-//! An Activate.
+//! Activate.
 
-ghost use Rattle.kmipa_msgs.specs.Messages.{activates, maybe_lent};
+ghost use Rattle.kmipa_msgs.specs.Messages.{activate_of, activates};
 
 use crate::change::{Change, change_object, id_shown, is_change, why_not_changed};
 use crate::deed::{Deed, Subject};
 use crate::placeholder::Placeholder;
 use crate::why::Why;
-use kmipa_msgs::{Payload, Rules};
+use kmipa_msgs::{Activate, Payload, Rules};
 use kmipa_object::Act;
 use kmipa_store::Ledger;
 use std::alloc::{AllocError, Global};
 
-/// An Activate of the object that is meant.
-#[derive(Clone, Copy)]
-pub struct Activation<'a> {
-    pub id: Option<&'a str>,
-}
-
-impl<'a> Deed for Activation<'a> {
-    ghost asked = { λ about. activates (maybe_lent about.id) };
+impl<'a> Deed for Activate<'a> {
+    ghost asked = { λ activate. activates (activate_of activate) };
 
     fn is_of(&self, payload: &Payload) -> bool {
         is_change(payload)

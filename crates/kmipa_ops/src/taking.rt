@@ -12,10 +12,8 @@ ghost use Rattle.kmipa_ops.specs.Objects.{clash};
 ghost use Rattle.kmipa_ops.specs.Placeholders.{placeholder_of};
 ghost use Rattle.kmipa_ops.specs.Whys.{whys};
 
-use crate::activate::Activation;
 use crate::deed::Deed;
 use crate::deeds::with_deed;
-use crate::destroy::Destruction;
 use crate::echo::{clash_bytes, is_other_number};
 use crate::failed::is_founded;
 use crate::idle::{Idle, Unread};

@@ -9,4 +9,4 @@ pub returns-in-Ok : goal.returns-in-Ok
 returns-in-Ok g c =
     changed_is (g.L.Ledger.state c.args.ledger.now) (g.L.Ledger.state c.replace.new.self) (maybe_lent c.args.about) c.in-Some.place (held c.at.result.now) c.args.change c.args.t c.life_left-life.result
     c.in-Some.ensures.place c.at.ensures
-    (life_is (held c.at.result.now) c.args.change c.args.t _ c.life_left-life.result (to_z-of_z w64 c.args.t c.ranges.t) c.life_left-life.ensures.dates c.life_left-life.ensures.material) c.in-Ok.ensures
+    (life_is (held c.at.result.now) c.args.change c.args.t _ c.life_left-life.result (to_z-of_z w64 c.args.t c.ranges.t) c.life_left-life.ensures.dates c.life_left-life.ensures.material) c.in-Ok.ensures.meaning
