@@ -5,4 +5,5 @@ pub mod NameLemmas
 pub mod DistinctLemmas
 pub mod AttrLemmas
 pub mod FilterLemmas
+pub mod LooseLemmas
 pub mod WriteLemmas

@@ -1,5 +1,5 @@
 -- A Locate's filter: what its Attributes ask of an object, and what its other items do (KMIP 2.1, section 6.1, Locate; which filters are judged is profile).
-use Rattle.std.specs.Prelude.{◌≡◌, ℕ, ℤ, pos, int_lt, nat_lt, Bool, true, false, ◌==◌, ◌||◌, not, cond, slice_get, map, length, List, Option, Some, None, Result, Ok, Err}
+use Rattle.std.specs.Prelude.{◌≡◌, ◌≤◌, ℕ, ℤ, pos, int_lt, nat_lt, Bool, true, false, ◌==◌, ◌||◌, not, cond, slice_get, map, length, List, Option, Some, None, Result, Ok, Err}
 use Rattle.kmipa_ttlv.specs.Tree.{Tree, Trees, structure, scalar, none, more}
 use Rattle.kmipa_attrs.specs.Tags.{activation_date, compromise_date, cryptographic_algorithm, cryptographic_length, cryptographic_usage_mask, deactivation_date, destroy_date, initial_date, name_tag, object_type_tag, state_tag}
 use Rattle.kmipa_attrs.specs.Sets.{NameOf, names_of}
@@ -72,6 +72,16 @@ maximum_of most = cond (is_below_one most) None most
 -- not all is judged: a filter, the Maximum Items, or an item of the payload that no Locate has
 abbrev pub is_loose : Trees → Option ℤ → Bool → Bool
 is_loose ts most is_unknown = (is_unknown || is_below_one most || has_other ts) || has_second ts
+
+-- the same in words: what a filter asks that isn't judged
+pub data IsLoose (ts : Trees) (most : Option ℤ) (is_unknown : Bool) : Type 0 where
+  by_item : is_unknown ≡ true → IsLoose ts most is_unknown
+  by_maximum : is_below_one most ≡ true → IsLoose ts most is_unknown
+  by_other : (tag : ℕ) → is_judged tag ≡ false → 1 ≤ length (every tag ts) → IsLoose ts most is_unknown
+  by_second_type : 2 ≤ length (every object_type_tag ts) → IsLoose ts most is_unknown
+  by_second_state : 2 ≤ length (every state_tag ts) → IsLoose ts most is_unknown
+  by_second_algorithm : 2 ≤ length (every cryptographic_algorithm ts) → IsLoose ts most is_unknown
+  by_second_length : 2 ≤ length (every cryptographic_length ts) → IsLoose ts most is_unknown
 
 -- THE DEFINITIONS: what the children of Attributes, the Maximum Items, and whether there is an unknown item say together
 pub record SaysFilter (ts : Trees) (most : Option ℤ) (is_unknown : Bool) (q : FilterOf) : Type 0 where

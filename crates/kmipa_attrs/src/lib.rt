@@ -25,7 +25,8 @@ pub use filter::Filter;
 pub use filtering::{read_filter, read_filter_children};
 pub use laws::{
     attributes_are_read, distinct_names_are_the_same, distinct_names_do_not_repeat,
-    filters_are_read, memory_is_no_fault, said_names_do_not_repeat,
+    filters_are_read, loose_filters_are_not_all_judged, memory_is_no_fault,
+    said_names_do_not_repeat,
 };
 pub use name::Name;
 pub use object_type::ObjectType;

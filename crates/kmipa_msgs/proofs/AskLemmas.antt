@@ -15,8 +15,8 @@ use Rattle.kmipa_msgs.specs.Kinds.{kind_number}
 use Rattle.kmipa_msgs.specs.Operations.{operation_of, is_judged}
 use Rattle.kmipa_msgs.specs.Messages.{AskedOf, asked_of, AskOf}
 use Rattle.kmipa_msgs.specs.declared.request.Asked.{Asked}
-use Rattle.kmipa_msgs.specs.Tables.{children, Listed, Unlisted}
-use Rattle.kmipa_msgs.specs.Asks.{SaysAsked, AskedFault, SaysAsk, AskFault, asked_in, unless_wrong, form_in, payload_asked, operation_in, ask_at, ask_in}
+use Rattle.kmipa_msgs.specs.Tables.{unless_wrong, children, Listed, Unlisted}
+use Rattle.kmipa_msgs.specs.Asks.{SaysAsked, AskedFault, SaysAsk, AskFault, asked_in, form_in, payload_asked, operation_in, ask_at, ask_in}
 use Rattle.kmipa_msgs.specs.Asks.AskFault.{in_operation, in_unread, in_payload, in_asked}
 use Rattle.kmipa_msgs.proofs.TableLemmas.{same_kind, reads_listed, apart_needed, apart_unlisted}
 use Rattle.kmipa_msgs.proofs.RowLemmas.{is_row}

@@ -9,6 +9,7 @@ pub mod AttributeFieldLemmas
 pub mod LowKindLemmas
 pub mod RowLaws
 pub mod RowLemmas
+pub mod LocateLemmas
 pub mod ActivateLemmas
 pub mod DestroyLemmas
 pub mod IdentifierLemmas

@@ -2,7 +2,7 @@
 use Rattle.std.proofs.Common.{◌≡◌, refl, ap, subst}
 use Rattle.kmipa_msgs.specs.declared.kind.OutsideKind.TheVariants.{Missing}
 use Rattle.kmipa_msgs.specs.declared.operation.Operation.{Operation}
-use Rattle.kmipa_msgs.specs.declared.operation.Operation.TheVariants.{Create, Register, Get, GetAttributes, Activate, Revoke, Destroy, Idle, Other}
+use Rattle.kmipa_msgs.specs.declared.operation.Operation.TheVariants.{Create, Register, Locate, Get, GetAttributes, Activate, Revoke, Destroy, Idle, Other}
 use Rattle.kmipa_msgs.specs.Messages.{AskedOf, idles, does_other, operation_asked}
 use Rattle.kmipa_msgs.specs.Rows.{unread_row, row_of}
 use Rattle.kmipa_msgs.specs.Writable.{IsWritableAsked}
@@ -13,6 +13,7 @@ use Rattle.kmipa_msgs.proofs.CreateLemmas.{is_create_row}
 use Rattle.kmipa_msgs.proofs.DestroyLemmas.{is_destroy_row}
 use Rattle.kmipa_msgs.proofs.GetLemmas.{is_get_row}
 use Rattle.kmipa_msgs.proofs.GetAttributesLemmas.{is_get_attributes_row}
+use Rattle.kmipa_msgs.proofs.LocateLemmas.{is_locate_row}
 use Rattle.kmipa_msgs.proofs.RegisterLemmas.{is_register_row}
 use Rattle.kmipa_msgs.proofs.RevokeLemmas.{is_revoke_row}
 
@@ -30,6 +31,7 @@ is_unread_row asked never = record {
 pub is_row : (operation : Operation) → IsRow operation (row_of operation)
 is_row Create = is_create_row
 is_row Register = is_register_row
+is_row Locate = is_locate_row
 is_row Get = is_get_row
 is_row GetAttributes = is_get_attributes_row
 is_row Activate = is_activate_row

@@ -6,7 +6,7 @@ use Rattle.kmipa_attrs.specs.declared.fields.Field.{Field}
 use Rattle.kmipa_attrs.specs.declared.fields.Field.TheVariants.{Absent, Wrong, There}
 use Rattle.kmipa_msgs.specs.declared.kind.OutsideKind.{OutsideKind}
 use Rattle.kmipa_msgs.specs.Kinds.{kind_number}
-use Rattle.kmipa_msgs.specs.Tables.{Listed, Unlisted, MaybeListed, IsThere, of_table, listed, maybe_listed, there, unless_there, unless_absent, known, unless_unlisted}
+use Rattle.kmipa_msgs.specs.Tables.{Listed, Unlisted, MaybeListed, IsThere, of_table, listed, maybe_listed, there, unless_there, unless_absent, known, unless_unlisted, unless_wrong}
 
 pub same_kind : (j k : OutsideKind) → kind_number j < kind_number k → j ≡ k → ⊥
 same_kind j k lt e = let h : kind_number j ≡ kind_number k = ap kind_number e in omega arith
@@ -138,3 +138,9 @@ pub renamed : {A : Type 0} (Said : A → Type 0) (Fault Flaw : OutsideKind → T
     → ((k : OutsideKind) → Fault k → Flaw k) → ((k : OutsideKind) → Flaw k → Fault k) → Reads kind_number Said Fault r → Reads kind_number Said Flaw r
 renamed Said Fault Flaw (Ok x) to from h = record { said = h.said; only = h.only; right = λ k w. h.right k (from k w) }
 renamed Said Fault Flaw (Err k) to from h = record { here = to k h.here; least = λ j lt w. h.least j lt (from j w) }
+
+-- a field that may be absent
+pub reads_unless_wrong : {A : Type 0} (f : Field A) (k : OutsideKind) → Reads kind_number (λ (u : Unit {0}). Unit {0}) (λ j. (j ≡ k) × IsWrong f) (unless_wrong f k)
+reads_unless_wrong Absent k = record { said = tt; only = λ y h. refl; right = λ j h. h.1 }
+reads_unless_wrong Wrong k = record { here = (refl, tt); least = λ j lt h. same_kind j k lt h.0 }
+reads_unless_wrong (There x) k = record { said = tt; only = λ y h. refl; right = λ j h. h.1 }

@@ -14,7 +14,7 @@ use Rattle.kmipa_msgs.specs.Kinds.{kind_number}
 use Rattle.kmipa_msgs.specs.Operations.{operation_of, is_judged}
 use Rattle.kmipa_msgs.specs.Messages.{AskedOf, AskOf}
 use Rattle.kmipa_msgs.specs.Rows.{row_of}
-use Rattle.kmipa_msgs.specs.Tables.{children, Listed, Unlisted, listed}
+use Rattle.kmipa_msgs.specs.Tables.{children, Listed, Unlisted, listed, unless_wrong}
 
 -- the children of a Request Payload say what the operation asks for, as its row has it
 abbrev pub SaysAsked : Operation → Trees → AskedOf → Type 0
@@ -42,11 +42,6 @@ pub data AskFault (t : Tree) (k : OutsideKind) : Type 0 where
 -- the readings
 abbrev pub asked_in : Operation → Trees → Result AskedOf OutsideKind
 asked_in operation ts = (row_of operation).asked_in ts
-
-abbrev pub unless_wrong : {A : Type 0} → Field A → OutsideKind → Result (Unit {0}) OutsideKind
-unless_wrong Absent k = Ok tt
-unless_wrong Wrong k = Err k
-unless_wrong (There x) k = Ok tt
 
 -- a Request Payload that is read is a structure
 abbrev pub form_in : Operation → Field Trees → Result (Unit {0}) OutsideKind

@@ -4,6 +4,7 @@ pub mod Operations
 pub mod Messages
 pub mod Outside
 pub mod Row
+pub mod Locates
 pub mod Rows
 pub mod WrittenFields
 pub mod WrittenKeys

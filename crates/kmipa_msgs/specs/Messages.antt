@@ -2,6 +2,7 @@
 use Rattle.std.specs.Prelude.{ℕ, ℤ, Bool, false, List, [], ◌∷◌, map, Option}
 use Rattle.std.specs.Global.{Vec}
 use Rattle.std.specs.Option.{option_map}
+use Rattle.kmipa_attrs.specs.Filters.{FilterOf, filter_of}
 use Rattle.kmipa_attrs.specs.Sets.{Attributes, attributes_of}
 use Rattle.kmipa_attrs.specs.declared.object_type.ObjectType.{ObjectType}
 use Rattle.kmipa_msgs.specs.declared.key_block.KeyFormat.{KeyFormat}
@@ -10,6 +11,7 @@ use Rattle.kmipa_msgs.specs.declared.operation.Operation.{Operation}
 use Rattle.kmipa_msgs.specs.declared.operation.Operation
 use Rattle.kmipa_msgs.specs.declared.request.BatchOption.{BatchOption}
 use Rattle.kmipa_msgs.specs.declared.request.Register.{Register}
+use Rattle.kmipa_msgs.specs.declared.request.Locate.{Locate}
 use Rattle.kmipa_msgs.specs.declared.request.Get.{Get}
 use Rattle.kmipa_msgs.specs.declared.request.GetAttributes.{GetAttributes}
 use Rattle.kmipa_msgs.specs.declared.request.Activate.{Activate}
@@ -21,6 +23,7 @@ use Rattle.kmipa_msgs.specs.declared.request.Ask.{Ask}
 use Rattle.kmipa_msgs.specs.declared.request.Request.{Request}
 use Rattle.kmipa_msgs.specs.declared.response.Status.{Status}
 use Rattle.kmipa_msgs.specs.declared.response.Registered.{Registered}
+use Rattle.kmipa_msgs.specs.declared.response.Located.{Located}
 use Rattle.kmipa_msgs.specs.declared.response.Got.{Got}
 use Rattle.kmipa_msgs.specs.declared.response.GotAttributes.{GotAttributes}
 use Rattle.kmipa_msgs.specs.declared.response.Changed.{Changed}
@@ -85,6 +88,7 @@ revoke_of r = record { id = maybe_lent r.id; code = r.code }
 pub data AskedOf : Type 0 where
   creates : Attributes → AskedOf
   registers : RegisterOf → AskedOf
+  locates : FilterOf → AskedOf
   gets : Option (List ℕ) → AskedOf
   gets_attributes : GetAttributesOf → AskedOf
   activates : Option (List ℕ) → AskedOf
@@ -92,6 +96,9 @@ pub data AskedOf : Type 0 where
   destroys : Option (List ℕ) → AskedOf
   idles : ℕ → AskedOf
   does_other : ℕ → AskedOf
+
+abbrev pub locate_of : Locate → FilterOf
+locate_of l = filter_of l.filter
 
 abbrev pub id_of : Get → Option (List ℕ)
 id_of g = maybe_lent g.id
@@ -105,6 +112,7 @@ destroy_of d = maybe_lent d.id
 abbrev pub asked_of : Asked → AskedOf
 asked_of (Asked.TheVariants.Create c) = creates (attributes_of c.attributes)
 asked_of (Asked.TheVariants.Register r) = registers (register_of r)
+asked_of (Asked.TheVariants.Locate l) = locates (locate_of l)
 asked_of (Asked.TheVariants.Get g) = gets (id_of g)
 asked_of (Asked.TheVariants.GetAttributes g) = gets_attributes (get_attributes_of g)
 asked_of (Asked.TheVariants.Activate a) = activates (activate_of a)
@@ -125,6 +133,7 @@ ask_of a = record { batch_id = maybe_lent a.batch_id; asked = asked_of a.asked }
 abbrev pub operation_asked : AskedOf → Operation
 operation_asked (creates a) = Operation.TheVariants.Create
 operation_asked (registers r) = Operation.TheVariants.Register
+operation_asked (locates q) = Operation.TheVariants.Locate
 operation_asked (gets id) = Operation.TheVariants.Get
 operation_asked (gets_attributes g) = Operation.TheVariants.GetAttributes
 operation_asked (activates id) = Operation.TheVariants.Activate
@@ -155,6 +164,10 @@ pub record RegisteredOf : Type 0 where
 abbrev pub registered_of : Registered → RegisteredOf
 registered_of r = record { object_type = r.object_type; id = lent r.id }
 
+-- the answer of a Locate: the identifiers that it lists
+abbrev pub located_of : Located → List (List ℕ)
+located_of l = map lent l.ids.items
+
 -- the answer of a Get: the type that it tells, and the type and the block of the object that it shows
 pub record GotOf : Type 0 where
   pub object_type : Option ObjectType
@@ -180,6 +193,7 @@ changed_of c = maybe_lent c.id
 pub data PayloadOf : Type 0 where
   created : RegisteredOf → PayloadOf
   registered : RegisteredOf → PayloadOf
+  located : List (List ℕ) → PayloadOf
   got : GotOf → PayloadOf
   got_attributes : GotAttributesOf → PayloadOf
   changed : Option (List ℕ) → PayloadOf
@@ -187,6 +201,7 @@ pub data PayloadOf : Type 0 where
 abbrev pub payload_of : Payload → PayloadOf
 payload_of (Payload.TheVariants.Create r) = created (registered_of r)
 payload_of (Payload.TheVariants.Register r) = registered (registered_of r)
+payload_of (Payload.TheVariants.Locate l) = located (located_of l)
 payload_of (Payload.TheVariants.Get g) = got (got_of g)
 payload_of (Payload.TheVariants.GetAttributes g) = got_attributes (got_attributes_of g)
 payload_of (Payload.TheVariants.Change c) = changed (changed_of c)

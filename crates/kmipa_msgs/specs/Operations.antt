@@ -1,12 +1,13 @@
 -- The operations.
 use Rattle.std.specs.Prelude.{ℕ, Bool, true, false, ◌==◌, if◌then◌else◌, Option, Some, None}
 use Rattle.kmipa_msgs.specs.declared.operation.Operation.{Operation}
-use Rattle.kmipa_msgs.specs.declared.operation.Operation.TheVariants.{Create, Register, Get, GetAttributes, Activate, Revoke, Destroy, Idle, Other}
+use Rattle.kmipa_msgs.specs.declared.operation.Operation.TheVariants.{Create, Register, Locate, Get, GetAttributes, Activate, Revoke, Destroy, Idle, Other}
 
 -- Operation (KMIP 2.1, section 11)
 abbrev pub operation_number : Operation → ℕ
 operation_number Create = 1
 operation_number Register = 3
+operation_number Locate = 8
 operation_number Get = 10
 operation_number GetAttributes = 11
 operation_number Activate = 18
@@ -15,12 +16,12 @@ operation_number Destroy = 20
 operation_number (Idle n) = n
 operation_number (Other n) = n
 
--- Locate is not read yet; Query and Discover Versions have no effect
+-- Query and Discover Versions have no effect
 abbrev pub operation_of : ℕ → Option Operation
 operation_of n =
     if n == 1 then Some Create
     else if n == 3 then Some Register
-    else if n == 8 then None
+    else if n == 8 then Some Locate
     else if n == 10 then Some Get
     else if n == 11 then Some GetAttributes
     else if n == 18 then Some Activate

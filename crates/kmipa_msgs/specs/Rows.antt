@@ -3,8 +3,8 @@ use Rattle.std.specs.Prelude.{◌≡◌, false, List, [], Option, Ok, Err}
 use Rattle.kmipa_ttlv.specs.Tree.{Tree}
 use Rattle.kmipa_msgs.specs.declared.kind.OutsideKind.TheVariants.{Missing}
 use Rattle.kmipa_msgs.specs.declared.operation.Operation.{Operation}
-use Rattle.kmipa_msgs.specs.declared.operation.Operation.TheVariants.{Create, Register, Get, GetAttributes, Activate, Revoke, Destroy, Idle, Other}
-use Rattle.kmipa_msgs.specs.Messages.{AskedOf, creates, registers, gets, gets_attributes, activates, revokes, destroys, idles, does_other, PayloadOf, created, registered, got, got_attributes, changed}
+use Rattle.kmipa_msgs.specs.declared.operation.Operation.TheVariants.{Create, Register, Locate, Get, GetAttributes, Activate, Revoke, Destroy, Idle, Other}
+use Rattle.kmipa_msgs.specs.Messages.{AskedOf, creates, registers, locates, gets, gets_attributes, activates, revokes, destroys, idles, does_other, PayloadOf, created, registered, located, got, got_attributes, changed}
 use Rattle.kmipa_msgs.specs.Row.{Row}
 use Rattle.kmipa_msgs.specs.WrittenFields.{identifier_fields}
 use Rattle.kmipa_msgs.specs.Activates.{activate_row}
@@ -12,6 +12,7 @@ use Rattle.kmipa_msgs.specs.Creates.{create_fields, create_row}
 use Rattle.kmipa_msgs.specs.Destroys.{destroy_row}
 use Rattle.kmipa_msgs.specs.Gets.{got_fields, get_row}
 use Rattle.kmipa_msgs.specs.GetsAttributes.{get_attributes_fields, got_attributes_fields, get_attributes_row}
+use Rattle.kmipa_msgs.specs.Locates.{locate_fields, located_fields, locate_row}
 use Rattle.kmipa_msgs.specs.Registers.{register_fields, registered_fields, register_row}
 use Rattle.kmipa_msgs.specs.Revokes.{revoke_fields, revoke_row}
 
@@ -31,6 +32,7 @@ unread_row asked = record {
 abbrev pub row_of : Operation → Row
 row_of Create = create_row
 row_of Register = register_row
+row_of Locate = locate_row
 row_of Get = get_row
 row_of GetAttributes = get_attributes_row
 row_of Activate = activate_row
@@ -43,6 +45,7 @@ row_of (Other n) = unread_row (does_other n)
 abbrev pub asked_fields : AskedOf → List (Option Tree)
 asked_fields (creates a) = create_fields a
 asked_fields (registers r) = register_fields r
+asked_fields (locates q) = locate_fields q
 asked_fields (gets id) = identifier_fields id
 asked_fields (gets_attributes g) = get_attributes_fields g
 asked_fields (activates id) = identifier_fields id
@@ -54,6 +57,7 @@ asked_fields _ = []
 abbrev pub payload_fields : PayloadOf → List (Option Tree)
 payload_fields (created r) = registered_fields r
 payload_fields (registered r) = registered_fields r
+payload_fields (located ids) = located_fields ids
 payload_fields (got g) = got_fields g
 payload_fields (got_attributes g) = got_attributes_fields g
 payload_fields (changed id) = identifier_fields id

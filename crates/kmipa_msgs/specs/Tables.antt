@@ -68,3 +68,9 @@ abbrev pub unless_unlisted : {A K : Type 0} → Field ℕ → (ℕ → Option A)
 unless_unlisted Absent table off = Ok tt
 unless_unlisted Wrong table off = Ok tt
 unless_unlisted (There n) table off = known (table n) off
+
+-- of a field that may be absent, whose value isn't asked for
+abbrev pub unless_wrong : {A K : Type 0} → Field A → K → Result (Unit {0}) K
+unless_wrong Absent k = Ok tt
+unless_wrong Wrong k = Err k
+unless_wrong (There x) k = Ok tt

@@ -1,10 +1,11 @@
 -- The messages that are said by what is written of them: those that hold nothing of what is read over.
-use Rattle.std.specs.Prelude.{◌≡◌, false, All, Some, None}
+use Rattle.std.specs.Prelude.{◌≡◌, false, All, [], Some, None}
 use Rattle.kmipa_msgs.specs.declared.response.Status.TheVariants.{Undone}
-use Rattle.kmipa_msgs.specs.Messages.{AskedOf, idles, does_other, gets_attributes, RequestOf, PayloadOf, changed, AnswerOf, ResponseOf}
+use Rattle.kmipa_msgs.specs.Messages.{AskedOf, idles, does_other, locates, gets_attributes, RequestOf, PayloadOf, located, changed, AnswerOf, ResponseOf}
 
--- an operation whose payloads are read, and no Get Attributes with other items
+-- an operation whose payloads are read, no Locate of which something isn't judged, and no Get Attributes with other items
 abbrev pub IsWritableAsked : AskedOf → Type 0
+IsWritableAsked (locates q) = q.is_loose ≡ false
 IsWritableAsked (gets_attributes g) = g.has_others ≡ false
 IsWritableAsked (idles n) = ⊥
 IsWritableAsked (does_other n) = ⊥
@@ -15,6 +16,7 @@ IsWritable r = All (λ a. IsWritableAsked a.asked) r.items
 
 -- a payload that is written without children
 abbrev pub SaysNothing : PayloadOf → Type 0
+SaysNothing (located []) = Unit {0}
 SaysNothing (changed None) = Unit {0}
 SaysNothing _ = ⊥
 

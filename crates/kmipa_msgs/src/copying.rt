@@ -1,10 +1,10 @@
 //! Copies of responses, with the same lent identifiers and bytes.
 
-ghost use Rattle.std.specs.Prelude.{◌≡◌, IfOk};
+ghost use Rattle.std.specs.Prelude.{◌≡◌, IfOk, map};
 ghost use Rattle.std.specs.Option.{option_map};
-ghost use Rattle.kmipa_msgs.specs.Messages.{payload_of};
+ghost use Rattle.kmipa_msgs.specs.Messages.{lent, payload_of};
 
-use crate::response::{Answer, GotAttributes, Payload, Response};
+use crate::response::{Answer, GotAttributes, Located, Payload, Response};
 use std::alloc::{AllocError, Global};
 
 impl<'a> Response<'a> {
@@ -53,6 +53,9 @@ impl<'a> Payload<'a> {
         match self {
             Payload::Create(created) => Ok(Payload::Create(*created)),
             Payload::Register(registered) => Ok(Payload::Register(*registered)),
+            Payload::Locate(located) => Ok(Payload::Locate(Located {
+                ids: copy_ids(alloc, &located.ids)?,
+            })),
             Payload::Get(got) => Ok(Payload::Get(*got)),
             Payload::GetAttributes(got) => Ok(Payload::GetAttributes(GotAttributes {
                 id: got.id,
@@ -61,6 +64,17 @@ impl<'a> Payload<'a> {
             Payload::Change(changed) => Ok(Payload::Change(*changed)),
         }
     }
+}
+
+/// The same identifiers.
+fn copy_ids<'a>(alloc: Global, ids: &Vec<&'a str>) -> Result<Vec<&'a str>, AllocError>
+    ensures { IfOk result (λ copy. map lent copy.items ≡ map lent ids.now.items) }
+{
+    let mut copy = Vec::new(alloc);
+    for id in ids {
+        copy.push(*id)?;
+    }
+    Ok(copy)
 }
 
 fn copy_payload<'a>(

@@ -21,10 +21,12 @@ pub use laws::{one_payload, one_request, one_response};
 pub use operation::Operation;
 pub use reading::{read_payload, read_request, read_response};
 pub use request::{
-    Activate, Ask, Asked, BatchOption, Create, Destroy, Get, GetAttributes, Register, Request,
-    Revoke,
+    Activate, Ask, Asked, BatchOption, Create, Destroy, Get, GetAttributes, Locate, Register,
+    Request, Revoke,
 };
-pub use response::{Answer, Changed, Got, GotAttributes, Payload, Registered, Response, Status};
+pub use response::{
+    Answer, Changed, Got, GotAttributes, Located, Payload, Registered, Response, Status,
+};
 pub use rules::{Cause, Row, Rules};
 pub use wanted::is_wanted;
 pub use writing::{write_request, write_response};

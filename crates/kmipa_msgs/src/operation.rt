@@ -7,6 +7,7 @@ ghost use Rattle.std.specs.Prelude.{◌≡◌};
 pub enum Operation {
     Create,
     Register,
+    Locate,
     Get,
     GetAttributes,
     Activate,
@@ -31,6 +32,7 @@ impl Operation {
         match self {
             Operation::Create => 1,
             Operation::Register => 3,
+            Operation::Locate => 8,
             Operation::Get => 10,
             Operation::GetAttributes => 11,
             Operation::Activate => 18,
@@ -40,14 +42,14 @@ impl Operation {
         }
     }
 
-    /// The operation with this number. Locate is not read.
+    /// The operation with this number.
     pub fn of(number: u32) -> Option<Operation>
         ensures { result ≡ operation_of number }
     {
         match number {
             1 => Some(Operation::Create),
             3 => Some(Operation::Register),
-            8 => None,
+            8 => Some(Operation::Locate),
             10 => Some(Operation::Get),
             11 => Some(Operation::GetAttributes),
             18 => Some(Operation::Activate),
@@ -65,6 +67,7 @@ impl Operation {
         match self {
             Operation::Create
             | Operation::Register
+            | Operation::Locate
             | Operation::Get
             | Operation::GetAttributes
             | Operation::Activate
@@ -79,7 +82,8 @@ impl Operation {
         ensures { result ≡ may_be_bare self }
     {
         match self {
-            Operation::GetAttributes
+            Operation::Locate
+            | Operation::GetAttributes
             | Operation::Activate
             | Operation::Revoke
             | Operation::Destroy => true,
@@ -96,7 +100,7 @@ impl Operation {
         ensures { IsTrue result ↔ NeedsPayload self }
     {
         match self {
-            Operation::Create | Operation::Register => true,
+            Operation::Create | Operation::Register | Operation::Locate => true,
             Operation::Get
             | Operation::GetAttributes
             | Operation::Activate

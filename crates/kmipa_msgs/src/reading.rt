@@ -15,6 +15,7 @@ mod get_attributes;
 mod header;
 mod identifier;
 mod key_block;
+mod locate;
 mod object;
 mod operations;
 mod payload;

@@ -4,7 +4,7 @@ ghost use Rattle.std.specs.Prelude.{◌≡◌};
 
 use crate::key_block::KeyBlock;
 use crate::operation::Operation;
-use kmipa_attrs::{AttrSet, ObjectType};
+use kmipa_attrs::{AttrSet, Filter, ObjectType};
 
 /// Batch Error Continuation Option (KMIP 2.1, section 11): what a failed item means for the others.
 #[derive(Clone, Copy, Debug, PartialEq, Eq)]
@@ -60,6 +60,7 @@ pub struct Ask<'a> {
 pub enum Asked<'a> {
     Create(Create),
     Register(Register<'a>),
+    Locate(Locate),
     Get(Get<'a>),
     GetAttributes(GetAttributes<'a>),
     Activate(Activate<'a>),
@@ -86,6 +87,13 @@ pub struct Register<'a> {
     /// The attributes of the new object. An algorithm or a length that also stands in the key block is the same there.
     pub attributes: AttrSet,
     pub block: KeyBlock<'a>,
+}
+
+/// What a Locate asks for (KMIP 2.1, section 6.1).
+#[derive(Debug, Drop)]
+pub struct Locate {
+    /// What an object is to be, and how many may be listed.
+    pub filter: Filter,
 }
 
 /// What a Get asks for (KMIP 2.1, section 6.1).
@@ -142,6 +150,7 @@ impl<'a> Ask<'a> {
         match &self.asked {
             Asked::Create(_) => Operation::Create,
             Asked::Register(_) => Operation::Register,
+            Asked::Locate(_) => Operation::Locate,
             Asked::Get(_) => Operation::Get,
             Asked::GetAttributes(_) => Operation::GetAttributes,
             Asked::Activate(_) => Operation::Activate,

@@ -64,6 +64,7 @@ pub struct Answer<'a> {
 pub enum Payload<'a> {
     Create(Registered<'a>),
     Register(Registered<'a>),
+    Locate(Located<'a>),
     Get(Got<'a>),
     GetAttributes(GotAttributes<'a>),
     /// The answer of an Activate, a Revoke or a Destroy.
@@ -77,6 +78,13 @@ pub struct Registered<'a> {
     pub object_type: Option<u32>,
     /// Unique Identifier of the new object.
     pub id: &'a str,
+}
+
+/// The answer of a Locate.
+#[derive(Debug, Drop)]
+pub struct Located<'a> {
+    /// The Unique Identifiers that are listed, in their order.
+    pub ids: Vec<&'a str>,
 }
 
 /// The answer of a Get.

@@ -67,9 +67,7 @@ const ANSWERED_QUERY: [u8; 144] = [
     0,
 ];
 
-const BAD_REQUESTS: [Row; 29] = [
-    // Locate, which is not read yet
-    (&[(307, 0x08)], 3, OutsideKind::Operation),
+const BAD_REQUESTS: [Row; 28] = [
     // another Object Type of a Create
     (&[(131, 0x07)], 1, OutsideKind::ObjectType),
     // Object Type as an Integer, of a Create

@@ -16,6 +16,7 @@ use crate::reading::destroy::read_destroy;
 use crate::reading::get::{read_get, read_got};
 use crate::reading::get_attributes::{read_get_attributes, read_got_attributes};
 use crate::reading::identifier::read_changed;
+use crate::reading::locate::{read_locate, read_located};
 use crate::reading::register::{read_register, read_registered};
 use crate::reading::revoke::read_revoke;
 use crate::request::Asked;
@@ -34,6 +35,10 @@ pub fn read_asked<'a>(alloc: Global, operation: Operation, payload: &[View<'a>])
         },
         Operation::Register => match read_register(alloc, payload)? {
             Ok(register) => Ok(Ok(Asked::Register(register))),
+            Err(kind) => Ok(Err(kind)),
+        },
+        Operation::Locate => match read_locate(alloc, payload)? {
+            Ok(locate) => Ok(Ok(Asked::Locate(locate))),
             Err(kind) => Ok(Err(kind)),
         },
         Operation::Get => match read_get(payload) {
@@ -72,6 +77,10 @@ pub fn read_done<'a>(alloc: Global, operation: Operation, payload: &[View<'a>]) 
         },
         Operation::Register => match read_registered(payload) {
             Ok(registered) => Ok(Ok(Payload::Register(registered))),
+            Err(kind) => Ok(Err(kind)),
+        },
+        Operation::Locate => match read_located(alloc, payload)? {
+            Ok(located) => Ok(Ok(Payload::Locate(located))),
             Err(kind) => Ok(Err(kind)),
         },
         Operation::Get => match read_got(payload) {

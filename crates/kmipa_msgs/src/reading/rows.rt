@@ -3,9 +3,10 @@
 ghost use Rattle.std.specs.Prelude.{◌≡◌};
 ghost use Rattle.kmipa_ttlv.specs.ViewTree.{view_trees};
 ghost use Rattle.kmipa_attrs.specs.Fields.{first};
-ghost use Rattle.kmipa_msgs.specs.Tables.{of_table, unless_there, unless_absent};
+ghost use Rattle.kmipa_msgs.specs.Tables.{of_table, unless_there, unless_absent, unless_wrong};
 
 use crate::kind::OutsideKind;
+use kmipa_attrs::Field;
 use kmipa_attrs::fields::first;
 use kmipa_ttlv::View;
 
@@ -37,4 +38,14 @@ pub fn unless_absent(children: &[View], tag: u32, kind: OutsideKind) -> Result<(
         return Err(kind);
     }
     Ok(())
+}
+
+/// That a field isn't of another type than its own.
+pub fn unless_wrong<T: Copy>(field: Field<T>, kind: OutsideKind) -> Result<(), OutsideKind>
+    ensures { result ≡ unless_wrong field kind }
+{
+    match field {
+        Field::Wrong => Err(kind),
+        Field::Absent | Field::There(_) => Ok(()),
+    }
 }

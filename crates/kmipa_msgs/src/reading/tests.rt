@@ -71,7 +71,7 @@ const RESPONSE: [u8; 376] = [
 // Bytes of a message that are changed, and the item and the kind by which it is then outside.
 pub(super) type Row = (&'static [(usize, u8)], usize, OutsideKind);
 
-const BAD_REQUESTS: [Row; 45] = [
+const BAD_REQUESTS: [Row; 44] = [
     // another tag than the message's
     (&[(2, 0x7B)], 0, OutsideKind::NotAMessage),
     // no Request Header
@@ -98,8 +98,6 @@ const BAD_REQUESTS: [Row; 45] = [
     (&[(87, 0x00)], 0, OutsideKind::Unordered),
     // a Batch Item that is a Byte String
     (&[(107, 0x08)], 1, OutsideKind::Missing),
-    // Locate, which isn't read
-    (&[(123, 0x08)], 1, OutsideKind::Operation),
     // Operation as an Integer
     (&[(115, 0x02)], 1, OutsideKind::Missing),
     // a Request Payload that is a Byte String

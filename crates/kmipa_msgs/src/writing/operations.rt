@@ -12,6 +12,7 @@ use super::fields::Fields;
 use super::get::{write_get, write_got};
 use super::get_attributes::{write_get_attributes, write_got_attributes};
 use super::identifier::write_identifier;
+use super::locate::{write_locate, write_located};
 use super::register::{write_register, write_registered};
 use super::revoke::write_revoke;
 use crate::request::Asked;
@@ -27,6 +28,7 @@ pub(super) fn write_asked(alloc: Global, asked: &Asked) -> Result<Item, AllocErr
     match asked {
         Asked::Create(create) => write_create(alloc, create),
         Asked::Register(register) => write_register(alloc, register),
+        Asked::Locate(locate) => write_locate(alloc, locate),
         Asked::Get(get) => write_get(alloc, get),
         Asked::GetAttributes(get) => write_get_attributes(alloc, get),
         Asked::Revoke(revoke) => write_revoke(alloc, revoke),
@@ -42,6 +44,7 @@ pub(super) fn write_payload(alloc: Global, payload: &Payload) -> Result<Item, Al
 {
     match payload {
         Payload::Create(made) | Payload::Register(made) => write_registered(alloc, made),
+        Payload::Locate(located) => write_located(alloc, located),
         Payload::Get(got) => write_got(alloc, got),
         Payload::GetAttributes(got) => write_got_attributes(alloc, got),
         Payload::Change(changed) => write_identifier(alloc, RESPONSE_PAYLOAD, changed.id),

@@ -1,0 +1,126 @@
+//! Locate and its answer.
+
+ghost use Rattle.std.specs.Prelude.{◌≡◌, ◌==◌, IfOk, count_by};
+ghost use Rattle.std.specs.List.{list_any};
+ghost use Rattle.kmipa_ttlv.specs.ViewTree.{view_trees};
+ghost use Rattle.kmipa_attrs.specs.Fields.{at, as_structure};
+ghost use Rattle.kmipa_attrs.specs.Filters.{filter_of, filter_in, is_repeated};
+ghost use Rattle.kmipa_attrs.specs.Readings.{map_ok};
+ghost use Rattle.kmipa_attrs.specs.Tags.{attributes_tag};
+ghost use Rattle.kmipa_msgs.specs.Messages.{locate_of, located_of};
+ghost use Rattle.kmipa_msgs.specs.Tables.{unless_wrong};
+ghost use Rattle.kmipa_msgs.specs.Locates.{is_unknown, some_unknown, has_unknown, filter_kind, locate_in, located_in};
+
+use crate::kind::OutsideKind;
+use crate::reading::Read;
+use crate::reading::attributes::type_known;
+use crate::reading::rows::unless_wrong;
+use crate::request::Locate;
+use crate::response::Located;
+use kmipa_attrs::fields::{as_text, inside, integer_at, structure_at};
+use kmipa_attrs::tags::{ATTRIBUTES, MAXIMUM_ITEMS, UNIQUE_IDENTIFIER};
+use kmipa_attrs::{AttrFault, Field, Filter, both, read_filter_children};
+use kmipa_ttlv::View;
+use std::alloc::{AllocError, Global};
+
+/// What the children of a Locate's Request Payload ask for.
+pub fn read_locate(alloc: Global, payload: &[View]) -> Read<Locate>
+    ensures { IfOk result (λ r. map_ok locate_of r ≡ locate_in (view_trees payload.now)) }
+{
+    let given = inside(payload, ATTRIBUTES);
+    let maximum = integer_at(payload, MAXIMUM_ITEMS);
+    let count = unless_wrong(maximum, OutsideKind::Missing);
+    let shape = both(count, attributes_shape(payload));
+    let plain = both(shape, type_known(given));
+    let filter = sought(alloc, given, maximum.value(), has_unknown(payload))?;
+    match both(plain, filter) {
+        Ok((_, filter)) => Ok(Ok(Locate { filter })),
+        Err(kind) => Ok(Err(kind)),
+    }
+}
+
+/// That Attributes are a structure, where they are there.
+fn attributes_shape(payload: &[View]) -> Result<(), OutsideKind>
+    ensures { result ≡ unless_wrong (at as_structure attributes_tag (view_trees payload.now)) OutsideKind.Missing }
+{
+    match structure_at(payload, ATTRIBUTES) {
+        Field::Wrong => Err(OutsideKind::Missing),
+        _ => Ok(()),
+    }
+}
+
+/// The filter that the children of Attributes say beside a Maximum Items and whether there is an unknown item.
+fn sought(
+    alloc: Global,
+    attributes: &[View],
+    maximum: Option<i32>,
+    is_unknown: bool,
+) -> Read<Filter>
+    ensures { IfOk result (λ r. map_ok filter_of r ≡ filter_kind (filter_in maximum is_unknown (view_trees attributes.now))) }
+{
+    match read_filter_children(alloc, attributes, maximum, is_unknown) {
+        Ok(filter) => Ok(Ok(filter)),
+        Err(AttrFault::Memory) => Err(AllocError),
+        Err(_) => Ok(Err(OutsideKind::Attribute)),
+    }
+}
+
+/// Whether there is an item beside one Maximum Items and one Attributes.
+fn has_unknown(payload: &[View]) -> bool
+    ensures { result ≡ has_unknown (view_trees payload.now) }
+{
+    some_unknown(payload)
+        || (is_repeated(payload, MAXIMUM_ITEMS) || is_repeated(payload, ATTRIBUTES))
+}
+
+/// Whether a second child has the tag.
+fn is_repeated(payload: &[View], tag: u32) -> bool
+    ensures { result ≡ is_repeated tag (view_trees payload.now) }
+{
+    count(payload, tag) > 1
+}
+
+/// How many children have the tag.
+fn count(payload: &[View], tag: u32) -> usize
+    ensures { result ≡ count_by (λ v. v.tag.number == tag) payload.now }
+{
+    payload
+        .iter()
+        .filter(|child| child.tag.number == tag)
+        .count()
+}
+
+/// Whether some item is neither Maximum Items nor Attributes.
+fn some_unknown(payload: &[View]) -> bool
+    ensures { result ≡ some_unknown (view_trees payload.now) }
+{
+    any_unknown(payload)
+}
+
+fn any_unknown(payload: &[View]) -> bool
+    ensures { result ≡ list_any (λ v. is_unknown v.tag.number) payload.now }
+{
+    payload.iter().any(|child| is_unknown(child.tag.number))
+}
+
+fn is_unknown(tag: u32) -> bool
+    ensures { result ≡ is_unknown tag }
+{
+    !(tag == MAXIMUM_ITEMS || tag == ATTRIBUTES)
+}
+
+/// The identifiers that the children of a Locate's Response Payload list.
+pub fn read_located<'a>(alloc: Global, payload: &[View<'a>]) -> Read<Located<'a>>
+    ensures { IfOk result (λ r. map_ok located_of r ≡ located_in (view_trees payload.now)) }
+{
+    let mut ids = Vec::new(alloc);
+    for child in payload {
+        if child.tag.number == UNIQUE_IDENTIFIER {
+            let Some(id) = as_text(child) else {
+                return Ok(Err(OutsideKind::IdentifierForm));
+            };
+            ids.push(id)?;
+        }
+    }
+    Ok(Ok(Located { ids }))
+}
