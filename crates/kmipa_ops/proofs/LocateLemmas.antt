@@ -1,5 +1,5 @@
 -- Locate only looks: what is listed is right exactly where nothing speaks against it.
-use Rattle.std.proofs.Common.{◌↔◌, ◌⊎◌, inl, inr, zero, suc, slice_get, arith, [], ◌∷◌, ◌≡◌, ◌&&◌, ◌||◌, ◌==◌, ℕ, ℤ, Bool, true, false, not, is_none, is_some, bytes_eq, find, length, List, Option, Some, None, refl, ap, sym, ◌∙◌, subst, get_or}
+use Rattle.std.proofs.Common.{◌↔◌, inl, inr, zero, suc, slice_get, arith, [], ◌∷◌, ◌≡◌, ◌&&◌, ◌||◌, ◌==◌, ℕ, ℤ, Bool, true, false, not, is_some, bytes_eq, find, length, List, Option, Some, None, refl, ap, sym, ◌∙◌, subst, get_or}
 use Rattle.std.specs.List.{Contains, list_any}
 use Rattle.std.specs.Bool.{Decides}
 use Rattle.std.specs.Ordering.{int_eq}
@@ -11,13 +11,17 @@ use Rattle.kmipa_attrs.specs.ObjectTypes.{type_number}
 use Rattle.kmipa_object.specs.Inventory.{Card, live}
 use Rattle.kmipa_object.specs.Life.{state, state_number}
 use Rattle.kmipa_object.specs.declared.state.State.{State}
-use Rattle.kmipa_msgs.specs.Messages.{PayloadOf}
+use Rattle.kmipa_msgs.specs.Messages.{PayloadOf, located}
 use Rattle.kmipa_ops.specs.declared.why.Why.{Why}
 use Rattle.kmipa_ops.specs.declared.why.Why.TheVariants.{ListedWrongly, ListedTooFew}
 use Rattle.kmipa_ops.specs.Objects.{card_meant, is_other, clash}
 use Rattle.kmipa_ops.specs.GetAttributes.{has_stranger}
-use Rattle.kmipa_ops.specs.Locate.{FilterOf, May, Must, may_fit, is_doubtful, must_fit, has_repeat, is_over, is_full, fits_here, is_listed, is_unsure, lists_misfit, leaves_out, Lists, locate_speaks, locate_look, ListsAreDecided}
-use Rattle.kmipa_ops.proofs.TestLemmas.{or_cases, or_right, true_not, false_if, not_true, each_if, each_not, five_parts, five_cases, three_cases, not_false, echoes_if, echoes_not, agree_if, agree_not}
+use Rattle.kmipa_attrs.specs.Filters.{FilterOf}
+use Rattle.kmipa_ops.specs.declared.fit.Fit.{Fit}
+use Rattle.kmipa_ops.specs.declared.fit.Fit.TheVariants as fit
+use Rattle.kmipa_ops.specs.Listing.{may_of, must_of}
+use Rattle.kmipa_ops.specs.Locate.{IsFit, May, Must, says_no, seen_located, may_fit, is_doubtful, must_fit, has_repeat, is_over, is_full, fits_here, is_listed, is_unsure, lists_misfit, leaves_out, Lists, locate_speaks, locate_look, ListsAreDecided}
+use Rattle.kmipa_ops.proofs.TestLemmas.{or_cases, or_right, true_not, false_if, not_true, each_if, each_not, five_parts, five_cases, three_cases, echoes_if, echoes_not, agree_if, agree_not}
 use Rattle.kmipa_ops.proofs.NameLemmas.{strangers_if, strangers_not}
 use Rattle.kmipa_ops.proofs.DeedLaws.{outer_whys}
 use Rattle.kmipa_ops.proofs.LookLemmas.{IsLook}
@@ -207,16 +211,37 @@ quiet_locate cs t q (Some listed) = refl
 none_speaks : (cs : List Card) (t : ℤ) (q : FilterOf) (w : Why) → locate_speaks cs t q None w ≡ false
 none_speaks cs t q w = refl
 
-pub is_locate : (located : List (List ℕ) → PayloadOf) (seen_located : PayloadOf → Option (List (List ℕ)))
-    → ((x : List (List ℕ)) → seen_located (located x) ≡ Some x) → ((p : PayloadOf) (x : List (List ℕ)) → seen_located p ≡ Some x → p ≡ located x)
-    → (q : FilterOf) → IsLook (locate_look located seen_located q)
-is_locate located seen_located back one q = record {
-  back = back;
-  one = one;
+one_located : (p : PayloadOf) (x : List (List ℕ)) → seen_located p ≡ Some x → p ≡ located x
+one_located (located y) x e = let same : y ≡ x = cc in ap located same
+one_located p x e = let bad : ⊥ = cc in absurd bad
+
+pub is_locate : (q : FilterOf) → IsLook (locate_look q)
+is_locate q = record {
+  back = λ x. refl;
+  one = one_located;
   quiet = λ cs before t shown. quiet_locate cs t q shown;
   covers = λ cs before t x w h. let e = none_speaks cs t q w in let bad : true ≡ false = sym h ∙ e in cc;
-  right = λ cs before t x silent. right cs t q x (silent ListedWrongly) (silent ListedTooFew);
+  right = λ cs before t x silent. (lists_decide cs t q x).0 silent;
   wrong = λ cs before t x w h y. wrong cs t q x w h y;
   hidden = λ cs before t may silent. let bad : ⊥ = cc in absurd bad;
   keeps = λ before x may. let bad : ⊥ = cc in absurd bad;
 }
+
+-- HOW AN OBJECT FITS
+
+module _ (q : FilterOf) (s : State) (c : Card) where
+  pub fits_not : says_no q s c ≡ true → May q s c → ⊥
+  fits_not e m = true_not (may_fit q s c) ((may_decides q s c).1 m) (ap not e)
+
+  pub fits_may : says_no q s c ≡ false → is_doubtful q c ≡ true → May q s c × (Must q s c → ⊥)
+  fits_may e d = ((may_decides q s c).0 (ap not e), λ m. true_not (must_fit q s c) ((must_decides q s c).1 m) (ap (λ (b : Bool). may_fit q s c && not b) d ∙ and_off (may_fit q s c)))
+
+  pub fits_must : says_no q s c ≡ false → is_doubtful q c ≡ false → Must q s c
+  fits_must e d = (must_decides q s c).0 (and_from (may_fit q s c) (not (is_doubtful q c)) (ap not e) (ap not d))
+
+  pub fit_tells : (f : Fit) → IsFit q s c f → (may_fit q s c ≡ may_of f) × (must_fit q s c ≡ must_of f)
+  fit_tells fit.Must x = ((may_decides q s c).1 x.may, (must_decides q s c).1 x)
+  fit_tells fit.May x = ((may_decides q s c).1 x.0, false_if (must_fit q s c) (λ h. x.1 ((must_decides q s c).0 h)))
+  fit_tells fit.Not x =
+      let no : may_fit q s c ≡ false = false_if (may_fit q s c) (λ h. x ((may_decides q s c).0 h)) in
+      (no, ap (λ (b : Bool). b && not (is_doubtful q c)) no)

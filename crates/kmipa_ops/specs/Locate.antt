@@ -2,27 +2,20 @@
 use Rattle.std.specs.Prelude.{◌≡◌, ◌↔◌, ◌&&◌, ◌||◌, ◌==◌, ℕ, ℤ, pos, int_lt, Bool, true, false, not, is_some, is_none, IsSome, IsUtf8, All, bytes_eq, List, [], ◌∷◌, length, slice_get, Option, Some, None}
 use Rattle.std.specs.List.{Contains, list_any}
 use Rattle.std.specs.Ordering.{int_eq}
-use Rattle.kmipa_attrs.specs.Sets.{NameOf}
+use Rattle.kmipa_attrs.specs.Filters.{FilterOf}
 use Rattle.kmipa_attrs.specs.ObjectTypes.{type_number}
 use Rattle.kmipa_object.specs.Inventory.{Card, live}
 use Rattle.kmipa_object.specs.Life.{state, state_number}
 use Rattle.kmipa_object.specs.declared.state.State.{State}
-use Rattle.kmipa_msgs.specs.Messages.{PayloadOf}
+use Rattle.kmipa_msgs.specs.Messages.{PayloadOf, located}
+use Rattle.kmipa_ops.specs.declared.fit.Fit.{Fit}
+use Rattle.kmipa_ops.specs.declared.fit.Fit.TheVariants as fit
 use Rattle.kmipa_ops.specs.declared.why.Why.{Why}
 use Rattle.kmipa_ops.specs.declared.why.Why.TheVariants.{ListedWrongly, ListedTooFew}
 use Rattle.kmipa_ops.specs.Objects.{card_meant, Echoes, Agree, is_other, clash}
 use Rattle.kmipa_ops.specs.GetAttributes.{AreAmong, has_stranger}
-use Rattle.kmipa_ops.specs.Row.{on_nothing}
-use Rattle.kmipa_ops.specs.Looking.{Look}
-
-pub record FilterOf : Type 0 where
-  pub names : List NameOf
-  pub object_type : Option ℕ
-  pub state : Option ℕ
-  pub algorithm : Option ℕ
-  pub length : Option ℤ
-  pub maximum : Option ℤ
-  pub is_loose : Bool
+use Rattle.kmipa_ops.specs.Row.{Deed, on_nothing}
+use Rattle.kmipa_ops.specs.Looking.{Look, look_deed}
 
 -- WHICH OBJECTS FIT
 
@@ -41,6 +34,12 @@ pub record Must (q : FilterOf) (s : State) (c : Card) : Type 0 where
   pub strict : q.is_loose ≡ false
   pub algorithm : IsSome q.algorithm → IsSome c.given.algorithm
   pub length : IsSome q.length → IsSome c.given.length
+
+-- how an object fits: it must be listed, or it may, or it may not
+abbrev pub IsFit : FilterOf → State → Card → Fit → Type 0
+IsFit q s c fit.Must = Must q s c
+IsFit q s c fit.May = May q s c × (Must q s c → ⊥)
+IsFit q s c fit.Not = May q s c → ⊥
 
 -- WHAT A LIST OF THEM MUST BE
 
@@ -69,11 +68,15 @@ only (id ∷ other ∷ more) = None
 
 -- THE TESTS
 
-abbrev pub may_fit : FilterOf → State → Card → Bool
-may_fit q s c =
-    not (has_stranger c.given.names q.names || is_other (λ (x y : ℕ). x == y) q.object_type (type_number c.kind)
+-- a judged filter says no
+abbrev pub says_no : FilterOf → State → Card → Bool
+says_no q s c =
+    has_stranger c.given.names q.names || is_other (λ (x y : ℕ). x == y) q.object_type (type_number c.kind)
     || is_other (λ (x y : ℕ). x == y) q.state (state_number s)
-    || clash (λ (x y : ℕ). x == y) q.algorithm c.given.algorithm || clash int_eq q.length c.given.length)
+    || clash (λ (x y : ℕ). x == y) q.algorithm c.given.algorithm || clash int_eq q.length c.given.length
+
+abbrev pub may_fit : FilterOf → State → Card → Bool
+may_fit q s c = not (says_no q s c)
 
 -- a filter is there, and the object lacks what it asks for
 abbrev pub is_unsure : {A : Type 0} → Option A → Option A → Bool
@@ -121,9 +124,12 @@ abbrev pub names_only : Option (List ℕ) → Option (List (List ℕ)) → Optio
 names_only before None = before
 names_only before (Some listed) = only listed
 
--- `located` and `seen_located` are its constructor of PayloadOf, and the test for it
-abbrev pub locate_look : (List (List ℕ) → PayloadOf) → (PayloadOf → Option (List (List ℕ))) → FilterOf → Look
-locate_look located seen_located q = record {
+abbrev pub seen_located : PayloadOf → Option (List (List ℕ))
+seen_located (located listed) = Some listed
+seen_located payload = None
+
+abbrev pub locate_look : FilterOf → Look
+locate_look q = record {
   Shown = List (List ℕ);
   payload = located;
   seen = seen_located;
@@ -134,3 +140,6 @@ locate_look located seen_located q = record {
   speaks = λ cs before t shown why. locate_speaks cs t q shown why;
   holds = names_only;
 }
+
+abbrev pub locate_deed : FilterOf → Deed
+locate_deed q = look_deed (locate_look q)

@@ -40,26 +40,21 @@ impl<'a> Deed for Activate<'a> {
         ledger: &L,
         _rules: &Rules,
         placeholder: &Placeholder,
-        t: i64,
+        place: Option<usize>,
         payload: &Option<Payload>,
-    ) -> Option<Why> {
-        why_not_changed(
-            ledger,
-            placeholder.meant(self.id),
-            t,
-            Change::Activate,
-            id_shown(payload),
-        )
+    ) -> Result<Option<Why>, AllocError> {
+        let about = placeholder.meant(self.id);
+        Ok(why_not_changed(ledger, place, about, Change::Activate, id_shown(payload)))
     }
 
     fn leave<L: Ledger>(
         &self,
         _alloc: Global,
         ledger: &mut L,
-        placeholder: &mut Placeholder,
-        t: i64,
+        _placeholder: &mut Placeholder,
+        place: Option<usize>,
         _payload: &Option<Payload>,
     ) -> Result<(), AllocError> {
-        change_object(ledger, placeholder.meant(self.id), t, Change::Activate)
+        change_object(ledger, place, Change::Activate)
     }
 }

@@ -6,6 +6,7 @@ macro_rules! with_deed {
         match $asked {
             Asked::Create($deed) => $then,
             Asked::Register($deed) => $then,
+            Asked::Locate($deed) => $then,
             Asked::Get($deed) => $then,
             Asked::GetAttributes($deed) => $then,
             Asked::Activate($deed) => $then,
