@@ -1,5 +1,5 @@
 -- Activate, Revoke and Destroy: what a ledger leaves whose object was changed; they keep the laws of operations.
-use Rattle.std.proofs.Common.{◌≡◌, ◌≢◌, if◌then◌else◌, MatchResult, Result, Ok, Err, ℕ, zero, suc, ℤ, Bool, true, false, List, [], ◌∷◌, slice_get, is_none, bytes_eq, option_map, Option, Some, None, refl, ap, sym, ◌∙◌, subst, arith, find, inl}
+use Rattle.std.proofs.Common.{cond, find, ◌≡◌, ◌≢◌, if◌then◌else◌, MatchResult, Result, Ok, Err, ℕ, zero, suc, ℤ, Bool, true, false, List, [], ◌∷◌, slice_get, is_none, bytes_eq, option_map, Option, Some, None, refl, ap, sym, ◌∙◌, subst, arith, find, inl}
 use Rattle.std.proofs.lemmas.Slice.Eq.{bytes_eq-Decides}
 use Rattle.kmipa_object.specs.Inventory.{Thing, place_of}
 use Rattle.kmipa_object.specs.Life.{Dates, dates_of, state, is_active, compromises, or_now, deactivated_dates, revoked_dates}
@@ -23,11 +23,16 @@ use Rattle.kmipa_ops.specs.declared.change.Change.TheVariants.{Activate, Revoke,
 use Rattle.kmipa_ops.specs.declared.why.Why.{Why}
 use Rattle.kmipa_ops.specs.declared.why.Why.TheVariants.{NoSuchObject, WrongState, EchoDiffers}
 use Rattle.kmipa_ops.specs.Objects.{meant, is_other_id}
-use Rattle.kmipa_ops.specs.Changes.{act_of, dates_after, bytes_after, thing_after, ChangesObject, change_speaks, material_after, dates_left, material_left, held_left, changed_at, with_changed, seen_changed, id_in, change_deed}
+use Rattle.kmipa_ops.specs.Changes.{act_of, dates_after, bytes_after, thing_after, ChangesObject, change_speaks, material_after, dates_left, material_left, held_left, changed_at, with_changed, seen_changed, change_deed}
 use Rattle.kmipa_ops.specs.Meant.{place_meant, object_meant, is_not, is_excluded}
 use Rattle.kmipa_ops.proofs.TestLemmas.{not_none, echoes_if, echoes_not}
 use Rattle.kmipa_ops.proofs.StepLemmas.{Step, step_as}
+use Rattle.kmipa_object.specs.declared.state.State.{State}
+use Rattle.kmipa_store.specs.Queries.{state_of_place}
+use Rattle.kmipa_ops.specs.Whys.{whys}
+use Rattle.kmipa_ops.specs.After.{Changes, Leaves}
 use Rattle.kmipa_ops.proofs.GetLemmas.{meant_is, meant_at}
+use Rattle.kmipa_ops.proofs.MeantLemmas.{object_there, object_nowhere, in_state}
 use Rattle.kmipa_msgs.specs.Messages.{PayloadOf, changed}
 use Rattle.kmipa_ops.specs.Sayable.{IsSayableId}
 use Rattle.kmipa_ops.proofs.DeedLaws.{IsDeed}
@@ -104,11 +109,19 @@ is_not-Not May e = cc
 is_not-Not Not e = refl
 
 -- the calls of a ledger leave what a change leaves
-pub changed_is : (s u : LedgerState) (about : Option (List ℕ)) (place : ℕ) (h : Held) (change : Change) (t : ℤ) (life : Life) → Some place ≡ place_meant s.now.objects about → slice_get s.now.objects place ≡ Some h
-    → with_life h life ≡ held_left change t h → u ≡ replaced s place life → u ≡ now_changed s (with_changed s.now about t change)
-changed_is s u about place h change t life named at is put =
+pub changed_is : (s u : LedgerState) (o : Option ℕ) (place : ℕ) (h : Held) (change : Change) (t : ℤ) (life : Life) → o ≡ Some place → slice_get s.now.objects place ≡ Some h
+    → with_life h life ≡ held_left change t h → u ≡ replaced s place life
+    → u ≡ now_changed s (record { objects = changed_at s.now.objects o (held_left change t); secrets = s.now.secrets })
+changed_is s u o place h change t life here at is put =
     let C : List Held → LedgerState = λ hs. now_changed s (record { objects = hs; secrets = s.now.secrets }) in
-    put ∙ ap C (updated-agree s.now.objects place (λ g. with_life g life) (held_left change t) h at is) ∙ ap (λ (o : Option ℕ). C (changed_at s.now.objects o (held_left change t))) named
+    put ∙ ap C (updated-agree s.now.objects place (λ g. with_life g life) (held_left change t) h at is) ∙ ap (λ (x : Option ℕ). C (changed_at s.now.objects x (held_left change t))) (sym here)
+
+-- and an operation what it leaves of the object that is meant
+pub leaves_changed : {E : Type 0} (s u : LedgerState) (before id p : Option (List ℕ)) (o : Option ℕ) (t : ℤ) (change : Change) (r : Result (Unit {0}) E) → o ≡ place_meant s.now.objects (meant id before) → p ≡ before
+    → Changes s (record { objects = changed_at s.now.objects o (held_left change t); secrets = s.now.secrets }) r u → Leaves s (with_changed s.now (meant id before) t change) before r u p
+leaves_changed s u before id p o t change (Ok done) place held x =
+    (x ∙ ap (λ (y : Option ℕ). now_changed s (record { objects = changed_at s.now.objects y (held_left change t); secrets = s.now.secrets })) place, held)
+leaves_changed s u before id p o t change (Err e) place held x = x
 
 -- a life that is left
 pub life_is : (h : Held) (change : Change) (t u : ℤ) (life : Life) → u ≡ t → dates_of life ≡ dates_left change u h.card.dates → life.material ≡ material_left change u h.card.dates h.material
@@ -270,3 +283,25 @@ is_change id change = record {
   hidden = λ rules m before t may sound silent. hidden_change m before id t change sound silent;
   learns = λ m before t shown number bytes e. inl e;
 }
+
+-- AS THE PROGRAM LOOKS AT IT
+
+module _ (hs : List Held) (about : Option (List ℕ)) (t : ℤ) (change : Change) (shown : Option (List ℕ)) (o : Option ℕ) (place : o ≡ place_meant hs about) where
+  abbrev whys_behind : Option Held → Option Why
+  whys_behind x =
+      cond (is_none x) (Some NoSuchObject) (cond (is_excluded (act_of change) t x) (Some WrongState) (cond (is_other_id shown about) (Some EchoDiffers) None))
+
+  whys_of_change : find (change_speaks hs about t change shown) whys ≡ whys_behind (object_meant hs about)
+  whys_of_change = refl
+
+  pub change_absent : o ≡ None → Some NoSuchObject ≡ find (change_speaks hs about t change shown) whys
+  change_absent none = ap whys_behind (sym (object_nowhere hs about o none place))
+
+  pub change_there : (p : ℕ) (s : State) (excluded other : Bool) → o ≡ Some p → state_of_place hs p t ≡ Some s → is_not (allowed (act_of change) s) ≡ excluded → is_other_id shown about ≡ other
+      → cond excluded (Some WrongState) (cond other (Some EchoDiffers) None) ≡ find (change_speaks hs about t change shown) whys
+  change_there p s excluded other here is out echo =
+      let x = in_state hs p t s is in
+      let rest : Option Why = cond (is_other_id shown about) (Some EchoDiffers) None in
+      ap (λ (b : Bool). cond excluded (Some WrongState) (cond b (Some EchoDiffers) None)) (sym echo)
+      ∙ ap (λ (b : Bool). cond b (Some WrongState) rest) (sym out ∙ ap (λ (z : State). is_not (allowed (act_of change) z)) (sym x.2))
+      ∙ ap whys_behind (sym (object_there hs about o p x.0 here place x.1))

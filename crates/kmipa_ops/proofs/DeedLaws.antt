@@ -1,5 +1,5 @@
 -- What each operation proves of itself.
-use Rattle.std.proofs.Common.{◌≡◌, ◌⊎◌, ℕ, ℤ, Bool, true, false, List, [], ◌∷◌, find, Option, Some, None, option_map}
+use Rattle.std.proofs.Common.{◌≡◌, ◌⊎◌, ℕ, ℤ, true, false, List, [], ◌∷◌, find, Option, Some, None, option_map}
 use Rattle.kmipa_object.specs.Inventory.{Thing}
 use Rattle.kmipa_store.specs.Ledger.{Meaning, bytes_at}
 use Rattle.kmipa_store.specs.Choices.{Choice, Chooses, inv, IsSound}

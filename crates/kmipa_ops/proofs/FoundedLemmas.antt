@@ -1,23 +1,21 @@
 -- A reason passes the test exactly where it is founded.
 use Rattle.std.proofs.Common.{◌≡◌, ◌≢◌, ◌&&◌, ◌||◌, ◌==◌, ◌⊎◌, ℕ, ℤ, Bool, true, false, not, is_none, List, Option, Some, None, refl, ap, sym, ◌∙◌, inl, inr}
 use Rattle.std.specs.Bool.{Decides}
-use Rattle.std.specs.List.{Contains, list_any}
 use Rattle.std.proofs.lemmas.Bool.{and_parts, and_from}
 use Rattle.std.proofs.lemmas.Bool.Decides.{Decides-eqb}
-use Rattle.kmipa_attrs.specs.Sets.{NameOf}
 use Rattle.kmipa_object.specs.Inventory.{Card, live}
 use Rattle.kmipa_object.specs.Life.{state}
 use Rattle.kmipa_object.specs.Table.{allowed}
 use Rattle.kmipa_object.specs.declared.allow.Act.{Act}
 use Rattle.kmipa_object.specs.declared.allow.Allow.{Allow}
 use Rattle.kmipa_object.specs.declared.allow.Allow.TheVariants.{Must, May, Not}
-use Rattle.kmipa_msgs.specs.Messages.{RulesOf, RowOf, AskedOf}
+use Rattle.kmipa_msgs.specs.Messages.{RulesOf, RowOf}
 use Rattle.kmipa_msgs.specs.declared.rules.Cause.{Cause}
 use Rattle.kmipa_msgs.specs.declared.rules.Cause.TheVariants.{WrongState, NotFound, TakenName}
-use Rattle.kmipa_ops.specs.Objects.{meant, card_meant, is_named, any_named, HasNameOf}
+use Rattle.kmipa_ops.specs.Objects.{meant, card_meant}
 use Rattle.kmipa_ops.specs.Row.{row_subject, SubjectOf, on_object, on_names, on_nothing}
 use Rattle.kmipa_ops.specs.Rows.{row_of}
-use Rattle.kmipa_ops.specs.Founded.{IsNotFound, IsInWrongState, IsNameTaken, Holds, IsOfNothing, FoundedOf, Founded, FoundedIsDecided, is_live_there, is_must, is_refusable, holds_of, is_of_nothing, has_row, has_cause, founded_of, founded}
+use Rattle.kmipa_ops.specs.Founded.{Holds, IsOfNothing, FoundedOf, FoundedIsDecided, is_live_there, is_must, is_refusable, holds_of, is_of_nothing, has_row, has_cause, founded_of}
 use Rattle.kmipa_ops.specs.Founded.FoundedOf.{unsaid, unlisted, of_nothing, caused}
 use Rattle.kmipa_ops.proofs.TestLemmas.{some_if, some_not, false_if, true_not}
 use Rattle.kmipa_ops.proofs.NameLemmas.{any_named-Decides}

@@ -1,15 +1,12 @@
 -- Get Attributes: the reasons speak exactly where the answer isn't possible, of inventories and of ledgers; it keeps the laws of operations.
-use Rattle.std.proofs.Common.{◌≡◌, ◌&&◌, ◌||◌, ◌==◌, ℕ, ℤ, Bool, true, false, not, List, slice_get, get_or, is_none, is_some, bytes_eq, option_map, Option, Some, None, refl, ap, sym, ◌∙◌, subst, IfSome, IsUtf8, find, inl, cond, map}
-use Rattle.std.specs.Bool.{Decides}
-use Rattle.std.specs.List.{Contains, list_any}
+use Rattle.std.proofs.Common.{◌≡◌, ◌&&◌, ◌||◌, ◌==◌, ℕ, ℤ, Bool, true, false, not, List, slice_get, is_none, is_some, bytes_eq, option_map, Option, Some, None, refl, ap, sym, ◌∙◌, subst, IfSome, IsUtf8, find, inl, cond}
 use Rattle.std.specs.Option.{option_and_then}
 use Rattle.std.specs.Ordering.{int_eq}
-use Rattle.std.proofs.lemmas.Bool.{and_parts, and_from, or_parts, not-true}
+use Rattle.std.proofs.lemmas.Bool.{and_parts, or_parts, not-true}
 use Rattle.std.proofs.lemmas.Bool.Decides.{Decides-eqb, Decides-int_eq}
-use Rattle.std.proofs.lemmas.List.Folds.{Any-from_list_any, list_any_at}
 use Rattle.std.proofs.lemmas.Option.{slice_get-map}
 use Rattle.std.proofs.lemmas.Slice.Eq.{bytes_eq-Decides}
-use Rattle.kmipa_attrs.specs.Sets.{NameOf, Attributes, name_of}
+use Rattle.kmipa_attrs.specs.Sets.{Attributes}
 use Rattle.kmipa_attrs.specs.ObjectTypes.{type_number}
 use Rattle.kmipa_object.specs.Inventory.{Card, Thing, cards, place_of, live}
 use Rattle.kmipa_object.specs.Life.{state, state_number}
@@ -20,16 +17,17 @@ use Rattle.kmipa_msgs.specs.Messages.{GetAttributesOf, GotAttributesOf, PayloadO
 use Rattle.kmipa_ops.specs.declared.judged.Judged.TheVariants.{Name, ObjectType, CryptographicAlgorithm, CryptographicLength, CryptographicUsageMask, State, InitialDate, ActivationDate, DeactivationDate, DestroyDate, CompromiseDate}
 use Rattle.kmipa_ops.specs.declared.why.Why.{Why}
 use Rattle.kmipa_ops.specs.declared.why.Why.TheVariants.{NoSuchObject, AttributeDiffers, AttributeMissing, EchoDiffers}
-use Rattle.kmipa_ops.specs.Objects.{meant, HasObject, card_meant, Agree, is_other_id, clash, same_name}
-use Rattle.kmipa_ops.specs.GetAttributes.{AreAmong, IsHad, IsOwnAt, ShowsAsked, HasRequired, GetsAttributes, has_stranger, is_foreign_date, asks_for, leaves_out, shows_other_value, shows_other_date, shows_foreign, shows_foreign_of, lacks_name, lacks_value, lacks_date, lacks_asked, lacks_required, lacks_required_of, get_attributes_speaks, SaysAttributes, seen_attributes, get_attributes_deed, attributes_speak}
-use Rattle.kmipa_ops.proofs.NameLemmas.{strangers_if, strangers_not, stranger_is}
+use Rattle.kmipa_ops.specs.Objects.{meant, HasObject, card_meant, Agree, is_other_id, clash}
+use Rattle.kmipa_ops.specs.GetAttributes.{IsHad, IsOwnAt, ShowsAsked, HasRequired, GetsAttributes, has_stranger, is_foreign_date, asks_for, leaves_out, shows_other_value, shows_other_date, shows_foreign, shows_foreign_of, lacks_name, lacks_value, lacks_date, lacks_asked, lacks_required, lacks_required_of, get_attributes_speaks, SaysAttributes, seen_attributes, get_attributes_deed, attributes_speak}
+use Rattle.kmipa_ops.proofs.NameLemmas.{strangers_if, strangers_not}
 use Rattle.kmipa_ops.proofs.TestLemmas.{five_parts, five_cases, three_cases, not_false, not_none, echoes_if, echoes_not, agree_if, agree_not}
 use Rattle.kmipa_ops.proofs.StepLemmas.{Step, still_step}
 use Rattle.kmipa_ops.proofs.DeedLaws.{outer_whys, IsDeed}
 use Rattle.kmipa_ops.specs.Whys.{whys}
-use Rattle.kmipa_ops.specs.Meant.{object_meant}
-use Rattle.kmipa_ops.proofs.MeantLemmas.{card_meant_is}
-use Rattle.kmipa_ops.proofs.ScanLemmas.{any_map, any_same}
+use Rattle.kmipa_object.specs.declared.state.State.{State as StateOf}
+use Rattle.kmipa_store.specs.Queries.{state_of_place}
+use Rattle.kmipa_ops.specs.Meant.{place_meant, object_meant}
+use Rattle.kmipa_ops.proofs.MeantLemmas.{card_meant_is, object_there, object_nowhere, state_there}
 
 -- asked for, there, and not shown
 out_if : (asked own shown : Bool) → (asked && own && not shown) ≡ false → asked ≡ true → own ≡ true → shown ≡ true
@@ -68,10 +66,10 @@ had_not (Some x) (Some y) h e =
     let f : not (int_eq x y) ≡ false = ap not ((Decides-int_eq x y).1 (sym same)) in
     cc
 
-own_if : (c : Card) (t : ℤ) (s : Attributes) → shows_foreign c t s ≡ false → IsOwnAt c t s
+own_if : (c : Card) (t : ℤ) (s : Attributes) → shows_foreign c (state c.dates t) s ≡ false → IsOwnAt c t s
 own_if c t s h =
-    let w = or_parts (has_stranger c.given.names s.names || shows_other_value c t s) (shows_other_date c.dates s) h in
-    let n = or_parts (has_stranger c.given.names s.names) (shows_other_value c t s) w.0 in
+    let w = or_parts (has_stranger c.given.names s.names || shows_other_value c (state c.dates t) s) (shows_other_date c.dates s) h in
+    let n = or_parts (has_stranger c.given.names s.names) (shows_other_value c (state c.dates t) s) w.0 in
     let v = five_parts _ _ _ _ (clash int_eq s.mask c.given.mask) n.1 in
     let d = five_parts _ _ _ _ (is_foreign_date s.compromise c.dates.compromise) w.1 in
     record {
@@ -88,7 +86,7 @@ own_if c t s h =
       compromise = had_if s.compromise c.dates.compromise d.4;
     }
 
-value_not : (c : Card) (t : ℤ) (s : Attributes) → IsOwnAt c t s → shows_other_value c t s ≡ true → ⊥
+value_not : (c : Card) (t : ℤ) (s : Attributes) → IsOwnAt c t s → shows_other_value c (state c.dates t) s ≡ true → ⊥
 value_not c t s own h =
     five_cases _ _ _ _ (clash int_eq s.mask c.given.mask) h
     (λ q. echoes_not (λ (i j : ℕ). i == j) Decides-eqb s.object_type (type_number c.kind) q own.object_type)
@@ -106,9 +104,9 @@ date_not c t s own h =
     (λ q. had_not s.destroy c.dates.destroy q own.destroy)
     (λ q. had_not s.compromise c.dates.compromise q own.compromise)
 
-own_not : (c : Card) (t : ℤ) (s : Attributes) → shows_foreign c t s ≡ true → IsOwnAt c t s → ⊥
+own_not : (c : Card) (t : ℤ) (s : Attributes) → shows_foreign c (state c.dates t) s ≡ true → IsOwnAt c t s → ⊥
 own_not c t s h own =
-    three_cases (has_stranger c.given.names s.names) (shows_other_value c t s) (shows_other_date c.dates s) h
+    three_cases (has_stranger c.given.names s.names) (shows_other_value c (state c.dates t) s) (shows_other_date c.dates s) h
     (λ q. strangers_not c.given.names s.names q own.names) (value_not c t s own) (date_not c t s own)
 
 -- WHAT IS REQUIRED
@@ -381,13 +379,30 @@ module _ (hs : List Held) (about : Option (List ℕ)) (t : ℤ) (g : GetAttribut
   meant_card : Some h ≡ object_meant hs about → Some h.card ≡ card_meant (cards_of hs) about
   meant_card e = ap (option_map (λ (x : Held). x.card)) e ∙ sym (card_meant_is hs about)
 
-  whys_there : (shown : Option GotAttributesOf) → Some h ≡ object_meant hs about → attributes_speak h.card about t g shown ≡ find (get_attributes_speaks (cards_of hs) about t g shown) whys
+  whys_there : (shown : Option GotAttributesOf) → Some h ≡ object_meant hs about → attributes_speak h.card (state h.card.dates t) about g shown ≡ find (get_attributes_speaks (cards_of hs) about t g shown) whys
   whys_there None e = ap (λ (o : Option Card). cond (is_none o) (Some NoSuchObject) None) (meant_card e)
   whys_there (Some a) e =
       ap (λ (o : Option Card). cond (is_none o) (Some NoSuchObject)
       (cond (shows_foreign_of o t a.attributes) (Some AttributeDiffers)
       (cond (lacks_required_of g o a.attributes) (Some AttributeMissing) (cond (is_other_id a.id about) (Some EchoDiffers) None)))) (meant_card e)
 
-  pub why_there : (shown : Option GotAttributesOf) (u : ℤ) (why : Option Why) → Some h ≡ object_meant hs about → u ≡ t → why ≡ attributes_speak h.card about u g shown
-      → why ≡ find (get_attributes_speaks (cards_of hs) about t g shown) whys
-  why_there shown u why e is w = w ∙ ap (λ (x : ℤ). attributes_speak h.card about x g shown) is ∙ whys_there shown e
+  -- the program's answer, of the object at the place that is meant
+  pub why_there : (p : ℕ) (o : Option ℕ) (shown : Option GotAttributesOf) (s : StateOf) (why : Option Why) → o ≡ Some p → o ≡ place_meant hs about → slice_get hs p ≡ Some h → state_of_place hs p t ≡ Some s
+      → why ≡ attributes_speak h.card s about g shown → why ≡ find (get_attributes_speaks (cards_of hs) about t g shown) whys
+  why_there p o shown s why here place at is w =
+      w ∙ ap (λ (x : StateOf). attributes_speak h.card x about g shown) (sym (state_there hs p t s h at is)) ∙ whys_there shown (sym (object_there hs about o p h here place at))
+
+-- where there is no object
+nowhere : (hs : List Held) (about : Option (List ℕ)) (t : ℤ) (g : GetAttributesOf) (shown : Option GotAttributesOf) → card_meant (cards_of hs) about ≡ None
+    → Some NoSuchObject ≡ find (get_attributes_speaks (cards_of hs) about t g shown) whys
+nowhere hs about t g None absent = ap (λ (o : Option Card). cond (is_none o) (Some NoSuchObject) None) (sym absent)
+nowhere hs about t g (Some a) absent =
+    ap (λ (o : Option Card). cond (is_none o) (Some NoSuchObject)
+    (cond (shows_foreign_of o t a.attributes) (Some AttributeDiffers)
+    (cond (lacks_required_of g o a.attributes) (Some AttributeMissing) (cond (is_other_id a.id about) (Some EchoDiffers) None)))) (sym absent)
+
+pub why_nowhere : (hs : List Held) (about : Option (List ℕ)) (t : ℤ) (g : GetAttributesOf) (o : Option ℕ) (shown : Option GotAttributesOf) → o ≡ None → o ≡ place_meant hs about
+    → Some NoSuchObject ≡ find (get_attributes_speaks (cards_of hs) about t g shown) whys
+why_nowhere hs about t g o shown none place =
+    let absent : card_meant (cards_of hs) about ≡ None = card_meant_is hs about ∙ ap (option_map (λ (x : Held). x.card)) (object_nowhere hs about o none place) in
+    nowhere hs about t g shown absent

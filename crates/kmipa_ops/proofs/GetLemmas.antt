@@ -1,5 +1,5 @@
 -- Get: where nothing speaks against it the ledger goes on, and what speaks against it allows no choice; it keeps the laws of operations.
-use Rattle.std.proofs.Common.{◌≡◌, ◌&&◌, ◌==◌, ◌<◌, ℕ, ℤ, Bool, true, false, not, List, length, slice_get, All, is_none, bytes_eq, option_map, Option, Some, None, refl, ap, sym, ◌∙◌, subst, inl, inr, arith, ◌||◌, ◌⊎◌, find}
+use Rattle.std.proofs.Common.{◌≡◌, ◌&&◌, ◌==◌, ◌<◌, ℕ, ℤ, Bool, true, false, not, List, length, slice_get, All, is_none, bytes_eq, option_map, Option, Some, None, refl, ap, sym, ◌∙◌, subst, inl, inr, arith, ◌||◌, find}
 use Rattle.std.specs.Ordering.{int_eq}
 use Rattle.std.specs.Option.{option_and_then}
 use Rattle.std.specs.Prelude.{if◌then◌else◌}
@@ -16,13 +16,13 @@ use Rattle.kmipa_object.specs.declared.state.State.TheVariants.{PreActive, Activ
 use Rattle.kmipa_object.specs.declared.life.Material.{Material}
 use Rattle.kmipa_object.specs.declared.life.Material.TheVariants.{Gone, Secret}
 use Rattle.kmipa_object.specs.declared.life.SecretNo.{SecretNo}
-use Rattle.kmipa_store.specs.Ledger.{Held, Known, Meaning, cards_of, told, bytes_at}
+use Rattle.kmipa_store.specs.Ledger.{Held, Known, Meaning, cards_of, told}
 use Rattle.kmipa_store.specs.Calls.{differs, differs_from, breaks}
 use Rattle.kmipa_store.specs.Choices.{Choice, Suits, Chooses, inv, thing, bytes_of, IsSound, GoneIfDestroyed}
 use Rattle.kmipa_store.proofs.ChoiceLemmas.{override, override_same, agrees_same, Chooses-told, told_bytes, Chooses-override, extends_told, length-told}
 use Rattle.kmipa_store.proofs.InventoryLemmas.{cards-inv, get-inv}
 use Rattle.kmipa_store.proofs.SoundLemmas.{inv_found, InRange-extends}
-use Rattle.kmipa_msgs.specs.Messages.{GotOf, RulesOf, PayloadOf, got}
+use Rattle.kmipa_msgs.specs.Messages.{GotOf, PayloadOf, got}
 use Rattle.kmipa_ops.specs.declared.why.Why.{Why}
 use Rattle.kmipa_ops.specs.declared.why.Why.TheVariants.{NoSuchObject, WrongState, BytesDiffer, LengthImpossible, AttributeDiffers, EchoDiffers}
 use Rattle.kmipa_ops.specs.Objects.{meant, Echoes, Agree, is_other, clash, same_type, is_other_id}

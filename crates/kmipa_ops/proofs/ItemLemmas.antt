@@ -1,5 +1,5 @@
 -- One item of a batch, whatever its operation: where nothing speaks against it the ledger goes on, and what speaks against it allows no choice.
-use Rattle.std.proofs.Common.{◌≡◌, ◌||◌, ◌==◌, ◌⊎◌, ℕ, ℤ, Bool, true, false, not, List, bytes_eq, is_some, option_map, MatchOption, Option, Some, None, refl, ap, sym, ◌∙◌, subst, inl, inr}
+use Rattle.std.proofs.Common.{◌≡◌, ◌||◌, ◌==◌, ℕ, ℤ, Bool, true, false, not, List, bytes_eq, is_some, option_map, MatchOption, Option, Some, None, refl, ap, sym, ◌∙◌, subst, inl, inr}
 use Rattle.std.proofs.lemmas.Bool.{or_parts}
 use Rattle.std.proofs.lemmas.Bool.Decides.{Decides-eqb}
 use Rattle.std.proofs.lemmas.Slice.Eq.{bytes_eq-Decides}
@@ -18,7 +18,7 @@ use Rattle.kmipa_ops.specs.Row.{Deed, Row, deed, idle, unknown, seen_in, row_doe
 use Rattle.kmipa_ops.specs.Rows.{row_of}
 use Rattle.kmipa_ops.specs.Founded.{founded}
 use Rattle.kmipa_ops.specs.Does.{Fails, Outcome}
-use Rattle.kmipa_ops.specs.Completes.{IsFill, FillsRow, Fills, DoesSome, is_idle, can_judge}
+use Rattle.kmipa_ops.specs.Completes.{IsFill, FillsRow, Fills, DoesSome, can_judge}
 use Rattle.kmipa_ops.specs.Blame.{outcome_speaks, frame_speaks, speaks, lowest}
 use Rattle.kmipa_ops.specs.After.{after, placeholder_after}
 use Rattle.kmipa_ops.specs.Explains.{brings, shows, AreBytes, TellsBytes, is_readable}

@@ -1,5 +1,5 @@
 -- What is known after bytes were told.
-use Rattle.std.proofs.Common.{◌≡◌, ◌⊎◌, ℕ, zero, suc, List, [], ◌∷◌, slice_get, option_map, Option, Some, None, refl, ap, sym, ◌∙◌, inl, inr}
+use Rattle.std.proofs.Common.{◌≡◌, ◌⊎◌, ℕ, zero, suc, List, [], ◌∷◌, slice_get, option_map, Option, Some, None, refl, ap, inl, inr}
 use Rattle.kmipa_store.specs.Ledger.{Known, told}
 
 pub known_at : (o : Option Known) (bytes : List ℕ) → option_map (λ (k : Known). k.bytes) o ≡ Some (Some bytes) → (k : Known) × (o ≡ Some k) × (k.bytes ≡ Some bytes)

@@ -11,6 +11,8 @@ mod GetLemmas
 mod ChangeLemmas
 mod MeantLemmas
 mod GetAttributesLemmas
+mod LookLemmas
+mod LocateLemmas
 mod RowLemmas
 mod LowestLemmas
 mod FoundedLemmas
@@ -18,5 +20,4 @@ mod ItemLemmas
 pub mod ExplainLemmas
 mod TakenLemmas
 mod OneInventoryLemmas
-mod LookLemmas
-mod LocateLemmas
+mod ListingLemmas

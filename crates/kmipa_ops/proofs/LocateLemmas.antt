@@ -1,5 +1,5 @@
 -- Locate only looks: what is listed is right exactly where nothing speaks against it.
-use Rattle.std.proofs.Common.{◌≡◌, ◌&&◌, ◌||◌, ◌==◌, ℕ, ℤ, Bool, true, false, not, is_none, is_some, bytes_eq, find, length, List, Option, Some, None, refl, ap, sym, ◌∙◌, subst, get_or}
+use Rattle.std.proofs.Common.{◌↔◌, inl, inr, zero, suc, slice_get, arith, [], ◌∷◌, ◌≡◌, ◌&&◌, ◌||◌, ◌==◌, ℕ, ℤ, Bool, true, false, not, is_some, bytes_eq, find, length, List, Option, Some, None, refl, ap, sym, ◌∙◌, subst, get_or}
 use Rattle.std.specs.List.{Contains, list_any}
 use Rattle.std.specs.Bool.{Decides}
 use Rattle.std.specs.Ordering.{int_eq}
@@ -10,38 +10,51 @@ use Rattle.std.proofs.lemmas.Slice.Eq.{bytes_eq-Decides}
 use Rattle.kmipa_attrs.specs.ObjectTypes.{type_number}
 use Rattle.kmipa_object.specs.Inventory.{Card, live}
 use Rattle.kmipa_object.specs.Life.{state, state_number}
-use Rattle.kmipa_msgs.specs.Messages.{PayloadOf}
+use Rattle.kmipa_object.specs.declared.state.State.{State}
+use Rattle.kmipa_msgs.specs.Messages.{PayloadOf, located}
 use Rattle.kmipa_ops.specs.declared.why.Why.{Why}
 use Rattle.kmipa_ops.specs.declared.why.Why.TheVariants.{ListedWrongly, ListedTooFew}
 use Rattle.kmipa_ops.specs.Objects.{card_meant, is_other, clash}
 use Rattle.kmipa_ops.specs.GetAttributes.{has_stranger}
-use Rattle.kmipa_ops.specs.Locate.{FilterOf, May, Must, may_fit, is_doubtful, must_fit, has_repeat, is_over, is_full, IsFitting, fits_here, is_listed, Lists, locate_speaks, locate_look}
-use Rattle.kmipa_ops.proofs.TestLemmas.{false_if, not_true, each_if, each_not, five_parts, five_cases, three_cases, not_false, echoes_if, echoes_not, agree_if, agree_not}
+use Rattle.kmipa_attrs.specs.Filters.{FilterOf}
+use Rattle.kmipa_ops.specs.declared.fit.Fit.{Fit}
+use Rattle.kmipa_ops.specs.declared.fit.Fit.TheVariants as fit
+use Rattle.kmipa_ops.specs.Listing.{may_of, must_of}
+use Rattle.kmipa_ops.specs.Locate.{IsFit, May, Must, says_no, seen_located, may_fit, is_doubtful, must_fit, has_repeat, is_over, is_full, fits_here, is_listed, is_unsure, lists_misfit, leaves_out, Lists, locate_speaks, locate_look, ListsAreDecided}
+use Rattle.kmipa_ops.proofs.TestLemmas.{or_cases, or_right, true_not, false_if, not_true, each_if, each_not, five_parts, five_cases, three_cases, echoes_if, echoes_not, agree_if, agree_not}
 use Rattle.kmipa_ops.proofs.NameLemmas.{strangers_if, strangers_not}
 use Rattle.kmipa_ops.proofs.DeedLaws.{outer_whys}
 use Rattle.kmipa_ops.proofs.LookLemmas.{IsLook}
 
-may_decides : (q : FilterOf) (t : ℤ) (c : Card) → Decides (may_fit q t c) (May q t c)
-may_decides q t c = (
+and_true : (b : Bool) → (b && true) ≡ b
+and_true true = refl
+and_true false = refl
+
+and_off : (b : Bool) → (b && false) ≡ false
+and_off true = refl
+and_off false = refl
+
+pub may_decides : (q : FilterOf) (s : State) (c : Card) → Decides (may_fit q s c) (May q s c)
+may_decides q s c = (
   λ h.
-      let w = five_parts (has_stranger c.given.names q.names) (is_other (λ (x y : ℕ). x == y) q.object_type (type_number c.kind)) (is_other (λ (x y : ℕ). x == y) q.state (state_number (state c.dates t)))
+      let w = five_parts (has_stranger c.given.names q.names) (is_other (λ (x y : ℕ). x == y) q.object_type (type_number c.kind)) (is_other (λ (x y : ℕ). x == y) q.state (state_number s))
       (clash (λ (x y : ℕ). x == y) q.algorithm c.given.algorithm) (clash int_eq q.length c.given.length) (not_true _ h) in
       record {
         names = strangers_if c.given.names q.names w.0;
         object_type = echoes_if (λ (x y : ℕ). x == y) Decides-eqb q.object_type (type_number c.kind) w.1;
-        state = echoes_if (λ (x y : ℕ). x == y) Decides-eqb q.state (state_number (state c.dates t)) w.2;
+        state = echoes_if (λ (x y : ℕ). x == y) Decides-eqb q.state (state_number s) w.2;
         algorithm = agree_if (λ (x y : ℕ). x == y) Decides-eqb q.algorithm c.given.algorithm w.3;
         length = agree_if int_eq Decides-int_eq q.length c.given.length w.4;
       },
   λ m.
       ap not (false_if (has_stranger c.given.names q.names || is_other (λ (x y : ℕ). x == y) q.object_type (type_number c.kind)
-      || is_other (λ (x y : ℕ). x == y) q.state (state_number (state c.dates t))
+      || is_other (λ (x y : ℕ). x == y) q.state (state_number s)
       || clash (λ (x y : ℕ). x == y) q.algorithm c.given.algorithm || clash int_eq q.length c.given.length) (λ h.
-      five_cases (has_stranger c.given.names q.names) (is_other (λ (x y : ℕ). x == y) q.object_type (type_number c.kind)) (is_other (λ (x y : ℕ). x == y) q.state (state_number (state c.dates t)))
+      five_cases (has_stranger c.given.names q.names) (is_other (λ (x y : ℕ). x == y) q.object_type (type_number c.kind)) (is_other (λ (x y : ℕ). x == y) q.state (state_number s))
       (clash (λ (x y : ℕ). x == y) q.algorithm c.given.algorithm) (clash int_eq q.length c.given.length) h
       (λ e. strangers_not c.given.names q.names e m.names)
       (λ e. echoes_not (λ (x y : ℕ). x == y) Decides-eqb q.object_type (type_number c.kind) e m.object_type)
-      (λ e. echoes_not (λ (x y : ℕ). x == y) Decides-eqb q.state (state_number (state c.dates t)) e m.state)
+      (λ e. echoes_not (λ (x y : ℕ). x == y) Decides-eqb q.state (state_number s) e m.state)
       (λ e. agree_not (λ (x y : ℕ). x == y) Decides-eqb q.algorithm c.given.algorithm e m.algorithm)
       (λ e. agree_not int_eq Decides-int_eq q.length c.given.length e m.length))),
 )
@@ -59,23 +72,41 @@ all_four true false true d h i j k = cc
 all_four true true c d h i j k = cc
 all_four false b c d h i j k = cc
 
-must_decides : (q : FilterOf) (t : ℤ) (c : Card) → Decides (must_fit q t c) (Must q t c)
-must_decides q t c = (
+-- an object that has what a filter asks for, where it asks for it
+sure_if : {A : Type 0} (asked own : Option A) → is_unsure asked own ≡ false → is_some asked ≡ true → is_some own ≡ true
+sure_if asked None h a = let bad : true ≡ false = sym a ∙ sym (and_true (is_some asked)) ∙ h in cc
+sure_if asked (Some x) h a = refl
+
+sure_not : {A : Type 0} (asked own : Option A) → (is_some asked ≡ true → is_some own ≡ true) → is_unsure asked own ≡ false
+sure_not asked None f = false_if (is_some asked && true) (λ h. let bad : false ≡ true = f (sym (and_true (is_some asked)) ∙ h) in cc)
+sure_not asked (Some x) f = and_off (is_some asked)
+
+pub must_decides : (q : FilterOf) (s : State) (c : Card) → Decides (must_fit q s c) (Must q s c)
+must_decides q s c = (
   λ h.
-      let w = and_parts (may_fit q t c) (not (is_doubtful q c)) h in
-      let x = four_false (live c) q.is_loose (is_some q.algorithm && is_none c.given.algorithm) (is_some q.length && is_none c.given.length) (not_true (is_doubtful q c) w.1) in
-      record { may = (may_decides q t c).0 w.0; alive = x.0; strict = x.1; algorithm = x.2; length = x.3 },
+      let w = and_parts (may_fit q s c) (not (is_doubtful q c)) h in
+      let x = four_false (live c) q.is_loose (is_unsure q.algorithm c.given.algorithm) (is_unsure q.length c.given.length) (not_true (is_doubtful q c) w.1) in
+      record { may = (may_decides q s c).0 w.0; alive = x.0; strict = x.1; algorithm = sure_if q.algorithm c.given.algorithm x.2; length = sure_if q.length c.given.length x.3 },
   λ m.
-      and_from (may_fit q t c) (not (is_doubtful q c)) ((may_decides q t c).1 m.may)
-      (ap not (all_four (live c) q.is_loose (is_some q.algorithm && is_none c.given.algorithm) (is_some q.length && is_none c.given.length) m.alive m.strict m.algorithm m.length)),
+      and_from (may_fit q s c) (not (is_doubtful q c)) ((may_decides q s c).1 m.may)
+      (ap not (all_four (live c) q.is_loose (is_unsure q.algorithm c.given.algorithm) (is_unsure q.length c.given.length) m.alive m.strict (sure_not q.algorithm c.given.algorithm m.algorithm) (sure_not q.length c.given.length m.length))),
 )
 
-fits_decides : (q : FilterOf) (t : ℤ) (o : Option Card) → Decides (fits_here q t o) (IsFitting q t o)
-fits_decides q t None = (λ h. let bad : ⊥ = cc in absurd bad, λ x. let bad : ⊥ = let e = x.1 in cc in absurd bad)
-fits_decides q t (Some c) = (
-  λ h. (c, refl, (may_decides q t c).0 h),
-  λ x. let same : x.0 ≡ c = let e = x.1 in cc in (may_decides q t c).1 (subst (λ (y : Card). May q t y) same x.2),
+fits_at : (q : FilterOf) (t : ℤ) (o : Option Card) → Decides (fits_here q t o) ((c : Card) × (o ≡ Some c) × May q (state c.dates t) c)
+fits_at q t None = (λ h. let bad : ⊥ = cc in absurd bad, λ x. let bad : ⊥ = let e = x.1 in cc in absurd bad)
+fits_at q t (Some c) = (
+  λ h. (c, refl, (may_decides q (state c.dates t) c).0 h),
+  λ x. let same : x.0 ≡ c = let e = x.1 in cc in (may_decides q (state c.dates t) c).1 (subst (λ (y : Card). May q (state y.dates t) y) same x.2),
 )
+
+-- the object that an identifier has may be listed
+abbrev MayBeListed : List Card → ℤ → FilterOf → List ℕ → Type 0
+MayBeListed cs t q id = (c : Card) × (card_meant cs (Some id) ≡ Some c) × May q (state c.dates t) c
+
+fits_decides : (cs : List Card) (t : ℤ) (q : FilterOf) (id : List ℕ) → Decides (fits_here q t (card_meant cs (Some id))) (MayBeListed cs t q id)
+fits_decides cs t q id =
+    let go : (o : Option Card) → Decides (fits_here q t o) ((c : Card) × (o ≡ Some c) × May q (state c.dates t) c) = λ o. fits_at q t o in
+    go (card_meant cs (Some id))
 
 listed_decides : (listed : List (List ℕ)) (id : List ℕ) → Decides (is_listed listed id) (Contains listed id)
 listed_decides listed id = (
@@ -89,37 +120,89 @@ implied : (a b : Bool) {A B : Type 0} → Decides a A → Decides b B → Decide
 implied true b a_is b_is = (λ h x. b_is.0 h, λ f. b_is.1 (f (a_is.0 refl)))
 implied false b a_is b_is = (λ h x. let e : false ≡ true = a_is.1 x in let bad : ⊥ = cc in absurd bad, λ f. refl)
 
+-- NOTHING TWICE
+
+-- an identifier stands at some place
+stands_at : (xs : List (List ℕ)) (x : List ℕ) → list_any (bytes_eq x) xs ≡ true → (i : ℕ) × (slice_get xs i ≡ Some x)
+stands_at [] x h = let bad : ⊥ = cc in absurd bad
+stands_at (y ∷ ys) x h = elim (or_cases (bytes_eq x y) (list_any (bytes_eq x) ys) h) [
+  | inl e ↦ (0, ap Some (sym ((bytes_eq-Decides x y).0 e)))
+  | inr e ↦ let r = stands_at ys x e in (suc r.0, r.1)
+]
+
+found_at : (xs : List (List ℕ)) (x : List ℕ) (i : ℕ) → slice_get xs i ≡ Some x → list_any (bytes_eq x) xs ≡ true
+found_at [] x i e = cc
+found_at (y ∷ ys) x zero e = let same : x ≡ y = cc in ap (λ (b : Bool). b || list_any (bytes_eq x) ys) ((bytes_eq-Decides x y).1 same)
+found_at (y ∷ ys) x (suc i) e = or_right (bytes_eq x y) (list_any (bytes_eq x) ys) (found_at ys x i e)
+
+abbrev Once : List (List ℕ) → Type 0
+Once xs = (i j : ℕ) (id : List ℕ) → slice_get xs i ≡ Some id → slice_get xs j ≡ Some id → i ≡ j
+
+once_if : (xs : List (List ℕ)) → has_repeat xs ≡ false → Once xs
+once_if [] h i j id e f = cc
+once_if (y ∷ ys) h zero zero id e f = refl
+once_if (y ∷ ys) h zero (suc j) id e f =
+    let w = or_parts (list_any (bytes_eq y) ys) (has_repeat ys) h in
+    let same : id ≡ y = cc in
+    absurd (true_not (list_any (bytes_eq y) ys) (found_at ys y j (f ∙ ap Some same)) w.0)
+once_if (y ∷ ys) h (suc i) zero id e f =
+    let w = or_parts (list_any (bytes_eq y) ys) (has_repeat ys) h in
+    let same : id ≡ y = cc in
+    absurd (true_not (list_any (bytes_eq y) ys) (found_at ys y i (e ∙ ap Some same)) w.0)
+once_if (y ∷ ys) h (suc i) (suc j) id e f = ap suc (once_if ys (or_parts (list_any (bytes_eq y) ys) (has_repeat ys) h).1 i j id e f)
+
+once_not : (xs : List (List ℕ)) → has_repeat xs ≡ true → Once xs → ⊥
+once_not [] h once = cc
+once_not (y ∷ ys) h once = elim (or_cases (list_any (bytes_eq y) ys) (has_repeat ys) h) [
+  | inl e ↦ let r = stands_at ys y e in let bad : 0 ≡ suc r.0 = once 0 (suc r.0) y refl r.1 in absurd (omega arith)
+  | inr e ↦ once_not ys e (λ i j id p q. let r : suc i ≡ suc j = once (suc i) (suc j) id p q in omega arith)
+]
+
+-- LISTS
+
 module _ (cs : List Card) (t : ℤ) (q : FilterOf) (listed : List (List ℕ)) where
   abbrev fitting : List ℕ → Bool
   fitting id = fits_here q t (card_meant cs (Some id))
 
   abbrev covered : Card → Bool
-  covered c = not (must_fit q t c) || is_listed listed c.id
+  covered c = not (must_fit q (state c.dates t) c) || is_listed listed c.id
+
+  covered_decides : (c : Card) → Decides (covered c) (Must q (state c.dates t) c → Contains listed c.id)
+  covered_decides c = implied (must_fit q (state c.dates t) c) (is_listed listed c.id) (must_decides q (state c.dates t) c) (listed_decides listed c.id)
 
   right : locate_speaks cs t q (Some listed) ListedWrongly ≡ false → locate_speaks cs t q (Some listed) ListedTooFew ≡ false → Lists cs t q listed
   right wrongly few =
-      let w = or_parts (has_repeat listed || is_over q.maximum (length listed)) (list_any (λ (id : List ℕ). not (fitting id)) listed) wrongly in
+      let w = or_parts (has_repeat listed || is_over q.maximum (length listed)) (lists_misfit cs t q listed) wrongly in
       let x = or_parts (has_repeat listed) (is_over q.maximum (length listed)) w.0 in
       record {
-        once = x.0;
+        once = once_if listed x.0;
         most = x.1;
-        fits = λ id at. each_if fitting (λ (y : List ℕ). IsFitting q t (card_meant cs (Some y))) (λ y. fits_decides q t (card_meant cs (Some y))) listed w.1 id at;
+        fits = λ id at. each_if fitting (MayBeListed cs t q) (fits_decides cs t q) listed w.1 id at;
         all = λ short c at must.
-            each_if covered (λ (d : Card). Must q t d → Contains listed d.id) (λ d. implied (must_fit q t d) (is_listed listed d.id) (must_decides q t d) (listed_decides listed d.id)) cs
-            (ap (λ (b : Bool). not b && list_any (λ (d : Card). not (covered d)) cs) (sym short) ∙ few) c at must;
+            each_if covered (λ (d : Card). Must q (state d.dates t) d → Contains listed d.id) covered_decides cs
+            (ap (λ (b : Bool). not b && leaves_out cs t q listed) (sym short) ∙ few) c at must;
       }
 
   wrong : (w : Why) → locate_speaks cs t q (Some listed) w ≡ true → Lists cs t q listed → ⊥
   wrong ListedWrongly h x =
-      three_cases (has_repeat listed) (is_over q.maximum (length listed)) (list_any (λ (id : List ℕ). not (fitting id)) listed) h
-      (λ e. let bad : true ≡ false = sym e ∙ x.once in cc)
-      (λ e. let bad : true ≡ false = sym e ∙ x.most in cc)
-      (λ e. each_not fitting (λ (y : List ℕ). IsFitting q t (card_meant cs (Some y))) (λ y. fits_decides q t (card_meant cs (Some y))) listed e x.fits)
+      three_cases (has_repeat listed) (is_over q.maximum (length listed)) (lists_misfit cs t q listed) h
+      (λ e. once_not listed e x.once)
+      (λ e. true_not (is_over q.maximum (length listed)) e x.most)
+      (λ e. each_not fitting (MayBeListed cs t q) (fits_decides cs t q) listed e x.fits)
   wrong ListedTooFew h x =
-      let w = and_parts (not (is_full q.maximum (length listed))) (list_any (λ (d : Card). not (covered d)) cs) h in
-      each_not covered (λ (d : Card). Must q t d → Contains listed d.id) (λ d. implied (must_fit q t d) (is_listed listed d.id) (must_decides q t d) (listed_decides listed d.id)) cs w.1
-      (x.all (not_true (is_full q.maximum (length listed)) w.0))
+      let w = and_parts (not (is_full q.maximum (length listed))) (leaves_out cs t q listed) h in
+      each_not covered (λ (d : Card). Must q (state d.dates t) d → Contains listed d.id) covered_decides cs w.1 (x.all (not_true (is_full q.maximum (length listed)) w.0))
   wrong w h x = cc
+
+  -- where a list is right no reason speaks against it
+  pub lists_decide : ((w : Why) → locate_speaks cs t q (Some listed) w ≡ false) ↔ Lists cs t q listed
+  lists_decide = (
+    λ silent. right (silent ListedWrongly) (silent ListedTooFew),
+    λ x w. false_if (locate_speaks cs t q (Some listed) w) (λ h. wrong w h x),
+  )
+
+pub lists_are_decided : ListsAreDecided
+lists_are_decided cs t q listed = lists_decide cs t q listed
 
 quiet_locate : (cs : List Card) (t : ℤ) (q : FilterOf) (shown : Option (List (List ℕ))) → find (locate_speaks cs t q shown) outer_whys ≡ None
 quiet_locate cs t q None = refl
@@ -128,16 +211,37 @@ quiet_locate cs t q (Some listed) = refl
 none_speaks : (cs : List Card) (t : ℤ) (q : FilterOf) (w : Why) → locate_speaks cs t q None w ≡ false
 none_speaks cs t q w = refl
 
-pub is_locate : (located : List (List ℕ) → PayloadOf) (seen_located : PayloadOf → Option (List (List ℕ)))
-    → ((x : List (List ℕ)) → seen_located (located x) ≡ Some x) → ((p : PayloadOf) (x : List (List ℕ)) → seen_located p ≡ Some x → p ≡ located x)
-    → (q : FilterOf) → IsLook (locate_look located seen_located q)
-is_locate located seen_located back one q = record {
-  back = back;
-  one = one;
+one_located : (p : PayloadOf) (x : List (List ℕ)) → seen_located p ≡ Some x → p ≡ located x
+one_located (located y) x e = let same : y ≡ x = cc in ap located same
+one_located p x e = let bad : ⊥ = cc in absurd bad
+
+pub is_locate : (q : FilterOf) → IsLook (locate_look q)
+is_locate q = record {
+  back = λ x. refl;
+  one = one_located;
   quiet = λ cs before t shown. quiet_locate cs t q shown;
   covers = λ cs before t x w h. let e = none_speaks cs t q w in let bad : true ≡ false = sym h ∙ e in cc;
-  right = λ cs before t x silent. right cs t q x (silent ListedWrongly) (silent ListedTooFew);
+  right = λ cs before t x silent. (lists_decide cs t q x).0 silent;
   wrong = λ cs before t x w h y. wrong cs t q x w h y;
   hidden = λ cs before t may silent. let bad : ⊥ = cc in absurd bad;
   keeps = λ before x may. let bad : ⊥ = cc in absurd bad;
 }
+
+-- HOW AN OBJECT FITS
+
+module _ (q : FilterOf) (s : State) (c : Card) where
+  pub fits_not : says_no q s c ≡ true → May q s c → ⊥
+  fits_not e m = true_not (may_fit q s c) ((may_decides q s c).1 m) (ap not e)
+
+  pub fits_may : says_no q s c ≡ false → is_doubtful q c ≡ true → May q s c × (Must q s c → ⊥)
+  fits_may e d = ((may_decides q s c).0 (ap not e), λ m. true_not (must_fit q s c) ((must_decides q s c).1 m) (ap (λ (b : Bool). may_fit q s c && not b) d ∙ and_off (may_fit q s c)))
+
+  pub fits_must : says_no q s c ≡ false → is_doubtful q c ≡ false → Must q s c
+  fits_must e d = (must_decides q s c).0 (and_from (may_fit q s c) (not (is_doubtful q c)) (ap not e) (ap not d))
+
+  pub fit_tells : (f : Fit) → IsFit q s c f → (may_fit q s c ≡ may_of f) × (must_fit q s c ≡ must_of f)
+  fit_tells fit.Must x = ((may_decides q s c).1 x.may, (must_decides q s c).1 x)
+  fit_tells fit.May x = ((may_decides q s c).1 x.0, false_if (must_fit q s c) (λ h. x.1 ((must_decides q s c).0 h)))
+  fit_tells fit.Not x =
+      let no : may_fit q s c ≡ false = false_if (may_fit q s c) (λ h. x ((may_decides q s c).0 h)) in
+      (no, ap (λ (b : Bool). b && not (is_doubtful q c)) no)

@@ -1,13 +1,12 @@
 -- Operations that only look keep the laws of operations.
-use Rattle.std.proofs.Common.{◌≡◌, ℕ, ℤ, true, false, List, find, Option, Some, None, refl, ap, sym, ◌∙◌, subst, inl}
-use Rattle.kmipa_object.specs.Inventory.{Card, Thing, cards}
-use Rattle.kmipa_store.specs.Ledger.{Meaning, cards_of}
-use Rattle.kmipa_store.specs.Choices.{inv, IsSound}
+use Rattle.std.proofs.Common.{◌≡◌, ℕ, ℤ, true, false, List, find, Option, Some, None, refl, sym, ◌∙◌, subst, inl}
+use Rattle.kmipa_object.specs.Inventory.{Card, cards}
+use Rattle.kmipa_store.specs.Ledger.{cards_of}
 use Rattle.kmipa_store.proofs.InventoryLemmas.{cards-inv}
 use Rattle.kmipa_msgs.specs.Messages.{PayloadOf}
 use Rattle.kmipa_ops.specs.declared.why.Why.{Why}
 use Rattle.kmipa_ops.specs.Looking.{Look, look_deed}
-use Rattle.kmipa_ops.proofs.StepLemmas.{Step, still_step}
+use Rattle.kmipa_ops.proofs.StepLemmas.{still_step}
 use Rattle.kmipa_ops.proofs.DeedLaws.{outer_whys, IsDeed}
 
 pub record IsLook (l : Look) : Type 0 where

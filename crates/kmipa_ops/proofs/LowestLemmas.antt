@@ -1,5 +1,5 @@
 -- The lowest reason of all, from the frame of an answer and what it says was done.
-use Rattle.std.proofs.Common.{◌≡◌, ◌||◌, ◌==◌, ◌++◌, ◌∷◌, [], ℕ, ℤ, Bool, true, false, cond, List, find, slice_get, bytes_eq, Option, Some, None, refl, ap, sym, ◌∙◌}
+use Rattle.std.proofs.Common.{◌≡◌, ◌||◌, ◌==◌, ◌++◌, ◌∷◌, [], ℕ, ℤ, Bool, true, false, cond, List, find, bytes_eq, Option, Some, None, refl, ap, sym, ◌∙◌}
 use Rattle.std.specs.Option.{option_or}
 use Rattle.kmipa_store.specs.Ledger.{Meaning}
 use Rattle.kmipa_msgs.specs.declared.response.Status.{Status}

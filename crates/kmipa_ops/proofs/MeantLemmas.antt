@@ -1,10 +1,7 @@
 -- The object that is meant, as the ledger finds it, and what speaks against a Get of it.
-use Rattle.std.proofs.Common.{◌≡◌, ◌<◌, ◌+◌, drop, ◌++◌, [], ◌∷◌, ℕ, ℤ, Bool, true, false, cond, List, length, slice_get, find, is_none, option_map, map, Option, Some, None, refl, ap, sym, ◌∙◌}
+use Rattle.std.proofs.Common.{not, Result, Ok, Err, ◌≡◌, ◌++◌, [], ◌∷◌, ℕ, ℤ, Bool, true, false, cond, List, length, slice_get, find, is_none, option_map, Option, Some, None, refl, ap, sym, ◌∙◌}
 use Rattle.std.specs.Option.{option_and_then, option_or}
-use Rattle.std.specs.List.{list_any}
-use Rattle.kmipa_attrs.specs.Sets.{NameOf, name_of}
-use Rattle.kmipa_attrs.specs.declared.name.Name.{Name}
-use Rattle.kmipa_object.specs.Inventory.{Card, live, place_of}
+use Rattle.kmipa_object.specs.Inventory.{live, place_of}
 use Rattle.kmipa_object.specs.Life.{state}
 use Rattle.kmipa_object.specs.Table.{allowed}
 use Rattle.kmipa_object.specs.declared.allow.Act.{Act}
@@ -18,18 +15,20 @@ use Rattle.kmipa_store.specs.Calls.{differs, breaks}
 use Rattle.kmipa_store.specs.Choices.{IsSound, GoneIfDestroyed}
 use Rattle.kmipa_store.proofs.ChoiceLemmas.{told-last}
 use Rattle.kmipa_store.proofs.InventoryLemmas.{get-cards_of}
-use Rattle.kmipa_store.proofs.SoundLemmas.{number_below}
 use Rattle.kmipa_msgs.specs.Messages.{GotOf}
 use Rattle.kmipa_ops.specs.declared.why.Why.{Why}
 use Rattle.kmipa_ops.specs.declared.why.Why.TheVariants.{NoSuchObject, WrongState, BytesDiffer, LengthImpossible, AttributeDiffers, EchoDiffers}
 use Rattle.kmipa_ops.specs.Whys.{whys}
-use Rattle.kmipa_ops.specs.Objects.{card_meant, same_name, is_other_id}
-use Rattle.kmipa_ops.specs.Founded.{is_refusable}
+use Rattle.kmipa_ops.specs.After.{Changes, Leaves}
+use Rattle.kmipa_ops.specs.Objects.{meant, card_meant, is_other_id}
+use Rattle.kmipa_object.specs.declared.state.State.{State}
+use Rattle.kmipa_store.specs.Queries.{state_of_place}
+use Rattle.kmipa_ops.specs.Founded.{is_must, is_live_there, is_refusable}
 use Rattle.kmipa_ops.specs.Shown.{IsSecretOf, live_speak}
-use Rattle.kmipa_ops.specs.Meant.{object_meant, secret_at, secret_meant, is_not, is_excluded}
-use Rattle.kmipa_ops.specs.Get.{shows_other, get_speaks}
+use Rattle.kmipa_ops.specs.Meant.{place_meant, object_meant, secret_at, secret_meant, is_not, is_excluded}
+use Rattle.kmipa_ops.specs.Get.{shows_other, get_speaks, taught, taught_at}
+use Rattle.kmipa_ops.proofs.TestLemmas.{true_not}
 use Rattle.kmipa_ops.proofs.GetLemmas.{alive_if, alive_not, meant_at}
-use Rattle.kmipa_ops.proofs.ScanLemmas.{any_here, any_map, any_on, any_same}
 
 card_at : (hs : List Held) (o : Option ℕ) → option_and_then (slice_get (cards_of hs)) o ≡ option_map (λ (h : Held). h.card) (option_and_then (slice_get hs) o)
 card_at hs None = refl
@@ -39,19 +38,52 @@ pub card_meant_is : (hs : List Held) (about : Option (List ℕ)) → card_meant 
 card_meant_is hs None = refl
 card_meant_is hs (Some id) = card_at hs (place_of id (cards_of hs))
 
-pub refusable_is : (hs : List Held) (about : Option (List ℕ)) (act : Act) (t : ℤ) (o : Option Held) → o ≡ object_meant hs about
-    → is_refusable act t (option_map (λ (h : Held). h.card) o) ≡ is_refusable act t (card_meant (cards_of hs) about)
-refusable_is hs about act t o e = ap (is_refusable act t) (ap (option_map (λ (h : Held). h.card)) e ∙ sym (card_meant_is hs about))
+-- the object at the place that is meant
+pub object_there : (hs : List Held) (about : Option (List ℕ)) (o : Option ℕ) (p : ℕ) (h : Held) → o ≡ Some p → o ≡ place_meant hs about → slice_get hs p ≡ Some h → object_meant hs about ≡ Some h
+object_there hs about o p h here place at = ap (option_and_then (slice_get hs)) (sym place ∙ here) ∙ at
+
+pub object_nowhere : (hs : List Held) (about : Option (List ℕ)) (o : Option ℕ) → o ≡ None → o ≡ place_meant hs about → object_meant hs about ≡ None
+object_nowhere hs about o none place = ap (option_and_then (slice_get hs)) (sym place ∙ none)
+
+card_there : (hs : List Held) (about : Option (List ℕ)) (o : Option ℕ) (p : ℕ) (h : Held) → o ≡ Some p → o ≡ place_meant hs about → slice_get hs p ≡ Some h → card_meant (cards_of hs) about ≡ Some h.card
+card_there hs about o p h here place at = card_meant_is hs about ∙ ap (option_map (λ (g : Held). g.card)) (object_there hs about o p h here place at)
+
+card_nowhere : (hs : List Held) (about : Option (List ℕ)) (o : Option ℕ) → o ≡ None → o ≡ place_meant hs about → card_meant (cards_of hs) about ≡ None
+card_nowhere hs about o none place = card_meant_is hs about ∙ ap (option_map (λ (g : Held). g.card)) (object_nowhere hs about o none place)
+
+-- its state
+some_mapped : {A B : Type 0} (f : A → B) (o : Option A) (y : B) → option_map f o ≡ Some y → (x : A) × (o ≡ Some x) × (f x ≡ y)
+some_mapped f None y e = let bad : ⊥ = cc in absurd bad
+some_mapped f (Some x) y e = (x, refl, cc)
+
+pub in_state : (hs : List Held) (p : ℕ) (t : ℤ) (s : State) → state_of_place hs p t ≡ Some s → (h : Held) × (slice_get hs p ≡ Some h) × (state h.card.dates t ≡ s)
+in_state hs p t s is = some_mapped (λ (g : Held). state g.card.dates t) (slice_get hs p) s is
+
+pub state_there : (hs : List Held) (p : ℕ) (t : ℤ) (s : State) (h : Held) → slice_get hs p ≡ Some h → state_of_place hs p t ≡ Some s → state h.card.dates t ≡ s
+state_there hs p t s h at is =
+    let x = in_state hs p t s is in
+    let same : Some h ≡ Some x.0 = sym at ∙ x.1 in
+    let e : h ≡ x.0 = cc in
+    ap (λ (g : Held). state g.card.dates t) e ∙ x.2
+
+pub refusable_there : (hs : List Held) (about : Option (List ℕ)) (act : Act) (t : ℤ) (o : Option ℕ) (p : ℕ) (s : State) → o ≡ Some p → o ≡ place_meant hs about → state_of_place hs p t ≡ Some s
+    → not (is_must (allowed act s)) ≡ is_refusable act t (card_meant (cards_of hs) about)
+refusable_there hs about act t o p s here place is =
+    let x = in_state hs p t s is in
+    ap (λ (z : State). not (is_must (allowed act z))) (sym x.2) ∙ ap (is_refusable act t) (sym (card_there hs about o p x.0 here place x.1))
+
+pub refusable_nowhere : (hs : List Held) (about : Option (List ℕ)) (act : Act) (t : ℤ) (o : Option ℕ) → o ≡ None → o ≡ place_meant hs about → false ≡ is_refusable act t (card_meant (cards_of hs) about)
+refusable_nowhere hs about act t o none place = ap (is_refusable act t) (sym (card_nowhere hs about o none place))
+
+pub live_there : (hs : List Held) (about : Option (List ℕ)) (o : Option ℕ) (p : ℕ) (h : Held) → o ≡ Some p → o ≡ place_meant hs about → slice_get hs p ≡ Some h → live h.card ≡ is_live_there (card_meant (cards_of hs) about)
+live_there hs about o p h here place at = ap is_live_there (sym (card_there hs about o p h here place at))
+
+pub live_nowhere : (hs : List Held) (about : Option (List ℕ)) (o : Option ℕ) → o ≡ None → o ≡ place_meant hs about → false ≡ is_live_there (card_meant (cards_of hs) about)
+live_nowhere hs about o none place = ap is_live_there (sym (card_nowhere hs about o none place))
 
 -- its secret is there
-pub meant_below : (m : Meaning) (about : Option (List ℕ)) (h : Held) (s : SecretNo) → IsSound m → Some h ≡ object_meant m.objects about → h.material ≡ Secret s → s.number < length m.secrets
-meant_below m about h s sound e mat = let at = meant_at m.objects about h (sym e) in number_below m at.2 h s sound at.4 mat
-
-pub meant_secret : (m : Meaning) (about : Option (List ℕ)) (h : Held) (s : SecretNo) → IsSound m → Some h ≡ object_meant m.objects about → h.material ≡ Secret s → IsSecretOf m h s
-meant_secret m about h s sound e mat =
-    let at = meant_at m.objects about h (sym e) in
-    let r = sound.in_range.there at.2 h s at.4 mat in
-    record { known = r.0; is = r.1 }
+pub secret_there : (m : Meaning) (p : ℕ) (h : Held) (s : SecretNo) → IsSound m → slice_get m.objects p ≡ Some h → h.material ≡ Secret s → IsSecretOf m h s
+secret_there m p h s sound at mat = let r = sound.in_range.there p h s at mat in record { known = r.0; is = r.1 }
 
 -- a state excludes a Get exactly where the bytes are gone
 gone_dead : (b : Bool) (mat : Material) → mat ≡ Gone → GoneIfDestroyed b mat → b ≡ false
@@ -94,19 +126,21 @@ whys_of_get : (m : Meaning) (about : Option (List ℕ)) (t : ℤ) (shown : Optio
 whys_of_get m about t None = refl
 whys_of_get m about t (Some a) = refl
 
-pub why_absent : (m : Meaning) (about : Option (List ℕ)) (t : ℤ) (shown : Option GotOf) → None ≡ object_meant m.objects about → Some NoSuchObject ≡ find (get_speaks m about t shown) whys
+pub why_absent : (m : Meaning) (about : Option (List ℕ)) (t : ℤ) (shown : Option GotOf) → object_meant m.objects about ≡ None → Some NoSuchObject ≡ find (get_speaks m about t shown) whys
 why_absent m about t shown e =
     sym (whys_of_get m about t shown
-    ∙ ap (λ (o : Option Held). cond (is_none o) (Some NoSuchObject) (cond (is_excluded act.Get t (object_meant m.objects about)) (Some WrongState) (behind m about t shown))) (sym e))
+    ∙ ap (λ (o : Option Held). cond (is_none o) (Some NoSuchObject) (cond (is_excluded act.Get t (object_meant m.objects about)) (Some WrongState) (behind m about t shown))) e)
 
-pub why_gone : (m : Meaning) (about : Option (List ℕ)) (t : ℤ) (shown : Option GotOf) (h : Held) → IsSound m → Some h ≡ object_meant m.objects about → h.material ≡ Gone
+pub why_excluded : (m : Meaning) (about : Option (List ℕ)) (t : ℤ) (shown : Option GotOf) (h : Held) → object_meant m.objects about ≡ Some h → is_excluded act.Get t (Some h) ≡ true
     → Some WrongState ≡ find (get_speaks m about t shown) whys
-why_gone m about t shown h sound e mat =
-    let at = meant_at m.objects about h (sym e) in
-    let out : is_excluded act.Get t (Some h) ≡ true = excluded_if h t (gone_dead (live h.card) h.material mat (sound.gone at.2 h at.4)) in
+why_excluded m about t shown h e out =
     sym (whys_of_get m about t shown
-    ∙ ap (λ (o : Option Held). cond (is_none o) (Some NoSuchObject) (cond (is_excluded act.Get t o) (Some WrongState) (behind m about t shown))) (sym e)
+    ∙ ap (λ (o : Option Held). cond (is_none o) (Some NoSuchObject) (cond (is_excluded act.Get t o) (Some WrongState) (behind m about t shown))) e
     ∙ ap (λ (b : Bool). cond b (Some WrongState) (behind m about t shown)) out)
+
+-- an object whose state lets it be got has bytes
+pub has_secret : (m : Meaning) (p : ℕ) (t : ℤ) (h : Held) → IsSound m → slice_get m.objects p ≡ Some h → is_excluded act.Get t (Some h) ≡ false → h.material ≡ Gone → ⊥
+has_secret m p t h sound at in_state mat = true_not (is_excluded act.Get t (Some h)) (excluded_if h t (gone_dead (live h.card) h.material mat (sound.gone p h at))) in_state
 
 cond_or : (x y : Bool) (v w : Why) (r : Option Why) → option_or (cond x (Some v) (cond y (Some w) None)) r ≡ cond x (Some v) (cond y (Some w) r)
 cond_or true y v w r = refl
@@ -123,17 +157,17 @@ behind_is m about t (Some a) h s e at =
     ∙ ap (λ (o : Option Held). cond (differs (slice_get m.secrets s.number) b) (Some BytesDiffer) (cond (breaks (slice_get m.secrets s.number) b) (Some LengthImpossible) (rest o))) e
     ∙ sym (cond_or (differs (slice_get m.secrets s.number) b) (breaks (slice_get m.secrets s.number) b) BytesDiffer LengthImpossible (rest (Some h)))
 
-pub why_live : (m : Meaning) (about : Option (List ℕ)) (t : ℤ) (shown : Option GotOf) (h : Held) (s : SecretNo) → IsSound m → Some h ≡ object_meant m.objects about → h.material ≡ Secret s
+pub why_live : (m : Meaning) (about : Option (List ℕ)) (t : ℤ) (shown : Option GotOf) (h : Held) (s : SecretNo) → IsSound m → object_meant m.objects about ≡ Some h → h.material ≡ Secret s
     → live_speak m about h s shown ≡ find (get_speaks m about t shown) whys
 why_live m about t shown h s sound e mat =
-    let at = meant_at m.objects about h (sym e) in
+    let at = meant_at m.objects about h e in
     let in_state : is_excluded act.Get t (Some h) ≡ false = excluded_not h t (secret_alive (live h.card) h.material s mat (sound.gone at.2 h at.4)) in
     let secret : secret_meant m about ≡ slice_get m.secrets s.number =
-    ap (option_and_then (λ (g : Held). secret_at m.secrets g.material)) (sym e) ∙ ap (secret_at m.secrets) mat in
+    ap (option_and_then (λ (g : Held). secret_at m.secrets g.material)) e ∙ ap (secret_at m.secrets) mat in
     sym (whys_of_get m about t shown
-    ∙ ap (λ (o : Option Held). cond (is_none o) (Some NoSuchObject) (cond (is_excluded act.Get t o) (Some WrongState) (behind m about t shown))) (sym e)
+    ∙ ap (λ (o : Option Held). cond (is_none o) (Some NoSuchObject) (cond (is_excluded act.Get t o) (Some WrongState) (behind m about t shown))) e
     ∙ ap (λ (b : Bool). cond b (Some WrongState) (behind m about t shown)) in_state
-    ∙ behind_is m about t shown h s (sym e) secret)
+    ∙ behind_is m about t shown h s e secret)
 
 -- a new secret that was told its bytes
 pub known_made : (s : LedgerState) (rule : Rule) (bytes : List ℕ) (known : Option (List ℕ)) (n : ℕ) (v u : LedgerState) → known ≡ Some bytes → n ≡ length s.now.secrets → v ≡ with_secret s rule
@@ -143,12 +177,21 @@ known_made s rule bytes known n v u is number made told =
     told ∙ ap (λ (x : LedgerState). learned x n bytes) made ∙ ap (λ (k : ℕ). learned (with_secret s rule) k bytes) number
     ∙ ap C (told-last s.now.secrets (record { rule = rule; bytes = None }) bytes) ∙ ap (λ (k : Option (List ℕ)). C (s.now.secrets ++ record { rule = rule; bytes = k } ∷ [])) (sym is)
 
--- objects seen one after the other
-card_stands : (hs : List Held) (i : ℕ) (h : Held) → slice_get hs i ≡ Some h → slice_get (cards_of hs) i ≡ Some h.card
-card_stands hs i h e = get-cards_of hs i ∙ ap (option_map (λ (g : Held). g.card)) e
+-- what a Get leaves, by the place of its object
+pub leaves_taught : {E : Type 0} (s u : LedgerState) (before id p : Option (List ℕ)) (o : Option ℕ) (bytes : List ℕ) (r : Result (Unit {0}) E) → o ≡ place_meant s.now.objects (meant id before) → p ≡ before
+    → Changes s (taught s.now (option_and_then (slice_get s.now.objects) o) bytes) r u → Leaves s (taught s.now (object_meant s.now.objects (meant id before)) bytes) before r u p
+leaves_taught s u before id p o bytes (Ok done) place held x = (x ∙ ap (λ (y : Option ℕ). changed s (taught s.now (option_and_then (slice_get s.now.objects) y) bytes)) place, held)
+leaves_taught s u before id p o bytes (Err e) place held x = x
 
-pub scan_here : (p : Card → Bool) (hs : List Held) (i : ℕ) (h : Held) → slice_get hs i ≡ Some h → p h.card ≡ true → list_any p (drop i (cards_of hs)) ≡ true
-scan_here p hs i h e is = any_here p (cards_of hs) i h.card (card_stands hs i h e) is
+taught_here : (s : LedgerState) (o : Option ℕ) (p : ℕ) (h : Held) (bytes : List ℕ) → o ≡ Some p → slice_get s.now.objects p ≡ Some h → taught s.now (Some h) bytes ≡ taught s.now (option_and_then (slice_get s.now.objects) o) bytes
+taught_here s o p h bytes here at = ap (λ (x : Option Held). taught s.now x bytes) (sym (ap (option_and_then (slice_get s.now.objects)) here ∙ at))
 
-pub scan_on : (p : Card → Bool) (hs : List Held) (i : ℕ) (h : Held) → slice_get hs i ≡ Some h → p h.card ≡ false → list_any p (drop i (cards_of hs)) ≡ list_any p (drop (i + 1) (cards_of hs))
-scan_on p hs i h e is = any_on p (cards_of hs) i h.card (card_stands hs i h e) is
+pub taught_none : (s : LedgerState) (o : Option ℕ) (bytes : List ℕ) → o ≡ None → s ≡ changed s (taught s.now (option_and_then (slice_get s.now.objects) o) bytes)
+taught_none s o bytes none = ap (λ (x : Option ℕ). changed s (taught s.now (option_and_then (slice_get s.now.objects) x) bytes)) (sym none)
+
+pub taught_gone : (s : LedgerState) (o : Option ℕ) (p : ℕ) (h : Held) (bytes : List ℕ) → o ≡ Some p → slice_get s.now.objects p ≡ Some h → h.material ≡ Gone → s ≡ changed s (taught s.now (option_and_then (slice_get s.now.objects) o) bytes)
+taught_gone s o p h bytes here at mat = ap (λ (x : Material). changed s (taught_at s.now x bytes)) (sym mat) ∙ ap (changed s) (taught_here s o p h bytes here at)
+
+pub taught_secret : (s u : LedgerState) (o : Option ℕ) (p : ℕ) (h : Held) (secret : SecretNo) (bytes : List ℕ) → o ≡ Some p → slice_get s.now.objects p ≡ Some h → h.material ≡ Secret secret → u ≡ learned s secret.number bytes
+    → u ≡ changed s (taught s.now (option_and_then (slice_get s.now.objects) o) bytes)
+taught_secret s u o p h secret bytes here at mat is = is ∙ ap (λ (x : Material). changed s (taught_at s.now x bytes)) (sym mat) ∙ ap (changed s) (taught_here s o p h bytes here at)

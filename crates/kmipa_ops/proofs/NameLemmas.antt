@@ -1,5 +1,5 @@
 -- Names: which of them stand among others.
-use Rattle.std.proofs.Common.{◌≡◌, ◌==◌, Bool, true, false, not, bytes_eq, map, get_or, List, refl, ap, sym, ◌∙◌, subst}
+use Rattle.std.proofs.Common.{◌&&◌, is_some, ◌≡◌, ◌==◌, Bool, true, false, not, bytes_eq, map, get_or, List, refl, ap, sym, ◌∙◌, subst}
 use Rattle.std.specs.Bool.{Decides}
 use Rattle.std.specs.List.{Contains, list_any}
 use Rattle.std.proofs.lemmas.Bool.{and_parts, and_from}
@@ -8,11 +8,13 @@ use Rattle.std.proofs.lemmas.List.Folds.{Any-from_list_any, list_any_at}
 use Rattle.std.proofs.lemmas.Slice.Eq.{bytes_eq-Decides}
 use Rattle.kmipa_attrs.specs.Sets.{NameOf, name_of}
 use Rattle.kmipa_attrs.specs.declared.name.Name.{Name}
-use Rattle.kmipa_object.specs.Inventory.{Card}
-use Rattle.kmipa_ops.specs.Objects.{same_name, is_named, any_named, HasNameOf}
+use Rattle.kmipa_object.specs.Inventory.{Card, live}
+use Rattle.kmipa_store.specs.Ledger.{Held, cards_of}
+use Rattle.kmipa_store.specs.Queries.{any_live_named as any_live_has, next_named}
+use Rattle.kmipa_ops.specs.Objects.{same_name, is_named, any_named, any_live_named, HasNameOf}
 use Rattle.kmipa_ops.specs.Founded.{IsNameTaken}
 use Rattle.kmipa_ops.specs.GetAttributes.{AreAmong, has_stranger}
-use Rattle.kmipa_ops.proofs.ScanLemmas.{any_map, any_same}
+use Rattle.kmipa_ops.proofs.ScanLemmas.{any_map, any_same, any_swap, any_and, found_any}
 use Rattle.kmipa_ops.proofs.TestLemmas.{some_if, some_not}
 
 pub same_name-Decides : (m n : NameOf) → Decides (same_name m n) (m ≡ n)
@@ -57,14 +59,6 @@ strangers_not known names h among =
     let out : not (is_known known a.1) ≡ true = a.4 in
     cc
 
--- names, through their meaning
-pub named_is : (own names : List Name) → list_any (λ (mine : Name). list_any (λ (asked : Name). same_name (name_of asked) (name_of mine)) names) own
-    ≡ list_any (λ (mine : NameOf). list_any (λ (asked : NameOf). same_name asked mine) (map name_of names)) (map name_of own)
-named_is own names =
-    any_same (λ (mine : Name). list_any (λ (asked : Name). same_name (name_of asked) (name_of mine)) names) (λ (mine : Name). list_any (λ (asked : NameOf). same_name asked (name_of mine)) (map name_of names))
-    (λ mine. sym (any_map (λ (asked : NameOf). same_name asked (name_of mine)) name_of names)) own
-    ∙ sym (any_map (λ (mine : NameOf). list_any (λ (asked : NameOf). same_name asked mine) (map name_of names)) name_of own)
-
 pub stranger_is : (known names : List Name) → list_any (λ (n : Name). not (list_any (λ (k : Name). same_name (name_of k) (name_of n)) known)) names ≡ has_stranger (map name_of known) (map name_of names)
 stranger_is known names =
     let is_known : NameOf → Bool = λ n. list_any (λ (k : NameOf). same_name k n) (map name_of known) in
@@ -84,3 +78,27 @@ named_decides names c = (
 
 pub any_named-Decides : (cs : List Card) (names : List NameOf) → Decides (any_named cs names) (IsNameTaken cs names)
 any_named-Decides cs names = (some_if (is_named names) (HasNameOf names) (named_decides names) cs, λ h. some_not (is_named names) (HasNameOf names) (named_decides names) cs h.0 h.1 h.2)
+
+-- as a ledger finds names
+named_of : (h : Held) (names : List Name) → list_any (λ (name : Name). list_any (same_name (name_of name)) h.card.given.names) names ≡ is_named (map name_of names) h.card
+named_of h names =
+    any_swap (λ (name : Name) (mine : NameOf). same_name (name_of name) mine) names h.card.given.names
+    ∙ any_same (λ (mine : NameOf). list_any (λ (name : Name). same_name (name_of name) mine) names) (λ (mine : NameOf). list_any (λ (asked : NameOf). same_name asked mine) (map name_of names))
+    (λ mine. sym (any_map (λ (asked : NameOf). same_name asked mine) name_of names)) h.card.given.names
+
+pub any_had-is : (hs : List Held) (names : List Name) → list_any (λ (name : Name). is_some (next_named (name_of name).value name.kind 0 hs)) names ≡ any_named (cards_of hs) (map name_of names)
+any_had-is hs names =
+    let own : Held → List NameOf = λ h. h.card.given.names in
+    any_same (λ (name : Name). is_some (next_named (name_of name).value name.kind 0 hs)) (λ (name : Name). list_any (λ (h : Held). list_any (same_name (name_of name)) (own h)) hs)
+    (λ name. found_any (λ (h : Held). list_any (same_name (name_of name)) (own h)) 0 hs) names
+    ∙ any_swap (λ (name : Name) (h : Held). list_any (same_name (name_of name)) (own h)) names hs
+    ∙ any_same (λ (h : Held). list_any (λ (name : Name). list_any (same_name (name_of name)) (own h)) names) (λ (h : Held). is_named (map name_of names) h.card) (λ h. named_of h names) hs
+    ∙ sym (any_map (is_named (map name_of names)) (λ (h : Held). h.card) hs)
+
+pub any_live_had-is : (hs : List Held) (names : List Name) → list_any (λ (name : Name). any_live_has (name_of name).value name.kind hs) names ≡ any_live_named (cards_of hs) (map name_of names)
+any_live_had-is hs names =
+    let own : Held → List NameOf = λ h. h.card.given.names in
+    any_swap (λ (name : Name) (h : Held). live h.card && list_any (same_name (name_of name)) (own h)) names hs
+    ∙ any_same (λ (h : Held). list_any (λ (name : Name). live h.card && list_any (same_name (name_of name)) (own h)) names) (λ (h : Held). live h.card && is_named (map name_of names) h.card)
+    (λ h. sym (any_and (live h.card) (λ (name : Name). list_any (same_name (name_of name)) (own h)) names) ∙ ap (λ (b : Bool). live h.card && b) (named_of h names)) hs
+    ∙ sym (any_map (λ (c : Card). live c && is_named (map name_of names) c) (λ (h : Held). h.card) hs)

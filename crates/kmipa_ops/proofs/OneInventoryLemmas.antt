@@ -1,16 +1,15 @@
 -- A ledger that knows all bytes: one inventory, and what taking an item says of it.
-use Rattle.std.proofs.Common.{◌≡◌, ◌<◌, ℕ, zero, suc, ℤ, List, [], ◌∷◌, length, slice_get, arith, Option, Some, Result, Ok, Err, refl, ap, sym, ◌∙◌, subst}
+use Rattle.std.proofs.Common.{◌≡◌, ℕ, ℤ, List, [], ◌∷◌, length, Option, Ok, Err, refl, sym, ◌∙◌, subst}
 use Rattle.kmipa_object.specs.Inventory.{Thing}
 use Rattle.kmipa_object.proofs.ListLemmas.{below_get}
-use Rattle.kmipa_store.specs.Ledger.{Known, Meaning, LedgerState}
+use Rattle.kmipa_store.specs.Ledger.{Meaning}
 use Rattle.kmipa_store.specs.Choices.{Choice, Chooses, Agrees, inv, IsSound}
 use Rattle.kmipa_store.proofs.InventoryLemmas.{inv-same}
 use Rattle.kmipa_msgs.specs.Messages.{RulesOf, AskOf, AnswerOf}
-use Rattle.kmipa_ops.specs.declared.why.Refusal.{Refusal}
 use Rattle.kmipa_ops.specs.declared.why.Refusal.TheVariants.{Impossible, Memory}
 use Rattle.kmipa_ops.specs.Completes.{DoesSome}
-use Rattle.kmipa_ops.specs.Explains.{Explains, Taken, Refuted}
-use Rattle.kmipa_ops.specs.OneInventory.{KnowsAll, StandsFor, StandsForOne, LeadsOn, Decides, TakingDecides}
+use Rattle.kmipa_ops.specs.Explains.{Explains}
+use Rattle.kmipa_ops.specs.OneInventory.{KnowsAll, StandsFor, StandsForOne, LeadsOn, TakingDecides}
 
 -- known bytes leave no choice
 agree : (m : Meaning) (c d : Choice) → KnowsAll m → Chooses m.secrets c → Chooses m.secrets d → Agrees (length m.secrets) c d

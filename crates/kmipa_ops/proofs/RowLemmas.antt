@@ -1,16 +1,20 @@
 -- The list of the operations: each keeps the laws.
-use Rattle.kmipa_msgs.specs.Messages.{AskedOf, creates, registers, gets, gets_attributes, activates, revokes, destroys, idles, does_other}
+use Rattle.kmipa_msgs.specs.Messages.{AskedOf, creates, registers, locates, gets, gets_attributes, activates, revokes, destroys, idles, does_other}
 use Rattle.kmipa_ops.specs.declared.change.Change.TheVariants.{Activate, Revoke, Destroy}
+use Rattle.kmipa_ops.specs.Locate.{locate_look}
 use Rattle.kmipa_ops.specs.Rows.{row_of}
 use Rattle.kmipa_ops.proofs.DeedLaws.{IsRow}
 use Rattle.kmipa_ops.proofs.NewbornLemmas.{is_create, is_register}
 use Rattle.kmipa_ops.proofs.GetLemmas.{is_get}
 use Rattle.kmipa_ops.proofs.GetAttributesLemmas.{is_get_attributes}
+use Rattle.kmipa_ops.proofs.LocateLemmas.{is_locate}
+use Rattle.kmipa_ops.proofs.LookLemmas.{is_look}
 use Rattle.kmipa_ops.proofs.ChangeLemmas.{is_change}
 
 pub is_row : (asked : AskedOf) → IsRow (row_of asked)
 is_row (creates a) = is_create a
 is_row (registers r) = is_register r
+is_row (locates q) = is_look (locate_look q) (is_locate q)
 is_row (gets id) = is_get id
 is_row (gets_attributes g) = is_get_attributes g
 is_row (activates id) = is_change id Activate

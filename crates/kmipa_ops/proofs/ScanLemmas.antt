@@ -1,6 +1,6 @@
 -- Tests of the elements of a list, seen through a function or from a place on.
-use Rattle.std.proofs.Common.{◌≡◌, ◌||◌, ◌+◌, ◌≤◌, ℕ, zero, suc, Bool, true, false, List, [], ◌∷◌, length, map, drop, slice_get, Some, refl, ap, sym, ◌∙◌, arith}
-use Rattle.std.specs.List.{list_any}
+use Rattle.std.proofs.Common.{◌&&◌, is_some, cond, ◌≡◌, ◌||◌, ◌+◌, ◌≤◌, ℕ, zero, suc, Bool, true, false, List, [], ◌∷◌, length, map, drop, slice_get, Some, refl, ap, sym, ◌∙◌, arith}
+use Rattle.std.specs.List.{list_any, position_from}
 
 pub any_map : {X Y : Type 0} (p : Y → Bool) (f : X → Y) (xs : List X) → list_any p (map f xs) ≡ list_any (λ (x : X). p (f x)) xs
 any_map p f [] = refl
@@ -29,3 +29,34 @@ any_on p xs i x e h = any_step p xs i x e ∙ ap (λ (b : Bool). b || list_any p
 
 pub any_here : {X : Type 0} (p : X → Bool) (xs : List X) (i : ℕ) (x : X) → slice_get xs i ≡ Some x → p x ≡ true → list_any p (drop i xs) ≡ true
 any_here p xs i x e h = any_step p xs i x e ∙ ap (λ (b : Bool). b || list_any p (drop (i + 1) xs)) h
+
+-- TWO LISTS
+
+any_false : {X : Type 0} (xs : List X) → list_any (λ (x : X). false) xs ≡ false
+any_false [] = refl
+any_false (x ∷ xs) = any_false xs
+
+pub or_mix : (a b c d : Bool) → ((a || b) || (c || d)) ≡ ((a || c) || (b || d))
+or_mix true b c d = refl
+or_mix false true true d = refl
+or_mix false true false d = refl
+or_mix false false c d = refl
+
+any_or : {X : Type 0} (f g : X → Bool) (xs : List X) → list_any (λ (x : X). f x || g x) xs ≡ (list_any f xs || list_any g xs)
+any_or f g [] = refl
+any_or f g (x ∷ xs) = ap (λ (b : Bool). (f x || g x) || b) (any_or f g xs) ∙ or_mix (f x) (g x) (list_any f xs) (list_any g xs)
+
+-- the order in which two lists are gone through
+pub any_swap : {X Y : Type 0} (r : X → Y → Bool) (xs : List X) (ys : List Y) → list_any (λ (x : X). list_any (λ (y : Y). r x y) ys) xs ≡ list_any (λ (y : Y). list_any (λ (x : X). r x y) xs) ys
+any_swap {X} r xs [] = any_false xs
+any_swap {X} {Y} r xs (y ∷ ys) =
+    any_or (λ (x : X). r x y) (λ (x : X). list_any (λ (z : Y). r x z) ys) xs ∙ ap (λ (b : Bool). list_any (λ (x : X). r x y) xs || b) (any_swap r xs ys)
+
+pub any_and : {X : Type 0} (b : Bool) (p : X → Bool) (xs : List X) → (b && list_any p xs) ≡ list_any (λ (x : X). b && p x) xs
+any_and true p xs = refl
+any_and false p xs = sym (any_false xs)
+
+pub found_any : {X : Type 0} (p : X → Bool) (i : ℕ) (xs : List X) → is_some (position_from p i xs) ≡ list_any p xs
+found_any p i [] = refl
+found_any {X} p i (x ∷ xs) =
+    elim (p x) as (λ b. is_some (cond b (Some i) (position_from p (i + 1) xs)) ≡ (b || list_any p xs)) [ true ↦ refl | false ↦ found_any p (i + 1) xs ]

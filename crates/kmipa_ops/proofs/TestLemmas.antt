@@ -1,5 +1,5 @@
 -- Tests of fields that may be absent, and the lowest of the reasons that hold.
-use Rattle.std.proofs.Common.{◌≡◌, ◌-◌, slice_get, ◌||◌, ◌⊎◌, Bool, true, false, not, cond, List, [], ◌∷◌, find, is_none, is_some, Option, Some, None, refl, ap, sym, ◌∙◌, inl, inr}
+use Rattle.std.proofs.Common.{◌≡◌, ◌-◌, slice_get, ◌||◌, ◌⊎◌, Bool, true, false, not, List, find, is_none, is_some, Option, Some, None, refl, ap, sym, ◌∙◌, inl, inr}
 use Rattle.std.specs.Bool.{Decides}
 use Rattle.std.specs.List.{Contains, list_any}
 use Rattle.std.proofs.lemmas.List.Folds.{Any-from_list_any, list_any_at}
@@ -17,6 +17,10 @@ not_false false h = cc
 pub or_cases : (x y : Bool) → (x || y) ≡ true → (x ≡ true) ⊎ (y ≡ true)
 or_cases true y h = inl refl
 or_cases false y h = inr h
+
+pub or_right : (x y : Bool) → y ≡ true → (x || y) ≡ true
+or_right true y h = refl
+or_right false y h = h
 
 pub not_none : {A : Type 0} (o : Option A) → is_none o ≡ false → (x : A) × (o ≡ Some x)
 not_none None h = let bad : ⊥ = cc in absurd bad

@@ -1,8 +1,7 @@
 -- What may stand where an Undone answer leaves its payload out (profile).
-use Rattle.std.specs.Int.{w32}
-use Rattle.std.specs.Prelude.{◌≡◌, ℕ, ℤ, Bool, true, List, Option, Some, None, ◌<◌, ◌^◌, All, IfSome, IsUtf8, FitsSigned}
+use Rattle.std.specs.Prelude.{◌≡◌, ℕ, ℤ, Bool, true, List, Option, Some, None}
 use Rattle.kmipa_object.specs.Inventory.{Thing}
-use Rattle.kmipa_msgs.specs.Messages.{RulesOf, AskedOf, AskOf, PayloadOf, created, registered, got, got_attributes, changed, AnswerOf, BlockOf}
+use Rattle.kmipa_msgs.specs.Messages.{RulesOf, AskedOf, AskOf, PayloadOf, AnswerOf}
 use Rattle.kmipa_msgs.specs.declared.response.Status.{Status}
 use Rattle.kmipa_msgs.specs.declared.response.Status.TheVariants.{Success, Failed, Undone}
 use Rattle.kmipa_ops.specs.Does.{Does}

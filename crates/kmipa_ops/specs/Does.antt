@@ -1,6 +1,6 @@
 -- What one item of a batch does: the inventory and the ID Placeholder before it, the moment, what was asked and answered, and the
 -- inventory and the placeholder after it (KMIP 2.1, section 6; what an answer may show and leave out: profile).
-use Rattle.std.specs.Prelude.{◌≡◌, ℕ, ℤ, true, List, Option}
+use Rattle.std.specs.Prelude.{◌≡◌, ℕ, ℤ, List, Option}
 use Rattle.kmipa_object.specs.Inventory.{Thing, cards}
 use Rattle.kmipa_msgs.specs.Messages.{RulesOf, AskedOf, AskOf, operation_asked, PayloadOf, AnswerOf}
 use Rattle.kmipa_msgs.specs.Operations.{operation_number}

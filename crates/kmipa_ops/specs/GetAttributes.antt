@@ -6,8 +6,9 @@ use Rattle.kmipa_attrs.specs.Sets.{NameOf, Attributes}
 use Rattle.kmipa_attrs.specs.ObjectTypes.{type_number}
 use Rattle.kmipa_object.specs.Inventory.{Card, Thing, live}
 use Rattle.kmipa_object.specs.Life.{Dates, state, state_number}
-use Rattle.kmipa_msgs.specs.Messages.{RulesOf, GetAttributesOf, GotAttributesOf, PayloadOf, got_attributes}
-use Rattle.kmipa_store.specs.Ledger.{Meaning, cards_of}
+use Rattle.kmipa_msgs.specs.Messages.{GetAttributesOf, GotAttributesOf, PayloadOf, got_attributes}
+use Rattle.kmipa_object.specs.declared.state.State.{State as StateOf}
+use Rattle.kmipa_store.specs.Ledger.{cards_of}
 use Rattle.kmipa_ops.specs.Sayable.{IsSayableId}
 use Rattle.kmipa_ops.specs.Row.{Deed, on_object}
 use Rattle.kmipa_ops.specs.declared.judged.Judged.{Judged}
@@ -106,9 +107,9 @@ is_foreign_date None own = false
 is_foreign_date (Some date) None = true
 is_foreign_date (Some date) (Some own) = not (int_eq date own)
 
-abbrev pub shows_other_value : Card → ℤ → Attributes → Bool
-shows_other_value c t shown =
-    is_other (λ (x y : ℕ). x == y) shown.object_type (type_number c.kind) || is_other (λ (x y : ℕ). x == y) shown.state (state_number (state c.dates t))
+abbrev pub shows_other_value : Card → StateOf → Attributes → Bool
+shows_other_value c s shown =
+    is_other (λ (x y : ℕ). x == y) shown.object_type (type_number c.kind) || is_other (λ (x y : ℕ). x == y) shown.state (state_number s)
     || clash (λ (x y : ℕ). x == y) shown.algorithm c.given.algorithm || clash int_eq shown.length c.given.length || clash int_eq shown.mask c.given.mask
 
 abbrev pub shows_other_date : Dates → Attributes → Bool
@@ -116,9 +117,9 @@ shows_other_date dates shown =
     clash int_eq shown.initial dates.initial || is_foreign_date shown.activation dates.activation || is_foreign_date shown.deactivation dates.deactivation
     || is_foreign_date shown.destroy dates.destroy || is_foreign_date shown.compromise dates.compromise
 
--- something is shown that isn't the object's at the moment
-abbrev pub shows_foreign : Card → ℤ → Attributes → Bool
-shows_foreign c t shown = has_stranger c.given.names shown.names || shows_other_value c t shown || shows_other_date c.dates shown
+-- something is shown that isn't the object's in this state
+abbrev pub shows_foreign : Card → StateOf → Attributes → Bool
+shows_foreign c s shown = has_stranger c.given.names shown.names || shows_other_value c s shown || shows_other_date c.dates shown
 
 -- an attribute is asked for, the object has it, and it isn't shown
 abbrev pub leaves_out : GetAttributesOf → Judged → Bool → Bool → Bool
@@ -153,7 +154,7 @@ lacks_required g c shown = live c && not g.has_others && lacks_asked g c shown
 -- the same of the object that is meant, where there is one
 abbrev pub shows_foreign_of : Option Card → ℤ → Attributes → Bool
 shows_foreign_of None t shown = false
-shows_foreign_of (Some c) t shown = shows_foreign c t shown
+shows_foreign_of (Some c) t shown = shows_foreign c (state c.dates t) shown
 
 abbrev pub lacks_required_of : GetAttributesOf → Option Card → Attributes → Bool
 lacks_required_of g None shown = false
@@ -168,10 +169,10 @@ get_attributes_speaks cs about t g (Some a) EchoDiffers = is_other_id a.id about
 get_attributes_speaks cs about t g shown why = false
 
 -- the reasons against an answer about an object, as they are looked at one after the other
-abbrev pub attributes_speak : Card → Option (List ℕ) → ℤ → GetAttributesOf → Option GotAttributesOf → Option Why
-attributes_speak c about t g None = None
-attributes_speak c about t g (Some a) =
-    cond (shows_foreign c t a.attributes) (Some AttributeDiffers)
+abbrev pub attributes_speak : Card → StateOf → Option (List ℕ) → GetAttributesOf → Option GotAttributesOf → Option Why
+attributes_speak c s about g None = None
+attributes_speak c s about g (Some a) =
+    cond (shows_foreign c s a.attributes) (Some AttributeDiffers)
     (cond (lacks_required g c a.attributes) (Some AttributeMissing) (cond (is_other_id a.id about) (Some EchoDiffers) None))
 
 -- ITS ROW

@@ -14,6 +14,8 @@ pub mod Changes
 pub mod Activate
 pub mod Revoke
 pub mod Destroy
+pub mod Looking
+pub mod Locate
 pub mod Subjects
 pub mod Rows
 pub mod Founded
@@ -25,5 +27,4 @@ pub mod Explains
 pub mod OneInventory
 pub mod After
 pub mod Shown
-pub mod Looking
-pub mod Locate
+pub mod Listing

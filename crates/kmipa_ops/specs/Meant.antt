@@ -9,11 +9,19 @@ use Rattle.kmipa_object.specs.declared.allow.Allow.TheVariants.{Not, Must, May}
 use Rattle.kmipa_object.specs.declared.life.Material.{Material}
 use Rattle.kmipa_object.specs.declared.life.Material.TheVariants.{Gone, Secret}
 use Rattle.kmipa_store.specs.Ledger.{Held, Known, Meaning, cards_of}
+use Rattle.kmipa_ops.specs.Objects.{meant}
+use Rattle.kmipa_ops.specs.Row.{SubjectOf, on_object, on_names, on_nothing}
 
 -- the place of the object that is meant, where an identifier is meant and an object has it
 abbrev pub place_meant : List Held → Option (List ℕ) → Option ℕ
 place_meant objects None = None
 place_meant objects (Some id) = place_of id (cards_of objects)
+
+-- the place of the object that a refusal is judged by
+abbrev pub place_about : List Held → Option (List ℕ) → SubjectOf → Option ℕ
+place_about objects before (on_object id act unjudged) = place_meant objects (meant id before)
+place_about objects before (on_names names) = None
+place_about objects before on_nothing = None
 
 -- the object itself
 abbrev pub object_meant : List Held → Option (List ℕ) → Option Held

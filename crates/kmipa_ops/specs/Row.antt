@@ -5,7 +5,6 @@ use Rattle.kmipa_object.specs.Inventory.{Thing}
 use Rattle.kmipa_object.specs.declared.allow.Act.{Act}
 use Rattle.kmipa_store.specs.Ledger.{Meaning}
 use Rattle.kmipa_msgs.specs.Messages.{RulesOf, PayloadOf}
-use Rattle.kmipa_msgs.specs.declared.response.Status.TheVariants.{Undone}
 use Rattle.kmipa_ops.specs.declared.why.Why.{Why}
 
 -- whom a refusal is judged by: the object that is meant with its row in the table of states (where `unjudged`, no cause is judged), or names

@@ -1,24 +1,18 @@
-//! An Activate.
+//! Activate.
 
-ghost use Rattle.kmipa_msgs.specs.Messages.{activates, maybe_lent};
+ghost use Rattle.kmipa_msgs.specs.Messages.{activate_of, activates};
 
 use crate::change::{Change, change_object, id_shown, is_change, why_not_changed};
 use crate::deed::{Deed, Subject};
 use crate::placeholder::Placeholder;
 use crate::why::Why;
-use kmipa_msgs::{Payload, Rules};
+use kmipa_msgs::{Activate, Payload, Rules};
 use kmipa_object::Act;
 use kmipa_store::Ledger;
 use std::alloc::{AllocError, Global};
 
-/// An Activate of the object that is meant.
-#[derive(Clone, Copy)]
-pub struct Activation<'a> {
-    pub id: Option<&'a str>,
-}
-
-impl<'a> Deed for Activation<'a> {
-    ghost asked = { λ about. activates (maybe_lent about.id) };
+impl<'a> Deed for Activate<'a> {
+    ghost asked = { λ activate. activates (activate_of activate) };
 
     fn is_of(&self, payload: &Payload) -> bool {
         is_change(payload)
@@ -46,26 +40,21 @@ impl<'a> Deed for Activation<'a> {
         ledger: &L,
         _rules: &Rules,
         placeholder: &Placeholder,
-        t: i64,
+        place: Option<usize>,
         payload: &Option<Payload>,
-    ) -> Option<Why> {
-        why_not_changed(
-            ledger,
-            placeholder.meant(self.id),
-            t,
-            Change::Activate,
-            id_shown(payload),
-        )
+    ) -> Result<Option<Why>, AllocError> {
+        let about = placeholder.meant(self.id);
+        Ok(why_not_changed(ledger, place, about, Change::Activate, id_shown(payload)))
     }
 
     fn leave<L: Ledger>(
         &self,
         _alloc: Global,
         ledger: &mut L,
-        placeholder: &mut Placeholder,
-        t: i64,
+        _placeholder: &mut Placeholder,
+        place: Option<usize>,
         _payload: &Option<Payload>,
     ) -> Result<(), AllocError> {
-        change_object(ledger, placeholder.meant(self.id), t, Change::Activate)
+        change_object(ledger, place, Change::Activate)
     }
 }

@@ -11,7 +11,7 @@ ghost use Rattle.kmipa_ops.specs.Whys.{whys};
 ghost use Rattle.kmipa_ops.specs.Adding.{MakesOwn, with_own, adding_speaks, kept, name_taken, newborn};
 
 use crate::echo::is_other_number;
-use crate::objects::any_live_named;
+use crate::names::any_live_named;
 use crate::placeholder::Placeholder;
 use crate::why::Why;
 use kmipa_attrs::{AttrSet, Name, ObjectType};
@@ -66,10 +66,9 @@ pub(crate) fn add<L: Ledger>(
     alloc: Global,
     ledger: &mut L,
     placeholder: &mut Placeholder,
-    t: i64,
     object: Newborn,
 ) -> Result<(), AllocError>
-    ensures { Leaves (L.state ledger.old) (with_own (L.state ledger.old).now (newborn t (lent object.entry.id) object.entry.kind (attributes_of object.entry.attributes)) (maybe_lent object.entry.material)) (Some (lent object.entry.id)) result (L.state ledger.new) (placeholder_of placeholder.new) }
+    ensures { Leaves (L.state ledger.old) (with_own (L.state ledger.old).now (newborn (L.moment ledger.old) (lent object.entry.id) object.entry.kind (attributes_of object.entry.attributes)) (maybe_lent object.entry.material)) (Some (lent object.entry.id)) result (L.state ledger.new) (placeholder_of placeholder.new) }
 {
     let Newborn {
         id,
@@ -79,6 +78,7 @@ pub(crate) fn add<L: Ledger>(
     } = object;
     let own_id = String::from_str(alloc, id)?;
     let held_id = String::from_str(alloc, id)?;
+    let t = ledger.moment();
     let activation = attributes.activation;
     let deactivation = attributes.deactivation;
     let given = kept(attributes);

@@ -1,6 +1,6 @@
 //! Activate, Revoke and Destroy: the operations that change an object.
 
-ghost use Rattle.std.specs.Prelude.{◌≡◌, IfOk, MatchResult, false, find, is_some, option_and_then, option_map, true};
+ghost use Rattle.std.specs.Prelude.{◌≡◌, ◌<◌, IfOk, IfSome, length, MatchResult, false, find, is_some, option_and_then, option_map, true};
 ghost use Rattle.kmipa_object.specs.Inventory.{card_of};
 ghost use Rattle.kmipa_object.specs.Life.{dates_of, state};
 ghost use Rattle.kmipa_object.specs.Table.{allowed};
@@ -8,16 +8,14 @@ ghost use Rattle.kmipa_msgs.specs.Messages.{maybe_lent, payload_of};
 ghost use Rattle.kmipa_ops.specs.After.{Changes};
 ghost use Rattle.kmipa_ops.specs.Changes.{act_of, dates_after, id_in, seen_changed};
 ghost use Rattle.kmipa_ops.specs.Whys.{whys};
-ghost use Rattle.kmipa_ops.specs.Changes.{dates_left, material_after, material_left, with_changed, change_speaks};
-ghost use Rattle.kmipa_ops.specs.Meant.{is_not};
+ghost use Rattle.kmipa_ops.specs.Changes.{changed_at, dates_left, held_left, material_after, material_left, change_speaks};
+ghost use Rattle.kmipa_ops.specs.Meant.{is_not, place_meant};
 
 use crate::echo::is_other_id;
-use crate::objects::{object_meant, place_meant};
+use crate::objects::is_excluded;
 use crate::why::Why;
 use kmipa_msgs::Payload;
-use kmipa_object::{
-    Act, Allow, Life, Object, WrongState, activated, allows, destroyed, revoked, state_at,
-};
+use kmipa_object::{Act, Life, WrongState, activated, destroyed, revoked};
 use kmipa_store::Ledger;
 use std::alloc::AllocError;
 
@@ -50,36 +48,28 @@ pub(crate) fn id_shown<'a>(payload: &'a Option<Payload<'a>>) -> Option<&'a str>
     }
 }
 
-/// The lowest reason against a change that is done: of the object that is meant, whose identifier is shown so if it is.
+/// The lowest reason against a change that is done: of the object at this place, whose identifier is shown so if it is.
 pub(crate) fn why_not_changed<L: Ledger>(
     ledger: &L,
+    place: Option<usize>,
     about: Option<&str>,
-    t: i64,
     change: Change,
     shown: Option<&str>,
 ) -> Option<Why>
-    ensures { result ≡ find (change_speaks (L.state ledger.now).now.objects (maybe_lent about.entry) t change (maybe_lent shown.entry)) whys }
+    requires place { place ≡ place_meant (L.state ledger.now).now.objects (maybe_lent about) }
+    requires within { IfSome place (λ p. p < length (L.state ledger.now).now.objects) }
+    ensures { result ≡ find (change_speaks (L.state ledger.now).now.objects (maybe_lent about.entry) (L.moment ledger.now) change (maybe_lent shown.entry)) whys }
 {
-    let Some(object) = object_meant(ledger, about) else {
+    let Some(place) = place else {
         return Some(Why::NoSuchObject);
     };
-    if is_excluded(object, change, t) {
+    if is_excluded(act_of(change), ledger.state(place)) {
         return Some(Why::WrongState);
     }
     if is_other_id(shown, about) {
         return Some(Why::EchoDiffers);
     }
     None
-}
-
-/// Whether the object's state excludes the change.
-fn is_excluded(object: &Object, change: Change, t: i64) -> bool
-    ensures { result ≡ is_not (allowed (act_of change) (state (card_of object.now).dates t)) }
-{
-    match allows(act_of(change), state_at(&object.life, t)) {
-        Allow::Not => true,
-        Allow::Must | Allow::May => false,
-    }
 }
 
 /// Its row in the table of states.
@@ -93,19 +83,19 @@ pub(crate) fn act_of(change: Change) -> Act
     }
 }
 
-/// From now on the object that is meant leads the life that the change leaves.
+/// From now on the object at this place leads the life that the change leaves.
 pub(crate) fn change_object<L: Ledger>(
     ledger: &mut L,
-    about: Option<&str>,
-    t: i64,
+    place: Option<usize>,
     change: Change,
 ) -> Result<(), AllocError>
-    ensures { Changes (L.state ledger.old) (with_changed (L.state ledger.old).now (maybe_lent about.entry) t change) result (L.state ledger.new) }
+    requires { IfSome place (λ p. p < length (L.state ledger.old).now.objects) }
+    ensures { Changes (L.state ledger.old) (record { objects = changed_at (L.state ledger.old).now.objects place (held_left change (L.moment ledger.old)); secrets = (L.state ledger.old).now.secrets }) result (L.state ledger.new) }
 {
-    let Some(place) = place_meant(ledger, about) else {
+    let Some(place) = place else {
         return Ok(());
     };
-    let life = life_left(ledger.at(place).life, change, t);
+    let life = life_left(ledger.at(place).life, change, ledger.moment());
     match ledger.replace(place, life) {
         Ok(()) => Ok(()),
         Err(_) => Err(AllocError),

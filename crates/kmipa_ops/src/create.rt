@@ -53,12 +53,12 @@ impl Deed for Create {
         ledger: &L,
         rules: &Rules,
         _placeholder: &Placeholder,
-        _t: i64,
+        _place: Option<usize>,
         payload: &Option<Payload>,
-    ) -> Option<Why> {
+    ) -> Result<Option<Why>, AllocError> {
         match shown(payload) {
-            Some(created) => why_not_created(ledger, rules, &self.attributes, created),
-            None => None,
+            Some(created) => Ok(why_not_created(ledger, rules, &self.attributes, created)),
+            None => Ok(None),
         }
     }
 
@@ -67,11 +67,11 @@ impl Deed for Create {
         alloc: Global,
         ledger: &mut L,
         placeholder: &mut Placeholder,
-        t: i64,
+        _place: Option<usize>,
         payload: &Option<Payload>,
     ) -> Result<(), AllocError> {
         match shown(payload) {
-            Some(created) => create(alloc, ledger, placeholder, t, &self.attributes, created.id),
+            Some(created) => create(alloc, ledger, placeholder, &self.attributes, created.id),
             None => Ok(()),
         }
     }
@@ -112,11 +112,10 @@ pub(crate) fn create<L: Ledger>(
     alloc: Global,
     ledger: &mut L,
     placeholder: &mut Placeholder,
-    t: i64,
     attributes: &AttrSet,
     id: &str,
 ) -> Result<(), AllocError>
-    ensures { Leaves (L.state ledger.old) (with_own (L.state ledger.old).now (newborn t id.now SymmetricKey (attributes_of attributes.now)) None) (Some id.now) result (L.state ledger.new) (placeholder_of placeholder.new) }
+    ensures { Leaves (L.state ledger.old) (with_own (L.state ledger.old).now (newborn (L.moment ledger.old) id.now SymmetricKey (attributes_of attributes.now)) None) (Some id.now) result (L.state ledger.new) (placeholder_of placeholder.new) }
 {
     let newborn = Newborn {
         id,
@@ -124,5 +123,5 @@ pub(crate) fn create<L: Ledger>(
         attributes: attributes.copy(alloc)?,
         material: None,
     };
-    add(alloc, ledger, placeholder, t, newborn)
+    add(alloc, ledger, placeholder, newborn)
 }

@@ -20,13 +20,14 @@ pub enum Subject<'a> {
 
 /// An operation that an item asks for.
 pub(crate) trait Deed {
-    ghost use Rattle.std.specs.Prelude.{◌≡◌, find, option_map};
+    ghost use Rattle.std.specs.Prelude.{◌≡◌, ◌<◌, IfOk, IfSome, find, length, option_map};
     ghost use Rattle.kmipa_store.specs.Choices.{IsSound};
     ghost use Rattle.kmipa_msgs.specs.Messages.{AskedOf, maybe_lent, payload_of, rules_of};
     ghost use Rattle.kmipa_ops.specs.After.{Leaves, after_done, placeholder_done};
     ghost use Rattle.kmipa_ops.specs.Blame.{done_speaks};
     ghost use Rattle.kmipa_ops.specs.Completes.{is_idle, is_of, may_lack};
     ghost use Rattle.kmipa_ops.specs.Explains.{brings};
+    ghost use Rattle.kmipa_ops.specs.Meant.{place_about};
     ghost use Rattle.kmipa_ops.specs.Placeholders.{placeholder_of};
     ghost use Rattle.kmipa_ops.specs.Row.{row_subject};
     ghost use Rattle.kmipa_ops.specs.Rows.{row_of};
@@ -56,18 +57,20 @@ pub(crate) trait Deed {
     fn brings(&self) -> Option<&[u8]>
         ensures { maybe_lent result ≡ brings (asked self.now) };
 
-    /// The lowest reason against it where it is done, with its payload or without one.
+    /// The lowest reason against it where it is done, with its payload or without one; `place` is that of the object that is meant.
     fn why_not_done<L: Ledger>(
         &self,
         alloc: Global,
         ledger: &L,
         rules: &Rules,
         placeholder: &Placeholder,
-        t: i64,
+        place: Option<usize>,
         payload: &Option<Payload>,
-    ) -> Option<Why>
-        requires { IsSound (L.state ledger.now).now }
-        ensures { result ≡ find (done_speaks (rules_of rules.now) (L.state ledger.now).now (placeholder_of placeholder.now) t (asked self.now) (option_map payload_of payload.now)) whys };
+    ) -> Result<Option<Why>, AllocError>
+        requires sound { IsSound (L.state ledger.now).now }
+        requires place { place ≡ place_about (L.state ledger.now).now.objects (placeholder_of placeholder.now) (row_subject (row_of (asked self.now))) }
+        requires within { IfSome place (λ p. p < length (L.state ledger.now).now.objects) }
+        ensures { IfOk result (λ why. why ≡ find (done_speaks (rules_of rules.now) (L.state ledger.now).now (placeholder_of placeholder.now) (L.moment ledger.now) (asked self.now) (option_map payload_of payload.now)) whys) };
 
     /// Leaves the ledger and the placeholder as it does where nothing speaks against it.
     fn leave<L: Ledger>(
@@ -75,9 +78,11 @@ pub(crate) trait Deed {
         alloc: Global,
         ledger: &mut L,
         placeholder: &mut Placeholder,
-        t: i64,
+        place: Option<usize>,
         payload: &Option<Payload>,
     ) -> Result<(), AllocError>
-        requires { IsSound (L.state ledger.old).now }
-        ensures { Leaves (L.state ledger.old) (after_done (L.state ledger.old).now (placeholder_of placeholder.old) t (asked self.now) (option_map payload_of payload.now)) (placeholder_done (placeholder_of placeholder.old) (asked self.now) (option_map payload_of payload.now)) result (L.state ledger.new) (placeholder_of placeholder.new) };
+        requires sound { IsSound (L.state ledger.old).now }
+        requires place { place ≡ place_about (L.state ledger.old).now.objects (placeholder_of placeholder.old) (row_subject (row_of (asked self.now))) }
+        requires within { IfSome place (λ p. p < length (L.state ledger.old).now.objects) }
+        ensures { Leaves (L.state ledger.old) (after_done (L.state ledger.old).now (placeholder_of placeholder.old) (L.moment ledger.old) (asked self.now) (option_map payload_of payload.now)) (placeholder_done (placeholder_of placeholder.old) (asked self.now) (option_map payload_of payload.now)) result (L.state ledger.new) (placeholder_of placeholder.new) };
 }

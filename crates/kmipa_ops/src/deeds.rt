@@ -6,17 +6,12 @@ macro_rules! with_deed {
         match $asked {
             Asked::Create($deed) => $then,
             Asked::Register($deed) => $then,
+            Asked::Locate($deed) => $then,
             Asked::Get($deed) => $then,
             Asked::GetAttributes($deed) => $then,
-            Asked::Activate(about) => {
-                let $deed = &Activation { id: about.id };
-                $then
-            }
+            Asked::Activate($deed) => $then,
             Asked::Revoke($deed) => $then,
-            Asked::Destroy(about) => {
-                let $deed = &Destruction { id: about.id };
-                $then
-            }
+            Asked::Destroy($deed) => $then,
             Asked::Idle(number) => {
                 let $deed = &Idle(*number);
                 $then

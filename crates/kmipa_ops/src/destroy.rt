@@ -1,24 +1,18 @@
-//! A Destroy.
+//! Destroy.
 
-ghost use Rattle.kmipa_msgs.specs.Messages.{destroys, maybe_lent};
+ghost use Rattle.kmipa_msgs.specs.Messages.{destroy_of, destroys};
 
 use crate::change::{Change, change_object, id_shown, is_change, why_not_changed};
 use crate::deed::{Deed, Subject};
 use crate::placeholder::Placeholder;
 use crate::why::Why;
-use kmipa_msgs::{Payload, Rules};
+use kmipa_msgs::{Destroy, Payload, Rules};
 use kmipa_object::Act;
 use kmipa_store::Ledger;
 use std::alloc::{AllocError, Global};
 
-/// A Destroy of the object that is meant.
-#[derive(Clone, Copy)]
-pub struct Destruction<'a> {
-    pub id: Option<&'a str>,
-}
-
-impl<'a> Deed for Destruction<'a> {
-    ghost asked = { λ about. destroys (maybe_lent about.id) };
+impl<'a> Deed for Destroy<'a> {
+    ghost asked = { λ destroy. destroys (destroy_of destroy) };
 
     fn is_of(&self, payload: &Payload) -> bool {
         is_change(payload)
@@ -46,26 +40,21 @@ impl<'a> Deed for Destruction<'a> {
         ledger: &L,
         _rules: &Rules,
         placeholder: &Placeholder,
-        t: i64,
+        place: Option<usize>,
         payload: &Option<Payload>,
-    ) -> Option<Why> {
-        why_not_changed(
-            ledger,
-            placeholder.meant(self.id),
-            t,
-            Change::Destroy,
-            id_shown(payload),
-        )
+    ) -> Result<Option<Why>, AllocError> {
+        let about = placeholder.meant(self.id);
+        Ok(why_not_changed(ledger, place, about, Change::Destroy, id_shown(payload)))
     }
 
     fn leave<L: Ledger>(
         &self,
         _alloc: Global,
         ledger: &mut L,
-        placeholder: &mut Placeholder,
-        t: i64,
+        _placeholder: &mut Placeholder,
+        place: Option<usize>,
         _payload: &Option<Payload>,
     ) -> Result<(), AllocError> {
-        change_object(ledger, placeholder.meant(self.id), t, Change::Destroy)
+        change_object(ledger, place, Change::Destroy)
     }
 }

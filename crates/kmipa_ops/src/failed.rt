@@ -1,24 +1,24 @@
 //! Failed answers: which of their reasons are founded.
 
-ghost use Rattle.std.specs.Prelude.{◌≡◌, ◌&&◌, ◌==◌, map, not};
+ghost use Rattle.std.specs.Prelude.{◌≡◌, ◌<◌, ◌&&◌, ◌==◌, IfSome, length, map, not};
 ghost use Rattle.std.specs.List.{list_any};
 ghost use Rattle.kmipa_attrs.specs.Sets.{name_of};
-ghost use Rattle.kmipa_object.specs.Inventory.{card_of};
-ghost use Rattle.kmipa_object.specs.Life.{state};
 ghost use Rattle.kmipa_object.specs.Table.{allowed};
 ghost use Rattle.kmipa_store.specs.Ledger.{cards_of};
 ghost use Rattle.kmipa_msgs.specs.Messages.{maybe_lent, rules_of};
 ghost use Rattle.kmipa_ops.specs.Founded.{founded_of, has_cause, has_row, holds_about, holds_of, holds_named, is_live_there, is_must, is_of_nothing, is_refusable};
+ghost use Rattle.kmipa_ops.specs.Meant.{place_about, place_meant};
 ghost use Rattle.kmipa_ops.specs.Objects.{card_meant};
 ghost use Rattle.kmipa_ops.specs.Placeholders.{placeholder_of};
 ghost use Rattle.kmipa_ops.specs.Subjects.{subject_of};
 
 use crate::deed::Subject;
-use crate::objects::{any_named, is_live, object_meant};
+use crate::names::any_named;
+use crate::objects::is_live;
 use crate::placeholder::Placeholder;
 use kmipa_attrs::Name;
 use kmipa_msgs::{Cause, Row, Rules};
-use kmipa_object::{Act, Allow, Object, allows, state_at};
+use kmipa_object::{Act, Allow, State, allows};
 use kmipa_store::Ledger;
 
 /// Whether a failed answer's reason is founded.
@@ -26,17 +26,19 @@ pub(crate) fn is_founded<L: Ledger>(
     ledger: &L,
     rules: &Rules,
     placeholder: &Placeholder,
-    t: i64,
+    place: Option<usize>,
     subject: Subject<'_>,
     reason: Option<u32>,
 ) -> bool
-    ensures { result ≡ founded_of (rules_of rules.now) (cards_of (L.state ledger.now).now.objects) (placeholder_of placeholder.now) t (subject_of subject.entry) reason }
+    requires place { place ≡ place_about (L.state ledger.now).now.objects (placeholder_of placeholder.now) (subject_of subject) }
+    requires within { IfSome place (λ p. p < length (L.state ledger.now).now.objects) }
+    ensures { result ≡ founded_of (rules_of rules.now) (cards_of (L.state ledger.now).now.objects) (placeholder_of placeholder.now) (L.moment ledger.now) (subject_of subject.entry) reason }
 {
     match reason {
         Some(reason) => {
             !has_row(rules, reason)
                 || is_of_nothing(placeholder, subject)
-                || has_cause(ledger, rules, placeholder, t, subject, reason)
+                || has_cause(ledger, rules, placeholder, place, subject, reason)
         }
         None => true,
     }
@@ -68,17 +70,19 @@ fn has_cause<L: Ledger>(
     ledger: &L,
     rules: &Rules,
     placeholder: &Placeholder,
-    t: i64,
+    place: Option<usize>,
     subject: Subject<'_>,
     reason: u32,
 ) -> bool
-    ensures { result ≡ has_cause (rules_of rules.now) (cards_of (L.state ledger.now).now.objects) (placeholder_of placeholder.now) t (subject_of subject.entry) reason }
+    requires place { place ≡ place_about (L.state ledger.now).now.objects (placeholder_of placeholder.now) (subject_of subject) }
+    requires within { IfSome place (λ p. p < length (L.state ledger.now).now.objects) }
+    ensures { result ≡ has_cause (rules_of rules.now) (cards_of (L.state ledger.now).now.objects) (placeholder_of placeholder.now) (L.moment ledger.now) (subject_of subject.entry) reason }
 {
     any_cause(
         ledger,
         rules.rows.as_slice(),
         placeholder,
-        t,
+        place,
         subject,
         reason,
     )
@@ -88,14 +92,16 @@ fn any_cause<L: Ledger>(
     ledger: &L,
     rows: &[Row],
     placeholder: &Placeholder,
-    t: i64,
+    place: Option<usize>,
     subject: Subject<'_>,
     reason: u32,
 ) -> bool
-    ensures { result ≡ list_any (λ (row : Row). (row.reason == reason) && holds_of (cards_of (L.state ledger.now).now.objects) (placeholder_of placeholder.now) t (subject_of subject.entry) row.cause) rows.now }
+    requires place { place ≡ place_about (L.state ledger.now).now.objects (placeholder_of placeholder.now) (subject_of subject) }
+    requires within { IfSome place (λ p. p < length (L.state ledger.now).now.objects) }
+    ensures { result ≡ list_any (λ (row : Row). (row.reason == reason) && holds_of (cards_of (L.state ledger.now).now.objects) (placeholder_of placeholder.now) (L.moment ledger.now) (subject_of subject.entry) row.cause) rows.now }
 {
     for row in rows {
-        if is_cause(ledger, placeholder, t, subject, reason, *row) {
+        if is_cause(ledger, placeholder, place, subject, reason, *row) {
             return true;
         }
     }
@@ -105,42 +111,54 @@ fn any_cause<L: Ledger>(
 fn is_cause<L: Ledger>(
     ledger: &L,
     placeholder: &Placeholder,
-    t: i64,
+    place: Option<usize>,
     subject: Subject<'_>,
     reason: u32,
     row: Row,
 ) -> bool
-    ensures { result ≡ ((row.reason == reason) && holds_of (cards_of (L.state ledger.now).now.objects) (placeholder_of placeholder.now) t (subject_of subject.entry) row.cause) }
+    requires place { place ≡ place_about (L.state ledger.now).now.objects (placeholder_of placeholder.now) (subject_of subject) }
+    requires within { IfSome place (λ p. p < length (L.state ledger.now).now.objects) }
+    ensures { result ≡ ((row.reason == reason) && holds_of (cards_of (L.state ledger.now).now.objects) (placeholder_of placeholder.now) (L.moment ledger.now) (subject_of subject.entry) row.cause) }
 {
-    row.reason == reason && holds_of(ledger, placeholder, t, subject, row.cause)
+    row.reason == reason && holds_of(ledger, placeholder, place, subject, row.cause)
 }
 
 /// Whether the cause holds. Where it isn't judged for the operation, it counts as holding.
 fn holds_of<L: Ledger>(
     ledger: &L,
     placeholder: &Placeholder,
-    t: i64,
+    place: Option<usize>,
     subject: Subject<'_>,
     cause: Cause,
 ) -> bool
-    ensures { result ≡ holds_of (cards_of (L.state ledger.now).now.objects) (placeholder_of placeholder.now) t (subject_of subject.entry) cause }
+    requires place { place ≡ place_about (L.state ledger.now).now.objects (placeholder_of placeholder.now) (subject_of subject) }
+    requires within { IfSome place (λ p. p < length (L.state ledger.now).now.objects) }
+    ensures { result ≡ holds_of (cards_of (L.state ledger.now).now.objects) (placeholder_of placeholder.now) (L.moment ledger.now) (subject_of subject.entry) cause }
 {
     match subject {
         Subject::Object(id, act, unjudged) => {
-            unjudged || holds_about(ledger, placeholder.meant(id), t, act, cause)
+            unjudged || holds_about(ledger, place, placeholder.meant(id), act, cause)
         }
         Subject::Names(names) => holds_named(ledger, names, cause),
         Subject::Nothing => true,
     }
 }
 
-/// Whether a cause for refusing an operation on the object that is meant holds.
-fn holds_about<L: Ledger>(ledger: &L, about: Option<&str>, t: i64, act: Act, cause: Cause) -> bool
-    ensures { result ≡ holds_about (cards_of (L.state ledger.now).now.objects) (maybe_lent about.entry) t act cause }
+/// Whether a cause for refusing an operation on the object at this place holds.
+fn holds_about<L: Ledger>(
+    ledger: &L,
+    place: Option<usize>,
+    about: Option<&str>,
+    act: Act,
+    cause: Cause,
+) -> bool
+    requires place { place ≡ place_meant (L.state ledger.now).now.objects (maybe_lent about) }
+    requires within { IfSome place (λ p. p < length (L.state ledger.now).now.objects) }
+    ensures { result ≡ holds_about (cards_of (L.state ledger.now).now.objects) (maybe_lent about.entry) (L.moment ledger.now) act cause }
 {
     match cause {
-        Cause::NotFound => !is_live_there(ledger, about),
-        Cause::WrongState => is_refusable(ledger, act, t, about),
+        Cause::NotFound => !is_live_there(ledger, place, about),
+        Cause::WrongState => is_refusable(ledger, place, about, act),
         Cause::TakenName => true,
     }
 }
@@ -155,29 +173,33 @@ fn holds_named<L: Ledger>(ledger: &L, names: &[Name], cause: Cause) -> bool
     }
 }
 
-fn is_live_there<L: Ledger>(ledger: &L, about: Option<&str>) -> bool
+fn is_live_there<L: Ledger>(ledger: &L, place: Option<usize>, about: Option<&str>) -> bool
+    requires place { place ≡ place_meant (L.state ledger.now).now.objects (maybe_lent about) }
+    requires within { IfSome place (λ p. p < length (L.state ledger.now).now.objects) }
     ensures { result ≡ is_live_there (card_meant (cards_of (L.state ledger.now).now.objects) (maybe_lent about.entry)) }
 {
-    match object_meant(ledger, about) {
-        Some(object) => is_live(object),
+    match place {
+        Some(place) => is_live(ledger.at(place)),
         None => false,
     }
 }
 
 /// Whether the object is there, and its state lets the operation be refused.
-fn is_refusable<L: Ledger>(ledger: &L, act: Act, t: i64, about: Option<&str>) -> bool
-    ensures { result ≡ is_refusable act t (card_meant (cards_of (L.state ledger.now).now.objects) (maybe_lent about.entry)) }
+fn is_refusable<L: Ledger>(ledger: &L, place: Option<usize>, about: Option<&str>, act: Act) -> bool
+    requires place { place ≡ place_meant (L.state ledger.now).now.objects (maybe_lent about) }
+    requires within { IfSome place (λ p. p < length (L.state ledger.now).now.objects) }
+    ensures { result ≡ is_refusable act (L.moment ledger.now) (card_meant (cards_of (L.state ledger.now).now.objects) (maybe_lent about.entry)) }
 {
-    match object_meant(ledger, about) {
-        Some(object) => is_doubted(object, act, t),
+    match place {
+        Some(place) => is_doubted(act, ledger.state(place)),
         None => false,
     }
 }
 
-fn is_doubted(object: &Object, act: Act, t: i64) -> bool
-    ensures { result ≡ not (is_must (allowed act (state (card_of object.now).dates t))) }
+fn is_doubted(act: Act, state: State) -> bool
+    ensures { result ≡ not (is_must (allowed act state)) }
 {
-    match allows(act, state_at(&object.life, t)) {
+    match allows(act, state) {
         Allow::Must => false,
         Allow::May | Allow::Not => true,
     }

@@ -1,6 +1,6 @@
 //! Get.
 
-ghost use Rattle.std.specs.Prelude.{◌≡◌, bytes_eq, cond, find, option_and_then, option_map, slice_get};
+ghost use Rattle.std.specs.Prelude.{◌≡◌, ◌<◌, IfSome, length, bytes_eq, cond, find, option_and_then, option_map, slice_get};
 ghost use Rattle.kmipa_object.specs.Inventory.{admits};
 ghost use Rattle.kmipa_store.specs.Choices.{IsSound};
 ghost use Rattle.kmipa_store.specs.Ledger.{held};
@@ -9,11 +9,11 @@ ghost use Rattle.kmipa_ops.specs.After.{Changes};
 ghost use Rattle.kmipa_ops.specs.Shown.{HasRule, IsSecretOf, bytes_speak, live_speak, shown_speak};
 ghost use Rattle.kmipa_ops.specs.Whys.{whys};
 ghost use Rattle.kmipa_ops.specs.Get.{get_speaks, seen_got, shows_other, taught};
-ghost use Rattle.kmipa_ops.specs.Meant.{object_meant};
+ghost use Rattle.kmipa_ops.specs.Meant.{place_meant};
 
 use crate::deed::{Deed, Subject};
 use crate::echo::{clash_lengths, clash_numbers, is_other_id, is_other_type};
-use crate::objects::object_meant;
+use crate::objects::is_excluded;
 use crate::placeholder::Placeholder;
 use crate::why::Why;
 use kmipa_msgs::{Get, Got, Payload, Rules};
@@ -53,22 +53,23 @@ impl<'a> Deed for Get<'a> {
         ledger: &L,
         _rules: &Rules,
         placeholder: &Placeholder,
-        t: i64,
+        place: Option<usize>,
         payload: &Option<Payload>,
-    ) -> Option<Why> {
-        why_not_got(ledger, placeholder.meant(self.id), t, shown(payload))
+    ) -> Result<Option<Why>, AllocError> {
+        let about = placeholder.meant(self.id);
+        Ok(why_not_got(ledger, place, about, shown(payload)))
     }
 
     fn leave<L: Ledger>(
         &self,
         _alloc: Global,
         ledger: &mut L,
-        placeholder: &mut Placeholder,
-        _t: i64,
+        _placeholder: &mut Placeholder,
+        place: Option<usize>,
         payload: &Option<Payload>,
     ) -> Result<(), AllocError> {
         match shown(payload) {
-            Some(got) => teach(ledger, placeholder.meant(self.id), got.block.material),
+            Some(got) => teach(ledger, place, got.block.material),
             None => Ok(()),
         }
     }
@@ -84,21 +85,27 @@ fn shown<'a>(payload: &'a Option<Payload<'a>>) -> Option<&'a Got<'a>>
     }
 }
 
-/// The lowest reason against a Get that is done: of the object that is meant, which is shown so if the payload is there.
+/// The lowest reason against a Get that is done: of the object at this place, which is shown so if the payload is there.
 pub(crate) fn why_not_got<L: Ledger>(
     ledger: &L,
+    place: Option<usize>,
     about: Option<&str>,
-    t: i64,
     shown: Option<&Got>,
 ) -> Option<Why>
-    requires { IsSound (L.state ledger.now).now }
-    ensures { result ≡ find (get_speaks (L.state ledger.now).now (maybe_lent about.entry) t (option_map (λ got. got_of got.now) shown.entry)) whys }
+    requires sound { IsSound (L.state ledger.now).now }
+    requires place { place ≡ place_meant (L.state ledger.now).now.objects (maybe_lent about) }
+    requires within { IfSome place (λ p. p < length (L.state ledger.now).now.objects) }
+    ensures { result ≡ find (get_speaks (L.state ledger.now).now (maybe_lent about.entry) (L.moment ledger.now) (option_map (λ got. got_of got.now) shown.entry)) whys }
 {
-    let Some(object) = object_meant(ledger, about) else {
+    let Some(place) = place else {
         return Some(Why::NoSuchObject);
     };
+    if is_excluded(Act::Get, ledger.state(place)) {
+        return Some(Why::WrongState);
+    }
+    let object = ledger.at(place);
     match object.life.material {
-        Material::Gone => Some(Why::WrongState),
+        Material::Gone => None,
         Material::Secret(secret) => why_not_live(ledger, about, object, secret, shown),
     }
 }
@@ -183,19 +190,20 @@ fn shows_other(object: &Object, got: &Got) -> bool
         || clash_lengths(got.block.length, object.given.length)
 }
 
-/// From now on the object that is meant has the bytes that were shown.
+/// From now on the object at this place has the bytes that were shown.
 pub(crate) fn teach<L: Ledger>(
     ledger: &mut L,
-    about: Option<&str>,
+    place: Option<usize>,
     bytes: &[u8],
 ) -> Result<(), AllocError>
-    requires { IsSound (L.state ledger.old).now }
-    ensures { Changes (L.state ledger.old) (taught (L.state ledger.old).now (object_meant (L.state ledger.old).now.objects (maybe_lent about.entry)) bytes.now) result (L.state ledger.new) }
+    requires sound { IsSound (L.state ledger.old).now }
+    requires within { IfSome place (λ p. p < length (L.state ledger.old).now.objects) }
+    ensures { Changes (L.state ledger.old) (taught (L.state ledger.old).now (option_and_then (slice_get (L.state ledger.old).now.objects) place) bytes.now) result (L.state ledger.new) }
 {
-    let Some(object) = object_meant(ledger, about) else {
+    let Some(place) = place else {
         return Ok(());
     };
-    let Material::Secret(secret) = object.life.material else {
+    let Material::Secret(secret) = ledger.at(place).life.material else {
         return Ok(());
     };
     match ledger.learn(secret, bytes) {

@@ -1,12 +1,13 @@
 //! Get Attributes.
 
-ghost use Rattle.std.specs.Prelude.{◌≡◌, find, option_and_then, option_map};
+ghost use Rattle.std.specs.Prelude.{◌≡◌, ◌<◌, IfSome, length, find, option_and_then, option_map};
 ghost use Rattle.std.specs.Ordering.{int_eq};
 ghost use Rattle.kmipa_attrs.specs.Sets.{attributes_of};
 ghost use Rattle.kmipa_object.specs.Inventory.{card_of};
 ghost use Rattle.kmipa_object.specs.Life.{dates_of};
 ghost use Rattle.kmipa_store.specs.Ledger.{cards_of};
 ghost use Rattle.kmipa_msgs.specs.Messages.{get_attributes_of, gets_attributes, got_attributes_of, maybe_lent, payload_of};
+ghost use Rattle.kmipa_ops.specs.Meant.{place_meant};
 ghost use Rattle.kmipa_ops.specs.Objects.{clash};
 ghost use Rattle.kmipa_ops.specs.GetAttributes.{seen_attributes, attributes_speak, get_attributes_speaks, is_foreign_date, shows_foreign, shows_other_date, shows_other_value};
 ghost use Rattle.kmipa_ops.specs.Whys.{whys};
@@ -14,13 +15,12 @@ ghost use Rattle.kmipa_ops.specs.Whys.{whys};
 use crate::deed::{Deed, Subject};
 use crate::echo::{clash_lengths, clash_numbers, is_other_id, is_other_number};
 use crate::names::has_stranger;
-use crate::objects::object_meant;
 use crate::placeholder::Placeholder;
 use crate::required::lacks_required;
 use crate::why::Why;
 use kmipa_attrs::AttrSet;
 use kmipa_msgs::{GetAttributes, GotAttributes, Payload, Rules};
-use kmipa_object::{Act, Life, Object, state_at};
+use kmipa_object::{Act, Life, Object, State};
 use kmipa_store::Ledger;
 use std::alloc::{AllocError, Global};
 
@@ -56,10 +56,11 @@ impl<'a> Deed for GetAttributes<'a> {
         ledger: &L,
         _rules: &Rules,
         placeholder: &Placeholder,
-        t: i64,
+        place: Option<usize>,
         payload: &Option<Payload>,
-    ) -> Option<Why> {
-        why_not_shown_attributes(ledger, placeholder.meant(self.id), t, self, shown(payload))
+    ) -> Result<Option<Why>, AllocError> {
+        let about = placeholder.meant(self.id);
+        Ok(why_not_shown_attributes(ledger, place, about, self, shown(payload)))
     }
 
     fn leave<L: Ledger>(
@@ -67,7 +68,7 @@ impl<'a> Deed for GetAttributes<'a> {
         _alloc: Global,
         _ledger: &mut L,
         _placeholder: &mut Placeholder,
-        _t: i64,
+        _place: Option<usize>,
         _payload: &Option<Payload>,
     ) -> Result<(), AllocError> {
         Ok(())
@@ -84,36 +85,38 @@ fn shown<'a>(payload: &'a Option<Payload<'a>>) -> Option<&'a GotAttributes<'a>>
     }
 }
 
-/// The lowest reason against a Get Attributes that is done: of the object that is meant these attributes are shown, if the payload is there.
+/// The lowest reason against a Get Attributes that is done: of the object at this place these attributes are shown, if the payload is there.
 pub(crate) fn why_not_shown_attributes<L: Ledger>(
     ledger: &L,
+    place: Option<usize>,
     about: Option<&str>,
-    t: i64,
     asked: &GetAttributes,
     shown: Option<&GotAttributes>,
 ) -> Option<Why>
-    ensures { result ≡ find (get_attributes_speaks (cards_of (L.state ledger.now).now.objects) (maybe_lent about.entry) t (get_attributes_of asked.now) (option_map (λ got. got_attributes_of got.now) shown.entry)) whys }
+    requires place { place ≡ place_meant (L.state ledger.now).now.objects (maybe_lent about) }
+    requires within { IfSome place (λ p. p < length (L.state ledger.now).now.objects) }
+    ensures { result ≡ find (get_attributes_speaks (cards_of (L.state ledger.now).now.objects) (maybe_lent about.entry) (L.moment ledger.now) (get_attributes_of asked.now) (option_map (λ got. got_attributes_of got.now) shown.entry)) whys }
 {
-    let Some(object) = object_meant(ledger, about) else {
+    let Some(place) = place else {
         return Some(Why::NoSuchObject);
     };
-    why_not_attributes(object, about, t, asked, shown)
+    why_not_attributes(ledger.at(place), ledger.state(place), about, asked, shown)
 }
 
 /// The lowest reason against an answer about an object.
 fn why_not_attributes(
     object: &Object,
+    state: State,
     about: Option<&str>,
-    t: i64,
     asked: &GetAttributes,
     shown: Option<&GotAttributes>,
 ) -> Option<Why>
-    ensures { result ≡ attributes_speak (card_of object.now) (maybe_lent about.entry) t (get_attributes_of asked.now) (option_map (λ got. got_attributes_of got.now) shown.entry) }
+    ensures { result ≡ attributes_speak (card_of object.now) state (maybe_lent about.entry) (get_attributes_of asked.now) (option_map (λ got. got_attributes_of got.now) shown.entry) }
 {
     let Some(got) = shown else {
         return None;
     };
-    if shows_foreign(object, t, &got.attributes) {
+    if shows_foreign(object, state, &got.attributes) {
         return Some(Why::AttributeDiffers);
     }
     if lacks_required(asked, object, &got.attributes) {
@@ -125,20 +128,20 @@ fn why_not_attributes(
     None
 }
 
-/// Whether something is shown that isn't the object's at this moment.
-fn shows_foreign(object: &Object, t: i64, shown: &AttrSet) -> bool
-    ensures { result ≡ shows_foreign (card_of object.now) t (attributes_of shown.now) }
+/// Whether something is shown that isn't the object's in this state.
+fn shows_foreign(object: &Object, state: State, shown: &AttrSet) -> bool
+    ensures { result ≡ shows_foreign (card_of object.now) state (attributes_of shown.now) }
 {
     has_stranger(object.given.names.as_slice(), shown.names.as_slice())
-        || shows_other_value(object, t, shown)
+        || shows_other_value(object, state, shown)
         || shows_other_date(&object.life, shown)
 }
 
-fn shows_other_value(object: &Object, t: i64, shown: &AttrSet) -> bool
-    ensures { result ≡ shows_other_value (card_of object.now) t (attributes_of shown.now) }
+fn shows_other_value(object: &Object, state: State, shown: &AttrSet) -> bool
+    ensures { result ≡ shows_other_value (card_of object.now) state (attributes_of shown.now) }
 {
     is_other_number(shown.object_type, object.kind.number())
-        || is_other_number(shown.state, state_at(&object.life, t).number())
+        || is_other_number(shown.state, state.number())
         || clash_numbers(shown.algorithm, object.given.algorithm)
         || clash_lengths(shown.length, object.given.length)
         || clash_masks(shown.mask, object.given.mask)

@@ -46,10 +46,10 @@ impl Deed for Idle {
         _ledger: &L,
         _rules: &Rules,
         _placeholder: &Placeholder,
-        _t: i64,
+        _place: Option<usize>,
         _payload: &Option<Payload>,
-    ) -> Option<Why> {
-        None
+    ) -> Result<Option<Why>, AllocError> {
+        Ok(None)
     }
 
     fn leave<L: Ledger>(
@@ -57,7 +57,7 @@ impl Deed for Idle {
         _alloc: Global,
         _ledger: &mut L,
         _placeholder: &mut Placeholder,
-        _t: i64,
+        _place: Option<usize>,
         _payload: &Option<Payload>,
     ) -> Result<(), AllocError> {
         Ok(())
@@ -93,10 +93,10 @@ impl Deed for Unread {
         _ledger: &L,
         _rules: &Rules,
         _placeholder: &Placeholder,
-        _t: i64,
+        _place: Option<usize>,
         _payload: &Option<Payload>,
-    ) -> Option<Why> {
-        None
+    ) -> Result<Option<Why>, AllocError> {
+        Ok(None)
     }
 
     fn leave<L: Ledger>(
@@ -104,7 +104,7 @@ impl Deed for Unread {
         _alloc: Global,
         _ledger: &mut L,
         _placeholder: &mut Placeholder,
-        _t: i64,
+        _place: Option<usize>,
         _payload: &Option<Payload>,
     ) -> Result<(), AllocError> {
         Ok(())

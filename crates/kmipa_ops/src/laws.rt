@@ -3,6 +3,7 @@
 ghost use Rattle.kmipa_ops.specs.Chains.{ChainsComplete};
 ghost use Rattle.kmipa_ops.specs.Explains.{BlameIsExact};
 ghost use Rattle.kmipa_ops.specs.Founded.{FoundedIsDecided};
+ghost use Rattle.kmipa_ops.specs.Locate.{ListsAreDecided};
 ghost use Rattle.kmipa_ops.specs.OneInventory.{StandsForOne, TakingDecides};
 
 /// A chain whose answers may be completed is a chain of some completed answers.
@@ -29,4 +30,10 @@ pub fn taking_decides()
 /// A reason passes the test exactly where it is founded.
 pub fn founded_is_decided()
     ensures { FoundedIsDecided }
+{}
+
+/// No reason speaks against what a Locate lists exactly where it is right: nothing twice, only objects that may be listed, at most the
+/// maximum, and each that must be unless as many as the maximum are.
+pub fn lists_are_decided()
+    ensures { ListsAreDecided }
 {}

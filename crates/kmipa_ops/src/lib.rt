@@ -10,11 +10,14 @@ mod deeds;
 mod destroy;
 mod echo;
 mod failed;
+mod fit;
 mod get;
 mod get_attributes;
 mod idle;
 mod judged;
 mod laws;
+mod listing;
+mod locate;
 mod names;
 mod objects;
 mod placeholder;
@@ -25,8 +28,10 @@ mod revoke;
 mod taking;
 mod why;
 
+pub use fit::{Fit, matches};
 pub use laws::{
-    blame_is_exact, chains_complete, founded_is_decided, stands_for_one, taking_decides,
+    blame_is_exact, chains_complete, founded_is_decided, lists_are_decided, stands_for_one,
+    taking_decides,
 };
 pub use placeholder::Placeholder;
 pub use readable::is_readable;

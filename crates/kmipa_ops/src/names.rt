@@ -1,13 +1,57 @@
 //! Names beside other names.
 
-ghost use Rattle.std.specs.Prelude.{◌≡◌, map, not};
+ghost use Rattle.std.specs.Prelude.{◌≡◌, is_some, map, not};
 ghost use Rattle.std.specs.List.{list_any};
 ghost use Rattle.kmipa_attrs.specs.Sets.{name_of};
-ghost use Rattle.kmipa_ops.specs.Objects.{same_name};
+ghost use Rattle.kmipa_store.specs.Ledger.{cards_of};
+ghost use Rattle.kmipa_store.specs.Queries.{any_live_named as any_live_has, next_named};
 ghost use Rattle.kmipa_ops.specs.GetAttributes.{has_stranger};
+ghost use Rattle.kmipa_ops.specs.Objects.{any_live_named, any_named, same_name};
 
-use crate::objects::is_among;
 use kmipa_attrs::Name;
+use kmipa_store::Ledger;
+
+/// Whether an object has one of these names, destroyed or not.
+pub(crate) fn any_named<L: Ledger>(ledger: &L, names: &[Name]) -> bool
+    ensures { result ≡ any_named (cards_of (L.state ledger.now).now.objects) (map name_of names.now) }
+{
+    any_had(ledger, names)
+}
+
+fn any_had<L: Ledger>(ledger: &L, names: &[Name]) -> bool
+    ensures { result ≡ list_any (λ (name : Name). is_some (next_named (name_of name).value name.kind 0 (L.state ledger.now).now.objects)) names.now }
+{
+    names.iter().any(|name| is_had(ledger, name))
+}
+
+/// Whether an object has this name.
+fn is_had<L: Ledger>(ledger: &L, name: &Name) -> bool
+    ensures { result ≡ is_some (next_named (name_of name.now).value name.now.kind 0 (L.state ledger.now).now.objects) }
+{
+    ledger
+        .next_named(name.value.as_str(), name.kind, 0)
+        .is_some()
+}
+
+/// Whether a live object has one of these names.
+pub(crate) fn any_live_named<L: Ledger>(ledger: &L, names: &[Name]) -> bool
+    ensures { result ≡ any_live_named (cards_of (L.state ledger.now).now.objects) (map name_of names.now) }
+{
+    any_live_had(ledger, names)
+}
+
+fn any_live_had<L: Ledger>(ledger: &L, names: &[Name]) -> bool
+    ensures { result ≡ list_any (λ (name : Name). any_live_has (name_of name).value name.kind (L.state ledger.now).now.objects) names.now }
+{
+    names.iter().any(|name| is_had_alive(ledger, name))
+}
+
+/// Whether a live object has this name.
+fn is_had_alive<L: Ledger>(ledger: &L, name: &Name) -> bool
+    ensures { result ≡ any_live_has (name_of name.now).value name.now.kind (L.state ledger.now).now.objects }
+{
+    ledger.any_live_named(name.value.as_str(), name.kind)
+}
 
 /// Whether one of the names isn't among those known.
 pub(crate) fn has_stranger(known: &[Name], names: &[Name]) -> bool
@@ -20,4 +64,17 @@ fn any_stranger(known: &[Name], names: &[Name]) -> bool
     ensures { result ≡ list_any (λ (n : Name). not (list_any (λ (k : Name). same_name (name_of k) (name_of n)) known.now)) names.now }
 {
     names.iter().any(|name| !is_among(name, known))
+}
+
+/// Whether a name is one of these.
+fn is_among(name: &Name, names: &[Name]) -> bool
+    ensures { result ≡ list_any (λ (asked : Name). same_name (name_of asked) (name_of name.now)) names.now }
+{
+    names.iter().any(|asked| is_same(asked, name))
+}
+
+fn is_same(a: &Name, b: &Name) -> bool
+    ensures { result ≡ same_name (name_of a.now) (name_of b.now) }
+{
+    a.kind == b.kind && a.value == b.value
 }

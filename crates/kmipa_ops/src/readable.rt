@@ -5,10 +5,8 @@ ghost use Rattle.kmipa_msgs.specs.Messages.{answer_of, asked_of, ask_of, payload
 ghost use Rattle.kmipa_ops.specs.Completes.{can_judge, has_payload, may_have};
 ghost use Rattle.kmipa_ops.specs.Explains.{is_readable};
 
-use crate::activate::Activation;
 use crate::deed::Deed;
 use crate::deeds::with_deed;
-use crate::destroy::Destruction;
 use crate::echo::is_other_number;
 use crate::idle::{Idle, Unread};
 use kmipa_msgs::{Answer, Ask, Asked, Payload, Status};

@@ -53,12 +53,12 @@ impl<'a> Deed for Register<'a> {
         ledger: &L,
         rules: &Rules,
         _placeholder: &Placeholder,
-        _t: i64,
+        _place: Option<usize>,
         payload: &Option<Payload>,
-    ) -> Option<Why> {
+    ) -> Result<Option<Why>, AllocError> {
         match shown(payload) {
-            Some(registered) => why_not_registered(alloc, ledger, rules, self, registered),
-            None => None,
+            Some(registered) => Ok(why_not_registered(alloc, ledger, rules, self, registered)),
+            None => Ok(None),
         }
     }
 
@@ -67,11 +67,11 @@ impl<'a> Deed for Register<'a> {
         alloc: Global,
         ledger: &mut L,
         placeholder: &mut Placeholder,
-        t: i64,
+        _place: Option<usize>,
         payload: &Option<Payload>,
     ) -> Result<(), AllocError> {
         match shown(payload) {
-            Some(registered) => register(alloc, ledger, placeholder, t, self, registered.id),
+            Some(registered) => register(alloc, ledger, placeholder, self, registered.id),
             None => Ok(()),
         }
     }
@@ -143,11 +143,10 @@ pub(crate) fn register<L: Ledger>(
     alloc: Global,
     ledger: &mut L,
     placeholder: &mut Placeholder,
-    t: i64,
     register: &Register,
     id: &str,
 ) -> Result<(), AllocError>
-    ensures { Leaves (L.state ledger.old) (with_own (L.state ledger.old).now (newborn t id.now register.now.object_type (brought (register_of register.now))) (Some (lent register.now.block.material))) (Some id.now) result (L.state ledger.new) (placeholder_of placeholder.new) }
+    ensures { Leaves (L.state ledger.old) (with_own (L.state ledger.old).now (newborn (L.moment ledger.old) id.now register.now.object_type (brought (register_of register.now))) (Some (lent register.now.block.material))) (Some id.now) result (L.state ledger.new) (placeholder_of placeholder.new) }
 {
     let newborn = Newborn {
         id,
@@ -155,7 +154,7 @@ pub(crate) fn register<L: Ledger>(
         attributes: brought(alloc, register)?,
         material: Some(register.block.material),
     };
-    add(alloc, ledger, placeholder, t, newborn)
+    add(alloc, ledger, placeholder, newborn)
 }
 
 /// The attributes that a Register brings.

@@ -40,28 +40,22 @@ impl<'a> Deed for Revoke<'a> {
         ledger: &L,
         _rules: &Rules,
         placeholder: &Placeholder,
-        t: i64,
+        place: Option<usize>,
         payload: &Option<Payload>,
-    ) -> Option<Why> {
+    ) -> Result<Option<Why>, AllocError> {
         let change = Change::Revoke(self.code);
-        why_not_changed(
-            ledger,
-            placeholder.meant(self.id),
-            t,
-            change,
-            id_shown(payload),
-        )
+        let about = placeholder.meant(self.id);
+        Ok(why_not_changed(ledger, place, about, change, id_shown(payload)))
     }
 
     fn leave<L: Ledger>(
         &self,
         _alloc: Global,
         ledger: &mut L,
-        placeholder: &mut Placeholder,
-        t: i64,
+        _placeholder: &mut Placeholder,
+        place: Option<usize>,
         _payload: &Option<Payload>,
     ) -> Result<(), AllocError> {
-        let change = Change::Revoke(self.code);
-        change_object(ledger, placeholder.meant(self.id), t, change)
+        change_object(ledger, place, Change::Revoke(self.code))
     }
 }

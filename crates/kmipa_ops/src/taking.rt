@@ -1,6 +1,6 @@
 //! One item of a batch, taken over any ledger.
 
-ghost use Rattle.std.specs.Prelude.{◌≡◌, ◌<◌, All, bytes_eq, cond, find, option_map, true};
+ghost use Rattle.std.specs.Prelude.{◌≡◌, ◌<◌, All, IfOk, IfSome, bytes_eq, cond, find, length, option_map, true};
 ghost use Rattle.kmipa_store.specs.Choices.{IsSound};
 ghost use Rattle.kmipa_msgs.specs.Operations.{operation_number};
 ghost use Rattle.kmipa_msgs.specs.Messages.{answer_of, ask_of, asked_of, maybe_lent, operation_asked, payload_of, rules_of};
@@ -8,17 +8,19 @@ ghost use Rattle.kmipa_ops.specs.After.{Leaves, after, placeholder_after};
 ghost use Rattle.kmipa_ops.specs.Asks.{ask_with};
 ghost use Rattle.kmipa_ops.specs.Blame.{failure_speaks, lowest, outcome_speaks};
 ghost use Rattle.kmipa_ops.specs.Explains.{AreBytes, Taken, TellsBytes, brings, is_readable, shows};
+ghost use Rattle.kmipa_ops.specs.Meant.{place_about};
 ghost use Rattle.kmipa_ops.specs.Objects.{clash};
 ghost use Rattle.kmipa_ops.specs.Placeholders.{placeholder_of};
+ghost use Rattle.kmipa_ops.specs.Row.{row_subject};
+ghost use Rattle.kmipa_ops.specs.Rows.{row_of};
 ghost use Rattle.kmipa_ops.specs.Whys.{whys};
 
-use crate::activate::Activation;
 use crate::deed::Deed;
 use crate::deeds::with_deed;
-use crate::destroy::Destruction;
 use crate::echo::{clash_bytes, is_other_number};
 use crate::failed::is_founded;
 use crate::idle::{Idle, Unread};
+use crate::objects::place_about;
 use crate::placeholder::Placeholder;
 use crate::why::{Refusal, Why};
 use kmipa_msgs::{Answer, Ask, Asked, Payload, Rules, Status};
@@ -54,16 +56,8 @@ pub fn take<L: Ledger>(
         batch_id: ask.batch_id,
         number: ask.number(),
     };
-    take_asked(
-        alloc,
-        ledger,
-        rules,
-        placeholder,
-        t,
-        frame,
-        &ask.asked,
-        answer,
-    )
+    ledger.set_moment(t);
+    take_asked(alloc, ledger, rules, placeholder, frame, &ask.asked, answer)
 }
 
 /// The list of the operations.
@@ -72,7 +66,6 @@ fn take_asked<L: Ledger>(
     ledger: &mut L,
     rules: &Rules,
     placeholder: &mut Placeholder,
-    t: i64,
     frame: Frame<'_>,
     asked: &Asked,
     answer: &Answer,
@@ -80,12 +73,12 @@ fn take_asked<L: Ledger>(
     requires sound { IsSound (L.state ledger.old).now }
     requires number { frame.number ≡ operation_number (operation_asked (asked_of asked.now)) }
     requires readable { is_readable (ask_with (maybe_lent frame.batch_id) (asked_of asked.now)) (answer_of answer.now) ≡ true }
-    ensures { Taken (rules_of rules.now) (L.state ledger.old) (placeholder_of placeholder.old) t (ask_with (maybe_lent frame.entry.batch_id) (asked_of asked.now)) (answer_of answer.now) result (L.state ledger.new) (placeholder_of placeholder.new) }
+    ensures { Taken (rules_of rules.now) (L.state ledger.old) (placeholder_of placeholder.old) (L.moment ledger.old) (ask_with (maybe_lent frame.entry.batch_id) (asked_of asked.now)) (answer_of answer.now) result (L.state ledger.new) (placeholder_of placeholder.new) }
 {
     with_deed!(
         asked,
         deed,
-        take_deed(alloc, ledger, rules, placeholder, t, frame, deed, answer)
+        take_deed(alloc, ledger, rules, placeholder, frame, deed, answer)
     )
 }
 
@@ -95,7 +88,6 @@ fn take_deed<D: Deed, L: Ledger>(
     ledger: &mut L,
     rules: &Rules,
     placeholder: &mut Placeholder,
-    t: i64,
     frame: Frame<'_>,
     deed: &D,
     answer: &Answer,
@@ -103,14 +95,27 @@ fn take_deed<D: Deed, L: Ledger>(
     requires sound { IsSound (L.state ledger.old).now }
     requires number { frame.number ≡ operation_number (operation_asked (D.asked deed.now)) }
     requires readable { is_readable (ask_with (maybe_lent frame.batch_id) (D.asked deed.now)) (answer_of answer.now) ≡ true }
-    ensures { Taken (rules_of rules.now) (L.state ledger.old) (placeholder_of placeholder.old) t (ask_with (maybe_lent frame.entry.batch_id) (D.asked deed.now)) (answer_of answer.now) result (L.state ledger.new) (placeholder_of placeholder.new) }
+    ensures { Taken (rules_of rules.now) (L.state ledger.old) (placeholder_of placeholder.old) (L.moment ledger.old) (ask_with (maybe_lent frame.entry.batch_id) (D.asked deed.now)) (answer_of answer.now) result (L.state ledger.new) (placeholder_of placeholder.new) }
 {
-    match lowest_why(alloc, ledger, rules, placeholder, t, frame, deed, answer) {
+    let place = place_about(ledger, placeholder, deed.subject());
+    let Ok(lowest) = lowest_why(
+        alloc,
+        ledger,
+        rules,
+        placeholder,
+        place,
+        frame,
+        deed,
+        answer,
+    ) else {
+        return Err(Refusal::Memory);
+    };
+    match lowest {
         Some(why) => Err(Refusal::Impossible(why)),
         None => {
             brings_bytes(deed);
             shows_bytes(&answer.payload);
-            match leave(alloc, ledger, placeholder, t, deed, answer) {
+            match leave(alloc, ledger, placeholder, place, deed, answer) {
                 Ok(()) => Ok(()),
                 Err(_) => Err(Refusal::Memory),
             }
@@ -124,21 +129,24 @@ fn lowest_why<D: Deed, L: Ledger>(
     ledger: &L,
     rules: &Rules,
     placeholder: &Placeholder,
-    t: i64,
+    place: Option<usize>,
     frame: Frame<'_>,
     deed: &D,
     answer: &Answer,
-) -> Option<Why>
+) -> Result<Option<Why>, AllocError>
     requires sound { IsSound (L.state ledger.now).now }
     requires number { frame.number ≡ operation_number (operation_asked (D.asked deed.now)) }
-    ensures { result ≡ lowest (rules_of rules.now) (L.state ledger.now).now (placeholder_of placeholder.now) t (ask_with (maybe_lent frame.entry.batch_id) (D.asked deed.now)) (answer_of answer.now) }
+    requires place { place ≡ place_about (L.state ledger.now).now.objects (placeholder_of placeholder.now) (row_subject (row_of (D.asked deed.now))) }
+    requires within { IfSome place (λ p. p < length (L.state ledger.now).now.objects) }
+    ensures { IfOk result (λ why. why ≡ lowest (rules_of rules.now) (L.state ledger.now).now (placeholder_of placeholder.now) (L.moment ledger.now) (ask_with (maybe_lent frame.entry.batch_id) (D.asked deed.now)) (answer_of answer.now)) }
 {
     if is_other_number(answer.operation, frame.number) {
-        return Some(Why::OperationDiffers);
+        return Ok(Some(Why::OperationDiffers));
     }
-    match outcome_why(alloc, ledger, rules, placeholder, t, deed, answer) {
-        Some(why) => Some(why),
-        None => echo_why(frame, answer),
+    let outcome = outcome_why(alloc, ledger, rules, placeholder, place, deed, answer)?;
+    match outcome {
+        Some(why) => Ok(Some(why)),
+        None => Ok(echo_why(frame, answer)),
     }
 }
 
@@ -158,18 +166,20 @@ fn outcome_why<D: Deed, L: Ledger>(
     ledger: &L,
     rules: &Rules,
     placeholder: &Placeholder,
-    t: i64,
+    place: Option<usize>,
     deed: &D,
     answer: &Answer,
-) -> Option<Why>
-    requires { IsSound (L.state ledger.now).now }
-    ensures { result ≡ find (outcome_speaks answer.now.status (rules_of rules.now) (L.state ledger.now).now (placeholder_of placeholder.now) t (D.asked deed.now) answer.now.reason (answer_of answer.now).payload) whys }
+) -> Result<Option<Why>, AllocError>
+    requires sound { IsSound (L.state ledger.now).now }
+    requires place { place ≡ place_about (L.state ledger.now).now.objects (placeholder_of placeholder.now) (row_subject (row_of (D.asked deed.now))) }
+    requires within { IfSome place (λ p. p < length (L.state ledger.now).now.objects) }
+    ensures { IfOk result (λ why. why ≡ find (outcome_speaks answer.now.status (rules_of rules.now) (L.state ledger.now).now (placeholder_of placeholder.now) (L.moment ledger.now) (D.asked deed.now) answer.now.reason (answer_of answer.now).payload) whys) }
 {
     match answer.status {
         Status::Success | Status::Undone => {
-            deed.why_not_done(alloc, ledger, rules, placeholder, t, &answer.payload)
+            deed.why_not_done(alloc, ledger, rules, placeholder, place, &answer.payload)
         }
-        Status::Failed => failure_why(ledger, rules, placeholder, t, deed, answer.reason),
+        Status::Failed => Ok(failure_why(ledger, rules, placeholder, place, deed, answer.reason)),
     }
 }
 
@@ -177,13 +187,15 @@ fn failure_why<D: Deed, L: Ledger>(
     ledger: &L,
     rules: &Rules,
     placeholder: &Placeholder,
-    t: i64,
+    place: Option<usize>,
     deed: &D,
     reason: Option<u32>,
 ) -> Option<Why>
-    ensures { result ≡ find (failure_speaks (rules_of rules.now) (L.state ledger.now).now (placeholder_of placeholder.now) t (D.asked deed.now) reason) whys }
+    requires place { place ≡ place_about (L.state ledger.now).now.objects (placeholder_of placeholder.now) (row_subject (row_of (D.asked deed.now))) }
+    requires within { IfSome place (λ p. p < length (L.state ledger.now).now.objects) }
+    ensures { result ≡ find (failure_speaks (rules_of rules.now) (L.state ledger.now).now (placeholder_of placeholder.now) (L.moment ledger.now) (D.asked deed.now) reason) whys }
 {
-    if is_founded(ledger, rules, placeholder, t, deed.subject(), reason) {
+    if is_founded(ledger, rules, placeholder, place, deed.subject(), reason) {
         None
     } else {
         Some(Why::ReasonUnfounded)
@@ -195,16 +207,18 @@ fn leave<D: Deed, L: Ledger>(
     alloc: Global,
     ledger: &mut L,
     placeholder: &mut Placeholder,
-    t: i64,
+    place: Option<usize>,
     deed: &D,
     answer: &Answer,
 ) -> Result<(), AllocError>
-    requires { IsSound (L.state ledger.old).now }
-    ensures { Leaves (L.state ledger.old) (after answer.now.status (L.state ledger.old).now (placeholder_of placeholder.old) t (D.asked deed.now) (answer_of answer.now).payload) (placeholder_after answer.now.status (placeholder_of placeholder.old) (D.asked deed.now) (answer_of answer.now).payload) result (L.state ledger.new) (placeholder_of placeholder.new) }
+    requires sound { IsSound (L.state ledger.old).now }
+    requires place { place ≡ place_about (L.state ledger.old).now.objects (placeholder_of placeholder.old) (row_subject (row_of (D.asked deed.now))) }
+    requires within { IfSome place (λ p. p < length (L.state ledger.old).now.objects) }
+    ensures { Leaves (L.state ledger.old) (after answer.now.status (L.state ledger.old).now (placeholder_of placeholder.old) (L.moment ledger.old) (D.asked deed.now) (answer_of answer.now).payload) (placeholder_after answer.now.status (placeholder_of placeholder.old) (D.asked deed.now) (answer_of answer.now).payload) result (L.state ledger.new) (placeholder_of placeholder.new) }
 {
     match answer.status {
         Status::Success | Status::Undone => {
-            deed.leave(alloc, ledger, placeholder, t, &answer.payload)
+            deed.leave(alloc, ledger, placeholder, place, &answer.payload)
         }
         Status::Failed => Ok(()),
     }

@@ -15,6 +15,7 @@ use std::alloc::Global;
 use std::test::Fail;
 
 mod lifecycle;
+mod locate;
 mod shown_attributes;
 
 const NOW: i64 = 1_700_000_000;

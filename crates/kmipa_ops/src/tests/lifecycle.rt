@@ -58,7 +58,7 @@ fn revoke(id: &str, code: u32) -> Item<'_> {
     item_of(Asked::Revoke(Revoke { id: Some(id), code }), changed())
 }
 
-fn destroy(id: &str) -> Item<'_> {
+pub(super) fn destroy(id: &str) -> Item<'_> {
     item_of(Asked::Destroy(Destroy { id: Some(id) }), changed())
 }
 

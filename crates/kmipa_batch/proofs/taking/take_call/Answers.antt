@@ -19,9 +19,9 @@ returns-in-Ok-take_items g c =
     taken_at_end (rules_of c.args.rules.now) (g.L.Ledger.state c.args.ledger.now) (g.L.Ledger.state c.mark.new.self) (g.L.Ledger.state c.take_items.new.ledger) (g.L.Ledger.state c.end.new.ledger)
     (request_of c.args.request.now) (response_of c.args.response.now) c.first_failed-failed.result (undoes c.args.request.now.option c.first_failed-failed.result)
     c.requires.sound (λ r. clash (c.if-is_refused_message.ensures.1 r)) (subst P c.deref.ensures.value c.first_failed-failed.ensures) refl
-    c.in-Ok.ensures.1 c.in-Ok-take_items.ensures c.end.ensures
+    c.in-Ok.ensures.meaning.1 c.in-Ok-take_items.ensures c.end.ensures
 
 pub returns-in-Err : goal.returns-in-Err
 returns-in-Err g c =
     refused_at_end (rules_of c.args.rules.now) (g.L.Ledger.state c.args.ledger.now) (g.L.Ledger.state c.mark.new.self) (g.L.Ledger.state c.take_items.new.ledger) (g.L.Ledger.state c.back.new.self)
-    (request_of c.args.request.now) (response_of c.args.response.now) c.in-Err.refusal c.in-Ok.ensures.1 c.in-Err.ensures c.back.ensures
+    (request_of c.args.request.now) (response_of c.args.response.now) c.in-Err.refusal c.in-Ok.ensures.meaning.1 c.in-Err.ensures c.back.ensures.meaning

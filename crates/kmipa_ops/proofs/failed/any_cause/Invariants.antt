@@ -9,5 +9,5 @@ use Rattle.kmipa_ops.proofs.failed.any_cause.Given as goal
 
 abbrev pub invariant-loop-row : goal.invariant-loop-row
 invariant-loop-row g l =
-    list_any (λ (row : Row). (row.reason == l.reason) && holds_of (cards_of (g.L.Ledger.state l.ledger).now.objects) (placeholder_of l.placeholder) l.t (subject_of l.subject) row.cause) l.rows
-    ≡ list_any (λ (row : Row). (row.reason == l.reason) && holds_of (cards_of (g.L.Ledger.state l.ledger).now.objects) (placeholder_of l.placeholder) l.t (subject_of l.subject) row.cause) (drop l.row-index l.rows)
+    list_any (λ (row : Row). (row.reason == l.reason) && holds_of (cards_of (g.L.Ledger.state l.ledger).now.objects) (placeholder_of l.placeholder) (g.L.Ledger.moment l.ledger) (subject_of l.subject) row.cause) l.rows
+    ≡ list_any (λ (row : Row). (row.reason == l.reason) && holds_of (cards_of (g.L.Ledger.state l.ledger).now.objects) (placeholder_of l.placeholder) (g.L.Ledger.moment l.ledger) (subject_of l.subject) row.cause) (drop l.row-index l.rows)

@@ -1,7 +1,5 @@
-use Rattle.std.proofs.Common.{◌∙◌, ◌==◌, ◌&&◌, ℤ, ap, sym}
+use Rattle.std.proofs.Common.{◌∙◌, ◌==◌, ◌&&◌, ap, sym}
 use Rattle.std.specs.List.{list_any}
-use Rattle.std.specs.Int.{w64}
-use Rattle.std.proofs.lemmas.Int.{to_z-of_z}
 use Rattle.kmipa_store.specs.Ledger.{cards_of}
 use Rattle.kmipa_msgs.specs.Messages.{RowOf, row_of}
 use Rattle.kmipa_ops.specs.Subjects.{subject_of}
@@ -15,8 +13,8 @@ pub returns : goal.returns
 returns g c =
     let cs = cards_of (g.L.Ledger.state c.args.ledger.now).now.objects in
     let p = placeholder_of c.args.placeholder.now in
+    let t = g.L.Ledger.moment c.args.ledger.now in
     let asked = subject_of c.args.subject in
     c.any_cause.ensures
-    ∙ ap (λ (t : ℤ). list_any (λ (row : Row). (row.reason == c.args.reason) && holds_of cs p t asked row.cause) c.as_slice.result.now) (to_z-of_z w64 c.args.t c.ranges.t)
-    ∙ ap (list_any (λ (row : Row). (row.reason == c.args.reason) && holds_of cs p c.args.t asked row.cause)) c.as_slice.ensures.value
-    ∙ sym (any_map (λ (row : RowOf). (row.reason == c.args.reason) && holds_of cs p c.args.t asked row.cause) row_of c.args.rules.now.rows.items)
+    ∙ ap (list_any (λ (row : Row). (row.reason == c.args.reason) && holds_of cs p t asked row.cause)) c.as_slice.ensures.value
+    ∙ sym (any_map (λ (row : RowOf). (row.reason == c.args.reason) && holds_of cs p t asked row.cause) row_of c.args.rules.now.rows.items)

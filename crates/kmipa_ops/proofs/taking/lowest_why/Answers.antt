@@ -1,6 +1,4 @@
-use Rattle.std.proofs.Common.{◌∙◌, ◌==◌, ℕ, ap, sym, Some, None}
-use Rattle.std.specs.Int.{w64}
-use Rattle.std.proofs.lemmas.Int.{to_z-of_z}
+use Rattle.std.proofs.Common.{◌∙◌, ◌==◌, ℕ, ap, sym, refl, Some, None}
 use Rattle.kmipa_msgs.specs.Messages.{answer_of, maybe_lent, rules_of}
 use Rattle.kmipa_ops.specs.Asks.{ask_with}
 use Rattle.kmipa_ops.specs.Objects.{is_other}
@@ -10,11 +8,13 @@ use Rattle.kmipa_ops.proofs.taking.lowest_why.Goals as goal
 
 pub returns-in-Some : goal.returns-in-Some
 returns-in-Some g c =
-    own_lowest (rules_of c.args.rules.now) (g.L.Ledger.state c.args.ledger.now).now (placeholder_of c.args.placeholder.now) c.args.t _ (ask_with (maybe_lent c.args.frame.batch_id) (g.D.Deed.asked c.args.deed.now)) (answer_of c.args.answer.now) (Some c.in-Some.why)
-    (sym (c.is_other_number.ensures ∙ ap (is_other (λ (x y : ℕ). x == y) c.args.answer.now.operation) c.requires.number) ∙ c.if-is_other_number.false) (to_z-of_z w64 c.args.t c.ranges.t) c.in-Some.ensures
+    own_lowest (rules_of c.args.rules.now) (g.L.Ledger.state c.args.ledger.now).now (placeholder_of c.args.placeholder.now) (g.L.Ledger.moment c.args.ledger.now) _
+    (ask_with (maybe_lent c.args.frame.batch_id) (g.D.Deed.asked c.args.deed.now)) (answer_of c.args.answer.now) (Some c.in-Some.why)
+    (sym (c.is_other_number.ensures ∙ ap (is_other (λ (x y : ℕ). x == y) c.args.answer.now.operation) c.requires.number) ∙ c.if-is_other_number.false) refl (sym c.in-Some.is ∙ c.in_ok-outcome.ensures)
 
 pub returns-in-None : goal.returns-in-None
 returns-in-None g c =
     c.echo_why.ensures
-    ∙ own_lowest (rules_of c.args.rules.now) (g.L.Ledger.state c.args.ledger.now).now (placeholder_of c.args.placeholder.now) c.args.t _ (ask_with (maybe_lent c.args.frame.batch_id) (g.D.Deed.asked c.args.deed.now)) (answer_of c.args.answer.now) None
-    (sym (c.is_other_number.ensures ∙ ap (is_other (λ (x y : ℕ). x == y) c.args.answer.now.operation) c.requires.number) ∙ c.if-is_other_number.false) (to_z-of_z w64 c.args.t c.ranges.t) c.in-None.ensures
+    ∙ own_lowest (rules_of c.args.rules.now) (g.L.Ledger.state c.args.ledger.now).now (placeholder_of c.args.placeholder.now) (g.L.Ledger.moment c.args.ledger.now) _
+    (ask_with (maybe_lent c.args.frame.batch_id) (g.D.Deed.asked c.args.deed.now)) (answer_of c.args.answer.now) None
+    (sym (c.is_other_number.ensures ∙ ap (is_other (λ (x y : ℕ). x == y) c.args.answer.now.operation) c.requires.number) ∙ c.if-is_other_number.false) refl (sym c.in-None.is ∙ c.in_ok-outcome.ensures)

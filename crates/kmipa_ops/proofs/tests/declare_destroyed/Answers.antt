@@ -8,5 +8,5 @@ use Rattle.kmipa_ops.proofs.tests.declare_destroyed.Goals as goal
 pub returns : goal.returns
 returns g c =
     let o : Object = record { id = c.in_ok-from_str.field-0; kind = SymmetricKey; given = c.new.result; life = c.life.result } in
-    buried_sound (g.L.Ledger.state c.args.ledger.now) (g.L.Ledger.state c.add.new.self) (held o) c.requires c.in_ok-add.ensures.0 c.in_ok-add.ensures.2 c.life.ensures.material
+    buried_sound (g.L.Ledger.state c.args.ledger.now) (g.L.Ledger.state c.add.new.self) (held o) c.requires c.in_ok-add.ensures.meaning.0 c.in_ok-add.ensures.meaning.2 c.life.ensures.material
     (ap is_none c.life.ensures.destroy)

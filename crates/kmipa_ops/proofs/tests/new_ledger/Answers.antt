@@ -5,4 +5,4 @@ use Rattle.kmipa_ops.proofs.AddLemmas.{empty_sound}
 use Rattle.kmipa_ops.proofs.tests.new_ledger.Goals as goal
 
 pub returns : goal.returns
-returns c = let P : LedgerState → Type 0 = λ s. IsSound s.now in subst P (sym c.new.ensures) empty_sound
+returns c = let P : LedgerState → Type 0 = λ s. IsSound s.now in subst P (sym c.new.ensures.meaning) empty_sound

@@ -1,0 +1,153 @@
+//! What a Locate lists.
+
+ghost use Rattle.std.specs.Prelude.{◌≡◌, ◌<◌, IfOk, IfSome, find, length, map, pos, not};
+ghost use Rattle.kmipa_attrs.specs.Filters.{filter_of};
+ghost use Rattle.kmipa_object.specs.Inventory.{card_of};
+ghost use Rattle.kmipa_store.specs.Choices.{IsSound};
+ghost use Rattle.kmipa_store.specs.Ledger.{cards_of};
+ghost use Rattle.kmipa_msgs.specs.Messages.{lent};
+ghost use Rattle.kmipa_ops.specs.Listing.{FitsAt, IsMissing, LeavesOut, NextCandidate, PlaceListed, Placed};
+ghost use Rattle.kmipa_ops.specs.Locate.{is_full, is_over, locate_speaks};
+ghost use Rattle.kmipa_ops.specs.Whys.{whys};
+
+use crate::fit::{Fit, matches};
+use crate::why::Why;
+use kmipa_attrs::Filter;
+use kmipa_store::Ledger;
+use std::alloc::{AllocError, Global};
+use std::collections::BTreeSet;
+
+/// The lowest reason against what a Locate lists.
+pub(crate) fn why_not_listed<L: Ledger>(
+    alloc: Global,
+    ledger: &L,
+    filter: &Filter,
+    listed: &[&str],
+) -> Result<Option<Why>, AllocError>
+    requires { IsSound (L.state ledger.now).now }
+    ensures { IfOk result (λ why. why ≡ find (locate_speaks (cards_of (L.state ledger.now).now.objects) (L.moment ledger.now) (filter_of filter.now) (Some (map lent listed.now))) whys) }
+{
+    if is_over(filter.maximum, listed.len()) {
+        return Ok(Some(Why::ListedWrongly));
+    }
+    let found = places_listed(alloc, ledger, filter, listed)?;
+    let Some(places) = found else {
+        return Ok(Some(Why::ListedWrongly));
+    };
+    if is_full(filter.maximum, listed.len()) {
+        return Ok(None);
+    }
+    if leaves_out(ledger, filter, &places) {
+        return Ok(Some(Why::ListedTooFew));
+    }
+    Ok(None)
+}
+
+/// Whether more are listed than the maximum.
+fn is_over(maximum: Option<i32>, count: usize) -> bool
+    ensures { result ≡ is_over maximum count }
+{
+    match maximum {
+        Some(most) => i128::from(most) < count as i128,
+        None => false,
+    }
+}
+
+/// Whether as many are listed as the maximum.
+fn is_full(maximum: Option<i32>, count: usize) -> bool
+    ensures { result ≡ is_full maximum count }
+{
+    match maximum {
+        Some(most) => !((count as i128) < i128::from(most)),
+        None => false,
+    }
+}
+
+/// The places of what is listed, unless something is listed twice or doesn't fit.
+fn places_listed<L: Ledger>(
+    alloc: Global,
+    ledger: &L,
+    filter: &Filter,
+    listed: &[&str],
+) -> Result<Option<BTreeSet<usize>>, AllocError>
+    ensures { IfOk result (λ places. Placed (cards_of (L.state ledger.now).now.objects) (L.moment ledger.now) (filter_of filter.now) (map lent listed.now) places) }
+{
+    let mut places = BTreeSet::new(alloc);
+    for id in listed {
+        let Some(place) = place_listed(ledger, filter, id) else {
+            return Ok(None);
+        };
+        let is_new = places.insert(place)?;
+        if !is_new {
+            return Ok(None);
+        }
+    }
+    Ok(Some(places))
+}
+
+/// The place of an identifier that is listed rightly: its object is there, and may be listed.
+fn place_listed<L: Ledger>(ledger: &L, filter: &Filter, id: &str) -> Option<usize>
+    ensures { PlaceListed (cards_of (L.state ledger.now).now.objects) (L.moment ledger.now) (filter_of filter.now) id.now result }
+{
+    let place = ledger.find(id)?;
+    match fit_at(ledger, filter, place) {
+        Fit::Must => Some(place),
+        Fit::May => Some(place),
+        Fit::Not => None,
+    }
+}
+
+/// Whether an object isn't at one of these places that must be.
+fn leaves_out<L: Ledger>(ledger: &L, filter: &Filter, places: &BTreeSet<usize>) -> bool
+    ensures { LeavesOut (L.state ledger.now).now.objects (L.moment ledger.now) (filter_of filter.now) places.now result }
+{
+    let end = ledger.len();
+    let mut from = 0;
+    'scan: while from < end {
+        let Some(place) = next_candidate(ledger, filter, from) else {
+            return false;
+        };
+        if is_missing(ledger, filter, places, place) {
+            return true;
+        }
+        from = place + 1;
+    }
+    false
+}
+
+/// The next place from this one on of an object that the filter's first name allows.
+fn next_candidate<L: Ledger>(ledger: &L, filter: &Filter, from: usize) -> Option<usize>
+    requires { from < length (L.state ledger.now).now.objects }
+    ensures next { NextCandidate (L.state ledger.now).now.objects (L.moment ledger.now) (filter_of filter.now) from result }
+    ensures within { IfSome result (λ place. place < length (L.state ledger.now).now.objects) }
+{
+    match filter.names.as_slice().first() {
+        Some(name) => ledger.next_named(name.value.as_str(), name.kind, from),
+        None => Some(from),
+    }
+}
+
+/// Whether the object at a place must be listed, and its place isn't among these.
+fn is_missing<L: Ledger>(
+    ledger: &L,
+    filter: &Filter,
+    places: &BTreeSet<usize>,
+    place: usize,
+) -> bool
+    requires { place < length (L.state ledger.now).now.objects }
+    ensures { IsMissing (L.state ledger.now).now.objects (L.moment ledger.now) (filter_of filter.now) places.now place result }
+{
+    match fit_at(ledger, filter, place) {
+        Fit::Must => !places.contains(&place),
+        Fit::May => false,
+        Fit::Not => false,
+    }
+}
+
+/// How the object at a place fits at the moment.
+fn fit_at<L: Ledger>(ledger: &L, filter: &Filter, place: usize) -> Fit
+    requires { place < length (L.state ledger.now).now.objects }
+    ensures { FitsAt (L.state ledger.now).now.objects (L.moment ledger.now) (filter_of filter.now) place result }
+{
+    matches(ledger.at(place), filter, ledger.state(place))
+}

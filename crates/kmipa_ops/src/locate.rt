@@ -1,0 +1,95 @@
+//! Locate.
+
+ghost use Rattle.std.specs.Prelude.{◌≡◌, OnOk, map, option_and_then, option_map};
+ghost use Rattle.kmipa_msgs.specs.Messages.{lent, locate_of, located_of, locates, payload_of};
+ghost use Rattle.kmipa_ops.specs.Locate.{only, seen_located};
+ghost use Rattle.kmipa_ops.specs.Placeholders.{placeholder_of};
+
+use crate::deed::{Deed, Subject};
+use crate::listing::why_not_listed;
+use crate::placeholder::Placeholder;
+use crate::why::Why;
+use kmipa_msgs::{Locate, Located, Payload, Rules};
+use kmipa_store::Ledger;
+use std::alloc::{AllocError, Global};
+
+impl Deed for Locate {
+    ghost asked = { λ locate. locates (locate_of locate) };
+
+    fn is_of(&self, payload: &Payload) -> bool {
+        match payload {
+            Payload::Locate(_) => true,
+            _ => false,
+        }
+    }
+
+    fn may_lack(&self) -> bool {
+        false
+    }
+
+    fn is_idle(&self) -> bool {
+        false
+    }
+
+    fn subject(&self) -> Subject<'_> {
+        Subject::Nothing
+    }
+
+    fn brings(&self) -> Option<&[u8]> {
+        None
+    }
+
+    fn why_not_done<L: Ledger>(
+        &self,
+        alloc: Global,
+        ledger: &L,
+        _rules: &Rules,
+        _placeholder: &Placeholder,
+        _place: Option<usize>,
+        payload: &Option<Payload>,
+    ) -> Result<Option<Why>, AllocError> {
+        match shown(payload) {
+            Some(located) => why_not_listed(alloc, ledger, &self.filter, located.ids.as_slice()),
+            None => Ok(None),
+        }
+    }
+
+    fn leave<L: Ledger>(
+        &self,
+        alloc: Global,
+        _ledger: &mut L,
+        placeholder: &mut Placeholder,
+        _place: Option<usize>,
+        payload: &Option<Payload>,
+    ) -> Result<(), AllocError> {
+        match shown(payload) {
+            Some(located) => hold_only(alloc, placeholder, located.ids.as_slice()),
+            None => Ok(()),
+        }
+    }
+}
+
+/// What a payload shows, if it is one of a Locate.
+fn shown<'a>(payload: &'a Option<Payload<'a>>) -> Option<&'a Located<'a>>
+    ensures { option_map (λ x. located_of x.now) result ≡ option_and_then seen_located (option_map payload_of payload.now) }
+{
+    match payload {
+        Some(Payload::Locate(located)) => Some(located),
+        _ => None,
+    }
+}
+
+/// The placeholder holds the identifier that is listed, if exactly one is; else it is empty.
+fn hold_only(
+    alloc: Global,
+    placeholder: &mut Placeholder,
+    listed: &[&str],
+) -> Result<(), AllocError>
+    ensures { OnOk result (placeholder_of placeholder.new ≡ only (map lent listed.now)) }
+{
+    placeholder.id = match listed {
+        [id] => Some(String::from_str(alloc, id)?),
+        _ => None,
+    };
+    Ok(())
+}
