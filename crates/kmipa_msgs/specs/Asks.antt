@@ -30,7 +30,7 @@ pub record SaysAsk (t : Tree) (a : AskOf) : Type 0 where
   pub asked : SaysAsked operation (inside request_payload (children t)) a.asked
   pub batch_id : a.batch_id ≡ value_in (at as_bytes unique_batch_item_id (children t))
 
--- in_unread is that of Locate, until it is read; a Request Payload is to be a structure where it is read
+-- in_unread is that of a number off the table, of which there is none now that Locate is read; a Request Payload is to be a structure where it is read
 pub data AskFault (t : Tree) (k : OutsideKind) : Type 0 where
   in_operation : NeededFault (at as_enumeration operation_tag (children t)) Missing Missing k → AskFault t k
   in_unread : k ≡ OutsideKind.TheVariants.Operation → Unlisted (at as_enumeration operation_tag (children t)) operation_of → AskFault t k
