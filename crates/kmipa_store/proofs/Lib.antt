@@ -9,3 +9,5 @@ pub mod LearnLemmas
 pub mod JournalLemmas
 pub mod QueryLemmas
 pub mod SoundLedgerLemmas
+pub mod BearerLemmas
+pub mod NameLemmas

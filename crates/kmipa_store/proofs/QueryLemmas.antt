@@ -24,6 +24,15 @@ drop-past (x ∷ xs) zero h = absurd (omega arith)
 drop-past (x ∷ xs) (suc i) h = drop-past xs i (omega arith)
 
 module _ {X : Type 0} (p : X → Bool) where
+  -- a place that was found is that of an element that passes
+  pub position_found : (xs : List X) (i k : ℕ) → position_from p i xs ≡ Some k → (j : ℕ) × (k ≡ i + j) × (x : X) × (slice_get xs j ≡ Some x) × (p x ≡ true)
+  position_found [] i k e = let bad : ⊥ = cc in absurd bad
+  position_found (x ∷ xs) i k e =
+      (elim (p x) as (λ t. p x ≡ t → cond t (Some i) (position_from p (i + 1) xs) ≡ Some k → (j : ℕ) × (k ≡ i + j) × (y : X) × (slice_get (x ∷ xs) j ≡ Some y) × (p y ≡ true)) [
+        | true ↦ λ is q. let same : i ≡ k = cc in (0, omega (arith, same), x, refl, is)
+        | false ↦ λ is q. let r = position_found xs (i + 1) k q in (suc r.0, omega (arith, r.1), r.2, r.3, r.4)
+      ]) refl e
+
   pub position_here : (xs : List X) (i : ℕ) (x : X) → slice_get xs i ≡ Some x → p x ≡ true → position_from p i (drop i xs) ≡ Some i
   position_here xs i x e is = ap (position_from p i) (drop-one xs i x e) ∙ ap (λ t. cond t (Some i) (position_from p (i + 1) (drop (suc i) xs))) is
 

@@ -114,7 +114,7 @@ sound_added m h sound fresh fit = record {
 }
 
 -- an object after one led another life
-relived_from : (hs : List Held) (place p : ℕ) (life : Life) (g : Held) → slice_get (relived hs place life) p ≡ Some g
+pub relived_from : (hs : List Held) (place p : ℕ) (life : Life) (g : Held) → slice_get (relived hs place life) p ≡ Some g
     → (h : Held) × (slice_get hs p ≡ Some h) × ((g ≡ h) ⊎ ((p ≡ place) × (g ≡ with_life h life)))
 relived_from [] place p life g e = let bad : ⊥ = cc in absurd bad
 relived_from (x ∷ hs) zero zero life g e = (x, refl, inr (refl, cc))

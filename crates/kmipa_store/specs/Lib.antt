@@ -10,3 +10,5 @@ pub mod Histories
 pub mod Journal
 pub mod States
 pub mod Soundness
+pub mod Bearers
+pub mod Names

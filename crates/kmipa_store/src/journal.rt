@@ -3,6 +3,7 @@
 ghost use Rattle.std.specs.Prelude.{◌≡◌, true, length};
 ghost use Rattle.kmipa_store.specs.Histories.{fits, while_marked};
 ghost use Rattle.kmipa_store.specs.Journal.{object_places, secret_places};
+ghost use Rattle.kmipa_store.specs.Names.{Covers};
 
 use crate::changes::{
     ObjectChange, Place, SecretChange, forget_unmarked, push_object, push_secret, roll_back,
@@ -10,6 +11,7 @@ use crate::changes::{
 };
 use crate::fault::StoreFault;
 use crate::ledger::{Ledger, Mark};
+use crate::names::Names;
 use crate::objects::Objects;
 use crate::secrets::{Lesson, Secrets};
 use crate::seed::Seed;
@@ -17,6 +19,9 @@ use kmipa_object::{Life, Object, Rule, SecretNo, State};
 use std::alloc::Global;
 
 /// A ledger that writes down each change.
+///
+/// # What a name costs
+/// An index lists where the names stand, so that `next_named` and `any_live_named` look at the objects of one name alone.
 ///
 /// # What a mark costs
 /// A mark is how many changes there were. Going back takes back what was done since then; no call costs as much as the inventory.
@@ -27,12 +32,14 @@ pub struct Journal {
     alloc: Global,
     moment: i64,
     objects: Objects,
+    names: Names,
     object_changes: Vec<ObjectChange>,
     secrets: Secrets,
     secret_changes: Vec<SecretChange>,
     places: Vec<Place>,
     ghost objects_fit: { fits (length object_changes.items) (object_places places.items) ≡ true },
     ghost secrets_fit: { fits (length secret_changes.items) (secret_places places.items) ≡ true },
+    ghost named: { Covers names objects },
     ghost objects_forgotten: { while_marked places.items object_changes.items ≡ object_changes.items },
     ghost secrets_forgotten: { while_marked places.items secret_changes.items ≡ secret_changes.items },
 }
@@ -59,6 +66,7 @@ impl Journal {
             alloc,
             moment: 0,
             objects: Objects::new(alloc, seed),
+            names: Names::new(alloc, seed),
             object_changes: Vec::new(alloc),
             secrets: Secrets::new(alloc),
             secret_changes: Vec::new(alloc),
@@ -87,11 +95,11 @@ impl Ledger for Journal {
     }
 
     fn next_named(&self, value: &str, kind: u32, from: usize) -> Option<usize> {
-        self.objects.next_named(value, kind, from)
+        self.names.next(&self.objects, value, kind, from)
     }
 
     fn any_live_named(&self, value: &str, kind: u32) -> bool {
-        self.objects.any_live_named(value, kind)
+        self.names.any_live(&self.objects, value, kind)
     }
 
     fn moment(&self) -> i64 {
@@ -111,6 +119,9 @@ impl Ledger for Journal {
             return Err(StoreFault::IdentifierTaken);
         }
         let place = self.objects.len();
+        let Ok(()) = self.names.note(place, object.given.names.as_slice()) else {
+            return Err(StoreFault::Memory);
+        };
         push_object(
             &mut self.objects,
             &mut self.object_changes,

@@ -7,6 +7,7 @@ mod fault;
 mod journal;
 mod laws;
 mod ledger;
+mod names;
 mod objects;
 mod secrets;
 mod seed;

@@ -169,7 +169,8 @@ fn is_among(names: &[Name], value: &str, kind: u32) -> bool
     names.iter().any(|name| is_name(name, value, kind))
 }
 
-fn is_name(name: &Name, value: &str, kind: u32) -> bool
+/// Whether it is the name of this value and this type.
+pub fn is_name(name: &Name, value: &str, kind: u32) -> bool
     ensures { result ≡ is_name value.now kind (name_of name.now) }
 {
     kind == name.kind && value == name.value.as_str()

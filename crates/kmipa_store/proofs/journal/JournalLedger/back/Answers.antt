@@ -3,6 +3,7 @@ use Rattle.kmipa_store.specs.declared.changes.Place.{Place}
 use Rattle.kmipa_store.specs.Journal.{object_unmade, secret_unmade}
 use Rattle.kmipa_store.proofs.HistoryLemmas.{fits_forgotten, forgotten_again}
 use Rattle.kmipa_store.proofs.JournalLemmas.{fits_back, fits_popped, forgotten_empty, journal_back, state_forgotten}
+use Rattle.kmipa_store.proofs.NameLemmas.{covers_back}
 use Rattle.kmipa_store.proofs.journal.JournalLedger.back.Goals as goal
 
 pub invariant_of-self : goal.invariant_of-self
@@ -12,6 +13,7 @@ invariant_of-self c =
     record {
       objects_fit = fits_popped (λ (p : Place). p.objects) (length j.object_changes.items) j.places.items ps None c.in_default.ensures.items j.objects_fit;
       secrets_fit = fits_popped (λ (p : Place). p.secrets) (length j.secret_changes.items) j.places.items ps None c.in_default.ensures.items j.secrets_fit;
+      named = j.named;
       objects_forgotten = forgotten_empty j.places.items ps j.object_changes.items c.in_default.ensures.items j.objects_forgotten;
       secrets_forgotten = forgotten_empty j.places.items ps j.secret_changes.items c.in_default.ensures.items j.secrets_forgotten;
     }
@@ -29,6 +31,7 @@ invariant_of-self-2 c =
           (fits_back object_unmade j.objects r.new.subject j.object_changes.items r.new.changes.items (λ (p : Place). p.objects) j.places.items ps c.in-Some.place c.in-Some.ensures.items r.ensures j.objects_fit);
       secrets_fit = fits_forgotten (λ (p : Place). p.secrets) ps t.new.changes.items s.new.changes.items s.ensures
           (fits_back secret_unmade j.secrets t.new.subject j.secret_changes.items t.new.changes.items (λ (p : Place). p.secrets) j.places.items ps c.in-Some.place c.in-Some.ensures.items t.ensures j.secrets_fit);
+      named = covers_back j.names j.objects r.new.subject j.object_changes.items r.new.changes.items c.in-Some.place.objects j.named r.ensures;
       objects_forgotten = forgotten_again ps r.new.changes.items o.new.changes.items o.ensures;
       secrets_forgotten = forgotten_again ps t.new.changes.items s.new.changes.items s.ensures;
     }

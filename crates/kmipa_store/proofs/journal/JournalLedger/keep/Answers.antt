@@ -15,6 +15,7 @@ invariant_of-self c =
           (fits_popped (λ (p : Place). p.objects) (length j.object_changes.items) j.places.items ps c.pop.result c.pop.ensures.items j.objects_fit);
       secrets_fit = fits_forgotten (λ (p : Place). p.secrets) ps j.secret_changes.items s.new.changes.items s.ensures
           (fits_popped (λ (p : Place). p.secrets) (length j.secret_changes.items) j.places.items ps c.pop.result c.pop.ensures.items j.secrets_fit);
+      named = j.named;
       objects_forgotten = forgotten_again ps j.object_changes.items o.new.changes.items o.ensures;
       secrets_forgotten = forgotten_again ps j.secret_changes.items s.new.changes.items s.ensures;
     }

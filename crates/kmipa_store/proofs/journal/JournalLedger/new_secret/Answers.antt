@@ -14,6 +14,7 @@ invariant_of-self c =
     record {
       objects_fit = j.objects_fit;
       secrets_fit = fits_logs secret_unmade (λ (q : Place). q.secrets) j.places.items wanted j.secrets p.new.secrets j.secret_changes.items p.new.changes.items p.result p.ensures j.secrets_fit;
+      named = j.named;
       objects_forgotten = j.objects_forgotten;
       secrets_forgotten = forgotten_logs secret_unmade j.places.items wanted j.secrets p.new.secrets j.secret_changes.items p.new.changes.items p.result p.ensures j.secrets_forgotten;
     }
