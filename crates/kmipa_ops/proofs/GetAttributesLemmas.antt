@@ -18,9 +18,9 @@ use Rattle.kmipa_ops.specs.declared.judged.Judged.TheVariants.{Name, ObjectType,
 use Rattle.kmipa_ops.specs.declared.why.Why.{Why}
 use Rattle.kmipa_ops.specs.declared.why.Why.TheVariants.{NoSuchObject, AttributeDiffers, AttributeMissing, EchoDiffers}
 use Rattle.kmipa_ops.specs.Objects.{meant, HasObject, card_meant, Agree, is_other_id, clash}
-use Rattle.kmipa_ops.specs.GetAttributes.{IsHad, IsOwnAt, ShowsAsked, HasRequired, GetsAttributes, has_stranger, is_foreign_date, asks_for, leaves_out, shows_other_value, shows_other_date, shows_foreign, shows_foreign_of, lacks_name, lacks_value, lacks_date, lacks_asked, lacks_required, lacks_required_of, get_attributes_speaks, SaysAttributes, seen_attributes, get_attributes_deed, attributes_speak}
+use Rattle.kmipa_ops.specs.GetAttributes.{AttributesAreDecided, IsHad, IsOwnAt, ShowsAsked, HasRequired, GetsAttributes, has_stranger, is_foreign_date, asks_for, leaves_out, shows_other_value, shows_other_date, shows_foreign, shows_foreign_of, lacks_name, lacks_value, lacks_date, lacks_asked, lacks_required, lacks_required_of, get_attributes_speaks, SaysAttributes, seen_attributes, get_attributes_deed, attributes_speak}
 use Rattle.kmipa_ops.proofs.NameLemmas.{strangers_if, strangers_not}
-use Rattle.kmipa_ops.proofs.TestLemmas.{five_parts, five_cases, three_cases, not_false, not_none, echoes_if, echoes_not, agree_if, agree_not}
+use Rattle.kmipa_ops.proofs.TestLemmas.{false_if, five_parts, five_cases, three_cases, not_false, not_none, echoes_if, echoes_not, agree_if, agree_not}
 use Rattle.kmipa_ops.proofs.StepLemmas.{Step, still_step}
 use Rattle.kmipa_ops.proofs.DeedLaws.{outer_whys, IsDeed}
 use Rattle.kmipa_ops.specs.Whys.{whys}
@@ -163,6 +163,12 @@ required_not g c s h has =
     let u = and_parts (live c) (not g.has_others) w.0 in
     let all = has u.0 (not-true g.has_others u.1) in
     three_cases (lacks_name g c s) (lacks_value g c s) (lacks_date g c.dates s) w.1 (lacked_name_not g c s all) (lacked_value_not g c s all) (lacked_date_not g c s all)
+
+pub attributes_are_decided : AttributesAreDecided
+attributes_are_decided = (
+  λ c t s. (own_if c t s, λ own. false_if (shows_foreign c (state c.dates t) s) (λ h. own_not c t s h own)),
+  λ g c s. (required_if g c s, λ has. false_if (lacks_required g c s) (λ h. required_not g c s h has)),
+)
 
 -- THE OBJECT THAT IS MEANT
 

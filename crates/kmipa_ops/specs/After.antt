@@ -15,7 +15,7 @@ after Success m before t asked payload = after_done m before t asked payload
 after Undone m before t asked payload = after_done m before t asked payload
 after Failed m before t asked payload = m
 
--- a Create or a Register sets the placeholder
+-- a Create, a Register or a Locate sets the placeholder
 abbrev pub placeholder_done : Option (List ℕ) → AskedOf → Option PayloadOf → Option (List ℕ)
 placeholder_done before asked payload = row_holds (row_of asked) before payload
 

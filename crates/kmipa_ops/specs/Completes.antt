@@ -49,7 +49,7 @@ pub record DoesSome (rules : RulesOf) (V : List Thing) (before : Option (List â„
   pub does : Does rules V before t ask full V' after
 
 -- Where there is a payload to judge: at an answer to the operation asked for, a Success has the payload of that operation, and so has an
--- Undone Create or Register; an Undone answer of another operation has it or none. An operation without effect has none.
+-- Undone Create, Register or Locate; an Undone answer of another operation has it or none. An operation without effect has none.
 abbrev pub may_lack : AskedOf â†’ Bool
 may_lack asked = row_may_lack (row_of asked)
 

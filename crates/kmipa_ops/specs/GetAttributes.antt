@@ -1,5 +1,5 @@
 -- Get Attributes: which attributes of an object its answer may show at a moment, and which it must (KMIP 2.1, section 6; what is required: profile).
-use Rattle.std.specs.Prelude.{◌≡◌, ◌==◌, ◌&&◌, ◌||◌, ℕ, ℤ, Bool, true, false, not, is_none, is_some, IsSome, cond, List, Option, Some, None}
+use Rattle.std.specs.Prelude.{◌↔◌, ◌≡◌, ◌==◌, ◌&&◌, ◌||◌, ℕ, ℤ, Bool, true, false, not, is_none, is_some, IsSome, cond, List, Option, Some, None}
 use Rattle.std.specs.List.{Contains, list_any}
 use Rattle.std.specs.Ordering.{int_eq}
 use Rattle.kmipa_attrs.specs.Sets.{NameOf, Attributes}
@@ -174,6 +174,12 @@ attributes_speak c s about g None = None
 attributes_speak c s about g (Some a) =
     cond (shows_foreign c s a.attributes) (Some AttributeDiffers)
     (cond (lacks_required g c a.attributes) (Some AttributeMissing) (cond (is_other_id a.id about) (Some EchoDiffers) None))
+
+-- nothing foreign is shown exactly where what is shown is the object's, and nothing is lacking exactly where what is required is shown
+abbrev pub AttributesAreDecided : Type 0
+AttributesAreDecided =
+    ((c : Card) (t : ℤ) (shown : Attributes) → (shows_foreign c (state c.dates t) shown ≡ false) ↔ IsOwnAt c t shown)
+    × ((g : GetAttributesOf) (c : Card) (shown : Attributes) → (lacks_required g c shown ≡ false) ↔ HasRequired g c shown)
 
 -- ITS ROW
 

@@ -3,6 +3,7 @@
 ghost use Rattle.kmipa_ops.specs.Chains.{ChainsComplete};
 ghost use Rattle.kmipa_ops.specs.Explains.{BlameIsExact};
 ghost use Rattle.kmipa_ops.specs.Founded.{FoundedIsDecided};
+ghost use Rattle.kmipa_ops.specs.GetAttributes.{AttributesAreDecided};
 ghost use Rattle.kmipa_ops.specs.Locate.{ListsAreDecided};
 ghost use Rattle.kmipa_ops.specs.OneInventory.{StandsForOne, TakingDecides};
 
@@ -36,4 +37,10 @@ pub fn founded_is_decided()
 /// maximum, and each that must be unless as many as the maximum are.
 pub fn lists_are_decided()
     ensures { ListsAreDecided }
+{}
+
+/// Of what a Get Attributes shows: nothing is foreign exactly where all is the object's, and nothing is lacking exactly where all that is
+/// required is shown.
+pub fn attributes_are_decided()
+    ensures { AttributesAreDecided }
 {}

@@ -30,8 +30,8 @@ mod why;
 
 pub use fit::{Fit, matches};
 pub use laws::{
-    blame_is_exact, chains_complete, founded_is_decided, lists_are_decided, stands_for_one,
-    taking_decides,
+    attributes_are_decided, blame_is_exact, chains_complete, founded_is_decided, lists_are_decided,
+    stands_for_one, taking_decides,
 };
 pub use placeholder::Placeholder;
 pub use readable::is_readable;

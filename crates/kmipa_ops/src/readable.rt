@@ -11,9 +11,9 @@ use crate::echo::is_other_number;
 use crate::idle::{Idle, Unread};
 use kmipa_msgs::{Answer, Ask, Asked, Payload, Status};
 
-/// Whether an answer has what there is to judge: a Success of the operation asked for has its payload, and so has an Undone Create or
-/// Register; an Undone answer of another operation has it or none. An operation without effect has none. An answer of another operation and a
-/// failed one have nothing to judge in theirs.
+/// Whether an answer has what there is to judge: a Success of the operation asked for has its payload, and so has an Undone Create,
+/// Register or Locate; an Undone answer of another operation has it or none. An operation without effect has none. An answer of
+/// another operation and a failed one have nothing to judge in theirs.
 pub fn is_readable(ask: &Ask, answer: &Answer) -> bool
     ensures { result ≡ is_readable (ask_of ask.now) (answer_of answer.now) }
 {

@@ -4,13 +4,18 @@ ghost use Rattle.std.specs.Prelude.{◌≡◌, IfOk};
 ghost use Rattle.kmipa_store.specs.Choices.{IsSound};
 ghost use Rattle.kmipa_store.specs.States.{state_of_journal};
 
-use crate::{Placeholder, Refusal, Why, blame_is_exact, chains_complete, is_readable, take};
+use crate::{
+    Placeholder, Refusal, Why, attributes_are_decided, blame_is_exact, chains_complete,
+    founded_is_decided, is_readable, stands_for_one, take, taking_decides,
+};
 use kmipa_attrs::{AttrSet, Name, ObjectType};
 use kmipa_msgs::{
-    Answer, Ask, Asked, Get, Got, KeyBlock, KeyFormat, Payload, Register, Registered, Rules, Status,
+    Answer, Ask, Asked, Cause, Get, Got, KeyBlock, KeyFormat, Payload, Register, Registered, Row,
+    Rules, Status,
 };
 use kmipa_object::{Life, Material, Object, Rule};
 use kmipa_store::{Journal, Ledger};
+use lifecycle::destroy;
 use std::alloc::Global;
 use std::test::Fail;
 
@@ -25,6 +30,9 @@ const K: [u8; 16] = [0, 1, 2, 3, 4, 5, 6, 7, 8, 9, 10, 11, 12, 13, 14, 15];
 const J: [u8; 16] = [0, 1, 2, 3, 4, 5, 6, 7, 8, 9, 10, 11, 12, 13, 14, 31];
 
 const SHORT: [u8; 8] = [0; 8];
+
+/// The reason that stands for a taken name in some rules.
+const TAKEN_NAME: u32 = 0x2B;
 
 /// An ask with the answer to it.
 #[derive(Drop)]
@@ -381,6 +389,53 @@ fn reasons_founded(rt: HostRuntime) -> Result<(), Fail> {
     Ok(())
 }
 
+/// A Register of a name that failed with the reason that stands for a taken name in these rules.
+fn refused_named<'a>(alloc: Global, name: &str) -> Result<Item<'a>, Fail> {
+    let Item { ask, answer: _ } = register_named(alloc, "r9", name)?;
+    Ok(Item {
+        ask,
+        answer: answered(Status::Failed, Some(TAKEN_NAME), None),
+    })
+}
+
+#[test]
+fn taken_name_is_founded(rt: HostRuntime) -> Result<(), Fail> {
+    let alloc = rt.alloc();
+    let mut ledger = new_ledger(alloc);
+    let mut rules = Rules::default_rules(alloc)?;
+    rules.rows.push(Row {
+        reason: TAKEN_NAME,
+        cause: Cause::TakenName,
+    })?;
+    let mut placeholder = Placeholder::new();
+    let item = register_named(alloc, "r1", "n")?;
+    assert_eq!(rt;
+        judged(alloc, &mut ledger, &rules, &mut placeholder, item)?,
+        None
+    );
+    let item = refused_named(alloc, "n")?;
+    assert_eq!(rt;
+        judged(alloc, &mut ledger, &rules, &mut placeholder, item)?,
+        None
+    );
+    let item = refused_named(alloc, "m")?;
+    assert_eq!(rt;
+        judged(alloc, &mut ledger, &rules, &mut placeholder, item)?,
+        Some(Why::ReasonUnfounded)
+    );
+    let item = destroy("r1");
+    assert_eq!(rt;
+        judged(alloc, &mut ledger, &rules, &mut placeholder, item)?,
+        None
+    );
+    let item = refused_named(alloc, "n")?;
+    assert_eq!(rt;
+        judged(alloc, &mut ledger, &rules, &mut placeholder, item)?,
+        None
+    );
+    Ok(())
+}
+
 #[test]
 fn unique_names(rt: HostRuntime) -> Result<(), Fail> {
     let alloc = rt.alloc();
@@ -418,6 +473,10 @@ fn numbers_of_reasons(rt: HostRuntime) {
         assert_eq!(rt; why.number(), number);
         assert_eq!(rt; why.name(), name);
     }
+    attributes_are_decided();
     blame_is_exact();
     chains_complete();
+    founded_is_decided();
+    stands_for_one();
+    taking_decides();
 }
