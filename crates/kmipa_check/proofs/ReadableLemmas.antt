@@ -3,6 +3,7 @@ use Rattle.std.proofs.Common.{◌≡◌, ◌⊎◌, inl, inr, ◌==◌, ◌||◌
 use Rattle.std.specs.List.{zip}
 use Rattle.std.proofs.lemmas.Bool.Decides.{nat_tests}
 use Rattle.kmipa_ttlv.specs.Tree.{Tree, structure, scalar}
+use Rattle.kmipa_attrs.specs.Tags.{operation_tag, response_payload}
 use Rattle.kmipa_attrs.specs.declared.fields.Field.{Field}
 use Rattle.kmipa_attrs.specs.declared.fields.Field.TheVariants.{Absent, Wrong, There}
 use Rattle.kmipa_attrs.specs.Readings.{Optional}
@@ -10,7 +11,7 @@ use Rattle.kmipa_attrs.specs.Fields.{first, at, as_enumeration}
 use Rattle.kmipa_msgs.specs.declared.response.Status.{Status}
 use Rattle.kmipa_msgs.specs.declared.response.Status.TheVariants.{Success, Failed, Undone}
 use Rattle.kmipa_msgs.specs.Operations.{operation_number, is_judged}
-use Rattle.kmipa_msgs.specs.Messages.{AskedOf, creates, registers, gets, gets_attributes, activates, revokes, destroys, idles, does_other, AskOf, operation_asked, PayloadOf, created, registered, got, got_attributes, changed, AnswerOf, ResponseOf}
+use Rattle.kmipa_msgs.specs.Messages.{AskedOf, creates, registers, locates, gets, gets_attributes, activates, revokes, destroys, idles, does_other, AskOf, operation_asked, PayloadOf, created, registered, located, got, got_attributes, changed, AnswerOf, ResponseOf}
 use Rattle.kmipa_msgs.specs.Tables.{children}
 use Rattle.kmipa_msgs.specs.Headers.{batch}
 use Rattle.kmipa_msgs.specs.Outside.{SaysEach}
@@ -31,6 +32,7 @@ of_asked : (asked : AskedOf) (t : Tree) (p : PayloadOf) → SaysPayloadOf (opera
 of_asked asked (scalar n s) p h = absurd h
 of_asked (creates a) (structure n ts) (created x) h = refl
 of_asked (registers r) (structure n ts) (registered x) h = refl
+of_asked (locates q) (structure n ts) (located ids) h = refl
 of_asked (gets id) (structure n ts) (got a) h = refl
 of_asked (gets_attributes g) (structure n ts) (got_attributes a) h = refl
 of_asked (activates id) (structure n ts) (changed shown) h = refl
@@ -80,6 +82,7 @@ lacks_of : (asked : AskedOf) (ask : AskOf) (answer : AnswerOf) → ask.asked ≡
     → answer.payload ≡ None → may_lack asked ≡ true
 lacks_of (creates a) ask answer is never own judged undone absent = absurd (needed (creates a) ask answer tt is never own undone absent)
 lacks_of (registers r) ask answer is never own judged undone absent = absurd (needed (registers r) ask answer tt is never own undone absent)
+lacks_of (locates q) ask answer is never own judged undone absent = absurd (needed (locates q) ask answer tt is never own undone absent)
 lacks_of (does_other number) ask answer is never own judged undone absent = cc
 lacks_of asked ask answer is never own judged undone absent = refl
 
@@ -122,7 +125,7 @@ each_readable [] ts answers h never = tt
 each_readable (ask ∷ asks) ts [] h never = tt
 each_readable (ask ∷ asks) [] (answer ∷ answers) h never = absurd h
 each_readable (ask ∷ asks) (t ∷ ts) (answer ∷ answers) h never = (
-  answer_readable (at as_enumeration 0x42_005C (children t)) ask answer (first 0x42_007C (children t)) answer.operation refl h.0.operation h.0.payload (never 0 ask answer refl),
+  answer_readable (at as_enumeration operation_tag (children t)) ask answer (first response_payload (children t)) answer.operation refl h.0.operation h.0.payload (never 0 ask answer refl),
   each_readable asks ts answers h.1 (λ place x y there. never (suc place) x y there),
 )
 
