@@ -7,6 +7,8 @@ pub mod CallLemmas
 pub mod TranscriptLemmas
 pub mod TurnLemmas
 pub mod WitnessLemmas
+pub mod WritingLemmas
+pub mod WrittenWitnessLemmas
 pub mod EntryLemmas
 pub mod RecordsLemmas
 pub mod DeclarationLemmas

@@ -1,9 +1,11 @@
 -- Turns and their items.
-use Rattle.std.proofs.Common.{◌≡◌, ℕ, ℤ, List, [], ◌∷◌, ◌++◌, map, Option, None, Some, refl, sym, ap, subst, ◌∙◌, arith, ◌<◌, ◌+◌, suc, length, take, drop, get_or}
+use Rattle.std.proofs.Common.{◌≡◌, ℕ, ℤ, List, [], ◌∷◌, ◌++◌, map, Option, None, Some, refl, sym, ap, subst, ◌∙◌, arith, ◌<◌, ◌+◌, suc, length, take, drop, get_or, append_assoc}
 use Rattle.std.proofs.lemmas.List.Elements.{Contains-append_right, All-contains, All-push}
 use Rattle.std.proofs.lemmas.List.{map-append, take_more, take-append-drop}
 use Rattle.std.proofs.Math.Seq.{drop-cons}
-use Rattle.kmipa_ttlv.specs.Tree.{Tree, Trees, structure, none, more, forest}
+use Rattle.kmipa_ttlv.specs.Tree.{Tree, structure, more, forest}
+use Rattle.kmipa_ttlv.specs.ItemTree.{tree, trees}
+use Rattle.kmipa_ttlv.specs.declared.item.Item.{Item}
 use Rattle.kmipa_ttlv.specs.ViewTree.{view_tree, view_trees}
 use Rattle.kmipa_ttlv.specs.declared.view.View.{View}
 use Rattle.kmipa_attrs.specs.Fields.{tag_of}
@@ -176,3 +178,21 @@ fills_more views i v fills longer fill h is e said before =
           ∙ sym (map-append fill_item (map fill_of fills) (fill_of fill ∷ [])) ∙ ap (map fill_item) (sym one),
       subst ArePayloads (sym one) (All-push (λ (f : FillOf). IsPayload f.payload) (map fill_of fills) (fill_of fill) before.1 said.1),
     )
+
+-- ---- a turn that is written child by child
+
+forest_items : (items : List Item) → trees items ≡ forest (λ (t : Tree). t) (map tree items)
+forest_items [] = refl
+forest_items (i ∷ items) = ap (more (tree i)) (forest_items items)
+
+pub turn_written : (item : Tree) (t : TurnOf) (first second third children : List Item) → item ≡ structure 0x54_0041 (trees children) → map tree first ≡ call_item t.call ∷ []
+    → map tree second ≡ map tree first ++ map answer_item (listed t.answer) → map tree third ≡ map tree second ++ map place_item t.places → map tree children ≡ map tree third ++ map fill_item t.fills
+    → item ≡ turn_item t
+turn_written item t first second third children e a b c d =
+    let answers = map answer_item (listed t.answer) in
+    let places = map place_item t.places in
+    let fills = map fill_item t.fills in
+    let fields : map tree children ≡ turn_fields t
+    = d ∙ ap (λ (l : List Tree). l ++ fills) (c ∙ ap (λ (l : List Tree). l ++ places) (b ∙ ap (λ (l : List Tree). l ++ answers) a))
+    ∙ ap (λ (l : List Tree). call_item t.call ∷ l) (append_assoc answers places fills) in
+    e ∙ ap (structure 0x54_0041) (forest_items children ∙ ap (forest (λ (u : Tree). u)) fields)

@@ -10,3 +10,4 @@ pub mod Calls
 pub mod TranscriptReading
 pub mod DeclarationReading
 pub mod WitnessReading
+pub mod Writing

@@ -38,13 +38,13 @@ witness_of w = map turn_of w.turns.items
 
 -- ---- the items
 
-abbrev pub version_number : Version → ℤ
-version_number First = pos 1
-version_number Second = pos 2
-version_number Third = pos 3
+abbrev pub version_number : Version → ℕ
+version_number First = 1
+version_number Second = 2
+version_number Third = 3
 
 abbrev pub witness_header : Version → Tree
-witness_header version = structure 0x54_0040 (more (scalar 0x54_0002 (integer (version_number version))) none)
+witness_header version = structure 0x54_0040 (more (scalar 0x54_0002 (integer (pos (version_number version)))) none)
 
 abbrev pub call_item : ℤ → Tree
 call_item call = scalar 0x54_0011 (integer call)

@@ -3,6 +3,7 @@
 ghost use Rattle.std.specs.Prelude.{◌≡◌};
 
 use kmipa_ttlv::FaultKind;
+use std::alloc::AllocError;
 use thiserror::Error;
 
 /// What is wrong with a file, by number.
@@ -71,6 +72,16 @@ impl RecordKind {
             RecordKind::Device => "Device",
             RecordKind::Memory => "Memory",
         }
+    }
+}
+
+impl From<AllocError> for RecordKind {
+    ghost use Rattle.kmipa_record.specs.declared.fault.RecordKind.TheVariants.{Memory};
+
+    ghost from_gives = { λ _ e. e ≡ Memory };
+
+    fn from(_e: AllocError) -> RecordKind {
+        RecordKind::Memory
     }
 }
 

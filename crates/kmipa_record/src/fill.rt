@@ -1,11 +1,12 @@
 //! Fills: the payloads that a witness puts in where a response leaves them out.
 
-ghost use Rattle.std.specs.Prelude.{◌≡◌, ◌≢◌, List, map, IfOk, MatchOption};
+ghost use Rattle.std.specs.Prelude.{◌≡◌, ◌≢◌, ◌↔◌, ◌++◌, List, map, IsTrue, IfOk, OnOk, MatchOption};
+ghost use Rattle.kmipa_ttlv.specs.ItemTree.{tree};
 ghost use Rattle.kmipa_ttlv.specs.ViewTree.{view_tree};
 ghost use Rattle.kmipa_record.specs.Witnesses.{FillOf, fill_of, fill_item, IsPayload, ArePayloads};
 
 use crate::shape::{children_of, integer_of};
-use kmipa_ttlv::{Item, View, copy_item};
+use kmipa_ttlv::{Item, Tag, Value, View, copy_item, lend};
 use std::alloc::{AllocError, Global};
 
 const FILL: u32 = 0x54_0042;
@@ -64,4 +65,64 @@ fn parts_in<'a, 'b>(item: &'b View<'a>) -> Option<(i32, &'b View<'a>)>
     let number = integer_of(&children[0], FILLED_ITEM)?;
     children_of(&children[1], RESPONSE_PAYLOAD)?;
     Some((number, &children[1]))
+}
+
+/// Puts the items that say the fills behind the others.
+pub fn push_fills(alloc: Global, children: &mut Vec<Item>, fills: &[Fill]) -> Result<(), AllocError>
+    ensures { OnOk result (map tree children.new.items ≡ map tree children.old.items ++ map fill_item (map fill_of fills.now)) }
+{
+    for fill in fills {
+        children.push(write_fill(alloc, fill)?)?;
+    }
+    Ok(())
+}
+
+fn write_fill(alloc: Global, fill: &Fill) -> Result<Item, AllocError>
+    ensures { IfOk result (λ item. tree item ≡ fill_item (fill_of fill.now)) }
+{
+    let number = Item::integer(
+        Tag {
+            number: FILLED_ITEM,
+        },
+        fill.item,
+    );
+    let payload = copy_of(alloc, &fill.payload)?;
+    let mut parts = Vec::with_capacity(alloc, 2)?;
+    parts.push(number)?;
+    parts.push(payload)?;
+    Ok(Item::structure(Tag { number: FILL }, parts))
+}
+
+/// An equal item.
+fn copy_of(alloc: Global, item: &Item) -> Result<Item, AllocError>
+    ensures { IfOk result (λ copy. tree copy ≡ tree item.now) }
+{
+    match lend(alloc, item) {
+        Ok(view) => copy_item(alloc, &view),
+        Err(_) => Err(AllocError),
+    }
+}
+
+/// Whether each payload is a Response Payload.
+pub fn are_payloads(fills: &[Fill]) -> bool
+    ensures { IsTrue result ↔ ArePayloads (map fill_of fills.now) }
+{
+    for fill in fills {
+        if !is_payload(&fill.payload) {
+            return false;
+        }
+    }
+    true
+}
+
+fn is_payload(item: &Item) -> bool
+    ensures { IsTrue result ↔ IsPayload (tree item.now) }
+{
+    if item.tag.number != RESPONSE_PAYLOAD {
+        return false;
+    }
+    match &item.value {
+        Value::Structure(_) => true,
+        _ => false,
+    }
 }

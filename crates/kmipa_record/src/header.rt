@@ -1,6 +1,7 @@
 //! The headers of the three files.
 
-ghost use Rattle.std.specs.Prelude.{◌≡◌, Bool};
+ghost use Rattle.std.specs.Prelude.{◌≡◌, Bool, IfOk};
+ghost use Rattle.kmipa_ttlv.specs.ItemTree.{tree};
 ghost use Rattle.kmipa_record.specs.Transcripts.{transcript_header};
 ghost use Rattle.kmipa_record.specs.Declarations.{declaration_header};
 ghost use Rattle.kmipa_record.specs.Witnesses.{witness_header};
@@ -9,7 +10,7 @@ ghost use Rattle.kmipa_record.specs.declared.version.Version.{Version};
 use crate::record::Record;
 use crate::shape::{boolean_of, children_of, integer_of};
 use crate::version::{Version, version_of};
-use kmipa_ttlv::View;
+use kmipa_ttlv::{Item, Tag, View};
 use std::alloc::{AllocError, Global};
 
 const TRANSCRIPT: u32 = 0x54_0001;
@@ -100,4 +101,13 @@ impl Record for WitnessHeader {
             None => Ok(None),
         }
     }
+}
+
+/// The header of a witness of this version.
+pub fn write_witness_header(alloc: Global, version: Version) -> Result<Item, AllocError>
+    ensures { IfOk result (λ item. tree item ≡ witness_header version) }
+{
+    let mut children = Vec::with_capacity(alloc, 1)?;
+    children.push(Item::integer(Tag { number: VERSION }, version.number()))?;
+    Ok(Item::structure(Tag { number: WITNESS }, children))
 }

@@ -1,9 +1,10 @@
 //! The three files of an audit: a transcript of calls, a declaration of what the server held, and a witness.
 //!
 //! Each is a header item and then records, each an outermost TTLV item. `read_transcript`, `read_declaration` and
-//! `read_witness` read one from an `Input`. A `RecordFault` says what is wrong with a file, and where.
+//! `read_witness` read one from an `Input`, `write_witness` writes one. A `RecordFault` says what is wrong with a file, and where.
 #![tactic(auto)]
 
+mod append;
 mod calls;
 mod declaration;
 mod entry;
@@ -19,6 +20,7 @@ mod transcript;
 mod turn;
 mod version;
 mod witness;
+mod witness_writing;
 
 pub use declaration::{Declaration, read_declaration};
 pub use entry::Entry;
@@ -31,6 +33,7 @@ pub use laws::{
 pub use transcript::{Begin, End, Mark, Transcript, read_transcript};
 pub use turn::Turn;
 pub use witness::{Witness, read_witness};
+pub use witness_writing::write_witness;
 
 #[cfg(test)]
 mod tests;

@@ -5,6 +5,7 @@ mod reads;
 mod transcripts;
 mod vectors;
 mod witnesses;
+mod writing;
 
 use crate::*;
 use kmipa_ttlv::{FaultKind, Input};

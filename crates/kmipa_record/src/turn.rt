@@ -1,16 +1,18 @@
 //! Turns of a witness: a call, and what the witness says of its answer.
 
-ghost use Rattle.std.specs.Prelude.{◌≡◌, ◌≢◌, ◌∷◌, ◌++◌, ℤ, List, None, map, option_map, IfOk, MatchOption};
+ghost use Rattle.std.specs.Prelude.{◌≡◌, ◌≢◌, ◌∷◌, ◌++◌, ℤ, List, None, map, option_map, IfOk, OnOk, MatchOption};
 ghost use Rattle.kmipa_ttlv.specs.Tree.{Tree, scalar, integer};
+ghost use Rattle.kmipa_ttlv.specs.ItemTree.{tree};
 ghost use Rattle.kmipa_ttlv.specs.ViewTree.{view_tree};
 ghost use Rattle.kmipa_msgs.specs.Messages.{lent};
+ghost use Rattle.kmipa_record.specs.Entries.{items_of};
 ghost use Rattle.kmipa_record.specs.Witnesses.{TurnOf, turn_of, turn_item, answer_item, place_item, listed, ArePayloads};
 ghost use Rattle.kmipa_record.specs.WitnessReading.{NotAhead};
 
-use crate::fill::{Fill, fills_in};
+use crate::fill::{Fill, fills_in, push_fills};
 use crate::record::Record;
 use crate::shape::{bytes_of, children_of, copied, integer_of};
-use kmipa_ttlv::View;
+use kmipa_ttlv::{Item, Tag, View};
 use std::alloc::{AllocError, Global};
 
 const TURN: u32 = 0x54_0041;
@@ -100,4 +102,38 @@ fn places_ahead<'a, 'b>(
         }
     }
     Ok((places, &children[children.len()..]))
+}
+
+/// The item that says the turn.
+pub fn write_turn(alloc: Global, turn: &Turn) -> Result<Item, AllocError>
+    ensures { IfOk result (λ item. tree item ≡ turn_item (turn_of turn.now)) }
+{
+    let mut children = Vec::new(alloc);
+    children.push(Item::integer(Tag { number: CALL }, turn.call))?;
+    push_answer(alloc, &mut children, &turn.answer)?;
+    push_places(&mut children, &turn.places)?;
+    push_fills(alloc, &mut children, &turn.fills)?;
+    Ok(Item::structure(Tag { number: TURN }, children))
+}
+
+fn push_answer(
+    alloc: Global,
+    children: &mut Vec<Item>,
+    answer: &Option<Vec<u8>>,
+) -> Result<(), AllocError>
+    ensures { OnOk result (map tree children.new.items ≡ map tree children.old.items ++ map answer_item (listed (option_map items_of answer.now))) }
+{
+    if let Some(answer) = answer {
+        children.push(Item::bytes(alloc, Tag { number: ANSWER }, answer)?)?;
+    }
+    Ok(())
+}
+
+fn push_places(children: &mut Vec<Item>, places: &[i32]) -> Result<(), AllocError>
+    ensures { OnOk result (map tree children.new.items ≡ map tree children.old.items ++ map place_item places.now) }
+{
+    for place in places {
+        children.push(Item::integer(Tag { number: PLACE }, *place))?;
+    }
+    Ok(())
 }

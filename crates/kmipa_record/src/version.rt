@@ -1,6 +1,6 @@
 //! Versions of a witness: each has what the one before it has, and more.
 
-ghost use Rattle.std.specs.Prelude.{◌≡◌, ◌≢◌, MatchOption};
+ghost use Rattle.std.specs.Prelude.{◌≡◌, ◌≢◌, ◌≤◌, ◌⊎◌, pos, MatchOption};
 ghost use Rattle.kmipa_record.specs.Witnesses.{version_number};
 
 /// The version of a witness.
@@ -14,9 +14,33 @@ pub enum Version {
     Third,
 }
 
+impl Version {
+    /// The number of the version.
+    pub fn number(self) -> i32
+        ensures { result ≡ pos (version_number self) }
+    {
+        match self {
+            Version::First => 1,
+            Version::Second => 2,
+            Version::Third => 3,
+        }
+    }
+}
+
+/// The newer of two versions.
+pub fn newer(a: Version, b: Version) -> Version
+    ensures { (version_number a ≤ version_number result) × (version_number b ≤ version_number result) × ((result ≡ a) ⊎ (result ≡ b)) }
+{
+    match (a, b) {
+        (Version::Third, _) | (_, Version::Third) => Version::Third,
+        (Version::Second, _) | (_, Version::Second) => Version::Second,
+        (Version::First, Version::First) => Version::First,
+    }
+}
+
 /// The version with this number.
 pub fn version_of(number: i32) -> Option<Version>
-    ensures { MatchOption result ((version : Version) → number ≢ version_number version) (λ version. number ≡ version_number version) }
+    ensures { MatchOption result ((version : Version) → number ≢ pos (version_number version)) (λ version. number ≡ pos (version_number version)) }
 {
     match number {
         1 => Some(Version::First),

@@ -1,4 +1,3 @@
-use Rattle.std.proofs.Common.{arith}
 use Rattle.kmipa_ttlv.specs.ViewTree.{view_tree}
 use Rattle.kmipa_record.proofs.ShapeLemmas.{same_count}
 use Rattle.kmipa_record.proofs.fill.parts_in.Goals as goal

@@ -2,7 +2,6 @@ use Rattle.std.proofs.Common.{rules, ◌≡◌, ℕ, ℤ, List, map, Option, opt
 use Rattle.std.proofs.lemmas.Int.{to_z-of_z}
 use mir.Val.{SFits}
 use mir.Syntax.{w32}
-use Rattle.kmipa_ttlv.specs.Tree.{Tree}
 use Rattle.kmipa_ttlv.specs.ViewTree.{view_tree}
 use Rattle.kmipa_msgs.specs.Messages.{lent}
 use Rattle.kmipa_record.specs.Entries.{items_of}

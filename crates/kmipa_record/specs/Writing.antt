@@ -1,0 +1,72 @@
+-- What is written: files, spelled with zeros for padding.
+use Rattle.std.specs.Prelude.{◌≡◌, ◌≤◌, ℕ, List, [], ◌++◌, All, ◌≢◌, IsSome}
+use Rattle.std.specs.List.{flat_map}
+use Rattle.kmipa_ttlv.specs.Tree.{Tree}
+use Rattle.kmipa_ttlv.specs.Spelling.{Spells}
+use Rattle.kmipa_ttlv.specs.Written.{spelling}
+use Rattle.kmipa_record.specs.Marks.{IsCallNumber}
+use Rattle.kmipa_record.specs.Witnesses.{TurnOf, turn_item, version_number, Admits, IsWitness, ArePayloads}
+use Rattle.kmipa_record.specs.declared.fault.RecordFault.{RecordFault}
+use Rattle.kmipa_record.specs.declared.fault.RecordKind.{RecordKind}
+use Rattle.kmipa_record.specs.declared.fault.RecordKind.TheVariants.{Entry, Memory}
+use Rattle.kmipa_record.specs.declared.version.Version.{Version}
+use Rattle.kmipa_record.specs.declared.version.Version.TheVariants.{First, Third}
+
+-- these bytes were appended, and they are as the word says
+pub record Appends (Is : List ℕ → Type 0) (old new : List ℕ) : Type 0 where
+  pub appended : List ℕ
+  pub behind : new ≡ old ++ appended
+  pub is : Is appended
+
+-- the spellings of some items with zeros for padding, one behind the other
+pub record ArePadded (bytes : List ℕ) : Type 0 where
+  pub items : List Tree
+  pub are : bytes ≡ flat_map spelling items
+
+-- The bytes are a witness of these turns, padded with zeros, in the lowest version that has such turns.
+pub record IsWrittenWitness (turns : List TurnOf) (bytes : List ℕ) : Type 0 where
+  pub padded : ArePadded bytes
+  pub is : IsWitness bytes turns
+  pub lowest : (other : Version) → All (Admits other) turns → version_number is.version ≤ version_number other
+
+-- Why no file is written: memory ran out, or no bytes are such a file.
+pub data Unwritten (Is : List ℕ → Type 0) (f : RecordFault) : Type 0 where
+  no_memory : f.kind ≡ Memory → Unwritten Is f
+  no_file : f.offset ≡ 0 → f.kind ≡ Entry → ((bytes : List ℕ) → ¬ (Is bytes)) → Unwritten Is f
+
+-- ---- item by item; not promised
+
+-- the item's spelling was appended
+pub record Adds (item : Tree) (old new : List ℕ) : Type 0 where
+  pub behind : new ≡ old ++ spelling item
+  pub spelled : Spells item (spelling item)
+
+-- these items' spellings were appended
+pub record AddsAll (items : List Tree) (old new : List ℕ) : Type 0 where
+  pub behind : new ≡ old ++ flat_map spelling items
+  pub spelled : All (λ item. Spells item (spelling item)) items
+
+-- memory ran out, or what is to be written is refused
+pub data Refused (Is : Type 0) (kind : RecordKind) : Type 0 where
+  starved : kind ≡ Memory → Refused Is kind
+  refused : kind ≡ Entry → ¬ Is → Refused Is kind
+
+-- some bytes spell the item
+abbrev pub IsSpelled : Tree → Type 0
+IsSpelled item = (bytes : List ℕ) × Spells item bytes
+
+-- a turn that can be written
+pub record IsWritable (turn : TurnOf) : Type 0 where
+  pub number : IsCallNumber turn.call
+  pub payloads : ArePayloads turn.fills
+  pub spelled : IsSpelled (turn_item turn)
+
+-- a version that has such turns, whatever their fills are
+pub record Serves (version : Version) (turn : TurnOf) : Type 0 where
+  pub answered : IsSome turn.answer → version ≢ First
+  pub ordered : turn.places ≢ [] → version ≡ Third
+
+-- the lowest such version
+pub record IsLowest (version : Version) (turns : List TurnOf) : Type 0 where
+  pub serves : All (Serves version) turns
+  pub least : (other : Version) → All (Serves other) turns → version_number version ≤ version_number other

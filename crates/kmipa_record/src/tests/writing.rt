@@ -1,0 +1,100 @@
+//! Files that are written: what was read is written again, and what no bytes are is refused.
+
+use super::told;
+use super::vectors::*;
+use crate::*;
+use kmipa_ttlv::{Input, Item, Tag};
+use std::alloc::Global;
+use std::test::Fail;
+
+// The witness of these bytes, written behind a byte.
+fn rewritten(alloc: Global, bytes: &[u8]) -> Result<Vec<u8>, Fail> {
+    let witness = read_witness(alloc, &mut Input::new(bytes))?;
+    let mut out = Vec::from_slice(alloc, &[7])?;
+    write_witness(alloc, &witness, &mut out)?;
+    Ok(out)
+}
+
+fn turn_with(alloc: Global, call: i32) -> Turn {
+    Turn {
+        call,
+        answer: None,
+        places: Vec::new(alloc),
+        fills: Vec::new(alloc),
+    }
+}
+
+// The fault of writing a witness of this turn; nothing is written then.
+fn refused(alloc: Global, turn: Turn) -> Result<Option<RecordFault>, Fail> {
+    let mut turns = Vec::new(alloc);
+    turns.push(turn)?;
+    let mut out = Vec::from_slice(alloc, &[7])?;
+    let fault = write_witness(alloc, &Witness { turns }, &mut out).err();
+    if fault.is_some() && out.len() != 1 {
+        return Err(Fail::new("something is written"));
+    }
+    Ok(fault)
+}
+
+#[test]
+fn witness_is_written_again(rt: HostRuntime) -> Result<(), Fail> {
+    let alloc = rt.alloc();
+    let one = turn(1);
+    let two = turn(0x7FFF_FFFF);
+    for bytes in [
+        joined(alloc, &[&WITNESS])?,
+        joined(alloc, &[&WITNESS, &one])?,
+        joined(alloc, &[&WITNESS, &two, &one])?,
+    ] {
+        let again = rewritten(alloc, &bytes)?;
+        assert_eq!(rt; &again[1..], bytes.as_slice());
+    }
+    Ok(())
+}
+
+#[test]
+fn lowest_version_is_written(rt: HostRuntime) -> Result<(), Fail> {
+    let alloc = rt.alloc();
+    let mut newest = WITNESS;
+    newest[19] = 3;
+    let plain = joined(alloc, &[&newest, &turn(1)])?;
+    let again = rewritten(alloc, &plain)?;
+    assert_eq!(rt; again[20], 1);
+    assert_eq!(rt; again.len(), 49);
+    let number = item(alloc, [0x54, 0, 0x11], INTEGER, &[0, 0, 0, 1])?;
+    let answer = item(alloc, [0x54, 0, 0x44], BYTES, b"yes")?;
+    let place = item(alloc, [0x54, 0, 0x45], INTEGER, &[0, 0, 0, 1])?;
+    let answered = joined(alloc, &[&number, &answer])?;
+    let ordered = joined(alloc, &[&answered, &place])?;
+    for (children, version) in [(&answered, 2), (&ordered, 3)] {
+        let record = item(alloc, [0x54, 0, 0x41], STRUCTURE, children)?;
+        let bytes = joined(alloc, &[&newest, &turn(2), &record])?;
+        let again = rewritten(alloc, &bytes)?;
+        assert_eq!(rt; again[20], version);
+        assert_eq!(rt; &again[25..], &bytes[24..]);
+    }
+    Ok(())
+}
+
+#[test]
+fn no_witness_is_refused(rt: HostRuntime) -> Result<(), Fail> {
+    let alloc = rt.alloc();
+    let foreign = told(0, RecordKind::Entry);
+    let low = refused(alloc, turn_with(alloc, 0))?;
+    assert_eq!(rt; low, foreign);
+    let mut long = turn_with(alloc, 1);
+    long.answer = Some(Vec::from_elem(alloc, 0u8, 1_048_576)?);
+    let fault = refused(alloc, long)?;
+    assert_eq!(rt; fault, foreign);
+    for (number, expected) in [(0x42_007Cu32, None), (0x42_0079, foreign)] {
+        let tag = Tag::new(number).ok_or("a tag")?;
+        let mut filled = turn_with(alloc, 1);
+        filled.fills.push(Fill {
+            item: 0,
+            payload: Item::structure(tag, Vec::new(alloc)),
+        })?;
+        let fault = refused(alloc, filled)?;
+        assert_eq!(rt; fault, expected);
+    }
+    Ok(())
+}

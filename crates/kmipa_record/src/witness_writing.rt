@@ -1,0 +1,98 @@
+//! Witnesses that are written, in the lowest version that serves.
+
+ghost use Rattle.std.specs.Prelude.{◌≡◌, ◌≤◌, ◌∷◌, map, All, OnOk, IfErr};
+ghost use Rattle.std.specs.Io.{StartsWith};
+ghost use Rattle.kmipa_record.specs.Witnesses.{TurnOf, turn_of, turn_item, witness_of, witness_header, version_number, IsWitness};
+ghost use Rattle.kmipa_record.specs.Writing.{Appends, IsWrittenWitness, Unwritten, Adds, AddsAll, Refused, IsWritable, Serves, IsLowest};
+ghost use Rattle.kmipa_record.specs.declared.version.Version.{Version};
+
+use crate::append::append;
+use crate::fault::{RecordFault, RecordKind};
+use crate::fill::are_payloads;
+use crate::header::write_witness_header;
+use crate::turn::{Turn, write_turn};
+use crate::version::{Version, newer};
+use crate::witness::Witness;
+use std::alloc::Global;
+
+/// Appends a witness of these turns, in the lowest version that serves.
+///
+/// `Entry` at 0 where no bytes are one: a call number below 1, a payload that is none, a turn too long for one item.
+/// An `Err` changes nothing.
+pub fn write_witness(alloc: Global, witness: &Witness, out: &mut Vec<u8>) -> Result<(), RecordFault>
+    // What is appended is a witness of these turns, padded with zeros.
+    ensures written { OnOk result (Appends (IsWrittenWitness (witness_of witness.now)) out.old.items out.new.items) }
+    // It is refused where no bytes are one, or where memory ran out.
+    ensures refused { IfErr result (Unwritten (λ bytes. IsWitness bytes (witness_of witness.now))) }
+    ensures same { IfErr result (λ _. out.new.items ≡ out.old.items) }
+{
+    let start = out.len();
+    match put_witness(alloc, &witness.turns, out) {
+        Ok(()) => Ok(()),
+        Err(kind) => {
+            out.truncate(start);
+            Err(RecordFault { offset: 0, kind })
+        }
+    }
+}
+
+fn put_witness(alloc: Global, turns: &[Turn], out: &mut Vec<u8>) -> Result<(), RecordKind>
+    ensures put { OnOk result ((version : Version) × AddsAll (witness_header version ∷ map turn_item (map turn_of turns.now)) out.old.items out.new.items
+        × IsLowest version (map turn_of turns.now) × All IsWritable (map turn_of turns.now)) }
+    ensures refused { IfErr result (Refused (All IsWritable (map turn_of turns.now))) }
+    ensures grows { StartsWith out.new.items out.old.items }
+{
+    let version = lowest(turns);
+    append(&write_witness_header(alloc, version)?, out)?;
+    put_turns(alloc, turns, out)
+}
+
+fn put_turns(alloc: Global, turns: &[Turn], out: &mut Vec<u8>) -> Result<(), RecordKind>
+    ensures put { OnOk result (AddsAll (map turn_item (map turn_of turns.now)) out.old.items out.new.items × All IsWritable (map turn_of turns.now)) }
+    ensures refused { IfErr result (Refused (All IsWritable (map turn_of turns.now))) }
+    ensures grows { StartsWith out.new.items out.old.items }
+{
+    for turn in turns {
+        append_turn(alloc, turn, out)?;
+    }
+    Ok(())
+}
+
+fn append_turn(alloc: Global, turn: &Turn, out: &mut Vec<u8>) -> Result<(), RecordKind>
+    ensures ok { OnOk result (Adds (turn_item (turn_of turn.now)) out.old.items out.new.items × IsWritable (turn_of turn.now)) }
+    ensures refused { IfErr result (Refused (IsWritable (turn_of turn.now))) }
+    ensures same { IfErr result (λ _. out.new.items ≡ out.old.items) }
+{
+    if turn.call < 1 {
+        return Err(RecordKind::Entry);
+    }
+    if !are_payloads(&turn.fills) {
+        return Err(RecordKind::Entry);
+    }
+    append(&write_turn(alloc, turn)?, out)
+}
+
+/// The lowest version that has such turns.
+fn lowest(turns: &[Turn]) -> Version
+    ensures { IsLowest result (map turn_of turns.now) }
+{
+    let mut version = Version::First;
+    for turn in turns {
+        version = newer(version, needed(turn));
+    }
+    version
+}
+
+/// The lowest version that has such a turn.
+fn needed(turn: &Turn) -> Version
+    ensures serves { Serves result (turn_of turn.now) }
+    ensures least { (other : Version) → Serves other (turn_of turn.now) → version_number result ≤ version_number other }
+{
+    if !turn.places.is_empty() {
+        return Version::Third;
+    }
+    match &turn.answer {
+        Some(_) => Version::Second,
+        None => Version::First,
+    }
+}
