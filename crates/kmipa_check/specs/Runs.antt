@@ -67,7 +67,8 @@ pub record IsAccepted (marks : List MarkOf) (declared : DeclarationOf) (turns : 
   pub described : Describes declared start
   pub run : IsRun (rules_declared declared) calls start steps
 
--- Some inventory that the declaration describes has a run of all calls of the transcript, in some order.
+-- Some inventory that the declaration describes has a run of all calls of the transcript, in some order. A call that waits for a payload
+-- has no step yet, and so no run.
 pub record IsExplained (marks : List MarkOf) (declared : DeclarationOf) : Type 0 where
   pub calls : List CallOf
   pub are : AreCalls marks calls
