@@ -1,7 +1,7 @@
 //! The words of the command line.
 
 ghost use Rattle.std.specs.Prelude.{◌≡◌, ◌≢◌, ◌⊎◌, false, [], IfErr, IfOk, IfSome, OnOk, map, string_bytes};
-ghost use Rattle.clap.specs.Words.{app_of, shape_of, rule_of, kind_of, subcommand_of, subcommand_rows_of, fault_of};
+ghost use Rattle.clap.specs.Words.{app_of, rule_of, kind_of, subcommand_of, subcommand_rows_of, fault_of};
 ghost use Rattle.clap.specs.declared.builder.command.Command.TheViews.{out-Command};
 ghost use Rattle.kmipa_runs.specs.Statuses.{IsSilent};
 ghost use Rattle.kmip_audit.specs.Words.{program_app, check_app, show_app, write_app, file_rule, status_of, IsJob, IsTold};
