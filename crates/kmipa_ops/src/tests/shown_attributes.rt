@@ -3,6 +3,7 @@
 use crate::Why;
 use crate::get_attributes::why_not_shown_attributes;
 use crate::judged::Judged;
+use crate::objects::place_meant;
 use kmipa_attrs::{AttrSet, Name, ObjectType};
 use kmipa_msgs::{GetAttributes, GotAttributes};
 use kmipa_object::{Life, Material, Object};
@@ -134,25 +135,38 @@ fn asking(alloc: Global, tags: &[u32]) -> Result<GetAttributes<'static>, Fail> {
     })
 }
 
+/// What speaks at this moment against an answer about the object of an identifier.
+fn speaks<L: Ledger>(
+    ledger: &mut L,
+    id: Option<&str>,
+    t: i64,
+    asked: &GetAttributes,
+    shown: Option<&GotAttributes>,
+) -> Option<Why> {
+    ledger.set_moment(t);
+    let place = place_meant(ledger, id);
+    why_not_shown_attributes(ledger, place, id, asked, shown)
+}
+
 /// What speaks against an answer that shows this of the key.
-fn judged(ledger: &Copies, t: i64, asked: &GetAttributes, attributes: AttrSet) -> Option<Why> {
+fn judged(ledger: &mut Copies, t: i64, asked: &GetAttributes, attributes: AttrSet) -> Option<Why> {
     let got = GotAttributes {
         id: None,
         attributes,
     };
-    why_not_shown_attributes(ledger, Some("k1"), t, asked, Some(&got))
+    speaks(ledger, Some("k1"), t, asked, Some(&got))
 }
 
 #[test]
 fn each_that_differs(rt: HostRuntime) -> Result<(), Fail> {
     let alloc = rt.alloc();
-    let ledger = ledger_of(alloc, ACTIVE)?;
+    let mut ledger = ledger_of(alloc, ACTIVE)?;
     let asked = asking(alloc, &[])?;
-    assert_eq!(rt; judged(&ledger, NOW, &asked, own(alloc)?), None);
+    assert_eq!(rt; judged(&mut ledger, NOW, &asked, own(alloc)?), None);
     for (attribute, _) in TAGS {
         let set = differing(alloc, attribute)?;
         assert_eq!(rt;
-            judged(&ledger, NOW, &asked, set),
+            judged(&mut ledger, NOW, &asked, set),
             Some(Why::AttributeDiffers)
         );
     }
@@ -162,7 +176,7 @@ fn each_that_differs(rt: HostRuntime) -> Result<(), Fail> {
 #[test]
 fn each_left_out(rt: HostRuntime) -> Result<(), Fail> {
     let alloc = rt.alloc();
-    let ledger = ledger_of(alloc, ACTIVE)?;
+    let mut ledger = ledger_of(alloc, ACTIVE)?;
     let all = asking(alloc, &[])?;
     for (place, (attribute, tag)) in TAGS.into_iter().enumerate() {
         let missing = if place < OWN {
@@ -171,13 +185,13 @@ fn each_left_out(rt: HostRuntime) -> Result<(), Fail> {
             None
         };
         let set = left_out(alloc, attribute)?;
-        assert_eq!(rt; judged(&ledger, NOW, &all, set), missing);
+        assert_eq!(rt; judged(&mut ledger, NOW, &all, set), missing);
         let one = asking(alloc, &[0x42_0004, tag])?;
         let set = left_out(alloc, attribute)?;
-        assert_eq!(rt; judged(&ledger, NOW, &one, set), missing);
+        assert_eq!(rt; judged(&mut ledger, NOW, &one, set), missing);
         let other = asking(alloc, &[0x42_0004])?;
         let set = left_out(alloc, attribute)?;
-        assert_eq!(rt; judged(&ledger, NOW, &other, set), None);
+        assert_eq!(rt; judged(&mut ledger, NOW, &other, set), None);
     }
     Ok(())
 }
@@ -185,25 +199,31 @@ fn each_left_out(rt: HostRuntime) -> Result<(), Fail> {
 #[test]
 fn nothing_required(rt: HostRuntime) -> Result<(), Fail> {
     let alloc = rt.alloc();
-    let ledger = ledger_of(alloc, ACTIVE)?;
+    let mut ledger = ledger_of(alloc, ACTIVE)?;
     let others = GetAttributes {
         has_others: true,
         ..asking(alloc, &[0x42_008D])?
     };
-    assert_eq!(rt; judged(&ledger, NOW, &others, AttrSet::new(alloc)), None);
+    assert_eq!(rt;
+        judged(&mut ledger, NOW, &others, AttrSet::new(alloc)),
+        None
+    );
     let life = Life {
         destroy: Some(NOW - 1),
         ..ACTIVE
     };
-    let destroyed = ledger_of(alloc, life)?;
+    let mut destroyed = ledger_of(alloc, life)?;
     let all = asking(alloc, &[])?;
-    assert_eq!(rt; judged(&destroyed, NOW, &all, AttrSet::new(alloc)), None);
+    assert_eq!(rt;
+        judged(&mut destroyed, NOW, &all, AttrSet::new(alloc)),
+        None
+    );
     let wrong = AttrSet {
         state: Some(2),
         ..AttrSet::new(alloc)
     };
     assert_eq!(rt;
-        judged(&destroyed, NOW, &all, wrong),
+        judged(&mut destroyed, NOW, &all, wrong),
         Some(Why::AttributeDiffers)
     );
     Ok(())
@@ -213,7 +233,7 @@ fn nothing_required(rt: HostRuntime) -> Result<(), Fail> {
 #[test]
 fn dates_decide_state(rt: HostRuntime) -> Result<(), Fail> {
     let alloc = rt.alloc();
-    let ledger = ledger_of(alloc, ACTIVE)?;
+    let mut ledger = ledger_of(alloc, ACTIVE)?;
     let asked = asking(alloc, &[0x42_008D])?;
     let table = [(NOW - 11, 1), (NOW - 10, 2), (NOW + 9, 2), (NOW + 10, 3)];
     for (t, number) in table {
@@ -227,7 +247,7 @@ fn dates_decide_state(rt: HostRuntime) -> Result<(), Fail> {
             } else {
                 Some(Why::AttributeDiffers)
             };
-            assert_eq!(rt; judged(&ledger, t, &asked, set), why);
+            assert_eq!(rt; judged(&mut ledger, t, &asked, set), why);
         }
     }
     Ok(())
@@ -236,27 +256,24 @@ fn dates_decide_state(rt: HostRuntime) -> Result<(), Fail> {
 #[test]
 fn object_and_echo(rt: HostRuntime) -> Result<(), Fail> {
     let alloc = rt.alloc();
-    let ledger = ledger_of(alloc, ACTIVE)?;
+    let mut ledger = ledger_of(alloc, ACTIVE)?;
     let asked = asking(alloc, &[])?;
     let got = GotAttributes {
         id: Some("k2"),
         attributes: own(alloc)?,
     };
     assert_eq!(rt;
-        why_not_shown_attributes(&ledger, Some("k1"), NOW, &asked, Some(&got)),
+        speaks(&mut ledger, Some("k1"), NOW, &asked, Some(&got)),
         Some(Why::EchoDiffers)
     );
     assert_eq!(rt;
-        why_not_shown_attributes(&ledger, Some("k2"), NOW, &asked, Some(&got)),
+        speaks(&mut ledger, Some("k2"), NOW, &asked, Some(&got)),
         Some(Why::NoSuchObject)
     );
     assert_eq!(rt;
-        why_not_shown_attributes(&ledger, None, NOW, &asked, None),
+        speaks(&mut ledger, None, NOW, &asked, None),
         Some(Why::NoSuchObject)
     );
-    assert_eq!(rt;
-        why_not_shown_attributes(&ledger, Some("k1"), NOW, &asked, None),
-        None
-    );
+    assert_eq!(rt; speaks(&mut ledger, Some("k1"), NOW, &asked, None), None);
     Ok(())
 }
