@@ -1,6 +1,8 @@
 pub mod ShapeLemmas
 pub mod CompletionLemmas
 pub mod PlaceLemmas
+pub mod OrderLemmas
+pub mod ComposeLemmas
 pub mod RunLemmas
 pub mod EndLemmas
 pub mod ReadableLemmas

@@ -5,7 +5,7 @@ use Rattle.std.proofs.lemmas.Option.{slice_get_past, slice_get_read, slice_get-m
 use Rattle.kmipa_msgs.specs.Messages.{AskOf, AnswerOf}
 use Rattle.kmipa_ops.specs.Explains.{is_readable}
 use Rattle.kmipa_batch.specs.Readable.{AreReadable}
-use Rattle.kmipa_batch.specs.Running.{one_of}
+use Rattle.kmipa_batch.specs.Orders.{one_of}
 
 -- one place more
 take_suc : {A : Type 0} (xs : List A) (n : ℕ) → take (suc n) xs ≡ take n xs ++ one_of (slice_get xs n)

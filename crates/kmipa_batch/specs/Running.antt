@@ -1,5 +1,5 @@
--- What the items of a batch come to, one place after the other.
-use Rattle.std.specs.Prelude.{◌≡◌, ℕ, ◌+◌, ℤ, List, [], ◌∷◌, Option, Some, None, Result, Ok, Err}
+-- What the items of a batch come to, one after the other.
+use Rattle.std.specs.Prelude.{◌≡◌, ◌<◌, ℕ, ◌+◌, ℤ, List, take, Option, Some, None, Result, Ok, Err, slice_get}
 use Rattle.kmipa_store.specs.Ledger.{Meaning, LedgerState}
 use Rattle.kmipa_store.specs.Choices.{IsSound}
 use Rattle.kmipa_msgs.specs.Messages.{RulesOf, AskOf, RequestOf, AnswerOf, ResponseOf}
@@ -7,16 +7,12 @@ use Rattle.kmipa_ops.specs.declared.why.Why.{Why}
 use Rattle.kmipa_ops.specs.declared.why.Refusal.{Refusal}
 use Rattle.kmipa_ops.specs.declared.why.Refusal.TheVariants as item
 use Rattle.kmipa_ops.specs.Explains.{Explains, Refuted}
-use Rattle.kmipa_batch.specs.Shapes.{IsShaped}
+use Rattle.kmipa_batch.specs.Shapes.{IsShapedAt, IsShapedBelow, IsShaped}
 use Rattle.kmipa_batch.specs.Calls.{pairs_of}
+use Rattle.kmipa_batch.specs.Orders.{one_of, along}
 use Rattle.kmipa_batch.specs.Refusals.{CallRefuted}
 use Rattle.kmipa_batch.specs.declared.refusal.CallRefusal.{CallRefusal}
 use Rattle.kmipa_batch.specs.declared.refusal.CallRefusal.TheVariants.{Impossible, Memory}
-
--- the pair at a place, if there is one, as a list
-abbrev pub one_of : {A : Type 0} → Option A → List A
-one_of None = []
-one_of (Some x) = x ∷ []
 
 -- against the pair that is there speaks this reason
 pub record PairRefuted (rules : RulesOf) (m : Meaning) (before : Option (List ℕ)) (t : ℤ) (pair : Option (AskOf × AnswerOf)) (why : Why) : Type 0 where
@@ -39,6 +35,39 @@ PairTaken rules s before t pair result u after = PairCame rules s.now before t p
 abbrev pub refused_at : ℕ → Refusal → CallRefusal
 refused_at place (item.Impossible why) = Impossible (place + 1) why
 refused_at place item.Memory = Memory
+
+-- all pairs along this order were taken
+pub record AlongDone (rules : RulesOf) (t : ℤ) (m : Meaning) (pairs : List (AskOf × AnswerOf)) (order : List ℕ) (n : Meaning) : Type 0 where
+  pub placeholder : Option (List ℕ)
+  pub explains : Explains rules t m None (along pairs order) n placeholder
+  pub sound : IsSound n
+
+-- those before a position of this order were taken, and against the pair of its place speaks this reason. The place is told from 1
+pub record AlongRefuted (rules : RulesOf) (t : ℤ) (m : Meaning) (pairs : List (AskOf × AnswerOf)) (order : List ℕ) (item : ℕ) (why : Why) : Type 0 where
+  pub position : ℕ
+  pub place : ℕ
+  pub there : slice_get order position ≡ Some place
+  pub told : item ≡ place + 1
+  pub between : Meaning
+  pub placeholder : Option (List ℕ)
+  pub explains : Explains rules t m None (along pairs (take position order)) between placeholder
+  pub sound : IsSound between
+  pub refuted : PairRefuted rules between placeholder t (slice_get pairs place) why
+
+-- what the pairs along this order come to
+abbrev pub AlongCame : RulesOf → ℤ → Meaning → List (AskOf × AnswerOf) → List ℕ → Result (Unit {0}) CallRefusal → Meaning → Type 0
+AlongCame rules t m pairs order (Ok done) n = AlongDone rules t m pairs order n
+AlongCame rules t m pairs order (Err (Impossible item why)) n = AlongRefuted rules t m pairs order item why
+AlongCame rules t m pairs order (Err Memory) n = Unit {0}
+
+-- and they leave the marks
+abbrev pub AlongTaken : RulesOf → ℤ → LedgerState → List (AskOf × AnswerOf) → List ℕ → Result (Unit {0}) CallRefusal → LedgerState → Type 0
+AlongTaken rules t s pairs order result u = AlongCame rules t s.now pairs order result u.now × (u.marks ≡ s.marks)
+
+-- the lowest place without its shape, if there is one
+abbrev pub LowestUnshaped : RequestOf → ResponseOf → Option ℕ → Type 0
+LowestUnshaped request response None = IsShaped request response
+LowestUnshaped request response (Some place) = IsShapedBelow request response place × (IsShapedAt request response place → ⊥)
 
 -- all items were taken, in their shape
 pub record AllTaken (rules : RulesOf) (m : Meaning) (request : RequestOf) (response : ResponseOf) (n : Meaning) : Type 0 where

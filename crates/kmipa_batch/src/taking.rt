@@ -1,21 +1,21 @@
 //! One call, taken over any ledger.
 
-ghost use Rattle.std.specs.Prelude.{◌≡◌, ◌<◌, ◌≤◌, ◌↔◌, IsTrue, if◌then◌else◌, length, option_map, slice_get};
+ghost use Rattle.std.specs.Prelude.{◌≡◌, ◌<◌, ◌≤◌, ◌↔◌, IfSome, IsTrue, if◌then◌else◌, length, option_map, slice_get};
 ghost use Rattle.kmipa_store.specs.Ledger.{kept, undone};
 ghost use Rattle.kmipa_store.specs.Choices.{IsSound};
 ghost use Rattle.kmipa_msgs.specs.Messages.{AnswerOf, request_of, response_of, rules_of};
-ghost use Rattle.kmipa_ops.specs.Placeholders.{placeholder_of};
 ghost use Rattle.kmipa_batch.specs.Shapes.{IsShapedAt};
 ghost use Rattle.kmipa_batch.specs.Fits.{FailedAt, fits, undoes};
 ghost use Rattle.kmipa_batch.specs.Calls.{RefusesMessage, pairs_of};
 ghost use Rattle.kmipa_batch.specs.Readable.{AreReadable, IsReadableCall};
 ghost use Rattle.kmipa_batch.specs.Refusals.{CallTaken};
-ghost use Rattle.kmipa_batch.specs.Running.{PairTaken, Ran, refused_at};
+ghost use Rattle.kmipa_batch.specs.Running.{LowestUnshaped, Ran};
 
+use crate::along::take_along;
 use crate::refusal::CallRefusal;
 use crate::shape::{first_failed, has_shape, is_refused_message, is_undone};
 use kmipa_msgs::{BatchOption, Request, Response, Rules, Status};
-use kmipa_ops::{Placeholder, Refusal, Why, take};
+use kmipa_ops::Why;
 use kmipa_store::{Ledger, Mark};
 use std::alloc::Global;
 
@@ -67,7 +67,7 @@ fn end<L: Ledger>(ledger: &mut L, mark: Mark, option: BatchOption, failed: Optio
     }
 }
 
-/// Takes the items of a call, place by place. The ID Placeholder is empty at its start.
+/// Takes the items of a call by place. The first place that hasn't its shape, or whose item is impossible, is told.
 fn take_items<L: Ledger>(
     alloc: Global,
     ledger: &mut L,
@@ -82,25 +82,30 @@ fn take_items<L: Ledger>(
     requires failed_at { FailedAt (response_of response.now).items failed }
     ensures { Ran (rules_of rules.now) (L.state ledger.old) (request_of request.now) (response_of response.now) result (L.state ledger.new) }
 {
-    let mut placeholder = Placeholder::new();
-    for place in 0..places(request, response) {
-        if !is_shaped_at(request, response, failed, place) {
-            return Err(CallRefusal::Impossible(place + 1, Why::BatchShape));
+    match first_unshaped(request, response, failed) {
+        None => {
+            let count = places(request, response);
+            take_along(alloc, ledger, rules, request, response, None, count)
         }
-        let taken = take_pair(
-            alloc,
-            ledger,
-            rules,
-            &mut placeholder,
-            request,
-            response,
-            place,
-        );
-        if let Err(refusal) = taken {
-            return Err(told_at(place, refusal));
+        Some(place) => {
+            take_along(alloc, ledger, rules, request, response, None, place)?;
+            Err(CallRefusal::Impossible(place + 1, Why::BatchShape))
         }
     }
-    Ok(())
+}
+
+/// The lowest place, from 0, that hasn't its shape.
+fn first_unshaped(request: &Request, response: &Response, failed: Option<usize>) -> Option<usize>
+    requires { FailedAt (response_of response.now).items failed }
+    ensures lowest { LowestUnshaped (request_of request.now) (response_of response.now) result }
+    ensures last { IfSome result (λ place. place < usize.MAX) }
+{
+    for place in 0..places(request, response) {
+        if !is_shaped_at(request, response, failed, place) {
+            return Some(place);
+        }
+    }
+    None
 }
 
 /// How many places there are: as many as there are items, or answers, if those are more.
@@ -128,46 +133,5 @@ fn status_at(response: &Response, place: usize) -> Option<Status>
     match response.items.get(place) {
         Some(answer) => Some(answer.status),
         None => None,
-    }
-}
-
-/// Takes the pair of a place, where both an item and its answer stand there.
-fn take_pair<L: Ledger>(
-    alloc: Global,
-    ledger: &mut L,
-    rules: &Rules,
-    placeholder: &mut Placeholder,
-    request: &Request,
-    response: &Response,
-    place: usize,
-) -> Result<(), Refusal>
-    requires sound { IsSound (L.state ledger.old).now }
-    requires readable { AreReadable (pairs_of (request_of request.now) (response_of response.now)) }
-    ensures { PairTaken (rules_of rules.now) (L.state ledger.old) (placeholder_of placeholder.old) response.now.stamp (slice_get (pairs_of (request_of request.now) (response_of response.now)) place) result (L.state ledger.new) (placeholder_of placeholder.new) }
-{
-    let Some(ask) = request.items.get(place) else {
-        return Ok(());
-    };
-    let Some(answer) = response.items.get(place) else {
-        return Ok(());
-    };
-    let t = stamp_of(response);
-    take(alloc, ledger, rules, placeholder, t, ask, answer)
-}
-
-fn stamp_of(response: &Response) -> i64
-    ensures { result ≡ response.now.stamp }
-{
-    response.stamp
-}
-
-/// A refusal of the item at a place, which is told from 1.
-fn told_at(place: usize, refusal: Refusal) -> CallRefusal
-    requires { place < usize.MAX }
-    ensures { result ≡ refused_at place refusal }
-{
-    match refusal {
-        Refusal::Impossible(why) => CallRefusal::Impossible(place + 1, why),
-        Refusal::Memory => CallRefusal::Memory,
     }
 }

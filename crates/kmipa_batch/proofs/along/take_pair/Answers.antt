@@ -5,7 +5,7 @@ use Rattle.kmipa_ops.specs.Placeholders.{placeholder_of}
 use Rattle.kmipa_batch.specs.Calls.{pairs_of}
 use Rattle.kmipa_batch.proofs.PlaceLemmas.{got_some, got_none, pair_both, pair_no_left, pair_no_right, readable_at}
 use Rattle.kmipa_batch.proofs.RunLemmas.{pair_absent, pair_taken}
-use Rattle.kmipa_batch.proofs.taking.take_pair.Goals as goal
+use Rattle.kmipa_batch.proofs.along.take_pair.Goals as goal
 
 pub returns-in_default : goal.returns-in_default
 returns-in_default g c =
