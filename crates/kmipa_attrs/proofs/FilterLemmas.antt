@@ -1,22 +1,19 @@
 -- What is read of a filter is what is said, or the lowest fault.
-use Rattle.std.proofs.Common.{◌≡◌, ◌<◌, ◌≤◌, ◌+◌, ℕ, ℤ, Bool, true, false, nat_lt, ◌==◌, ◌||◌, cond, slice_get, drop, get_or, List, [], ◌∷◌, map, length, Some, None, Option, Result, Ok, Err, refl, sym, ap, ◌∙◌, subst, arith, inl, inr, ◌⊎◌}
+use Rattle.std.proofs.Common.{◌≡◌, ◌<◌, ◌≤◌, ◌+◌, ℕ, ℤ, Bool, true, false, nat_lt, ◌==◌, ◌||◌, cond, slice_get, drop, get_or, List, [], ◌∷◌, map, length, Some, None, Option, Result, Ok, Err, refl, sym, ap, ◌∙◌, subst, arith, inl, inr}
 use Rattle.std.proofs.lemmas.Bool.{lt-ltb}
 use Rattle.std.proofs.lemmas.List.{length-map, drop_all}
 use Rattle.kmipa_ttlv.specs.Tree.{Tree, Trees, structure, scalar, none, more}
 use Rattle.kmipa_ttlv.specs.ViewTree.{view_tree, view_trees}
 use Rattle.kmipa_ttlv.specs.declared.view.View.{View}
-use Rattle.kmipa_attrs.specs.Tags.{activation_date, compromise_date, cryptographic_algorithm, cryptographic_length, cryptographic_usage_mask, deactivation_date, destroy_date, initial_date, name_tag, object_type_tag, state_tag}
+use Rattle.kmipa_attrs.specs.Tags.{activation_date, compromise_date, cryptographic_algorithm, cryptographic_length, cryptographic_usage_mask, deactivation_date, destroy_date, initial_date, object_type_tag, state_tag}
 use Rattle.kmipa_attrs.specs.Sets.{NameOf}
-use Rattle.kmipa_attrs.specs.Names.{as_name}
 use Rattle.kmipa_attrs.specs.Fields.{tag_of, first, every, at, typed, value_in, as_structure, as_integer, as_enumeration, as_date}
-use Rattle.kmipa_attrs.specs.Readings.{Says, Reads, Lowest, both, map_ok}
-use Rattle.kmipa_attrs.specs.Attributes.{attr_number, each, Single, SomeWrong, SingleFault, TypeFault, Gives, folded, names_in}
-use Rattle.kmipa_attrs.specs.Filters.{FilterOf, filter_of, SaysFirst, AreTyped, is_other, has_other, is_repeated, is_below_one, maximum_of, is_loosened, some_second, SaysFilter, FilterFault, SaysWanted, WantedFault, ReadsFilter, GivesFilter, kept_first, first_of, types_of, Judged, Types, judged_in, types_in, filter_rows, filter_at, filter_in}
+use Rattle.kmipa_attrs.specs.Readings.{Reads, Lowest, both, map_ok}
+use Rattle.kmipa_attrs.specs.Attributes.{attr_number, each, Single, SingleFault, TypeFault, Gives, folded, names_in}
+use Rattle.kmipa_attrs.specs.Filters.{FilterOf, filter_of, SaysFirst, AreTyped, is_other, has_other, is_repeated, maximum_of, is_loosened, some_second, SaysFilter, FilterFault, WantedFault, ReadsFilter, GivesFilter, kept_first, first_of, types_of, Judged, Types, judged_in, types_in, filter_rows, filter_at, filter_in}
 use Rattle.kmipa_attrs.specs.Filters.FilterFault.{in_names, in_object_type, in_state, in_algorithm, in_length, in_mask, in_initial, in_activation, in_deactivation, in_destroy, in_compromise}
 use Rattle.kmipa_attrs.specs.declared.fault.AttrFault.{AttrFault}
 use Rattle.kmipa_attrs.specs.declared.fault.AttrFault.TheVariants.{WrongType, Repeated, NotForClients, Memory}
-use Rattle.kmipa_attrs.specs.declared.fields.Field.{Field}
-use Rattle.kmipa_attrs.specs.declared.fields.Field.TheVariants.{Absent, Wrong, There}
 use Rattle.kmipa_attrs.specs.declared.filter.Filter.{Filter}
 use Rattle.kmipa_attrs.proofs.FieldLemmas.{tag_of-view, left_at}
 use Rattle.kmipa_attrs.proofs.ReadingLemmas.{reads_both, reads_as}

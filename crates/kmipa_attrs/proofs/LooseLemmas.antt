@@ -1,5 +1,5 @@
 -- When a filter is loose.
-use Rattle.std.proofs.Common.{◌≡◌, ◌≤◌, ◌+◌, ℕ, ℤ, Bool, true, false, nat_lt, ◌==◌, ◌||◌, not, cond, List, ◌∷◌, length, Option, refl, sym, ap, ◌∙◌, arith, inl, inr, ◌⊎◌, ltb-true, eq-eqb, eqb-true}
+use Rattle.std.proofs.Common.{◌≡◌, ◌≤◌, ℕ, ℤ, Bool, true, false, ◌==◌, ◌||◌, not, cond, ◌∷◌, length, Option, refl, ap, ◌∙◌, arith, inl, inr, ◌⊎◌, ltb-true, eq-eqb, eqb-true}
 use Rattle.std.specs.Prelude.{◌↔◌}
 use Rattle.std.proofs.lemmas.Bool.{lt-ltb}
 use Rattle.kmipa_ttlv.specs.Tree.{Tree, Trees, none, more}

@@ -19,6 +19,15 @@ use Rattle.kmipa_attrs.specs.declared.fault.AttrFault.TheVariants.{WrongType, Re
 use denote.Bor.{Bor}
 use Rattle.kmipa_attrs.specs.Names.{as_name, name_from, name_inside, same_name, without, distinct, with_name, with_names}
 use Rattle.kmipa_attrs.specs.declared.name.Name.{Name}
+use Rattle.kmipa_attrs.specs.declared.names.LentName.{LentName}
+use Rattle.std.specs.declared.cmp.Ordering.{Ordering}
+use Rattle.std.specs.Bool.{OnFalse}
+use Rattle.std.specs.Ordering.{is_eq, nat_cmp, ordering_then}
+use Rattle.std.specs.Cmp.{both_tied, unsigned_ties}
+use Rattle.std.specs.Cmp.Lexicographic.{slice_cmp}
+use Rattle.std.specs.BTreeMap.{is_at}
+use Rattle.std.specs.BTreeSet.{BTreeSet, contains}
+use Rattle.std.proofs.lemmas.Map.Text.{is_eq-slice_cmp}
 
 both_true : (b c : Bool) → (b && c) ≡ true → (b ≡ true) × (c ≡ true)
 both_true true true e = (refl, refl)
@@ -102,6 +111,61 @@ pub has_of : (names : List Name) (n : Name) → list_any (λ y. bytes_eq (string
 has_of [] n = refl
 has_of (m ∷ names) n = ap (λ (b : Bool). same_name (name_of m) (name_of n) || b) (has_of names n)
 
+-- names that are lent, and a set of them in their order
+abbrev pub lent_name_of : LentName → NameOf
+lent_name_of n = record { value = n.value.now; kind = n.kind }
+
+abbrev pub lent_cmp : LentName → LentName → Ordering
+lent_cmp m n = ordering_then (slice_cmp nat_cmp m.value.now n.value.now) (nat_cmp m.kind n.kind)
+
+lent_tied : (m n : LentName) → same_name (lent_name_of m) (lent_name_of n) ≡ is_eq (lent_cmp m n)
+lent_tied m n =
+    both_tied (bytes_eq m.value.now n.value.now) (m.kind == n.kind) (slice_cmp nat_cmp m.value.now n.value.now) (nat_cmp m.kind n.kind)
+    (sym (is_eq-slice_cmp m.value.now n.value.now)) (unsigned_ties m.kind n.kind)
+
+-- the set has exactly the names seen
+abbrev pub Tracks : List NameOf → BTreeSet LentName → Type 0
+Tracks names s = (n : LentName) → contains lent_cmp s n ≡ has names (lent_name_of n)
+
+pub tracks_none : (names : List NameOf) (s : BTreeSet LentName) → names ≡ [] → s.keys ≡ [] → Tracks names s
+tracks_none names s e k n = ap (list_any (is_at (lent_cmp n))) k ∙ sym (ap (λ us. has us (lent_name_of n)) e)
+
+pub tracks_same : (names : List NameOf) (s t : BTreeSet LentName) (added : Bool) → OnFalse added (t.keys ≡ s.keys) → added ≡ false → Tracks names s → Tracks names t
+tracks_same names s t true u e = cc
+tracks_same names s t false u e = λ h n. ap (list_any (is_at (lent_cmp n))) u ∙ h n
+
+pub tracks_more : (names : List NameOf) (k : LentName) (s t : BTreeSet LentName) → ((n : LentName) → contains lent_cmp t n ≡ cond (is_at (lent_cmp k) n) true (contains lent_cmp s n))
+    → Tracks names s → Tracks (names ++ lent_name_of k ∷ []) t
+tracks_more names k s t u h n =
+    u n
+    ∙ (λ i. cond (is_k i) true (h n i))
+    ∙ either (same_name (lent_name_of n) (lent_name_of k)) (has names (lent_name_of n))
+    ∙ sym (has_pushed names (lent_name_of k) (lent_name_of n))
+  where
+    is_k : is_eq (lent_cmp k n) ≡ same_name (lent_name_of n) (lent_name_of k)
+    is_k = sym (lent_tied k n) ∙ same_name-symm (lent_name_of k) (lent_name_of n)
+
+    either : (b c : Bool) → cond b true c ≡ (c || (b || false))
+    either true true = refl
+    either true false = refl
+    either false true = refl
+    either false false = refl
+
+-- what an insertion says of the names seen
+pub was_unseen : (seen : List NameOf) (k : LentName) (s : BTreeSet LentName) (added : Bool) → Tracks seen s → added ≡ not (contains lent_cmp s k) → added ≡ true → has seen (lent_name_of k) ≡ false
+was_unseen seen k s added h a e = by (has seen (lent_name_of k)) (sym e ∙ a ∙ ap not (h k))
+  where
+    by : (b : Bool) → true ≡ not b → b ≡ false
+    by true e = cc
+    by false e = refl
+
+pub was_seen : (seen : List NameOf) (k : LentName) (s : BTreeSet LentName) (added : Bool) → Tracks seen s → added ≡ not (contains lent_cmp s k) → added ≡ false → has seen (lent_name_of k) ≡ true
+was_seen seen k s added h a e = by (has seen (lent_name_of k)) (sym e ∙ a ∙ ap not (h k))
+  where
+    by : (b : Bool) → false ≡ not b → b ≡ true
+    by true e = refl
+    by false e = cc
+
 -- the name of a tree, by its fields
 pub as_name-none : (t : Tree) → None ≡ as_structure t → as_name t ≡ None
 unfolding as_name
@@ -138,12 +202,12 @@ names_more seen next o n held e is =
     by (Ok x) = refl
     by (Err k) = refl
 
-pub names_wrong : (seen : List NameOf) (o : Option NameOf) (held : List (Option NameOf)) (whole : Result (List NameOf) AttrFault) (f : AttrFault)
-    → Gives name_of (Err f) (named o) → whole ≡ map_ok (with_names seen) (all_named (o ∷ held)) → Gives names_of (Err f) whole
-names_wrong seen None held whole WrongType h e = e
-names_wrong seen None held whole Repeated h e = cc
-names_wrong seen None held whole NotForClients h e = cc
-names_wrong seen (Some n) held whole WrongType h e = cc
-names_wrong seen (Some n) held whole Repeated h e = cc
-names_wrong seen (Some n) held whole NotForClients h e = cc
-names_wrong seen o held whole Memory h e = tt
+pub names_wrong : {A : Type 0} (view : A → NameOf) (seen : List NameOf) (o : Option NameOf) (held : List (Option NameOf)) (whole : Result (List NameOf) AttrFault) (f : AttrFault)
+    → Gives view (Err f) (named o) → whole ≡ map_ok (with_names seen) (all_named (o ∷ held)) → Gives names_of (Err f) whole
+names_wrong view seen None held whole WrongType h e = e
+names_wrong view seen None held whole Repeated h e = cc
+names_wrong view seen None held whole NotForClients h e = cc
+names_wrong view seen (Some n) held whole WrongType h e = cc
+names_wrong view seen (Some n) held whole Repeated h e = cc
+names_wrong view seen (Some n) held whole NotForClients h e = cc
+names_wrong view seen o held whole Memory h e = tt

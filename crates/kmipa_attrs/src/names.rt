@@ -14,12 +14,34 @@ use crate::tags::{NAME, NAME_TYPE, NAME_VALUE};
 use kmipa_ttlv::View;
 use smallvec::SmallVec;
 use std::alloc::{AllocError, Global};
+use std::collections::BTreeSet;
+
+/// With at most so many children, each name is compared with those before it, and no set is built.
+const FEW: usize = 16;
+
+/// A name whose value is lent from what it was read from.
+#[derive(Clone, Copy, PartialEq, Eq, PartialOrd, Ord)]
+struct LentName<'a> {
+    value: &'a str,
+    kind: u32,
+}
 
 /// The names that children say, in the order of first appearance.
 pub(crate) fn read_names(
     alloc: Global,
     children: &[View],
 ) -> Result<SmallVec<Name, NAMES>, AttrFault>
+    ensures { Gives names_of result (names_in (view_trees children.now)) }
+{
+    if children.len() <= FEW {
+        read_few(alloc, children)
+    } else {
+        read_many(alloc, children)
+    }
+}
+
+/// The same, where each name is compared with those before it.
+fn read_few(alloc: Global, children: &[View]) -> Result<SmallVec<Name, NAMES>, AttrFault>
     ensures { Gives names_of result (names_in (view_trees children.now)) }
 {
     let mut names = SmallVec::new(alloc);
@@ -32,8 +54,32 @@ pub(crate) fn read_names(
     Ok(names)
 }
 
+/// The same, where each name is looked up among those before it.
+fn read_many(alloc: Global, children: &[View]) -> Result<SmallVec<Name, NAMES>, AttrFault>
+    ensures { Gives names_of result (names_in (view_trees children.now)) }
+{
+    let mut names = SmallVec::new(alloc);
+    let mut seen = BTreeSet::new(alloc);
+    for child in children {
+        if child.tag.number == NAME {
+            let name = lent_name(child)?;
+            if seen.insert(name)? {
+                names.push(name.copy(alloc)?)?;
+            }
+        }
+    }
+    Ok(names)
+}
+
 fn read_name(alloc: Global, view: &View) -> Result<Name, AttrFault>
     ensures { Gives name_of result (named (as_name (view_tree view.now))) }
+{
+    let name = lent_name(view)?;
+    Ok(name.copy(alloc)?)
+}
+
+fn lent_name<'a>(view: &View<'a>) -> Result<LentName<'a>, AttrFault>
+    ensures { Gives (λ n. record { value = n.value.now; kind = n.kind }) result (named (as_name (view_tree view.now))) }
 {
     let Some(children) = as_structure(view) else {
         return Err(AttrFault::WrongType);
@@ -46,10 +92,18 @@ fn read_name(alloc: Global, view: &View) -> Result<Name, AttrFault>
         Field::Absent => 1,
         Field::Wrong => return Err(AttrFault::WrongType),
     };
-    Ok(Name {
-        value: String::from_str(alloc, value)?,
-        kind,
-    })
+    Ok(LentName { value, kind })
+}
+
+impl<'a> LentName<'a> {
+    fn copy(self, alloc: Global) -> Result<Name, AllocError>
+        ensures { IfOk result (λ name. name_of name ≡ record { value = self.entry.value.now; kind = self.entry.kind }) }
+    {
+        Ok(Name {
+            value: String::from_str(alloc, self.value)?,
+            kind: self.kind,
+        })
+    }
 }
 
 fn add_name(names: &mut SmallVec<Name, NAMES>, name: Name) -> Result<(), AllocError>

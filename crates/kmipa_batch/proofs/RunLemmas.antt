@@ -135,7 +135,7 @@ module _ (rules : RulesOf) (s : LedgerState) (request : RequestOf) (response : R
           never = λ p.
               let P : List (AskOf × AnswerOf) → Type 0 = λ xs. CanChain rules t s.now None xs in
               refused_cannot rules t s.now None front n before e r.ask r.answer why r.refuted
-                  (subst P last (record { choice = p.choice; chooses = p.chooses; things = p.things; placeholder = p.placeholder; chain = p.chain }));
+              (subst P last (record { choice = p.choice; chooses = p.chooses; things = p.things; placeholder = p.placeholder; chain = p.chain }));
           unrefused = unrefused;
           speaks = SpeaksAt.in_item here n before r.ask r.answer e r.there r.refuted;
         }
@@ -154,7 +154,7 @@ module _ (rules : RulesOf) (s : LedgerState) (request : RequestOf) (response : R
       let R : ℕ → Type 0 = λ told. CallRefuted rules s.now request response told why in
       let earlier : IsShapedBelow request response a.position = λ place h. shaped place (omega arith) in
       subst R (sym (a.told ∙ ap (λ k. k + 1) is))
-          (item_refuted a.position a.between a.placeholder (subst P front a.explains) a.sound earlier (shaped a.position below) why (subst Q is a.refuted))
+      (item_refuted a.position a.between a.placeholder (subst P front a.explains) a.sound earlier (shaped a.position below) why (subst Q is a.refuted))
 
   refused_by_place : (count : ℕ) → IsShapedBelow request response count → (refusal : CallRefusal) (u : LedgerState)
       → AlongTaken rules response.stamp s pairs (places_from 0 count) (Err refusal) u → Ran rules s request response (Err refusal) u

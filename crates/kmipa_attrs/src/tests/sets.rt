@@ -12,6 +12,9 @@ const AES_128: [u8; 40] = [
     0x2A, 2, 0, 0, 0, 4, 0, 0, 0, 0x80, 0, 0, 0, 0,
 ];
 
+// Values of names, not in their own order.
+const VALUES: [&str; 10] = ["k", "c", "", "kk", "b", "a", "z", "ck", "A", "1"];
+
 fn are_same(a: &AttrSet, b: &AttrSet) -> bool {
     a.names.as_slice() == b.names.as_slice()
         && (a.object_type, a.algorithm, a.state) == (b.object_type, b.algorithm, b.state)
@@ -54,6 +57,26 @@ fn names_once(rt: HostRuntime) -> Result<(), Fail> {
         let name = set.names.as_slice().get(place).ok_or("a name")?;
         assert_eq!(rt; name.value.as_str(), value);
         assert_eq!(rt; name.kind, kind);
+    }
+    Ok(())
+}
+
+// Forty names: ten values of two types each, and all of them again in the same order.
+#[test]
+fn many_names_once(rt: HostRuntime) -> Result<(), Fail> {
+    let mut items = Vec::new(rt.alloc());
+    for kind in [1, 2, 1, 2] {
+        for value in VALUES {
+            items.push(name_item(&rt, value, Some(kind))?)?;
+        }
+    }
+    let item = attributes(items)?;
+    let view = lend(rt.alloc(), &item)?;
+    let set = read_attrs(rt.alloc(), &view, Side::Client)?;
+    assert_eq!(rt; set.names.len(), 20);
+    for (place, name) in set.names.as_slice().iter().enumerate() {
+        assert_eq!(rt; name.value.as_str(), VALUES[place % 10]);
+        assert_eq!(rt; name.kind, if place < 10 { 1 } else { 2 });
     }
     Ok(())
 }

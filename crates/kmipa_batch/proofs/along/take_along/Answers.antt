@@ -7,7 +7,7 @@ use Rattle.kmipa_batch.specs.Calls.{pairs_of}
 use Rattle.kmipa_batch.specs.Orders.{order_of}
 use Rattle.kmipa_batch.specs.Running.{AlongTaken}
 use Rattle.kmipa_batch.proofs.OrderLemmas.{order_at}
-use Rattle.kmipa_batch.proofs.RunLemmas.{along_more, along_stops, along_ends}
+use Rattle.kmipa_batch.proofs.RunLemmas.{along_more, along_stops}
 use Rattle.kmipa_batch.proofs.along.take_along.Goals as goal
 
 pub returns-in-Err : goal.returns-in-Err

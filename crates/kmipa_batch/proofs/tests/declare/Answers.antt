@@ -12,4 +12,4 @@ returns g c =
     let life : Life = record { initial = None; activation = None; deactivation = None; destroy = None; compromise = None; material = Secret c.in_ok-secret.secret } in
     let o : Object = record { id = c.in_ok-id.id; kind = SymmetricKey; given = record c.new.result { algorithm = Some 3; length = Some (pos 128) }; life = life } in
     declared_sound (g.L.Ledger.state c.args.ledger.now) (g.L.Ledger.state c.new_secret.new.self) (g.L.Ledger.state c.add.new.self) c.of-rule.result c.in_ok-secret.secret (held o) c.requires
-    c.in_ok-secret.ensures.0 c.in_ok-secret.ensures.1 c.in_ok-secret.ensures.2 c.in_ok-add.ensures.0 c.in_ok-add.ensures.2 refl (sym c.of-rule.ensures) refl
+    c.in_ok-secret.ensures.meaning.0 c.in_ok-secret.ensures.meaning.1 c.in_ok-secret.ensures.meaning.2 c.in_ok-add.ensures.meaning.0 c.in_ok-add.ensures.meaning.2 refl (sym c.of-rule.ensures) refl

@@ -5,4 +5,4 @@ use Rattle.kmipa_store.proofs.SoundLemmas.{sound_none}
 use Rattle.kmipa_batch.proofs.tests.journal.Goals as goal
 
 pub returns : goal.returns
-returns c = subst (λ (s : LedgerState). IsSound s.now) (sym c.new.ensures) sound_none
+returns c = subst (λ (s : LedgerState). IsSound s.now) (sym c.new.ensures.meaning) sound_none

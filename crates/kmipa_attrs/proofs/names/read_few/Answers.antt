@@ -7,8 +7,8 @@ use Rattle.kmipa_attrs.specs.Readings.{map_ok}
 use Rattle.kmipa_attrs.specs.Attributes.{each, all_named, names_in}
 use Rattle.kmipa_attrs.proofs.ViewLemmas.{each_found, each_passed, each_none}
 use Rattle.kmipa_attrs.proofs.NameLemmas.{named_some, names_begin, names_more, names_wrong}
-use Rattle.kmipa_attrs.proofs.names.read_names.Goals as goal
-use Rattle.kmipa_attrs.proofs.names.read_names.Goals.{then-child-eq-NAME+in_ok-name+in_ok-add_name, else-child-eq-NAME}
+use Rattle.kmipa_attrs.proofs.names.read_few.Goals as goal
+use Rattle.kmipa_attrs.proofs.names.read_few.Goals.{then-child-eq-NAME+in_ok-name+in_ok-add_name, else-child-eq-NAME}
 
 pub loop-child-init : goal.loop-child-init
 loop-child-init c = names_begin (each as_name name_tag (view_trees c.args.children.now)) (names_of c.new-names.result) (ap (map name_of) c.new-names.ensures.items)
@@ -21,7 +21,7 @@ returns-in_err-name c =
     let seen = names_of c.loop-child.names in
     let e : c.from_residual.result ≡ Err c.in_err-name.field-0.0 = search rules in
     let whole = c.loop-child.invariant ∙ ap (λ held. map_ok (with_names seen) (all_named held)) (each_found as_name name_tag i vs c.child-item.result c.loop-child-test.true c.child-item.is c.if-child-eq-NAME.true) in
-    rw e (names_wrong seen (as_name (view_tree c.child-item.result)) rest (names_in (view_trees vs)) c.in_err-name.field-0.0 c.in_err-name.ensures whole)
+    rw e (names_wrong name_of seen (as_name (view_tree c.child-item.result)) rest (names_in (view_trees vs)) c.in_err-name.field-0.0 c.in_err-name.ensures whole)
 
 pub loop-child-preserved : goal.loop-child-preserved
 loop-child-preserved c =

@@ -5,8 +5,8 @@ use Rattle.kmipa_attrs.specs.Names.{name_from}
 use Rattle.kmipa_attrs.specs.Attributes.{named}
 use Rattle.kmipa_attrs.specs.Fields.{at, as_text, as_enumeration}
 use Rattle.kmipa_attrs.proofs.NameLemmas.{as_name-none, as_name-some, no_value}
-use Rattle.kmipa_attrs.proofs.names.read_name.Goals as goal
-use Rattle.kmipa_attrs.proofs.names.read_name.Goals.{in-There-enumeration_at, in-Absent}
+use Rattle.kmipa_attrs.proofs.names.lent_name.Goals as goal
+use Rattle.kmipa_attrs.proofs.names.lent_name.Goals.{in-There-enumeration_at, in-Absent}
 
 pub returns-in_default : goal.returns-in_default
 returns-in_default c = ap named (as_name-none (view_tree c.args.view.now) (c.in_default.ensures))
@@ -30,8 +30,8 @@ returns c =
     ∙ elim c.match-enumeration_at.branch [
       | in-There-enumeration_at w ↦
           sym (λ i. named (name_from (c.in-There.ensures i) (w.in-There-enumeration_at.ensures i)))
-          ∙ (λ i. Ok (record { value = sym c.in_ok-from_str.ensures.ok i; kind = sym w.kind-is i }))
+          ∙ (λ i. Ok (record { value = c.in-There.value.now; kind = sym w.kind-is i }))
       | in-Absent w ↦
           sym (λ i. named (name_from (c.in-There.ensures i) (w.in-Absent.ensures i)))
-          ∙ (λ i. Ok (record { value = sym c.in_ok-from_str.ensures.ok i; kind = sym w.kind-is i }))
+          ∙ (λ i. Ok (record { value = c.in-There.value.now; kind = sym w.kind-is i }))
     ]
