@@ -9,7 +9,7 @@ use Rattle.kmipa_check.proofs.OpeningLemmas.{opened_none, opened_next, opened_kn
 use Rattle.kmipa_check.proofs.opening.open_ledger.Goals as goal
 
 pub entries-init : goal.entries-init
-entries-init c = let P : LedgerState → Type 0 = λ s. Opened [] s.now in subst P (sym c.new-ledger.ensures) opened_none
+entries-init c = let P : LedgerState → Type 0 = λ s. Opened [] s.now in subst P (sym c.new-ledger.ensures.meaning) opened_none
 
 pub declare-requires-clause-declarable : goal.declare-requires-clause-declarable
 declare-requires-clause-declarable c =
