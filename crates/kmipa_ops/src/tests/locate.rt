@@ -181,6 +181,14 @@ fn locate_sets_placeholder(rt: HostRuntime) -> Result<(), Fail> {
     Ok(())
 }
 
+/// How the object `s1` fits a filter.
+fn fit_of_s1<L: Ledger>(ledger: &L, filter: &Filter) -> Result<Fit, Fail> {
+    let Some(place) = ledger.find("s1") else {
+        return Err(Fail::new("s1 isn't there"));
+    };
+    Ok(matches(ledger.at(place), filter, State::PreActive))
+}
+
 #[test]
 fn locate_unknown_length(rt: HostRuntime) -> Result<(), Fail> {
     let alloc = rt.alloc();
@@ -216,14 +224,8 @@ fn locate_unknown_length(rt: HostRuntime) -> Result<(), Fail> {
         length: Some(128),
         ..anything(alloc)
     };
-    assert_eq!(rt;
-        matches(ledger.at(0), &of_length, State::PreActive),
-        Fit::May
-    );
-    assert_eq!(rt;
-        matches(ledger.at(0), &anything(alloc), State::PreActive),
-        Fit::Must
-    );
+    assert_eq!(rt; fit_of_s1(&ledger, &of_length)?, Fit::May);
+    assert_eq!(rt; fit_of_s1(&ledger, &anything(alloc))?, Fit::Must);
     let item = locate(alloc, of_length, &["s1"])?;
     assert_eq!(rt;
         judged(alloc, &mut ledger, &rules, &mut placeholder, item)?,
@@ -233,9 +235,6 @@ fn locate_unknown_length(rt: HostRuntime) -> Result<(), Fail> {
         state: Some(2),
         ..anything(alloc)
     };
-    assert_eq!(rt;
-        matches(ledger.at(0), &of_state, State::PreActive),
-        Fit::Not
-    );
+    assert_eq!(rt; fit_of_s1(&ledger, &of_state)?, Fit::Not);
     Ok(())
 }
