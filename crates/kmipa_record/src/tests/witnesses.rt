@@ -81,33 +81,40 @@ fn turn_with_everything(rt: HostRuntime) -> Result<(), Fail> {
     Ok(())
 }
 
+// The fault of a witness of this version with one turn.
+fn version_fault(alloc: Global, version: u8, turn: &[u8]) -> Result<Option<RecordFault>, Fail> {
+    let first = header(version);
+    witness_fault(alloc, &[&first, turn])
+}
+
 #[test]
 fn versions(rt: HostRuntime) -> Result<(), Fail> {
     let alloc = rt.alloc();
-    let c = call(alloc, 1)?;
-    let a = answer(alloc, &[])?;
-    let p = place(alloc, 1)?;
-    let f = fill(alloc, &payload(alloc)?)?;
-    let plain = turn_of(alloc, &[&c, &f, &f])?;
-    let answered = turn_of(alloc, &[&c, &a, &f])?;
-    let ordered = turn_of(alloc, &[&c, &p, &f])?;
+    let parts = [
+        call(alloc, 1)?,
+        answer(alloc, &[])?,
+        place(alloc, 1)?,
+        fill(alloc, &payload(alloc)?)?,
+    ];
+    let [c, a, p, f] = &parts;
+    let plain = turn_of(alloc, &[c, f, f])?;
+    let answered = turn_of(alloc, &[c, a, f])?;
+    let ordered = turn_of(alloc, &[c, p, f])?;
     let foreign = told(24, RecordKind::Entry);
-    for (version, turn, expected) in [
-        (1, &plain, None),
-        (2, &plain, None),
-        (3, &plain, None),
-        (1, &answered, foreign),
-        (2, &answered, None),
-        (3, &answered, None),
-        (1, &ordered, foreign),
-        (2, &ordered, foreign),
-        (3, &ordered, None),
-    ] {
-        let fault = witness_fault(alloc, &[&header(version), turn])?;
+    for (version, expected) in [(1, None), (2, None), (3, None)] {
+        let fault = version_fault(alloc, version, &plain)?;
+        assert_eq!(rt; fault, expected, "version {version}");
+    }
+    for (version, expected) in [(1, foreign), (2, None), (3, None)] {
+        let fault = version_fault(alloc, version, &answered)?;
+        assert_eq!(rt; fault, expected, "version {version}");
+    }
+    for (version, expected) in [(1, foreign), (2, foreign), (3, None)] {
+        let fault = version_fault(alloc, version, &ordered)?;
         assert_eq!(rt; fault, expected, "version {version}");
     }
     for version in [0, 4] {
-        let fault = witness_fault(alloc, &[&header(version), &plain])?;
+        let fault = version_fault(alloc, version, &plain)?;
         assert_eq!(rt; fault, told(0, RecordKind::Header));
     }
     Ok(())
@@ -116,34 +123,32 @@ fn versions(rt: HostRuntime) -> Result<(), Fail> {
 #[test]
 fn shapes_of_turns(rt: HostRuntime) -> Result<(), Fail> {
     let alloc = rt.alloc();
-    let c = call(alloc, 1)?;
-    let a = answer(alloc, &[])?;
-    let p = place(alloc, 1)?;
-    let good = fill(alloc, &payload(alloc)?)?;
-    let text = fill(alloc, &item(alloc, [0x42, 0, 0x7C], TEXT, b"k1")?)?;
-    let other = fill(alloc, &item(alloc, [0x42, 0, 0x79], STRUCTURE, &[])?)?;
-    let empty = fill(alloc, &[])?;
-    let children: [&[&[u8]]; 8] = [
-        &[],
-        &[&a],
-        &[&c, &a, &a],
-        &[&c, &p, &a],
-        &[&c, &good, &p],
-        &[&c, &text],
-        &[&c, &other],
-        &[&c, &empty],
+    let parts = [
+        call(alloc, 1)?,
+        answer(alloc, &[])?,
+        place(alloc, 1)?,
+        fill(alloc, &payload(alloc)?)?,
+        fill(alloc, &item(alloc, [0x42, 0, 0x7C], TEXT, b"k1")?)?,
+        fill(alloc, &item(alloc, [0x42, 0, 0x79], STRUCTURE, &[])?)?,
+        call(alloc, 0)?,
     ];
-    for shape in children {
-        let turn = turn_of(alloc, shape)?;
-        let fault = witness_fault(alloc, &[&header(3), &turn])?;
+    let [c, a, p, good, text, other, zero] = &parts;
+    for turn in [
+        turn_of(alloc, &[a])?,
+        turn_of(alloc, &[c, a, a])?,
+        turn_of(alloc, &[c, p, a])?,
+        turn_of(alloc, &[c, good, p])?,
+        turn_of(alloc, &[c, text])?,
+        turn_of(alloc, &[c, other])?,
+    ] {
+        let fault = version_fault(alloc, 3, &turn)?;
         assert_eq!(rt; fault, told(24, RecordKind::Entry));
     }
     // A number below 1 is told of a turn that the version may have.
-    let zero = call(alloc, 0)?;
-    let turn = turn_of(alloc, &[&zero, &a])?;
-    let foreign = witness_fault(alloc, &[&header(1), &turn])?;
+    let turn = turn_of(alloc, &[zero, a])?;
+    let foreign = version_fault(alloc, 1, &turn)?;
     assert_eq!(rt; foreign, told(24, RecordKind::Entry));
-    let low = witness_fault(alloc, &[&header(2), &turn])?;
+    let low = version_fault(alloc, 2, &turn)?;
     assert_eq!(rt; low, told(24, RecordKind::Number));
     Ok(())
 }
