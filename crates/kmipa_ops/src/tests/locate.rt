@@ -3,9 +3,8 @@
 ghost use Rattle.std.specs.Prelude.{IfOk};
 ghost use Rattle.kmipa_store.specs.Choices.{IsSound};
 
-use super::lifecycle::destroy;
 use super::{Item, K, answered, judged, new_ledger, register_named};
-use crate::{Fit, Placeholder, Why, lists_are_decided, matches};
+use crate::{Fit, Placeholder, Why, matches};
 use kmipa_attrs::{AttrSet, Filter, Name, ObjectType};
 use kmipa_msgs::{
     Ask, Asked, KeyBlock, KeyFormat, Locate, Located, Payload, Register, Registered, Rules, Status,
@@ -79,63 +78,6 @@ fn located<L: Ledger>(
     };
     let item = locate(alloc, filter, listed)?;
     judged(alloc, ledger, &rules, placeholder, item)
-}
-
-#[test]
-fn locate_lists_every_must(rt: HostRuntime) -> Result<(), Fail> {
-    let alloc = rt.alloc();
-    let mut ledger = new_ledger(alloc);
-    let rules = Rules::default_rules(alloc)?;
-    let mut placeholder = Placeholder::new();
-    let item = register_named(alloc, "k1", "n")?;
-    assert_eq!(rt;
-        judged(alloc, &mut ledger, &rules, &mut placeholder, item)?,
-        None
-    );
-    let item = register_named(alloc, "k2", "n")?;
-    assert_eq!(rt;
-        judged(alloc, &mut ledger, &rules, &mut placeholder, item)?,
-        None
-    );
-    let item = register_named(alloc, "k3", "m")?;
-    assert_eq!(rt;
-        judged(alloc, &mut ledger, &rules, &mut placeholder, item)?,
-        None
-    );
-    let table: [(Option<i32>, &[&str], Option<Why>); 11] = [
-        (None, &["k2", "k1"], None),
-        (None, &["k1"], Some(Why::ListedTooFew)),
-        (None, &["k1", "k1"], Some(Why::ListedWrongly)),
-        (None, &["k1", "k2", "k3"], Some(Why::ListedWrongly)),
-        (None, &["k1", "k2", "k9"], Some(Why::ListedWrongly)),
-        (Some(2), &["k1"], Some(Why::ListedTooFew)),
-        (Some(1), &[], Some(Why::ListedTooFew)),
-        (Some(1), &["k2"], None),
-        (Some(1), &["k1", "k2"], Some(Why::ListedWrongly)),
-        (Some(0), &["k1"], None),
-        (Some(0), &["k1", "k1"], Some(Why::ListedWrongly)),
-    ];
-    for (maximum, listed, why) in table {
-        assert_eq!(rt;
-            located(alloc, &mut ledger, &mut placeholder, maximum, listed)?,
-            why
-        );
-    }
-    let item = destroy("k2");
-    assert_eq!(rt;
-        judged(alloc, &mut ledger, &rules, &mut placeholder, item)?,
-        None
-    );
-    assert_eq!(rt;
-        located(alloc, &mut ledger, &mut placeholder, None, &["k1"])?,
-        None
-    );
-    assert_eq!(rt;
-        located(alloc, &mut ledger, &mut placeholder, None, &["k1", "k2"])?,
-        None
-    );
-    lists_are_decided();
-    Ok(())
 }
 
 #[test]
