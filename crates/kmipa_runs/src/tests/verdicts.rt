@@ -80,12 +80,11 @@ fn refuses_sessions(rt: HostRuntime) -> Result<(), Fail> {
 }
 
 #[test]
-fn refuses_later_versions(rt: HostRuntime) -> Result<(), Fail> {
+fn accepts_headers_of_later_versions(rt: HostRuntime) -> Result<(), Fail> {
     for witness in [WITNESS_2, WITNESS_3] {
         let (status, out) = Files::new(rt.alloc(), &[], &[witness])?.check(rt.alloc())?;
-        let line = "malformed: witness offset 0 kind 2 Header\n";
-        assert_eq!(rt; out.as_str(), line);
-        assert_eq!(rt; status, Status::Refused);
+        assert_eq!(rt; out.as_str(), "yes\n");
+        assert_eq!(rt; status, Status::Done);
     }
     Ok(())
 }
