@@ -1,10 +1,11 @@
 -- Each name once: the same names, none twice; and a list without repeats stays as it is.
-use Rattle.std.proofs.Common.{◌≡◌, ◌<◌, ◌↔◌, ℕ, zero, suc, length, get_or, Bool, true, false, not, cond, List, [], ◌∷◌, refl, sym, ap, ◌∙◌, subst, inl, inr, ◌⊎◌, arith}
+use Rattle.std.proofs.Common.{◌≡◌, ◌<◌, ◌↔◌, ◌||◌, ℕ, zero, suc, length, get_or, Bool, true, false, not, cond, List, [], ◌∷◌, map, refl, sym, ap, ◌∙◌, subst, inl, inr, ◌⊎◌, arith}
 use Rattle.std.proofs.lemmas.List.Elements.{Contains-append_right}
 use Rattle.std.specs.List.{Contains}
-use Rattle.kmipa_attrs.specs.Sets.{NameOf}
+use Rattle.kmipa_attrs.specs.Sets.{NameOf, name_of}
+use Rattle.kmipa_attrs.specs.declared.name.Name.{Name}
 use Rattle.kmipa_attrs.specs.Names.{same_name, without, distinct, HasNoRepeats}
-use Rattle.kmipa_attrs.proofs.NameLemmas.{same_name-true, same_name-self}
+use Rattle.kmipa_attrs.proofs.NameLemmas.{has, same_name-true, same_name-self}
 
 true_false : {b : Bool} → b ≡ true → b ≡ false → ⊥
 true_false e h = let q : true ≡ false = sym e ∙ h in cc
@@ -96,3 +97,34 @@ pub distinct-same : (names : List NameOf) → HasNoRepeats names → distinct na
 unfolding distinct
 distinct-same [] h = refl
 distinct-same (x ∷ names) h = ap (λ us. x ∷ without x us) (distinct-same names h.1) ∙ ap (λ us. x ∷ us) (without-absent x names h.0)
+
+-- ---- whether a name is among others
+
+pub has_there : (names : List NameOf) (n : NameOf) → has names n ≡ true → Contains names n
+has_there [] n e = absurd cc
+has_there (m ∷ names) n e = by (same_name m n) refl e (has_there names n)
+  where
+    by : (b : Bool) → same_name m n ≡ b → (b || has names n) ≡ true → (has names n ≡ true → Contains names n) → Contains (m ∷ names) n
+    by true is e h = let P : NameOf → Type 0 = Contains (m ∷ names) in subst P (same_name-true m n is) (contains_first m names)
+    by false is e h = contains_behind m names n (h e)
+
+pub has_not_there : (names : List NameOf) (n : NameOf) → has names n ≡ false → Contains names n → ⊥
+has_not_there [] n e c = contains_nothing n c
+has_not_there (m ∷ names) n e c = by (same_name m n) refl e (contains_cases m names n c) (has_not_there names n)
+  where
+    by : (b : Bool) → same_name m n ≡ b → (b || has names n) ≡ false → (m ≡ n) ⊎ Contains names n → (has names n ≡ false → Contains names n → ⊥) → ⊥
+    by true is e c h = absurd cc
+    by false is e (inl p) h = absurd (let clash : false ≡ true = sym is ∙ ap (same_name m) (sym p) ∙ same_name-self m in cc)
+    by false is e (inr c) h = h e c
+
+abbrev NoneTwice : List Name → Type 0
+NoneTwice names = HasNoRepeats (map name_of names)
+
+pub again_repeats : (whole left rest : List Name) (name : Name) → left ≡ name ∷ rest → has (map name_of rest) (name_of name) ≡ true → NoneTwice left ↔ NoneTwice whole → NoneTwice whole → ⊥
+again_repeats whole left rest name e again same h = let here = subst NoneTwice e (same.1 h) in here.0 (has_there (map name_of rest) (name_of name) again)
+
+pub once_passed : (whole left rest : List Name) (name : Name) → left ≡ name ∷ rest → has (map name_of rest) (name_of name) ≡ false → NoneTwice left ↔ NoneTwice whole → NoneTwice rest ↔ NoneTwice whole
+once_passed whole left rest name e fresh same = (
+  λ h. same.0 (subst NoneTwice (sym e) (has_not_there (map name_of rest) (name_of name) fresh, h)),
+  λ h. let here = subst NoneTwice e (same.1 h) in here.1,
+)

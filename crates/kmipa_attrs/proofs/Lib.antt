@@ -7,3 +7,4 @@ pub mod AttrLemmas
 pub mod FilterLemmas
 pub mod LooseLemmas
 pub mod WriteLemmas
+pub mod ShortLemmas

@@ -1,5 +1,5 @@
 -- The children that say a set of attributes.
-use Rattle.std.specs.Prelude.{◌≡◌, ℕ, ℤ, List, [], ◌∷◌, Option, Some, None}
+use Rattle.std.specs.Prelude.{◌≡◌, ◌==◌, ℕ, ℤ, Bool, true, false, List, [], ◌∷◌, Option, Some, None}
 use Rattle.std.specs.Option.{option_map}
 use Rattle.kmipa_ttlv.specs.Tree.{Tree, Trees, Scalar, structure, scalar, none, more, push, forest}
 use Rattle.kmipa_ttlv.specs.Tree
@@ -11,6 +11,20 @@ use Rattle.kmipa_attrs.specs.Attributes.{SaysAttributes}
 -- a Name: its value and its type, written out
 abbrev pub name_tree : NameOf → Tree
 name_tree n = structure name_tag (more (scalar name_value (Tree.text n.value)) (more (scalar name_type (Tree.enumeration n.kind)) none))
+
+-- the Name Type, or none where it is left out
+abbrev pub type_child : Bool → ℕ → Trees
+type_child true kind = none
+type_child false kind = more (scalar name_type (Tree.enumeration kind)) none
+
+-- a Name written short: a type that is 1 is left out, and so read as 1
+abbrev pub short_name : NameOf → Tree
+short_name n = structure name_tag (more (scalar name_value (Tree.text n.value)) (type_child (n.kind == 1) n.kind))
+
+-- a Name as it is written, short or whole
+abbrev pub written_name : Bool → NameOf → Tree
+written_name true = short_name
+written_name false = name_tree
 
 -- the children with one more, if it is there
 abbrev pub with_scalar : Trees → ℕ → Option Scalar → Trees
@@ -48,6 +62,10 @@ single_rows a =
 -- names first, then each other attribute that is there
 abbrev pub written_children : Attributes → Trees
 written_children a = with_scalars (forest name_tree a.names) (single_rows a)
+
+-- the same, with names written short
+abbrev pub short_children : Attributes → Trees
+short_children a = with_scalars (forest short_name a.names) (single_rows a)
 
 -- the item is Attributes, and its children say the set
 abbrev pub SaysWhole : Tree → Attributes → Type 0

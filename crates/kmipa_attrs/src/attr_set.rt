@@ -1,7 +1,7 @@
 //! The judged attributes of an object, as a set.
 
 use crate::name::Name;
-use crate::names::copy_names;
+use crate::names::{copy_names, differ};
 use smallvec::SmallVec;
 use std::alloc::{AllocError, Global};
 
@@ -36,7 +36,8 @@ pub struct AttrSet {
 }
 
 impl AttrSet {
-    ghost use Rattle.std.specs.Prelude.{◌≡◌, IfOk};
+    ghost use Rattle.std.specs.Prelude.{◌≡◌, ◌↔◌, IsTrue, IfOk};
+    ghost use Rattle.kmipa_attrs.specs.Names.{HasNoRepeats};
     ghost use Rattle.kmipa_attrs.specs.Sets.{attributes_of, no_attributes};
 
     /// The set that says nothing.
@@ -56,6 +57,13 @@ impl AttrSet {
             destroy: None,
             compromise: None,
         }
+    }
+
+    /// Whether each of its names stands in it once.
+    pub fn names_differ(&self) -> bool
+        ensures { IsTrue result ↔ HasNoRepeats (attributes_of self.now).names }
+    {
+        differ(self.names.as_slice())
     }
 
     /// The same set, with names of its own.

@@ -34,7 +34,7 @@ pub use reading::{read_attrs, read_children};
 pub use readings::{Numbered, both, passing};
 pub use side::Side;
 pub use tags::tag_name;
-pub use writing::write_attrs;
+pub use writing::{write_attrs, write_short_attrs};
 
 #[cfg(test)]
 mod tests;

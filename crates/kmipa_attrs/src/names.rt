@@ -1,8 +1,8 @@
 //! The names of an object, each once.
 
-ghost use Rattle.std.specs.Prelude.{◌≡◌, IfOk, OnOk, map};
+ghost use Rattle.std.specs.Prelude.{◌≡◌, ◌↔◌, IsTrue, IfOk, OnOk, map};
 ghost use Rattle.kmipa_ttlv.specs.ViewTree.{view_tree, view_trees};
-ghost use Rattle.kmipa_attrs.specs.Names.{as_name, with_name};
+ghost use Rattle.kmipa_attrs.specs.Names.{HasNoRepeats, as_name, with_name};
 ghost use Rattle.kmipa_attrs.specs.Sets.{name_of, names_of};
 ghost use Rattle.kmipa_attrs.specs.Attributes.{Gives, named, names_in};
 
@@ -113,6 +113,20 @@ fn add_name(names: &mut SmallVec<Name, NAMES>, name: Name) -> Result<(), AllocEr
         names.push(name)?;
     }
     Ok(())
+}
+
+/// Whether no name stands again behind itself.
+pub(crate) fn differ(names: &[Name]) -> bool
+    ensures { IsTrue result ↔ HasNoRepeats (map name_of names.now) }
+{
+    let mut left = names;
+    'names: while let Some((name, rest)) = left.split_first() {
+        if rest.contains(name) {
+            return false;
+        }
+        left = rest;
+    }
+    true
 }
 
 /// The same names, each with a value of its own.
