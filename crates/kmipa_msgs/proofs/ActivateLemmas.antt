@@ -1,5 +1,5 @@
 -- Activates are read.
-use Rattle.std.proofs.Common.{◌≡◌, ◌==◌, ℕ, List, [], ◌∷◌, Option, refl, ◌∙◌}
+use Rattle.std.proofs.Common.{◌≡◌, ℕ, List, Option, refl}
 use Rattle.kmipa_ttlv.specs.Tree.{Trees}
 use Rattle.kmipa_attrs.proofs.ReadingLemmas.{reads_as}
 use Rattle.kmipa_msgs.specs.Messages.{operation_asked, AskedOf, activates}

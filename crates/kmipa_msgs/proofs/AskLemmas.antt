@@ -1,26 +1,25 @@
 -- The items of requests are read.
-use Rattle.std.proofs.Common.{◌≡◌, ℕ, Bool, true, false, cond, List, Option, Some, None, Result, Ok, Err, refl, ap, ◌∙◌, inl, inr, ◌⊎◌}
+use Rattle.std.proofs.Common.{◌≡◌, ◌<◌, ℕ, Bool, true, false, not, ◌&&◌, cond, List, Option, Some, None, Result, Ok, Err, refl, ap, ◌∙◌, inl, inr, ◌⊎◌, arith}
 use Rattle.kmipa_ttlv.specs.Tree.{Tree, Trees}
 use Rattle.kmipa_attrs.specs.Fields.{first, at, inside, or_none, value_in, as_structure, as_enumeration, as_bytes}
-use Rattle.kmipa_attrs.specs.Readings.{Reads, IsWrong, NeededFault, both, map_ok, and_then}
+use Rattle.kmipa_attrs.specs.Readings.{Reads, IsWrong, NeededFault, both, map_ok, and_then, kept_if, passing}
 use Rattle.kmipa_attrs.specs.Tags.{operation_tag, request_payload, unique_batch_item_id}
 use Rattle.kmipa_attrs.specs.declared.fields.Field.{Field}
 use Rattle.kmipa_attrs.specs.declared.fields.Field.TheVariants.{Absent, Wrong, There}
 use Rattle.kmipa_attrs.proofs.ReadingLemmas.{reads_both, reads_as, reads_then}
 use Rattle.kmipa_msgs.specs.declared.kind.OutsideKind.{OutsideKind}
 use Rattle.kmipa_msgs.specs.declared.kind.OutsideKind
-use Rattle.kmipa_msgs.specs.declared.kind.OutsideKind.TheVariants.{Missing}
+use Rattle.kmipa_msgs.specs.declared.kind.OutsideKind.TheVariants.{Missing, Unordered}
 use Rattle.kmipa_msgs.specs.declared.operation.Operation.{Operation}
 use Rattle.kmipa_msgs.specs.Kinds.{kind_number}
 use Rattle.kmipa_msgs.specs.Operations.{operation_of, is_judged}
-use Rattle.kmipa_msgs.specs.Messages.{AskedOf, asked_of, AskOf}
-use Rattle.kmipa_msgs.specs.declared.request.Asked.{Asked}
+use Rattle.kmipa_msgs.specs.Messages.{AskedOf, AskOf}
 use Rattle.kmipa_msgs.specs.Tables.{unless_wrong, children, Listed, Unlisted}
-use Rattle.kmipa_msgs.specs.Asks.{SaysAsked, AskedFault, SaysAsk, AskFault, asked_in, form_in, payload_asked, operation_in, ask_at, ask_in}
+use Rattle.kmipa_msgs.specs.Asks.{SaysAsked, AskedFault, SaysAsk, AskFault, asked_in, form_in, payload_asked, operation_in, ask_at, ask_in, means_placeholder, ItemFault, may_stand, item_in}
 use Rattle.kmipa_msgs.specs.Asks.AskFault.{in_operation, in_unread, in_payload, in_asked}
+use Rattle.kmipa_msgs.specs.Asks.ItemFault.{in_ask, in_order}
 use Rattle.kmipa_msgs.proofs.TableLemmas.{same_kind, reads_listed, apart_needed, apart_unlisted}
 use Rattle.kmipa_msgs.proofs.RowLemmas.{is_row}
-use Rattle.kmipa_msgs.proofs.ViewLemmas.{seen, right_seen}
 
 reads_form : {A : Type 0} (b : Bool) (f : Field A) (k : OutsideKind) → Reads kind_number (λ (u : Unit {0}). Unit {0}) (λ j. (b ≡ true) × (j ≡ k) × IsWrong f) (cond b (unless_wrong f k) (Ok tt))
 reads_form false f k = record { said = tt; only = λ y h. refl; right = λ j h. let e : false ≡ true = h.0 in cc }
@@ -63,6 +62,56 @@ reads_ask t =
     item : Option (List ℕ) → AskedOf → AskOf
     item b a = record { batch_id = b; asked = a }
 
+-- no kind is above the last
+last_kind : (k : OutsideKind) → 13 < kind_number k → ⊥
+last_kind OutsideKind.TheVariants.NotAMessage lt = omega (arith, lt)
+last_kind OutsideKind.TheVariants.Version lt = omega (arith, lt)
+last_kind OutsideKind.TheVariants.Count lt = omega (arith, lt)
+last_kind OutsideKind.TheVariants.Operation lt = omega (arith, lt)
+last_kind OutsideKind.TheVariants.ObjectType lt = omega (arith, lt)
+last_kind OutsideKind.TheVariants.IdentifierForm lt = omega (arith, lt)
+last_kind OutsideKind.TheVariants.Wrapped lt = omega (arith, lt)
+last_kind OutsideKind.TheVariants.Format lt = omega (arith, lt)
+last_kind OutsideKind.TheVariants.Missing lt = omega (arith, lt)
+last_kind OutsideKind.TheVariants.Attribute lt = omega (arith, lt)
+last_kind OutsideKind.TheVariants.Pending lt = omega (arith, lt)
+last_kind OutsideKind.TheVariants.Disagree lt = omega (arith, lt)
+last_kind OutsideKind.TheVariants.Unordered lt = omega (arith, lt)
+
+-- an item of a request
+item_at : (unordered : Bool) (t : Tree) (r : Result AskOf OutsideKind) → Reads kind_number (SaysAsk t) (AskFault t) r
+    → Reads kind_number (SaysAsk t) (ItemFault unordered t) (passing (may_stand unordered) Unordered r)
+item_at unordered t (Err k) h = record {
+  here = in_ask h.here;
+  least = λ j lt w. elim w [
+    | in_ask a ↦ h.least j lt a
+    | in_order is loose ask says means ↦ (let n : kind_number j ≡ 13 = ap kind_number is in last_kind k (omega (arith, lt, n)))
+  ];
+}
+item_at unordered t (Ok x) h = by unordered (means_placeholder x.asked) refl
+  where
+    by : (loose means : Bool) → means_placeholder x.asked ≡ means → Reads kind_number (SaysAsk t) (ItemFault loose t) (kept_if (not (loose && means)) x Unordered)
+    by false means e = record {
+      said = h.said;
+      only = h.only;
+      right = λ k w. elim w [ in_ask a ↦ h.right k a | in_order is loose ask says mean ↦ (let bad : ⊥ = cc in bad) ];
+    }
+    by true false e = record {
+      said = h.said;
+      only = h.only;
+      right = λ k w. elim w [
+        | in_ask a ↦ h.right k a
+        | in_order is loose ask says mean ↦ (let same : ask ≡ x = h.only ask says in let f : means_placeholder ask.asked ≡ false = ap (λ (a : AskOf). means_placeholder a.asked) same ∙ e in let bad : ⊥ = cc in bad)
+      ];
+    }
+    by true true e = record {
+      here = in_order refl refl x h.said e;
+      least = λ j lt w. elim w [ in_ask a ↦ h.right j a | in_order is loose ask says mean ↦ same_kind j Unordered lt is ];
+    }
+
+pub reads_item : (unordered : Bool) (t : Tree) → Reads kind_number (SaysAsk t) (ItemFault unordered t) (item_in unordered t)
+reads_item unordered t = item_at unordered t (ask_in t) (reads_ask t)
+
 -- an item as the program has it: no structure, no operation, and one
 whole : Trees → Result AskOf OutsideKind
 whole ts = map_ok (ask_at ts) (and_then (λ operation. payload_asked operation ts) (operation_in ts))
@@ -70,30 +119,3 @@ whole ts = map_ok (ask_at ts) (and_then (λ operation. payload_asked operation t
 pub no_ask : (t : Tree) → None ≡ as_structure t → Err Missing ≡ ask_in t
 unfolding ask_in whole first
 no_ask t e = ap (λ (o : Option Trees). whole (or_none o)) e
-
-pub no_operation : (t : Tree) (ts : Trees) (k : OutsideKind) → Some ts ≡ as_structure t → Err k ≡ operation_in ts → Err k ≡ ask_in t
-unfolding ask_in whole
-no_operation t ts k e o = ap (λ (r : Result Operation OutsideKind). map_ok (ask_at ts) (and_then (λ operation. payload_asked operation ts) r)) o ∙ ap (λ (u : Option Trees). whole (or_none u)) e
-
-made : Option (List ℕ) → AskedOf → AskOf
-made b a = record { batch_id = b; asked = a }
-
-pub ask_seen : (t : Tree) (ts : Trees) (operation : Operation) (b : Option (List ℕ)) (r : Result AskedOf OutsideKind) → Some ts ≡ as_structure t → Ok operation ≡ operation_in ts
-    → b ≡ value_in (at as_bytes unique_batch_item_id ts) → r ≡ payload_asked operation ts → map_ok (λ a. record { batch_id = b; asked = a }) r ≡ ask_in t
-unfolding ask_in whole made
-ask_seen t ts operation b r e o be re =
-    ap (λ (x : Option (List ℕ)). map_ok (made x) r) be
-    ∙ ap (map_ok (ask_at ts)) re
-    ∙ ap (λ (q : Result Operation OutsideKind). map_ok (ask_at ts) (and_then (λ p. payload_asked p ts) q)) o
-    ∙ ap (λ (u : Option Trees). whole (or_none u)) e
-
--- the payload as the program has it
-abbrev pub asked_view : Unit {0} × Asked → AskedOf
-asked_view p = asked_of p.1
-
-pub seen_asked : (operation : Operation) (ts : Trees) (shape : Result (Unit {0}) OutsideKind) (us : Trees) (asked : Result Asked OutsideKind) (rows : Result (Unit {0} × Asked) OutsideKind)
-    → rows ≡ both kind_number shape asked → shape ≡ form_in operation (at as_structure request_payload ts) → map_ok asked_of asked ≡ asked_in operation us → us ≡ inside request_payload ts
-    → map_ok asked_view rows ≡ payload_asked operation ts
-seen_asked operation ts shape us asked rows e s a u =
-    seen (λ q. q.1) (λ q. (q.0, asked_of q.1)) rows (both kind_number (form_in operation (at as_structure request_payload ts)) (asked_in operation (inside request_payload ts)))
-    (right_seen kind_number asked_of shape asked rows (form_in operation (at as_structure request_payload ts)) (asked_in operation (inside request_payload ts)) e s (a ∙ ap (asked_in operation) u))

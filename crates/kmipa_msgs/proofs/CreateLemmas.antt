@@ -1,9 +1,9 @@
 -- Creates are read.
-use Rattle.std.proofs.Common.{◌≡◌, ◌≤◌, ℕ, Bool, true, false, ◌==◌, if◌then◌else◌, Some, None, Result, Ok, Err, refl, ap, ◌∙◌, subst, inl, inr, ◌⊎◌, arith, [], ◌∷◌, sym}
+use Rattle.std.proofs.Common.{◌≡◌, ◌≤◌, ℕ, Bool, true, false, ◌==◌, if◌then◌else◌, Some, None, Result, refl, ap, ◌∙◌, subst, inl, inr, ◌⊎◌, arith, sym}
 use Rattle.kmipa_ttlv.specs.Tree.{Trees, Tree, scalar}
 use Rattle.kmipa_attrs.specs.Fields.{first, at, inside, as_structure, as_enumeration, as_integer}
 use Rattle.kmipa_attrs.specs.ObjectTypes.{type_of, type_number}
-use Rattle.kmipa_attrs.specs.Readings.{Reads, NeededFault, both, map_ok, kept_if, passing}
+use Rattle.kmipa_attrs.specs.Readings.{Reads, NeededFault, both, map_ok, passing}
 use Rattle.kmipa_attrs.specs.Sets.{Attributes, attributes_of}
 use Rattle.kmipa_attrs.specs.Tags.{cryptographic_algorithm, cryptographic_length, cryptographic_usage_mask, object_type_tag, attributes_tag}
 use Rattle.kmipa_attrs.specs.declared.attr_set.AttrSet.{AttrSet}
@@ -145,19 +145,6 @@ seen_new_key ts us plain given rows e p u g =
     seen (λ q. q.1) (λ q. (q.0, attributes_of q.1)) rows (new_key_rows ts)
     (right_seen kind_number attributes_of plain given rows (both kind_number (types_rows ts) (described_rows (inside attributes_tag ts))) (given_in Client (at as_structure attributes_tag ts)) e
     (p ∙ ap (λ vs. both kind_number (types_rows ts) (described_rows vs)) u) g)
-
--- the comparison
-pub agreed : (ts : Trees) (a : Attributes) → Ok a ≡ new_key_in ts → true ≡ is_of_key a → Ok a ≡ create_in ts
-unfolding create_in
-agreed ts a h e = ap (λ (k : Bool). kept_if k a Disagree) e ∙ ap (passing is_of_key Disagree) h
-
-pub disagreed : (ts : Trees) (a : Attributes) → Ok a ≡ new_key_in ts → false ≡ is_of_key a → Err Disagree ≡ create_in ts
-unfolding create_in
-disagreed ts a h e = ap (λ (k : Bool). kept_if k a Disagree) e ∙ ap (passing is_of_key Disagree) h
-
-pub unread : (ts : Trees) (k : OutsideKind) → Err k ≡ new_key_in ts → Err k ≡ create_in ts
-unfolding create_in
-unread ts k h = ap (passing is_of_key Disagree) h
 
 -- AS IT IS WRITTEN
 

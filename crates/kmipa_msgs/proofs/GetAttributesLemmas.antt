@@ -1,5 +1,5 @@
 -- Get Attributes and its answers are read.
-use Rattle.std.proofs.Common.{◌≡◌, ◌≤◌, ◌<◌, ◌+◌, ◌++◌, ℕ, Bool, true, false, ◌==◌, ◌&&◌, ◌||◌, not, nat_lt, cond, is_some, is_none, filter_map, List, [], ◌∷◌, length, drop, get_or, Option, Some, None, Result, Ok, Err, refl, sym, ap, ◌∙◌, inl, inr, append_assoc, count_by, eq-eqb, take, eqb-true}
+use Rattle.std.proofs.Common.{◌≡◌, ◌≤◌, ◌<◌, ◌+◌, ◌++◌, ℕ, Bool, true, false, ◌==◌, ◌&&◌, ◌||◌, not, nat_lt, cond, is_some, is_none, filter_map, List, [], ◌∷◌, length, drop, get_or, Option, Some, None, Result, refl, sym, ap, ◌∙◌, inl, inr, append_assoc, count_by, eq-eqb, take, eqb-true}
 use Rattle.std.proofs.lemmas.Bool.{ne_eqb}
 use Rattle.std.proofs.lemmas.List.{drop_all, map-append}
 use Rattle.kmipa_ttlv.specs.Tree.{Tree, Trees, more, scalar, none}
@@ -61,16 +61,6 @@ reads_got_attributes ts =
     (reads_both kind_number _ _ _ _ _ _ (reads_unless_unlisted (at as_enumeration object_type_tag (inside attributes_tag ts)) type_of ObjectType) (reads_identifier ts))
     (reads_given Server (at as_structure attributes_tag ts)))
 
--- what is asked for as the program has it
-pub unread_get : (ts : Trees) (k : OutsideKind) → Err k ≡ identifier_in ts → Err k ≡ get_attributes_in ts
-unfolding get_attributes_in
-unread_get ts k e = ap (map_ok (get_attributes_at ts)) e
-
-pub get_seen : (ts : Trees) (id : Option (List ℕ)) (tags : List ℕ) (selective others : Bool) → Ok id ≡ identifier_in ts → tags ≡ references ts → selective ≡ is_selective ts → others ≡ has_others ts
-    → Ok (record { id = id; references = tags; is_selective = selective; has_others = others }) ≡ get_attributes_in ts
-unfolding get_attributes_in
-get_seen ts id tags selective others e r s o = (λ i. Ok (record { id = id; references = r i; is_selective = s i; has_others = o i })) ∙ ap (map_ok (get_attributes_at ts)) e
-
 -- the rows of the answer as the program has them
 abbrev pub Plain : Type 0
 Plain = Unit {0} × Option (Bor (List ℕ))
@@ -120,10 +110,6 @@ pub no_reference : (v : View) → (v.tag.number ≡ attribute_reference → ⊥)
 no_reference v e =
     let held = as_enumeration (view_tree v) in
     sym (ap (λ (n : ℕ). cond (n == attribute_reference) held None) (tag_of-view v.tag.number v.value) ∙ ap (λ (b : Bool). cond b held None) (ne_eqb v.tag.number attribute_reference e))
-
--- the tags so far, and those of what is left
-pub references_begin : (tags : List ℕ) (vs : List View) → tags ≡ [] → references (view_trees vs) ≡ tags ++ references (view_trees (drop 0 vs))
-references_begin tags vs e = sym (ap (λ (us : List ℕ). us ++ references (view_trees vs)) e)
 
 pub references_met : (tags : List ℕ) (i : ℕ) (vs : List View) (v : View) (tag : ℕ) → i < length vs → v ≡ get_or vs i v → Some tag ≡ as_reference (view_tree v)
     → tags ++ references (view_trees (drop i vs)) ≡ (tags ++ tag ∷ []) ++ references (view_trees (drop (i + 1) vs))

@@ -1,5 +1,5 @@
 -- Gets and their answers are read.
-use Rattle.std.proofs.Common.{◌≡◌, ℕ, List, Option, Result, refl, ap, ◌∙◌, inl, inr, ◌==◌, [], ◌∷◌, Some, None}
+use Rattle.std.proofs.Common.{◌≡◌, ℕ, List, Option, Result, refl, ap, ◌∙◌, inl, inr, [], ◌∷◌, Some, None}
 use Rattle.kmipa_ttlv.specs.Tree.{Trees, Tree}
 use Rattle.kmipa_attrs.specs.Fields.{first, at, map_field, as_enumeration, as_text}
 use Rattle.kmipa_attrs.specs.ObjectTypes.{type_of, type_number}
@@ -13,7 +13,7 @@ use Rattle.kmipa_msgs.specs.declared.kind.OutsideKind.TheVariants.{ObjectType, I
 use Rattle.kmipa_msgs.specs.declared.operation.Operation
 use Rattle.kmipa_msgs.specs.Kinds.{kind_number}
 use Rattle.kmipa_msgs.specs.Messages.{operation_asked, lent, maybe_lent, block_of, GotOf, AskedOf, PayloadOf, BlockOf, gets, got}
-use Rattle.kmipa_msgs.specs.Tables.{maybe_listed, unless_there}
+use Rattle.kmipa_msgs.specs.Tables.{maybe_listed}
 use Rattle.kmipa_msgs.specs.KeyBlocks.{block_in}
 use Rattle.kmipa_msgs.specs.declared.key_block.KeyBlock.{KeyBlock}
 use Rattle.kmipa_msgs.specs.Objects.{shape_in, block_inside, object_in}
@@ -69,19 +69,6 @@ reads_got ts =
     (reads_both kind_number _ _ _ _ _ _
     (reads_both kind_number _ _ _ _ _ _ (reads_both kind_number _ _ _ _ _ _ (reads_maybe_listed (at as_enumeration object_type_tag ts) type_of Missing ObjectType) (reads_needed kind_number Missing Missing (shape_in ts))) (reads_optional kind_number IdentifierForm (at as_text unique_identifier ts)))
     (reads_block (block_inside ts)))
-
--- the rows of a Get as the program has them
-abbrev pub get_view : Unit {0} × Option (Bor (List ℕ)) → Option (List ℕ)
-get_view p = maybe_lent p.1
-
-pub seen_get : (ts : Trees) (plain : Result (Unit {0}) OutsideKind) (field : Field (Bor (List ℕ))) (id : Result (Option (Bor (List ℕ))) OutsideKind) (rows : Result (Unit {0} × Option (Bor (List ℕ))) OutsideKind)
-    → rows ≡ both kind_number plain id → plain ≡ unless_there (first key_wrapping_specification ts) Wrapped → map_field lent field ≡ at as_text unique_identifier ts → id ≡ optional field IdentifierForm
-    → map_ok get_view rows ≡ get_in ts
-unfolding get_in
-seen_get ts plain field id rows e p f i =
-    seen (λ q. q.1) (λ q. (q.0, maybe_lent q.1)) rows (get_rows ts)
-    (right_seen kind_number maybe_lent plain id rows (unless_there (first key_wrapping_specification ts) Wrapped) (optional (at as_text unique_identifier ts) IdentifierForm) e p
-    (optional_seen lent field (at as_text unique_identifier ts) IdentifierForm id i f))
 
 -- the rows of its answer
 abbrev pub Types : Type 0

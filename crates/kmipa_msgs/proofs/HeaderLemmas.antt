@@ -14,7 +14,7 @@ use Rattle.kmipa_msgs.specs.declared.kind.OutsideKind.{OutsideKind}
 use Rattle.kmipa_msgs.specs.declared.kind.OutsideKind.TheVariants.{NotAMessage, Version, Count, Operation, ObjectType, IdentifierForm, Wrapped, Format, Missing, Attribute, Pending, Disagree, Unordered}
 use Rattle.kmipa_msgs.specs.Kinds.{kind_number}
 use Rattle.kmipa_attrs.specs.declared.fields.Field.{Field}
-use Rattle.kmipa_attrs.specs.declared.fields.Field.TheVariants.{Absent, Wrong, There}
+use Rattle.kmipa_attrs.specs.declared.fields.Field.TheVariants.{There}
 use Rattle.kmipa_msgs.specs.Tables.{children}
 use Rattle.kmipa_msgs.specs.Headers.{is_structure, is_message, counts, gated}
 use Rattle.kmipa_msgs.proofs.ItemLemmas.{every_at}
@@ -88,16 +88,6 @@ pub no_children : (tag header : ℕ) (t : Tree) → None ≡ as_structure t → 
 unfolding first
 no_children tag header t e =
     ap (λ (o : Option Trees). (tag_of t == tag) && is_structure (at as_structure header (or_none o))) (sym e) ∙ and_false (tag_of t == tag)
-
-pub no_header : (tag header : ℕ) (t : Tree) (ts : Trees) (f : Field Trees) → Some ts ≡ as_structure t → f ≡ at as_structure header ts → ((hs : Trees) → f ≡ There hs → ⊥) → is_message tag header t ≡ false
-no_header tag header t ts f te fe isnt =
-    ap (λ (o : Option Trees). (tag_of t == tag) && is_structure (at as_structure header (or_none o))) (sym te)
-    ∙ ap (λ (g : Field Trees). (tag_of t == tag) && is_structure g) (sym fe) ∙ by f isnt
-  where
-    by : (g : Field Trees) → ((hs : Trees) → g ≡ There hs → ⊥) → ((tag_of t == tag) && is_structure g) ≡ false
-    by Absent h = and_false (tag_of t == tag)
-    by Wrong h = and_false (tag_of t == tag)
-    by (There hs) h = absurd (h hs refl)
 
 pub opens : (tag header : ℕ) (v : View) (ts hs : Trees) → v.tag.number ≡ tag → Some ts ≡ as_structure (view_tree v) → There hs ≡ at as_structure header ts
     → (is_message tag header (view_tree v) ≡ true) × (ts ≡ children (view_tree v)) × (hs ≡ inside header (children (view_tree v)))

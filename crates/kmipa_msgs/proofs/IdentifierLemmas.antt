@@ -7,7 +7,7 @@ use Rattle.kmipa_attrs.proofs.ReadingLemmas.{reads_optional, reads_as}
 use Rattle.kmipa_msgs.specs.declared.kind.OutsideKind.TheVariants.{IdentifierForm}
 use Rattle.kmipa_msgs.specs.Kinds.{kind_number}
 use Rattle.kmipa_msgs.specs.Identifiers.{SaysIdentifier, IdentifierFault, identifier_in, SaysChanged, changed_in}
-use Rattle.std.proofs.Common.{◌≡◌, ◌==◌, ℕ, List, [], ◌∷◌, Option, Some, None, refl, ◌∙◌}
+use Rattle.std.proofs.Common.{◌≡◌, ℕ, List, [], Option, Some, None, refl}
 use Rattle.kmipa_ttlv.specs.Tree
 use Rattle.kmipa_msgs.specs.Messages.{PayloadOf, changed}
 use Rattle.kmipa_msgs.specs.Replies.{filled}

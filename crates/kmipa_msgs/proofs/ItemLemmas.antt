@@ -51,16 +51,6 @@ left_items read i vs = each_in read (every batch_item (view_trees (drop i vs)))
 abbrev pub split_items : {X : Type 0} → (ℕ → Tree → Result X OutsideKind) → List X → ℕ → List View → Result (List X) (ℕ × OutsideKind)
 split_items read xs i vs = prefixed xs (left_items (behind xs read) i vs)
 
-pub items_begin : {X : Type 0} (read : ℕ → Tree → Result X OutsideKind) (xs : List X) (vs : List View) → xs ≡ [] → left_items read 0 vs ≡ split_items read xs 0 vs
-items_begin {X} read xs vs e = by (left_items read 0 vs) ∙ ap (λ (ys : List X). split_items read ys 0 vs) (sym e)
-  where
-    by : (r : Result (List X) (ℕ × OutsideKind)) → r ≡ prefixed [] r
-    by (Ok ys) = refl
-    by (Err p) = ap (λ (n : ℕ). err n p.1) (omega arith)
-      where
-        err : ℕ → OutsideKind → Result (List X) (ℕ × OutsideKind)
-        err n k = Err (n, k)
-
 pub items_passed : {X : Type 0} (read : ℕ → Tree → Result X OutsideKind) (xs : List X) (i : ℕ) (vs : List View) (v : View) → i < length vs → v ≡ get_or vs i v → (v.tag.number ≡ batch_item → ⊥)
     → split_items read xs i vs ≡ split_items read xs (i + 1) vs
 items_passed read xs i vs v h is e = ap (λ (ts : List Tree). prefixed xs (each_in (behind xs read) ts)) (ap (every batch_item) (left_at i vs v h is) ∙ every_at batch_item v _ false (ne_eqb v.tag.number batch_item e))

@@ -4,6 +4,7 @@ pub mod HeaderLemmas
 pub mod ObjectLemmas
 pub mod TableLemmas
 pub mod OutsideLemmas
+pub mod YieldsLemmas
 pub mod BlockLemmas
 pub mod AttributeFieldLemmas
 pub mod LowKindLemmas

@@ -1,7 +1,6 @@
 -- Locates and their answers are read, and written.
-use Rattle.std.proofs.Common.{◌≡◌, ◌<◌, ◌≤◌, ◌+◌, ◌++◌, ◌==◌, ◌||◌, not, nat_lt, ℕ, ℤ, pos, int_lt, Bool, true, false, cond, List, [], ◌∷◌, map, take, drop, get_or, length, count_by, Option, Some, None, Result, Ok, Err, refl, sym, ap, ◌∙◌, subst, inl, inr, append_assoc, eq-eqb}
+use Rattle.std.proofs.Common.{◌≡◌, ◌<◌, ◌≤◌, ◌+◌, ◌++◌, ◌==◌, ◌||◌, nat_lt, ℕ, ℤ, pos, int_lt, Bool, true, false, cond, List, [], ◌∷◌, map, take, drop, get_or, length, Option, Some, None, Result, Ok, Err, refl, sym, ap, ◌∙◌, subst, inl, inr, append_assoc, eq-eqb}
 use Rattle.std.specs.List.{list_any}
-use Rattle.std.specs.Option.{option_map}
 use Rattle.std.proofs.lemmas.Bool.{ne_eqb}
 use Rattle.std.proofs.lemmas.List.{append-nil, drop_all, map-append}
 use Rattle.kmipa_ttlv.specs.Tree.{Tree, Trees, Scalar, structure, scalar, none, more, push, forest}
@@ -9,7 +8,7 @@ use Rattle.kmipa_ttlv.specs.Tree
 use Rattle.kmipa_ttlv.specs.ViewTree.{view_tree, view_trees}
 use Rattle.kmipa_ttlv.specs.declared.view.View.{View}
 use Rattle.kmipa_attrs.specs.Attributes.{attr_number, each, Single, SomeWrong, SaysAttributes}
-use Rattle.kmipa_attrs.specs.Fields.{tag_of, first, every, at, inside, value_in, as_structure, as_text, as_integer, as_enumeration}
+use Rattle.kmipa_attrs.specs.Fields.{tag_of, every, at, inside, value_in, as_structure, as_text, as_integer, as_enumeration}
 use Rattle.kmipa_attrs.specs.Filters.{FilterOf, filter_of, filter_in, SaysFirst, AreTyped, is_other, has_other, is_below_one, maximum_of, SaysFilter, FilterFault}
 use Rattle.kmipa_attrs.specs.ObjectTypes.{type_of}
 use Rattle.kmipa_attrs.specs.Readings.{Reads, both, map_ok}
@@ -23,13 +22,12 @@ use Rattle.kmipa_attrs.specs.declared.fault.AttrFault.{AttrFault}
 use Rattle.kmipa_attrs.specs.declared.filter.Filter.{Filter}
 use Rattle.kmipa_attrs.proofs.FieldLemmas.{tag_of-view, left_at}
 use Rattle.kmipa_attrs.proofs.FilterLemmas.{reads_filter}
-use Rattle.kmipa_attrs.proofs.ReadingLemmas.{reads_both, reads_as, map_ok-same}
+use Rattle.kmipa_attrs.proofs.ReadingLemmas.{reads_both, reads_as}
 use Rattle.kmipa_msgs.specs.declared.kind.OutsideKind.{OutsideKind}
 use Rattle.kmipa_msgs.specs.declared.kind.OutsideKind.TheVariants.{ObjectType, IdentifierForm, Missing, Attribute}
 use Rattle.kmipa_msgs.specs.declared.operation.Operation
 use Rattle.kmipa_msgs.specs.Kinds.{kind_number}
 use Rattle.kmipa_msgs.specs.Messages.{lent, AskedOf, locates, operation_asked, PayloadOf, located}
-use Rattle.kmipa_msgs.specs.Tables.{unless_wrong, unless_unlisted}
 use Rattle.kmipa_msgs.specs.Locates.{is_unknown, some_unknown, has_unknown, SaysLocate, LocateFault, filter_kind, shape_rows, sought_in, locate_in, SaysLocated, LocatedFault, all_held, located_in, sought_attributes, locate_fields, located_fields, AsksLocate, AnswersLocate, locate_row}
 use Rattle.kmipa_msgs.specs.Locates.LocateFault.{in_maximum, in_attributes, in_type_number, in_filter}
 use Rattle.kmipa_msgs.specs.Replies.{filled}
@@ -125,9 +123,6 @@ reads_located ts = held_reads IdentifierForm (each as_text unique_identifier ts)
 -- the identifiers so far, and those of what is left
 abbrev pub behind : List (List ℕ) → Result (List (List ℕ)) OutsideKind → Result (List (List ℕ)) OutsideKind
 behind ids rest = map_ok (λ xs. ids ++ xs) rest
-
-pub located_begin : (ids : List (List ℕ)) (r : Result (List (List ℕ)) OutsideKind) → ids ≡ [] → r ≡ behind ids r
-located_begin ids r e = sym (ap (λ (xs : List (List ℕ)). behind xs r) e ∙ map_ok-same r)
 
 behind_one : (ids : List (List ℕ)) (id : List ℕ) (r : Result (List (List ℕ)) OutsideKind) → behind ids (map_ok (λ xs. id ∷ xs) r) ≡ behind (ids ++ id ∷ []) r
 behind_one ids id (Ok xs) = ap (λ (ys : List (List ℕ)). Ok ys) (sym (append_assoc ids (id ∷ []) xs))

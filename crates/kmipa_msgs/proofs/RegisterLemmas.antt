@@ -1,13 +1,12 @@
 -- Registers and their answers are read.
-use Rattle.std.proofs.Common.{◌≡◌, ◌≤◌, ℕ, Bool, true, false, ◌==◌, ◌&&◌, List, Option, Some, Result, Ok, Err, refl, sym, ap, ◌∙◌, subst, inl, inr, ◌⊎◌, arith, eqb-true, [], ◌∷◌, None}
+use Rattle.std.proofs.Common.{◌≡◌, ◌≤◌, ℕ, Bool, true, false, ◌==◌, ◌&&◌, Option, Some, Result, refl, sym, ap, ◌∙◌, subst, inl, inr, ◌⊎◌, arith, eqb-true, [], ◌∷◌, None}
 use Rattle.kmipa_ttlv.specs.Tree.{Trees, Tree, scalar}
-use Rattle.kmipa_attrs.specs.Fields.{at, inside, map_field, as_structure, as_enumeration, as_bytes, as_text}
+use Rattle.kmipa_attrs.specs.Fields.{at, inside, as_structure, as_enumeration, as_bytes, as_text}
 use Rattle.kmipa_attrs.specs.ObjectTypes.{type_number, type_of}
-use Rattle.kmipa_attrs.specs.Readings.{Reads, NeededFault, needed, optional, both, map_ok, kept_if, passing}
+use Rattle.kmipa_attrs.specs.Readings.{Reads, NeededFault, needed, both, map_ok, passing}
 use Rattle.kmipa_attrs.specs.Sets.{attributes_of}
 use Rattle.kmipa_attrs.specs.Tags.{key_format_type, key_material, key_value, object_type_tag, unique_identifier, attributes_tag}
 use Rattle.kmipa_attrs.specs.declared.attr_set.AttrSet.{AttrSet}
-use Rattle.kmipa_attrs.specs.declared.fields.Field.{Field}
 use Rattle.kmipa_attrs.specs.declared.object_type.ObjectType
 use Rattle.kmipa_attrs.specs.declared.side.Side.TheVariants.{Client}
 use Rattle.kmipa_attrs.proofs.ReadingLemmas.{reads_both, reads_as, reads_optional, reads_needed, reads_passing}
@@ -15,7 +14,7 @@ use Rattle.kmipa_msgs.specs.declared.kind.OutsideKind.{OutsideKind}
 use Rattle.kmipa_msgs.specs.declared.kind.OutsideKind.TheVariants.{ObjectType, IdentifierForm, Wrapped, Format, Missing, Disagree}
 use Rattle.kmipa_msgs.specs.declared.operation.Operation
 use Rattle.kmipa_msgs.specs.Kinds.{kind_number}
-use Rattle.kmipa_msgs.specs.Messages.{operation_asked, lent, block_of, RegisterOf, RegisteredOf, AskedOf, PayloadOf, registers, registered}
+use Rattle.kmipa_msgs.specs.Messages.{operation_asked, block_of, RegisterOf, RegisteredOf, AskedOf, PayloadOf, registers, registered}
 use Rattle.kmipa_msgs.specs.declared.key_block.KeyBlock.{KeyBlock}
 use Rattle.kmipa_msgs.specs.Tables.{Unlisted, listed, unless_unlisted}
 use Rattle.kmipa_msgs.specs.KeyBlocks.{BlockFault, block_in}
@@ -29,8 +28,7 @@ use Rattle.kmipa_msgs.proofs.TableLemmas.{reads_listed, reads_unless_unlisted}
 use Rattle.kmipa_msgs.proofs.AttributeFieldLemmas.{reads_given}
 use Rattle.kmipa_msgs.proofs.LowKindLemmas.{low, low_needed, low_given}
 use Rattle.kmipa_msgs.proofs.BlockLemmas.{reads_block}
-use Rattle.kmipa_msgs.proofs.ViewLemmas.{seen, both_seen, right_seen, needed_seen}
-use denote.Bor.{Bor}
+use Rattle.kmipa_msgs.proofs.ViewLemmas.{seen, both_seen, right_seen}
 use Rattle.kmipa_ttlv.specs.Tree
 use Rattle.kmipa_msgs.specs.Replies.{filled}
 use Rattle.kmipa_msgs.specs.Written.{written_payload}
@@ -174,35 +172,6 @@ seen_brought ts us types block plain given rows e p t b u g =
     (both_seen kind_number (λ q. (q.0, block_of q.1)) attributes_of plain given rows (both kind_number (types_rows ts) (block_in (block_inside ts))) (given_in Client (at as_structure attributes_tag ts)) e
     (right_seen kind_number block_of types block plain (types_rows ts) (block_in (block_inside ts)) p t (b ∙ ap block_in u))
     g)
-
--- the comparison
-made : Result BroughtOf OutsideKind → Result RegisterOf OutsideKind
-made r = map_ok register_at (passing agrees Disagree r)
-
-pub agreed : (ts : Trees) (b : BroughtOf) → Ok b ≡ brought_in ts → true ≡ agrees b → Ok (register_at b) ≡ register_in ts
-unfolding register_in made
-agreed ts b h e = ap (λ (k : Bool). map_ok register_at (kept_if k b Disagree)) e ∙ ap made h
-
-pub disagreed : (ts : Trees) (b : BroughtOf) → Ok b ≡ brought_in ts → false ≡ agrees b → Err Disagree ≡ register_in ts
-unfolding register_in made
-disagreed ts b h e = ap (λ (k : Bool). map_ok register_at (kept_if k b Disagree)) e ∙ ap made h
-
-pub unread : (ts : Trees) (k : OutsideKind) → Err k ≡ brought_in ts → Err k ≡ register_in ts
-unfolding register_in made
-unread ts k h = ap made h
-
--- the rows of the answer
-abbrev pub registered_view : Option ℕ × Bor (List ℕ) → RegisteredOf
-registered_view p = registered_at (p.0, lent p.1)
-
-pub seen_registered : (ts : Trees) (object_type : Result (Option ℕ) OutsideKind) (field : Field (Bor (List ℕ))) (id : Result (Bor (List ℕ)) OutsideKind) (rows : Result (Option ℕ × Bor (List ℕ)) OutsideKind)
-    → rows ≡ both kind_number object_type id → object_type ≡ optional (at as_enumeration object_type_tag ts) Missing → map_field lent field ≡ at as_text unique_identifier ts → id ≡ needed field Missing IdentifierForm
-    → map_ok registered_view rows ≡ registered_in ts
-unfolding registered_in
-seen_registered ts object_type field id rows e o f i =
-    seen registered_at (λ q. (q.0, lent q.1)) rows (registered_rows ts)
-    (right_seen kind_number lent object_type id rows (optional (at as_enumeration object_type_tag ts) Missing) (needed (at as_text unique_identifier ts) Missing IdentifierForm) e o
-    (needed_seen lent field (at as_text unique_identifier ts) Missing IdentifierForm id i f))
 
 -- AS THEY ARE WRITTEN
 

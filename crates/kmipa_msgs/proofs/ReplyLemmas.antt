@@ -10,7 +10,7 @@ use Rattle.kmipa_ttlv.specs.Tree.{Tree, Trees, structure, scalar, none, more}
 use Rattle.kmipa_ttlv.specs.ViewTree.{view_trees}
 use Rattle.kmipa_ttlv.specs.declared.view.View.{View}
 use Rattle.kmipa_attrs.specs.Fields.{first, at, value_in, or_none, as_structure, as_enumeration, as_bytes}
-use Rattle.kmipa_attrs.specs.Readings.{Reads, optional, both, map_ok, and_then}
+use Rattle.kmipa_attrs.specs.Readings.{Reads, optional, both, map_ok}
 use Rattle.kmipa_attrs.specs.Tags.{operation_tag, response_payload, result_reason, result_status, unique_batch_item_id}
 use Rattle.kmipa_attrs.specs.declared.fields.Field.{Field}
 use Rattle.kmipa_attrs.specs.declared.fields.Field.TheVariants.{Absent, Wrong, There}
@@ -146,12 +146,6 @@ reads_shown (Some (Idle n)) status t = record { said = refl; only = λ y e. e; r
 reads_shown (Some (Other n)) status t = reads_unjudged status
 reads_shown (Some operation) status t = reads_judged operation status t
 
--- at an operation that is judged
-pub shown_judged : (operation : Operation) (status : Status) (t : Option Tree) → ((n : ℕ) → operation ≡ Idle n → ⊥) → ((n : ℕ) → operation ≡ Other n → ⊥) → judged_in operation status t ≡ shown_in (Some operation) status t
-shown_judged (Idle n) status t idle other = absurd (idle n refl)
-shown_judged (Other n) status t idle other = absurd (other n refl)
-shown_judged _ status t idle other = refl
-
 -- the status and what is shown
 abbrev Beside : Option Operation → Status → Option Tree → Status × Option PayloadOf → Type 0
 Beside own status t p = (p.0 ≡ status) × SaysShown own status t p.1
@@ -236,17 +230,6 @@ seen_answer a t ts b plain outcome rows te be e p o =
     ∙ seen (answer_at ts) (λ q. (q.0, outcome_of q.1)) rows (answer_rows a ts)
     (right_seen kind_number outcome_of plain outcome rows (both kind_number (optional (at as_enumeration operation_tag ts) Missing) (optional (at as_enumeration result_reason ts) Missing)) (outcome_in (own a (at as_enumeration operation_tag ts)) ts) e p o)
     ∙ ap (λ (u : Option Trees). whole a (or_none u)) te
-
--- the outcome as the program has it
-pub no_status : (operation : Option Operation) (ts : Trees) (k : OutsideKind) → Err k ≡ status_in (at as_enumeration result_status ts) → Err k ≡ outcome_in operation ts
-no_status operation ts k e = ap (and_then (λ status. beside status (shown_in operation status (first response_payload ts)))) e
-
-pub outcome_seen : (operation : Option Operation) (ts : Trees) (status : Status) (t : Option Tree) (r : Result (Option PayloadOf) OutsideKind) → Ok status ≡ status_in (at as_enumeration result_status ts) → t ≡ first response_payload ts
-    → r ≡ shown_in operation status t → map_ok (λ p. (status, p)) r ≡ outcome_in operation ts
-outcome_seen operation ts status t r s te re =
-    ap (beside status) re
-    ∙ ap (λ (u : Option Tree). beside status (shown_in operation status u)) te
-    ∙ ap (and_then (λ z. beside z (shown_in operation z (first response_payload ts)))) s
 
 -- a structure without children
 pub bare : (t : Tree) (vs : List View) → Some (view_trees vs) ≡ as_structure t → is_bare t ≡ (length vs == 0)

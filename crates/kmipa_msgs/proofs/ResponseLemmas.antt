@@ -66,14 +66,6 @@ reads_response t request =
     (reads_each (λ place. SaysAnswer (slice_get request.items place)) (λ place. AnswerFault (slice_get request.items place)) (λ place. answer_in (slice_get request.items place))
     (λ place u. reads_answer (slice_get request.items place) u) (batch t))
 
--- a header as the program has it
-abbrev pub stamp_part : (Unit {0} × Unit {0}) × ℤ → ℤ
-stamp_part p = p.1
-
-pub seen_stamp : (hs : Trees) (n : ℕ) (rows : Result ((Unit {0} × Unit {0}) × ℤ) OutsideKind) → rows ≡ both kind_number (plain_rows hs n) (needed (at as_date time_stamp hs) Missing Missing) → map_ok stamp_part rows ≡ stamp_said hs n
-unfolding stamp_said
-seen_stamp hs n rows e = ap (map_ok (λ p. p.1)) e
-
 -- no message, a header at fault, items at fault, and a response
 answers_in : RequestOf → Trees → Result (List AnswerOf) (ℕ × OutsideKind)
 answers_in request ts = each_in (λ place. answer_in (slice_get request.items place)) (every batch_item ts)

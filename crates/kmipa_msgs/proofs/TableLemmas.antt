@@ -1,5 +1,5 @@
 -- Fields of tables are read.
-use Rattle.std.proofs.Common.{◌≡◌, ◌<◌, ℕ, Bool, true, false, Option, Some, None, Result, Ok, Err, refl, sym, ap, ◌∙◌, inl, inr, ◌⊎◌, arith}
+use Rattle.std.proofs.Common.{◌≡◌, ◌<◌, ℕ, Bool, true, false, Option, Some, None, refl, sym, ap, ◌∙◌, inl, inr, ◌⊎◌, arith}
 use Rattle.kmipa_ttlv.specs.Tree.{Tree}
 use Rattle.kmipa_attrs.specs.Readings.{Reads, IsWrong, NeededFault, map_ok, kept_if}
 use Rattle.kmipa_attrs.specs.declared.fields.Field.{Field}
@@ -132,12 +132,6 @@ apart_unlisted f table x u s =
     let m : u.number ≡ s.number = cc in
     let h : None ≡ Some x = sym u.unlisted ∙ ap table m ∙ s.listed in
     cc
-
--- the same value under other names of its faults
-pub renamed : {A : Type 0} (Said : A → Type 0) (Fault Flaw : OutsideKind → Type 0) (r : Result A OutsideKind)
-    → ((k : OutsideKind) → Fault k → Flaw k) → ((k : OutsideKind) → Flaw k → Fault k) → Reads kind_number Said Fault r → Reads kind_number Said Flaw r
-renamed Said Fault Flaw (Ok x) to from h = record { said = h.said; only = h.only; right = λ k w. h.right k (from k w) }
-renamed Said Fault Flaw (Err k) to from h = record { here = to k h.here; least = λ j lt w. h.least j lt (from j w) }
 
 -- a field that may be absent
 pub reads_unless_wrong : {A : Type 0} (f : Field A) (k : OutsideKind) → Reads kind_number (λ (u : Unit {0}). Unit {0}) (λ j. (j ≡ k) × IsWrong f) (unless_wrong f k)

@@ -1,7 +1,7 @@
 -- Readings of what is lent, seen as what they mean.
 use Rattle.std.proofs.Common.{◌≡◌, Bool, Option, Result, Ok, Err, refl, sym, ap, ◌∙◌, ℕ}
 use Rattle.std.specs.Option.{option_map}
-use Rattle.kmipa_attrs.specs.Fields.{map_field, value_in}
+use Rattle.kmipa_attrs.specs.Fields.{map_field}
 use Rattle.kmipa_attrs.specs.Readings.{map_ok, both, needed, optional, kept_if}
 use Rattle.kmipa_attrs.specs.declared.fields.Field.{Field}
 use Rattle.kmipa_attrs.specs.declared.fields.Field.TheVariants.{Absent, Wrong, There}
@@ -44,20 +44,12 @@ optional_view g Absent k = refl
 optional_view g Wrong k = refl
 optional_view g (There x) k = refl
 
-value_view : {A B : Type 0} (g : A → B) (f : Field A) → option_map g (value_in f) ≡ value_in (map_field g f)
-value_view g Absent = refl
-value_view g Wrong = refl
-value_view g (There x) = refl
-
 -- a lent field that is needed, that may be absent, or whose other types are read over
 pub needed_seen : {A B K : Type 0} (g : A → B) (f : Field A) (h : Field B) (k j : K) (row : Result A K) → row ≡ needed f k j → map_field g f ≡ h → map_ok g row ≡ needed h k j
 needed_seen {A} {B} g f h k j row e i = ap (map_ok g) e ∙ needed_view g f k j ∙ ap (λ (x : Field B). needed x k j) i
 
 pub optional_seen : {A B K : Type 0} (g : A → B) (f : Field A) (h : Field B) (k : K) (row : Result (Option A) K) → row ≡ optional f k → map_field g f ≡ h → map_ok (option_map g) row ≡ optional h k
 optional_seen {A} {B} g f h k row e i = ap (map_ok (option_map g)) e ∙ optional_view g f k ∙ ap (λ (x : Field B). optional x k) i
-
-pub value_seen : {A B : Type 0} (g : A → B) (f : Field A) (h : Field B) (row : Option A) → row ≡ value_in f → map_field g f ≡ h → option_map g row ≡ value_in h
-value_seen g f h row e i = ap (option_map g) e ∙ value_view g f ∙ ap value_in i
 
 -- two rows, each as it is
 pub joined : {A B K : Type 0} (number : K → ℕ) (a : Result A K) (b : Result B K) (rows : Result (A × B) K) (left : Result A K) (right : Result B K)

@@ -1,5 +1,5 @@
 -- Attributes that were written say what was written.
-use Rattle.std.proofs.Common.{◌≡◌, ℕ, Bool, true, false, ◌==◌, ◌&&◌, ◌||◌, cond, List, [], ◌∷◌, map, ◌++◌, ◌+◌, Option, Some, None, refl, sym, ◌∙◌, subst}
+use Rattle.std.proofs.Common.{◌≡◌, ℕ, Bool, true, false, ◌==◌, cond, List, [], ◌∷◌, map, Option, Some, None, refl, sym, subst}
 use Rattle.kmipa_ttlv.specs.Tree.{Tree, Trees, none, more}
 use Rattle.kmipa_attrs.specs.Attributes.{each, Single, SaysAttributes}
 use Rattle.kmipa_attrs.specs.Fields.{tag_of, first, every, in_field, as_structure, at}

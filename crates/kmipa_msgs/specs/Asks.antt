@@ -1,18 +1,18 @@
 -- The items of a request: Operation, Unique Batch Item ID?, Request Payload (KMIP 2.1, section 9).
-use Rattle.std.specs.Prelude.{◌≡◌, true, cond, Result, Ok, Err}
+use Rattle.std.specs.Prelude.{◌≡◌, Bool, true, false, not, ◌&&◌, cond, is_none, Result, Ok, Err}
 use Rattle.kmipa_ttlv.specs.Tree.{Tree, Trees}
 use Rattle.kmipa_attrs.specs.Fields.{at, inside, value_in, as_structure, as_enumeration, as_bytes}
-use Rattle.kmipa_attrs.specs.Readings.{NeededFault, IsWrong, both, map_ok, and_then}
+use Rattle.kmipa_attrs.specs.Readings.{NeededFault, IsWrong, both, map_ok, and_then, passing}
 use Rattle.kmipa_attrs.specs.Tags.{operation_tag, request_payload, unique_batch_item_id}
 use Rattle.kmipa_attrs.specs.declared.fields.Field.{Field}
 use Rattle.kmipa_attrs.specs.declared.fields.Field.TheVariants.{Absent, Wrong, There}
 use Rattle.kmipa_msgs.specs.declared.kind.OutsideKind.{OutsideKind}
 use Rattle.kmipa_msgs.specs.declared.kind.OutsideKind
-use Rattle.kmipa_msgs.specs.declared.kind.OutsideKind.TheVariants.{Missing}
+use Rattle.kmipa_msgs.specs.declared.kind.OutsideKind.TheVariants.{Missing, Unordered}
 use Rattle.kmipa_msgs.specs.declared.operation.Operation.{Operation}
 use Rattle.kmipa_msgs.specs.Kinds.{kind_number}
 use Rattle.kmipa_msgs.specs.Operations.{operation_of, is_judged}
-use Rattle.kmipa_msgs.specs.Messages.{AskedOf, AskOf}
+use Rattle.kmipa_msgs.specs.Messages.{AskedOf, gets, gets_attributes, activates, revokes, destroys, AskOf}
 use Rattle.kmipa_msgs.specs.Rows.{row_of}
 use Rattle.kmipa_msgs.specs.Tables.{children, Listed, Unlisted, listed, unless_wrong}
 
@@ -39,6 +39,20 @@ pub data AskFault (t : Tree) (k : OutsideKind) : Type 0 where
   in_asked : (operation : Operation) → Listed (at as_enumeration operation_tag (children t)) operation_of operation
       → AskedFault operation (inside request_payload (children t)) k → AskFault t k
 
+-- an operation on an object that names none, so that the ID Placeholder is meant
+abbrev pub means_placeholder : AskedOf → Bool
+means_placeholder (gets id) = is_none id
+means_placeholder (gets_attributes g) = is_none g.id
+means_placeholder (activates id) = is_none id
+means_placeholder (revokes r) = is_none r.id
+means_placeholder (destroys id) = is_none id
+means_placeholder asked = false
+
+-- In a request without order no item may mean the ID Placeholder, since no item is the one before it (profile).
+pub data ItemFault (unordered : Bool) (t : Tree) (k : OutsideKind) : Type 0 where
+  in_ask : AskFault t k → ItemFault unordered t k
+  in_order : k ≡ Unordered → unordered ≡ true → (ask : AskOf) → SaysAsk t ask → means_placeholder ask.asked ≡ true → ItemFault unordered t k
+
 -- the readings
 abbrev pub asked_in : Operation → Trees → Result AskedOf OutsideKind
 asked_in operation ts = (row_of operation).asked_in ts
@@ -58,3 +72,9 @@ ask_at ts asked = record { batch_id = value_in (at as_bytes unique_batch_item_id
 
 unfoldable pub ask_in : Tree → Result AskOf OutsideKind
 ask_in t = map_ok (ask_at (children t)) (and_then (λ operation. payload_asked operation (children t)) (operation_in (children t)))
+
+abbrev pub may_stand : Bool → AskOf → Bool
+may_stand unordered ask = not (unordered && means_placeholder ask.asked)
+
+abbrev pub item_in : Bool → Tree → Result AskOf OutsideKind
+item_in unordered t = passing (may_stand unordered) Unordered (ask_in t)

@@ -3,6 +3,7 @@ pub mod Numbers
 pub mod Operations
 pub mod Messages
 pub mod Outside
+pub mod Yields
 pub mod Row
 pub mod Locates
 pub mod Rows

@@ -1,5 +1,5 @@
 -- Request Message { Request Header, Batch Items } (KMIP 2.1, section 8).
-use Rattle.std.specs.Prelude.{◌≡◌, ◌<◌, ℕ, Bool, true, false, nat_lt, List, length, Some, None, Result, Ok, Err}
+use Rattle.std.specs.Prelude.{◌≡◌, ℕ, Bool, true, false, nat_lt, List, length, Some, None, Result, Ok, Err}
 use Rattle.kmipa_ttlv.specs.Tree.{Tree, Trees}
 use Rattle.kmipa_attrs.specs.Fields.{at, inside, as_enumeration, as_boolean}
 use Rattle.kmipa_attrs.specs.Readings.{IsWrong, both, kept_if, map_ok}
@@ -8,7 +8,7 @@ use Rattle.kmipa_attrs.specs.declared.fields.Field.{Field}
 use Rattle.kmipa_attrs.specs.declared.fields.Field.TheVariants.{Absent, Wrong, There}
 use Rattle.kmipa_msgs.specs.declared.fault.ReadFault.{ReadFault}
 use Rattle.kmipa_msgs.specs.declared.kind.OutsideKind.{OutsideKind}
-use Rattle.kmipa_msgs.specs.declared.kind.OutsideKind.TheVariants.{NotAMessage, Version, Count, Missing, Unordered}
+use Rattle.kmipa_msgs.specs.declared.kind.OutsideKind.TheVariants.{NotAMessage, Version, Count, Missing}
 use Rattle.kmipa_msgs.specs.declared.request.BatchOption.{BatchOption}
 use Rattle.kmipa_msgs.specs.declared.request.BatchOption.TheVariants.{Stop}
 use Rattle.kmipa_msgs.specs.declared.request.Request.{Request}
@@ -18,7 +18,7 @@ use Rattle.kmipa_msgs.specs.Messages.{AskOf, RequestOf, request_of}
 use Rattle.kmipa_msgs.specs.Tables.{children, of_table}
 use Rattle.kmipa_msgs.specs.Headers.{is_message, is_version, is_count, batch, gated}
 use Rattle.kmipa_msgs.specs.Outside.{SaysEach, EachFault, ByItem, Tells, each_in, headed}
-use Rattle.kmipa_msgs.specs.Asks.{SaysAsk, AskFault, ask_in}
+use Rattle.kmipa_msgs.specs.Asks.{SaysAsk, ItemFault, item_in}
 
 abbrev pub request_header : Tree → Trees
 request_header t = inside request_header_tag (children t)
@@ -58,10 +58,19 @@ pub data HeaderFault (t : Tree) (k : OutsideKind) : Type 0 where
   in_count : k ≡ Count → is_count (request_header t) (length (batch t)) ≡ false → HeaderFault t k
   in_option : OptionFault (at as_enumeration batch_error_continuation_option (request_header t)) k → HeaderFault t k
   in_ordered : k ≡ Missing → IsWrong (at as_boolean batch_order_option (request_header t)) → HeaderFault t k
-  in_batch : k ≡ Unordered → at as_boolean batch_order_option (request_header t) ≡ There false → 1 < length (batch t) → HeaderFault t k
 
 abbrev pub header_of : RequestOf → HeaderOf
 header_of r = record { option = r.option; ordered = r.ordered }
+
+-- a request without order: its Batch Order Option is False, and it has more than one item
+abbrev pub is_loose : Field Bool → ℕ → Bool
+is_loose Absent n = false
+is_loose Wrong n = false
+is_loose (There true) n = false
+is_loose (There false) n = nat_lt 1 n
+
+abbrev pub is_without_order : Tree → Bool
+is_without_order t = is_loose (at as_boolean batch_order_option (request_header t)) (length (batch t))
 
 -- THE DEFINITIONS
 
@@ -72,7 +81,7 @@ pub record SaysRequest (t : Tree) (r : RequestOf) : Type 0 where
 
 -- a condition of this kind holds at this item, 0 being the message itself
 abbrev pub RequestFault : Tree → ℕ → OutsideKind → Type 0
-RequestFault t = ByItem (HeaderFault t) (EachFault (λ place. AskFault) (batch t))
+RequestFault t = ByItem (HeaderFault t) (EachFault (λ place. ItemFault (is_without_order t)) (batch t))
 
 -- what the reader of requests tells
 abbrev pub TellsRequest : Tree → Result Request ReadFault → Type 0
@@ -90,14 +99,8 @@ order_in Absent = Ok true
 order_in Wrong = Err Missing
 order_in (There b) = Ok b
 
-abbrev pub in_order : Field Bool → ℕ → Bool
-in_order Absent n = true
-in_order Wrong n = true
-in_order (There true) n = true
-in_order (There false) n = nat_lt n 2
-
-abbrev pub plain_rows : Trees → ℕ → Result (Unit {0} × (Unit {0} × Unit {0})) OutsideKind
-plain_rows hs n = both kind_number (kept_if (is_version hs) tt Version) (both kind_number (kept_if (is_count hs n) tt Count) (kept_if (in_order (at as_boolean batch_order_option hs) n) tt Unordered))
+abbrev pub plain_rows : Trees → ℕ → Result (Unit {0} × Unit {0}) OutsideKind
+plain_rows hs n = both kind_number (kept_if (is_version hs) tt Version) (kept_if (is_count hs n) tt Count)
 
 abbrev pub said_rows : Trees → Result (BatchOption × Bool) OutsideKind
 said_rows hs = both kind_number (option_in (at as_enumeration batch_error_continuation_option hs)) (order_in (at as_boolean batch_order_option hs))
@@ -116,4 +119,4 @@ abbrev pub request_at : HeaderOf → List AskOf → RequestOf
 request_at h items = record { option = h.option; ordered = h.ordered; items = items }
 
 unfoldable pub request_in : Tree → Result RequestOf (ℕ × OutsideKind)
-request_in t = headed request_at (header_in t) (each_in (λ place. ask_in) (batch t))
+request_in t = headed request_at (header_in t) (each_in (λ place. item_in (is_without_order t)) (batch t))

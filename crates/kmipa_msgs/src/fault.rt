@@ -27,6 +27,15 @@ pub enum ReadFault {
     Memory,
 }
 
+/// A kind that is told of no item is that of the message itself.
+impl From<OutsideKind> for ReadFault {
+    ghost from_gives = { λ kind e. e ≡ TheVariants.Outside (record { item = 0; kind = kind }) };
+
+    fn from(kind: OutsideKind) -> ReadFault {
+        ReadFault::Outside(Outside { item: 0, kind })
+    }
+}
+
 impl From<AllocError> for ReadFault {
     ghost from_gives = { λ _ e. e ≡ TheVariants.Memory };
 

@@ -1,8 +1,5 @@
 //! Messages from views. Of several reasons to be outside at one item the lowest kind is told, in whatever order the fields are met.
 
-use crate::kind::OutsideKind;
-use std::alloc::AllocError;
-
 mod activate;
 mod answer;
 mod ask;
@@ -24,10 +21,8 @@ mod request;
 mod response;
 mod revoke;
 mod rows;
+mod unread;
 
 pub use payload::read_payload;
 pub use request::read_request;
 pub use response::read_response;
-
-/// What a part of a message says, or why it is outside; want of memory stands apart.
-type Read<T> = Result<Result<T, OutsideKind>, AllocError>;

@@ -15,8 +15,7 @@ use kmipa_ttlv::View;
 pub fn read_activate<'a>(payload: &[View<'a>]) -> Result<Activate<'a>, OutsideKind>
     ensures { map_ok activate_of result ≡ identifier_in (view_trees payload.now) }
 {
-    match read_identifier(payload) {
-        Ok(id) => Ok(Activate { id }),
-        Err(kind) => Err(kind),
-    }
+    Ok(Activate {
+        id: read_identifier(payload)?,
+    })
 }

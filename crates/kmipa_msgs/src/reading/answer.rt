@@ -1,23 +1,25 @@
 //! The items of a response.
 
-ghost use Rattle.std.specs.Prelude.{◌≡◌, IfOk, map, None};
+ghost use Rattle.std.specs.Prelude.{◌≡◌, map, None};
 ghost use Rattle.std.specs.Option.{option_map};
 ghost use Rattle.std.specs.List.{slice_get};
 ghost use Rattle.kmipa_ttlv.specs.ViewTree.{view_tree, view_trees};
-ghost use Rattle.kmipa_attrs.specs.Fields.{every, first, at, as_enumeration};
+ghost use Rattle.kmipa_attrs.specs.Fields.{every, first, at};
 ghost use Rattle.kmipa_attrs.specs.Readings.{map_ok};
 ghost use Rattle.kmipa_attrs.specs.Tags.{batch_item, response_payload};
-ghost use Rattle.kmipa_msgs.specs.Messages.{ask_of, asks_of, payload_of, answer_of, answers_of};
+ghost use Rattle.kmipa_msgs.specs.Messages.{ask_of, payload_of, answer_of, answers_of};
 ghost use Rattle.kmipa_msgs.specs.Outside.{Gives, each_in, from_one};
 ghost use Rattle.kmipa_msgs.specs.Replies.{own, or_empty, status_in, is_bare, required_in, judged_in, unjudged_in, shown_in, outcome_in, outcome_of, answer_in};
+ghost use Rattle.kmipa_msgs.specs.Yields.{Yields};
 
-use crate::fault::{Outside, ReadFault};
+use crate::fault::ReadFault;
 use crate::kind::OutsideKind;
 use crate::operation::Operation;
-use crate::reading::Read;
+use crate::reading::header::item_count;
 use crate::reading::operations::read_done;
 use crate::reading::payload::read_payload_of;
-use crate::reading::rows::of_table;
+use crate::reading::rows::both_read;
+use crate::reading::unread::Unread;
 use crate::request::Ask;
 use crate::response::{Answer, Payload, Status};
 use kmipa_attrs::fields::{as_structure, bytes_at, enumeration_at, first};
@@ -39,18 +41,13 @@ pub fn read_answers<'a>(
 ) -> Result<Vec<Answer<'a>>, ReadFault>
     ensures { Gives answers_of result (from_one (each_in (λ place. answer_in (slice_get (map ask_of asks.now) place)) (every batch_item (view_trees children.now)))) }
 {
-    let mut answers = Vec::new(alloc);
+    let mut answers = Vec::with_capacity(alloc, item_count(children))?;
     let mut place = 0;
     for child in children {
         if child.tag.number == BATCH_ITEM {
-            match read_answer(alloc, asks.get(place), child)? {
+            match read_answer(alloc, asks.get(place), child) {
                 Ok(answer) => answers.push(answer)?,
-                Err(kind) => {
-                    return Err(ReadFault::Outside(Outside {
-                        item: place + 1,
-                        kind,
-                    }));
-                }
+                Err(unread) => return Err(unread.at(place + 1)),
             }
             place += 1;
         }
@@ -58,26 +55,23 @@ pub fn read_answers<'a>(
     Ok(answers)
 }
 
-fn read_answer<'a>(alloc: Global, ask: Option<&Ask>, view: &View<'a>) -> Read<Answer<'a>>
-    ensures { IfOk result (λ r. map_ok answer_of r ≡ answer_in (option_map (λ a. ask_of a.now) ask.entry) (view_tree view.now)) }
+#[tactic(auto, unfolding(crate::specs::Replies::answer_in))]
+fn read_answer<'a>(alloc: Global, ask: Option<&Ask>, view: &View<'a>) -> Result<Answer<'a>, Unread>
+    ensures { Yields answer_of result (answer_in (option_map (λ a. ask_of a.now) ask.entry) (view_tree view.now)) }
 {
-    let Some(children) = as_structure(view) else {
-        return Ok(Err(OutsideKind::Missing));
-    };
+    let children = as_structure(view).ok_or(OutsideKind::Missing)?;
     let own = own_operation(ask, enumeration_at(children, OPERATION));
     let operation = enumeration_at(children, OPERATION).optional(OutsideKind::Missing);
     let reason = enumeration_at(children, RESULT_REASON).optional(OutsideKind::Missing);
-    let outcome = read_outcome(alloc, own, children)?;
-    match both(both(operation, reason), outcome) {
-        Ok(((operation, reason), (status, payload))) => Ok(Ok(Answer {
-            operation,
-            batch_id: bytes_at(children, UNIQUE_BATCH_ITEM_ID).value(),
-            status,
-            reason,
-            payload,
-        })),
-        Err(kind) => Ok(Err(kind)),
-    }
+    let outcome = read_outcome(alloc, own, children);
+    let ((operation, reason), (status, payload)) = both_read(both(operation, reason), outcome)?;
+    Ok(Answer {
+        operation,
+        batch_id: bytes_at(children, UNIQUE_BATCH_ITEM_ID).value(),
+        status,
+        reason,
+        payload,
+    })
 }
 
 /// The operation whose payload may be read: the request's, where the answer names none or the same.
@@ -97,17 +91,12 @@ fn read_outcome<'a>(
     alloc: Global,
     own: Option<Operation>,
     children: &[View<'a>],
-) -> Read<(Status, Option<Payload<'a>>)>
-    ensures { IfOk result (λ r. map_ok outcome_of r ≡ outcome_in own (view_trees children.now)) }
+) -> Result<(Status, Option<Payload<'a>>), Unread>
+    ensures { Yields outcome_of result (outcome_in own (view_trees children.now)) }
 {
-    let status = match status(enumeration_at(children, RESULT_STATUS)) {
-        Ok(status) => status,
-        Err(kind) => return Ok(Err(kind)),
-    };
-    match shown(alloc, own, status, children)? {
-        Ok(payload) => Ok(Ok((status, payload))),
-        Err(kind) => Ok(Err(kind)),
-    }
+    let status = status(enumeration_at(children, RESULT_STATUS))?;
+    let payload = shown(alloc, own, status, children)?;
+    Ok((status, payload))
 }
 
 fn status(field: Field<u32>) -> Result<Status, OutsideKind>
@@ -115,7 +104,7 @@ fn status(field: Field<u32>) -> Result<Status, OutsideKind>
 {
     match field {
         Field::There(PENDING) => Err(OutsideKind::Pending),
-        Field::There(number) => of_table(Status::of(number), OutsideKind::Missing),
+        Field::There(number) => Status::of(number).ok_or(OutsideKind::Missing),
         _ => Err(OutsideKind::Missing),
     }
 }
@@ -126,15 +115,15 @@ fn shown<'a>(
     own: Option<Operation>,
     status: Status,
     children: &[View<'a>],
-) -> Read<Option<Payload<'a>>>
-    ensures { IfOk result (λ r. map_ok (option_map payload_of) r ≡ shown_in own status (first response_payload (view_trees children.now))) }
+) -> Result<Option<Payload<'a>>, Unread>
+    ensures { Yields (option_map payload_of) result (shown_in own status (first response_payload (view_trees children.now))) }
 {
     let Some(operation) = own else {
-        return Ok(Ok(None));
+        return Ok(None);
     };
     match operation {
-        Operation::Idle(_) => Ok(Ok(None)),
-        Operation::Other(_) => Ok(unjudged(status)),
+        Operation::Idle(_) => Ok(None),
+        Operation::Other(_) => Ok(unjudged(status)?),
         _ => judged(alloc, operation, status, children),
     }
 }
@@ -154,18 +143,15 @@ fn judged<'a>(
     operation: Operation,
     status: Status,
     children: &[View<'a>],
-) -> Read<Option<Payload<'a>>>
-    ensures { IfOk result (λ r. map_ok (option_map payload_of) r ≡ judged_in operation status (first response_payload (view_trees children.now))) }
+) -> Result<Option<Payload<'a>>, Unread>
+    ensures { Yields (option_map payload_of) result (judged_in operation status (first response_payload (view_trees children.now))) }
 {
     match (status, first(children, RESPONSE_PAYLOAD)) {
-        (Status::Failed, _) => Ok(Ok(None)),
+        (Status::Failed, _) => Ok(None),
         (Status::Success, None) => absent(alloc, operation, children),
-        (Status::Undone, None) => Ok(Ok(None)),
-        (Status::Undone, Some(view)) if is_empty(view) => Ok(Ok(None)),
-        (_, Some(view)) => match read_payload_of(alloc, operation, view)? {
-            Ok(payload) => Ok(Ok(Some(payload))),
-            Err(kind) => Ok(Err(kind)),
-        },
+        (Status::Undone, None) => Ok(None),
+        (Status::Undone, Some(view)) if is_empty(view) => Ok(None),
+        (_, Some(view)) => Ok(Some(read_payload_of(alloc, operation, view)?)),
     }
 }
 
@@ -174,16 +160,13 @@ fn absent<'a>(
     alloc: Global,
     operation: Operation,
     children: &[View<'a>],
-) -> Read<Option<Payload<'a>>>
-    ensures { IfOk result (λ r. map_ok (option_map payload_of) r ≡ required_in operation (or_empty operation None)) }
+) -> Result<Option<Payload<'a>>, Unread>
+    ensures { Yields (option_map payload_of) result (required_in operation (or_empty operation None)) }
 {
     if !operation.may_be_bare() {
-        return Ok(Err(OutsideKind::Missing));
+        return Err(Unread::Outside(OutsideKind::Missing));
     }
-    match read_done(alloc, operation, &children[..0])? {
-        Ok(payload) => Ok(Ok(Some(payload))),
-        Err(kind) => Ok(Err(kind)),
-    }
+    Ok(Some(read_done(alloc, operation, &children[..0])?))
 }
 
 /// Whether an item is a structure without children.

@@ -1,43 +1,43 @@
 //! The items of a request.
 
-ghost use Rattle.std.specs.Prelude.{◌≡◌, IfOk};
+ghost use Rattle.std.specs.Prelude.{◌≡◌};
 ghost use Rattle.kmipa_ttlv.specs.ViewTree.{view_tree, view_trees};
 ghost use Rattle.kmipa_attrs.specs.Fields.{every, at, as_structure};
-ghost use Rattle.kmipa_attrs.specs.Readings.{map_ok};
 ghost use Rattle.kmipa_attrs.specs.Tags.{batch_item, request_payload};
 ghost use Rattle.kmipa_msgs.specs.Messages.{asked_of, ask_of, asks_of};
 ghost use Rattle.kmipa_msgs.specs.Outside.{Gives, each_in, from_one};
-ghost use Rattle.kmipa_msgs.specs.Asks.{operation_in, form_in, payload_asked, ask_in};
+ghost use Rattle.kmipa_msgs.specs.Asks.{operation_in, form_in, payload_asked, ask_in, item_in, means_placeholder};
+ghost use Rattle.kmipa_msgs.specs.Yields.{Yields};
 
-use crate::fault::{Outside, ReadFault};
+use crate::fault::ReadFault;
 use crate::kind::OutsideKind;
 use crate::operation::Operation;
-use crate::reading::Read;
+use crate::reading::header::item_count;
 use crate::reading::operations::read_asked;
-use crate::reading::rows::of_table;
+use crate::reading::rows::both_read;
+use crate::reading::unread::Unread;
 use crate::request::{Ask, Asked};
+use kmipa_attrs::Field;
 use kmipa_attrs::fields::{as_structure, bytes_at, enumeration_at, inside, structure_at};
 use kmipa_attrs::tags::{BATCH_ITEM, OPERATION, REQUEST_PAYLOAD, UNIQUE_BATCH_ITEM_ID};
-use kmipa_attrs::{Field, both};
 use kmipa_ttlv::View;
 use std::alloc::Global;
 
 /// The items of a message with these children, up to the first that is outside.
-pub fn read_asks<'a>(alloc: Global, children: &[View<'a>]) -> Result<Vec<Ask<'a>>, ReadFault>
-    ensures { Gives asks_of result (from_one (each_in (λ place. ask_in) (every batch_item (view_trees children.now)))) }
+pub fn read_asks<'a>(
+    alloc: Global,
+    unordered: bool,
+    children: &[View<'a>],
+) -> Result<Vec<Ask<'a>>, ReadFault>
+    ensures { Gives asks_of result (from_one (each_in (λ place. item_in unordered) (every batch_item (view_trees children.now)))) }
 {
-    let mut asks = Vec::new(alloc);
+    let mut asks = Vec::with_capacity(alloc, item_count(children))?;
     let mut place = 0;
     for child in children {
         if child.tag.number == BATCH_ITEM {
-            match read_ask(alloc, child)? {
+            match read_item(alloc, unordered, child) {
                 Ok(ask) => asks.push(ask)?,
-                Err(kind) => {
-                    return Err(ReadFault::Outside(Outside {
-                        item: place + 1,
-                        kind,
-                    }));
-                }
+                Err(unread) => return Err(unread.at(place + 1)),
             }
             place += 1;
         }
@@ -45,28 +45,49 @@ pub fn read_asks<'a>(alloc: Global, children: &[View<'a>]) -> Result<Vec<Ask<'a>
     Ok(asks)
 }
 
-fn read_ask<'a>(alloc: Global, view: &View<'a>) -> Read<Ask<'a>>
-    ensures { IfOk result (λ r. map_ok ask_of r ≡ ask_in (view_tree view.now)) }
+/// An item of a request; in one without order no item may mean the ID Placeholder.
+fn read_item<'a>(alloc: Global, unordered: bool, view: &View<'a>) -> Result<Ask<'a>, Unread>
+    ensures { Yields ask_of result (item_in unordered (view_tree view.now)) }
 {
-    let Some(children) = as_structure(view) else {
-        return Ok(Err(OutsideKind::Missing));
-    };
-    let operation = match operation(children) {
-        Ok(operation) => operation,
-        Err(kind) => return Ok(Err(kind)),
-    };
-    let batch_id = bytes_at(children, UNIQUE_BATCH_ITEM_ID).value();
-    match read_request_payload(alloc, operation, children)? {
-        Ok(asked) => Ok(Ok(Ask { batch_id, asked })),
-        Err(kind) => Ok(Err(kind)),
+    let ask = read_ask(alloc, view)?;
+    if unordered && means_placeholder(&ask.asked) {
+        return Err(Unread::Outside(OutsideKind::Unordered));
     }
+    Ok(ask)
+}
+
+/// Whether an operation on an object names none, so that the ID Placeholder is meant.
+fn means_placeholder(asked: &Asked) -> bool
+    ensures { result ≡ means_placeholder (asked_of asked.now) }
+{
+    match asked {
+        Asked::Get(get) => get.id.is_none(),
+        Asked::GetAttributes(get) => get.id.is_none(),
+        Asked::Activate(activate) => activate.id.is_none(),
+        Asked::Revoke(revoke) => revoke.id.is_none(),
+        Asked::Destroy(destroy) => destroy.id.is_none(),
+        _ => false,
+    }
+}
+
+#[tactic(auto, unfolding(crate::specs::Asks::ask_in))]
+fn read_ask<'a>(alloc: Global, view: &View<'a>) -> Result<Ask<'a>, Unread>
+    ensures { Yields ask_of result (ask_in (view_tree view.now)) }
+{
+    let children = as_structure(view).ok_or(OutsideKind::Missing)?;
+    let operation = operation(children)?;
+    let asked = read_request_payload(alloc, operation, children)?;
+    Ok(Ask {
+        batch_id: bytes_at(children, UNIQUE_BATCH_ITEM_ID).value(),
+        asked,
+    })
 }
 
 fn operation(children: &[View]) -> Result<Operation, OutsideKind>
     ensures { result ≡ operation_in (view_trees children.now) }
 {
     match enumeration_at(children, OPERATION) {
-        Field::There(number) => of_table(Operation::of(number), OutsideKind::Operation),
+        Field::There(number) => Operation::of(number).ok_or(OutsideKind::Operation),
         _ => Err(OutsideKind::Missing),
     }
 }
@@ -76,15 +97,13 @@ fn read_request_payload<'a>(
     alloc: Global,
     operation: Operation,
     children: &[View<'a>],
-) -> Read<Asked<'a>>
-    ensures { IfOk result (λ r. map_ok asked_of r ≡ payload_asked operation (view_trees children.now)) }
+) -> Result<Asked<'a>, Unread>
+    ensures { Yields asked_of result (payload_asked operation (view_trees children.now)) }
 {
     let shape = payload_shape(operation, children);
-    let asked = read_asked(alloc, operation, inside(children, REQUEST_PAYLOAD))?;
-    match both(shape, asked) {
-        Ok((_, asked)) => Ok(Ok(asked)),
-        Err(kind) => Ok(Err(kind)),
-    }
+    let asked = read_asked(alloc, operation, inside(children, REQUEST_PAYLOAD));
+    let (_, asked) = both_read(shape, asked)?;
+    Ok(asked)
 }
 
 /// That a Request Payload is a structure, where it is read.

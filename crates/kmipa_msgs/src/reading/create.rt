@@ -1,18 +1,18 @@
 //! Create.
 
-ghost use Rattle.std.specs.Prelude.{◌≡◌, IfOk};
+ghost use Rattle.std.specs.Prelude.{◌≡◌};
 ghost use Rattle.kmipa_ttlv.specs.ViewTree.{view_trees};
 ghost use Rattle.kmipa_attrs.specs.Fields.{at, as_enumeration};
-ghost use Rattle.kmipa_attrs.specs.Readings.{map_ok};
 ghost use Rattle.kmipa_attrs.specs.Sets.{attributes_of};
 ghost use Rattle.kmipa_attrs.specs.Tags.{object_type_tag};
 ghost use Rattle.kmipa_msgs.specs.Tables.{listed};
 ghost use Rattle.kmipa_msgs.specs.Creates.{created_of, is_of_key, described_rows, new_key_in, create_in};
+ghost use Rattle.kmipa_msgs.specs.Yields.{Yields};
 
 use crate::kind::OutsideKind;
-use crate::reading::Read;
 use crate::reading::attributes::{agree, read_attributes, type_known};
-use crate::reading::rows::unless_absent;
+use crate::reading::rows::{both_read, unless_absent};
+use crate::reading::unread::Unread;
 use crate::request::Create;
 use kmipa_attrs::fields::{enumeration_at, inside};
 use kmipa_attrs::tags::{
@@ -24,31 +24,26 @@ use kmipa_ttlv::View;
 use std::alloc::Global;
 
 /// What the children of a Create's Request Payload ask for.
-pub fn read_create(alloc: Global, payload: &[View]) -> Read<Create>
-    ensures { IfOk result (λ r. map_ok (λ c. attributes_of c.attributes) r ≡ create_in (view_trees payload.now)) }
+#[tactic(auto, unfolding(crate::specs::Creates::create_in))]
+pub fn read_create(alloc: Global, payload: &[View]) -> Result<Create, Unread>
+    ensures { Yields (λ c. attributes_of c.attributes) result (create_in (view_trees payload.now)) }
 {
-    let attributes = match read_new_key(alloc, payload)? {
-        Ok(attributes) => attributes,
-        Err(kind) => return Ok(Err(kind)),
-    };
+    let attributes = read_new_key(alloc, payload)?;
     if !is_of_key(&attributes) {
-        return Ok(Err(OutsideKind::Disagree));
+        return Err(Unread::Outside(OutsideKind::Disagree));
     }
-    Ok(Ok(Create { attributes }))
+    Ok(Create { attributes })
 }
 
 /// The attributes of the new key, before its type is compared.
-fn read_new_key(alloc: Global, payload: &[View]) -> Read<AttrSet>
-    ensures { IfOk result (λ r. map_ok attributes_of r ≡ new_key_in (view_trees payload.now)) }
+fn read_new_key(alloc: Global, payload: &[View]) -> Result<AttrSet, Unread>
+    ensures { Yields attributes_of result (new_key_in (view_trees payload.now)) }
 {
     let given = inside(payload, ATTRIBUTES);
     let types = both(type_created(payload), type_known(given));
-    let described = described(given);
-    let attributes = read_attributes(alloc, payload, Side::Client)?;
-    match both(both(types, described), attributes) {
-        Ok((_, attributes)) => Ok(Ok(attributes)),
-        Err(kind) => Ok(Err(kind)),
-    }
+    let plain = both(types, described(given));
+    let (_, attributes) = both_read(plain, read_attributes(alloc, payload, Side::Client))?;
+    Ok(attributes)
 }
 
 /// The Object Type of what is created: a Symmetric Key.

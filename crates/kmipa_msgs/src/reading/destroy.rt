@@ -15,8 +15,7 @@ use kmipa_ttlv::View;
 pub fn read_destroy<'a>(payload: &[View<'a>]) -> Result<Destroy<'a>, OutsideKind>
     ensures { map_ok destroy_of result ≡ identifier_in (view_trees payload.now) }
 {
-    match read_identifier(payload) {
-        Ok(id) => Ok(Destroy { id }),
-        Err(kind) => Err(kind),
-    }
+    Ok(Destroy {
+        id: read_identifier(payload)?,
+    })
 }

@@ -22,15 +22,14 @@ use kmipa_attrs::{Field, ObjectType, both};
 use kmipa_ttlv::View;
 
 /// What the children of a Get's Request Payload ask for.
+#[tactic(auto, unfolding(crate::specs::Gets::get_in))]
 pub fn read_get<'a>(payload: &[View<'a>]) -> Result<Get<'a>, OutsideKind>
     ensures { map_ok id_of result ≡ get_in (view_trees payload.now) }
 {
     let unwrapped = unless_there(payload, KEY_WRAPPING_SPECIFICATION, OutsideKind::Wrapped);
     let id = text_at(payload, UNIQUE_IDENTIFIER).optional(OutsideKind::IdentifierForm);
-    match both(unwrapped, id) {
-        Ok((_, id)) => Ok(Get { id }),
-        Err(kind) => Err(kind),
-    }
+    let (_, id) = both(unwrapped, id)?;
+    Ok(Get { id })
 }
 
 /// What the children of a Get's Response Payload show.
@@ -40,25 +39,23 @@ pub fn read_got<'a>(payload: &[View<'a>]) -> Result<Got<'a>, OutsideKind>
     let id = text_at(payload, UNIQUE_IDENTIFIER).optional(OutsideKind::IdentifierForm);
     let types = both(type_shown(payload), read_shape(payload));
     let block = read_key_block(block_inside(payload));
-    match both(both(types, id), block) {
-        Ok((((object_type, shape), id), block)) => Ok(Got {
-            object_type,
-            id,
-            shape,
-            block,
-        }),
-        Err(kind) => Err(kind),
-    }
+    let (((object_type, shape), id), block) = both(both(types, id), block)?;
+    Ok(Got {
+        object_type,
+        id,
+        shape,
+        block,
+    })
 }
 
 fn type_shown(payload: &[View]) -> Result<Option<ObjectType>, OutsideKind>
     ensures { result ≡ maybe_listed (at as_enumeration object_type_tag (view_trees payload.now)) type_of OutsideKind.Missing OutsideKind.ObjectType }
 {
     match enumeration_at(payload, OBJECT_TYPE) {
-        Field::There(number) => match ObjectType::of(number) {
-            Some(object_type) => Ok(Some(object_type)),
-            None => Err(OutsideKind::ObjectType),
-        },
+        Field::There(number) => {
+            let object_type = ObjectType::of(number).ok_or(OutsideKind::ObjectType)?;
+            Ok(Some(object_type))
+        }
         Field::Absent => Ok(None),
         Field::Wrong => Err(OutsideKind::Missing),
     }

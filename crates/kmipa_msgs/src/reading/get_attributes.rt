@@ -2,15 +2,15 @@
 
 ghost use Rattle.std.specs.Prelude.{◌≡◌, ◌==◌, IfOk, count_by};
 ghost use Rattle.kmipa_ttlv.specs.ViewTree.{view_tree, view_trees};
-ghost use Rattle.kmipa_attrs.specs.Readings.{map_ok};
 ghost use Rattle.kmipa_attrs.specs.Tags.{unique_identifier};
 ghost use Rattle.kmipa_msgs.specs.Messages.{get_attributes_of, got_attributes_of};
 ghost use Rattle.kmipa_msgs.specs.GetsAttributes.{references, is_selective, as_reference, is_other, some_other, has_others, get_attributes_in, got_attributes_in};
+ghost use Rattle.kmipa_msgs.specs.Yields.{Yields};
 
-use crate::kind::OutsideKind;
-use crate::reading::Read;
 use crate::reading::attributes::{read_attributes, type_known};
 use crate::reading::identifier::read_identifier;
+use crate::reading::rows::both_read;
+use crate::reading::unread::Unread;
 use crate::request::GetAttributes;
 use crate::response::GotAttributes;
 use kmipa_attrs::fields::{as_enumeration, first, inside};
@@ -20,19 +20,19 @@ use kmipa_ttlv::View;
 use std::alloc::{AllocError, Global};
 
 /// What the children of a Get Attributes's Request Payload ask for.
-pub fn read_get_attributes<'a>(alloc: Global, payload: &[View<'a>]) -> Read<GetAttributes<'a>>
-    ensures { IfOk result (λ r. map_ok get_attributes_of r ≡ get_attributes_in (view_trees payload.now)) }
+#[tactic(auto, unfolding(crate::specs::GetsAttributes::get_attributes_in))]
+pub fn read_get_attributes<'a>(
+    alloc: Global,
+    payload: &[View<'a>],
+) -> Result<GetAttributes<'a>, Unread>
+    ensures { Yields get_attributes_of result (get_attributes_in (view_trees payload.now)) }
 {
-    let id = match read_identifier(payload) {
-        Ok(id) => id,
-        Err(kind) => return Ok(Err(kind)),
-    };
-    Ok(Ok(GetAttributes {
-        id,
+    Ok(GetAttributes {
+        id: read_identifier(payload)?,
         references: read_references(alloc, payload)?,
         is_selective: is_selective(payload),
         has_others: has_others(payload),
-    }))
+    })
 }
 
 /// The tags that Attribute References name as Enumerations.
@@ -102,14 +102,16 @@ fn is_other(view: &View) -> bool
 }
 
 /// What the children of a Get Attributes's Response Payload show.
-pub fn read_got_attributes<'a>(alloc: Global, payload: &[View<'a>]) -> Read<GotAttributes<'a>>
-    ensures { IfOk result (λ r. map_ok got_attributes_of r ≡ got_attributes_in (view_trees payload.now)) }
+#[tactic(auto, unfolding(crate::specs::GetsAttributes::got_attributes_in))]
+pub fn read_got_attributes<'a>(
+    alloc: Global,
+    payload: &[View<'a>],
+) -> Result<GotAttributes<'a>, Unread>
+    ensures { Yields got_attributes_of result (got_attributes_in (view_trees payload.now)) }
 {
     let type_known = type_known(inside(payload, ATTRIBUTES));
     let id = read_identifier(payload);
-    let attributes = read_attributes(alloc, payload, Side::Server)?;
-    match both(both(type_known, id), attributes) {
-        Ok(((_, id), attributes)) => Ok(Ok(GotAttributes { id, attributes })),
-        Err(kind) => Ok(Err(kind)),
-    }
+    let attributes = read_attributes(alloc, payload, Side::Server);
+    let ((_, id), attributes) = both_read(both(type_known, id), attributes)?;
+    Ok(GotAttributes { id, attributes })
 }

@@ -1,6 +1,6 @@
 //! What the headers of requests and responses share.
 
-ghost use Rattle.std.specs.Prelude.{◌≡◌, ◌==◌, count_by, pos};
+ghost use Rattle.std.specs.Prelude.{◌≡◌, ◌==◌, count_by};
 ghost use Rattle.kmipa_ttlv.specs.ViewTree.{view_tree, view_trees};
 ghost use Rattle.kmipa_attrs.specs.Tags.{batch_item};
 ghost use Rattle.kmipa_msgs.specs.Headers.{is_number, is_version, counts, is_count, Opens};

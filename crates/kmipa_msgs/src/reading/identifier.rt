@@ -23,8 +23,7 @@ pub fn read_identifier<'a>(payload: &[View<'a>]) -> Result<Option<&'a str>, Outs
 pub fn read_changed<'a>(payload: &[View<'a>]) -> Result<Changed<'a>, OutsideKind>
     ensures { map_ok changed_of result ≡ identifier_in (view_trees payload.now) }
 {
-    match read_identifier(payload) {
-        Ok(id) => Ok(Changed { id }),
-        Err(kind) => Err(kind),
-    }
+    Ok(Changed {
+        id: read_identifier(payload)?,
+    })
 }

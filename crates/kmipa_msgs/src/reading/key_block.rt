@@ -12,7 +12,7 @@ ghost use Rattle.kmipa_msgs.specs.KeyBlocks.{block_in};
 
 use crate::key_block::{KeyBlock, KeyFormat};
 use crate::kind::OutsideKind;
-use crate::reading::rows::{of_table, unless_there};
+use crate::reading::rows::unless_there;
 use kmipa_attrs::fields::{bytes_at, enumeration_at, inside, integer_at, structure_at};
 use kmipa_attrs::tags::{
     CRYPTOGRAPHIC_ALGORITHM, CRYPTOGRAPHIC_LENGTH, KEY_FORMAT_TYPE, KEY_MATERIAL, KEY_VALUE,
@@ -22,6 +22,7 @@ use kmipa_attrs::{Field, both};
 use kmipa_ttlv::View;
 
 /// The key that the children of a Key Block say.
+#[tactic(auto, unfolding(crate::specs::KeyBlocks::block_in))]
 pub fn read_key_block<'a>(block: &[View<'a>]) -> Result<KeyBlock<'a>, OutsideKind>
     ensures { map_ok block_of result ≡ block_in (view_trees block.now) }
 {
@@ -39,22 +40,20 @@ pub fn read_key_block<'a>(block: &[View<'a>]) -> Result<KeyBlock<'a>, OutsideKin
         ),
         material,
     );
-    match rows {
-        Ok(((((format, algorithm), length), _), material)) => Ok(KeyBlock {
-            format,
-            material,
-            algorithm,
-            length,
-        }),
-        Err(kind) => Err(kind),
-    }
+    let ((((format, algorithm), length), _), material) = rows?;
+    Ok(KeyBlock {
+        format,
+        material,
+        algorithm,
+        length,
+    })
 }
 
 fn format(block: &[View]) -> Result<KeyFormat, OutsideKind>
     ensures { result ≡ listed (at as_enumeration key_format_type (view_trees block.now)) format_of OutsideKind.Missing OutsideKind.Format }
 {
     match enumeration_at(block, KEY_FORMAT_TYPE) {
-        Field::There(number) => of_table(KeyFormat::of(number), OutsideKind::Format),
+        Field::There(number) => KeyFormat::of(number).ok_or(OutsideKind::Format),
         _ => Err(OutsideKind::Missing),
     }
 }

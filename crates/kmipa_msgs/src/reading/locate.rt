@@ -1,42 +1,40 @@
 //! Locate and its answer.
 
-ghost use Rattle.std.specs.Prelude.{◌≡◌, ◌==◌, IfOk, count_by};
+ghost use Rattle.std.specs.Prelude.{◌≡◌, ◌==◌, count_by};
 ghost use Rattle.std.specs.List.{list_any};
 ghost use Rattle.kmipa_ttlv.specs.ViewTree.{view_trees};
 ghost use Rattle.kmipa_attrs.specs.Fields.{at, as_structure};
 ghost use Rattle.kmipa_attrs.specs.Filters.{filter_of, filter_in, is_repeated};
-ghost use Rattle.kmipa_attrs.specs.Readings.{map_ok};
 ghost use Rattle.kmipa_attrs.specs.Tags.{attributes_tag};
 ghost use Rattle.kmipa_msgs.specs.Messages.{locate_of, located_of};
 ghost use Rattle.kmipa_msgs.specs.Tables.{unless_wrong};
 ghost use Rattle.kmipa_msgs.specs.Locates.{is_unknown, some_unknown, has_unknown, filter_kind, locate_in, located_in};
+ghost use Rattle.kmipa_msgs.specs.Yields.{Yields};
 
 use crate::kind::OutsideKind;
-use crate::reading::Read;
 use crate::reading::attributes::type_known;
-use crate::reading::rows::unless_wrong;
+use crate::reading::rows::{both_read, unless_wrong};
+use crate::reading::unread::Unread;
 use crate::request::Locate;
 use crate::response::Located;
 use kmipa_attrs::fields::{as_text, inside, integer_at, structure_at};
 use kmipa_attrs::tags::{ATTRIBUTES, MAXIMUM_ITEMS, UNIQUE_IDENTIFIER};
-use kmipa_attrs::{AttrFault, Field, Filter, both, read_filter_children};
+use kmipa_attrs::{Field, Filter, both, read_filter_children};
 use kmipa_ttlv::View;
-use std::alloc::{AllocError, Global};
+use std::alloc::Global;
 
 /// What the children of a Locate's Request Payload ask for.
-pub fn read_locate(alloc: Global, payload: &[View]) -> Read<Locate>
-    ensures { IfOk result (λ r. map_ok locate_of r ≡ locate_in (view_trees payload.now)) }
+pub fn read_locate(alloc: Global, payload: &[View]) -> Result<Locate, Unread>
+    ensures { Yields locate_of result (locate_in (view_trees payload.now)) }
 {
     let given = inside(payload, ATTRIBUTES);
     let maximum = integer_at(payload, MAXIMUM_ITEMS);
     let count = unless_wrong(maximum, OutsideKind::Missing);
     let shape = both(count, attributes_shape(payload));
     let plain = both(shape, type_known(given));
-    let filter = sought(alloc, given, maximum.value(), has_unknown(payload))?;
-    match both(plain, filter) {
-        Ok((_, filter)) => Ok(Ok(Locate { filter })),
-        Err(kind) => Ok(Err(kind)),
-    }
+    let filter = sought(alloc, given, maximum.value(), has_unknown(payload));
+    let (_, filter) = both_read(plain, filter)?;
+    Ok(Locate { filter })
 }
 
 /// That Attributes are a structure, where they are there.
@@ -55,14 +53,10 @@ fn sought(
     attributes: &[View],
     maximum: Option<i32>,
     is_unknown: bool,
-) -> Read<Filter>
-    ensures { IfOk result (λ r. map_ok filter_of r ≡ filter_kind (filter_in maximum is_unknown (view_trees attributes.now))) }
+) -> Result<Filter, Unread>
+    ensures { Yields filter_of result (filter_kind (filter_in maximum is_unknown (view_trees attributes.now))) }
 {
-    match read_filter_children(alloc, attributes, maximum, is_unknown) {
-        Ok(filter) => Ok(Ok(filter)),
-        Err(AttrFault::Memory) => Err(AllocError),
-        Err(_) => Ok(Err(OutsideKind::Attribute)),
-    }
+    Ok(read_filter_children(alloc, attributes, maximum, is_unknown)?)
 }
 
 /// Whether there is an item beside one Maximum Items and one Attributes.
@@ -110,17 +104,17 @@ fn is_unknown(tag: u32) -> bool
 }
 
 /// The identifiers that the children of a Locate's Response Payload list.
-pub fn read_located<'a>(alloc: Global, payload: &[View<'a>]) -> Read<Located<'a>>
-    ensures { IfOk result (λ r. map_ok located_of r ≡ located_in (view_trees payload.now)) }
+pub fn read_located<'a>(alloc: Global, payload: &[View<'a>]) -> Result<Located<'a>, Unread>
+    ensures { Yields located_of result (located_in (view_trees payload.now)) }
 {
     let mut ids = Vec::new(alloc);
     for child in payload {
         if child.tag.number == UNIQUE_IDENTIFIER {
             let Some(id) = as_text(child) else {
-                return Ok(Err(OutsideKind::IdentifierForm));
+                return Err(Unread::Outside(OutsideKind::IdentifierForm));
             };
             ids.push(id)?;
         }
     }
-    Ok(Ok(Located { ids }))
+    Ok(Located { ids })
 }

@@ -16,10 +16,8 @@ use kmipa_ttlv::View;
 pub fn read_shape(payload: &[View]) -> Result<ObjectType, OutsideKind>
     ensures { result ≡ needed (shape_in (view_trees payload.now)) OutsideKind.Missing OutsideKind.Missing }
 {
-    match object(payload) {
-        Some(view) => Ok(shape_of(view.tag.number)),
-        None => Err(OutsideKind::Missing),
-    }
+    let view = object(payload).ok_or(OutsideKind::Missing)?;
+    Ok(shape_of(view.tag.number))
 }
 
 /// The children of the object's Key Block.

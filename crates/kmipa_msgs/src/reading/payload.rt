@@ -1,16 +1,15 @@
 //! Response Payloads.
 
-ghost use Rattle.std.specs.Prelude.{◌≡◌, IfOk};
 ghost use Rattle.kmipa_ttlv.specs.ViewTree.{view_tree};
-ghost use Rattle.kmipa_attrs.specs.Readings.{map_ok};
 ghost use Rattle.kmipa_msgs.specs.Messages.{ask_of, payload_of};
 ghost use Rattle.kmipa_msgs.specs.Payloads.{TellsPayload, payload_in};
+ghost use Rattle.kmipa_msgs.specs.Yields.{Yields};
 
-use crate::fault::{Outside, ReadFault};
+use crate::fault::ReadFault;
 use crate::kind::OutsideKind;
 use crate::operation::Operation;
-use crate::reading::Read;
 use crate::reading::operations::read_done;
+use crate::reading::unread::Unread;
 use crate::request::Ask;
 use crate::response::Payload;
 use kmipa_attrs::fields::as_structure;
@@ -27,9 +26,9 @@ pub fn read_payload<'a>(
 ) -> Result<Payload<'a>, ReadFault>
     ensures { TellsPayload (view_tree payload.now) (ask_of ask.now) result }
 {
-    match read_payload_of(alloc, ask.operation(), payload)? {
+    match read_payload_of(alloc, ask.operation(), payload) {
         Ok(payload) => Ok(payload),
-        Err(kind) => Err(ReadFault::Outside(Outside { item: 0, kind })),
+        Err(unread) => Err(unread.at(0)),
     }
 }
 
@@ -38,11 +37,9 @@ pub(super) fn read_payload_of<'a>(
     alloc: Global,
     operation: Operation,
     payload: &View<'a>,
-) -> Read<Payload<'a>>
-    ensures { IfOk result (λ r. map_ok payload_of r ≡ payload_in operation (view_tree payload.now)) }
+) -> Result<Payload<'a>, Unread>
+    ensures { Yields payload_of result (payload_in operation (view_tree payload.now)) }
 {
-    match as_structure(payload) {
-        Some(children) => read_done(alloc, operation, children),
-        None => Ok(Err(OutsideKind::Missing)),
-    }
+    let children = as_structure(payload).ok_or(OutsideKind::Missing)?;
+    read_done(alloc, operation, children)
 }

@@ -6,13 +6,12 @@ ghost use Rattle.kmipa_attrs.specs.Fields.{at, as_enumeration, as_boolean};
 ghost use Rattle.kmipa_attrs.specs.Tags.{batch_error_continuation_option, batch_order_option};
 ghost use Rattle.kmipa_msgs.specs.Messages.{request_of};
 ghost use Rattle.kmipa_msgs.specs.Outside.{Gives};
-ghost use Rattle.kmipa_msgs.specs.Requests.{TellsRequest, option_in, order_in, in_order, order_said, request_in};
+ghost use Rattle.kmipa_msgs.specs.Requests.{TellsRequest, is_loose, option_in, order_in, order_said, request_in};
 
-use crate::fault::{Outside, ReadFault};
+use crate::fault::ReadFault;
 use crate::kind::OutsideKind;
 use crate::reading::ask::read_asks;
 use crate::reading::header::{is_count, is_version, item_count, message_parts};
-use crate::reading::rows::of_table;
 use crate::request::{BatchOption, Request};
 use kmipa_attrs::fields::{boolean_at, enumeration_at};
 use kmipa_attrs::tags::{
@@ -34,17 +33,12 @@ pub fn read_request<'a>(alloc: Global, message: &View<'a>) -> Result<Request<'a>
 fn request<'a>(alloc: Global, message: &View<'a>) -> Result<Request<'a>, ReadFault>
     ensures { Gives request_of result (request_in (view_tree message.now)) }
 {
-    let Some((children, header)) = message_parts(message, REQUEST_MESSAGE, REQUEST_HEADER) else {
-        return Err(ReadFault::Outside(Outside {
-            item: 0,
-            kind: OutsideKind::NotAMessage,
-        }));
-    };
-    let (option, ordered) = match request_header(header, item_count(children)) {
-        Ok(said) => said,
-        Err(kind) => return Err(ReadFault::Outside(Outside { item: 0, kind })),
-    };
-    let items = read_asks(alloc, children)?;
+    let parts = message_parts(message, REQUEST_MESSAGE, REQUEST_HEADER);
+    let (children, header) = parts.ok_or(OutsideKind::NotAMessage)?;
+    let count = item_count(children);
+    let (option, ordered) = request_header(header, count)?;
+    let unordered = is_loose(header, count);
+    let items = read_asks(alloc, unordered, children)?;
     Ok(Request {
         option,
         ordered,
@@ -52,14 +46,13 @@ fn request<'a>(alloc: Global, message: &View<'a>) -> Result<Request<'a>, ReadFau
     })
 }
 
-/// What a header says before so many items: the option, and whether they are in order.
+/// What a header says before so many items: the option, and whether they are to be done in order.
 fn request_header(header: &[View], items: usize) -> Result<(BatchOption, bool), OutsideKind>
     ensures { result ≡ order_said (view_trees header.now) items }
 {
     let version = passing(is_version(header), (), OutsideKind::Version);
     let count = passing(is_count(header, items), (), OutsideKind::Count);
-    let order = passing(in_order(header, items), (), OutsideKind::Unordered);
-    let plain = both(version, both(count, order));
+    let plain = both(version, count);
     let said = both(batch_option(header), ordered(header));
     match both(plain, said) {
         Ok((_, said)) => Ok(said),
@@ -72,7 +65,7 @@ fn batch_option(header: &[View]) -> Result<BatchOption, OutsideKind>
     ensures { result ≡ option_in (at as_enumeration batch_error_continuation_option (view_trees header.now)) }
 {
     match enumeration_at(header, BATCH_ERROR_CONTINUATION_OPTION) {
-        Field::There(number) => of_table(BatchOption::of(number), OutsideKind::Missing),
+        Field::There(number) => BatchOption::of(number).ok_or(OutsideKind::Missing),
         Field::Absent => Ok(BatchOption::Stop),
         Field::Wrong => Err(OutsideKind::Missing),
     }
@@ -89,12 +82,12 @@ fn ordered(header: &[View]) -> Result<bool, OutsideKind>
     }
 }
 
-/// Whether there aren't several items in no order.
-fn in_order(header: &[View], items: usize) -> bool
-    ensures { result ≡ in_order (at as_boolean batch_order_option (view_trees header.now)) items }
+/// Whether there are several items in no order.
+fn is_loose(header: &[View], items: usize) -> bool
+    ensures { result ≡ is_loose (at as_boolean batch_order_option (view_trees header.now)) items }
 {
     match boolean_at(header, BATCH_ORDER_OPTION) {
-        Field::There(false) => items < 2,
-        _ => true,
+        Field::There(false) => items > 1,
+        _ => false,
     }
 }

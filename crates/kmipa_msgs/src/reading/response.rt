@@ -6,7 +6,7 @@ ghost use Rattle.kmipa_msgs.specs.Messages.{request_of, response_of};
 ghost use Rattle.kmipa_msgs.specs.Outside.{Gives};
 ghost use Rattle.kmipa_msgs.specs.Responses.{TellsResponse, stamp_said, response_in};
 
-use crate::fault::{Outside, ReadFault};
+use crate::fault::ReadFault;
 use crate::kind::OutsideKind;
 use crate::reading::answer::read_answers;
 use crate::reading::header::{is_count, is_version, item_count, message_parts};
@@ -38,29 +38,21 @@ fn response<'a>(
 ) -> Result<Response<'a>, ReadFault>
     ensures { Gives response_of result (response_in (view_tree message.now) (request_of request.now)) }
 {
-    let Some((children, header)) = message_parts(message, RESPONSE_MESSAGE, RESPONSE_HEADER) else {
-        return Err(ReadFault::Outside(Outside {
-            item: 0,
-            kind: OutsideKind::NotAMessage,
-        }));
-    };
-    let stamp = match response_header(header, item_count(children)) {
-        Ok(stamp) => stamp,
-        Err(kind) => return Err(ReadFault::Outside(Outside { item: 0, kind })),
-    };
+    let parts = message_parts(message, RESPONSE_MESSAGE, RESPONSE_HEADER);
+    let (children, header) = parts.ok_or(OutsideKind::NotAMessage)?;
+    let stamp = response_header(header, item_count(children))?;
     let items = read_answers(alloc, children, &request.items)?;
     Ok(Response { stamp, items })
 }
 
 /// The Time Stamp of a header before so many items.
+#[tactic(auto, unfolding(crate::specs::Responses::stamp_said))]
 fn response_header(header: &[View], items: usize) -> Result<i64, OutsideKind>
     ensures { result ≡ stamp_said (view_trees header.now) items }
 {
     let version = passing(is_version(header), (), OutsideKind::Version);
     let count = passing(is_count(header, items), (), OutsideKind::Count);
     let stamp = date_at(header, TIME_STAMP).needed(OutsideKind::Missing, OutsideKind::Missing);
-    match both(both(version, count), stamp) {
-        Ok((_, stamp)) => Ok(stamp),
-        Err(kind) => Err(kind),
-    }
+    let (_, stamp) = both(both(version, count), stamp)?;
+    Ok(stamp)
 }

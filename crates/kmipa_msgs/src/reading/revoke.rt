@@ -15,6 +15,7 @@ use kmipa_attrs::tags::{REVOCATION_REASON, REVOCATION_REASON_CODE};
 use kmipa_ttlv::View;
 
 /// What the children of a Revoke's Request Payload ask for.
+#[tactic(auto, unfolding(crate::specs::Revokes::revoke_in))]
 pub fn read_revoke<'a>(payload: &[View<'a>]) -> Result<Revoke<'a>, OutsideKind>
     ensures { map_ok revoke_of result ≡ revoke_in (view_trees payload.now) }
 {
@@ -24,8 +25,6 @@ pub fn read_revoke<'a>(payload: &[View<'a>]) -> Result<Revoke<'a>, OutsideKind>
         OutsideKind::Missing,
     );
     let id = read_identifier(payload);
-    match both(code, id) {
-        Ok((code, id)) => Ok(Revoke { id, code }),
-        Err(kind) => Err(kind),
-    }
+    let (code, id) = both(code, id)?;
+    Ok(Revoke { id, code })
 }

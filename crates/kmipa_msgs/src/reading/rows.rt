@@ -3,22 +3,14 @@
 ghost use Rattle.std.specs.Prelude.{◌≡◌};
 ghost use Rattle.kmipa_ttlv.specs.ViewTree.{view_trees};
 ghost use Rattle.kmipa_attrs.specs.Fields.{first};
-ghost use Rattle.kmipa_msgs.specs.Tables.{of_table, unless_there, unless_absent, unless_wrong};
+ghost use Rattle.kmipa_msgs.specs.Tables.{unless_there, unless_absent, unless_wrong};
+ghost use Rattle.kmipa_msgs.specs.Yields.{both_read};
 
 use crate::kind::OutsideKind;
-use kmipa_attrs::Field;
+use crate::reading::unread::Unread;
 use kmipa_attrs::fields::first;
+use kmipa_attrs::{Field, both};
 use kmipa_ttlv::View;
-
-/// The value that a number has in a table, else the kind.
-pub fn of_table<T: Copy>(value: Option<T>, off: OutsideKind) -> Result<T, OutsideKind>
-    ensures { result ≡ of_table value off }
-{
-    match value {
-        Some(value) => Ok(value),
-        None => Err(off),
-    }
-}
 
 /// That no child has the tag.
 pub fn unless_there(children: &[View], tag: u32, kind: OutsideKind) -> Result<(), OutsideKind>
@@ -48,4 +40,19 @@ pub fn unless_wrong<T: Copy>(field: Field<T>, kind: OutsideKind) -> Result<(), O
         Field::Wrong => Err(kind),
         Field::Absent | Field::There(_) => Ok(()),
     }
+}
+
+/// Both values, else the lower of the reasons; want of memory stands before either.
+pub fn both_read<A: Drop, B: Drop>(
+    plain: Result<A, OutsideKind>,
+    read: Result<B, Unread>,
+) -> Result<(A, B), Unread>
+    ensures { result ≡ both_read plain read }
+{
+    let read = match read {
+        Ok(value) => Ok(value),
+        Err(Unread::Outside(kind)) => Err(kind),
+        Err(Unread::Memory) => return Err(Unread::Memory),
+    };
+    Ok(both(plain, read)?)
 }

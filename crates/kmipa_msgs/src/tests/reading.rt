@@ -33,8 +33,8 @@ const BAD_REQUESTS: [Row; 44] = [
     (&[(59, 0x02)], 0, OutsideKind::Missing),
     // Batch Order Option as a Long Integer
     (&[(75, 0x03)], 0, OutsideKind::Missing),
-    // Batch Order Option False with two items
-    (&[(87, 0x00)], 0, OutsideKind::Unordered),
+    // Batch Order Option False with two items, the second of which means the ID Placeholder
+    (&[(87, 0x00), (410, 0x95)], 2, OutsideKind::Unordered),
     // a Batch Item that is a Byte String
     (&[(107, 0x08)], 1, OutsideKind::Missing),
     // Operation as an Integer
@@ -98,7 +98,7 @@ const BAD_REQUESTS: [Row; 44] = [
     // two kinds of the message itself
     (&[(99, 0x01), (35, 0x03)], 0, OutsideKind::Version),
     // the message itself and an item
-    (&[(87, 0x00), (163, 0x01)], 0, OutsideKind::Unordered),
+    (&[(35, 0x03), (163, 0x01)], 0, OutsideKind::Version),
 ];
 
 const BAD_RESPONSES: [Row; 25] = [
@@ -155,7 +155,9 @@ const BAD_RESPONSES: [Row; 25] = [
 ];
 
 // Changes that leave a message inside.
-const GOOD_REQUESTS: [&[(usize, u8)]; 10] = [
+const GOOD_REQUESTS: [&[(usize, u8)]; 11] = [
+    // Batch Order Option False with two items
+    &[(87, 0x00)],
     // no Batch Error Continuation Option
     &[(58, 0x0C)],
     // no Batch Order Option

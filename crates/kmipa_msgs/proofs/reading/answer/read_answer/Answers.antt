@@ -1,40 +1,37 @@
-use Rattle.kmipa_ttlv.specs.ViewTree.{view_tree, view_trees}
-use Rattle.std.proofs.Common.{◌∙◌, sym, ap, refl}
+use Rattle.std.proofs.Common.{◌∙◌, ap, refl, rules, sym}
+use Rattle.std.proofs.lemmas.Result.{err_from_is_err_and}
 use Rattle.std.specs.Option.{option_map}
+use Rattle.kmipa_ttlv.specs.ViewTree.{view_tree, view_trees}
 use Rattle.kmipa_attrs.specs.Fields.{at, value_in, as_bytes, as_enumeration}
-use Rattle.kmipa_attrs.specs.Readings.{map_ok}
 use Rattle.kmipa_attrs.specs.Tags.{operation_tag, result_reason, unique_batch_item_id}
 use Rattle.kmipa_msgs.specs.declared.kind.OutsideKind.TheVariants.{Missing}
 use Rattle.kmipa_msgs.specs.Kinds.{kind_number}
-use Rattle.kmipa_msgs.specs.Messages.{lent, maybe_lent, ask_of}
-use Rattle.kmipa_msgs.specs.Replies.{own, outcome_in}
-use Rattle.kmipa_msgs.proofs.ViewLemmas.{joined, optional_row, value_seen}
+use Rattle.kmipa_msgs.specs.Messages.{ask_of, answer_of}
+use Rattle.kmipa_msgs.specs.Replies.{own, outcome_in, outcome_of, answer_in}
+use Rattle.kmipa_msgs.proofs.ViewLemmas.{joined, optional_row}
 use Rattle.kmipa_msgs.proofs.ReplyLemmas.{no_answer, answer_view, seen_answer}
+use Rattle.kmipa_msgs.proofs.YieldsLemmas.{kind_left, yields_both, yields_err}
 use Rattle.kmipa_msgs.proofs.reading.answer.read_answer.Goals as goal
 
-pub returns-in_default : goal.returns-in_default
-returns-in_default c = no_answer (option_map (λ a. ask_of a.now) c.args.ask) (view_tree c.args.view.now) c.in_default.ensures
+pub returns-in_err-children : goal.returns-in_err-children
+returns-in_err-children c =
+    let t = view_tree c.args.view.now in
+    let none = sym (ap (option_map (λ vs. view_trees vs.now)) c.in_err-children.ensures.ok_part) ∙ c.as_structure.ensures in
+    let kind = kind_left c.as_structure.result Missing c.in_err-children.field-0.0 c.in_err-children.ensures.value in
+    let p = err_from_is_err_and c.from_residual.result c.from_residual.ensures.1 in
+    rw (p.1, p.2, kind) (no_answer (option_map (λ a. ask_of a.now) c.args.ask) t none)
 
-pub returns-in-Ok : goal.returns-in-Ok
-returns-in-Ok c =
+pub returns-in_err-operation : goal.returns-in_err-operation
+returns-in_err-operation c =
     let a = option_map (λ a. ask_of a.now) c.args.ask in
-    let ts = view_trees c.in-Some.children.now in
-    let batch = maybe_lent c.value.result in
-    let named = optional_row c.enumeration_at-2.result (at as_enumeration operation_tag ts) Missing c.optional-operation.result c.optional-operation.ensures c.enumeration_at-2.ensures in
-    let reason = optional_row c.enumeration_at-3.result (at as_enumeration result_reason ts) Missing c.optional-reason.result c.optional-reason.ensures c.enumeration_at-3.ensures in
-    let plain = joined kind_number _ _ c.both.result _ _ c.both.ensures named reason in
-    let outcome = c.in_ok-outcome.ensures ∙ ap (λ o. outcome_in o ts) (c.own_operation-own.ensures ∙ ap (own a) c.enumeration_at.ensures) in
-    ap (map_ok (answer_view batch)) (sym c.in-Ok.is)
-    ∙ seen_answer a (view_tree c.args.view.now) ts batch c.both.result c.in_ok-outcome.outcome c.both-2.result c.in-Some.ensures (value_seen lent c.bytes_at.result (at as_bytes unique_batch_item_id ts) c.value.result c.value.ensures c.bytes_at.ensures) c.both-2.ensures plain outcome
-
-pub returns-in-Err : goal.returns-in-Err
-returns-in-Err c =
-    let a = option_map (λ a. ask_of a.now) c.args.ask in
-    let ts = view_trees c.in-Some.children.now in
+    let t = view_tree c.args.view.now in
+    let ts = view_trees c.in_ok-children.children.now in
     let batch = value_in (at as_bytes unique_batch_item_id ts) in
     let named = optional_row c.enumeration_at-2.result (at as_enumeration operation_tag ts) Missing c.optional-operation.result c.optional-operation.ensures c.enumeration_at-2.ensures in
     let reason = optional_row c.enumeration_at-3.result (at as_enumeration result_reason ts) Missing c.optional-reason.result c.optional-reason.ensures c.enumeration_at-3.ensures in
     let plain = joined kind_number _ _ c.both.result _ _ c.both.ensures named reason in
-    let outcome = c.in_ok-outcome.ensures ∙ ap (λ o. outcome_in o ts) (c.own_operation-own.ensures ∙ ap (own a) c.enumeration_at.ensures) in
-    ap (map_ok (answer_view batch)) (sym c.in-Err.is)
-    ∙ seen_answer a (view_tree c.args.view.now) ts batch c.both.result c.in_ok-outcome.outcome c.both-2.result c.in-Some.ensures refl c.both-2.ensures plain outcome
+    let there = sym (ap (option_map (λ vs. view_trees vs.now)) c.in_ok-children.ensures.ok_part) ∙ c.as_structure.ensures in
+    let read =
+    yields_both outcome_of (answer_view batch) c.both.result c.read_outcome-outcome.result c.both_read.result (outcome_in c.own_operation-own.result ts) (answer_in a t) c.both_read.ensures c.read_outcome-outcome.ensures
+    (λ outcome g rows e. seen_answer a t ts batch c.both.result outcome rows there refl e plain (g ∙ ap (λ o. outcome_in o ts) (c.own_operation-own.ensures ∙ ap (own a) c.enumeration_at.ensures))) in
+    yields_err (answer_view batch) answer_of c.both_read.result c.in_err-operation.field-0.0 c.from_residual-in_err-operation.result (answer_in a t) read c.in_err-operation.was (search rules)

@@ -1,18 +1,21 @@
 use Rattle.std.proofs.Common.{◌∙◌, ◌+◌, sym, ap, map, length, ℕ, Vec, Global, Result, List, arith}
 use Rattle.std.specs.List.{slice_get}
+use Rattle.std.specs.Option.{option_map}
 use Rattle.kmipa_ttlv.specs.Tree.{Tree}
-use Rattle.kmipa_ttlv.specs.ViewTree.{view_tree}
-use Rattle.kmipa_attrs.specs.Readings.{map_ok}
+use Rattle.kmipa_ttlv.specs.ViewTree.{view_tree, view_trees}
+use Rattle.kmipa_attrs.specs.Fields.{every}
+use Rattle.kmipa_attrs.specs.Tags.{batch_item}
 use Rattle.kmipa_msgs.specs.declared.kind.OutsideKind.{OutsideKind}
 use Rattle.kmipa_msgs.specs.declared.request.Ask.{Ask}
 use Rattle.kmipa_msgs.specs.declared.response.Answer.{Answer}
 use Rattle.kmipa_msgs.specs.Messages.{AnswerOf, ask_of, answer_of, answers_of}
 use Rattle.kmipa_msgs.specs.Replies.{answer_in}
-use Rattle.kmipa_msgs.specs.Outside.{from_one}
+use Rattle.kmipa_msgs.specs.Outside.{each_in, from_one}
 use Rattle.kmipa_msgs.proofs.ItemLemmas.{split_items, items_passed, items_found, items_faulty, items_done, meaning_more, length_more}
 use Rattle.kmipa_msgs.proofs.ReplyLemmas.{asked_at}
+use Rattle.kmipa_msgs.proofs.YieldsLemmas.{gives_unread}
 use Rattle.kmipa_msgs.proofs.reading.answer.read_answers.Goals as goal
-use Rattle.kmipa_msgs.proofs.reading.answer.read_answers.Goals.{then-child-eq-BATCH_ITEM+in_ok-answer+in-Ok+in_ok-push-in-Ok, else-child-eq-BATCH_ITEM}
+use Rattle.kmipa_msgs.proofs.reading.answer.read_answers.Goals.{then-child-eq-BATCH_ITEM+in-Ok+in_ok-push-in-Ok, else-child-eq-BATCH_ITEM}
 
 abbrev read : List Ask → ℕ → Tree → Result AnswerOf OutsideKind
 read asks place = answer_in (slice_get (map ask_of asks) place)
@@ -21,9 +24,11 @@ pub returns-in-Err : goal.returns-in-Err
 returns-in-Err c =
     let t = view_tree c.child-item.result in
     let asks = c.args.asks.now in
-    ap from_one c.loop-child.invariant.0
-    ∙ items_faulty (read asks) (answers_of c.loop-child.answers) c.loop-child.place c.in-Err.kind c.loop-child.child-index c.args.children.now c.child-item.result c.loop-child-test.true c.child-item.is c.if-child-eq-BATCH_ITEM.true
-    (ap (map_ok answer_of) (sym c.in-Err.is) ∙ c.in_ok-answer.ensures ∙ ap (λ a. answer_in a t) (asked_at asks c.loop-child.place c.get.result c.get.ensures.lookup) ∙ ap (λ n. read asks n t) c.loop-child.invariant.1) c.loop-child.invariant.1
+    let whole = from_one (each_in (read asks) (every batch_item (view_trees c.args.children.now))) in
+    rw c.at.ensures (gives_unread answers_of answer_of (c.loop-child.place + 1) c.in-Err.unread (answer_in (option_map (λ a. ask_of a.now) c.get.result) t) whole c.in-Err.ensures
+    (λ k e. ap from_one c.loop-child.invariant.0
+    ∙ items_faulty (read asks) (answers_of c.loop-child.answers) c.loop-child.place k c.loop-child.child-index c.args.children.now c.child-item.result c.loop-child-test.true c.child-item.is c.if-child-eq-BATCH_ITEM.true
+    (e ∙ ap (λ a. answer_in a t) (asked_at asks c.loop-child.place c.get.result c.get.ensures.lookup) ∙ ap (λ n. read asks n t) c.loop-child.invariant.1) c.loop-child.invariant.1))
 
 pub loop-child-preserved : goal.loop-child-preserved
 loop-child-preserved c =
@@ -33,11 +38,11 @@ loop-child-preserved c =
     let i = c.loop-child.child-index in
     let xs = answers_of c.loop-child.answers in
     elim c.if-child-eq-BATCH_ITEM.branch [
-      | then-child-eq-BATCH_ITEM+in_ok-answer+in-Ok+in_ok-push-in-Ok w ↦
+      | then-child-eq-BATCH_ITEM+in-Ok+in_ok-push-in-Ok w ↦
           let more = meaning_more answer_of c.loop-child.answers.items c.if-child-eq-BATCH_ITEM.answers.items w.in-Ok.answer (ap (λ (v : Vec Answer Global). v.items) w.answers-is ∙ w.in_ok-push-in-Ok.ensures.items) in (
             c.loop-child.invariant.0
                 ∙ items_found (read asks) xs (answers_of c.if-child-eq-BATCH_ITEM.answers) (answer_of w.in-Ok.answer) i vs c.child-item.result c.loop-child-test.true c.child-item.is w.if-child-eq-BATCH_ITEM.true
-                (ap (map_ok answer_of) (sym w.in-Ok.is) ∙ w.in_ok-answer.ensures ∙ ap (λ a. answer_in a t) (asked_at asks c.loop-child.place w.get.result w.get.ensures.lookup) ∙ ap (λ n. read asks n t) c.loop-child.invariant.1) more,
+                (w.in-Ok.ensures ∙ ap (λ a. answer_in a t) (asked_at asks c.loop-child.place w.get.result w.get.ensures.lookup) ∙ ap (λ n. read asks n t) c.loop-child.invariant.1) more,
             w.place-is ∙ length_more xs (answers_of c.if-child-eq-BATCH_ITEM.answers) (answer_of w.in-Ok.answer) c.loop-child.place more c.loop-child.invariant.1,
             omega (arith, w.place-is, c.loop-child.invariant.2),
           )

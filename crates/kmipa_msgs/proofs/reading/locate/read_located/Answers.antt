@@ -1,4 +1,4 @@
-use Rattle.std.proofs.Common.{◌∙◌, ◌++◌, ◌∷◌, [], List, ℕ, Vec, Global, sym, ap, drop, map, ◌+◌}
+use Rattle.std.proofs.Common.{◌∙◌, ◌∷◌, [], List, ℕ, Vec, Global, sym, ap, drop, map, ◌+◌}
 use Rattle.std.proofs.lemmas.List.{map-append}
 use Rattle.kmipa_ttlv.specs.ViewTree.{view_trees}
 use Rattle.kmipa_msgs.specs.Messages.{lent}

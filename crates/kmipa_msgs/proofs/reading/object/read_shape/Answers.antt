@@ -1,6 +1,8 @@
-use Rattle.kmipa_ttlv.specs.ViewTree.{view_trees}
+use Rattle.std.proofs.Common.{◌∙◌, ap, sym}
+use Rattle.std.specs.Option.{option_map}
+use Rattle.kmipa_ttlv.specs.ViewTree.{view_tree, view_trees}
 use Rattle.kmipa_msgs.proofs.ObjectLemmas.{shape_at}
 use Rattle.kmipa_msgs.proofs.reading.object.read_shape.Goals as goal
 
-pub returns-in-Some : goal.returns-in-Some
-returns-in-Some c = shape_at (view_trees c.args.payload.now) c.in-Some.view.now c.shape_of.result c.in-Some.ensures c.shape_of.ensures
+pub returns : goal.returns
+returns c = shape_at (view_trees c.args.payload.now) c.in_ok-view.view.now c.shape_of.result (sym (ap (option_map (λ v. view_tree v.now)) c.in_ok-view.ensures.ok_part) ∙ c.object.ensures) c.shape_of.ensures

@@ -1,28 +1,39 @@
-use Rattle.std.proofs.Common.{◌∙◌, sym, ap}
+use Rattle.std.proofs.Common.{◌∙◌, ap, rules}
 use Rattle.kmipa_ttlv.specs.ViewTree.{view_trees}
-use Rattle.kmipa_attrs.specs.Fields.{at, as_enumeration}
+use Rattle.kmipa_attrs.specs.Fields.{at, as_enumeration, as_structure}
 use Rattle.kmipa_attrs.specs.ObjectTypes.{type_of}
-use Rattle.kmipa_attrs.specs.Readings.{map_ok}
-use Rattle.kmipa_attrs.specs.Tags.{object_type_tag}
+use Rattle.kmipa_attrs.specs.Sets.{attributes_of}
+use Rattle.kmipa_attrs.specs.Tags.{attributes_tag, object_type_tag}
+use Rattle.kmipa_attrs.specs.declared.side.Side.TheVariants.{Client}
 use Rattle.kmipa_msgs.specs.declared.kind.OutsideKind.TheVariants.{ObjectType}
-use Rattle.kmipa_msgs.specs.Tables.{unless_unlisted}
+use Rattle.kmipa_msgs.specs.AttributeFields.{given_in}
+use Rattle.kmipa_msgs.specs.Brought.{brought_of}
 use Rattle.kmipa_msgs.specs.Kinds.{kind_number}
+use Rattle.kmipa_msgs.specs.Registers.{brought_in}
+use Rattle.kmipa_msgs.specs.Tables.{unless_unlisted}
 use Rattle.kmipa_msgs.proofs.ViewLemmas.{joined}
 use Rattle.kmipa_msgs.proofs.RegisterLemmas.{brought_view, seen_brought}
+use Rattle.kmipa_msgs.proofs.YieldsLemmas.{yields_both, yields_err, yields_ok}
 use Rattle.kmipa_msgs.proofs.reading.register.read_brought.Goals as goal
 
-pub returns-in-Ok : goal.returns-in-Ok
-returns-in-Ok c =
+pub returns-in_err-object_type : goal.returns-in_err-object_type
+returns-in_err-object_type c =
+    let ts = view_trees c.args.payload.now in
     let types = joined kind_number _ _ c.both-types.result _ _ c.both-types.ensures c.type_brought.ensures c.read_shape.ensures in
-    let known = c.type_known-type_known.ensures ∙ ap (λ ts. unless_unlisted (at as_enumeration object_type_tag ts) type_of ObjectType) c.inside.ensures in
-    let plain = joined kind_number _ _ c.both.result _ _ c.both.ensures types known in
-    ap (map_ok brought_view) (sym c.in-Ok.is)
-    ∙ seen_brought (view_trees c.args.payload.now) (view_trees c.block_inside.result.now) c.both.result c.read_key_block-block.result c.both-2.result c.in_ok-attributes.attributes c.both-rows.result c.both-rows.ensures c.both-2.ensures plain c.read_key_block-block.ensures c.block_inside.ensures c.in_ok-attributes.ensures
+    let known = c.type_known-type_known.ensures ∙ ap (λ us. unless_unlisted (at as_enumeration object_type_tag us) type_of ObjectType) c.inside.ensures in
+    let judged = joined kind_number _ _ c.both.result _ _ c.both.ensures types known in
+    let read =
+    yields_both attributes_of brought_view c.both-plain.result c.read_attributes.result c.both_read-rows.result (given_in Client (at as_structure attributes_tag ts)) (brought_in ts) c.both_read-rows.ensures c.read_attributes.ensures
+    (λ given g rows e. seen_brought ts (view_trees c.block_inside.result.now) c.both.result c.read_key_block-block.result c.both-plain.result given rows e c.both-plain.ensures judged c.read_key_block-block.ensures c.block_inside.ensures g) in
+    yields_err brought_view brought_of c.both_read-rows.result c.in_err-object_type.field-0.0 c.from_residual.result (brought_in ts) read c.in_err-object_type.was (search rules)
 
-pub returns-in-Err : goal.returns-in-Err
-returns-in-Err c =
+pub returns : goal.returns
+returns c =
+    let ts = view_trees c.args.payload.now in
     let types = joined kind_number _ _ c.both-types.result _ _ c.both-types.ensures c.type_brought.ensures c.read_shape.ensures in
-    let known = c.type_known-type_known.ensures ∙ ap (λ ts. unless_unlisted (at as_enumeration object_type_tag ts) type_of ObjectType) c.inside.ensures in
-    let plain = joined kind_number _ _ c.both.result _ _ c.both.ensures types known in
-    ap (map_ok brought_view) (sym c.in-Err.is)
-    ∙ seen_brought (view_trees c.args.payload.now) (view_trees c.block_inside.result.now) c.both.result c.read_key_block-block.result c.both-2.result c.in_ok-attributes.attributes c.both-rows.result c.both-rows.ensures c.both-2.ensures plain c.read_key_block-block.ensures c.block_inside.ensures c.in_ok-attributes.ensures
+    let known = c.type_known-type_known.ensures ∙ ap (λ us. unless_unlisted (at as_enumeration object_type_tag us) type_of ObjectType) c.inside.ensures in
+    let judged = joined kind_number _ _ c.both.result _ _ c.both.ensures types known in
+    let read =
+    yields_both attributes_of brought_view c.both-plain.result c.read_attributes.result c.both_read-rows.result (given_in Client (at as_structure attributes_tag ts)) (brought_in ts) c.both_read-rows.ensures c.read_attributes.ensures
+    (λ given g rows e. seen_brought ts (view_trees c.block_inside.result.now) c.both.result c.read_key_block-block.result c.both-plain.result given rows e c.both-plain.ensures judged c.read_key_block-block.ensures c.block_inside.ensures g) in
+    yields_ok brought_view c.both_read-rows.result _ (brought_in ts) read c.in_ok-object_type.was

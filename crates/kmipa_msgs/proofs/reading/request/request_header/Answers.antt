@@ -1,12 +1,9 @@
 use Rattle.kmipa_ttlv.specs.ViewTree.{view_trees}
 use Rattle.std.proofs.Common.{◌∙◌, sym, ap}
-use Rattle.kmipa_attrs.specs.Fields.{at, as_boolean}
 use Rattle.kmipa_attrs.specs.Readings.{map_ok}
-use Rattle.kmipa_attrs.specs.Tags.{batch_order_option}
-use Rattle.kmipa_msgs.specs.declared.kind.OutsideKind.TheVariants.{Version, Count, Unordered}
+use Rattle.kmipa_msgs.specs.declared.kind.OutsideKind.TheVariants.{Version, Count}
 use Rattle.kmipa_msgs.specs.Kinds.{kind_number}
 use Rattle.kmipa_msgs.specs.Headers.{is_version, is_count}
-use Rattle.kmipa_msgs.specs.Requests.{in_order}
 use Rattle.kmipa_msgs.proofs.ViewLemmas.{joined, test_row}
 use Rattle.kmipa_msgs.proofs.RequestLemmas.{said_part, seen_order}
 use Rattle.kmipa_msgs.proofs.reading.request.request_header.Goals as goal
@@ -17,10 +14,9 @@ returns-in-Ok c =
     let n = c.args.items in
     let version = test_row c.is_version.result (is_version hs) Version c.passing-version.result c.passing-version.ensures c.is_version.ensures in
     let count = test_row c.is_count.result (is_count hs n) Count c.passing-count.result c.passing-count.ensures c.is_count.ensures in
-    let order = test_row c.in_order.result (in_order (at as_boolean batch_order_option hs) n) Unordered c.passing-order.result c.passing-order.ensures c.in_order.ensures in
-    let plain = joined kind_number _ _ c.both-plain.result _ _ c.both-plain.ensures version (joined kind_number _ _ c.both.result _ _ c.both.ensures count order) in
+    let plain = joined kind_number _ _ c.both-plain.result _ _ c.both-plain.ensures version count in
     let said = joined kind_number _ _ c.both-said.result _ _ c.both-said.ensures c.batch_option.ensures c.ordered.ensures in
-    ap (map_ok said_part) (sym c.in-Ok.is) ∙ seen_order hs n c.both-2.result (joined kind_number _ _ c.both-2.result _ _ c.both-2.ensures plain said)
+    ap (map_ok said_part) (sym c.in-Ok.is) ∙ seen_order hs n c.both.result (joined kind_number _ _ c.both.result _ _ c.both.ensures plain said)
 
 pub returns-in-Err : goal.returns-in-Err
 returns-in-Err c =
@@ -28,7 +24,6 @@ returns-in-Err c =
     let n = c.args.items in
     let version = test_row c.is_version.result (is_version hs) Version c.passing-version.result c.passing-version.ensures c.is_version.ensures in
     let count = test_row c.is_count.result (is_count hs n) Count c.passing-count.result c.passing-count.ensures c.is_count.ensures in
-    let order = test_row c.in_order.result (in_order (at as_boolean batch_order_option hs) n) Unordered c.passing-order.result c.passing-order.ensures c.in_order.ensures in
-    let plain = joined kind_number _ _ c.both-plain.result _ _ c.both-plain.ensures version (joined kind_number _ _ c.both.result _ _ c.both.ensures count order) in
+    let plain = joined kind_number _ _ c.both-plain.result _ _ c.both-plain.ensures version count in
     let said = joined kind_number _ _ c.both-said.result _ _ c.both-said.ensures c.batch_option.ensures c.ordered.ensures in
-    ap (map_ok said_part) (sym c.in-Err.is) ∙ seen_order hs n c.both-2.result (joined kind_number _ _ c.both-2.result _ _ c.both-2.ensures plain said)
+    ap (map_ok said_part) (sym c.in-Err.is) ∙ seen_order hs n c.both.result (joined kind_number _ _ c.both.result _ _ c.both.ensures plain said)
