@@ -1,5 +1,5 @@
 -- Elements of longer lists, and of lists with one element changed.
-use Rattle.std.proofs.Common.{◌≡◌, ◌≢◌, ◌<◌, ◌≤◌, ◌⊎◌, ℕ, zero, suc, List, [], ◌∷◌, ◌++◌, length, map, get_or, set, slice_get, Option, Some, None, option_map, refl, ap, ◌∙◌, sym, inl, inr, arith}
+use Rattle.std.proofs.Common.{◌≡◌, ◌≢◌, ◌<◌, ◌≤◌, ◌⊎◌, ℕ, zero, suc, List, [], ◌∷◌, ◌++◌, length, map, get_or, set, slice_get, Some, None, option_map, refl, ap, ◌∙◌, sym, inl, inr, arith}
 use Rattle.kmipa_object.specs.Lists.{updated}
 
 module _ {X : Type 0} where

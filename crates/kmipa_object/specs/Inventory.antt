@@ -2,7 +2,7 @@
 use Rattle.std.specs.Prelude.{◌≡◌, ◌<◌, ◌*◌, ◌%◌, ◌&&◌, ◌==◌, ℕ, ℤ, pos, negsuc, Bool, true, false, nat_lt, if◌then◌else◌, List, map, length, All, slice_get, bytes_eq, Option, Some, None, is_none}
 use Rattle.std.specs.List.{position_from}
 use Rattle.std.specs.String.{string_bytes}
-use Rattle.kmipa_attrs.specs.Sets.{Attributes, attributes_of}
+use Rattle.kmipa_attrs.specs.Sets.{Attributes, NameOf, attributes_of}
 use Rattle.kmipa_attrs.specs.declared.object_type.ObjectType.{ObjectType}
 use Rattle.kmipa_attrs.specs.declared.object_type.ObjectType.TheVariants.{SymmetricKey, SecretData}
 use Rattle.kmipa_object.specs.Life.{Dates, dates_of}
@@ -10,15 +10,25 @@ use Rattle.kmipa_object.specs.declared.object.Object.{Object}
 use Rattle.kmipa_object.specs.declared.rule.Rule.{Rule}
 use Rattle.kmipa_object.specs.declared.rule.Rule.TheVariants.{Any, Bits}
 
--- an object but for its bytes; of what was given its names, algorithm, length and mask count
+-- what an object keeps of the attributes that are given to it; of these its dates are apart
+pub record Given : Type 0 where
+  pub names : List NameOf
+  pub algorithm : Option ℕ
+  pub length : Option ℤ
+  pub mask : Option ℤ
+
+abbrev pub given_of : Attributes → Given
+given_of a = record { names = a.names; algorithm = a.algorithm; length = a.length; mask = a.mask }
+
+-- an object but for its bytes
 pub record Card : Type 0 where
   pub id : List ℕ
   pub kind : ObjectType
-  pub given : Attributes
+  pub given : Given
   pub dates : Dates
 
 abbrev pub card_of : Object → Card
-card_of o = record { id = string_bytes o.id; kind = o.kind; given = attributes_of o.given; dates = dates_of o.life }
+card_of o = record { id = string_bytes o.id; kind = o.kind; given = given_of (attributes_of o.given); dates = dates_of o.life }
 
 -- an object with its bytes, none where it is destroyed
 pub record Thing : Type 0 where
@@ -42,7 +52,7 @@ key_rule (Some algorithm) (Some bits) = if algorithm == 3 then Bits bits else An
 key_rule _ _ = Any
 
 -- what the bytes of an object of this type with these attributes must be
-abbrev pub rule_for : ObjectType → Attributes → Rule
+abbrev pub rule_for : ObjectType → Given → Rule
 rule_for SymmetricKey given = key_rule given.algorithm given.length
 rule_for SecretData given = Any
 

@@ -2,7 +2,7 @@
 
 ghost use Rattle.std.specs.Prelude.{◌≡◌};
 ghost use Rattle.kmipa_attrs.specs.Sets.{attributes_of};
-ghost use Rattle.kmipa_object.specs.Inventory.{admits, possible, rule_for};
+ghost use Rattle.kmipa_object.specs.Inventory.{admits, given_of, possible, rule_for};
 
 use kmipa_attrs::{AttrSet, ObjectType};
 
@@ -21,7 +21,7 @@ pub enum Rule {
 impl Rule {
     /// The rule of an object of this type with these attributes.
     pub fn of(kind: ObjectType, given: &AttrSet) -> Rule
-        ensures { result ≡ rule_for kind (attributes_of given.now) }
+        ensures { result ≡ rule_for kind (given_of (attributes_of given.now)) }
     {
         match (kind, given.algorithm, given.length) {
             (ObjectType::SymmetricKey, Some(AES), Some(bits)) => Rule::Bits(bits),
