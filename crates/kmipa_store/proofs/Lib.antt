@@ -3,6 +3,8 @@ pub mod ChoiceLemmas
 pub mod SoundLemmas
 pub mod CallLemmas
 pub mod ObjectLemmas
+pub mod OrderLemmas
+pub mod HashLemmas
 pub mod HistoryLemmas
 pub mod ChangeLemmas
 pub mod LearnLemmas
@@ -11,3 +13,8 @@ pub mod QueryLemmas
 pub mod SoundLedgerLemmas
 pub mod BearerLemmas
 pub mod NameLemmas
+pub mod DueLemmas
+pub mod ClockLemmas
+pub mod AwaitLemmas
+pub mod PresentLemmas
+pub mod TallyLemmas

@@ -1,5 +1,5 @@
 -- What the index of names says of the objects.
-use Rattle.std.proofs.Common.{◌≡◌, ◌<◌, ◌≤◌, ◌&&◌, ◌||◌, ◌==◌, ◌-◌, ◌+◌, ℕ, zero, suc, Bool, true, false, nat_eq, nat_lt, nat_le, cond, List, [], ◌∷◌, ◌++◌, length, map, reverse, take, position, Option, Some, None, is_some, option_map, slice_index_or, Result, Ok, Err, Vec, slice_get, refl, ap, sym, ◌∙◌, subst, inl, inr, arith}
+use Rattle.std.proofs.Common.{◌≡◌, ◌<◌, ◌≤◌, ◌&&◌, ◌||◌, ◌==◌, ◌-◌, ◌+◌, ℕ, zero, suc, Bool, true, false, nat_eq, nat_lt, nat_le, cond, List, [], ◌∷◌, ◌++◌, length, map, take, position, Option, Some, None, is_some, option_map, slice_index_or, Result, Ok, Err, Vec, slice_get, refl, ap, sym, ◌∙◌, subst, inl, inr, arith}
 use Rattle.std.specs.declared.alloc.Global.{Global}
 use Rattle.std.proofs.lemmas.Bool.{and_parts, false_from_ne_true}
 use Rattle.std.proofs.lemmas.Bool.Decides.{nat_tests}
@@ -13,13 +13,9 @@ use Rattle.kmipa_object.specs.Inventory.{live}
 use Rattle.kmipa_object.specs.declared.life.Life.{Life}
 use Rattle.kmipa_object.proofs.ListLemmas.{get_below, get-append_last, get-append_cases, get-map, map-push}
 use Rattle.kmipa_store.specs.Ledger.{Held, relived}
-use Rattle.kmipa_store.specs.Journal.{object_unmade}
-use Rattle.kmipa_store.specs.Histories.{rolled, Logs, RolledTo}
 use Rattle.kmipa_store.specs.Queries.{is_name, has_name, next_named, any_live_named}
 use Rattle.kmipa_store.specs.Bearers.{Lists, Ascends, Keeps, PutsLast, bears, bears_of, bears_live, bears_live_of, is_listed, is_named_at, is_next, is_the_name, listed, precedes}
 use Rattle.kmipa_store.specs.Names.{bearers_at, name_hash, Covers, KeepsBelow, AreListed, ListsAll, ListsOne}
-use Rattle.kmipa_store.specs.declared.changes.ObjectChange.{ObjectChange}
-use Rattle.kmipa_store.specs.declared.changes.ObjectChange.TheVariants.{Added, Replaced}
 use Rattle.kmipa_store.specs.declared.fault.StoreFault.{StoreFault}
 use Rattle.kmipa_store.specs.declared.names.Bearer.{Bearer}
 use Rattle.kmipa_store.specs.declared.names.Names.{Names}
@@ -35,7 +31,7 @@ length-map f (x ∷ xs) = ap suc (length-map f xs)
 at_most : (p n : ℕ) → p ≤ n → nat_le p n ≡ true
 at_most p n h = grind (arith, nat_tests)
 
-hash_same : (seed : Seed) (value : List ℕ) (kind : ℕ) (n : NameOf) → is_name value kind n ≡ true → name_hash seed n.value n.kind ≡ name_hash seed value kind
+pub hash_same : (seed : Seed) (value : List ℕ) (kind : ℕ) (n : NameOf) → is_name value kind n ≡ true → name_hash seed n.value n.kind ≡ name_hash seed value kind
 hash_same seed value kind n is =
     let e = name_is value kind n is in
     ap (λ (v : List ℕ). name_hash seed v n.kind) (sym e.0) ∙ ap (λ (k : ℕ). name_hash seed value k) (sym e.1)
@@ -132,14 +128,8 @@ covers_relived names hs place life = covers_fewer names hs (relived hs place lif
     let r = relived_from hs place p life g at in
     (r.0, r.1, elim r.2 [ inl a ↦ ap (λ (x : Held). x.card.given.names) a | inr b ↦ ap (λ (x : Held). x.card.given.names) b.1 ]))
 
-covers_unmade : (names : Names) (hs : List Held) (c : ObjectChange) → Covers names hs → Covers names (object_unmade hs c)
-covers_unmade names hs Added = covers_fewer names hs (take (length hs - 1) hs) (λ p g at. (g, taken_from hs (length hs - 1) p g at, refl))
-covers_unmade names hs (Replaced place life) = covers_relived names hs place life
-
--- and after changes are taken back
-pub covers_rolled : (names : Names) (hs : List Held) (cs : List ObjectChange) → Covers names hs → Covers names (rolled object_unmade hs cs)
-covers_rolled names hs [] h = h
-covers_rolled names hs (c ∷ cs) h = covers_rolled names (object_unmade hs c) cs (covers_unmade names hs c h)
+pub covers_popped : (names : Names) (hs : List Held) → Covers names hs → Covers names (take (length hs - 1) hs)
+covers_popped names hs = covers_fewer names hs (take (length hs - 1) hs) (λ p g at. (g, taken_from hs (length hs - 1) p g at, refl))
 
 covers_kept : (old new : Names) (hs : List Held) → Covers old hs → (new.seed ≡ old.seed) → KeepsBelow old (length hs) new → (p : ℕ) (g : Held) → slice_get hs p ≡ Some g → AreListed new p g.card.given.names
 covers_kept old new hs c seed keeps p g at s n e =
@@ -243,6 +233,19 @@ more_fail t bearers i b before at is j a lt of = (elim (nat_lt j i) as (λ x. na
       ap t (sym r) ∙ is
 ]) refl
 
+-- the same from the last on
+pub more_fail_before : (t : Bearer → Bool) (bearers : List Bearer) (i : ℕ) (b : Bearer) → ((j : ℕ) (a : Bearer) → i + 1 ≤ j → slice_get bearers j ≡ Some a → t a ≡ false) → slice_get bearers i ≡ Some b → t b ≡ false
+    → (j : ℕ) (a : Bearer) → i ≤ j → slice_get bearers j ≡ Some a → t a ≡ false
+more_fail_before t bearers i b h at is j a le e = (elim (nat_lt i j) as (λ s. nat_lt i j ≡ s → t a ≡ false) [
+  | true ↦ λ w. let past : i < j = grind (arith, nat_tests, w) in h j a (omega (arith, past)) e
+  | false ↦ λ w.
+      let here : j ≤ i = grind (arith, nat_tests, w) in
+      let same : i ≡ j = omega (arith, le, here) in
+      let q : Some b ≡ Some a = sym at ∙ ap (slice_get bearers) same ∙ e in
+      let r : b ≡ a = cc in
+      ap t (sym r) ∙ is
+]) refl
+
 pub next_within : (objects : List Held) (b : Bearer) (value : List ℕ) (kind from : ℕ) → is_next objects b value kind from ≡ true → b.place < length objects
 next_within objects b value kind from is =
     let parts = and_parts (nat_le from b.place) (bears objects b value kind) is in
@@ -335,30 +338,15 @@ lists_one old new m index hash key v w b (Err f) unique at there before seed aft
       subst P (sym (after k)) (put_keeps m index hash key v w unique at there b p.2 k a is (subst P (sym (before k)) l))),
 )
 
--- what `add` leaves, and `replace`
-pub covers_pushed : {P : Type 0} (ps : List P) (old new : Names) (hs ys : List Held) (h : Held) (place : ℕ) (cs ds : List ObjectChange) (r : Result (Unit {0}) StoreFault) → Covers old hs → place ≡ length hs → new.seed ≡ old.seed → KeepsBelow old place new
-    → AreListed new place h.card.given.names → Logs object_unmade ps hs cs (hs ++ h ∷ []) r ys ds → Covers new ys
-covers_pushed ps old new hs ys h place cs ds (Ok u) c is seed keeps lists l =
-    let P : List Held → Type 0 = λ x. Covers new x in
-    let Q : ℕ → Type 0 = λ x. KeepsBelow old x new in
-    let R : ℕ → Type 0 = λ x. AreListed new x h.card.given.names in
-    subst P (sym l.0) (covers_added old new hs h c seed (subst Q is keeps) (subst R is lists))
-covers_pushed ps old new hs ys h place cs ds (Err f) c is seed keeps lists l =
-    let P : List Held → Type 0 = λ x. Covers new x in
-    let Q : ℕ → Type 0 = λ x. KeepsBelow old x new in
-    subst P (sym l.1) (covers_same old new hs c seed (subst Q is keeps))
-
 -- whatever `note` answers
 pub covers_noted : (old new : Names) (hs : List Held) (place : ℕ) (ns : List NameOf) (r : Result (Unit {0}) StoreFault) → Covers old hs → place ≡ length hs → ListsAll old place ns r new → Covers new hs
 covers_noted old new hs place ns (Ok u) c is l = let Q : ℕ → Type 0 = λ x. KeepsBelow old x new in covers_same old new hs c l.0 (subst Q is l.1)
 covers_noted old new hs place ns (Err f) c is l = let Q : ℕ → Type 0 = λ x. KeepsBelow old x new in covers_same old new hs c l.1 (subst Q is l.2)
 
-pub covers_logged : {P : Type 0} (ps : List P) (names : Names) (hs ys : List Held) (place : ℕ) (life : Life) (cs ds : List ObjectChange) (r : Result (Unit {0}) StoreFault) → Covers names hs
-    → Logs object_unmade ps hs cs (relived hs place life) r ys ds → Covers names ys
-covers_logged ps names hs ys place life cs ds (Ok u) c l = let P : List Held → Type 0 = λ x. Covers names x in subst P (sym l.0) (covers_relived names hs place life c)
-covers_logged ps names hs ys place life cs ds (Err f) c l = let P : List Held → Type 0 = λ x. Covers names x in subst P (sym l.1) c
-
-pub covers_back : (names : Names) (hs ys : List Held) (cs ds : List ObjectChange) (count : ℕ) → Covers names hs → RolledTo object_unmade hs cs count ys ds → Covers names ys
-covers_back names hs ys cs ds count c b =
-    let P : List Held → Type 0 = λ x. Covers names x in
-    subst P (sym b.value) (covers_rolled names hs (take (length cs - count) (reverse cs)) c)
+-- an object more, whose names were noted
+pub covers_pushed : (old new : Names) (hs ys : List Held) (h : Held) (place : ℕ) → Covers old hs → place ≡ length hs → new.seed ≡ old.seed → KeepsBelow old place new → AreListed new place h.card.given.names → ys ≡ hs ++ h ∷ [] → Covers new ys
+covers_pushed old new hs ys h place c is seed keeps lists e =
+    let P : List Held → Type 0 = λ x. Covers new x in
+    let Q : ℕ → Type 0 = λ x. KeepsBelow old x new in
+    let R : ℕ → Type 0 = λ x. AreListed new x h.card.given.names in
+    subst P (sym e) (covers_added old new hs h c seed (subst Q is keeps) (subst R is lists))

@@ -12,12 +12,12 @@ list_any-map f p (x ∷ xs) = ap (λ t. p (f x) || t) (list_any-map f p xs)
 pub named_among : (value : List ℕ) (kind : ℕ) (names : List Name) → list_any (λ (n : Name). is_name value kind (name_of n)) names ≡ list_any (is_name value kind) (map name_of names)
 named_among value kind names = sym (list_any-map name_of (is_name value kind) names)
 
-drop-one : {X : Type 0} (xs : List X) (i : ℕ) (x : X) → slice_get xs i ≡ Some x → drop i xs ≡ x ∷ drop (suc i) xs
+pub drop-one : {X : Type 0} (xs : List X) (i : ℕ) (x : X) → slice_get xs i ≡ Some x → drop i xs ≡ x ∷ drop (suc i) xs
 drop-one [] i x e = cc
 drop-one (y ∷ ys) zero x e = let q : y ≡ x = cc in ap (λ z. z ∷ ys) q
 drop-one (y ∷ ys) (suc i) x e = drop-one ys i x e
 
-drop-past : {X : Type 0} (xs : List X) (i : ℕ) → length xs ≤ i → drop i xs ≡ []
+pub drop-past : {X : Type 0} (xs : List X) (i : ℕ) → length xs ≤ i → drop i xs ≡ []
 drop-past [] zero h = refl
 drop-past [] (suc i) h = refl
 drop-past (x ∷ xs) zero h = absurd (omega arith)

@@ -7,8 +7,11 @@ pub mod Choices
 pub mod Objects
 pub mod Secrets
 pub mod Histories
+pub mod Clock
+pub mod Present
 pub mod Journal
 pub mod States
 pub mod Soundness
 pub mod Bearers
 pub mod Names
+pub mod Tally

@@ -1,12 +1,37 @@
--- Objects kept by their identifiers, as the list that they are.
-use Rattle.std.specs.Prelude.{◌≡◌, List, map, String, string_bytes}
-use Rattle.std.specs.declared.alloc.Global.{Global}
+-- Not promised. Objects in the order of arrival, and their places by the hashes of their identifiers.
+use Rattle.std.specs.Prelude.{◌≡◌, ℕ, Bool, true, false, List, map, Option, Some, None, bytes_eq, slice_get}
+use Rattle.std.specs.declared.cmp.Ordering.{Ordering}
+use Rattle.std.specs.Hash.DefaultHasher as sip
+use Rattle.std.specs.List.{list_any}
+use Rattle.std.specs.Ordering.{nat_cmp, ordering_then}
+use Rattle.std.specs.BTreeMap.{is_at}
 use Rattle.kmipa_object.specs.declared.object.Object.{Object}
 use Rattle.kmipa_store.specs.Ledger.{Held, held}
+use Rattle.kmipa_store.specs.declared.seed.Seed.{Seed}
 
-abbrev pub objects_of : List (String Global × Object) → List Held
-objects_of entries = map (λ (e : String Global × Object). held e.1) entries
+abbrev pub objects_of : List Object → List Held
+objects_of objects = map held objects
 
--- each key is its object's identifier
-abbrev pub IsKeyed : List (String Global × Object) → Type 0
-IsKeyed entries = map (λ (e : String Global × Object). string_bytes e.0) entries ≡ map (λ (e : String Global × Object). string_bytes e.1.id) entries
+-- the hash of an identifier
+abbrev pub id_hash : Seed → List ℕ → ℕ
+id_hash seed id = sip.finish (sip.write seed.initial id)
+
+-- a hash, and the place of an object whose identifier has it; in order of the hashes, and at one hash of the places
+abbrev pub Hashed : Type 0
+Hashed = ℕ × ℕ
+
+abbrev pub hashed_cmp : Hashed → Hashed → Ordering
+hashed_cmp x y = ordering_then (nat_cmp x.0 y.0) (nat_cmp x.1 y.1)
+
+abbrev pub is_hashed : List Hashed → ℕ → ℕ → Bool
+is_hashed places hash place = list_any (is_at (hashed_cmp (hash, place))) places
+
+-- each object is listed by the hash of its identifier, and no two have one identifier
+pub record AreHashed (seed : Seed) (places : List Hashed) (objects : List Held) : Type 0 where
+  pub listed : (p : ℕ) (h : Held) → slice_get objects p ≡ Some h → is_hashed places (id_hash seed h.card.id) p ≡ true
+  pub distinct : (p q : ℕ) (g h : Held) → slice_get objects p ≡ Some g → slice_get objects q ≡ Some h → g.card.id ≡ h.card.id → p ≡ q
+
+-- the object at a place, if there is one, has the identifier
+abbrev pub has_id : Option Held → List ℕ → Bool
+has_id None id = false
+has_id (Some h) id = bytes_eq id h.card.id

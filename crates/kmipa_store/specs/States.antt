@@ -7,7 +7,7 @@ use Rattle.kmipa_store.specs.declared.copies.Saved.{Saved}
 use Rattle.kmipa_store.specs.declared.journal.Journal.{Journal}
 
 abbrev pub state_of_journal : Journal → LedgerState
-state_of_journal j = journal_state j.objects j.object_changes.items j.secrets j.secret_changes.items j.places.items
+state_of_journal j = journal_state j.present.dated j.object_changes.items j.secrets j.secret_changes.items j.places.items
 
 abbrev pub meaning_of : Saved → Meaning
 meaning_of s = record { objects = s.objects; secrets = s.secrets }
@@ -21,7 +21,7 @@ state_of_copies c = record { now = record { objects = c.objects; secrets = c.sec
 
 -- the moment at which they tell states
 abbrev pub moment_of_journal : Journal → ℤ
-moment_of_journal j = j.moment
+moment_of_journal j = j.present.moment
 
 abbrev pub moment_of_copies : Copies → ℤ
 moment_of_copies c = c.moment

@@ -4,20 +4,22 @@ ghost use Rattle.std.specs.Prelude.{◌≡◌, ◌<◌, ◌≤◌, ◌++◌, ◌
 ghost use Rattle.kmipa_store.specs.Ledger.{held, cards_of, place_of, relived, told};
 ghost use Rattle.kmipa_store.specs.Calls.{is_unknown};
 ghost use Rattle.kmipa_store.specs.Histories.{Logs, RolledTo, while_marked};
-ghost use Rattle.kmipa_store.specs.Journal.{object_unmade, secret_unmade};
+ghost use Rattle.kmipa_store.specs.Journal.{secret_unmade};
+ghost use Rattle.kmipa_store.specs.Present.{LogsObjects, WritesDown};
 
+use crate::clock::Brought;
 use crate::fault::StoreFault;
-use crate::objects::Objects;
+use crate::present::Present;
 use crate::secrets::Secrets;
 use kmipa_object::{Life, Object, Rule};
 
-/// A change of the objects.
+/// A change of the objects, and the dates that it brought.
 #[derive(Clone, Copy, Debug, PartialEq, Eq)]
 pub enum ObjectChange {
     /// An object was added.
-    Added,
+    Added(Brought),
     /// The object at a place led this life before.
-    Replaced(usize, Life),
+    Replaced(usize, Life, Brought),
 }
 
 /// A change of the secrets.
@@ -42,17 +44,6 @@ pub trait Undo<C> {
 
     fn take_back(&mut self, change: C)
         ensures { self.new ≡ unmade self.old change };
-}
-
-impl Undo<ObjectChange> for Objects {
-    ghost unmade = { object_unmade };
-
-    fn take_back(&mut self, change: ObjectChange) {
-        match change {
-            ObjectChange::Added => self.pop(),
-            ObjectChange::Replaced(place, life) => self.set_life(place, life),
-        }
-    }
 }
 
 impl Undo<SecretChange> for Secrets {
@@ -90,43 +81,52 @@ pub fn forget_unmarked<C: Drop>(changes: &mut Vec<C>, places: &Vec<Place>)
 
 /// Adds an object, whose identifier no other has, and writes that down, or neither.
 pub fn push_object(
-    objects: &mut Objects,
+    present: &mut Present,
     changes: &mut Vec<ObjectChange>,
     places: &Vec<Place>,
     object: Object,
 ) -> Result<(), StoreFault>
-    requires { place_of (string_bytes object.id) (cards_of objects.old) ≡ None }
-    ensures { Logs object_unmade places.now.items objects.old changes.old.items (objects.old ++ held object ∷ []) result objects.new changes.new.items }
+    requires { place_of (string_bytes object.id) (cards_of present.old.dated.objects) ≡ None }
+    ensures { LogsObjects places.now.items present.old changes.old.items (present.old.dated.objects ++ held object ∷ []) result present.new changes.new.items }
 {
-    changes.push(ObjectChange::Added)?;
-    match objects.push(object) {
-        Ok(()) => {
-            forget_unmarked(changes, places);
-            Ok(())
-        }
-        Err(fault) => {
-            let _ = changes.pop();
-            Err(fault)
-        }
-    }
+    let change = present.push(object)?;
+    write_down(present, changes, places, change)
 }
 
 /// Gives an object another life, and writes that down, or neither.
 pub fn set_life(
-    objects: &mut Objects,
+    present: &mut Present,
     changes: &mut Vec<ObjectChange>,
     places: &Vec<Place>,
     place: usize,
     life: Life,
 ) -> Result<(), StoreFault>
-    requires { place < length objects.old }
-    ensures { Logs object_unmade places.now.items objects.old changes.old.items (relived objects.old place life) result objects.new changes.new.items }
+    requires { place < length present.old.dated.objects }
+    ensures { LogsObjects places.now.items present.old changes.old.items (relived present.old.dated.objects place life) result present.new changes.new.items }
 {
-    let before = objects.at(place).life;
-    changes.push(ObjectChange::Replaced(place, before))?;
-    objects.set_life(place, life);
-    forget_unmarked(changes, places);
-    Ok(())
+    let change = present.set_life(place, life)?;
+    write_down(present, changes, places, change)
+}
+
+/// Writes down a change that was just made, or takes it back.
+fn write_down(
+    present: &mut Present,
+    changes: &mut Vec<ObjectChange>,
+    places: &Vec<Place>,
+    change: ObjectChange,
+) -> Result<(), StoreFault>
+    ensures { WritesDown places.now.items present.old changes.old.items change result present.new changes.new.items }
+{
+    match changes.push(change) {
+        Ok(()) => {
+            forget_unmarked(changes, places);
+            Ok(())
+        }
+        Err(_) => {
+            present.take_back(change);
+            Err(StoreFault::Memory)
+        }
+    }
 }
 
 /// Adds a secret of unknown bytes, and writes that down, or neither.

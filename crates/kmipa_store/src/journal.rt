@@ -2,8 +2,8 @@
 
 ghost use Rattle.std.specs.Prelude.{◌≡◌, true, length};
 ghost use Rattle.kmipa_store.specs.Histories.{fits, while_marked};
-ghost use Rattle.kmipa_store.specs.Journal.{object_places, secret_places};
-ghost use Rattle.kmipa_store.specs.Names.{Covers};
+ghost use Rattle.kmipa_store.specs.Journal.{dated_at_marks, object_places, secret_places};
+ghost use Rattle.kmipa_store.specs.Present.{AreAwaited, EachAwaited};
 
 use crate::changes::{
     ObjectChange, Place, SecretChange, forget_unmarked, push_object, push_secret, roll_back,
@@ -11,8 +11,7 @@ use crate::changes::{
 };
 use crate::fault::StoreFault;
 use crate::ledger::{Ledger, Mark};
-use crate::names::Names;
-use crate::objects::Objects;
+use crate::present::Present;
 use crate::secrets::{Lesson, Secrets};
 use crate::seed::Seed;
 use kmipa_object::{Life, Object, Rule, SecretNo, State};
@@ -23,23 +22,26 @@ use std::alloc::Global;
 /// # What a name costs
 /// An index lists where the names stand, so that `next_named` and `any_live_named` look at the objects of one name alone.
 ///
+/// # What a moment costs
+/// Each object's state is kept, and its dates stand in order: `set_moment` looks again only at the objects with a date between the
+/// two moments.
+///
 /// # What a mark costs
 /// A mark is how many changes there were. Going back takes back what was done since then; no call costs as much as the inventory.
-/// Each change has its place in the journal before it is made, so that `keep`, `undo` and `back` take no memory. `undo` takes the
-/// objects back and leaves what was written of the secrets to the marks below.
+/// A change that finds no room in the journal is taken back at once, so that `keep`, `undo` and `back` take no memory. `undo` takes
+/// the objects back and leaves what was written of the secrets to the marks below.
 #[derive(Drop)]
 pub struct Journal {
     alloc: Global,
-    moment: i64,
-    objects: Objects,
-    names: Names,
+    present: Present,
     object_changes: Vec<ObjectChange>,
     secrets: Secrets,
     secret_changes: Vec<SecretChange>,
     places: Vec<Place>,
     ghost objects_fit: { fits (length object_changes.items) (object_places places.items) ≡ true },
     ghost secrets_fit: { fits (length secret_changes.items) (secret_places places.items) ≡ true },
-    ghost named: { Covers names objects },
+    ghost awaited_now: { AreAwaited present.dated },
+    ghost awaited_then: { EachAwaited (dated_at_marks present.dated object_changes.items places.items) },
     ghost objects_forgotten: { while_marked places.items object_changes.items ≡ object_changes.items },
     ghost secrets_forgotten: { while_marked places.items secret_changes.items ≡ secret_changes.items },
 }
@@ -64,9 +66,7 @@ impl Journal {
     {
         Journal {
             alloc,
-            moment: 0,
-            objects: Objects::new(alloc, seed),
-            names: Names::new(alloc, seed),
+            present: Present::new(alloc, seed),
             object_changes: Vec::new(alloc),
             secrets: Secrets::new(alloc),
             secret_changes: Vec::new(alloc),
@@ -83,47 +83,44 @@ impl Ledger for Journal {
     ghost moment = { moment_of_journal };
 
     fn find(&self, id: &str) -> Option<usize> {
-        self.objects.find(id)
+        self.present.find(id)
     }
 
     fn len(&self) -> usize {
-        self.objects.len()
+        self.present.len()
     }
 
     fn at(&self, place: usize) -> &Object {
-        self.objects.at(place)
+        self.present.at(place)
     }
 
     fn next_named(&self, value: &str, kind: u32, from: usize) -> Option<usize> {
-        self.names.next(&self.objects, value, kind, from)
+        self.present.next_named(value, kind, from)
     }
 
     fn any_live_named(&self, value: &str, kind: u32) -> bool {
-        self.names.any_live(&self.objects, value, kind)
+        self.present.any_live_named(value, kind)
     }
 
     fn moment(&self) -> i64 {
-        self.moment
+        self.present.moment()
     }
 
     fn set_moment(&mut self, t: i64) {
-        self.moment = t;
+        self.present.set_moment(t);
     }
 
     fn state(&self, place: usize) -> State {
-        self.objects.state(place, self.moment)
+        self.present.state(place)
     }
 
     fn add(&mut self, object: Object) -> Result<usize, StoreFault> {
-        if let Some(_taken) = self.objects.find(object.id.as_str()) {
+        if let Some(_taken) = self.present.find(object.id.as_str()) {
             return Err(StoreFault::IdentifierTaken);
         }
-        let place = self.objects.len();
-        let Ok(()) = self.names.note(place, object.given.names.as_slice()) else {
-            return Err(StoreFault::Memory);
-        };
+        let place = self.present.len();
         push_object(
-            &mut self.objects,
+            &mut self.present,
             &mut self.object_changes,
             &self.places,
             object,
@@ -133,7 +130,7 @@ impl Ledger for Journal {
 
     fn replace(&mut self, place: usize, life: Life) -> Result<(), StoreFault> {
         set_life(
-            &mut self.objects,
+            &mut self.present,
             &mut self.object_changes,
             &self.places,
             place,
@@ -199,7 +196,7 @@ impl Ledger for Journal {
         let Some(newest) = self.places.pop() else {
             return;
         };
-        roll_back(&mut self.objects, &mut self.object_changes, newest.objects);
+        roll_back(&mut self.present, &mut self.object_changes, newest.objects);
         forget_unmarked(&mut self.object_changes, &self.places);
         forget_unmarked(&mut self.secret_changes, &self.places);
     }
@@ -209,7 +206,7 @@ impl Ledger for Journal {
         let Some(place) = self.places.pop() else {
             return;
         };
-        roll_back(&mut self.objects, &mut self.object_changes, place.objects);
+        roll_back(&mut self.present, &mut self.object_changes, place.objects);
         roll_back(&mut self.secrets, &mut self.secret_changes, place.secrets);
         forget_unmarked(&mut self.object_changes, &self.places);
         forget_unmarked(&mut self.secret_changes, &self.places);

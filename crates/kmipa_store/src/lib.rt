@@ -2,15 +2,19 @@
 #![tactic(auto)]
 
 mod changes;
+mod clock;
 mod copies;
+mod counted;
 mod fault;
 mod journal;
 mod laws;
 mod ledger;
 mod names;
 mod objects;
+mod present;
 mod secrets;
 mod seed;
+mod tally;
 
 pub use copies::Copies;
 pub use fault::StoreFault;

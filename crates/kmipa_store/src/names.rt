@@ -14,7 +14,6 @@ use indexmap::IndexMap;
 use kmipa_attrs::Name;
 use kmipa_object::Object;
 use std::alloc::Global;
-use std::hash::{BuildHasher, Hasher};
 
 /// Where a name stands: the place of its object, and its own place among the names of the object.
 #[derive(Clone, Copy, Debug, PartialEq, Eq)]
@@ -66,14 +65,17 @@ impl Names {
         None
     }
 
-    /// Whether an object without a Destroy Date has this name.
+    /// Whether an object without a Destroy Date has this name. It looks at the newest first: where no two live objects have one name,
+    /// the live one is the newest that has it.
     pub fn any_live(&self, objects: &Objects, value: &str, kind: u32) -> bool
         requires { Covers self.now objects.now }
         ensures { result ≡ any_live_named value.now kind objects.now }
     {
         let bearers = self.bearers(self.hash(value, kind));
-        for i in 0..bearers.len() {
-            if bears_live(objects, bearers[i], value, kind) {
+        let mut left = bearers.len();
+        while left > 0 {
+            left -= 1;
+            if bears_live(objects, bearers[left], value, kind) {
                 return true;
             }
         }
@@ -97,10 +99,7 @@ impl Names {
     fn hash(&self, value: &str, kind: u32) -> u64
         ensures { result ≡ name_hash self.now.seed value.now kind }
     {
-        let mut hasher = self.seed.build_hasher();
-        hasher.write(value.as_bytes());
-        hasher.write_u32(kind);
-        hasher.finish()
+        self.seed.name_hash(value, kind)
     }
 
     fn bearers(&self, hash: u64) -> &[Bearer]

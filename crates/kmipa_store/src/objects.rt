@@ -9,34 +9,42 @@ ghost use Rattle.kmipa_store.specs.Queries.{has_name, is_name};
 
 use crate::fault::StoreFault;
 use crate::seed::Seed;
-use indexmap::IndexMap;
 use kmipa_attrs::Name;
 use kmipa_object::{Life, Object, State, state_at};
 use std::alloc::Global;
+use std::collections::BTreeSet;
 use std::marker::Model;
+use std::ops::Bound;
 
-/// Objects by their identifiers, in the order of arrival.
+/// Objects in the order of arrival, and their places by the hashes of their identifiers.
+///
+/// # What an identifier costs
+/// The hashes stand in order, so that a look-up compares few of them whatever they are, and no identifier is copied: only those of
+/// one whole hash are compared with what is looked for.
 #[derive(Drop)]
 pub struct Objects {
-    by_id: IndexMap<String, Object, Seed>,
+    seed: Seed,
+    in_order: Vec<Object>,
+    by_hash: BTreeSet<(u64, usize)>,
 }
 
 impl Model for Objects {
     ghost use Rattle.std.specs.Prelude.{List};
     ghost use Rattle.kmipa_store.specs.Ledger.{Held};
-    ghost use Rattle.kmipa_store.specs.Objects.{objects_of, IsKeyed};
+    ghost use Rattle.kmipa_store.specs.Objects.{AreHashed, objects_of};
 
     ghost Value = { List Held };
 
-    ghost view = { λ o. objects_of o.by_id.entries };
+    ghost view = { λ o. objects_of o.in_order.items };
 
-    ghost invariant = { λ o. IsKeyed o.by_id.entries };
+    ghost invariant = { λ o. AreHashed o.seed o.by_hash.keys (objects_of o.in_order.items) };
 }
 
 impl Objects {
     ghost use Rattle.std.specs.Prelude.{◌≡◌, ◌-◌, ◌<◌, [], length, take, slice_get, string_bytes, Some, None, IfSome, IfOk, IfErr};
     ghost use Rattle.kmipa_store.specs.Ledger.{held, cards_of, place_of, relived};
     ghost use Rattle.kmipa_store.specs.Memory.{Pushes};
+    ghost use Rattle.kmipa_store.specs.Objects.{has_id};
     ghost use Rattle.kmipa_store.specs.Queries.{has_name, next_named, any_live_named, state_of_place};
 
     /// No objects. Their identifiers are found by hashes that start from a seed.
@@ -44,7 +52,9 @@ impl Objects {
         ensures { result ≡ [] }
     {
         Objects {
-            by_id: IndexMap::with_hasher(alloc, seed),
+            seed,
+            in_order: Vec::new(alloc),
+            by_hash: BTreeSet::new(alloc),
         }
     }
 
@@ -53,14 +63,32 @@ impl Objects {
         ensures place { result ≡ place_of id.now (cards_of self.now) }
         ensures within { IfSome result (λ place. place < length self.now) }
     {
-        self.by_id.get_index_of(id)
+        let hash = self.seed.id_hash(id);
+        let start = Bound::Included((hash, 0));
+        let end = Bound::Included((hash, self.in_order.len()));
+        for one in self.by_hash.range((start, end)) {
+            if self.is_at(one.1, id) {
+                return Some(one.1);
+            }
+        }
+        None
+    }
+
+    /// Whether there is an object at a place, with this identifier.
+    fn is_at(&self, place: usize, id: &str) -> bool
+        ensures { result ≡ has_id (slice_get self.now place) id.now }
+    {
+        match self.in_order.get(place) {
+            Some(object) => id == object.id.as_str(),
+            None => false,
+        }
     }
 
     /// How many there are.
     pub fn len(&self) -> usize
         ensures { result ≡ length self.now }
     {
-        self.by_id.len()
+        self.in_order.len()
     }
 
     /// The object at a place.
@@ -68,10 +96,7 @@ impl Objects {
         requires { place < length self.now }
         ensures { slice_get self.now place ≡ Some (held result.now) }
     {
-        match self.by_id.get_index(place) {
-            Some((_, object)) => object,
-            None => unreachable!(),
-        }
+        &self.in_order[place]
     }
 
     /// The state of the object at a place, at a moment.
@@ -112,16 +137,23 @@ impl Objects {
         requires { place_of (string_bytes object.id) (cards_of self.old) ≡ None }
         ensures { Pushes self.old (held object) result self.new }
     {
-        let id = object.id.clone()?;
-        self.by_id.insert(id, object)?;
-        Ok(())
+        let place = self.in_order.len();
+        let hash = self.seed.id_hash(object.id.as_str());
+        self.by_hash.insert((hash, place))?;
+        match self.in_order.push(object) {
+            Ok(()) => Ok(()),
+            Err(_) => {
+                let _ = self.by_hash.remove(&(hash, place));
+                Err(StoreFault::Memory)
+            }
+        }
     }
 
     /// The object at a place, if there is one, leads this life.
     pub fn set_life(&mut self, place: usize, life: Life)
         ensures { self.new ≡ relived self.old place life }
     {
-        let Some(object) = self.by_id.get_index_mut(place) else {
+        let Some(object) = self.in_order.get_mut(place) else {
             return;
         };
         object.life = life;
@@ -131,7 +163,11 @@ impl Objects {
     pub fn pop(&mut self)
         ensures { self.new ≡ take (length self.old - 1) self.old }
     {
-        let _ = self.by_id.pop();
+        let Some(last) = self.in_order.pop() else {
+            return;
+        };
+        let hash = self.seed.id_hash(last.id.as_str());
+        let _ = self.by_hash.remove(&(hash, self.in_order.len()));
     }
 
     /// Equal objects, with memory of their own.
@@ -139,8 +175,8 @@ impl Objects {
         ensures same { IfOk result (λ copy. copy ≡ self.now) }
         ensures err { IfErr result (λ fault. fault ≡ StoreFault.Memory) }
     {
-        let count = self.by_id.len();
-        let mut copy = Objects::new(alloc, *self.by_id.hasher());
+        let count = self.in_order.len();
+        let mut copy = Objects::new(alloc, self.seed);
         for place in 0..count {
             let object = self.at(place).copy(alloc)?;
             copy.push(object)?;

@@ -17,7 +17,8 @@ invariant_of-self c =
     record {
       objects_fit = j.objects_fit;
       secrets_fit = fits_logs secret_unmade (λ (q : Place). q.secrets) j.places.items (told j.secrets c.args.secret.number c.in_ok-bytes-in-Ok-New.bytes.items) j.secrets p.new.secrets j.secret_changes.items p.new.changes.items p.result p.ensures j.secrets_fit;
-      named = j.named;
+      awaited_now = j.awaited_now;
+      awaited_then = j.awaited_then;
       objects_forgotten = j.objects_forgotten;
       secrets_forgotten = forgotten_logs secret_unmade j.places.items (told j.secrets c.args.secret.number c.in_ok-bytes-in-Ok-New.bytes.items) j.secrets p.new.secrets j.secret_changes.items p.new.changes.items p.result p.ensures j.secrets_forgotten;
     }
@@ -32,5 +33,5 @@ returns-in_ok-bytes-in-Ok-New-clause-meaning c =
     let j = c.args.self.now in
     let p = c.tell_secret in
     let P : Lesson → Type 0 = λ x. Judges (slice_get j.secrets c.args.secret.number) c.args.bytes.now (Ok x) in
-    journal_tells j.objects j.object_changes.items j.secrets p.new.secrets j.secret_changes.items p.new.changes.items j.places.items c.args.secret.number
+    journal_tells j.present.dated j.object_changes.items j.secrets p.new.secrets j.secret_changes.items p.new.changes.items j.places.items c.args.secret.number
     c.in_ok-bytes-in-Ok-New.bytes.items c.args.bytes.now p.result p.ensures c.in_ok-bytes-in-Ok-New.ensures.items (subst P c.in-Ok-New.field-0-is c.in-Ok-New.ensures) j.secrets_fit

@@ -14,7 +14,8 @@ invariant_of-self c =
     record {
       objects_fit = j.objects_fit;
       secrets_fit = fits_logs secret_unmade (λ (q : Place). q.secrets) j.places.items wanted j.secrets p.new.secrets j.secret_changes.items p.new.changes.items p.result p.ensures j.secrets_fit;
-      named = j.named;
+      awaited_now = j.awaited_now;
+      awaited_then = j.awaited_then;
       objects_forgotten = j.objects_forgotten;
       secrets_forgotten = forgotten_logs secret_unmade j.places.items wanted j.secrets p.new.secrets j.secret_changes.items p.new.changes.items p.result p.ensures j.secrets_forgotten;
     }
@@ -27,5 +28,5 @@ returns-clause-meaning c =
     let l = c.in_ok-push_secret.ensures in (
       sym c.is_possible.ensures ∙ c.if-not-is_possible.false,
       c.len-number.ensures,
-      secrets_logged j.objects j.object_changes.items j.secrets p.new.secrets wanted j.secret_changes.items p.new.changes.items j.places.items l.0 l.1 j.secrets_fit,
+      secrets_logged j.present.dated j.object_changes.items j.secrets p.new.secrets wanted j.secret_changes.items p.new.changes.items j.places.items l.0 l.1 j.secrets_fit,
     )

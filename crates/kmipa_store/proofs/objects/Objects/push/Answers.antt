@@ -1,24 +1,37 @@
-use Rattle.std.proofs.Common.{◌≡◌, ◌∙◌, ◌++◌, ◌∷◌, [], List, String, None, ap, sym, subst, string_bytes}
-use Rattle.std.specs.declared.alloc.Global.{Global}
+use Rattle.std.proofs.Common.{List, ◌≡◌, ◌∙◌, ◌++◌, ◌∷◌, [], None, length, ap, sym, subst}
+use Rattle.std.specs.BTreeMap.{is_at}
+use Rattle.std.specs.BTreeSet.{insert_key}
+use Rattle.std.specs.Set.{remove_key}
 use Rattle.kmipa_object.specs.Inventory.{place_of}
 use Rattle.kmipa_object.specs.declared.object.Object.{Object}
-use Rattle.kmipa_store.specs.Ledger.{held, cards_of}
-use Rattle.kmipa_store.specs.Objects.{objects_of, IsKeyed}
-use Rattle.kmipa_store.proofs.ObjectLemmas.{inserted_last, keyed_last, objects_of-last}
+use Rattle.kmipa_object.proofs.ListLemmas.{map-push}
+use Rattle.kmipa_store.specs.Ledger.{Held, cards_of, held}
+use Rattle.kmipa_store.specs.Objects.{AreHashed, Hashed, hashed_cmp, id_hash, objects_of}
+use Rattle.kmipa_store.proofs.HashLemmas.{hashed_again, hashed_pushed}
+use Rattle.kmipa_store.proofs.NameLemmas.{length-map}
 use Rattle.kmipa_store.proofs.objects.Objects.push.Goals as goal
 
-pub invariant_of-self-2 : goal.invariant_of-self-2
-invariant_of-self-2 c =
-    let es = c.self.inside.by_id.entries in
-    let none : place_of (string_bytes c.args.object.id) (cards_of (objects_of es)) ≡ None = ap (λ hs. place_of (string_bytes c.args.object.id) (cards_of hs)) c.self.view_is ∙ c.requires in
-    let P : List (String Global × Object) → Type 0 = λ x. IsKeyed x in
-    subst P (sym (c.in_ok-insert.ensures.entries ∙ inserted_last es c.in_ok-id.id c.args.object c.self.invariant c.in_ok-id.ensures.cases none))
-    (keyed_last es c.in_ok-id.id c.args.object c.self.invariant c.in_ok-id.ensures.cases)
+pub invariant_of-self-in-Ok : goal.invariant_of-self-in-Ok
+invariant_of-self-in-Ok c =
+    let i = c.self.inside in
+    let hs = objects_of i.in_order.items in
+    let h = held c.args.object in
+    let all : objects_of c.push.new.self.items ≡ hs ++ h ∷ [] = ap (λ (x : List Object). objects_of x) c.in-Ok.ensures.items ∙ map-push held i.in_order.items c.args.object in
+    let place : c.len-place.result ≡ length hs = c.len-place.ensures ∙ i.in_order.ok.0 ∙ sym (length-map held i.in_order.items) in
+    let hash : c.id_hash-hash.result ≡ id_hash i.seed h.card.id = c.id_hash-hash.ensures ∙ ap (id_hash i.seed) c.as_str.ensures.value in
+    let none : place_of h.card.id (cards_of hs) ≡ None = ap (λ (x : List Held). place_of h.card.id (cards_of x)) c.self.view_is ∙ c.requires in
+    subst (λ (x : List Held). AreHashed i.seed c.insert.new.self.keys x) (sym all)
+    (subst (λ (x : List Hashed). AreHashed i.seed x (hs ++ h ∷ [])) (sym c.in_ok-insert.ensures.keys)
+    (hashed_pushed i.seed i.by_hash.keys hs h c.id_hash-hash.result c.len-place.result place hash none c.self.invariant))
 
-pub returns : goal.returns
-returns c =
-    let es = c.self.inside.by_id.entries in
-    let none : place_of (string_bytes c.args.object.id) (cards_of (objects_of es)) ≡ None = ap (λ hs. place_of (string_bytes c.args.object.id) (cards_of hs)) c.self.view_is ∙ c.requires in
-    ap (λ (x : List (String Global × Object)). objects_of x) (c.in_ok-insert.ensures.entries ∙ inserted_last es c.in_ok-id.id c.args.object c.self.invariant c.in_ok-id.ensures.cases none)
-    ∙ objects_of-last es c.in_ok-id.id c.args.object
-    ∙ ap (λ hs. hs ++ held c.args.object ∷ []) c.self.view_is
+pub invariant_of-self-in-Err : goal.invariant_of-self-in-Err
+invariant_of-self-in-Err c =
+    let i = c.self.inside in
+    let hs = objects_of i.in_order.items in
+    let hash = c.id_hash-hash.result in
+    let place : c.len-place.result ≡ length hs = c.len-place.ensures ∙ i.in_order.ok.0 ∙ sym (length-map held i.in_order.items) in
+    let same : objects_of c.push.new.self.items ≡ hs = ap (λ (x : List Object). objects_of x) c.in-Err.ensures.items in
+    let keys : c.remove.new.self.keys ≡ remove_key (is_at (hashed_cmp (hash, c.len-place.result))) (insert_key hashed_cmp i.by_hash.keys (hash, c.len-place.result)) =
+    c.remove.ensures.keys ∙ ap (λ (x : List Hashed). remove_key (is_at (hashed_cmp (hash, c.len-place.result))) x) c.in_ok-insert.ensures.keys in
+    subst (λ (x : List Held). AreHashed i.seed c.remove.new.self.keys x) (sym same)
+    (subst (λ (x : List Hashed). AreHashed i.seed x hs) (sym keys) (hashed_again i.seed i.by_hash.keys hs hash c.len-place.result place c.self.invariant))

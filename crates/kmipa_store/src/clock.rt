@@ -1,0 +1,201 @@
+//! States told at one moment, and the dates at which they change.
+
+ghost use Rattle.std.specs.Prelude.{◌≡◌};
+ghost use Rattle.kmipa_object.specs.Lists.{updated};
+ghost use Rattle.kmipa_store.specs.Clock.{Awaits, looked, states_at};
+
+use crate::fault::StoreFault;
+use crate::objects::Objects;
+use kmipa_object::{Life, State, state_at};
+use std::alloc::Global;
+use std::collections::BTreeSet;
+use std::marker::Model;
+use std::ops::Bound;
+
+/// The state of each object at one moment, and the dates at which states change, in order, with the places of the objects.
+///
+/// # What a moment costs
+/// A new moment looks again only at the objects with a date between the old moment and the new, whichever comes first.
+///
+/// # Dates of the past
+/// A date stays while going back may need it: a change tells which dates it brought, and going back takes those away.
+#[derive(Drop)]
+pub struct Clock {
+    moment: i64,
+    states: Vec<State>,
+    due: BTreeSet<(i64, usize)>,
+}
+
+/// The dates that a change brought: those that did not stand in order for its place before.
+#[derive(Clone, Copy, Debug, PartialEq, Eq)]
+pub struct Brought {
+    activation: Option<i64>,
+    deactivation: Option<i64>,
+}
+
+impl Model for Clock {
+    ghost use Rattle.kmipa_store.specs.Clock.{Time};
+
+    ghost Value = { Time };
+
+    ghost view = { λ c. record { moment = c.moment; states = c.states.items; due = c.due.keys } };
+}
+
+impl Clock {
+    ghost use Rattle.std.specs.Prelude.{◌-◌, ◌<◌, [], pos, length, take, Some, slice_get};
+    ghost use Rattle.kmipa_object.specs.Life.{dates_of, state};
+    ghost use Rattle.kmipa_store.specs.Clock.{AddsLife, NotesDate, NotesLife, dropped, without};
+
+    /// No states and no dates, at moment 0.
+    pub fn new(alloc: Global) -> Clock
+        ensures { result ≡ record { moment = pos 0; states = []; due = [] } }
+    {
+        Clock {
+            moment: 0,
+            states: Vec::new(alloc),
+            due: BTreeSet::new(alloc),
+        }
+    }
+
+    /// The moment of the states, in seconds since 1970-01-01T00:00:00Z.
+    pub fn moment(&self) -> i64
+        ensures { result ≡ self.now.moment }
+    {
+        self.moment
+    }
+
+    /// The state of the object at a place.
+    pub fn state(&self, place: usize) -> State
+        requires { place < length self.now.states }
+        ensures { slice_get self.now.states place ≡ Some result }
+    {
+        self.states[place]
+    }
+
+    /// Another moment: the objects with a date between the two are looked at again.
+    pub fn set_moment(&mut self, objects: &Objects, t: i64)
+        requires told { self.old.states ≡ states_at objects.now self.old.moment }
+        requires awaited { Awaits objects.now self.old.due }
+        ensures { self.new ≡ record { moment = t; states = states_at objects.now t; due = self.old.due } }
+    {
+        look_over(&mut self.states, &self.due, objects, self.moment, t);
+        self.moment = t;
+    }
+
+    /// The object at a place leads this life from now on.
+    pub fn tell(&mut self, place: usize, life: Life)
+        ensures { self.new ≡ record self.old { states = updated self.old.states place (λ _. state (dates_of life) self.old.moment) } }
+    {
+        let told = state_at(&life, self.moment);
+        put_state(&mut self.states, place, told);
+    }
+
+    /// Puts the dates of a life in order, and answers which it brought.
+    pub fn note(&mut self, place: usize, life: Life) -> Result<Brought, StoreFault>
+        ensures { NotesLife self.old place life result self.new }
+    {
+        let activation = self.note_date(place, life.activation)?;
+        match self.note_date(place, life.deactivation) {
+            Ok(deactivation) => Ok(Brought {
+                activation,
+                deactivation,
+            }),
+            Err(fault) => {
+                self.drop_date(place, activation);
+                Err(fault)
+            }
+        }
+    }
+
+    /// Takes the dates away that a change of the object at a place brought.
+    pub fn forget(&mut self, place: usize, brought: Brought)
+        ensures { self.new ≡ record self.old { due = without self.old.due place brought } }
+    {
+        self.drop_date(place, brought.deactivation);
+        self.drop_date(place, brought.activation);
+    }
+
+    /// The state and the dates of an object behind the others, at this place.
+    pub fn add(&mut self, place: usize, life: Life) -> Result<Brought, StoreFault>
+        ensures { AddsLife self.old place life result self.new }
+    {
+        let brought = self.note(place, life)?;
+        match self.states.push(state_at(&life, self.moment)) {
+            Ok(()) => Ok(brought),
+            Err(_) => {
+                self.forget(place, brought);
+                Err(StoreFault::Memory)
+            }
+        }
+    }
+
+    /// Takes the last state away, and the dates that the last object brought.
+    pub fn remove(&mut self, place: usize, brought: Brought)
+        ensures { self.new ≡ record self.old { states = take (length self.old.states - 1) self.old.states; due = without self.old.due place brought } }
+    {
+        let _ = self.states.pop();
+        self.forget(place, brought);
+    }
+
+    /// Puts a date in order, and answers it if it did not stand there.
+    fn note_date(&mut self, place: usize, date: Option<i64>) -> Result<Option<i64>, StoreFault>
+        ensures { NotesDate self.old place date result self.new }
+    {
+        let Some(date) = date else {
+            return Ok(None);
+        };
+        let Ok(fresh) = self.due.insert((date, place)) else {
+            return Err(StoreFault::Memory);
+        };
+        if fresh {
+            return Ok(Some(date));
+        }
+        Ok(None)
+    }
+
+    fn drop_date(&mut self, place: usize, date: Option<i64>)
+        ensures { self.new ≡ record self.old { due = dropped self.old.due place date } }
+    {
+        if let Some(date) = date {
+            let _ = self.due.remove(&(date, place));
+        }
+    }
+}
+
+/// Tells anew the states of the objects with a date above the smaller of two moments and at most the greater.
+fn look_over(
+    states: &mut Vec<State>,
+    due: &BTreeSet<(i64, usize)>,
+    objects: &Objects,
+    before: i64,
+    t: i64,
+)
+    requires told { states.old.items ≡ states_at objects.now before }
+    requires awaited { Awaits objects.now due.now.keys }
+    ensures { states.new.items ≡ states_at objects.now t }
+{
+    let behind = objects.len();
+    let start = Bound::Excluded((before.min(t), behind));
+    let end = Bound::Included((before.max(t), behind));
+    for one in due.range((start, end)) {
+        look_again(states, objects, one.1, t);
+    }
+}
+
+/// Tells the state of the object at a place anew, if there is one.
+fn look_again(states: &mut Vec<State>, objects: &Objects, place: usize, t: i64)
+    ensures { states.new.items ≡ looked objects.now states.old.items place t }
+{
+    if place < objects.len() {
+        put_state(states, place, objects.state(place, t));
+    }
+}
+
+/// Writes a state at a place, if one stands there.
+fn put_state(states: &mut Vec<State>, place: usize, state: State)
+    ensures { states.new.items ≡ updated states.old.items place (λ _. state) }
+{
+    if place < states.len() {
+        states[place] = state;
+    }
+}

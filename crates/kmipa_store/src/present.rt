@@ -1,0 +1,163 @@
+//! The objects of the present, with their names, their states and their dates.
+
+use crate::changes::{ObjectChange, Undo};
+use crate::clock::Clock;
+use crate::counted::Counted;
+use crate::fault::StoreFault;
+use crate::names::Names;
+use crate::seed::Seed;
+use kmipa_object::{Life, Object, State};
+use std::alloc::Global;
+use std::marker::Model;
+
+/// Objects, counted by their names, an index of these, and a clock that tells the state of each object.
+#[derive(Drop)]
+pub struct Present {
+    objects: Counted,
+    names: Names,
+    clock: Clock,
+}
+
+impl Model for Present {
+    ghost use Rattle.std.specs.Prelude.{◌≡◌};
+    ghost use Rattle.kmipa_store.specs.Clock.{states_at};
+    ghost use Rattle.kmipa_store.specs.Names.{Covers};
+    ghost use Rattle.kmipa_store.specs.Present.{Standing};
+
+    ghost Value = { Standing };
+
+    ghost view = { λ p. record { dated = record { objects = p.objects; due = p.clock.due }; moment = p.clock.moment } };
+
+    ghost invariant = { λ p. (p.clock.states ≡ states_at p.objects p.clock.moment) × Covers p.names p.objects };
+}
+
+impl Present {
+    ghost use Rattle.std.specs.Prelude.{◌≡◌, ◌<◌, ◌++◌, ◌∷◌, [], pos, length, slice_get, string_bytes, Some, None, IfSome};
+    ghost use Rattle.kmipa_store.specs.Ledger.{held, cards_of, place_of, relived};
+    ghost use Rattle.kmipa_store.specs.Present.{AreAwaited, Makes};
+    ghost use Rattle.kmipa_store.specs.Queries.{next_named, any_live_named, state_of_place};
+
+    /// No objects, at moment 0.
+    pub fn new(alloc: Global, seed: Seed) -> Present
+        ensures { result ≡ record { dated = record { objects = []; due = [] }; moment = pos 0 } }
+    {
+        Present {
+            objects: Counted::new(alloc, seed),
+            names: Names::new(alloc, seed),
+            clock: Clock::new(alloc),
+        }
+    }
+
+    /// The place of the object with this identifier.
+    pub fn find(&self, id: &str) -> Option<usize>
+        ensures place { result ≡ place_of id.now (cards_of self.now.dated.objects) }
+        ensures within { IfSome result (λ place. place < length self.now.dated.objects) }
+    {
+        self.objects.plain().find(id)
+    }
+
+    /// How many objects there are.
+    pub fn len(&self) -> usize
+        ensures { result ≡ length self.now.dated.objects }
+    {
+        self.objects.len()
+    }
+
+    /// The object at a place.
+    pub fn at(&self, place: usize) -> &Object
+        requires { place < length self.now.dated.objects }
+        ensures { slice_get self.now.dated.objects place ≡ Some (held result.now) }
+    {
+        self.objects.at(place)
+    }
+
+    /// The first place from this one on whose object has this name.
+    pub fn next_named(&self, value: &str, kind: u32, from: usize) -> Option<usize>
+        ensures place { result ≡ next_named value.now kind from self.now.dated.objects }
+        ensures within { IfSome result (λ place. place < length self.now.dated.objects) }
+    {
+        self.names.next(self.objects.plain(), value, kind, from)
+    }
+
+    /// Whether an object without a Destroy Date has this name.
+    pub fn any_live_named(&self, value: &str, kind: u32) -> bool
+        ensures { result ≡ any_live_named value.now kind self.now.dated.objects }
+    {
+        if self.objects.is_none_live(value, kind) {
+            return false;
+        }
+        self.names.any_live(self.objects.plain(), value, kind)
+    }
+
+    /// The moment of the states, in seconds since 1970-01-01T00:00:00Z.
+    pub fn moment(&self) -> i64
+        ensures { result ≡ self.now.moment }
+    {
+        self.clock.moment()
+    }
+
+    /// The state of the object at a place, at the moment.
+    pub fn state(&self, place: usize) -> State
+        requires { place < length self.now.dated.objects }
+        ensures { state_of_place self.now.dated.objects place self.now.moment ≡ Some result }
+    {
+        self.clock.state(place)
+    }
+
+    /// Another moment.
+    pub fn set_moment(&mut self, t: i64)
+        requires { AreAwaited self.old.dated }
+        ensures { self.new ≡ record self.old { moment = t } }
+    {
+        self.clock.set_moment(self.objects.plain(), t);
+    }
+
+    /// Adds an object, whose identifier no other has, behind the others.
+    pub fn push(&mut self, object: Object) -> Result<ObjectChange, StoreFault>
+        requires { place_of (string_bytes object.id) (cards_of self.old.dated.objects) ≡ None }
+        ensures { Makes self.old (self.old.dated.objects ++ held object ∷ []) result self.new }
+    {
+        let place = self.objects.len();
+        self.names.note(place, object.given.names.as_slice())?;
+        let brought = self.clock.add(place, object.life)?;
+        match self.objects.push(object) {
+            Ok(()) => Ok(ObjectChange::Added(brought)),
+            Err(fault) => {
+                self.clock.remove(place, brought);
+                Err(fault)
+            }
+        }
+    }
+
+    /// The object at a place leads this life from now on.
+    pub fn set_life(&mut self, place: usize, life: Life) -> Result<ObjectChange, StoreFault>
+        requires { place < length self.old.dated.objects }
+        ensures { Makes self.old (relived self.old.dated.objects place life) result self.new }
+    {
+        let before = self.objects.at(place).life;
+        let brought = self.clock.note(place, life)?;
+        self.objects.set_life(place, life);
+        self.clock.tell(place, life);
+        Ok(ObjectChange::Replaced(place, before, brought))
+    }
+}
+
+impl Undo<ObjectChange> for Present {
+    ghost use Rattle.kmipa_store.specs.Present.{standing_unmade};
+
+    ghost unmade = { standing_unmade };
+
+    fn take_back(&mut self, change: ObjectChange) {
+        match change {
+            ObjectChange::Added(brought) => {
+                self.objects.pop();
+                self.clock.remove(self.objects.len(), brought);
+            }
+            ObjectChange::Replaced(place, life, brought) => {
+                self.objects.set_life(place, life);
+                self.clock.tell(place, life);
+                self.clock.forget(place, brought);
+            }
+        }
+    }
+}

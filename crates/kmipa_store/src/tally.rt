@@ -1,0 +1,150 @@
+//! How many live objects have a name.
+
+use crate::fault::StoreFault;
+use crate::seed::Seed;
+use kmipa_attrs::Name;
+use kmipa_object::Object;
+use std::alloc::Global;
+use std::collections::BTreeMap;
+
+/// How many names of live objects have each hash. A count of zero stays, so that it can be raised again without memory.
+///
+/// # Counts that are given up
+/// Where a count does not fit its number, or has no room, the counts are no longer exact, and tell nothing.
+#[derive(Drop)]
+pub struct Tally {
+    seed: Seed,
+    live: BTreeMap<u64, usize>,
+    exact: bool,
+}
+
+impl Tally {
+    ghost use Rattle.std.specs.Prelude.{◌≡◌, [], true, map, IfErr};
+    ghost use Rattle.kmipa_attrs.specs.Sets.{name_of};
+    ghost use Rattle.kmipa_store.specs.Ledger.{held};
+    ghost use Rattle.kmipa_store.specs.Names.{name_hash};
+    ghost use Rattle.kmipa_store.specs.Tally.{Counts, Lowers, Raises, Stays, Writes, count_at, live_with, names_with, one_at};
+
+    /// Counts of no objects.
+    pub fn new(alloc: Global, seed: Seed) -> Tally
+        ensures { Counts result [] }
+    {
+        Tally {
+            seed,
+            live: BTreeMap::new(alloc),
+            exact: true,
+        }
+    }
+
+    /// Whether it is known that no live object has a name of the hash of this one.
+    pub fn is_none(&self, value: &str, kind: u32) -> bool
+        ensures exact { result ≡ true → self.now.exact ≡ true }
+        ensures none { result ≡ true → count_at self.now (name_hash self.now.seed value.now kind) ≡ 0 }
+    {
+        self.exact && self.count(self.seed.name_hash(value, kind)) == 0
+    }
+
+    /// Makes room for the counts of these names.
+    pub fn make_room(&mut self, names: &[Name]) -> Result<(), StoreFault>
+        ensures same { Stays self.old self.new }
+        ensures err { IfErr result (λ fault. fault ≡ StoreFault.Memory) }
+    {
+        for i in 0..names.len() {
+            let name = &names[i];
+            let hash = self.seed.name_hash(name.value.as_str(), name.kind);
+            self.open(hash)?;
+        }
+        Ok(())
+    }
+
+    /// Counts the names of an object, unless it is destroyed.
+    pub fn add(&mut self, object: &Object)
+        ensures { Raises self.old (λ k. live_with self.old.seed k (held object.now)) self.new }
+    {
+        if object.life.destroy.is_some() {
+            return;
+        }
+        self.raise_all(object.given.names.as_slice());
+    }
+
+    /// Counts the names of an object no longer, unless it is destroyed.
+    pub fn remove(&mut self, object: &Object)
+        ensures { Lowers self.old (λ k. live_with self.old.seed k (held object.now)) self.new }
+    {
+        if object.life.destroy.is_some() {
+            return;
+        }
+        self.lower_all(object.given.names.as_slice());
+    }
+
+    fn raise_all(&mut self, names: &[Name])
+        ensures { Raises self.old (λ k. names_with self.old.seed k (map name_of names.now)) self.new }
+    {
+        for i in 0..names.len() {
+            let name = &names[i];
+            let hash = self.seed.name_hash(name.value.as_str(), name.kind);
+            self.raise(hash);
+        }
+    }
+
+    fn lower_all(&mut self, names: &[Name])
+        ensures { Lowers self.old (λ k. names_with self.old.seed k (map name_of names.now)) self.new }
+    {
+        for i in 0..names.len() {
+            let name = &names[i];
+            let hash = self.seed.name_hash(name.value.as_str(), name.kind);
+            self.lower(hash);
+        }
+    }
+
+    fn raise(&mut self, hash: u64)
+        ensures { Raises self.old (λ k. one_at hash k) self.new }
+    {
+        let Some(more) = self.count(hash).checked_add(1) else {
+            self.exact = false;
+            return;
+        };
+        self.write(hash, more);
+    }
+
+    fn lower(&mut self, hash: u64)
+        ensures { Lowers self.old (λ k. one_at hash k) self.new }
+    {
+        let Some(fewer) = self.count(hash).checked_sub(1) else {
+            self.exact = false;
+            return;
+        };
+        self.write(hash, fewer);
+    }
+
+    /// Writes a count.
+    fn write(&mut self, hash: u64, count: usize)
+        ensures { Writes self.old hash count self.new }
+    {
+        let Err(_) = self.live.insert(hash, count) else {
+            return;
+        };
+        self.exact = false;
+    }
+
+    /// A hash that is not there yet is counted zero times.
+    fn open(&mut self, hash: u64) -> Result<(), StoreFault>
+        ensures same { Stays self.old self.new }
+        ensures err { IfErr result (λ fault. fault ≡ StoreFault.Memory) }
+    {
+        if self.live.contains_key(&hash) {
+            return Ok(());
+        }
+        self.live.insert(hash, 0)?;
+        Ok(())
+    }
+
+    fn count(&self, hash: u64) -> usize
+        ensures { result ≡ count_at self.now hash }
+    {
+        match self.live.get(&hash) {
+            Some(count) => *count,
+            None => 0,
+        }
+    }
+}
