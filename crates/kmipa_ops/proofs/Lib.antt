@@ -2,6 +2,7 @@ mod FirstLemmas
 mod TestLemmas
 mod ScanLemmas
 mod NameLemmas
+mod KnownLemmas
 mod StepLemmas
 mod DeedLaws
 mod LearnLemmas
@@ -18,6 +19,7 @@ mod LowestLemmas
 mod FoundedLemmas
 mod ItemLemmas
 pub mod ExplainLemmas
+mod ReasonLemmas
 mod TakenLemmas
 mod OneInventoryLemmas
 mod ListingLemmas

@@ -25,16 +25,11 @@ use Rattle.std.specs.Option.{option_and_then}
 use Rattle.kmipa_ops.specs.declared.fit.Fit.{Fit}
 use Rattle.kmipa_ops.specs.declared.fit.Fit.TheVariants as fit
 use Rattle.kmipa_ops.proofs.LocateLemmas.{fit_tells}
-use Rattle.kmipa_ops.proofs.NameLemmas.{same_name-Decides}
+use Rattle.kmipa_ops.proofs.NameLemmas.{same_both}
 use Rattle.kmipa_ops.specs.Locate.{says_no, is_doubtful, must_fit, fits_here, is_listed, is_over, is_full, has_repeat, lists_misfit, leaves_out, locate_speaks}
 use Rattle.kmipa_ops.specs.Listing.{is_place, PlaceListed, ArePlaced, NoneMust, NextCandidate, CoveredTo, LeavesOut, IsMissing, FitsAt, may_of, must_of}
-use Rattle.kmipa_ops.proofs.TestLemmas.{or_cases, or_right, true_not, false_if}
+use Rattle.kmipa_ops.proofs.TestLemmas.{or_cases, or_right, same_truth, true_not, false_if}
 use Rattle.kmipa_ops.proofs.ScanLemmas.{any_same, or_mix}
-
-same_truth : (a b : Bool) → (a ≡ true → b ≡ true) → (b ≡ true → a ≡ true) → a ≡ b
-same_truth true b f g = sym (f refl)
-same_truth false true f g = let bad : false ≡ true = g refl in cc
-same_truth false false f g = refl
 
 or_last : (b : Bool) → (b || false) ≡ (false || b)
 or_last true = refl
@@ -326,10 +321,6 @@ dropped [] (suc from) p x h at = let bad : ⊥ = cc in absurd bad
 dropped (y ∷ ys) (suc from) zero x h at = absurd (omega arith)
 dropped (y ∷ ys) (suc from) (suc p) x h at = let r = dropped ys from p x (omega arith) at in let e : from + r.0 ≡ p = r.1 in (r.0, omega arith, r.2)
 
-same_both : (a b : NameOf) → same_name a b ≡ same_name b a
-same_both a b =
-    same_truth (same_name a b) (same_name b a) (λ h. (same_name-Decides b a).1 (sym ((same_name-Decides a b).0 h))) (λ h. (same_name-Decides a b).1 (sym ((same_name-Decides b a).0 h)))
-
 no_stranger : (q : FilterOf) (s : State) (c : Card) → has_stranger c.given.names q.names ≡ true → must_fit q s c ≡ false
 no_stranger q s c e =
     let says : says_no q s c ≡ true = five_true (has_stranger c.given.names q.names) _ _ _ _ e in
@@ -436,6 +427,9 @@ pub listed_absent : (hs : List Held) (t : ℤ) (q : FilterOf) (id : List ℕ) �
 listed_absent hs t q id none = ap (λ (o : Option ℕ). fits_here q t (option_and_then (slice_get (cards_of hs)) o)) none
 
 -- AS THE PROGRAM SEES ITS LISTS
+
+pub listed_is : (cs : List Card) (t : ℤ) (q : FilterOf) (id : List ℕ) (o p : Option ℕ) → PlaceListed cs t q id o → o ≡ p → PlaceListed cs t q id p
+listed_is cs t q id o p h e = subst (PlaceListed cs t q id) e h
 
 pub first_name : (xs : List Name) (x : Name) → Some x ≡ slice_get xs 0 → (ns : List NameOf) × (map name_of xs ≡ name_of x ∷ ns)
 first_name [] x e = let bad : ⊥ = cc in absurd bad

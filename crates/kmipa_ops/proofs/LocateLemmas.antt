@@ -21,7 +21,8 @@ use Rattle.kmipa_ops.specs.declared.fit.Fit.{Fit}
 use Rattle.kmipa_ops.specs.declared.fit.Fit.TheVariants as fit
 use Rattle.kmipa_ops.specs.Listing.{may_of, must_of}
 use Rattle.kmipa_ops.specs.Locate.{IsFit, May, Must, says_no, seen_located, may_fit, is_doubtful, must_fit, has_repeat, is_over, is_full, fits_here, is_listed, is_unsure, lists_misfit, leaves_out, Lists, locate_speaks, locate_look, ListsAreDecided}
-use Rattle.kmipa_ops.proofs.TestLemmas.{or_cases, or_right, true_not, false_if, not_true, each_if, each_not, five_parts, five_cases, three_cases, echoes_if, echoes_not, agree_if, agree_not}
+use Rattle.kmipa_ops.specs.Reasons.{ListsRightly, LeavesOut}
+use Rattle.kmipa_ops.proofs.TestLemmas.{refuted, not_false, or_cases, or_right, true_not, false_if, not_true, each_if, each_not, five_parts, five_cases, three_cases, echoes_if, echoes_not, agree_if, agree_not}
 use Rattle.kmipa_ops.proofs.NameLemmas.{strangers_if, strangers_not}
 use Rattle.kmipa_ops.proofs.DeedLaws.{outer_whys}
 use Rattle.kmipa_ops.proofs.LookLemmas.{IsLook}
@@ -193,6 +194,42 @@ module _ (cs : List Card) (t : ℤ) (q : FilterOf) (listed : List (List ℕ)) wh
       let w = and_parts (not (is_full q.maximum (length listed))) (leaves_out cs t q listed) h in
       each_not covered (λ (d : Card). Must q (state d.dates t) d → Contains listed d.id) covered_decides cs w.1 (x.all (not_true (is_full q.maximum (length listed)) w.0))
   wrong w h x = cc
+
+  -- each of the two reasons by itself
+  pub wrongly_decides : Decides (locate_speaks cs t q (Some listed) ListedWrongly) (ListsRightly cs t q listed → ⊥)
+  wrongly_decides =
+      refuted (locate_speaks cs t q (Some listed) ListedWrongly)
+      (λ e.
+      let w = or_parts (has_repeat listed || is_over q.maximum (length listed)) (lists_misfit cs t q listed) e in
+      let x = or_parts (has_repeat listed) (is_over q.maximum (length listed)) w.0 in
+      record { once = once_if listed x.0; most = x.1; fits = λ id at. each_if fitting (MayBeListed cs t q) (fits_decides cs t q) listed w.1 id at })
+      (λ x.
+      false_if (locate_speaks cs t q (Some listed) ListedWrongly) (λ h.
+      three_cases (has_repeat listed) (is_over q.maximum (length listed)) (lists_misfit cs t q listed) h
+      (λ e. once_not listed e x.once)
+      (λ e. true_not (is_over q.maximum (length listed)) e x.most)
+      (λ e. each_not fitting (MayBeListed cs t q) (fits_decides cs t q) listed e x.fits)))
+
+  pub few_decides : Decides (locate_speaks cs t q (Some listed) ListedTooFew) (LeavesOut cs t q listed)
+  few_decides = (
+    λ h.
+        let w = and_parts (not (is_full q.maximum (length listed))) (leaves_out cs t q listed) h in
+        let a = Any-from_list_any (λ (c : Card). not (covered c)) cs w.1 in
+        let v = or_parts (not (must_fit q (state a.1.dates t) a.1)) (is_listed listed a.1.id) (not_true (covered a.1) a.4) in (
+          not_true (is_full q.maximum (length listed)) w.0,
+          a.1,
+          (a.0, a.2, a.3),
+          (must_decides q (state a.1.dates t) a.1).0 (not_false (must_fit q (state a.1.dates t) a.1) v.0),
+          λ at. true_not (is_listed listed a.1.id) ((listed_decides listed a.1.id).1 at) v.1,
+        ),
+    λ x.
+        let at : Contains cs x.1 = x.2 in
+        let must : must_fit q (state x.1.dates t) x.1 ≡ true = (must_decides q (state x.1.dates t) x.1).1 x.3 in
+        let out : is_listed listed x.1.id ≡ false = false_if (is_listed listed x.1.id) (λ e. x.4 ((listed_decides listed x.1.id).0 e)) in
+        let open_ : covered x.1 ≡ false = λ i. not (must i) || out i in
+        and_from (not (is_full q.maximum (length listed))) (leaves_out cs t q listed) (ap not x.0)
+        (list_any_at (λ (c : Card). not (covered c)) cs at.0 x.1 at.1 (ap (λ (c : Card). not (covered c)) at.2 ∙ ap not open_)),
+  )
 
   -- where a list is right no reason speaks against it
   pub lists_decide : ((w : Why) → locate_speaks cs t q (Some listed) w ≡ false) ↔ Lists cs t q listed

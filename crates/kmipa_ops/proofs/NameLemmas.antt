@@ -15,7 +15,7 @@ use Rattle.kmipa_ops.specs.Objects.{same_name, is_named, any_named, any_live_nam
 use Rattle.kmipa_ops.specs.Founded.{IsNameTaken}
 use Rattle.kmipa_ops.specs.GetAttributes.{AreAmong, has_stranger}
 use Rattle.kmipa_ops.proofs.ScanLemmas.{any_map, any_same, any_swap, any_and, found_any}
-use Rattle.kmipa_ops.proofs.TestLemmas.{some_if, some_not}
+use Rattle.kmipa_ops.proofs.TestLemmas.{same_truth, some_if, some_not}
 
 pub same_name-Decides : (m n : NameOf) → Decides (same_name m n) (m ≡ n)
 same_name-Decides m n = (
@@ -28,6 +28,10 @@ same_name-Decides m n = (
       and_from (m.kind == n.kind) (bytes_eq m.value n.value) ((Decides-eqb m.kind n.kind).1 (ap (λ (x : NameOf). x.kind) e))
       ((bytes_eq-Decides m.value n.value).1 (ap (λ (x : NameOf). x.value) e)),
 )
+
+pub same_both : (a b : NameOf) → same_name a b ≡ same_name b a
+same_both a b =
+    same_truth (same_name a b) (same_name b a) (λ h. (same_name-Decides b a).1 (sym ((same_name-Decides a b).0 h))) (λ h. (same_name-Decides a b).1 (sym ((same_name-Decides b a).0 h)))
 
 abbrev is_known : List NameOf → NameOf → Bool
 is_known known n = list_any (λ (k : NameOf). same_name k n) known
@@ -67,7 +71,7 @@ stranger_is known names =
     ∙ sym (any_map (λ (n : NameOf). not (is_known n)) name_of names)
 
 -- an object has one of the names
-named_decides : (names : List NameOf) (c : Card) → Decides (is_named names c) (HasNameOf names c)
+pub named_decides : (names : List NameOf) (c : Card) → Decides (is_named names c) (HasNameOf names c)
 named_decides names c = (
   λ h.
       let s = some_if (λ (mine : NameOf). list_any (λ (asked : NameOf). same_name asked mine) names) (λ (mine : NameOf). Contains names mine) (λ mine. (known_if names mine, known_not names mine)) c.given.names h in

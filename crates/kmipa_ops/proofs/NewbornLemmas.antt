@@ -5,7 +5,7 @@ use Rattle.kmipa_attrs.specs.Sets.{Attributes}
 use Rattle.kmipa_attrs.specs.ObjectTypes.{type_number}
 use Rattle.kmipa_attrs.specs.declared.object_type.ObjectType.{ObjectType}
 use Rattle.kmipa_attrs.specs.declared.object_type.ObjectType.TheVariants.{SymmetricKey}
-use Rattle.kmipa_object.specs.Inventory.{Card, Thing, Admitted, place_of, rule_for, rule_of, admits, possible}
+use Rattle.kmipa_object.specs.Inventory.{given_of, Card, Thing, Admitted, place_of, rule_for, rule_of, admits, possible}
 use Rattle.kmipa_object.specs.declared.life.Material.TheVariants.{Secret}
 use Rattle.kmipa_object.proofs.RuleLemmas.{possible_admits, admits_possible}
 use Rattle.kmipa_store.specs.Ledger.{Held, Known, Meaning, cards_of}
@@ -17,7 +17,7 @@ use Rattle.kmipa_ops.specs.declared.why.Why.{Why}
 use Rattle.kmipa_ops.specs.declared.why.Why.TheVariants.{IdentifierTaken, NameTaken, LengthImpossible, EchoDiffers}
 use Rattle.kmipa_ops.specs.Objects.{Echoes}
 use Rattle.kmipa_ops.specs.Register.{brought, Registers, register_speaks, register_says, register_leaves, seen_registered, register_deed}
-use Rattle.kmipa_ops.specs.Adding.{kept, newborn, name_taken, AddsObject, adding_speaks, with_own}
+use Rattle.kmipa_ops.specs.Adding.{newborn, name_taken, AddsObject, adding_speaks, with_own}
 use Rattle.kmipa_ops.specs.Create.{Creates, create_speaks, create_says, create_leaves, seen_created, create_deed}
 use Rattle.kmipa_ops.proofs.TestLemmas.{not_false, not_some, echoes_if, echoes_not}
 use Rattle.kmipa_ops.proofs.AddLemmas.{own_sound}
@@ -105,7 +105,7 @@ module _ (rules : RulesOf) (m : Meaning) (t : ℤ) (a : Attributes) (x : Registe
   pub create_step : IsSound m → ((w : Why) → create_speaks rules (cards_of m.objects) a x w ≡ false)
       → Step (λ V V' p. Creates rules V t a x V' p) m (with_own m (newborn t x.id SymmetricKey a) None) (Some x.id)
   create_step sound silent =
-      let rule = rule_for SymmetricKey (kept a) in
+      let rule = rule_for SymmetricKey (given_of a) in
       let can = possible_admits rule (not_false (possible rule) (silent LengthImpossible)) in
       let suits : Suits (record { rule = rule; bytes = None }) can.0 = record { admitted = can.1; known = λ k q. let bad : ⊥ = cc in absurd bad } in
       step_as (Born rules m t SymmetricKey a None x) (λ V V' p. Creates rules V t a x V' p) m (with_own m (newborn t x.id SymmetricKey a) None) (Some x.id)
@@ -115,7 +115,7 @@ module _ (rules : RulesOf) (m : Meaning) (t : ℤ) (a : Attributes) (x : Registe
 
   pub create_never : (w : Why) → create_speaks rules (cards_of m.objects) a x w ≡ true → (c : Choice) (V : List Thing) (p : Option (List ℕ)) → Creates rules (inv c m.objects) t a x V p → ⊥
   create_never w h c V p y =
-      let rule = rule_for SymmetricKey (kept a) in
+      let rule = rule_for SymmetricKey (given_of a) in
       newborn_never rules m t SymmetricKey a None x y.0 (possible rule) w h (admits_possible rule y.0 y.1.admitted.admitted) c V p y.1
 
 module _ (rules : RulesOf) (m : Meaning) (t : ℤ) (r : RegisterOf) (x : RegisteredOf) where
@@ -124,7 +124,7 @@ module _ (rules : RulesOf) (m : Meaning) (t : ℤ) (r : RegisterOf) (x : Registe
       → Step (λ V V' p. Registers rules V t r x V' p) m (with_own m (newborn t x.id r.object_type (brought r)) (Some r.block.material)) (Some x.id)
   register_step sound small silent =
       let b : List ℕ = r.block.material in
-      let rule = rule_for r.object_type (kept (brought r)) in
+      let rule = rule_for r.object_type (given_of (brought r)) in
       let admitted : Admitted rule b = record { admitted = not_false (admits rule b) (silent LengthImpossible); small = small } in
       let suits : Suits (record { rule = rule; bytes = Some b }) b = record { admitted = admitted; known = λ k q. cc } in
       step_as (Born rules m t r.object_type (brought r) (Some b) x) (λ V V' p. Registers rules V t r x V' p) m (with_own m (newborn t x.id r.object_type (brought r)) (Some b)) (Some x.id)
@@ -135,7 +135,7 @@ module _ (rules : RulesOf) (m : Meaning) (t : ℤ) (r : RegisterOf) (x : Registe
   pub register_never : (w : Why) → register_speaks rules (cards_of m.objects) r x w ≡ true → (c : Choice) (V : List Thing) (p : Option (List ℕ)) → Registers rules (inv c m.objects) t r x V p → ⊥
   register_never w h c V p y =
       let b : List ℕ = r.block.material in
-      newborn_never rules m t r.object_type (brought r) (Some b) x b (admits (rule_for r.object_type (kept (brought r))) b) w h y.admitted.admitted c V p y
+      newborn_never rules m t r.object_type (brought r) (Some b) x b (admits (rule_for r.object_type (given_of (brought r))) b) w h y.admitted.admitted c V p y
 
 -- a new object of known bytes or unknown ones
 learns_own : (m : Meaning) (card : Card) (known brought : Option (List ℕ)) → ((b : List ℕ) → known ≡ Some b → brought ≡ Some b) → Learns m (with_own m card known) brought None

@@ -127,3 +127,18 @@ all_whys =
 -- where none is found none does
 pub none_holds : (p : Why → Bool) → find p whys ≡ None → (w : Why) → p w ≡ false
 none_holds p e w = find-none p whys (why_number w - 1) w e (all_whys w)
+
+-- two tests that each follow from the other
+pub same_truth : (a b : Bool) → (a ≡ true → b ≡ true) → (b ≡ true → a ≡ true) → a ≡ b
+same_truth true b f g = sym (f refl)
+same_truth false true f g = let bad : false ≡ true = g refl in cc
+same_truth false false f g = refl
+
+-- a test turned round, and a test that fails exactly where something holds
+pub not_decides : (b : Bool) {B : Type 0} → Decides b B → Decides (not b) (B → ⊥)
+not_decides true d = (λ h. let bad : ⊥ = cc in absurd bad, λ f. absurd (f (d.0 refl)))
+not_decides false d = (λ h x. true_not false (d.1 x) refl, λ f. refl)
+
+pub refuted : (b : Bool) {P : Type 0} → (b ≡ false → P) → (P → b ≡ false) → Decides b (P → ⊥)
+refuted true f g = (λ h x. true_not true refl (g x), λ n. refl)
+refuted false f g = (λ h. let bad : ⊥ = cc in absurd bad, λ n. absurd (n (f refl)))

@@ -1,9 +1,9 @@
 -- New objects: what Create and Register share.
 use Rattle.std.specs.Prelude.{◌≡◌, ◌&&◌, ℕ, ℤ, Bool, false, List, [], ◌∷◌, ◌++◌, Option, Some, None, ◌==◌, not, is_some, length, Result, Ok, Err}
 use Rattle.kmipa_attrs.specs.ObjectTypes.{type_number}
-use Rattle.kmipa_attrs.specs.Sets.{Attributes, NameOf, no_attributes}
+use Rattle.kmipa_attrs.specs.Sets.{Attributes, NameOf}
 use Rattle.kmipa_attrs.specs.declared.object_type.ObjectType.{ObjectType}
-use Rattle.kmipa_object.specs.Inventory.{Card, Thing, cards, place_of, rule_of, Admitted}
+use Rattle.kmipa_object.specs.Inventory.{Card, Thing, cards, given_of, place_of, rule_of, Admitted}
 use Rattle.kmipa_object.specs.declared.life.Material.TheVariants.{Secret}
 use Rattle.kmipa_object.specs.declared.life.SecretNo.{SecretNo}
 use Rattle.kmipa_object.specs.declared.rule.Rule.{Rule}
@@ -15,16 +15,12 @@ use Rattle.kmipa_ops.specs.Objects.{Echoes, any_live_named, is_other}
 use Rattle.kmipa_ops.specs.declared.why.Why.{Why}
 use Rattle.kmipa_ops.specs.declared.why.Why.TheVariants.{IdentifierTaken, NameTaken, LengthImpossible, EchoDiffers}
 
--- those that an object keeps
-abbrev pub kept : Attributes → Attributes
-kept a = record no_attributes { names = a.names; algorithm = a.algorithm; length = a.length; mask = a.mask }
-
 -- a new object of this type with these attributes, but for its bytes: its Initial Date is the moment
 abbrev pub newborn : ℤ → List ℕ → ObjectType → Attributes → Card
 newborn t id kind a = record {
   id = id;
   kind = kind;
-  given = kept a;
+  given = given_of a;
   dates = record { initial = Some t; activation = a.activation; deactivation = a.deactivation; destroy = None; compromise = None };
 }
 

@@ -2,10 +2,10 @@
 use Rattle.std.specs.Prelude.{ℕ, ℤ, Bool, false, List, Option, Some, None}
 use Rattle.kmipa_attrs.specs.Sets.{Attributes}
 use Rattle.kmipa_attrs.specs.declared.object_type.ObjectType.TheVariants.{SymmetricKey}
-use Rattle.kmipa_object.specs.Inventory.{Card, Thing, rule_for, possible}
+use Rattle.kmipa_object.specs.Inventory.{Card, Thing, given_of, rule_for, possible}
 use Rattle.kmipa_store.specs.Ledger.{Meaning, cards_of}
 use Rattle.kmipa_msgs.specs.Messages.{RulesOf, RegisteredOf, PayloadOf, created}
-use Rattle.kmipa_ops.specs.Adding.{SaysNew, kept, newborn, AddsObject, adding_speaks, with_own, names_new}
+use Rattle.kmipa_ops.specs.Adding.{SaysNew, newborn, AddsObject, adding_speaks, with_own, names_new}
 use Rattle.kmipa_ops.specs.Row.{Deed, on_names}
 use Rattle.kmipa_ops.specs.declared.why.Why.{Why}
 
@@ -15,7 +15,7 @@ Creates rules V t a x V' after = (bytes : List ℕ) × AddsObject rules V t Symm
 
 -- against a Create that is done: some bytes must be possible
 abbrev pub create_speaks : RulesOf → List Card → Attributes → RegisteredOf → Why → Bool
-create_speaks rules cs a x why = adding_speaks rules cs SymmetricKey a.names (possible (rule_for SymmetricKey (kept a))) x why
+create_speaks rules cs a x why = adding_speaks rules cs SymmetricKey a.names (possible (rule_for SymmetricKey (given_of a))) x why
 
 abbrev pub seen_created : PayloadOf → Option RegisteredOf
 seen_created (created x) = Some x

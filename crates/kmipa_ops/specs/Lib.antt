@@ -24,7 +24,9 @@ pub mod Completes
 pub mod Chains
 pub mod Blame
 pub mod Explains
+pub mod Reasons
 pub mod OneInventory
 pub mod After
 pub mod Shown
 pub mod Listing
+pub mod KnownNames

@@ -1,10 +1,10 @@
 -- Register.
 use Rattle.std.specs.Prelude.{ℕ, ℤ, Bool, false, List, Option, Some, None}
 use Rattle.kmipa_attrs.specs.Sets.{Attributes}
-use Rattle.kmipa_object.specs.Inventory.{Card, Thing, rule_for, admits}
+use Rattle.kmipa_object.specs.Inventory.{Card, Thing, given_of, rule_for, admits}
 use Rattle.kmipa_store.specs.Ledger.{Meaning, cards_of}
 use Rattle.kmipa_msgs.specs.Messages.{RulesOf, RegisterOf, RegisteredOf, PayloadOf, registered}
-use Rattle.kmipa_ops.specs.Adding.{SaysNew, kept, newborn, AddsObject, adding_speaks, with_own, names_new}
+use Rattle.kmipa_ops.specs.Adding.{SaysNew, newborn, AddsObject, adding_speaks, with_own, names_new}
 use Rattle.kmipa_ops.specs.Row.{Deed, on_names}
 use Rattle.kmipa_ops.specs.declared.why.Why.{Why}
 
@@ -26,7 +26,7 @@ Registers rules V t r x V' after = AddsObject rules V t r.object_type (brought r
 -- against a Register that is done: its bytes must be possible
 abbrev pub register_speaks : RulesOf → List Card → RegisterOf → RegisteredOf → Why → Bool
 register_speaks rules cs r x why =
-    adding_speaks rules cs r.object_type r.attributes.names (admits (rule_for r.object_type (kept (brought r))) r.block.material) x why
+    adding_speaks rules cs r.object_type r.attributes.names (admits (rule_for r.object_type (given_of (brought r))) r.block.material) x why
 
 abbrev pub seen_registered : PayloadOf → Option RegisteredOf
 seen_registered (registered x) = Some x

@@ -8,7 +8,7 @@ ghost use Rattle.kmipa_msgs.specs.Messages.{lent, maybe_lent, registered_of, rul
 ghost use Rattle.kmipa_ops.specs.After.{Leaves};
 ghost use Rattle.kmipa_ops.specs.Placeholders.{placeholder_of};
 ghost use Rattle.kmipa_ops.specs.Whys.{whys};
-ghost use Rattle.kmipa_ops.specs.Adding.{MakesOwn, with_own, adding_speaks, kept, name_taken, newborn};
+ghost use Rattle.kmipa_ops.specs.Adding.{MakesOwn, with_own, adding_speaks, name_taken, newborn};
 
 use crate::echo::is_other_number;
 use crate::names::any_live_named;
@@ -81,12 +81,11 @@ pub(crate) fn add<L: Ledger>(
     let t = ledger.moment();
     let activation = attributes.activation;
     let deactivation = attributes.deactivation;
-    let given = kept(attributes);
-    let secret = new_own(ledger, Rule::of(kind, &given), material)?;
+    let secret = new_own(ledger, Rule::of(kind, &attributes), material)?;
     let object = Object {
         id: own_id,
         kind,
-        given,
+        given: attributes,
         life: new_life(t, activation, deactivation, secret),
     };
     match ledger.add(object) {
@@ -95,22 +94,6 @@ pub(crate) fn add<L: Ledger>(
             Ok(())
         }
         Err(_) => Err(AllocError),
-    }
-}
-
-/// The attributes that an object keeps.
-fn kept(attributes: AttrSet) -> AttrSet
-    ensures { attributes_of result ≡ kept (attributes_of attributes) }
-{
-    AttrSet {
-        object_type: None,
-        state: None,
-        initial: None,
-        activation: None,
-        deactivation: None,
-        destroy: None,
-        compromise: None,
-        ..attributes
     }
 }
 

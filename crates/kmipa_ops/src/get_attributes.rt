@@ -1,6 +1,6 @@
 //! Get Attributes.
 
-ghost use Rattle.std.specs.Prelude.{◌≡◌, ◌<◌, IfSome, length, find, option_and_then, option_map};
+ghost use Rattle.std.specs.Prelude.{◌≡◌, ◌<◌, IfOk, IfSome, length, find, option_and_then, option_map};
 ghost use Rattle.std.specs.Ordering.{int_eq};
 ghost use Rattle.kmipa_attrs.specs.Sets.{attributes_of};
 ghost use Rattle.kmipa_object.specs.Inventory.{card_of};
@@ -14,7 +14,7 @@ ghost use Rattle.kmipa_ops.specs.Whys.{whys};
 
 use crate::deed::{Deed, Subject};
 use crate::echo::{clash_lengths, clash_numbers, is_other_id, is_other_number};
-use crate::names::has_stranger;
+use crate::names::finds_stranger;
 use crate::placeholder::Placeholder;
 use crate::required::lacks_required;
 use crate::why::Why;
@@ -52,7 +52,7 @@ impl<'a> Deed for GetAttributes<'a> {
 
     fn why_not_done<L: Ledger>(
         &self,
-        _alloc: Global,
+        alloc: Global,
         ledger: &L,
         _rules: &Rules,
         placeholder: &Placeholder,
@@ -60,7 +60,7 @@ impl<'a> Deed for GetAttributes<'a> {
         payload: &Option<Payload>,
     ) -> Result<Option<Why>, AllocError> {
         let about = placeholder.meant(self.id);
-        Ok(why_not_shown_attributes(ledger, place, about, self, shown(payload)))
+        why_not_shown_attributes(alloc, ledger, place, about, self, shown(payload))
     }
 
     fn leave<L: Ledger>(
@@ -87,54 +87,75 @@ fn shown<'a>(payload: &'a Option<Payload<'a>>) -> Option<&'a GotAttributes<'a>>
 
 /// The lowest reason against a Get Attributes that is done: of the object at this place these attributes are shown, if the payload is there.
 pub(crate) fn why_not_shown_attributes<L: Ledger>(
+    alloc: Global,
     ledger: &L,
     place: Option<usize>,
     about: Option<&str>,
     asked: &GetAttributes,
     shown: Option<&GotAttributes>,
-) -> Option<Why>
+) -> Result<Option<Why>, AllocError>
     requires place { place ≡ place_meant (L.state ledger.now).now.objects (maybe_lent about) }
     requires within { IfSome place (λ p. p < length (L.state ledger.now).now.objects) }
-    ensures { result ≡ find (get_attributes_speaks (cards_of (L.state ledger.now).now.objects) (maybe_lent about.entry) (L.moment ledger.now) (get_attributes_of asked.now) (option_map (λ got. got_attributes_of got.now) shown.entry)) whys }
+    ensures { IfOk result (λ why. why ≡ find (get_attributes_speaks (cards_of (L.state ledger.now).now.objects) (maybe_lent about.entry) (L.moment ledger.now) (get_attributes_of asked.now) (option_map (λ got. got_attributes_of got.now) shown.entry)) whys) }
 {
     let Some(place) = place else {
-        return Some(Why::NoSuchObject);
+        return Ok(Some(Why::NoSuchObject));
     };
-    why_not_attributes(ledger.at(place), ledger.state(place), about, asked, shown)
+    why_not_attributes(
+        alloc,
+        ledger.at(place),
+        ledger.state(place),
+        about,
+        asked,
+        shown,
+    )
 }
 
 /// The lowest reason against an answer about an object.
 fn why_not_attributes(
+    alloc: Global,
     object: &Object,
     state: State,
     about: Option<&str>,
     asked: &GetAttributes,
     shown: Option<&GotAttributes>,
-) -> Option<Why>
-    ensures { result ≡ attributes_speak (card_of object.now) state (maybe_lent about.entry) (get_attributes_of asked.now) (option_map (λ got. got_attributes_of got.now) shown.entry) }
+) -> Result<Option<Why>, AllocError>
+    ensures { IfOk result (λ why. why ≡ attributes_speak (card_of object.now) state (maybe_lent about.entry) (get_attributes_of asked.now) (option_map (λ got. got_attributes_of got.now) shown.entry)) }
 {
     let Some(got) = shown else {
-        return None;
+        return Ok(None);
     };
-    if shows_foreign(object, state, &got.attributes) {
-        return Some(Why::AttributeDiffers);
+    if shows_foreign(alloc, object, state, &got.attributes)? {
+        return Ok(Some(Why::AttributeDiffers));
     }
-    if lacks_required(asked, object, &got.attributes) {
-        return Some(Why::AttributeMissing);
+    if lacks_required(alloc, asked, object, &got.attributes)? {
+        return Ok(Some(Why::AttributeMissing));
     }
     if is_other_id(got.id, about) {
-        return Some(Why::EchoDiffers);
+        return Ok(Some(Why::EchoDiffers));
     }
-    None
+    Ok(None)
 }
 
 /// Whether something is shown that isn't the object's in this state.
-fn shows_foreign(object: &Object, state: State, shown: &AttrSet) -> bool
-    ensures { result ≡ shows_foreign (card_of object.now) state (attributes_of shown.now) }
+fn shows_foreign(
+    alloc: Global,
+    object: &Object,
+    state: State,
+    shown: &AttrSet,
+) -> Result<bool, AllocError>
+    ensures { IfOk result (λ is_foreign. is_foreign ≡ shows_foreign (card_of object.now) state (attributes_of shown.now)) }
 {
-    has_stranger(object.given.names.as_slice(), shown.names.as_slice())
-        || shows_other_value(object, state, shown)
-        || shows_other_date(&object.life, shown)
+    let is_other_named = finds_stranger(
+        alloc,
+        object.given.names.as_slice(),
+        shown.names.as_slice(),
+    )?;
+    Ok(
+        is_other_named
+            || shows_other_value(object, state, shown)
+            || shows_other_date(&object.life, shown),
+    )
 }
 
 fn shows_other_value(object: &Object, state: State, shown: &AttrSet) -> bool

@@ -6,6 +6,7 @@ ghost use Rattle.kmipa_ops.specs.Founded.{FoundedIsDecided};
 ghost use Rattle.kmipa_ops.specs.GetAttributes.{AttributesAreDecided};
 ghost use Rattle.kmipa_ops.specs.Locate.{ListsAreDecided};
 ghost use Rattle.kmipa_ops.specs.OneInventory.{StandsForOne, TakingDecides};
+ghost use Rattle.kmipa_ops.specs.Reasons.{ReasonsAreDecided};
 
 /// A chain whose answers may be completed is a chain of some completed answers.
 pub fn chains_complete()
@@ -37,6 +38,11 @@ pub fn founded_is_decided()
 /// maximum, and each that must be unless as many as the maximum are.
 pub fn lists_are_decided()
     ensures { ListsAreDecided }
+{}
+
+/// Each numbered reason speaks against an answer exactly where what it means holds.
+pub fn reasons_are_decided()
+    ensures { ReasonsAreDecided }
 {}
 
 /// Of what a Get Attributes shows: nothing is foreign exactly where all is the object's, and nothing is lacking exactly where all that is

@@ -15,7 +15,9 @@ mod get;
 mod get_attributes;
 mod idle;
 mod judged;
+mod known_names;
 mod laws;
+mod lent_name;
 mod listing;
 mod locate;
 mod names;
@@ -31,7 +33,7 @@ mod why;
 pub use fit::{Fit, matches};
 pub use laws::{
     attributes_are_decided, blame_is_exact, chains_complete, founded_is_decided, lists_are_decided,
-    stands_for_one, taking_decides,
+    reasons_are_decided, stands_for_one, taking_decides,
 };
 pub use placeholder::Placeholder;
 pub use readable::is_readable;

@@ -10,7 +10,7 @@ ghost use Rattle.kmipa_ops.specs.Listing.{FitsAt, IsMissing, LeavesOut, NextCand
 ghost use Rattle.kmipa_ops.specs.Locate.{is_full, is_over, locate_speaks};
 ghost use Rattle.kmipa_ops.specs.Whys.{whys};
 
-use crate::fit::{Fit, matches};
+use crate::fit::{Fit, matches_in_set};
 use crate::why::Why;
 use kmipa_attrs::Filter;
 use kmipa_store::Ledger;
@@ -37,7 +37,8 @@ pub(crate) fn why_not_listed<L: Ledger>(
     if is_full(filter.maximum, listed.len()) {
         return Ok(None);
     }
-    if leaves_out(ledger, filter, &places) {
+    let is_short = leaves_out(alloc, ledger, filter, &places)?;
+    if is_short {
         return Ok(Some(Why::ListedTooFew));
     }
     Ok(None)
@@ -74,8 +75,10 @@ fn places_listed<L: Ledger>(
 {
     let mut places = BTreeSet::new(alloc);
     for id in listed {
-        let Some(place) = place_listed(ledger, filter, id) else {
-            return Ok(None);
+        let rightly = place_listed(alloc, ledger, filter, id)?;
+        let place = match rightly {
+            Some(place) => place,
+            None => return Ok(None),
         };
         let is_new = places.insert(place)?;
         if !is_new {
@@ -86,33 +89,47 @@ fn places_listed<L: Ledger>(
 }
 
 /// The place of an identifier that is listed rightly: its object is there, and may be listed.
-fn place_listed<L: Ledger>(ledger: &L, filter: &Filter, id: &str) -> Option<usize>
-    ensures { PlaceListed (cards_of (L.state ledger.now).now.objects) (L.moment ledger.now) (filter_of filter.now) id.now result }
+fn place_listed<L: Ledger>(
+    alloc: Global,
+    ledger: &L,
+    filter: &Filter,
+    id: &str,
+) -> Result<Option<usize>, AllocError>
+    ensures { IfOk result (λ place. PlaceListed (cards_of (L.state ledger.now).now.objects) (L.moment ledger.now) (filter_of filter.now) id.now place) }
 {
-    let place = ledger.find(id)?;
-    match fit_at(ledger, filter, place) {
-        Fit::Must => Some(place),
-        Fit::May => Some(place),
-        Fit::Not => None,
+    let Some(place) = ledger.find(id) else {
+        return Ok(None);
+    };
+    let fit = fit_at(alloc, ledger, filter, place)?;
+    match fit {
+        Fit::Must => Ok(Some(place)),
+        Fit::May => Ok(Some(place)),
+        Fit::Not => Ok(None),
     }
 }
 
 /// Whether an object isn't at one of these places that must be.
-fn leaves_out<L: Ledger>(ledger: &L, filter: &Filter, places: &BTreeSet<usize>) -> bool
-    ensures { LeavesOut (L.state ledger.now).now.objects (L.moment ledger.now) (filter_of filter.now) places.now result }
+fn leaves_out<L: Ledger>(
+    alloc: Global,
+    ledger: &L,
+    filter: &Filter,
+    places: &BTreeSet<usize>,
+) -> Result<bool, AllocError>
+    ensures { IfOk result (λ does. LeavesOut (L.state ledger.now).now.objects (L.moment ledger.now) (filter_of filter.now) places.now does) }
 {
     let end = ledger.len();
     let mut from = 0;
     'scan: while from < end {
         let Some(place) = next_candidate(ledger, filter, from) else {
-            return false;
+            return Ok(false);
         };
-        if is_missing(ledger, filter, places, place) {
-            return true;
+        let is_absent = is_missing(alloc, ledger, filter, places, place)?;
+        if is_absent {
+            return Ok(true);
         }
         from = place + 1;
     }
-    false
+    Ok(false)
 }
 
 /// The next place from this one on of an object that the filter's first name allows.
@@ -129,25 +146,32 @@ fn next_candidate<L: Ledger>(ledger: &L, filter: &Filter, from: usize) -> Option
 
 /// Whether the object at a place must be listed, and its place isn't among these.
 fn is_missing<L: Ledger>(
+    alloc: Global,
     ledger: &L,
     filter: &Filter,
     places: &BTreeSet<usize>,
     place: usize,
-) -> bool
+) -> Result<bool, AllocError>
     requires { place < length (L.state ledger.now).now.objects }
-    ensures { IsMissing (L.state ledger.now).now.objects (L.moment ledger.now) (filter_of filter.now) places.now place result }
+    ensures { IfOk result (λ is. IsMissing (L.state ledger.now).now.objects (L.moment ledger.now) (filter_of filter.now) places.now place is) }
 {
-    match fit_at(ledger, filter, place) {
-        Fit::Must => !places.contains(&place),
-        Fit::May => false,
-        Fit::Not => false,
+    let fit = fit_at(alloc, ledger, filter, place)?;
+    match fit {
+        Fit::Must => Ok(!places.contains(&place)),
+        Fit::May => Ok(false),
+        Fit::Not => Ok(false),
     }
 }
 
 /// How the object at a place fits at the moment.
-fn fit_at<L: Ledger>(ledger: &L, filter: &Filter, place: usize) -> Fit
+fn fit_at<L: Ledger>(
+    alloc: Global,
+    ledger: &L,
+    filter: &Filter,
+    place: usize,
+) -> Result<Fit, AllocError>
     requires { place < length (L.state ledger.now).now.objects }
-    ensures { FitsAt (L.state ledger.now).now.objects (L.moment ledger.now) (filter_of filter.now) place result }
+    ensures { IfOk result (λ fit. FitsAt (L.state ledger.now).now.objects (L.moment ledger.now) (filter_of filter.now) place fit) }
 {
-    matches(ledger.at(place), filter, ledger.state(place))
+    matches_in_set(alloc, ledger.at(place), filter, ledger.state(place))
 }

@@ -1,6 +1,6 @@
 //! Names beside other names.
 
-ghost use Rattle.std.specs.Prelude.{◌≡◌, is_some, map, not};
+ghost use Rattle.std.specs.Prelude.{◌≡◌, IfOk, is_some, map, not};
 ghost use Rattle.std.specs.List.{list_any};
 ghost use Rattle.kmipa_attrs.specs.Sets.{name_of};
 ghost use Rattle.kmipa_store.specs.Ledger.{cards_of};
@@ -8,8 +8,13 @@ ghost use Rattle.kmipa_store.specs.Queries.{any_live_named as any_live_has, next
 ghost use Rattle.kmipa_ops.specs.GetAttributes.{has_stranger};
 ghost use Rattle.kmipa_ops.specs.Objects.{any_live_named, any_named, same_name};
 
+use crate::known_names::{any_unknown, set_of};
 use kmipa_attrs::Name;
 use kmipa_store::Ledger;
+use std::alloc::{AllocError, Global};
+
+/// With at most so many names on one side each is compared with each of the other, and no set is built.
+const FEW: usize = 16;
 
 /// Whether an object has one of these names, destroyed or not.
 pub(crate) fn any_named<L: Ledger>(ledger: &L, names: &[Name]) -> bool
@@ -53,7 +58,22 @@ fn is_had_alive<L: Ledger>(ledger: &L, name: &Name) -> bool
     ledger.any_live_named(name.value.as_str(), name.kind)
 }
 
-/// Whether one of the names isn't among those known.
+/// Whether one of the names isn't among those known; where both are many, they are looked up in a set.
+pub(crate) fn finds_stranger<'a>(
+    alloc: Global,
+    known: &'a [Name],
+    names: &'a [Name],
+) -> Result<bool, AllocError>
+    ensures { IfOk result (λ found. found ≡ has_stranger (map name_of known.now) (map name_of names.now)) }
+{
+    if known.len() <= FEW || names.len() <= FEW {
+        return Ok(has_stranger(known, names));
+    }
+    let set = set_of(alloc, known)?;
+    Ok(any_unknown(&set, names))
+}
+
+/// The same without memory: each name is compared with each of those known.
 pub(crate) fn has_stranger(known: &[Name], names: &[Name]) -> bool
     ensures { result ≡ has_stranger (map name_of known.now) (map name_of names.now) }
 {

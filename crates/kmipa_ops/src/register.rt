@@ -2,13 +2,13 @@
 
 ghost use Rattle.std.specs.Prelude.{◌≡◌, IfOk, Some, find, option_and_then, option_map};
 ghost use Rattle.kmipa_attrs.specs.Sets.{attributes_of};
-ghost use Rattle.kmipa_object.specs.Inventory.{rule_for};
+ghost use Rattle.kmipa_object.specs.Inventory.{given_of, rule_for};
 ghost use Rattle.kmipa_store.specs.Ledger.{cards_of};
 ghost use Rattle.kmipa_msgs.specs.Messages.{lent, payload_of, register_of, registered_of, registers, rules_of};
 ghost use Rattle.kmipa_ops.specs.After.{Leaves};
 ghost use Rattle.kmipa_ops.specs.Placeholders.{placeholder_of};
 ghost use Rattle.kmipa_ops.specs.Whys.{whys};
-ghost use Rattle.kmipa_ops.specs.Adding.{with_own, kept, newborn};
+ghost use Rattle.kmipa_ops.specs.Adding.{with_own, newborn};
 ghost use Rattle.kmipa_ops.specs.Register.{seen_registered, register_speaks, brought, either_of};
 
 use crate::adding::{Newborn, add, why_not_added};
@@ -110,7 +110,7 @@ pub(crate) fn why_not_registered<L: Ledger>(
 
 /// What the bytes of the new object must be.
 fn rule_of(alloc: Global, register: &Register) -> Rule
-    ensures { result ≡ rule_for register.now.object_type (kept (brought (register_of register.now))) }
+    ensures { result ≡ rule_for register.now.object_type (given_of (brought (register_of register.now))) }
 {
     let judged = AttrSet {
         algorithm: either_number(register.attributes.algorithm, register.block.algorithm),

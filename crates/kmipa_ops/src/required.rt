@@ -1,6 +1,6 @@
 //! The attributes that the answer of a Get Attributes must show.
 
-ghost use Rattle.std.specs.Prelude.{◌≡◌, ◌==◌, ℕ};
+ghost use Rattle.std.specs.Prelude.{◌≡◌, ◌==◌, ℕ, IfOk};
 ghost use Rattle.std.specs.List.{list_any};
 ghost use Rattle.kmipa_attrs.specs.Sets.{attributes_of};
 ghost use Rattle.kmipa_object.specs.Inventory.{card_of};
@@ -9,32 +9,52 @@ ghost use Rattle.kmipa_msgs.specs.Messages.{get_attributes_of};
 ghost use Rattle.kmipa_ops.specs.GetAttributes.{asks_for, lacks_asked, lacks_date, lacks_name, lacks_required, lacks_value, leaves_out};
 
 use crate::judged::Judged;
-use crate::names::has_stranger;
+use crate::names::finds_stranger;
 use crate::objects::is_live;
 use kmipa_attrs::AttrSet;
 use kmipa_msgs::GetAttributes;
 use kmipa_object::{Life, Object};
+use std::alloc::{AllocError, Global};
 
 /// Whether an attribute isn't shown that is required.
-pub(crate) fn lacks_required(asked: &GetAttributes, object: &Object, shown: &AttrSet) -> bool
-    ensures { result ≡ lacks_required (get_attributes_of asked.now) (card_of object.now) (attributes_of shown.now) }
+pub(crate) fn lacks_required(
+    alloc: Global,
+    asked: &GetAttributes,
+    object: &Object,
+    shown: &AttrSet,
+) -> Result<bool, AllocError>
+    ensures { IfOk result (λ lacks. lacks ≡ lacks_required (get_attributes_of asked.now) (card_of object.now) (attributes_of shown.now)) }
 {
-    is_live(object) && !asked.has_others && lacks_asked(asked, object, shown)
+    if !is_live(object) || asked.has_others {
+        return Ok(false);
+    }
+    lacks_asked(alloc, asked, object, shown)
 }
 
-fn lacks_asked(asked: &GetAttributes, object: &Object, shown: &AttrSet) -> bool
-    ensures { result ≡ lacks_asked (get_attributes_of asked.now) (card_of object.now) (attributes_of shown.now) }
+fn lacks_asked(
+    alloc: Global,
+    asked: &GetAttributes,
+    object: &Object,
+    shown: &AttrSet,
+) -> Result<bool, AllocError>
+    ensures { IfOk result (λ lacks. lacks ≡ lacks_asked (get_attributes_of asked.now) (card_of object.now) (attributes_of shown.now)) }
 {
-    lacks_name(asked, object, shown)
-        || lacks_value(asked, object, shown)
-        || lacks_date(asked, &object.life, shown)
+    let is_unnamed = lacks_name(alloc, asked, object, shown)?;
+    Ok(is_unnamed || lacks_value(asked, object, shown) || lacks_date(asked, &object.life, shown))
 }
 
-fn lacks_name(asked: &GetAttributes, object: &Object, shown: &AttrSet) -> bool
-    ensures { result ≡ lacks_name (get_attributes_of asked.now) (card_of object.now) (attributes_of shown.now) }
+fn lacks_name(
+    alloc: Global,
+    asked: &GetAttributes,
+    object: &Object,
+    shown: &AttrSet,
+) -> Result<bool, AllocError>
+    ensures { IfOk result (λ lacks. lacks ≡ lacks_name (get_attributes_of asked.now) (card_of object.now) (attributes_of shown.now)) }
 {
-    asks_for(asked, Judged::Name)
-        && has_stranger(shown.names.as_slice(), object.given.names.as_slice())
+    if !asks_for(asked, Judged::Name) {
+        return Ok(false);
+    }
+    finds_stranger(alloc, shown.names.as_slice(), object.given.names.as_slice())
 }
 
 fn lacks_value(asked: &GetAttributes, object: &Object, shown: &AttrSet) -> bool

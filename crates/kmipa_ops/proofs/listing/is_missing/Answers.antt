@@ -1,16 +1,19 @@
+use Rattle.std.proofs.Common.{subst}
 use Rattle.kmipa_attrs.specs.Filters.{filter_of}
+use Rattle.kmipa_ops.specs.Listing.{FitsAt}
+use Rattle.kmipa_ops.specs.declared.fit.Fit.{Fit}
 use Rattle.kmipa_ops.specs.declared.fit.Fit.TheVariants as fit
 use Rattle.kmipa_ops.proofs.ListingLemmas.{missing_must, missing_not}
 use Rattle.kmipa_ops.proofs.listing.is_missing.Goals as goal
 
 pub returns-in-Must : goal.returns-in-Must
 returns-in-Must g c =
-    missing_must (g.L.Ledger.state c.args.ledger.now).now.objects (g.L.Ledger.moment c.args.ledger.now) (filter_of c.args.filter.now) c.args.places.now c.args.place c.contains.result c.in-Must.ensures c.contains.ensures
+    missing_must (g.L.Ledger.state c.args.ledger.now).now.objects (g.L.Ledger.moment c.args.ledger.now) (filter_of c.args.filter.now) c.args.places.now c.args.place c.contains.result (subst (λ (f : Fit). FitsAt (g.L.Ledger.state c.args.ledger.now).now.objects (g.L.Ledger.moment c.args.ledger.now) (filter_of c.args.filter.now) c.args.place f) c.in-Must.is c.in_ok-fit.ensures) c.contains.ensures
 
 pub returns-in-May : goal.returns-in-May
 returns-in-May g c =
-    missing_not (g.L.Ledger.state c.args.ledger.now).now.objects (g.L.Ledger.moment c.args.ledger.now) (filter_of c.args.filter.now) c.args.places.now c.args.place fit.May c.in-May.ensures (λ e. cc)
+    missing_not (g.L.Ledger.state c.args.ledger.now).now.objects (g.L.Ledger.moment c.args.ledger.now) (filter_of c.args.filter.now) c.args.places.now c.args.place fit.May (subst (λ (f : Fit). FitsAt (g.L.Ledger.state c.args.ledger.now).now.objects (g.L.Ledger.moment c.args.ledger.now) (filter_of c.args.filter.now) c.args.place f) c.in-May.is c.in_ok-fit.ensures) (λ e. cc)
 
 pub returns-in-Not : goal.returns-in-Not
 returns-in-Not g c =
-    missing_not (g.L.Ledger.state c.args.ledger.now).now.objects (g.L.Ledger.moment c.args.ledger.now) (filter_of c.args.filter.now) c.args.places.now c.args.place fit.Not c.in-Not.ensures (λ e. cc)
+    missing_not (g.L.Ledger.state c.args.ledger.now).now.objects (g.L.Ledger.moment c.args.ledger.now) (filter_of c.args.filter.now) c.args.places.now c.args.place fit.Not (subst (λ (f : Fit). FitsAt (g.L.Ledger.state c.args.ledger.now).now.objects (g.L.Ledger.moment c.args.ledger.now) (filter_of c.args.filter.now) c.args.place f) c.in-Not.is c.in_ok-fit.ensures) (λ e. cc)

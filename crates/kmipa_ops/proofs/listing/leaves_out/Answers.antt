@@ -1,5 +1,6 @@
-use Rattle.std.proofs.Common.{◌≤◌, length, arith}
+use Rattle.std.proofs.Common.{◌≤◌, length, subst, arith}
 use Rattle.kmipa_attrs.specs.Filters.{filter_of}
+use Rattle.kmipa_ops.specs.Listing.{IsMissing}
 use Rattle.kmipa_ops.proofs.ListingLemmas.{scan_end, scan_more, scan_past}
 use Rattle.kmipa_ops.proofs.listing.leaves_out.Goals as goal
 
@@ -10,7 +11,7 @@ returns-in_default g c =
 pub scan-preserved : goal.scan-preserved
 scan-preserved g c =
     scan_more (g.L.Ledger.state c.args.ledger.now).now.objects (g.L.Ledger.moment c.args.ledger.now) (filter_of c.args.filter.now) c.args.places.now c.scan.from c.scan.invariant c.in-Some.place c.in-Some.ensures.next
-    c.if-is_missing.ensures
+    (subst (IsMissing (g.L.Ledger.state c.args.ledger.now).now.objects (g.L.Ledger.moment c.args.ledger.now) (filter_of c.args.filter.now) c.args.places.now c.in-Some.place) c.if-is_absent.false c.in_ok-is_absent.ensures)
 
 pub returns : goal.returns
 returns g c =

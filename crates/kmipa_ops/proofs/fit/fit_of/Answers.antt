@@ -2,7 +2,7 @@ use Rattle.std.proofs.Common.{◌∙◌, sym}
 use Rattle.kmipa_attrs.specs.Filters.{filter_of}
 use Rattle.kmipa_object.specs.Inventory.{card_of}
 use Rattle.kmipa_ops.proofs.LocateLemmas.{fits_not, fits_may, fits_must}
-use Rattle.kmipa_ops.proofs.fit.matches.Goals as goal
+use Rattle.kmipa_ops.proofs.fit.fit_of.Goals as goal
 
 pub returns-then-says_no : goal.returns-then-says_no
 returns-then-says_no c = fits_not (filter_of c.args.filter.now) c.args.state (card_of c.args.object.now) (sym c.says_no.ensures ∙ c.if-says_no.true)
