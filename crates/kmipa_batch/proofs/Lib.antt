@@ -7,3 +7,4 @@ pub mod RunLemmas
 pub mod EndLemmas
 pub mod ReadableLemmas
 pub mod TakenLemmas
+pub mod StandingLemmas

@@ -1,5 +1,5 @@
 -- The pairs of asks and answers up to a place.
-use Rattle.std.proofs.Common.{◌≡◌, ◌≤◌, ◌<◌, ℕ, zero, suc, ◌+◌, true, List, [], ◌∷◌, ◌++◌, length, take, Some, None, option_map, slice_get, get_or, map, refl, sym, ap, ◌∙◌, arith, add-one}
+use Rattle.std.proofs.Common.{◌≡◌, ◌≤◌, ◌<◌, ℕ, zero, suc, ◌+◌, true, List, [], ◌∷◌, ◌++◌, length, take, Option, Some, None, option_map, slice_get, get_or, map, refl, sym, ap, ◌∙◌, arith, add-one}
 use Rattle.std.specs.List.{zip}
 use Rattle.std.proofs.lemmas.Option.{slice_get_past, slice_get_read, slice_get-map}
 use Rattle.kmipa_msgs.specs.Messages.{AskOf, AnswerOf}
@@ -35,6 +35,41 @@ pair_no_right [] ys n e = refl
 pair_no_right (a ∷ xs) [] n e = refl
 pair_no_right (a ∷ xs) (b ∷ ys) zero e = let bad : ⊥ = cc in absurd bad
 pair_no_right (a ∷ xs) (b ∷ ys) (suc n) e = pair_no_right xs ys n e
+
+-- what is there of both
+abbrev pub both : {A B : Type 0} → Option A → Option B → Option (A × B)
+both None y = None
+both (Some x) None = None
+both (Some x) (Some y) = Some (x, y)
+
+both_none : {A B : Type 0} (o : Option A) → both {A = A} {B = B} o None ≡ None
+both_none None = refl
+both_none (Some x) = refl
+
+pub zip_get : {A B : Type 0} (xs : List A) (ys : List B) (n : ℕ) → slice_get (zip xs ys) n ≡ both (slice_get xs n) (slice_get ys n)
+zip_get [] ys n = refl
+zip_get (a ∷ xs) [] zero = refl
+zip_get (a ∷ xs) [] (suc n) = sym (both_none (slice_get xs n))
+zip_get (a ∷ xs) (b ∷ ys) zero = refl
+zip_get (a ∷ xs) (b ∷ ys) (suc n) = zip_get xs ys n
+
+-- a place below the pairs is below both
+pub zip_below : {A B : Type 0} (xs : List A) (ys : List B) (n : ℕ) → n < length (zip xs ys) → (n < length xs) × (n < length ys)
+zip_below [] ys n h = absurd (omega arith)
+zip_below (a ∷ xs) [] n h = absurd (omega arith)
+zip_below (a ∷ xs) (b ∷ ys) zero h = (omega arith, omega arith)
+zip_below (a ∷ xs) (b ∷ ys) (suc n) h = let r = zip_below xs ys n (omega (arith, h)) in (omega (arith, r.0), omega (arith, r.1))
+
+pub zip_above : {A B : Type 0} (xs : List A) (ys : List B) (n : ℕ) → n < length xs → n < length ys → n < length (zip xs ys)
+zip_above [] ys n h g = absurd (omega (arith, h))
+zip_above (a ∷ xs) [] n h g = absurd (omega (arith, g))
+zip_above (a ∷ xs) (b ∷ ys) zero h g = omega arith
+zip_above (a ∷ xs) (b ∷ ys) (suc n) h g = let r = zip_above xs ys n (omega (arith, h)) (omega (arith, g)) in omega (arith, r)
+
+pub zip_few : {A B : Type 0} (xs : List A) (ys : List B) → length (zip xs ys) ≤ length ys
+zip_few [] ys = omega arith
+zip_few (a ∷ xs) [] = omega arith
+zip_few (a ∷ xs) (b ∷ ys) = let r = zip_few xs ys in omega (arith, r)
 
 -- all pairs
 pub take_past : {A : Type 0} (xs : List A) (n : ℕ) → length xs ≤ n → take n xs ≡ xs

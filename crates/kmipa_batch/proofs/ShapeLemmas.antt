@@ -50,7 +50,7 @@ is_less a b e = omega (arith, ltb-true a b e)
 not_less : (a b : ℕ) → nat_lt a b ≡ false → b ≤ a
 not_less a b e = omega (arith, ltb-false a b e)
 
-less_or_not : (a b : ℕ) → ((a < b) × (nat_lt a b ≡ true)) ⊎ ((b ≤ a) × (nat_lt a b ≡ false))
+pub less_or_not : (a b : ℕ) → ((a < b) × (nat_lt a b ≡ true)) ⊎ ((b ≤ a) × (nat_lt a b ≡ false))
 less_or_not a b = elim (nat_lt a b) as (λ t. nat_lt a b ≡ t → ((a < b) × (nat_lt a b ≡ true)) ⊎ ((b ≤ a) × (nat_lt a b ≡ false))) [
   | true ↦ λ e. inl (is_less a b e, e)
   | false ↦ λ e. inr (not_less a b e, e)

@@ -1,12 +1,16 @@
 -- What is taken along a list of pairs, whatever the list: how it composes, and what a refusal behind it says.
-use Rattle.std.specs.Prelude.{◌++◌, ℕ, ℤ, List, [], ◌∷◌, Option}
+use Rattle.std.specs.Prelude.{◌≡◌, ◌≤◌, ◌++◌, ℕ, ℤ, List, [], ◌∷◌, length, Option, Some, None}
 use Rattle.kmipa_object.specs.Inventory.{Thing}
 use Rattle.kmipa_store.specs.Ledger.{Meaning}
 use Rattle.kmipa_store.specs.Choices.{Choice, Chooses, inv, IsSound}
-use Rattle.kmipa_msgs.specs.Messages.{RulesOf, AskOf, AnswerOf}
+use Rattle.kmipa_msgs.specs.Messages.{RulesOf, AskOf, RequestOf, AnswerOf, ResponseOf}
 use Rattle.kmipa_ops.specs.declared.why.Why.{Why}
 use Rattle.kmipa_ops.specs.Chains.{ChainSome}
 use Rattle.kmipa_ops.specs.Explains.{Explains, Refuted}
+use Rattle.kmipa_batch.specs.Shapes.{IsShaped}
+use Rattle.kmipa_batch.specs.Orders.{IsTakingOrder, places_from}
+use Rattle.kmipa_batch.specs.Calls.{pairs_of, pairs_taken}
+use Rattle.kmipa_batch.specs.Refusals.{SpeaksAtAlong}
 
 -- from some inventory of the ledger these pairs are done
 pub record CanChain (rules : RulesOf) (t : ℤ) (m : Meaning) (before : Option (List ℕ)) (pairs : List (AskOf × AnswerOf)) : Type 0 where
@@ -28,3 +32,20 @@ RefusalsAreExact =
     (rules : RulesOf) (t : ℤ) (m : Meaning) (before : Option (List ℕ)) (pairs : List (AskOf × AnswerOf)) (n : Meaning) (after : Option (List ℕ)) (ask : AskOf) (answer : AnswerOf) (why : Why)
     → Explains rules t m before pairs n after → IsSound n → Refuted rules n after t ask answer why
     → CanChain rules t m before pairs × (CanChain rules t m before (pairs ++ (ask, answer) ∷ []) → ⊥)
+
+-- by place, the pairs of a call are all its pairs
+abbrev pub ByPlaceIsAll : Type 0
+ByPlaceIsAll =
+    (request : RequestOf) (response : ResponseOf) (count : ℕ) → length (pairs_of request response) ≤ count
+    → pairs_taken request response (Some (places_from 0 count)) ≡ pairs_taken request response None
+
+-- by place is an order in which the items of a call without order may be done, where each place has its shape
+abbrev pub ByPlaceIsAnOrder : Type 0
+ByPlaceIsAnOrder =
+    (request : RequestOf) (response : ResponseOf) → IsShaped request response → IsTakingOrder request response (places_from 0 (length (pairs_of request response)))
+
+-- whatever the ledger knows, behind so many items of an order only one item of the call is told
+abbrev pub OneItemIsTold : Type 0
+OneItemIsTold =
+    (rules : RulesOf) (m n : Meaning) (request : RequestOf) (response : ResponseOf) (order : Option (List ℕ)) (count item other : ℕ) (why because : Why)
+    → SpeaksAtAlong rules m request response order count item why → SpeaksAtAlong rules n request response order count other because → item ≡ other

@@ -1,8 +1,9 @@
 pub mod Shapes
 pub mod Fits
-pub mod Calls
 pub mod Orders
-pub mod Composing
+pub mod Calls
 pub mod Readable
 pub mod Refusals
+pub mod Composing
 pub mod Running
+pub mod Standing

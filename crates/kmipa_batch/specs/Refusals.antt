@@ -1,5 +1,6 @@
--- What a ledger may claim of a call that it took or refused: one choice of bytes for every secret that ever existed meets all of it.
-use Rattle.std.specs.Prelude.{◌≡◌, ◌≤◌, ◌⊎◌, ℕ, ◌+◌, List, length, take, Option, Some, None, Result, Ok, Err, slice_get}
+-- What a ledger may claim of a call that it took or refused: one choice of bytes for every secret that ever existed meets all of it. The
+-- items are taken by place (no order), or in the order that was handed in.
+use Rattle.std.specs.Prelude.{◌≡◌, ◌≤◌, ◌<◌, ◌⊎◌, ℕ, ◌+◌, Bool, true, false, List, length, take, Option, Some, None, Result, Ok, Err, slice_get}
 use Rattle.kmipa_object.specs.Inventory.{Thing}
 use Rattle.kmipa_store.specs.Ledger.{Meaning, LedgerState, bytes_at}
 use Rattle.kmipa_store.specs.Choices.{Choice, Chooses, Agrees, inv, IsSound, Extends}
@@ -8,17 +9,18 @@ use Rattle.kmipa_ops.specs.declared.why.Why.{Why}
 use Rattle.kmipa_ops.specs.declared.why.Why.TheVariants.{BatchShape}
 use Rattle.kmipa_ops.specs.Chains.{ChainSome}
 use Rattle.kmipa_ops.specs.Explains.{Explains, Tells, Refuted}
-use Rattle.kmipa_batch.specs.Shapes.{IsShapedAt, IsShapedBelow}
-use Rattle.kmipa_batch.specs.Calls.{pairs_of, RefusesMessage, CallSome}
+use Rattle.kmipa_batch.specs.Shapes.{IsShapedAt, IsFirstUnshaped}
+use Rattle.kmipa_batch.specs.Orders.{is_unordered, place_at}
+use Rattle.kmipa_batch.specs.Calls.{pairs_of, pairs_taken, RefusesMessage, CallSomeAlong}
 use Rattle.kmipa_batch.specs.declared.refusal.CallRefusal.{CallRefusal}
 use Rattle.kmipa_batch.specs.declared.refusal.CallRefusal.TheVariants.{Impossible, Memory}
 
--- the call leads the ledger from `m` to `n`
-pub record CallExplains (rules : RulesOf) (m : Meaning) (request : RequestOf) (response : ResponseOf) (n : Meaning) : Type 0 where
+-- the call, in this order, leads the ledger from `m` to `n`
+pub record CallExplainsAlong (rules : RulesOf) (m : Meaning) (request : RequestOf) (response : ResponseOf) (order : Option (List ℕ)) (n : Meaning) : Type 0 where
   -- every choice afterwards was a choice before, and the call links the two inventories
-  pub sound : (c : Choice) → Chooses n.secrets c → Chooses m.secrets c × CallSome rules (inv c m.objects) request response (inv c n.objects)
+  pub sound : (c : Choice) → Chooses n.secrets c → Chooses m.secrets c × CallSomeAlong rules (inv c m.objects) request response order (inv c n.objects)
   -- whatever the call reaches from an inventory before is an inventory afterwards, under a choice that agrees on the secrets before
-  pub complete : (c : Choice) → Chooses m.secrets c → (V : List Thing) → CallSome rules (inv c m.objects) request response V
+  pub complete : (c : Choice) → Chooses m.secrets c → (V : List Thing) → CallSomeAlong rules (inv c m.objects) request response order V
       → (d : Choice) × Chooses n.secrets d × Agrees (length m.secrets) c d × (V ≡ inv d n.objects)
   -- bytes are known only where they were, or where an item told them
   pub learns : (number : ℕ) (bytes : List ℕ) → bytes_at n.secrets number ≡ Some (Some bytes)
@@ -26,35 +28,63 @@ pub record CallExplains (rules : RulesOf) (m : Meaning) (request : RequestOf) (r
   pub grows : length m.secrets ≤ length n.secrets
   pub extends : Extends m.secrets n.secrets
 
--- from some inventory of the ledger the first places have their shape and are done
-pub record IsPossibleUpTo (rules : RulesOf) (m : Meaning) (request : RequestOf) (response : ResponseOf) (count : ℕ) : Type 0 where
-  pub shaped : IsShapedBelow request response count
+-- Whether the shape of a place is judged by the time that so many items are done. In an ordered call it is judged just ahead of the place's
+-- item; in a call without order all shapes are judged ahead of the first item.
+abbrev pub IsJudgedBy : Bool → ℕ → ℕ → Type 0
+IsJudgedBy false count place = place < count
+IsJudgedBy true count place = 0 < count
+
+-- the shapes that are judged by the time that so many items are done are right
+abbrev pub AreShapedFor : RequestOf → ResponseOf → ℕ → Type 0
+AreShapedFor request response count = (place : ℕ) → IsJudgedBy (is_unordered request) count place → IsShapedAt request response place
+
+-- from some inventory of the ledger the first items of the order are done, and the shapes that are judged by then are right
+pub record IsPossibleUpToAlong (rules : RulesOf) (m : Meaning) (request : RequestOf) (response : ResponseOf) (order : Option (List ℕ)) (count : ℕ) : Type 0 where
+  pub shaped : AreShapedFor request response count
   pub choice : Choice
   pub chooses : Chooses m.secrets choice
   pub things : List Thing
   pub placeholder : Option (List ℕ)
-  pub chain : ChainSome rules response.stamp (inv choice m.objects) None (take count (pairs_of request response)) things placeholder
+  pub chain : ChainSome rules response.stamp (inv choice m.objects) None (take count (pairs_taken request response order)) things placeholder
 
--- the reason against the place behind the first `count`, the lowest: it hasn't its shape; or it has, and against its item speaks this one,
--- the known bytes being those of the ledger and of the places before
-pub data SpeaksAt (rules : RulesOf) (m : Meaning) (request : RequestOf) (response : ResponseOf) (count : ℕ) (why : Why) : Type 0 where
-  in_shape : (IsShapedAt request response count → ⊥) → why ≡ BatchShape → SpeaksAt rules m request response count why
-  in_item : IsShapedAt request response count → (between : Meaning) (placeholder : Option (List ℕ)) (ask : AskOf) (answer : AnswerOf)
-      → Explains rules response.stamp m None (take count (pairs_of request response)) between placeholder
-      → slice_get (pairs_of request response) count ≡ Some (ask, answer) → Refuted rules between placeholder response.stamp ask answer why
-      → SpeaksAt rules m request response count why
+-- What speaks behind the first `count` items of the order, and against which item, told from 1. A shape that is judged next is wrong, and
+-- the lowest place without its shape is told. Or they are right, and against the next item speaks this reason, the lowest, the known bytes
+-- being those of the ledger and of the items before.
+pub data SpeaksAtAlong (rules : RulesOf) (m : Meaning) (request : RequestOf) (response : ResponseOf) (order : Option (List ℕ)) (count item : ℕ) (why : Why) : Type 0 where
+  in_shape : (place : ℕ) → item ≡ place + 1 → IsJudgedBy (is_unordered request) (count + 1) place → IsFirstUnshaped request response place → why ≡ BatchShape
+      → SpeaksAtAlong rules m request response order count item why
+  in_item : (place : ℕ) → item ≡ place + 1 → AreShapedFor request response (count + 1) → place_at order count ≡ Some place
+      → (between : Meaning) (placeholder : Option (List ℕ)) (ask : AskOf) (answer : AnswerOf)
+      → Explains rules response.stamp m None (take count (pairs_taken request response order)) between placeholder
+      → slice_get (pairs_of request response) place ≡ Some (ask, answer) → Refuted rules between placeholder response.stamp ask answer why
+      → SpeaksAtAlong rules m request response order count item why
 
--- the places before this one are possible, with it they are not, and this is the lowest reason. Places are told from 1
-pub record CallRefuted (rules : RulesOf) (m : Meaning) (request : RequestOf) (response : ResponseOf) (item : ℕ) (why : Why) : Type 0 where
+-- so many items are possible, with one more they are not, and this item is told with this reason
+pub record CallRefutedAlong (rules : RulesOf) (m : Meaning) (request : RequestOf) (response : ResponseOf) (order : Option (List ℕ)) (item : ℕ) (why : Why) : Type 0 where
   pub count : ℕ
-  pub told : item ≡ count + 1
-  pub before : IsPossibleUpTo rules m request response count
-  pub never : IsPossibleUpTo rules m request response (count + 1) → ⊥
+  pub before : IsPossibleUpToAlong rules m request response order count
+  pub never : IsPossibleUpToAlong rules m request response order (count + 1) → ⊥
   pub unrefused : RefusesMessage response → ⊥
-  pub speaks : SpeaksAt rules m request response count why
+  pub speaks : SpeaksAtAlong rules m request response order count item why
 
--- what taking a call comes to: from a ledger `s` to `u`
+-- what taking a call in this order comes to: from a ledger `s` to `u`
+abbrev pub CallTakenAlong : RulesOf → LedgerState → RequestOf → ResponseOf → Option (List ℕ) → Result (Unit {0}) CallRefusal → LedgerState → Type 0
+CallTakenAlong rules s request response order (Ok done) u = CallExplainsAlong rules s.now request response order u.now × IsSound u.now × (u.marks ≡ s.marks)
+CallTakenAlong rules s request response order (Err (Impossible item why)) u = CallRefutedAlong rules s.now request response order item why × (u ≡ s)
+CallTakenAlong rules s request response order (Err Memory) u = u ≡ s
+
+-- the same by place
+abbrev pub CallExplains : RulesOf → Meaning → RequestOf → ResponseOf → Meaning → Type 0
+CallExplains rules m request response n = CallExplainsAlong rules m request response None n
+
+abbrev pub IsPossibleUpTo : RulesOf → Meaning → RequestOf → ResponseOf → ℕ → Type 0
+IsPossibleUpTo rules m request response count = IsPossibleUpToAlong rules m request response None count
+
+abbrev pub SpeaksAt : RulesOf → Meaning → RequestOf → ResponseOf → ℕ → ℕ → Why → Type 0
+SpeaksAt rules m request response count item why = SpeaksAtAlong rules m request response None count item why
+
+abbrev pub CallRefuted : RulesOf → Meaning → RequestOf → ResponseOf → ℕ → Why → Type 0
+CallRefuted rules m request response item why = CallRefutedAlong rules m request response None item why
+
 abbrev pub CallTaken : RulesOf → LedgerState → RequestOf → ResponseOf → Result (Unit {0}) CallRefusal → LedgerState → Type 0
-CallTaken rules s request response (Ok done) u = CallExplains rules s.now request response u.now × IsSound u.now × (u.marks ≡ s.marks)
-CallTaken rules s request response (Err (Impossible item why)) u = CallRefuted rules s.now request response item why × (u ≡ s)
-CallTaken rules s request response (Err Memory) u = u ≡ s
+CallTaken rules s request response result u = CallTakenAlong rules s request response None result u

@@ -1,5 +1,5 @@
--- What the items of a batch come to, one after the other.
-use Rattle.std.specs.Prelude.{◌≡◌, ℕ, ◌+◌, ℤ, List, take, Option, Some, None, Result, Ok, Err, slice_get}
+-- What the items of a batch come to, one after the other. Not promised.
+use Rattle.std.specs.Prelude.{◌≡◌, ◌≤◌, ℕ, ◌+◌, ℤ, List, length, take, Option, Some, None, Result, Ok, Err, slice_get}
 use Rattle.kmipa_store.specs.Ledger.{Meaning, LedgerState}
 use Rattle.kmipa_store.specs.Choices.{IsSound}
 use Rattle.kmipa_msgs.specs.Messages.{RulesOf, AskOf, RequestOf, AnswerOf, ResponseOf}
@@ -7,10 +7,10 @@ use Rattle.kmipa_ops.specs.declared.why.Why.{Why}
 use Rattle.kmipa_ops.specs.declared.why.Refusal.{Refusal}
 use Rattle.kmipa_ops.specs.declared.why.Refusal.TheVariants as item
 use Rattle.kmipa_ops.specs.Explains.{Explains, Refuted}
-use Rattle.kmipa_batch.specs.Shapes.{IsShapedAt, IsShapedBelow, IsShaped}
-use Rattle.kmipa_batch.specs.Calls.{pairs_of}
-use Rattle.kmipa_batch.specs.Orders.{one_of, along}
-use Rattle.kmipa_batch.specs.Refusals.{CallRefuted}
+use Rattle.kmipa_batch.specs.Shapes.{IsShaped, IsFirstUnshaped}
+use Rattle.kmipa_batch.specs.Orders.{one_of, along, places_from}
+use Rattle.kmipa_batch.specs.Calls.{pairs_taken}
+use Rattle.kmipa_batch.specs.Refusals.{CallRefutedAlong}
 use Rattle.kmipa_batch.specs.declared.refusal.CallRefusal.{CallRefusal}
 use Rattle.kmipa_batch.specs.declared.refusal.CallRefusal.TheVariants.{Impossible, Memory}
 
@@ -35,6 +35,16 @@ PairTaken rules s before t pair result u after = PairCame rules s.now before t p
 abbrev pub refused_at : ℕ → Refusal → CallRefusal
 refused_at place (item.Impossible why) = Impossible (place + 1) why
 refused_at place item.Memory = Memory
+
+-- the places of an order: these, or else so many by place
+abbrev pub places_of : Option (List ℕ) → ℕ → List ℕ
+places_of None count = places_from 0 count
+places_of (Some order) count = order
+
+-- how many places are taken: as many as were handed in, or else all that have an item
+abbrev pub TakesCount : RequestOf → Option (List ℕ) → ℕ → Type 0
+TakesCount request None count = length request.items ≤ count
+TakesCount request (Some places) count = count ≡ length places
 
 -- all pairs along this order were taken
 pub record AlongDone (rules : RulesOf) (t : ℤ) (m : Meaning) (pairs : List (AskOf × AnswerOf)) (order : List ℕ) (n : Meaning) : Type 0 where
@@ -67,21 +77,21 @@ AlongTaken rules t s pairs order result u = AlongCame rules t s.now pairs order 
 -- the lowest place without its shape, if there is one
 abbrev pub LowestUnshaped : RequestOf → ResponseOf → Option ℕ → Type 0
 LowestUnshaped request response None = IsShaped request response
-LowestUnshaped request response (Some place) = IsShapedBelow request response place × (IsShapedAt request response place → ⊥)
+LowestUnshaped request response (Some place) = IsFirstUnshaped request response place
 
--- all items were taken, in their shape
-pub record AllTaken (rules : RulesOf) (m : Meaning) (request : RequestOf) (response : ResponseOf) (n : Meaning) : Type 0 where
+-- all items were taken in this order, in their shape
+pub record AllTaken (rules : RulesOf) (m : Meaning) (request : RequestOf) (response : ResponseOf) (order : Option (List ℕ)) (n : Meaning) : Type 0 where
   pub shaped : IsShaped request response
   pub placeholder : Option (List ℕ)
-  pub explains : Explains rules response.stamp m None (pairs_of request response) n placeholder
+  pub explains : Explains rules response.stamp m None (pairs_taken request response order) n placeholder
   pub sound : IsSound n
 
 -- what the items of a batch come to
-abbrev pub Came : RulesOf → Meaning → RequestOf → ResponseOf → Result (Unit {0}) CallRefusal → Meaning → Type 0
-Came rules m request response (Ok done) n = AllTaken rules m request response n
-Came rules m request response (Err (Impossible item why)) n = CallRefuted rules m request response item why
-Came rules m request response (Err Memory) n = Unit {0}
+abbrev pub Came : RulesOf → Meaning → RequestOf → ResponseOf → Option (List ℕ) → Result (Unit {0}) CallRefusal → Meaning → Type 0
+Came rules m request response order (Ok done) n = AllTaken rules m request response order n
+Came rules m request response order (Err (Impossible item why)) n = CallRefutedAlong rules m request response order item why
+Came rules m request response order (Err Memory) n = Unit {0}
 
 -- and they leave the marks
-abbrev pub Ran : RulesOf → LedgerState → RequestOf → ResponseOf → Result (Unit {0}) CallRefusal → LedgerState → Type 0
-Ran rules s request response result u = Came rules s.now request response result u.now × (u.marks ≡ s.marks)
+abbrev pub Ran : RulesOf → LedgerState → RequestOf → ResponseOf → Option (List ℕ) → Result (Unit {0}) CallRefusal → LedgerState → Type 0
+Ran rules s request response order result u = Came rules s.now request response order result u.now × (u.marks ≡ s.marks)

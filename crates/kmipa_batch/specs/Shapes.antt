@@ -56,3 +56,7 @@ IsShapedBelow request response count = (place : ℕ) → place < count → IsSha
 -- each place of the call has
 abbrev pub IsShaped : RequestOf → ResponseOf → Type 0
 IsShaped request response = (place : ℕ) → IsShapedAt request response place
+
+-- the lowest place of the call without its shape
+abbrev pub IsFirstUnshaped : RequestOf → ResponseOf → ℕ → Type 0
+IsFirstUnshaped request response place = IsShapedBelow request response place × (IsShapedAt request response place → ⊥)

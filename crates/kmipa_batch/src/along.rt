@@ -5,9 +5,9 @@ ghost use Rattle.kmipa_store.specs.Choices.{IsSound};
 ghost use Rattle.kmipa_msgs.specs.Messages.{maybe_lent, request_of, response_of, rules_of};
 ghost use Rattle.kmipa_ops.specs.Placeholders.{placeholder_of};
 ghost use Rattle.kmipa_batch.specs.Calls.{pairs_of};
-ghost use Rattle.kmipa_batch.specs.Orders.{order_of};
+ghost use Rattle.kmipa_batch.specs.Orders.{order_given};
 ghost use Rattle.kmipa_batch.specs.Readable.{AreReadable};
-ghost use Rattle.kmipa_batch.specs.Running.{AlongTaken, PairTaken, refused_at};
+ghost use Rattle.kmipa_batch.specs.Running.{AlongTaken, PairTaken, places_of, refused_at};
 
 use crate::refusal::CallRefusal;
 use kmipa_msgs::{Request, Response, Rules};
@@ -28,9 +28,9 @@ pub(crate) fn take_along<L: Ledger>(
 ) -> Result<(), CallRefusal>
     requires sound { IsSound (L.state ledger.old).now }
     requires readable { AreReadable (pairs_of (request_of request.now) (response_of response.now)) }
-    requires counted { length (order_of (maybe_lent places) count) ≡ count }
+    requires counted { length (places_of (order_given (maybe_lent places)) count) ≡ count }
     requires from_one { IfSome (maybe_lent places) (λ ps. All (λ p. 1 ≤ p) ps) }
-    ensures { AlongTaken (rules_of rules.now) response.now.stamp (L.state ledger.old) (pairs_of (request_of request.now) (response_of response.now)) (order_of (maybe_lent places.entry) count) result (L.state ledger.new) }
+    ensures { AlongTaken (rules_of rules.now) response.now.stamp (L.state ledger.old) (pairs_of (request_of request.now) (response_of response.now)) (places_of (order_given (maybe_lent places.entry)) count) result (L.state ledger.new) }
 {
     let mut placeholder = Placeholder::new();
     for position in 0..count {
@@ -56,7 +56,7 @@ fn place_at(places: Option<&[usize]>, position: usize) -> usize
     requires last { position < usize.MAX }
     requires within { IfSome (maybe_lent places) (λ ps. position < length ps) }
     requires from_one { IfSome (maybe_lent places) (λ ps. All (λ p. 1 ≤ p) ps) }
-    ensures there { slice_get (order_of (maybe_lent places.entry) (position + 1)) position ≡ Some result }
+    ensures there { slice_get (places_of (order_given (maybe_lent places.entry)) (position + 1)) position ≡ Some result }
     ensures last { result < usize.MAX }
 {
     match places {

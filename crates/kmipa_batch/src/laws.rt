@@ -1,7 +1,6 @@
-//! What the definitions say together, of any list of pairs of an item and its answer.
+//! What the definitions say together: of any list of pairs of an item and its answer, and of the orders of a call.
 
-ghost use Rattle.kmipa_batch.specs.Composing.{ChainsCompose, RefusalsAreExact};
-ghost use Rattle.kmipa_batch.specs.Orders.{ByPlaceIsAll};
+ghost use Rattle.kmipa_batch.specs.Composing.{ByPlaceIsAll, ByPlaceIsAnOrder, ChainsCompose, OneItemIsTold, RefusalsAreExact};
 
 /// A ledger that was led along some pairs, and then along others, was led along both together.
 pub fn chains_compose()
@@ -16,4 +15,14 @@ pub fn refusals_are_exact()
 /// By place, the pairs of a call are all its pairs.
 pub fn by_place_is_all()
     ensures { ByPlaceIsAll }
+{}
+
+/// By place is an order in which the items of a call without order may be done, where each place has its shape.
+pub fn by_place_is_an_order()
+    ensures { ByPlaceIsAnOrder }
+{}
+
+/// Behind so many items of an order only one item of the call is told.
+pub fn one_item_is_told()
+    ensures { OneItemIsTold }
 {}

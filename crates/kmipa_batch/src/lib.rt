@@ -3,12 +3,16 @@
 
 mod along;
 mod laws;
+mod order;
 mod readable;
 mod refusal;
 mod shape;
 mod taking;
 
-pub use laws::{by_place_is_all, chains_compose, refusals_are_exact};
+pub use laws::{
+    by_place_is_all, by_place_is_an_order, chains_compose, one_item_is_told, refusals_are_exact,
+};
+pub use order::{is_taking_order, is_unordered};
 pub use readable::is_readable_call;
 pub use refusal::CallRefusal;
 pub use shape::is_refused_message;

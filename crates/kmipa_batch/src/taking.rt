@@ -1,17 +1,19 @@
 //! One call, taken over any ledger.
 
-ghost use Rattle.std.specs.Prelude.{◌≡◌, ◌<◌, ◌≤◌, ◌↔◌, IfSome, IsTrue, if◌then◌else◌, length, option_map, slice_get};
+ghost use Rattle.std.specs.Prelude.{◌≡◌, ◌<◌, ◌≤◌, ◌↔◌, All, IfSome, IsTrue, if◌then◌else◌, length, option_map, slice_get};
 ghost use Rattle.kmipa_store.specs.Ledger.{kept, undone};
 ghost use Rattle.kmipa_store.specs.Choices.{IsSound};
-ghost use Rattle.kmipa_msgs.specs.Messages.{AnswerOf, request_of, response_of, rules_of};
+ghost use Rattle.kmipa_msgs.specs.Messages.{AnswerOf, maybe_lent, request_of, response_of, rules_of};
 ghost use Rattle.kmipa_batch.specs.Shapes.{IsShapedAt};
 ghost use Rattle.kmipa_batch.specs.Fits.{FailedAt, fits, undoes};
-ghost use Rattle.kmipa_batch.specs.Calls.{RefusesMessage, pairs_of};
+ghost use Rattle.kmipa_batch.specs.Orders.{order_given};
+ghost use Rattle.kmipa_batch.specs.Calls.{MayTake, RefusesMessage, pairs_of};
 ghost use Rattle.kmipa_batch.specs.Readable.{AreReadable, IsReadableCall};
-ghost use Rattle.kmipa_batch.specs.Refusals.{CallTaken};
-ghost use Rattle.kmipa_batch.specs.Running.{LowestUnshaped, Ran};
+ghost use Rattle.kmipa_batch.specs.Refusals.{CallTakenAlong};
+ghost use Rattle.kmipa_batch.specs.Running.{LowestUnshaped, Ran, TakesCount};
 
 use crate::along::take_along;
+use crate::order::is_unordered;
 use crate::refusal::CallRefusal;
 use crate::shape::{first_failed, has_shape, is_refused_message, is_undone};
 use kmipa_msgs::{BatchOption, Request, Response, Rules, Status};
@@ -19,22 +21,28 @@ use kmipa_ops::Why;
 use kmipa_store::{Ledger, Mark};
 use std::alloc::Global;
 
-/// Takes one call: its items in their order at the Time Stamp of its response, and then what the Batch Error Continuation Option leaves of
-/// them. Where some inventory that the ledger stands for allows the whole response, the ledger then stands for what the call leaves, and
-/// knows what the answers told; else the first place at which none does is told with the lowest reason, and nothing is changed. A message
-/// that is refused as a whole changes nothing. After want of memory the ledger is as before.
+/// Takes one call: its items at the Time Stamp of its response, and then what the Batch Error Continuation Option leaves of them. The items
+/// are taken by place, or else in the order of `places`, which are counted from 1. Where some inventory that the ledger stands for allows
+/// the whole response, the ledger then stands for what the call leaves, and knows what the answers told; else the first item at which none
+/// does is told with the lowest reason, and nothing is changed. In an ordered call the shape of a place is judged just ahead of its item; in
+/// a call without order all shapes are judged first. A message that is refused as a whole changes nothing. After want of memory the ledger
+/// is as before.
 ///
-/// The messages aren't outside the profile, and each wanted payload has been put in: `IsReadableCall`.
+/// The messages aren't outside the profile, and each wanted payload has been put in: `IsReadableCall`. Places are given only where the
+/// items may be done in their order: `MayTake`.
 pub fn take_call<L: Ledger>(
     alloc: Global,
     ledger: &mut L,
     rules: &Rules,
     request: &Request,
     response: &Response,
+    places: Option<&[usize]>,
 ) -> Result<(), CallRefusal>
     requires sound { IsSound (L.state ledger.old).now }
     requires readable { IsReadableCall (request_of request.now) (response_of response.now) }
-    ensures { CallTaken (rules_of rules.now) (L.state ledger.old) (request_of request.now) (response_of response.now) result (L.state ledger.new) }
+    requires from_one { IfSome (maybe_lent places) (λ ps. All (λ p. 1 ≤ p) ps) }
+    requires order { MayTake (request_of request.now) (response_of response.now) (order_given (maybe_lent places)) }
+    ensures { CallTakenAlong (rules_of rules.now) (L.state ledger.old) (request_of request.now) (response_of response.now) (order_given (maybe_lent places.entry)) result (L.state ledger.new) }
 {
     if is_refused_message(response) {
         return Ok(());
@@ -43,7 +51,7 @@ pub fn take_call<L: Ledger>(
         return Err(CallRefusal::Memory);
     };
     let failed = first_failed(&response.items);
-    match take_items(alloc, ledger, rules, request, response, failed) {
+    match take_items(alloc, ledger, rules, request, response, places, failed) {
         Ok(()) => {
             end(ledger, mark, request.option, failed);
             Ok(())
@@ -67,30 +75,45 @@ fn end<L: Ledger>(ledger: &mut L, mark: Mark, option: BatchOption, failed: Optio
     }
 }
 
-/// Takes the items of a call by place. The first place that hasn't its shape, or whose item is impossible, is told.
+/// Takes the items of a call. Where a place hasn't its shape, the lowest such place is told: in an ordered call behind the items ahead of
+/// it, if those are possible, and in a call without order ahead of all items.
 fn take_items<L: Ledger>(
     alloc: Global,
     ledger: &mut L,
     rules: &Rules,
     request: &Request,
     response: &Response,
+    places: Option<&[usize]>,
     failed: Option<usize>,
 ) -> Result<(), CallRefusal>
     requires sound { IsSound (L.state ledger.old).now }
     requires readable { AreReadable (pairs_of (request_of request.now) (response_of response.now)) }
     requires unrefused { RefusesMessage (response_of response.now) → ⊥ }
     requires failed_at { FailedAt (response_of response.now).items failed }
-    ensures { Ran (rules_of rules.now) (L.state ledger.old) (request_of request.now) (response_of response.now) result (L.state ledger.new) }
+    requires from_one { IfSome (maybe_lent places) (λ ps. All (λ p. 1 ≤ p) ps) }
+    requires order { MayTake (request_of request.now) (response_of response.now) (order_given (maybe_lent places)) }
+    ensures { Ran (rules_of rules.now) (L.state ledger.old) (request_of request.now) (response_of response.now) (order_given (maybe_lent places.entry)) result (L.state ledger.new) }
 {
-    match first_unshaped(request, response, failed) {
-        None => {
-            let count = places(request, response);
-            take_along(alloc, ledger, rules, request, response, None, count)
-        }
-        Some(place) => {
-            take_along(alloc, ledger, rules, request, response, None, place)?;
-            Err(CallRefusal::Impossible(place + 1, Why::BatchShape))
-        }
+    let Some(unshaped) = first_unshaped(request, response, failed) else {
+        let count = taken_count(request, response, places);
+        return take_along(alloc, ledger, rules, request, response, places, count);
+    };
+    let refusal = CallRefusal::Impossible(unshaped + 1, Why::BatchShape);
+    let shapes_first = is_unordered(request);
+    if shapes_first {
+        return Err(refusal);
+    }
+    take_along(alloc, ledger, rules, request, response, None, unshaped)?;
+    Err(refusal)
+}
+
+/// How many places are taken: those that are given, or else all.
+fn taken_count(request: &Request, response: &Response, places: Option<&[usize]>) -> usize
+    ensures { TakesCount (request_of request.now) (maybe_lent places.entry) result }
+{
+    match places {
+        Some(places) => places.len(),
+        None => place_count(request, response),
     }
 }
 
@@ -100,7 +123,7 @@ fn first_unshaped(request: &Request, response: &Response, failed: Option<usize>)
     ensures lowest { LowestUnshaped (request_of request.now) (response_of response.now) result }
     ensures last { IfSome result (λ place. place < usize.MAX) }
 {
-    for place in 0..places(request, response) {
+    for place in 0..place_count(request, response) {
         if !is_shaped_at(request, response, failed, place) {
             return Some(place);
         }
@@ -109,7 +132,7 @@ fn first_unshaped(request: &Request, response: &Response, failed: Option<usize>)
 }
 
 /// How many places there are: as many as there are items, or answers, if those are more.
-fn places(request: &Request, response: &Response) -> usize
+fn place_count(request: &Request, response: &Response) -> usize
     ensures asks { length request.now.items.items ≤ result }
     ensures answers { length response.now.items.items ≤ result }
 {

@@ -4,7 +4,9 @@ ghost use Rattle.std.specs.Prelude.{IfOk};
 ghost use Rattle.kmipa_store.specs.Choices.{IsSound};
 ghost use Rattle.kmipa_store.specs.States.{state_of_copies, state_of_journal};
 
-use crate::{CallRefusal, is_readable_call, is_refused_message, take_call};
+use crate::{
+    CallRefusal, is_readable_call, is_refused_message, is_taking_order, is_unordered, take_call,
+};
 use kmipa_attrs::{AttrSet, ObjectType};
 use kmipa_msgs::{
     Answer, Ask, Asked, BatchOption, Get, Got, KeyBlock, KeyFormat, Payload, Register, Registered,
@@ -161,7 +163,27 @@ fn taken<L: Ledger>(
     ensures { IsSound (L.state ledger.new).now }
 {
     assert!(rt; is_readable_call(request, response));
-    take_call(alloc, ledger, rules, request, response)
+    take_call(alloc, ledger, rules, request, response, None)
+}
+
+/// Takes a call without order in the order of these places.
+fn taken_in_order<L: Ledger>(
+    rt: &impl Abort,
+    alloc: Global,
+    ledger: &mut L,
+    rules: &Rules,
+    request: &Request,
+    response: &Response,
+    places: &[usize],
+) -> Result<Result<(), CallRefusal>, Fail>
+    requires { IsSound (L.state ledger.old).now }
+    ensures { IfOk result (λ _. IsSound (L.state ledger.new).now) }
+{
+    assert!(rt; is_readable_call(request, response));
+    assert!(rt; is_unordered(request) && !is_refused_message(response));
+    assert!(rt; is_taking_order(alloc, request, response, places)?);
+    let places = Some(places);
+    Ok(take_call(alloc, ledger, rules, request, response, places))
 }
 
 /// A Get without identifier means the object registered before it in its call, and none in the next call.
@@ -323,6 +345,36 @@ fn undone_get_teaches<L: Ledger>(rt: &impl Abort, alloc: Global, ledger: &mut L)
     Ok(())
 }
 
+/// In a batch without order a Register may come ahead of the Get of its object that stands before it.
+fn later_item_first<L: Ledger>(rt: &impl Abort, alloc: Global, ledger: &mut L) -> Result<(), Fail>
+    requires { IsSound (L.state ledger.old).now }
+{
+    let rules = Rules::default_rules(alloc)?;
+    let mut request = asking(alloc, BatchOption::Continue);
+    request.ordered = false;
+    request.items.push(get(Some("r1")))?;
+    request.items.push(register(alloc, &K))?;
+    let mut response = answering(alloc);
+    response.items.push(shown(Status::Success, &K))?;
+    let unanswered = CallRefusal::Impossible(2, Why::BatchShape);
+    assert_eq!(rt;
+        taken(rt, alloc, ledger, &rules, &request, &response),
+        Err(unanswered)
+    );
+    response.items.push(registered(Status::Success, "r1"))?;
+    let first = CallRefusal::Impossible(1, Why::NoSuchObject);
+    assert_eq!(rt;
+        taken(rt, alloc, ledger, &rules, &request, &response),
+        Err(first)
+    );
+    assert_eq!(rt;
+        taken_in_order(rt, alloc, ledger, &rules, &request, &response, &[2, 1])?,
+        Ok(())
+    );
+    assert_eq!(rt; ledger.find("r1"), Some(0));
+    Ok(())
+}
+
 /// One failed answer without Operation refuses the message: nothing is done.
 fn message_refused<L: Ledger>(rt: &impl Abort, alloc: Global, ledger: &mut L) -> Result<(), Fail>
     requires { IsSound (L.state ledger.old).now }
@@ -350,6 +402,7 @@ fn calls_over_copies(rt: HostRuntime) -> Result<(), Fail> {
     continue_goes_on(&rt, alloc, &mut copies(alloc))?;
     undo_undoes_earlier(&rt, alloc, &mut copies(alloc))?;
     undone_get_teaches(&rt, alloc, &mut copies(alloc))?;
+    later_item_first(&rt, alloc, &mut copies(alloc))?;
     message_refused(&rt, alloc, &mut copies(alloc))
 }
 
@@ -361,7 +414,24 @@ fn calls_over_a_journal(rt: HostRuntime) -> Result<(), Fail> {
     continue_goes_on(&rt, alloc, &mut journal(alloc))?;
     undo_undoes_earlier(&rt, alloc, &mut journal(alloc))?;
     undone_get_teaches(&rt, alloc, &mut journal(alloc))?;
+    later_item_first(&rt, alloc, &mut journal(alloc))?;
     message_refused(&rt, alloc, &mut journal(alloc))
+}
+
+/// Under Stop the item that failed ended the batch, and each place stands once.
+#[test]
+fn orders(rt: HostRuntime) -> Result<(), Fail> {
+    let alloc = rt.alloc();
+    let mut request = asking(alloc, BatchOption::Stop);
+    request.ordered = false;
+    request.items.push(register(alloc, &K))?;
+    request.items.push(get(Some("other")))?;
+    let response = two_answers(alloc, Status::Success)?;
+    assert!(rt; is_taking_order(alloc, &request, &response, &[1, 2])?);
+    assert!(rt; !is_taking_order(alloc, &request, &response, &[2, 1])?);
+    assert!(rt; !is_taking_order(alloc, &request, &response, &[1, 1])?);
+    assert!(rt; !is_taking_order(alloc, &request, &response, &[2])?);
+    Ok(())
 }
 
 /// A Success without its payload can't be judged.
