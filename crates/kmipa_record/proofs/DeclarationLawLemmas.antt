@@ -157,7 +157,7 @@ cut_records (i ∷ items) more item (r ∷ rs) z =
 
 -- ---- no record is faulty
 
-no_pair : (xs ys : List EntryOf) (e : EntryOf) → AllPairs (λ (a b : EntryOf). a.id ≢ b.id) (xs ++ e ∷ ys) → Any (λ (other : EntryOf). other.id ≡ e.id) xs → ⊥
+pub no_pair : (xs ys : List EntryOf) (e : EntryOf) → AllPairs (λ (a b : EntryOf). a.id ≢ b.id) (xs ++ e ∷ ys) → Any (λ (other : EntryOf). other.id ≡ e.id) xs → ⊥
 no_pair xs ys e distinct (k, x, lt, at, same_id) =
     let first : get_or (xs ++ e ∷ ys) k x ≡ x = get_or-append xs (e ∷ ys) x k lt ∙ at in
     let second : get_or (xs ++ e ∷ ys) (length xs) x ≡ e = get_or-append_seam xs e ys x in

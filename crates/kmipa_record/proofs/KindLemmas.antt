@@ -6,7 +6,7 @@ use Rattle.kmipa_ttlv.specs.declared.fault.FaultKind.TheVariants as flaw
 use Rattle.kmipa_record.specs.Kinds.{ByCause}
 use Rattle.kmipa_record.specs.Reading.{record_kind}
 use Rattle.kmipa_record.specs.declared.fault.RecordKind.{RecordKind}
-use Rattle.kmipa_record.specs.declared.fault.RecordKind.TheVariants.{Ttlv, Header, Number, EndWithoutBegin, SecondEnd, OpenCall, Identifier, Entry, Calls, Device, Memory}
+use Rattle.kmipa_record.specs.declared.fault.RecordKind.TheVariants.{Ttlv, Header, Number, EndWithoutBegin, SecondEnd, Identifier, Entry, Calls, Device, Memory}
 
 pub ByCause-map : (k : RecordKind) (D D' M M' P P' : Type 0) → (D → D') → (M → M') → (P → P') → ByCause k D M P → ByCause k D' M' P'
 ByCause-map Device D D' M M' P P' d m p h = d h
@@ -16,7 +16,6 @@ ByCause-map Header D D' M M' P P' d m p h = p h
 ByCause-map Number D D' M M' P P' d m p h = p h
 ByCause-map EndWithoutBegin D D' M M' P P' d m p h = p h
 ByCause-map SecondEnd D D' M M' P P' d m p h = p h
-ByCause-map OpenCall D D' M M' P P' d m p h = p h
 ByCause-map Identifier D D' M M' P P' d m p h = p h
 ByCause-map Entry D D' M M' P P' d m p h = p h
 ByCause-map Calls D D' M M' P P' d m p h = p h

@@ -16,3 +16,6 @@ pub mod FirstFaultLemmas
 pub mod TranscriptLawLemmas
 pub mod WitnessLawLemmas
 pub mod DeclarationLawLemmas
+pub mod WrittenTranscriptLemmas
+pub mod DeclarationWritingLemmas
+pub mod MarkReadingLemmas

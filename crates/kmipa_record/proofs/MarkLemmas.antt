@@ -4,7 +4,7 @@ use Rattle.std.specs.Prelude.{Contains, AllPairs}
 use Rattle.std.proofs.lemmas.List.{length-append, append-nil}
 use Rattle.std.proofs.lemmas.List.Elements.{All-push, Contains-get_or}
 use Rattle.std.proofs.lemmas.List.Quantifiers.{all_pairs_push}
-use Rattle.kmipa_record.specs.Marks.{MarkOf, begins, ends, call_of, begun, ended, IsCallNumber, AreInOrder}
+use Rattle.kmipa_record.specs.Marks.{MarkOf, begins, ends, call_of, begun, ended, IsCallNumber, AreRecorded}
 
 pub begun-append : (xs ys : List MarkOf) → begun (xs ++ ys) ≡ begun xs ++ begun ys
 begun-append [] ys = refl
@@ -41,14 +41,14 @@ cut_at (a ∷ xs) [] zs x y e = earlier xs (ap (λ (h : _). h ∷ xs) (ap (head_
 cut_at (a ∷ xs) (b ∷ ys) zs x y e =
     subst (λ h. CutAt (a ∷ xs) x (h ∷ ys) y zs) (ap (head_of x) e) (cut_more a xs ys zs x y (cut_at xs ys zs x y (ap tail_of e)))
 
--- ---- marks in order, and one more
+-- ---- marks of a transcript, and one more
 
 begun_once : (marks : List ℤ) (call : ℤ) → ¬ (Contains marks call) → (k : ℕ) (d : ℤ) → k < length marks → get_or marks k d ≢ call
 begun_once marks call new k d h e = new (subst (Contains marks) e (Contains-get_or marks k d h))
 
-pub in_order_begin : (marks : List MarkOf) (call : ℤ) (client message : List ℕ) → AreInOrder marks → IsCallNumber call → ¬ (Contains (begun marks) call) → length (begun marks) < 100_000
-    → AreInOrder (marks ++ begins call client message ∷ [])
-in_order_begin marks call client message order number new few =
+pub recorded_begin : (marks : List MarkOf) (call : ℤ) (client message : List ℕ) → AreRecorded marks → IsCallNumber call → ¬ (Contains (begun marks) call) → length (begun marks) < 100_000
+    → AreRecorded (marks ++ begins call client message ∷ [])
+recorded_begin marks call client message order number new few =
     let same = begun-append marks (begins call client message ∷ []) in
     record {
       numbered = All-push (λ mark. IsCallNumber (call_of mark)) marks (begins call client message) order.numbered number;
@@ -58,9 +58,9 @@ in_order_begin marks call client message order number new few =
           elim (cut_at marks before after (begins call client message) (ends other answer) e) [ last f g ↦ absurd cc | earlier ws f ↦ order.answered before ws other answer f ];
     }
 
-pub in_order_end : (marks : List MarkOf) (call : ℤ) (message : List ℕ) → AreInOrder marks → IsCallNumber call → Contains (begun marks) call → ¬ (Contains (ended marks) call)
-    → AreInOrder (marks ++ ends call message ∷ [])
-in_order_end marks call message order number known new =
+pub recorded_end : (marks : List MarkOf) (call : ℤ) (message : List ℕ) → AreRecorded marks → IsCallNumber call → Contains (begun marks) call → ¬ (Contains (ended marks) call)
+    → AreRecorded (marks ++ ends call message ∷ [])
+recorded_end marks call message order number known new =
     let same : begun (marks ++ ends call message ∷ []) ≡ begun marks = begun-append marks (ends call message ∷ []) ∙ append-nil (begun marks) in
     record {
       numbered = All-push (λ mark. IsCallNumber (call_of mark)) marks (ends call message) order.numbered number;

@@ -31,7 +31,7 @@ used_before records id kept t =
     let any = Any-from_list_any (λ (x : EntryOf). bytes_eq id x.id) (entries_in records) (sym (kept.known id) ∙ t) in
     (any.0, any.1, any.2, any.3, sym ((bytes_eq-Decides id any.1.id).0 any.4))
 
-unused : (entries : List EntryOf) (id : List ℕ) → list_any (λ (x : EntryOf). bytes_eq id x.id) entries ≡ false → (k : ℕ) (d : EntryOf) → k < length entries → (get_or entries k d).id ≢ id
+pub unused : (entries : List EntryOf) (id : List ℕ) → list_any (λ (x : EntryOf). bytes_eq id x.id) entries ≡ false → (k : ℕ) (d : EntryOf) → k < length entries → (get_or entries k d).id ≢ id
 unused entries id none k d lt same =
     let found = list_any_at (λ (x : EntryOf). bytes_eq id x.id) entries k d lt ((bytes_eq-Decides id (get_or entries k d).id).1 (sym same)) in
     let clash : false ≡ true = sym none ∙ found in
@@ -43,7 +43,7 @@ or_last true false = refl
 or_last false true = refl
 or_last false false = refl
 
-known_more : (entries : List EntryOf) (e : EntryOf) (old new : Bool) (id cs : List ℕ) → e.id ≡ id → new ≡ cond (bytes_eq id cs) true old → old ≡ list_any (λ (x : EntryOf). bytes_eq cs x.id) entries
+pub known_more : (entries : List EntryOf) (e : EntryOf) (old new : Bool) (id cs : List ℕ) → e.id ≡ id → new ≡ cond (bytes_eq id cs) true old → old ≡ list_any (λ (x : EntryOf). bytes_eq cs x.id) entries
     → new ≡ list_any (λ (x : EntryOf). bytes_eq cs x.id) (entries ++ e ∷ [])
 known_more entries e old new id cs is after before =
     let p : EntryOf → Bool = λ x. bytes_eq cs x.id in

@@ -7,10 +7,8 @@ use Rattle.std.proofs.lemmas.List.Elements.{Contains-append_right, All-contains}
 use Rattle.std.proofs.Math.ListN.{get_or-append}
 use Rattle.std.proofs.Math.Seq.{get_or-append_seam}
 use Rattle.kmipa_ttlv.specs.Tree.{Tree}
-use Rattle.kmipa_ttlv.proofs.StreamLemmas.{one_list_lem}
-use Rattle.kmipa_record.specs.Files.{place_of}
-use Rattle.kmipa_record.specs.Marks.{MarkOf, begins, ends, call_of, mark_item, begun, ended, IsCallNumber, AreInOrder, MarkFault, BeginFault, EndFault, below_one, used, one_too_many, end_below_one, not_begun, ended_before}
-use Rattle.kmipa_record.specs.Transcripts.{transcript_header, IsTranscript, AreMarksInOrder, AreRightInTranscript, MarkItemFault, no_mark, in_mark, TranscriptItemFault, FirstOpen, TranscriptEndFault, TranscriptFault}
+use Rattle.kmipa_record.specs.Marks.{MarkOf, begins, ends, call_of, mark_item, begun, IsCallNumber, AreRecorded, MarkFault, BeginFault, EndFault, below_one, used, one_too_many, end_below_one, not_begun, ended_before}
+use Rattle.kmipa_record.specs.Transcripts.{transcript_header, IsTranscript, AreMarks, AreRightInTranscript, MarkItemFault, no_mark, in_mark, TranscriptItemFault, TranscriptEndFault, TranscriptFault}
 use Rattle.kmipa_record.specs.declared.fault.RecordKind.{RecordKind}
 use Rattle.kmipa_record.proofs.MarkLemmas.{begun-append}
 use Rattle.kmipa_record.proofs.FirstFaultLemmas.{no_fault, one_fault, nothing_more, cut_values, values_once, compare, same, shorter, longer}
@@ -28,14 +26,14 @@ items_once = values_once mark_item mark_item_once
 
 -- ---- marks in order have no fault
 
-number_at : (before after : List MarkOf) (mark : MarkOf) → AreInOrder (before ++ mark ∷ after) → IsCallNumber (call_of mark)
+number_at : (before after : List MarkOf) (mark : MarkOf) → AreRecorded (before ++ mark ∷ after) → IsCallNumber (call_of mark)
 number_at before after mark order =
     All-contains (λ m. IsCallNumber (call_of m)) (before ++ mark ∷ after) mark order.numbered (Contains-append_right before (mark ∷ after) mark (0, omega arith, refl))
 
 pub not_below : (call : ℤ) → pos 1 ≤ℤ call → call <ℤ pos 1 → ⊥
 not_below call a b = absurd (omega (arith, ints))
 
-begun_before : (before after : List MarkOf) (call : ℤ) (client message : List ℕ) → AreInOrder (before ++ begins call client message ∷ after) → Contains (begun before) call → ⊥
+begun_before : (before after : List MarkOf) (call : ℤ) (client message : List ℕ) → AreRecorded (before ++ begins call client message ∷ after) → Contains (begun before) call → ⊥
 begun_before before after call client message order c =
     let e = begun-append before (begins call client message ∷ after) in
     let once : AllPairs (λ a b. a ≢ b) (begun before ++ call ∷ begun after) = subst (AllPairs (λ a b. a ≢ b)) e order.once in
@@ -43,28 +41,28 @@ begun_before before after call client message order c =
     once c.0 (length (begun before)) call c.1 long
     (get_or-append (begun before) (call ∷ begun after) call c.0 c.1 ∙ c.2 ∙ sym (get_or-append_seam (begun before) call (begun after) call))
 
-no_begin_fault : (before after : List MarkOf) (call : ℤ) (client message : List ℕ) (kind : RecordKind) → AreInOrder (before ++ begins call client message ∷ after) → BeginFault before call kind → ⊥
+no_begin_fault : (before after : List MarkOf) (call : ℤ) (client message : List ℕ) (kind : RecordKind) → AreRecorded (before ++ begins call client message ∷ after) → BeginFault before call kind → ⊥
 no_begin_fault before after call client message kind order (below_one h k) = not_below call (number_at before after (begins call client message) order).least h
 no_begin_fault before after call client message kind order (used c k) = begun_before before after call client message order c
 no_begin_fault before after call client message kind order (one_too_many h n many k) =
     absurd (omega (arith, order.few, ap length (begun-append before (begins call client message ∷ after)), length-append (begun before) (call ∷ begun after), many))
 
-no_end_fault : (before after : List MarkOf) (call : ℤ) (message : List ℕ) (kind : RecordKind) → AreInOrder (before ++ ends call message ∷ after) → EndFault before call kind → ⊥
+no_end_fault : (before after : List MarkOf) (call : ℤ) (message : List ℕ) (kind : RecordKind) → AreRecorded (before ++ ends call message ∷ after) → EndFault before call kind → ⊥
 no_end_fault before after call message kind order (end_below_one h k) = not_below call (number_at before after (ends call message) order).least h
 no_end_fault before after call message kind order (not_begun h n k) = n (order.answered before after call message refl).0
 no_end_fault before after call message kind order (ended_before h c d k) = (order.answered before after call message refl).1 d
 
-no_mark_fault : (before after : List MarkOf) (mark : MarkOf) (kind : RecordKind) → AreInOrder (before ++ mark ∷ after) → MarkFault before mark kind → ⊥
+pub no_mark_fault : (before after : List MarkOf) (mark : MarkOf) (kind : RecordKind) → AreRecorded (before ++ mark ∷ after) → MarkFault before mark kind → ⊥
 no_mark_fault before after (begins call client message) kind order f = no_begin_fault before after call client message kind order f
 no_mark_fault before after (ends call message) kind order f = no_end_fault before after call message kind order f
 
-no_record_fault : (records more : List Tree) (item : Tree) (kind : RecordKind) → AreMarksInOrder (records ++ item ∷ more) → MarkItemFault records item kind → ⊥
+no_record_fault : (records more : List Tree) (item : Tree) (kind : RecordKind) → AreMarks (records ++ item ∷ more) → MarkItemFault records item kind → ⊥
 no_record_fault records more item kind right (no_mark none k) = let cut = cut_values mark_item right.marks records more item right.are in none cut.value cut.item_is
 no_record_fault records more item kind right (in_mark before mark e i f) =
     let cut = cut_values mark_item right.marks records more item right.are in
     let front : cut.before ≡ before = items_once cut.before before (sym cut.items_are ∙ e) in
     let one : cut.value ≡ mark = mark_item_once cut.value mark (sym cut.item_is ∙ i) in
-    let order : AreInOrder (cut.before ++ cut.value ∷ cut.after) = subst AreInOrder cut.are right.in_order in
+    let order : AreRecorded (cut.before ++ cut.value ∷ cut.after) = subst AreRecorded cut.are right.recorded in
     no_mark_fault cut.before cut.after cut.value kind order
     (subst (λ (l : List MarkOf). MarkFault l cut.value kind) (sym front) (subst (λ (m : MarkOf). MarkFault before m kind) (sym one) f))
 
@@ -113,55 +111,9 @@ one_item : (items : List Tree) (item : Tree) (j k : RecordKind) → TranscriptIt
 one_item [] item j k f g = f.1 ∙ sym g.1
 one_item (header ∷ records) item j k f g = one_record records item j k f g
 
--- ---- the first open call
-
--- one list, cut at two elements
-data Cuts {A : Type 0} (xs : List A) (x : A) (ys : List A) (y : A) : Type 0 where
-  level : xs ≡ ys → Cuts xs x ys y
-  left : (ws : List A) → ys ≡ xs ++ x ∷ ws → Cuts xs x ys y
-  right : (ws : List A) → xs ≡ ys ++ y ∷ ws → Cuts xs x ys y
-
-cons_cuts : {A : Type 0} (a b : A) (xs ys : List A) (x y : A) → a ≡ b → Cuts xs x ys y → Cuts (a ∷ xs) x (b ∷ ys) y
-cons_cuts a b xs ys x y e (level f) = level (ap (λ h. h ∷ xs) e ∙ ap (λ l. b ∷ l) f)
-cons_cuts a b xs ys x y e (left ws f) = left ws (ap (λ h. h ∷ ys) (sym e) ∙ ap (λ l. a ∷ l) f)
-cons_cuts a b xs ys x y e (right ws f) = right ws (ap (λ h. h ∷ xs) e ∙ ap (λ l. b ∷ l) f)
-
-cuts : (xs ys us vs : List MarkOf) (x y : MarkOf) → xs ++ x ∷ us ≡ ys ++ y ∷ vs → Cuts xs x ys y
-cuts [] [] us vs x y e = level refl
-cuts [] (b ∷ ys) us vs x y e = left ys (let head : b ≡ x = cc in ap (λ (h : MarkOf). h ∷ ys) head)
-cuts (a ∷ xs) [] us vs x y e = right xs (let head : a ≡ y = cc in ap (λ (h : MarkOf). h ∷ xs) head)
-cuts (a ∷ xs) (b ∷ ys) us vs x y e =
-    let head : a ≡ b = cc in
-    let tail : xs ++ x ∷ us ≡ ys ++ y ∷ vs = cc in
-    cons_cuts a b xs ys x y head (cuts xs ys us vs x y tail)
-
-has_begun : (before after : List MarkOf) (call : ℤ) (client message : List ℕ) → Contains (begun (before ++ begins call client message ∷ after)) call
-has_begun before after call client message =
-    subst (λ (l : List ℤ). Contains l call) (sym (begun-append before (begins call client message ∷ after))) (Contains-append_right (begun before) (call ∷ begun after) call (0, omega arith, refl))
-
--- the first of two such marks isn't open
-earlier_ended : (bytes : List ℕ) (records : List Tree) (o p : ℕ) (a : FirstOpen bytes records o) (b : FirstOpen bytes records p) (ws : List MarkOf)
-    → b.before ≡ a.before ++ begins a.call a.client a.message ∷ ws → ⊥
-earlier_ended bytes records o p a b ws e =
-    let marks : a.before ++ begins a.call a.client a.message ∷ a.after ≡ b.before ++ begins b.call b.client b.message ∷ b.after = items_once _ _ (sym a.are ∙ b.are) in
-    let known : Contains (begun b.before) a.call = subst (λ (l : List MarkOf). Contains (begun l) a.call) (sym e) (has_begun a.before ws a.call a.client a.message) in
-    a.unanswered (subst (λ (l : List MarkOf). Contains (ended l) a.call) (sym marks) (b.first a.call known))
-
-one_open : (bytes : List ℕ) (records : List Tree) (o p : ℕ) → FirstOpen bytes records o → FirstOpen bytes records p → o ≡ p
-one_open bytes records o p a b =
-    let marks : a.before ++ begins a.call a.client a.message ∷ a.after ≡ b.before ++ begins b.call b.client b.message ∷ b.after = items_once _ _ (sym a.are ∙ b.are) in
-    elim (cuts a.before b.before a.after b.after (begins a.call a.client a.message) (begins b.call b.client b.message) marks) [
-      | level e ↦
-          let rests = one_list_lem (transcript_header ∷ map mark_item a.before) (transcript_header ∷ map mark_item b.before) bytes a.rest b.rest
-          (ap (λ (l : List MarkOf). length (transcript_header ∷ map mark_item l)) e) a.behind b.behind in
-          a.placed ∙ ap (place_of bytes) rests.1 ∙ sym b.placed
-      | left ws e ↦ absurd (earlier_ended bytes records o p a b ws e)
-      | right ws e ↦ absurd (earlier_ended bytes records p o b a ws e)
-    ]
-
 one_end : (bytes : List ℕ) (items : List Tree) (o p : ℕ) (j k : RecordKind) → TranscriptEndFault bytes items o j → TranscriptEndFault bytes items p k → (o ≡ p) × (j ≡ k)
 one_end bytes [] o p j k f g = (f.0 ∙ sym g.0, f.1 ∙ sym g.1)
-one_end bytes (header ∷ records) o p j k f g = (one_open bytes records o p f.0 g.0, f.1 ∙ sym g.1)
+one_end bytes (header ∷ records) o p j k f g = absurd f
 
 -- ---- the laws
 
@@ -171,12 +123,8 @@ one_transcript_fault_lem = one_fault AreRightInTranscript TranscriptItemFault Tr
 pub no_fault_of_transcript_lem : (bytes : List ℕ) (marks : List MarkOf) (offset : ℕ) (kind : RecordKind) → IsTranscript bytes marks → ¬ (TranscriptFault bytes offset kind)
 no_fault_of_transcript_lem bytes marks offset kind t =
     no_fault AreRightInTranscript TranscriptItemFault TranscriptEndFault no_faulty bytes (transcript_header ∷ map mark_item marks) offset kind
-    (record { right = (refl, record { marks = marks; are = refl; in_order = t.recorded.in_order }); begins = t.spelled })
-    (λ f.
-    let open_call = f.0 in
-    let same_marks : marks ≡ open_call.before ++ begins open_call.call open_call.client open_call.message ∷ open_call.after = items_once _ _ open_call.are in
-    let known : Contains (begun marks) open_call.call = subst (λ (l : List MarkOf). Contains (begun l) open_call.call) (sym same_marks) (has_begun open_call.before open_call.after open_call.call open_call.client open_call.message) in
-    open_call.unanswered (subst (λ (l : List MarkOf). Contains (ended l) open_call.call) same_marks (t.recorded.closed open_call.call known)))
+    (record { right = (refl, record { marks = marks; are = refl; recorded = t.recorded }); begins = t.spelled })
+    (λ f. absurd f)
 
 pub one_transcript_lem : (bytes : List ℕ) (marks others : List MarkOf) → IsTranscript bytes marks → IsTranscript bytes others → marks ≡ others
 one_transcript_lem bytes marks others t u =

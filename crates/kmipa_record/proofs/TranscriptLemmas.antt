@@ -1,35 +1,28 @@
 -- A transcript that is read mark by mark.
-use Rattle.std.proofs.Common.{◌≡◌, ◌≢◌, ◌<◌, ℕ, ℤ, List, [], ◌∷◌, ◌++◌, Bool, Option, None, Some, refl, sym, ap, subst, ◌∙◌, arith, map, ◌⊎◌, inl, inr}
-use Rattle.std.specs.Prelude.{Contains}
+use Rattle.std.proofs.Common.{◌≡◌, ◌≢◌, ℕ, ℤ, List, [], ◌∷◌, ◌++◌, Bool, refl, sym, ap, subst, ◌∙◌, arith, map, ◌⊎◌, inl, inr}
 use Rattle.std.proofs.lemmas.List.{map-append}
 use Rattle.kmipa_ttlv.specs.Tree.{Tree}
-use Rattle.kmipa_ttlv.specs.Stream.{IsSplit}
-use Rattle.kmipa_ttlv.specs.Stream.{Begins}
-use Rattle.kmipa_record.specs.Calls.{progress_of, place_in, open_place, first_place, Follow, EndAt, HasNone, BeginsCall, EndsCall, StandsSo}
+use Rattle.kmipa_record.specs.Calls.{HasNone}
 use Rattle.kmipa_record.specs.Calls as calls
-use Rattle.kmipa_record.specs.Files.{at_end, Tells}
-use Rattle.kmipa_record.specs.Marks.{MarkOf, begins, ends, mark_of, mark_item, begun, ended, AreInOrder}
+use Rattle.kmipa_record.specs.Files.{Tells}
+use Rattle.kmipa_record.specs.Marks.{MarkOf, ends, mark_of, mark_item, AreRecorded}
 use Rattle.kmipa_record.specs.Reading.{IsReading, Takes, ReadFails, HeaderFails}
 use Rattle.kmipa_record.specs.Transcripts.{transcript_header, IsTranscript, AreRightInTranscript, TranscriptItemFault, TranscriptEndFault, MarkItemFault, no_mark, in_mark, TranscriptFault, IsTranscriptUpTo}
 use Rattle.kmipa_record.specs.TranscriptReading.{IsReadSoFar}
 use Rattle.kmipa_record.specs.declared.calls.Calls.{Calls}
-use Rattle.kmipa_record.specs.declared.calls.Progress.{Progress}
-use Rattle.kmipa_record.specs.declared.calls.Progress.TheVariants.{Open, Ended}
 use Rattle.kmipa_record.specs.declared.fault.RecordFault.{RecordFault}
 use Rattle.kmipa_record.specs.declared.fault.RecordKind.{RecordKind}
-use Rattle.kmipa_record.specs.declared.fault.RecordKind.TheVariants.{Entry, OpenCall, Memory}
+use Rattle.kmipa_record.specs.declared.fault.RecordKind.TheVariants.{Entry, Memory}
 use Rattle.kmipa_record.specs.declared.transcript.Mark.{Mark}
 use Rattle.kmipa_record.proofs.KindLemmas.{memory_cause}
 use Rattle.kmipa_record.proofs.FileLemmas.{goes_on, starts, ends_here, Stands, tells_read, item_told, tells_header, right_here}
-use Rattle.kmipa_record.proofs.MarkLemmas.{begun-append, in_order_begin, in_order_end}
-use Rattle.kmipa_record.proofs.CallLemmas.{at_progress, follow_none, follow_begin, follow_end, refused_mark, refused_cause, none_open, settled, first_at}
-use Rattle.std.proofs.lemmas.List.Elements.{Contains-append_left}
+use Rattle.kmipa_record.proofs.CallLemmas.{follow_none, one_more_taken, refused_mark, refused_cause}
 
 abbrev items_of : List MarkOf → List Tree
 items_of marks = transcript_header ∷ map mark_item marks
 
 stands : (file : List ℕ) (marks : List MarkOf) (calls : Calls) (left : List ℕ) (place : ℕ) → IsReadSoFar file marks calls left place → Stands AreRightInTranscript file (items_of marks) left place
-stands file marks calls left place s = record { right = (refl, record { marks = marks; are = refl; in_order = s.in_order }); reading = s.reading }
+stands file marks calls left place s = record { right = (refl, record { marks = marks; are = refl; recorded = s.recorded }); reading = s.reading }
 
 -- ---- the header
 
@@ -42,8 +35,8 @@ no_end : (before after : List MarkOf) (call : ℤ) (message : List ℕ) → [] �
 no_end [] after call message e = cc
 no_end (mark ∷ before) after call message e = cc
 
-in_order_none : AreInOrder []
-in_order_none = record {
+pub none_recorded : AreRecorded []
+none_recorded = record {
   numbered = λ k d h. absurd (omega (arith, h));
   once = λ i j d h l. absurd (omega (arith, l));
   few = omega arith;
@@ -55,8 +48,8 @@ pub header_read : (file left : List ℕ) (place place' : ℕ) (calls : Calls) (m
 header_read file left place place' calls marks zero e t none =
     subst (λ (l : List Mark). IsReadSoFar file (map mark_of l) calls left place') (sym e) (record {
       reading = goes_on file [] transcript_header file left place place' t (starts file place zero);
-      in_order = in_order_none;
-      follow = follow_none file calls none;
+      recorded = none_recorded;
+      follow = follow_none calls none;
     })
 
 -- ---- a mark
@@ -75,7 +68,7 @@ no_mark_told file marks calls item left after place place' failed s t none =
 
 refused_item : (file : List ℕ) (marks : List MarkOf) (old : Calls) (mark : MarkOf) (left : List ℕ) (place : ℕ) (kind : RecordKind) → IsReadSoFar file marks old left place
     → kind ≢ Memory → calls.Refuses old mark kind → MarkItemFault (map mark_item marks) (mark_item mark) kind
-refused_item file marks old mark left place kind s ne r = in_mark marks mark refl refl (refused_mark file marks old mark kind s.follow ne r)
+refused_item file marks old mark left place kind s ne r = in_mark marks mark refl refl (refused_mark marks old mark kind s.follow ne r)
 
 pub refused_told : (file : List ℕ) (marks : List MarkOf) (old : Calls) (mark : MarkOf) (left after : List ℕ) (place place' : ℕ) (failed : Bool) (f : RecordFault)
     → IsReadSoFar file marks old left place → Takes (mark_item mark) left after place place' → f.offset ≡ place → (f.kind ≡ Memory) ⊎ calls.Refuses old mark f.kind
@@ -91,34 +84,19 @@ refused_told file marks old mark left after place place' failed f s t o r =
           (refused_item file marks old mark left place f.kind s ne q)))
     ]
 
--- the place of the mark that comes next
-end_at : (file : List ℕ) (marks : List MarkOf) (left : List ℕ) (place : ℕ) → IsReading file (items_of marks) left place → EndAt file marks place
-end_at file marks rest place r = let split : IsSplit file (items_of marks) rest place None = r in record { rest = rest; behind = split.begins; placed = split.placed }
-
-one_more : (file : List ℕ) (marks : List MarkOf) (mark : MarkOf) (left after : List ℕ) (place place' : ℕ) → Takes (mark_item mark) left after place place'
+pub one_more : (file : List ℕ) (marks : List MarkOf) (mark : MarkOf) (left after : List ℕ) (place place' : ℕ) → Takes (mark_item mark) left after place place'
     → IsReading file (items_of marks) left place → IsReading file (items_of (marks ++ mark ∷ [])) after place'
 one_more file marks mark left after place place' t r =
     subst (λ (l : List Tree). IsReading file (transcript_header ∷ l) after place') (sym (map-append mark_item marks (mark ∷ []))) (goes_on file (items_of marks) (mark_item mark) left after place place' t r)
 
 took : (file : List ℕ) (marks : List MarkOf) (mark : MarkOf) (old new : Calls) (left after : List ℕ) (place place' : ℕ) → Takes (mark_item mark) left after place place'
-    → calls.Takes old new mark place → IsReadSoFar file marks old left place → IsReadSoFar file (marks ++ mark ∷ []) new after place'
-took file marks (begins call client message) old new left after place place' t b s =
-    let free = at_progress file marks old call None b.unused s.follow in
-    record {
-      reading = one_more file marks (begins call client message) left after place place' t s.reading;
-      in_order = in_order_begin marks call client message s.in_order b.number free.0 (subst (λ (n : ℕ). n < 100_000) s.follow.count b.few);
-      follow = follow_begin file marks call client message old new place (end_at file marks left place s.reading) s.follow b;
-    }
-took file marks (ends call message) old new left after place place' t b s =
-    let is = at_progress file marks old call (Some (Open b.place)) b.is_open s.follow in
-    record {
-      reading = one_more file marks (ends call message) left after place place' t s.reading;
-      in_order = in_order_end marks call message s.in_order b.number is.0 is.1;
-      follow = follow_end file marks call message old new s.follow b;
-    }
+    → calls.Takes old new mark → IsReadSoFar file marks old left place → IsReadSoFar file (marks ++ mark ∷ []) new after place'
+took file marks mark old new left after place place' t b s =
+    let next = one_more_taken marks mark old new b s.recorded s.follow in
+    record { reading = one_more file marks mark left after place place' t s.reading; recorded = next.0; follow = next.1 }
 
 pub mark_taken : (file : List ℕ) (marks more : List Mark) (mark : Mark) (old new : Calls) (left after : List ℕ) (place place' : ℕ) → more ≡ marks ++ mark ∷ []
-    → Takes (mark_item (mark_of mark)) left after place place' → calls.Takes old new (mark_of mark) place → IsReadSoFar file (map mark_of marks) old left place
+    → Takes (mark_item (mark_of mark)) left after place place' → calls.Takes old new (mark_of mark) → IsReadSoFar file (map mark_of marks) old left place
     → IsReadSoFar file (map mark_of more) new after place'
 mark_taken file marks more mark old new left after place place' e t b s =
     let same : map mark_of more ≡ map mark_of marks ++ mark_of mark ∷ [] = ap (map mark_of) e ∙ map-append mark_of marks (mark ∷ []) in
@@ -126,51 +104,5 @@ mark_taken file marks more mark old new left after place place' e t b s =
 
 -- ---- the end
 
-spelled : (file : List ℕ) (marks : List MarkOf) (calls : Calls) (place : ℕ) → IsReadSoFar file marks calls [] place → Begins (items_of marks) file []
-spelled file marks calls place s = ends_here file (items_of marks) [] place refl s.reading
-
-pub closed : (file : List ℕ) (marks : List MarkOf) (calls : Calls) (place : ℕ) → first_place (open_place calls) marks ≡ None → IsReadSoFar file marks calls [] place → IsTranscript file marks
-closed file marks calls place e s = record {
-  spelled = spelled file marks calls place s;
-  recorded = record { in_order = s.in_order; closed = λ call c. settled file marks calls call s.follow (none_open calls marks call e c) c };
-}
-
-abbrev open_in : Option ℕ → Option Progress
-open_in None = None
-open_in (Some n) = Some (Open n)
-
-open_progress : (p : Option Progress) (offset : ℕ) → place_in p ≡ Some offset → p ≡ Some (Open offset)
-open_progress None offset e = absurd cc
-open_progress (Some (Open place)) offset e = ap open_in e
-open_progress (Some Ended) offset e = absurd cc
-
-open_at : (file : List ℕ) (marks : List MarkOf) (calls : Calls) (place offset : ℕ) (before : List MarkOf) (mark : MarkOf) (after : List MarkOf) → IsReadSoFar file marks calls [] place
-    → marks ≡ before ++ mark ∷ after → open_place calls mark ≡ Some offset → first_place (open_place calls) before ≡ None → TranscriptFault file offset OpenCall
-open_at file marks calls place offset before (ends call message) after s are here none = absurd cc
-open_at file marks calls place offset before (begins call client message) after s are here none =
-    let is = at_progress file marks calls call (Some (Open offset)) (open_progress (progress_of calls call) offset here) s.follow in
-    let found : EndAt file before offset = is.2 before after client message are in
-    let known : (other : ℤ) → Contains (begun before) other → Contains (begun marks) other
-    = λ other c. subst (λ (l : List MarkOf). Contains (begun l) other) (sym are)
-    (subst (λ (l : List ℤ). Contains l other) (sym (begun-append before (begins call client message ∷ after))) (Contains-append_left (begun before) (call ∷ begun after) other c)) in
-    at_end (items_of marks) (record { right = (refl, record { marks = marks; are = refl; in_order = s.in_order }); begins = spelled file marks calls place s }) (
-      record {
-        before = before;
-        call = call;
-        client = client;
-        message = message;
-        after = after;
-        are = ap (map mark_item) are;
-        unanswered = λ c. is.1 (subst (λ (l : List MarkOf). Contains (ended l) call) (sym are) c);
-        first = λ other c. subst (λ (l : List MarkOf). Contains (ended l) other) are (settled file marks calls other s.follow (none_open calls before other none c) (known other c));
-        rest = found.rest;
-        behind = found.behind;
-        placed = found.placed;
-      },
-      refl,
-    )
-
-pub open_told : (file : List ℕ) (marks : List MarkOf) (calls : Calls) (place offset : ℕ) → first_place (open_place calls) marks ≡ Some offset → IsReadSoFar file marks calls [] place → TranscriptFault file offset OpenCall
-open_told file marks calls place offset e s =
-    let found = first_at (open_place calls) marks offset e in
-    open_at file marks calls place offset found.before found.mark found.after s found.are found.here found.none_before
+pub ended_right : (file : List ℕ) (marks : List MarkOf) (calls : Calls) (place : ℕ) → IsReadSoFar file marks calls [] place → IsTranscript file marks
+ended_right file marks calls place s = record { spelled = ends_here file (items_of marks) [] place refl s.reading; recorded = s.recorded }

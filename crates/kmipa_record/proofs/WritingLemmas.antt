@@ -12,7 +12,8 @@ use Rattle.kmipa_ttlv.specs.ItemTree.{value_tree, tree}
 use Rattle.kmipa_ttlv.specs.Tree.{Tree}
 use Rattle.kmipa_ttlv.specs.Spelling.{Spells}
 use Rattle.kmipa_ttlv.specs.Stream.{Begins}
-use Rattle.kmipa_ttlv.specs.Written.{spelling}
+use Rattle.kmipa_ttlv.specs.Written.{spelling, Legal}
+use Rattle.kmipa_ttlv.proofs.SpellLemmas.{spells_legal}
 use Rattle.kmipa_ttlv.specs.declared.item.Item.{Item}
 use Rattle.kmipa_ttlv.specs.declared.item.Value.{Value, Structure'}
 use Rattle.kmipa_attrs.specs.Fields.{tag_of}
@@ -36,6 +37,11 @@ mapped_twice f g (x ∷ xs) = ap (λ (l : List _). g (f x) ∷ l) (mapped_twice 
 -- what holds of each element holds of this one
 pub one_of : {X : Type 0} (P : X → Type 0) (xs before after : List X) (x : X) → xs ≡ before ++ x ∷ after → All P xs → P x
 one_of P xs before after x e all = All-contains P (before ++ x ∷ after) x (subst (All P) e all) (Contains-append_right before (x ∷ after) x (0, omega arith, refl))
+
+-- what holds of what each element is taken for
+pub all_mapped : {X Y : Type 0} (f : X → Y) (P : Y → Type 0) (xs : List X) → All P (map f xs) → All (λ (x : X). P (f x)) xs
+all_mapped f P [] all = All-nil (λ x. P (f x))
+all_mapped f P (x ∷ xs) all = All-cons (λ y. P (f y)) x xs (one_of P (f x ∷ map f xs) [] (map f xs) (f x) refl all) (all_mapped f P xs (All-tail P (f x) (map f xs) all))
 
 -- one more child
 pub pushed_more : {X : Type 0} (item_of : X → Tree) (old mid new : List Item) (item : Item) (xs : List X) (i : ℕ) (x : X) → i < length xs → x ≡ get_or xs i x → new ≡ mid ++ item ∷ [] → tree item ≡ item_of x
@@ -75,10 +81,10 @@ begins_spelled [] all = refl
 begins_spelled (t ∷ ts) all =
     (spelling t, flat_map spelling ts, flat_map-cons spelling t ts, one_of (λ u. Spells u (spelling u)) (t ∷ ts) [] ts t refl all, begins_spelled ts (All-tail (λ u. Spells u (spelling u)) t ts all))
 
--- each item of a file is spelled by some bytes
-pub spelled_in : (before after : List Tree) (item : Tree) (bytes rest : List ℕ) → Begins (before ++ item ∷ after) bytes rest → (front : List ℕ) × Spells item front
-spelled_in [] after item bytes rest b = (b.0, b.3)
-spelled_in (t ∷ before) after item bytes rest b = spelled_in before after item b.1 rest b.4
+-- each item of a file breaks no limit
+pub legal_in : (before after : List Tree) (item : Tree) (bytes rest : List ℕ) → Begins (before ++ item ∷ after) bytes rest → Legal 16 item
+legal_in [] after item bytes rest b = spells_legal item b.0 b.3
+legal_in (t ∷ before) after item bytes rest b = legal_in before after item b.1 rest b.4
 
 -- ---- payloads
 

@@ -1,5 +1,5 @@
 -- Witnesses that are written.
-use Rattle.std.proofs.Common.{◌≡◌, ◌≤◌, ℕ, suc, List, [], ◌∷◌, ◌++◌, map, take, drop, get_or, ◌⊎◌, inl, inr, refl, sym, subst, arith, rules}
+use Rattle.std.proofs.Common.{◌≡◌, ◌≤◌, ℕ, suc, List, [], ◌∷◌, ◌++◌, map, take, drop, get_or, ◌⊎◌, inl, inr, refl, sym, subst, arith}
 use Rattle.std.specs.Prelude.{All}
 use Rattle.std.specs.List.{flat_map}
 use Rattle.std.proofs.lemmas.List.{length-append, get_or_default}
@@ -7,14 +7,13 @@ use Rattle.std.proofs.lemmas.List.Elements.{All-push}
 use Rattle.std.proofs.Math.ListN.{get_or-append}
 use Rattle.kmipa_ttlv.specs.Tree.{Tree}
 use Rattle.kmipa_ttlv.specs.Stream.{Begins}
-use Rattle.kmipa_ttlv.specs.Written.{spelling}
-use Rattle.kmipa_ttlv.proofs.SpellLemmas.{spelling_spells}
+use Rattle.kmipa_ttlv.specs.Written.{spelling, Legal}
 use Rattle.kmipa_record.specs.Witnesses.{TurnOf, turn_item, witness_header, version_number, IsWitness}
-use Rattle.kmipa_record.specs.Writing.{Appends, IsWrittenWitness, Unwritten, no_memory, no_file, AddsAll, Refused, starved, refused, IsSpelled, IsWritable, Serves, IsLowest}
+use Rattle.kmipa_record.specs.Writing.{Appends, IsWrittenWitness, Unwritten, no_memory, no_file, AddsAll, Refused, starved, refused, IsWritable, Serves, IsLowest}
 use Rattle.kmipa_record.specs.declared.fault.RecordKind.{RecordKind}
 use Rattle.kmipa_record.specs.declared.version.Version.{Version}
 use Rattle.kmipa_record.specs.declared.version.Version.TheVariants.{First, Second, Third}
-use Rattle.kmipa_record.proofs.WritingLemmas.{mapped_here, one_of, begins_spelled, spelled_in}
+use Rattle.kmipa_record.proofs.WritingLemmas.{mapped_here, one_of, begins_spelled, legal_in}
 
 -- ---- versions
 
@@ -45,10 +44,8 @@ lowest_more turns turn v n w low serves least is = record {
 
 -- ---- the header
 
-pub header_spelled : (version : Version) → IsSpelled (witness_header version)
-header_spelled First = (spelling (witness_header First), spelling_spells (witness_header First) (record { levels = omega arith; sound = (tt, tt); small = omega arith }) (omega arith, ((omega arith, search rules), tt)))
-header_spelled Second = (spelling (witness_header Second), spelling_spells (witness_header Second) (record { levels = omega arith; sound = (tt, tt); small = omega arith }) (omega arith, ((omega arith, search rules), tt)))
-header_spelled Third = (spelling (witness_header Third), spelling_spells (witness_header Third) (record { levels = omega arith; sound = (tt, tt); small = omega arith }) (omega arith, ((omega arith, search rules), tt)))
+pub header_legal : (version : Version) → Legal 16 (witness_header version)
+header_legal version = record { levels = omega arith; sound = (tt, tt); small = omega arith }
 
 -- ---- whole witnesses
 
@@ -58,7 +55,7 @@ writable bytes turns w = λ k d h.
     record {
       number = w.numbered k d h;
       payloads = (w.admitted k d h).payloads;
-      spelled = spelled_in (witness_header w.version ∷ map turn_item (take k turns)) (map turn_item (drop (suc k) turns)) (turn_item t) bytes []
+      legal = legal_in (witness_header w.version ∷ map turn_item (take k turns)) (map turn_item (drop (suc k) turns)) (turn_item t) bytes []
           (subst (λ (l : List Tree). Begins (witness_header w.version ∷ l) bytes []) (mapped_here turn_item turns k t h (get_or_default turns k d t h)) w.spelled);
     }
 

@@ -1,7 +1,7 @@
--- The kinds of faults of a file.
+-- The kinds of faults of a file. No kind has the number 6.
 use Rattle.std.specs.Prelude.{ℕ, List, codes}
 use Rattle.kmipa_record.specs.declared.fault.RecordKind.{RecordKind}
-use Rattle.kmipa_record.specs.declared.fault.RecordKind.TheVariants.{Ttlv, Header, Number, EndWithoutBegin, SecondEnd, OpenCall, Identifier, Entry, Calls, Device, Memory}
+use Rattle.kmipa_record.specs.declared.fault.RecordKind.TheVariants.{Ttlv, Header, Number, EndWithoutBegin, SecondEnd, Identifier, Entry, Calls, Device, Memory}
 
 abbrev pub kind_number : RecordKind → ℕ
 kind_number (Ttlv flaw) = 1
@@ -9,7 +9,6 @@ kind_number Header = 2
 kind_number Number = 3
 kind_number EndWithoutBegin = 4
 kind_number SecondEnd = 5
-kind_number OpenCall = 6
 kind_number Identifier = 7
 kind_number Entry = 8
 kind_number Calls = 9
@@ -22,7 +21,6 @@ kind_name Header = codes "Header"
 kind_name Number = codes "Number"
 kind_name EndWithoutBegin = codes "EndWithoutBegin"
 kind_name SecondEnd = codes "SecondEnd"
-kind_name OpenCall = codes "OpenCall"
 kind_name Identifier = codes "Identifier"
 kind_name Entry = codes "Entry"
 kind_name Calls = codes "Calls"
@@ -38,7 +36,6 @@ ByCause Header D M P = P
 ByCause Number D M P = P
 ByCause EndWithoutBegin D M P = P
 ByCause SecondEnd D M P = P
-ByCause OpenCall D M P = P
 ByCause Identifier D M P = P
 ByCause Entry D M P = P
 ByCause Calls D M P = P

@@ -11,3 +11,5 @@ pub mod TranscriptReading
 pub mod DeclarationReading
 pub mod WitnessReading
 pub mod Writing
+pub mod DeclarationWriting
+pub mod MarkReading

@@ -48,19 +48,14 @@ pub record IsCallNumber (call : ℤ) : Type 0 where
   pub least : pos 1 ≤ℤ call
   pub greatest : call ≤ℤ pos 2_147_483_647
 
--- No mark of a transcript is faulty: calls have numbers, each begin mark another one, there are 100,000 begin marks at most, and
--- each end mark is the first of a call that was begun ahead of it.
-pub record AreInOrder (marks : List MarkOf) : Type 0 where
+-- The marks of a transcript: calls have numbers, each begin mark another one, there are 100,000 begin marks at most, and each
+-- end mark is the first of a call that was begun ahead of it. A call that has no end mark is open.
+pub record AreRecorded (marks : List MarkOf) : Type 0 where
   pub numbered : All (λ mark. IsCallNumber (call_of mark)) marks
   pub once : AllPairs (λ call other. call ≢ other) (begun marks)
   pub few : length (begun marks) ≤ 100_000
   pub answered : (before after : List MarkOf) (call : ℤ) (message : List ℕ) → marks ≡ before ++ ends call message ∷ after
       → Contains (begun before) call × ¬ (Contains (ended before) call)
-
--- the marks of a whole transcript: besides, each call that was begun has ended
-pub record AreRecorded (marks : List MarkOf) : Type 0 where
-  pub in_order : AreInOrder marks
-  pub closed : (call : ℤ) → Contains (begun marks) call → Contains (ended marks) call
 
 -- the first test that a begin mark fails behind these marks
 pub data BeginFault (before : List MarkOf) (call : ℤ) (kind : RecordKind) : Type 0 where

@@ -1,11 +1,11 @@
 -- Transcripts: which bytes are one, and what is the first fault of those that are none.
-use Rattle.std.specs.Prelude.{◌≡◌, ◌≢◌, ℕ, ℤ, pos, List, [], ◌∷◌, ◌++◌, map, Contains}
+use Rattle.std.specs.Prelude.{◌≡◌, ◌≢◌, ℕ, pos, List, [], ◌∷◌, map}
 use Rattle.kmipa_ttlv.specs.Tree.{Tree, structure, scalar, none, more, integer}
 use Rattle.kmipa_ttlv.specs.Stream.{Begins}
-use Rattle.kmipa_record.specs.Files.{FirstFault, IsRightUpTo, place_of}
-use Rattle.kmipa_record.specs.Marks.{MarkOf, begins, mark_of, mark_item, begun, ended, AreInOrder, AreRecorded, MarkFault}
+use Rattle.kmipa_record.specs.Files.{FirstFault, IsRightUpTo}
+use Rattle.kmipa_record.specs.Marks.{MarkOf, mark_of, mark_item, AreRecorded, MarkFault}
 use Rattle.kmipa_record.specs.declared.fault.RecordKind.{RecordKind}
-use Rattle.kmipa_record.specs.declared.fault.RecordKind.TheVariants.{Header, Entry, OpenCall}
+use Rattle.kmipa_record.specs.declared.fault.RecordKind.TheVariants.{Header, Entry}
 use Rattle.kmipa_record.specs.declared.transcript.Transcript.{Transcript}
 
 -- the marks of a transcript of the program
@@ -22,15 +22,15 @@ pub record IsTranscript (bytes : List ℕ) (marks : List MarkOf) : Type 0 where
 
 -- ---- the first fault
 
-pub record AreMarksInOrder (items : List Tree) : Type 0 where
+pub record AreMarks (items : List Tree) : Type 0 where
   pub marks : List MarkOf
   pub are : items ≡ map mark_item marks
-  pub in_order : AreInOrder marks
+  pub recorded : AreRecorded marks
 
--- no item is faulty at the front of a transcript: there is none, or the header and marks in order
+-- no item is faulty at the front of a transcript: there is none, or the header and marks of a transcript
 abbrev pub AreRightInTranscript : List Tree → Type 0
 AreRightInTranscript [] = Unit {0}
-AreRightInTranscript (header ∷ records) = (header ≡ transcript_header) × AreMarksInOrder records
+AreRightInTranscript (header ∷ records) = (header ≡ transcript_header) × AreMarks records
 
 -- the first test that a record fails behind these
 pub data MarkItemFault (records : List Tree) (item : Tree) (kind : RecordKind) : Type 0 where
@@ -41,23 +41,9 @@ abbrev pub TranscriptItemFault : List Tree → Tree → RecordKind → Type 0
 TranscriptItemFault [] item kind = (item ≢ transcript_header) × (kind ≡ Header)
 TranscriptItemFault (header ∷ records) item kind = MarkItemFault records item kind
 
--- a call is open at the end of the marks, and the mark at this place is the first of such a call
-pub record FirstOpen (bytes : List ℕ) (records : List Tree) (offset : ℕ) : Type 0 where
-  pub before : List MarkOf
-  pub call : ℤ
-  pub client : List ℕ
-  pub message : List ℕ
-  pub after : List MarkOf
-  pub are : records ≡ map mark_item (before ++ begins call client message ∷ after)
-  pub unanswered : ¬ (Contains (ended (before ++ begins call client message ∷ after)) call)
-  pub first : (other : ℤ) → Contains (begun before) other → Contains (ended (before ++ begins call client message ∷ after)) other
-  pub rest : List ℕ
-  pub behind : Begins (transcript_header ∷ map mark_item before) bytes rest
-  pub placed : offset ≡ place_of bytes rest
-
 abbrev pub TranscriptEndFault : List ℕ → List Tree → ℕ → RecordKind → Type 0
 TranscriptEndFault bytes [] offset kind = (offset ≡ 0) × (kind ≡ Header)
-TranscriptEndFault bytes (header ∷ records) offset kind = FirstOpen bytes records offset × (kind ≡ OpenCall)
+TranscriptEndFault bytes (header ∷ records) offset kind = ⊥
 
 abbrev pub TranscriptFault : List ℕ → ℕ → RecordKind → Type 0
 TranscriptFault = FirstFault AreRightInTranscript TranscriptItemFault TranscriptEndFault

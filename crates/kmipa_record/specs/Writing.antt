@@ -4,7 +4,10 @@ use Rattle.std.specs.List.{flat_map}
 use Rattle.kmipa_ttlv.specs.Tree.{Tree}
 use Rattle.kmipa_ttlv.specs.Spelling.{Spells}
 use Rattle.kmipa_ttlv.specs.Written.{spelling}
-use Rattle.kmipa_record.specs.Marks.{IsCallNumber}
+use Rattle.kmipa_ttlv.specs.Written.{Legal}
+use Rattle.kmipa_record.specs.Declarations.{DeclarationOf, IsDeclaration}
+use Rattle.kmipa_record.specs.Marks.{IsCallNumber, MarkOf, mark_item, AreRecorded}
+use Rattle.kmipa_record.specs.Transcripts.{IsTranscript}
 use Rattle.kmipa_record.specs.Witnesses.{TurnOf, turn_item, version_number, Admits, IsWitness, ArePayloads}
 use Rattle.kmipa_record.specs.declared.fault.RecordFault.{RecordFault}
 use Rattle.kmipa_record.specs.declared.fault.RecordKind.{RecordKind}
@@ -22,6 +25,16 @@ pub record Appends (Is : List ℕ → Type 0) (old new : List ℕ) : Type 0 wher
 pub record ArePadded (bytes : List ℕ) : Type 0 where
   pub items : List Tree
   pub are : bytes ≡ flat_map spelling items
+
+-- The bytes are a declaration of this, padded with zeros.
+pub record IsWrittenDeclaration (declared : DeclarationOf) (bytes : List ℕ) : Type 0 where
+  pub padded : ArePadded bytes
+  pub is : IsDeclaration bytes declared
+
+-- The bytes are a transcript of these marks, padded with zeros.
+pub record IsWrittenTranscript (marks : List MarkOf) (bytes : List ℕ) : Type 0 where
+  pub padded : ArePadded bytes
+  pub is : IsTranscript bytes marks
 
 -- The bytes are a witness of these turns, padded with zeros, in the lowest version that has such turns.
 pub record IsWrittenWitness (turns : List TurnOf) (bytes : List ℕ) : Type 0 where
@@ -51,15 +64,16 @@ pub data Refused (Is : Type 0) (kind : RecordKind) : Type 0 where
   starved : kind ≡ Memory → Refused Is kind
   refused : kind ≡ Entry → ¬ Is → Refused Is kind
 
--- some bytes spell the item
-abbrev pub IsSpelled : Tree → Type 0
-IsSpelled item = (bytes : List ℕ) × Spells item bytes
+-- marks that can be written
+pub record AreWritable (marks : List MarkOf) : Type 0 where
+  pub recorded : AreRecorded marks
+  pub legal : All (λ mark. Legal 16 (mark_item mark)) marks
 
 -- a turn that can be written
 pub record IsWritable (turn : TurnOf) : Type 0 where
   pub number : IsCallNumber turn.call
   pub payloads : ArePayloads turn.fills
-  pub spelled : IsSpelled (turn_item turn)
+  pub legal : Legal 16 (turn_item turn)
 
 -- a version that has such turns, whatever their fills are
 pub record Serves (version : Version) (turn : TurnOf) : Type 0 where

@@ -15,15 +15,15 @@ use kmipa_attrs::{AttrFault, AttrSet, ObjectType, Side, read_children};
 use kmipa_ttlv::View;
 use std::alloc::{AllocError, Global};
 
-const ENTRY: u32 = 0x54_0034;
+pub const ENTRY: u32 = 0x54_0034;
 
-const UNIQUE_IDENTIFIER: u32 = 0x42_0094;
+pub const UNIQUE_IDENTIFIER: u32 = 0x42_0094;
 
-const OBJECT_TYPE: u32 = 0x42_0057;
+pub const OBJECT_TYPE: u32 = 0x42_0057;
 
 const ATTRIBUTES: u32 = 0x42_0125;
 
-const KEY_MATERIAL: u32 = 0x42_0043;
+pub const KEY_MATERIAL: u32 = 0x42_0043;
 
 /// The attributes that an entry may have: Name, Cryptographic Algorithm, Cryptographic Length, Cryptographic Usage Mask, and Initial,
 /// Activation, Deactivation, Destroy and Compromise Date.
@@ -144,7 +144,7 @@ fn are_listed(children: &[View]) -> bool
 }
 
 /// Whether the bytes of an entry may be declared so.
-fn is_declarable(entry: &Entry) -> bool
+pub fn is_declarable(entry: &Entry) -> bool
     requires { IfSome (option_map items_of entry.now.bytes) AreBytes }
     ensures { IsTrue result ↔ IsDeclarable (entry_of entry.now) }
 {

@@ -19,8 +19,6 @@ pub enum RecordKind {
     EndWithoutBegin,
     /// An end mark of a call that has ended.
     SecondEnd,
-    /// The file ends while a call is open.
-    OpenCall,
     /// An entry with the identifier of an earlier one.
     Identifier,
     /// A record that is none of those that the file may have.
@@ -36,7 +34,7 @@ pub enum RecordKind {
 impl RecordKind {
     ghost use Rattle.kmipa_record.specs.Kinds.{kind_number, kind_name};
 
-    /// The number of the kind.
+    /// The number of the kind. None has 6, which once told of a call without an end mark.
     pub fn number(self) -> u8
         ensures { result ≡ kind_number self }
     {
@@ -46,7 +44,6 @@ impl RecordKind {
             RecordKind::Number => 3,
             RecordKind::EndWithoutBegin => 4,
             RecordKind::SecondEnd => 5,
-            RecordKind::OpenCall => 6,
             RecordKind::Identifier => 7,
             RecordKind::Entry => 8,
             RecordKind::Calls => 9,
@@ -65,7 +62,6 @@ impl RecordKind {
             RecordKind::Number => "Number",
             RecordKind::EndWithoutBegin => "EndWithoutBegin",
             RecordKind::SecondEnd => "SecondEnd",
-            RecordKind::OpenCall => "OpenCall",
             RecordKind::Identifier => "Identifier",
             RecordKind::Entry => "Entry",
             RecordKind::Calls => "Calls",

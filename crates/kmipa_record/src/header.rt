@@ -111,3 +111,32 @@ pub fn write_witness_header(alloc: Global, version: Version) -> Result<Item, All
     children.push(Item::integer(Tag { number: VERSION }, version.number()))?;
     Ok(Item::structure(Tag { number: WITNESS }, children))
 }
+
+/// The header of a transcript.
+pub fn write_transcript_header(alloc: Global) -> Result<Item, AllocError>
+    ensures { IfOk result (λ item. tree item ≡ transcript_header) }
+{
+    let mut children = Vec::with_capacity(alloc, 1)?;
+    children.push(Item::integer(Tag { number: VERSION }, 1))?;
+    Ok(Item::structure(Tag { number: TRANSCRIPT }, children))
+}
+
+/// The header of a declaration.
+pub fn write_declaration_header(alloc: Global, unique_names: bool) -> Result<Item, AllocError>
+    ensures { IfOk result (λ item. tree item ≡ declaration_header unique_names) }
+{
+    let mut children = Vec::with_capacity(alloc, 2)?;
+    children.push(Item::integer(Tag { number: VERSION }, 1))?;
+    children.push(Item::boolean(
+        Tag {
+            number: UNIQUE_NAMES,
+        },
+        unique_names,
+    ))?;
+    Ok(Item::structure(
+        Tag {
+            number: DECLARATION,
+        },
+        children,
+    ))
+}

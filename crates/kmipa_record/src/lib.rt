@@ -1,28 +1,34 @@
 //! The three files of an audit: a transcript of calls, a declaration of what the server held, and a witness.
 //!
 //! Each is a header item and then records, each an outermost TTLV item. `read_transcript`, `read_declaration` and
-//! `read_witness` read one from an `Input`, `write_witness` writes one. A `RecordFault` says what is wrong with a file, and where.
+//! `read_witness` read one from an `Input`; `write_transcript`, `write_declaration` and `write_witness` write one. A
+//! `RecordFault` says what is wrong with a file, and where.
 #![tactic(auto)]
 
 mod append;
 mod calls;
 mod declaration;
+mod declaration_writing;
 mod entry;
 mod fault;
 mod fill;
 mod header;
 mod laws;
+mod mark_reading;
+mod marks;
 mod record;
 mod records;
 mod row;
 mod shape;
 mod transcript;
+mod transcript_writing;
 mod turn;
 mod version;
 mod witness;
 mod witness_writing;
 
 pub use declaration::{Declaration, read_declaration};
+pub use declaration_writing::write_declaration;
 pub use entry::Entry;
 pub use fault::{RecordFault, RecordKind};
 pub use fill::Fill;
@@ -30,7 +36,9 @@ pub use laws::{
     no_fault_of_declaration, no_fault_of_transcript, no_fault_of_witness, one_declaration,
     one_declaration_fault, one_transcript, one_transcript_fault, one_witness, one_witness_fault,
 };
+pub use marks::Marks;
 pub use transcript::{Begin, End, Mark, Transcript, read_transcript};
+pub use transcript_writing::write_transcript;
 pub use turn::Turn;
 pub use witness::{Witness, read_witness};
 pub use witness_writing::write_witness;

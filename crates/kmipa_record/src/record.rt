@@ -1,6 +1,6 @@
 //! The next item of a file, as a header or a record.
 
-ghost use Rattle.std.specs.Prelude.{◌≡◌, ◌↔◌, ◌+◌, ◌++◌, ◌≢◌, ℕ, List, IsTrue, true, false, IfOk, IfErr, OnOk, MatchOption, MatchResult};
+ghost use Rattle.std.specs.Prelude.{◌≡◌, ◌≤◌, ◌↔◌, vec_len, ◌+◌, ◌++◌, ◌≢◌, ℕ, List, IsTrue, true, false, IfOk, IfErr, OnOk, MatchOption, MatchResult};
 ghost use Rattle.std.specs.Io.{appended_bytes, StartsWith};
 ghost use Rattle.kmipa_ttlv.specs.Input.{came_of, taken_of, is_ended, is_failed, Leaves, EndsWith, StaysOver};
 ghost use Rattle.kmipa_ttlv.specs.Reading.{IsWhole, ReadTells};
@@ -48,6 +48,7 @@ pub fn read_header<R: Read, H: Record + Drop>(
     ensures sound { MatchResult result (λ _. is_failed input.new ≡ false) (λ f. f.kind ≢ RecordKind.Device → is_failed input.new ≡ false) }
     ensures grows { StartsWith (came_of input.new) (came_of input.old) }
     ensures over { StaysOver R.remaining input.old input.new }
+    ensures bounded { vec_len bytes.new ≤ 0x10_0000 }
 {
     let offset = input.taken();
     let header: Next<H> = read_next(alloc, input, bytes)?;
@@ -73,6 +74,7 @@ pub fn read_next<R: Read, T: Record + Drop>(
     ensures sound { MatchResult result (λ _. is_failed input.new ≡ false) (λ f. f.kind ≢ RecordKind.Device → is_failed input.new ≡ false) }
     ensures grows { StartsWith (came_of input.new) (came_of input.old) }
     ensures over { StaysOver R.remaining input.old input.new }
+    ensures bounded { vec_len bytes.new ≤ 0x10_0000 }
 {
     let offset = input.taken();
     match read_bytes(input, bytes) {

@@ -9,11 +9,11 @@ use crate::shape::{children_of, enumeration_of};
 use kmipa_msgs::{Cause, Row};
 use kmipa_ttlv::View;
 
-const ROW: u32 = 0x54_0032;
+pub const ROW: u32 = 0x54_0032;
 
-const RESULT_REASON: u32 = 0x42_007E;
+pub const RESULT_REASON: u32 = 0x42_007E;
 
-const CAUSE: u32 = 0x54_0033;
+pub const CAUSE: u32 = 0x54_0033;
 
 /// The row that an item says.
 pub fn row_in(item: &View) -> Option<Row>

@@ -92,6 +92,7 @@ pub fn copied(alloc: Global, bytes: Option<&[u8]>) -> Result<Option<Vec<u8>>, Al
     }
 }
 
-fn are_bytes(bytes: &[u8])
+/// The bytes of a slice are bytes.
+pub fn are_bytes(bytes: &[u8])
     ensures { AreBytes bytes.now }
 {}

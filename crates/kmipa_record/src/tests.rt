@@ -120,7 +120,7 @@ fn flaws_of_bytes(rt: HostRuntime) -> Result<(), Fail> {
 fn kinds_have_names(rt: HostRuntime) {
     let cases = [
         (RecordKind::Ttlv(FaultKind::Truncated), 1, "Ttlv"),
-        (RecordKind::OpenCall, 6, "OpenCall"),
+        (RecordKind::Identifier, 7, "Identifier"),
         (RecordKind::Memory, 11, "Memory"),
     ];
     for (kind, number, name) in cases {

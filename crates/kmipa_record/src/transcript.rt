@@ -21,15 +21,15 @@ use kmipa_ttlv::{Input, View};
 use std::alloc::{AllocError, Global};
 use std::io::Read;
 
-const BEGIN: u32 = 0x54_0010;
+pub const BEGIN: u32 = 0x54_0010;
 
-const CALL: u32 = 0x54_0011;
+pub const CALL: u32 = 0x54_0011;
 
-const CLIENT: u32 = 0x54_0012;
+pub const CLIENT: u32 = 0x54_0012;
 
-const MESSAGE: u32 = 0x54_0013;
+pub const MESSAGE: u32 = 0x54_0013;
 
-const END: u32 = 0x54_0020;
+pub const END: u32 = 0x54_0020;
 
 /// What a laboratory saw of the calls to a server: marks in the order in which it saw them.
 #[derive(Debug, Drop)]
@@ -147,7 +147,7 @@ pub fn read_transcript<R: Read>(
     requires { came_of input.old ≡ [] }
     // What is read is what the bytes are that came, to the end that was seen.
     ensures found { IfOk result (λ transcript. IsTranscript (came_of input.new) (transcript_of transcript) × IsTrue (is_ended input.new)) }
-    // Its calls begin and end as those of a transcript do.
+    // Its calls begin and end as those of a transcript do; a call without an end mark is open.
     ensures recorded { IfOk result (λ transcript. AreRecorded (transcript_of transcript)) }
     // Else the first fault is told, whatever follows what came, and nothing where the end was seen; unless a read failed or memory ran out.
     ensures fault { (file : List ℕ) → IsFileOf file input.new → IfErr result (Tells TranscriptFault IsTranscriptUpTo file (is_failed input.new)) }
@@ -160,13 +160,7 @@ pub fn read_transcript<R: Read>(
     let mut calls = Calls::new(alloc);
     let mut marks = Vec::new(alloc);
     'marks: while read_mark(alloc, input, &mut bytes, &mut calls, &mut marks)? {}
-    match calls.first_open(&marks) {
-        Some(offset) => Err(RecordFault {
-            offset,
-            kind: RecordKind::OpenCall,
-        }),
-        None => Ok(Transcript { marks }),
-    }
+    Ok(Transcript { marks })
 }
 
 /// Reads the next mark of a transcript onto those before it; `false` at the end.
@@ -211,10 +205,10 @@ fn keep_mark(
     mark: Mark,
     offset: u64,
 ) -> Result<(), RecordFault>
-    ensures { MatchResult result (λ _. Takes calls.old calls.new (mark_of mark) offset × (marks.new.items ≡ marks.old.items ++ mark ∷ []))
+    ensures { MatchResult result (λ _. Takes calls.old calls.new (mark_of mark) × (marks.new.items ≡ marks.old.items ++ mark ∷ []))
         (λ f. (f.offset ≡ offset) × ((f.kind ≡ RecordKind.Memory) ⊎ Refuses calls.old (mark_of mark) f.kind)) }
 {
-    match calls.take(&mark, offset) {
+    match calls.take(&mark) {
         Ok(()) => {}
         Err(kind) => return Err(RecordFault { offset, kind }),
     }

@@ -13,8 +13,7 @@ fn cut_anywhere(rt: HostRuntime) -> Result<(), Fail> {
         let fault = transcript_fault(rt.alloc(), &[&bytes[..n]])?;
         let expected = match n {
             0 => told(0, RecordKind::Header),
-            24 => None,
-            192 => told(24, RecordKind::OpenCall),
+            24 | 192 => None,
             _ => told(n as u64, RecordKind::Ttlv(FaultKind::Truncated)),
         };
         assert_eq!(rt; fault, expected, "cut at {n}");
@@ -54,9 +53,9 @@ fn faults_of_transcripts(rt: HostRuntime) -> Result<(), Fail> {
 #[test]
 fn calls_overlap(rt: HostRuntime) -> Result<(), Fail> {
     let fault = transcript_fault(rt.alloc(), &[&TRANSCRIPT, &begin(1), &begin(2), &end(2)])?;
-    assert_eq!(rt; fault, told(24, RecordKind::OpenCall));
+    assert_eq!(rt; fault, None);
     let fault = transcript_fault(rt.alloc(), &[&TRANSCRIPT, &begin(1), &begin(2), &end(1)])?;
-    assert_eq!(rt; fault, told(64, RecordKind::OpenCall));
+    assert_eq!(rt; fault, None);
     let fault = transcript_fault(
         rt.alloc(),
         &[&TRANSCRIPT, &begin(1), &begin(2), &end(1), &end(2)],
@@ -99,5 +98,19 @@ fn most_calls(rt: HostRuntime) -> Result<(), Fail> {
     assert_eq!(rt; used, told(7_200_024, RecordKind::Number));
     let more = transcript_fault(rt.alloc(), &[&bytes, &begin(100_001)])?;
     assert_eq!(rt; more, told(7_200_024, RecordKind::Calls));
+    Ok(())
+}
+
+#[test]
+fn marks_come_one_at_a_time(rt: HostRuntime) -> Result<(), Fail> {
+    let bytes = one_call(rt.alloc())?;
+    let mut input = Input::new(bytes.as_slice());
+    let mut marks = Marks::new(rt.alloc(), &mut input);
+    let begins = marks.next()?.is_some();
+    assert!(rt; begins);
+    let ends = marks.next()?.is_some();
+    assert!(rt; ends);
+    let is_over = marks.next()?.is_none();
+    assert!(rt; is_over);
     Ok(())
 }

@@ -15,6 +15,29 @@ fn rewritten(alloc: Global, bytes: &[u8]) -> Result<Vec<u8>, Fail> {
     Ok(out)
 }
 
+#[test]
+fn transcript_is_written_again(rt: HostRuntime) -> Result<(), Fail> {
+    let alloc = rt.alloc();
+    let bytes = one_call(alloc)?;
+    let transcript = read_transcript(alloc, &mut Input::new(bytes.as_slice()))?;
+    let mut out = Vec::new(alloc);
+    write_transcript(alloc, &transcript, &mut out)?;
+    assert_eq!(rt; out.as_slice(), bytes.as_slice());
+    Ok(())
+}
+
+#[test]
+fn declaration_is_written_again(rt: HostRuntime) -> Result<(), Fail> {
+    let alloc = rt.alloc();
+    let row = row(alloc, 7, 2)?;
+    let bytes = joined(alloc, &[&DECLARATION, &row, &ENTRY])?;
+    let declaration = read_declaration(alloc, &mut Input::new(bytes.as_slice()))?;
+    let mut out = Vec::new(alloc);
+    write_declaration(alloc, &declaration, &mut out)?;
+    assert_eq!(rt; out.as_slice(), bytes.as_slice());
+    Ok(())
+}
+
 fn turn_with(alloc: Global, call: i32) -> Turn {
     Turn {
         call,

@@ -1,7 +1,6 @@
 use Rattle.std.proofs.Common.{sym, subst, ◌∙◌, ℕ, map, refl, arith, []}
 use Rattle.std.proofs.lemmas.Result.{err_from_is_err_and}
 use Rattle.kmipa_ttlv.specs.Input.{taken_of, is_failed}
-use Rattle.kmipa_record.specs.Calls.{Takes}
 use Rattle.kmipa_record.specs.Files.{Tells}
 use Rattle.kmipa_record.specs.Marks.{mark_of, mark_item}
 use Rattle.kmipa_record.specs.Transcripts.{TranscriptFault, IsTranscriptUpTo}
@@ -36,7 +35,7 @@ returns-in_ok-keep_mark-in-Record-clause-read g c = λ file left after split s.
     let t = takes_as (mark_item (mark_of c.in-Record.mark)) _ _ _ _ (rw c.in-Record.is at (c.in_ok-next.ensures.ok left after split)) in
     let e = c.in_ok-keep_mark-in-Record.ensures in
     mark_taken file c.args.marks.now.items c.keep_mark.new.marks.items c.in-Record.mark c.args.calls.now c.keep_mark.new.calls left after
-    (taken_of c.args.input.now) (taken_of c.read_next.new.input) e.1 t (subst (Takes c.args.calls.now c.keep_mark.new.calls (mark_of c.in-Record.mark)) c.taken-offset.ensures e.0) s
+    (taken_of c.args.input.now) (taken_of c.read_next.new.input) e.1 t e.0 s
 
 pub returns-in-End-clause-read : goal.returns-in-End-clause-read
 returns-in-End-clause-read g c = λ file left after split s.

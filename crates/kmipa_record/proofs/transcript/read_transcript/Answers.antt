@@ -1,16 +1,14 @@
-use Rattle.std.proofs.Common.{◌≡◌, sym, ap, subst, ◌∙◌, List, ℕ, [], ◌++◌, map, Some, None, refl, length}
+use Rattle.std.proofs.Common.{◌≡◌, sym, ap, subst, ◌∙◌, List, ℕ, [], ◌++◌, map, refl, length}
 use Rattle.std.specs.Io.{appended_bytes, StartsWith}
 use Rattle.std.proofs.lemmas.Result.{err_from_is_err_and}
 use Rattle.std.proofs.lemmas.List.{append-nil}
 use Rattle.kmipa_ttlv.specs.Input.{came_of, taken_of, is_failed}
-use Rattle.kmipa_record.specs.Calls.{first_place, open_place}
 use Rattle.kmipa_record.specs.Marks.{MarkOf, mark_of}
 use Rattle.kmipa_record.specs.declared.calls.Calls.{Calls}
-use Rattle.kmipa_record.specs.declared.transcript.Mark.{Mark}
 use Rattle.kmipa_record.specs.Transcripts.{transcript_header}
 use Rattle.kmipa_record.specs.TranscriptReading.{IsReadSoFar}
 use Rattle.kmipa_record.proofs.NextLemmas.{takes_as, none_before, regrouped}
-use Rattle.kmipa_record.proofs.TranscriptLemmas.{header_fails, header_read, closed, open_told}
+use Rattle.kmipa_record.proofs.TranscriptLemmas.{header_fails, header_read, ended_right}
 use Rattle.kmipa_record.proofs.transcript.read_transcript.Goals as goal
 
 pub returns-in_err-read_header-clause-fault : goal.returns-in_err-read_header-clause-fault
@@ -57,21 +55,6 @@ marks-preserved g c = (
   λ xs h. c.read_mark.ensures.over xs (c.marks.invariant.2 xs h),
 )
 
-pub returns-in-Some-clause-fault : goal.returns-in-Some-clause-fault
-returns-in-Some-clause-fault g c = λ file is.
-    let after = is.0 in let e = is.1 in let end = is.2 in
-    let calls = c.read_mark.new.calls in
-    let marks = c.read_mark.new.marks.items in
-    let s = c.in_ok-read_mark.ensures.read file _ after refl
-    (at (came_of c.marks.input) (came_of c.read_mark.new.input) (map mark_of c.marks.marks.items) c.marks.calls (taken_of c.marks.input) c.read_mark.ensures.grows c.marks.invariant.0 file after e) in
-    let all = subst (λ (l : List ℕ). IsReadSoFar file (map mark_of marks) calls l (taken_of c.read_mark.new.input)) (end (c.in_ok-read_mark.ensures.end c.if-branch.false)) s in
-    let found : first_place (open_place calls) (map mark_of marks) ≡ Some c.in-Some.offset
-    = ap (λ (l : List Mark). first_place (open_place calls) (map mark_of l)) (sym c.deref.ensures.value) ∙ sym c.in-Some.ensures in
-    open_told file (map mark_of marks) calls (taken_of c.read_mark.new.input) c.in-Some.offset found all
-
-pub returns-in-Some-clause-over : goal.returns-in-Some-clause-over
-returns-in-Some-clause-over g c = λ xs h. c.read_mark.ensures.over xs (c.marks.invariant.2 xs h)
-
 pub returns-clause-found : goal.returns-clause-found
 returns-clause-found g c =
     let came = came_of c.read_mark.new.input in
@@ -79,9 +62,7 @@ returns-clause-found g c =
     let marks = c.read_mark.new.marks.items in
     let s = c.in_ok-read_mark.ensures.read came _ [] refl
     (at (came_of c.marks.input) came (map mark_of c.marks.marks.items) c.marks.calls (taken_of c.marks.input) c.read_mark.ensures.grows c.marks.invariant.0 came [] (sym (append-nil came))) in
-    let found : first_place (open_place calls) (map mark_of marks) ≡ None
-    = ap (λ (l : List Mark). first_place (open_place calls) (map mark_of l)) (sym c.deref.ensures.value) ∙ sym c.in-None.ensures in
-    (closed came (map mark_of marks) calls (taken_of c.read_mark.new.input) found s, c.in_ok-read_mark.ensures.end c.if-branch.false)
+    (ended_right came (map mark_of marks) calls (taken_of c.read_mark.new.input) s, c.in_ok-read_mark.ensures.end c.if-branch.false)
 
 pub returns-clause-over : goal.returns-clause-over
 returns-clause-over g c = λ xs h. c.read_mark.ensures.over xs (c.marks.invariant.2 xs h)

@@ -1,16 +1,17 @@
 use Rattle.std.proofs.Common.{map, sym, subst}
 use Rattle.std.proofs.lemmas.Result.{err_from_is_err_and}
 use Rattle.kmipa_ttlv.specs.Tree.{Tree}
+use Rattle.kmipa_ttlv.specs.Written.{Legal}
 use Rattle.kmipa_record.specs.Witnesses.{turn_of, turn_item, witness_header}
-use Rattle.kmipa_record.specs.Writing.{Adds, IsSpelled}
+use Rattle.kmipa_record.specs.Writing.{Adds}
 use Rattle.kmipa_record.proofs.WritingLemmas.{adds_behind, behind_starts, starts_on, refused_map, on_ok_map}
-use Rattle.kmipa_record.proofs.WrittenWitnessLemmas.{header_spelled}
+use Rattle.kmipa_record.proofs.WrittenWitnessLemmas.{header_legal}
 use Rattle.kmipa_record.proofs.witness_writing.put_witness.Goals as goal
 
 pub returns-in_err-append-clause-refused : goal.returns-in_err-append-clause-refused
 returns-in_err-append-clause-refused c =
     let p = err_from_is_err_and c.from_residual-in_err-append.result c.from_residual-in_err-append.ensures.1 in
-    rw (p.1, p.2) (refused_map c.in_err-append.field-0.0 (λ all. subst IsSpelled (sym c.in_ok-write_witness_header.ensures) (header_spelled c.lowest-version.result)) c.in_err-append.ensures.err)
+    rw (p.1, p.2) (refused_map c.in_err-append.field-0.0 (λ all. subst (Legal 16) (sym c.in_ok-write_witness_header.ensures) (header_legal c.lowest-version.result)) c.in_err-append.ensures.err)
 
 pub returns-clause-put : goal.returns-clause-put
 returns-clause-put c =

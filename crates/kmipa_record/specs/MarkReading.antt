@@ -1,0 +1,64 @@
+-- The marks of a transcript that are given one at a time.
+use Rattle.std.specs.Prelude.{◌≡◌, ◌≢◌, ◌⊎◌, ℕ, Bool, true, false, IsTrue, List, [], ◌∷◌, ◌++◌, map, Option, Some, None}
+use Rattle.kmipa_ttlv.specs.Input.{came_of, taken_of, is_ended}
+use Rattle.kmipa_ttlv.specs.Stream.{Begins}
+use Rattle.kmipa_ttlv.specs.Tree.{Tree}
+use Rattle.kmipa_ttlv.specs.declared.input.Input.{Input}
+use Rattle.kmipa_record.specs.Files.{FirstFault, IsRightUpTo}
+use Rattle.kmipa_record.specs.Marks.{MarkOf, mark_of, mark_item}
+use Rattle.kmipa_record.specs.Reading.{IsReading}
+use Rattle.kmipa_record.specs.Transcripts.{transcript_header}
+use Rattle.kmipa_record.specs.declared.fault.RecordFault.{RecordFault}
+use Rattle.kmipa_record.specs.declared.fault.RecordKind.{RecordKind}
+use Rattle.kmipa_record.specs.declared.fault.RecordKind.TheVariants.{Header, Entry}
+use Rattle.kmipa_record.specs.declared.marks.Marks.{Marks}
+use Rattle.kmipa_record.specs.declared.transcript.Mark.{Mark}
+
+-- ---- what was given
+
+-- These marks were given of what came of an input: nothing came yet; or, once its header was read, each file that begins with what
+-- came begins with the header and these marks, and what is left of it is behind what came.
+abbrev pub AreGivenOf : {R : Type 0} → Bool → List MarkOf → Input R → Type 0
+AreGivenOf false marks input = (marks ≡ []) × (came_of input ≡ [])
+AreGivenOf true marks input = (after : List ℕ) → IsReading (came_of input ++ after) (transcript_header ∷ map mark_item marks) after (taken_of input)
+
+-- What is given next: one more mark; or none, where the end was seen, and what came is the header and these marks.
+abbrev pub GivesNextOf : {R : Type 0} → List MarkOf → Input R → Option Mark → Type 0
+GivesNextOf marks input (Some mark) = AreGivenOf true (marks ++ mark_of mark ∷ []) input
+GivesNextOf marks input None = Begins (transcript_header ∷ map mark_item marks) (came_of input) [] × IsTrue (is_ended input) × AreGivenOf true marks input
+
+-- the input below
+abbrev pub input_of : {R : Type 0} → Marks R → Input R
+input_of m = m.input.now
+
+-- the fault that was told
+abbrev pub told_of : {R : Type 0} → Marks R → Option RecordFault
+told_of m = m.fault
+
+abbrev pub HasGiven : {R : Type 0} → List MarkOf → Marks R → Type 0
+HasGiven marks m = AreGivenOf m.begun marks (input_of m)
+
+abbrev pub GivesNext : {R : Type 0} → List MarkOf → Marks R → Option Mark → Type 0
+GivesNext marks m next = GivesNextOf marks (input_of m) next × (m.begun ≡ true)
+
+-- ---- the first fault
+
+-- no item is faulty: there is none, or the header and these marks
+abbrev pub AreThese : List MarkOf → List Tree → Type 0
+AreThese marks items = (items ≡ []) ⊎ (items ≡ transcript_header ∷ map mark_item marks)
+
+-- the first item is no header, or another one no mark
+abbrev pub IsNoMark : List Tree → Tree → RecordKind → Type 0
+IsNoMark [] item kind = (item ≢ transcript_header) × (kind ≡ Header)
+IsNoMark (header ∷ records) item kind = ((mark : MarkOf) → item ≢ mark_item mark) × (kind ≡ Entry)
+
+abbrev pub HasNoHeader : List ℕ → List Tree → ℕ → RecordKind → Type 0
+HasNoHeader bytes [] offset kind = (offset ≡ 0) × (kind ≡ Header)
+HasNoHeader bytes (header ∷ records) offset kind = ⊥
+
+-- The first fault of a file of which these marks were given: behind them, or of its header.
+abbrev pub FaultBehind : List MarkOf → List ℕ → ℕ → RecordKind → Type 0
+FaultBehind marks = FirstFault (AreThese marks) IsNoMark HasNoHeader
+
+abbrev pub IsRightBehind : List MarkOf → List ℕ → ℕ → Type 0
+IsRightBehind marks = IsRightUpTo (AreThese marks)

@@ -1,0 +1,83 @@
+//! The marks of a transcript, one at a time.
+
+ghost use Rattle.std.specs.Prelude.{◌≤◌, vec_len};
+
+use crate::fault::{RecordFault, RecordKind};
+use crate::mark_reading::read_on;
+use crate::transcript::Mark;
+use kmipa_ttlv::Input;
+use std::alloc::Global;
+use std::io::Read;
+
+/// The marks of a transcript, one at a time, through a buffer of at most 1,048,576 bytes.
+///
+/// It tells Ttlv, Header, Entry, Device and Memory: how the numbers of calls follow is not tested.
+///
+/// # Faults
+/// A fault stays: each later `next` answers it again.
+#[derive(Drop)]
+pub struct Marks<'a, R> {
+    alloc: Global,
+    input: &'a mut Input<R>,
+    // The bytes of the item that was read last.
+    bytes: Vec<u8>,
+    // Whether the header was read.
+    begun: bool,
+    // The fault that stays.
+    fault: Option<RecordFault>,
+    ghost bounded: { vec_len bytes ≤ 0x10_0000 },
+}
+
+impl<'a, R: Read> Marks<'a, R> {
+    ghost use Rattle.std.specs.Prelude.{◌≡◌, ◌≢◌, ℕ, List, [], false, None, Some, Err, IfOk, IfErr, MatchResult};
+    ghost use Rattle.kmipa_ttlv.specs.Input.{came_of, is_failed, IsFileOf, StaysOver};
+    ghost use Rattle.kmipa_record.specs.Files.{Tells};
+    ghost use Rattle.kmipa_record.specs.Marks.{MarkOf};
+    ghost use Rattle.kmipa_record.specs.MarkReading.{input_of, told_of, HasGiven, GivesNext, FaultBehind, IsRightBehind};
+
+    /// The marks of a transcript of whose bytes none was read.
+    pub fn new(alloc: Global, input: &'a mut Input<R>) -> Marks<'a, R>
+        requires { came_of input.old ≡ [] }
+        ensures given { HasGiven [] result }
+        ensures told { told_of result ≡ None }
+        ensures input { input_of result ≡ input.old }
+    {
+        Marks {
+            alloc,
+            input,
+            bytes: Vec::new(alloc),
+            begun: false,
+            fault: None,
+        }
+    }
+
+    /// The next mark; `None` at the end of the transcript.
+    pub fn next(&mut self) -> Result<Option<Mark>, RecordFault>
+        // The marks that are given are those of the transcript, in order, and all of them once there is none.
+        ensures given { (marks : List MarkOf) → HasGiven marks self.old → IfOk result (GivesNext marks self.new) }
+        // A fault is the first behind the marks that were given, whatever follows what came, unless a read failed or memory ran out.
+        ensures fault { (marks : List MarkOf) (file : List ℕ) → HasGiven marks self.old → told_of self.old ≡ None → IsFileOf file (input_of self.new)
+            → IfErr result (Tells (FaultBehind marks) (IsRightBehind marks) file (is_failed (input_of self.new))) }
+        ensures sound { told_of self.old ≡ None
+            → MatchResult result (λ _. is_failed (input_of self.new) ≡ false) (λ f. f.kind ≢ RecordKind.Device → is_failed (input_of self.new) ≡ false) }
+        // It is told again.
+        ensures told { IfErr result (λ f. told_of self.new ≡ Some f) }
+        ensures again { (f : RecordFault) → told_of self.old ≡ Some f → (result ≡ Err f) × (input_of self.new ≡ input_of self.old) }
+        // Over a reader whose bytes are known what came is their front.
+        ensures over { StaysOver R.remaining (input_of self.old) (input_of self.new) }
+    {
+        if let Some(fault) = self.fault {
+            return Err(fault);
+        }
+        match read_on(self.alloc, self.input, &mut self.bytes, self.begun) {
+            Ok(next) => {
+                self.begun = true;
+                Ok(next)
+            }
+            Err(fault) => {
+                self.fault = Some(fault);
+                Err(fault)
+            }
+        }
+    }
+}
