@@ -56,7 +56,7 @@ module _ (marks : List MarkOf) (declared : DeclarationOf) (turns : List TurnOf) 
       | late l w ↦ never_late a.steps h.turn h.call a.run.placed h.there l
       | runs_back k l w ↦ never_back a.steps h.turn h.call a.run.placed h.there l
     ]
-    | in_item count is item ↦
+    | in_item count item ↦
         let t = linked_at (rules_declared declared) a.start a.steps h.turn h.call a.run.last a.run.linked h.there in
         item.never (record {
           placed = placed_below a.steps h.turn a.run.placed (slice_get_within a.steps h.turn h.call h.there);

@@ -33,15 +33,15 @@ calls_numbered marks calls r are k d below =
     let here : IsRecorded marks (call_of c) = subst P (get_or-map call_of calls k d (call_of d) below) (are.recorded k (call_of d) within) in
     let mark : MarkOf = Marks.begins c.number here.carried.client here.asked in
     let Q : MarkOf → Type 0 = λ m. IsCallNumber (Marks.call_of m) in
-    let number : IsCallNumber c.number = subst Q (get_or_from_slice_get marks c.begin mark mark here.carried.begins)
-    (r.in_order.numbered c.begin mark (slice_get_within marks c.begin mark here.carried.begins)) in
+    let number : IsCallNumber c.number = subst Q (get_or_from_slice_get marks c.begin mark mark here.carried.there)
+    (r.numbered c.begin mark (slice_get_within marks c.begin mark here.carried.there)) in
     number.least
 
 -- and no number stands twice
 pub calls_once : (marks : List MarkOf) (calls : List CallOf) → AreRecorded marks → AreCalls marks calls → AllPairs (λ (x y : ℤ). x ≢ y) (map (λ (c : CallOf). c.number) calls)
 calls_once marks calls r are =
     let P : List ℤ → Type 0 = λ xs. AllPairs (λ (x y : ℤ). x ≢ y) xs in
-    subst P (sym are.numbers) r.in_order.once
+    subst P (sym are.numbers) r.once
 
 -- each step can be judged
 pub steps_readable : (marks : List MarkOf) (calls : List CallOf) (turns : List TurnOf) (count : ℕ) (steps : List StepOf) → All (IsRecorded marks) calls → AreFormed calls turns count steps → AllReadable steps

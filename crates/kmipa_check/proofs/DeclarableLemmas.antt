@@ -5,13 +5,13 @@ use Rattle.std.proofs.lemmas.Bool.{and_from, lt-ltb}
 use Rattle.kmipa_attrs.specs.Sets.{Attributes}
 use Rattle.kmipa_attrs.specs.declared.object_type.ObjectType.{ObjectType}
 use Rattle.kmipa_attrs.specs.declared.object_type.ObjectType.TheVariants.{SymmetricKey, SecretData}
-use Rattle.kmipa_object.specs.Inventory.{Admitted, admits, possible, key_rule, rule_for, rule_of}
+use Rattle.kmipa_object.specs.Inventory.{given_of, Admitted, admits, possible, key_rule, rule_for, rule_of}
 use Rattle.kmipa_object.specs.declared.rule.Rule.{Rule}
 use Rattle.kmipa_object.specs.declared.rule.Rule.TheVariants.{Any, Bits}
 use Rattle.kmipa_object.proofs.RuleLemmas.{possible_admits}
 use Rattle.kmipa_store.specs.Choices.{Suits}
 use Rattle.kmipa_record.specs.Entries.{EntryOf, IsDeclarable, AreWholeBytes, algorithm_bits, key_bits}
-use Rattle.kmipa_check.specs.Described.{card_declared, given_in}
+use Rattle.kmipa_check.specs.Described.{card_declared}
 use Rattle.kmipa_check.specs.Opening.{known_declared}
 
 -- the rule of bits that may be laid down
@@ -28,11 +28,7 @@ key_rule_bits None bits = refl
 key_rule_bits (Some algorithm) None = refl
 key_rule_bits (Some algorithm) (Some bits) = by_algorithm (algorithm == 3) bits
 
-pub rule_given : (kind : ObjectType) (a : Attributes) → rule_for kind (given_in a) ≡ rule_for kind a
-rule_given SymmetricKey a = refl
-rule_given SecretData a = refl
-
-rule_declared : (kind : ObjectType) (a : Attributes) → rule_for kind (given_in a) ≡ rule_bits (key_bits kind a)
+rule_declared : (kind : ObjectType) (a : Attributes) → rule_for kind (given_of a) ≡ rule_bits (key_bits kind a)
 rule_declared SymmetricKey a = key_rule_bits a.algorithm a.length
 rule_declared SecretData a = refl
 

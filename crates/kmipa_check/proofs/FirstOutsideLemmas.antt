@@ -11,12 +11,13 @@ use Rattle.kmipa_msgs.specs.Messages.{RequestOf, ResponseOf}
 use Rattle.kmipa_msgs.specs.Outside.{OutsideAt}
 use Rattle.kmipa_msgs.specs.Requests.{SaysRequest, RequestFault}
 use Rattle.kmipa_msgs.specs.Responses.{SaysResponse, ResponseFault}
-use Rattle.kmipa_check.specs.Calls.{CallOf, AreOutside, no_item, outside, AreRequest, AreResponse, HasMarks, IsRecorded, AreFirstCalls, AreCalls, IsOutsideOn, IsFirstOutside}
+use Rattle.kmipa_check.specs.Calls.{CallOf, AreOutside, no_item, outside, AreRequest, AreResponse, HasBegin, HasEnd, IsEnded, has_ended, is_open, IsRecorded, AreFirstCalls, AreCalls, IsOutsideOn, IsFirstOutside}
 use Rattle.kmipa_check.specs.declared.fault.Side.{Side}
 use Rattle.kmipa_check.specs.declared.fault.Side.TheVariants.{Client, Server}
-use Rattle.kmipa_check.proofs.PlaceLemmas.{get_at, some_at}
+use Rattle.kmipa_check.proofs.PlaceLemmas.{apart, get_at, some_at}
 use Rattle.kmipa_check.proofs.WholeOrderLemmas.{number_of}
-use Rattle.kmipa_check.proofs.RecordedLemmas.{apart, taken_at, same_item, same_message, not_outside, same_marks}
+use Rattle.kmipa_check.proofs.RecordedLemmas.{taken_at, same_begin, same_end}
+use Rattle.kmipa_check.proofs.MessageLemmas.{same_item, same_message, not_outside}
 
 kind_at : ℕ → OutsideKind
 kind_at n =
@@ -58,26 +59,32 @@ one_outside Fault bytes i j k l (outside t spelled o) (outside u spells p) =
     let P : Tree → Type 0 = λ x. OutsideAt (Fault x) j l in
     one_place (Fault t) i j k l o (subst P (same_item u t bytes spells spelled) p)
 
--- one side of a call is outside, or the other
-one_side : (s t : Side) (asked answered : List ℕ) (i j : ℕ) (k l : OutsideKind) → IsOutsideOn s asked answered i k → IsOutsideOn t asked answered j l → (s ≡ t) × (i ≡ j) × (k ≡ l)
-one_side Client Client asked answered i j k l a b = let e = one_outside RequestFault asked i j k l a b in (refl, e.0, e.1)
-one_side Client Server asked answered i j k l a b = absurd (not_outside SaysRequest RequestFault asked b.0 i k b.1 a)
-one_side Server Client asked answered i j k l a b = absurd (not_outside SaysRequest RequestFault asked a.0 j l a.1 b)
-one_side Server Server asked answered i j k l a b =
-    let same = same_message SaysRequest RequestFault asked b.0 a.0 b.1 a.1 in
-    let P : RequestOf → Type 0 = λ q. AreOutside (λ t. ResponseFault t q) answered j l in
-    let e = one_outside (λ t. ResponseFault t a.0) answered i j k l a.2 (subst P same b.2) in
-    (refl, e.0, e.1)
-
 -- what says two messages is on no side outside
-not_outside_on : (s : Side) (asked answered : List ℕ) (q : RequestOf) (p : ResponseOf) (i : ℕ) (k : OutsideKind) → AreRequest asked q → AreResponse q answered p → IsOutsideOn s asked answered i k → ⊥
-not_outside_on Client asked answered q p i k x y o = not_outside SaysRequest RequestFault asked q i k x o
-not_outside_on Server asked answered q p i k x y o =
-    let e : o.0 ≡ q = same_message SaysRequest RequestFault asked o.0 q o.1 x in
-    let P : RequestOf → Type 0 = λ w. AreOutside (λ t. ResponseFault t w) answered i k in
-    not_outside (λ t. SaysResponse t q) (λ t. ResponseFault t q) answered p i k y (subst P e o.2)
+not_outside_on : (marks : List MarkOf) (c : CallOf) (s : Side) (asked : List ℕ) (i : ℕ) (k : OutsideKind) → AreRecorded marks → AreRequest asked c.request → IsEnded marks c
+    → IsOutsideOn marks c.number s asked i k → ⊥
+not_outside_on marks c Client asked i k r x y o = not_outside SaysRequest RequestFault asked c.request i k x o
+not_outside_on marks c Server asked i k r x (is_open none ends is) o = none o.end o.answered o.ended
+not_outside_on marks c Server asked i k r x (has_ended e a p h says ends is) o =
+    let q : o.request ≡ c.request = same_message SaysRequest RequestFault asked o.request c.request o.said x in
+    let m = same_end marks c.number o.end e o.answered a r o.ended h in
+    let P : RequestOf → Type 0 = λ w. AreOutside (λ t. ResponseFault t w) o.answered i k in
+    let Q : List ℕ → Type 0 = λ bytes. AreOutside (λ t. ResponseFault t c.request) bytes i k in
+    not_outside (λ t. SaysResponse t c.request) (λ t. ResponseFault t c.request) a p i k says (subst Q m.1 (subst P q o.outside))
 
 module _ (marks : List MarkOf) (r : AreRecorded marks) where
+  -- one side of a call is outside, or the other
+  one_side : (n : ℤ) (s t : Side) (asked : List ℕ) (i j : ℕ) (k l : OutsideKind) → IsOutsideOn marks n s asked i k → IsOutsideOn marks n t asked j l → (s ≡ t) × (i ≡ j) × (k ≡ l)
+  one_side n Client Client asked i j k l a b = let e = one_outside RequestFault asked i j k l a b in (refl, e.0, e.1)
+  one_side n Client Server asked i j k l a b = absurd (not_outside SaysRequest RequestFault asked b.request i k b.said a)
+  one_side n Server Client asked i j k l a b = absurd (not_outside SaysRequest RequestFault asked a.request j l a.said b)
+  one_side n Server Server asked i j k l a b =
+      let same = same_message SaysRequest RequestFault asked b.request a.request b.said a.said in
+      let m = same_end marks n b.end a.end b.answered a.answered r b.ended a.ended in
+      let P : RequestOf → Type 0 = λ q. AreOutside (λ t. ResponseFault t q) b.answered j l in
+      let Q : List ℕ → Type 0 = λ bytes. AreOutside (λ t. ResponseFault t a.request) bytes j l in
+      let e = one_outside (λ t. ResponseFault t a.request) a.answered i j k l a.outside (subst Q m.1 (subst P same b.outside)) in
+      (refl, e.0, e.1)
+
   -- no call that is inside is the first that is outside
   inside_before : (calls : List CallOf) (n : ℤ) (s : Side) (i : ℕ) (k : OutsideKind) → AreFirstCalls marks calls → (f : IsFirstOutside marks n s i k) → length f.before < length calls → ⊥
   inside_before calls n s i k a f below =
@@ -88,11 +95,11 @@ module _ (marks : List MarkOf) (r : AreRecorded marks) where
       let same : c.0.number ≡ n = cc in
       let R : CallOf → Type 0 = λ x. IsRecorded marks x in
       let x : IsRecorded marks c.0 = subst R (get_or_from_slice_get calls (length f.before) c.0 c.0 c.1) (a.recorded (length f.before) c.0 below) in
-      let Q : ℤ → Type 0 = λ m. HasMarks marks m c.0.begin x.end x.asked x.answered in
-      let m = same_marks marks n c.0.begin x.end f.begin f.end x.asked x.answered f.asked f.answered r (subst Q same x.carried) f.carried in
+      let Q : ℤ → Type 0 = λ m. HasBegin marks m c.0.begin x.asked in
+      let m = same_begin marks n c.0.begin f.begin x.asked f.asked r (subst Q same x.carried) f.carried in
       let A : List ℕ → Type 0 = λ bytes. AreRequest bytes c.0.request in
-      let B : List ℕ → Type 0 = λ bytes. AreResponse c.0.request bytes x.answer in
-      not_outside_on s f.asked f.answered c.0.request x.answer i k (subst A m.asked_same x.request) (subst B m.answered_same x.response) f.outside
+      let O : ℤ → Type 0 = λ z. IsOutsideOn marks z s f.asked i k in
+      not_outside_on marks c.0 s f.asked i k r (subst A m.1 x.request) x.ended (subst O (sym same) f.outside)
 
   -- where all calls are inside, none is outside
   pub none_outside : (calls : List CallOf) (n : ℤ) (s : Side) (i : ℕ) (k : OutsideKind) → AreCalls marks calls → IsFirstOutside marks n s i k → ⊥
@@ -113,9 +120,9 @@ module _ (marks : List MarkOf) (r : AreRecorded marks) where
           let a = subst P e f.next in
           let b = g.next in
           let same : n ≡ m = cc in
-          let Q : ℤ → Type 0 = λ x. HasMarks marks x f.begin f.end f.asked f.answered in
-          let w = same_marks marks m f.begin f.end g.begin g.end f.asked f.answered g.asked g.answered r (subst Q same f.carried) g.carried in
-          let A : List ℕ → Type 0 = λ bytes. IsOutsideOn s bytes f.answered i k in
-          let B : List ℕ → Type 0 = λ bytes. IsOutsideOn s g.asked bytes i k in
-          let o = one_side s t g.asked g.answered i j k l (subst B w.answered_same (subst A w.asked_same f.outside)) g.outside in
+          let Q : ℤ → Type 0 = λ x. HasBegin marks x f.begin f.asked in
+          let w = same_begin marks m f.begin g.begin f.asked g.asked r (subst Q same f.carried) g.carried in
+          let A : List ℕ → Type 0 = λ bytes. IsOutsideOn marks m s bytes i k in
+          let B : ℤ → Type 0 = λ x. IsOutsideOn marks x s f.asked i k in
+          let o = one_side m s t g.asked i j k l (subst A w.1 (subst B same f.outside)) g.outside in
           (same, o.0, o.1, o.2)

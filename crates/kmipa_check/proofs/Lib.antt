@@ -1,10 +1,14 @@
+pub mod PlainLemmas
 pub mod PlaceLemmas
 pub mod RunLemmas
 pub mod ReplayLemmas
 pub mod OnceLemmas
+pub mod MessageLemmas
 pub mod NumberLemmas
 pub mod LateLemmas
 pub mod OrderLemmas
+pub mod FillLemmas
+pub mod FillingLemmas
 pub mod WholeOrderLemmas
 pub mod DescribedLemmas
 pub mod DeclarableLemmas
@@ -21,7 +25,7 @@ pub mod WitnessFaultLemmas
 pub mod RefusedLemmas
 pub mod AcceptedLemmas
 pub mod AcceptedAuditLemmas
-pub mod StampLemmas
 pub mod NextLemmas
 pub mod TimedLemmas
 pub mod OneAnswerLemmas
+pub mod StampLemmas

@@ -96,7 +96,7 @@ module _ (calls : List CallOf) where
   made_order turns steps made once = record {
     counted = AllZip-long Makes turns steps made;
     formed = formed;
-    all = λ c has. named c (once.all c has);
+    all = λ c end one ended. named c (once.all c end one ended);
   }
     where
       twice : (place : ℕ) (t : TurnOf) (s : StepOf) → slice_get steps place ≡ Some s → t.call ≡ s.number → NamesBefore turns place t.call → ⊥

@@ -1,70 +1,23 @@
 -- The order of a witness: its turns one by one, and the calls that none names.
-use Rattle.std.proofs.Common.{◌≡◌, ◌<◌, ◌≤◌, ◌⊎◌, inl, inr, ◌==◌, ℕ, zero, suc, ◌+◌, ℤ, Bool, true, false, List, [], ◌∷◌, ◌++◌, map, length, get_or, Contains, Option, Some, None, slice_get, refl, sym, ap, ◌∙◌, subst, arith, add-one}
-use Rattle.std.specs.List.{zip}
+use Rattle.std.proofs.Common.{◌≡◌, ◌<◌, ◌≤◌, ◌⊎◌, inl, inr, ◌==◌, ℕ, zero, suc, ◌+◌, ℤ, Bool, true, false, List, [], ◌∷◌, ◌++◌, map, length, get_or, Contains, Option, Some, None, Result, Ok, Err, MatchResult, slice_get, refl, sym, ap, ◌∙◌, subst, arith, add-one}
 use Rattle.std.proofs.lemmas.List.{length-map, length-append}
 use Rattle.std.proofs.lemmas.Bool.Decides.{nat_tests}
 use Rattle.std.proofs.lemmas.Option.{slice_get_within}
 use Rattle.kmipa_record.specs.declared.turn.Turn.{Turn}
 use Rattle.kmipa_record.specs.Witnesses.{TurnOf, turn_of}
-use Rattle.kmipa_msgs.specs.Messages.{AskOf, AnswerOf, RequestOf, ResponseOf, request_of, response_of}
-use Rattle.kmipa_msgs.specs.Wanted.{Wanted}
-use Rattle.kmipa_batch.specs.Calls.{pairs_of}
 use Rattle.kmipa_check.specs.declared.call.Call.{Call}
 use Rattle.kmipa_check.specs.declared.numbers.FirstPlaces.{FirstPlaces}
+use Rattle.kmipa_check.specs.declared.fault.StepFault.{StepFault}
+use Rattle.kmipa_check.specs.declared.fault.StepFault.TheVariants.{Unfit, Memory}
 use Rattle.kmipa_check.specs.declared.fault.WitnessKind.{WitnessKind}
 use Rattle.kmipa_check.specs.declared.fault.WitnessKind.TheVariants.{UnknownCall, Twice}
 use Rattle.kmipa_check.specs.declared.step.Step.{Step}
 use Rattle.kmipa_check.specs.Calls.{CallOf, call_of}
-use Rattle.kmipa_check.specs.Steps.{StepOf, IsAsRecorded, NeedsFill, step_of, step_with}
-use Rattle.kmipa_check.specs.Orders.{NamesAt, HasCall, NamesBefore, IsFormed, AreFormedBelow, GivenFault, TurnFault, unknown, twice, unfit}
+use Rattle.kmipa_check.specs.Steps.{StepOf, IsStep, step_of}
+use Rattle.kmipa_check.specs.Orders.{NamesAt, HasCall, NamesBefore, IsFormed, AreFormedBelow, GivenFault, Refuses, TurnFault, unknown, twice, unfit, in_turn}
 use Rattle.kmipa_check.specs.Numbers.{place_in, IsFirst, StandsFirst, Indexes, is_noted}
-use Rattle.kmipa_check.specs.Ordering.{AreFilledBelow, AreFormed}
+use Rattle.kmipa_check.specs.Ordering.{AreFormed, TurnRefused, OrderFault, fault_at}
 use Rattle.kmipa_check.proofs.PlaceLemmas.{below_suc, mapped_at, mapped_from, contains_at, at_contains, get_at, pushed_at, some_at, at_within}
-
--- pairs by place
-pub pair_at : {X Y : Type 0} (xs : List X) (ys : List Y) (i : ℕ) (x : X) (y : Y) → slice_get xs i ≡ Some x → slice_get ys i ≡ Some y → slice_get (zip xs ys) i ≡ Some (x, y)
-pair_at [] ys i x y a b = absurd cc
-pair_at (u ∷ xs) [] i x y a b = absurd cc
-pair_at (u ∷ xs) (v ∷ ys) zero x y a b = let p : u ≡ x = cc in let q : v ≡ y = cc in ap Some (λ j. (p j, q j))
-pair_at (u ∷ xs) (v ∷ ys) (suc i) x y a b = pair_at xs ys i x y a b
-
-pub pair_within : {X Y : Type 0} (xs : List X) (ys : List Y) (i : ℕ) (p : X × Y) → slice_get (zip xs ys) i ≡ Some p → (i < length xs) × (i < length ys)
-pair_within [] ys i p at = absurd cc
-pair_within (u ∷ xs) [] i p at = absurd cc
-pair_within (u ∷ xs) (v ∷ ys) zero p at = (omega arith, omega arith)
-pair_within (u ∷ xs) (v ∷ ys) (suc i) p at = let r = pair_within xs ys i p at in (omega (arith, r.0), omega (arith, r.1))
-
-pub fill_needed : (request : RequestOf) (response : ResponseOf) (place : ℕ) (ask : AskOf) (answer : AnswerOf) → slice_get request.items place ≡ Some ask → slice_get response.items place ≡ Some answer
-    → Wanted ask answer → NeedsFill request response
-fill_needed request response place ask answer a b wanted = record { place = place; ask = ask; answer = answer; there = pair_at request.items response.items place ask answer a b; wanted = wanted }
-
-pub filled_none : (request : RequestOf) (response : ResponseOf) → AreFilledBelow request response 0
-filled_none request response = λ place ask answer below at wanted. omega (arith, below)
-
-pub filled_more : (request : RequestOf) (response : ResponseOf) (place : ℕ) (ask : AskOf) (answer : AnswerOf) → slice_get request.items place ≡ Some ask → slice_get response.items place ≡ Some answer
-    → (Wanted ask answer → ⊥) → AreFilledBelow request response place → AreFilledBelow request response (place + 1)
-filled_more request response place ask answer a b never h =
-    let P : ℕ → Type 0 = λ n. AreFilledBelow request response n in
-    let here = pair_at request.items response.items place ask answer a b in
-    subst P (sym (add-one place)) (λ other x y below at wanted. by here other x y at wanted (below_suc other place below))
-  where
-    by : slice_get (pairs_of request response) place ≡ Some (ask, answer) → (other : ℕ) (x : AskOf) (y : AnswerOf) → slice_get (pairs_of request response) other ≡ Some (x, y) → Wanted x y → (other < place) ⊎ (other ≡ place) → ⊥
-    by here other x y at wanted (inl l) = h other x y l at wanted
-    by here other x y at wanted (inr e) =
-        let P : ℕ → Type 0 = λ n. slice_get (pairs_of request response) n ≡ Some (x, y) in
-        let there = subst P e at in
-        let same : (x, y) ≡ (ask, answer) = cc in
-        let Q : (AskOf × AnswerOf) → Type 0 = λ p. Wanted p.0 p.1 in
-        never (subst Q same wanted)
-
-pub filled_all : (request : RequestOf) (response : ResponseOf) (count : ℕ) → AreFilledBelow request response count → (length request.items ≤ count) ⊎ (length response.items ≤ count) → NeedsFill request response → ⊥
-filled_all request response count h past n =
-    let w = pair_within request.items response.items n.place (n.ask, n.answer) n.there in
-    h n.place n.ask n.answer (by w.0 w.1 past) n.there n.wanted
-  where
-    by : n.place < length request.items → n.place < length response.items → (length request.items ≤ count) ⊎ (length response.items ≤ count) → n.place < count
-    by a b (inl p) = omega (arith, a, p)
-    by a b (inr p) = omega (arith, b, p)
 
 -- one turn, by where its number first stands among the calls and among the turns
 module _ (calls : List Call) (turns : List Turn) (known named : FirstPlaces) (knows : Indexes (map (λ (c : Call). Some c.number) calls) known)
@@ -147,19 +100,27 @@ module _ (calls : List Call) (turns : List Turn) (known named : FirstPlaces) (kn
       known_call : Contains (map call_of calls) (call_of call)
       known_call = contains_at (map call_of calls) at (call_of call) (mapped_at call_of calls at call call_within there)
 
-      pub turn_unfit : is_noted (place_in named turn.call) place ≡ true → (kind : WitnessKind) → GivenFault (call_of call) (turn_of turn) kind → TurnFault (map call_of calls) (map turn_of turns) place kind
+      turn_unfit : is_noted (place_in named turn.call) place ≡ true → (kind : WitnessKind) → GivenFault (call_of call) (turn_of turn) kind → TurnFault (map call_of calls) (map turn_of turns) place kind
       turn_unfit here_first kind fault = unfit (call_of call) (turn_of turn) (mapped_at turn_of turns place turn below is) (sym its_number) known_call (first_named here_first) fault
 
-      pub turn_formed : is_noted (place_in named turn.call) place ≡ true → IsAsRecorded (request_of call.request) (response_of call.response) (turn_of turn) → (step : StepOf)
-          → step ≡ step_with (call_of call) (response_of call.response) → IsFormed (map call_of calls) (map turn_of turns) place step
-      turn_formed here_first given step made = record {
+      turn_formed : is_noted (place_in named turn.call) place ≡ true → (step : StepOf) → IsStep (call_of call) (turn_of turn) step
+          → IsFormed (map call_of calls) (map turn_of turns) place step
+      turn_formed here_first step made = record {
         turn = turn_of turn;
         there = mapped_at turn_of turns place turn below is;
         first = first_named here_first;
         call = call_of call;
         known = known_call;
-        step = record { named = sym its_number; response = response_of call.response; recorded = refl; given = given; is = made };
+        step = made;
       }
+
+      -- the step that the turn makes with the call, or what it comes to
+      pub turn_told : is_noted (place_in named turn.call) place ≡ true → (result : Result Step StepFault)
+          → (turn.call ≡ call.number → MatchResult result (λ (step : Step). IsStep (call_of call) (turn_of turn) (step_of step)) (Refuses (call_of call) (turn_of turn)))
+          → MatchResult result (λ (step : Step). IsFormed (map call_of calls) (map turn_of turns) place (step_of step)) (TurnRefused (map call_of calls) (map turn_of turns) place)
+      turn_told here_first (Ok step) told = turn_formed here_first (step_of step) (told (sym its_number))
+      turn_told here_first (Err (Unfit kind)) told = turn_unfit here_first kind (told (sym its_number))
+      turn_told here_first (Err Memory) told = tt
 
 -- one turn more
 pub formed_none : (calls : List CallOf) (turns : List TurnOf) → AreFormed calls turns 0 []
@@ -184,6 +145,12 @@ formed_below calls turns count steps f = λ place below. at place (some_at steps
   where
     at : (place : ℕ) → (s : StepOf) × (slice_get steps place ≡ Some s) → (s : StepOf) × IsFormed calls turns place s
     at place s = (s.0, f.each place s.0 s.1)
+
+-- the fault of a turn is one of the order
+pub fault_told : (calls : List CallOf) (turns : List TurnOf) (place : ℕ) (fault : StepFault) → AreFormedBelow calls turns place → TurnRefused calls turns place fault
+    → OrderFault calls turns (fault_at place fault)
+fault_told calls turns place (Unfit kind) below refused = in_turn place below refused refl
+fault_told calls turns place Memory below refused = tt
 
 -- behind the last turn all of them are formed
 pub formed_whole : (calls : List CallOf) (turns : List Turn) (count : ℕ) (steps : List StepOf) → AreFormed calls (map turn_of turns) count steps → length turns ≤ count
@@ -214,3 +181,10 @@ empty_list (x ∷ xs) len b e f g =
     let test : (len == 0) ≡ true = sym e ∙ f in
     let zero : len ≡ 0 = grind (arith, nat_tests) in
     absurd (omega (arith, zero, g))
+
+pub not_empty : {X : Type 0} (xs : List X) (len : ℕ) (b : Bool) → b ≡ (len == 0) → b ≡ false → len ≡ length xs → xs ≡ [] → ⊥
+not_empty xs len b e f g h =
+    let none : length xs ≡ 0 = ap length h in
+    let zero : len ≡ 0 = omega (arith, g, none) in
+    let test : (len == 0) ≡ false = sym e ∙ f in
+    grind (arith, nat_tests)

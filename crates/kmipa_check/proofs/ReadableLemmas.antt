@@ -1,6 +1,5 @@
--- What a call says can be judged, where no payload is wanted.
-use Rattle.std.proofs.Common.{◌≡◌, ◌⊎◌, inl, inr, ◌==◌, ◌||◌, not, if◌then◌else◌, ℕ, suc, Bool, true, false, List, [], ◌∷◌, Option, Some, None, slice_get, refl, sym, ap, ◌∙◌, subst, arith}
-use Rattle.std.specs.List.{zip}
+-- What a call says can be judged, where the payloads that it waits for are put in.
+use Rattle.std.proofs.Common.{◌≡◌, ◌⊎◌, inl, inr, ◌==◌, ◌||◌, not, if◌then◌else◌, ℕ, zero, suc, Bool, true, false, List, [], ◌∷◌, Option, Some, None, slice_get, refl, sym, ap, ◌∙◌, subst, arith}
 use Rattle.std.proofs.lemmas.Bool.Decides.{nat_tests}
 use Rattle.kmipa_ttlv.specs.Tree.{Tree, structure, scalar}
 use Rattle.kmipa_attrs.specs.Tags.{operation_tag, response_payload}
@@ -11,7 +10,7 @@ use Rattle.kmipa_attrs.specs.Fields.{first, at, as_enumeration}
 use Rattle.kmipa_msgs.specs.declared.response.Status.{Status}
 use Rattle.kmipa_msgs.specs.declared.response.Status.TheVariants.{Success, Failed, Undone}
 use Rattle.kmipa_msgs.specs.Operations.{operation_number, is_judged}
-use Rattle.kmipa_msgs.specs.Messages.{AskedOf, creates, registers, locates, gets, gets_attributes, activates, revokes, destroys, idles, does_other, AskOf, operation_asked, PayloadOf, created, registered, located, got, got_attributes, changed, AnswerOf, ResponseOf}
+use Rattle.kmipa_msgs.specs.Messages.{AskedOf, creates, registers, locates, gets, gets_attributes, activates, revokes, destroys, idles, does_other, AskOf, operation_asked, PayloadOf, created, registered, located, got, got_attributes, changed, AnswerOf, RequestOf, ResponseOf}
 use Rattle.kmipa_msgs.specs.Tables.{children}
 use Rattle.kmipa_msgs.specs.Headers.{batch}
 use Rattle.kmipa_msgs.specs.Outside.{SaysEach}
@@ -21,11 +20,16 @@ use Rattle.kmipa_msgs.specs.Wanted.{NeedsPayload, IsOwn, Wanted}
 use Rattle.kmipa_ops.specs.Objects.{is_other}
 use Rattle.kmipa_ops.specs.Completes.{is_of, can_judge, has_payload, may_have, may_lack}
 use Rattle.kmipa_ops.specs.Explains.{is_readable}
+use Rattle.kmipa_batch.specs.Calls.{pairs_of}
 use Rattle.kmipa_batch.specs.Readable.{AreReadable, IsReadableCall}
 use Rattle.kmipa_record.specs.Marks.{MarkOf}
-use Rattle.kmipa_record.specs.Witnesses.{TurnOf}
-use Rattle.kmipa_check.specs.Calls.{CallOf, IsRecorded}
-use Rattle.kmipa_check.specs.Steps.{StepOf, IsStep, NeedsFill, step_with}
+use Rattle.kmipa_record.specs.Witnesses.{FillOf, TurnOf}
+use Rattle.kmipa_check.specs.Calls.{CallOf, AreResponse, IsEnded, has_ended, is_open, IsRecorded}
+use Rattle.kmipa_check.specs.Fills.{SaysFill, with_payload, IsFilledAt, stays, put_in, IsFilled}
+use Rattle.kmipa_check.specs.Steps.{StepOf, IsAnswered, recorded, given, IsStep}
+use Rattle.kmipa_check.proofs.FillLemmas.{pair_left, pair_right}
+use Rattle.kmipa_check.proofs.FillingLemmas.{is_wanted_here}
+use Rattle.kmipa_check.proofs.PlaceLemmas.{some_at, at_within}
 
 -- a payload that is said is one of the operation asked for
 of_asked : (asked : AskedOf) (t : Tree) (p : PayloadOf) → SaysPayloadOf (operation_asked asked) t p → is_of asked p ≡ true
@@ -118,28 +122,68 @@ answer_readable (There n) ask answer t (Some m) is o h never =
         ap (λ (o : Option ℕ). is_other (λ (x y : ℕ). x == y) o (operation_number (operation_asked ask.asked)) || can_judge answer.status ask.asked answer.payload) at
         ∙ ap (λ (b : Bool). not b || can_judge answer.status ask.asked answer.payload) e
 
--- all answers at the places of a request's items
-each_readable : (asks : List AskOf) (ts : List Tree) (answers : List AnswerOf) → SaysEach (λ place. SaysAnswer (slice_get asks place)) ts answers
-    → ((place : ℕ) (ask : AskOf) (answer : AnswerOf) → slice_get (zip asks answers) place ≡ Some (ask, answer) → Wanted ask answer → ⊥) → AreReadable (zip asks answers)
-each_readable [] ts answers h never = tt
-each_readable (ask ∷ asks) ts [] h never = tt
-each_readable (ask ∷ asks) [] (answer ∷ answers) h never = absurd h
-each_readable (ask ∷ asks) (t ∷ ts) (answer ∷ answers) h never = (
-  answer_readable (at as_enumeration operation_tag (children t)) ask answer (first response_payload (children t)) answer.operation refl h.0.operation h.0.payload (never 0 ask answer refl),
-  each_readable asks ts answers h.1 (λ place x y there. never (suc place) x y there),
-)
+-- the answer at a place of the request
+readable_at : (asks : List AskOf) (ts : List Tree) (answers : List AnswerOf) (place : ℕ) (ask : AskOf) (answer : AnswerOf) → SaysEach (λ i. SaysAnswer (slice_get asks i)) ts answers
+    → slice_get asks place ≡ Some ask → slice_get answers place ≡ Some answer → (Wanted ask answer → ⊥) → is_readable ask answer ≡ true
+readable_at [] ts answers place ask answer h asked answered never = absurd cc
+readable_at (x ∷ asks) ts [] place ask answer h asked answered never = absurd cc
+readable_at (x ∷ asks) [] (y ∷ answers) place ask answer h asked answered never = absurd h
+readable_at (x ∷ asks) (t ∷ ts) (y ∷ answers) zero ask answer h asked answered never =
+    let a : x ≡ ask = cc in
+    let b : y ≡ answer = cc in
+    let P : AskOf → Type 0 = λ u. (Wanted u y → ⊥) → is_readable u y ≡ true in
+    let Q : AnswerOf → Type 0 = λ u. (Wanted ask u → ⊥) → is_readable ask u ≡ true in
+    subst Q b (subst P a (λ n. answer_readable (at as_enumeration operation_tag (children t)) x y (first response_payload (children t)) y.operation refl h.0.operation h.0.payload n)) never
+readable_at (x ∷ asks) (t ∷ ts) (y ∷ answers) (suc place) ask answer h asked answered never = readable_at asks ts answers place ask answer h.1 asked answered never
 
--- a call whose response waits for no payload can be judged
-pub call_readable : (marks : List MarkOf) (c : CallOf) (r : IsRecorded marks c) → (NeedsFill c.request r.answer → ⊥) → IsReadableCall c.request r.answer
-call_readable marks c r filled unrefused =
-    each_readable c.request.items (batch r.response.item) r.answer.items r.response.inside.said.items
-    (λ place ask answer there wanted. filled (record { place = place; ask = ask; answer = answer; there = there; wanted = wanted }))
+-- pairs are readable where each is
+pairs_readable : (pairs : List (AskOf × AnswerOf)) → ((place : ℕ) (ask : AskOf) (answer : AnswerOf) → slice_get pairs place ≡ Some (ask, answer) → is_readable ask answer ≡ true) → AreReadable pairs
+pairs_readable [] h = tt
+pairs_readable (pair ∷ pairs) h = (h 0 pair.0 pair.1 refl, pairs_readable pairs (λ place ask answer there. h (suc place) ask answer there))
+
+-- an answer that has the payload that its fill says
+filled_readable : (ask : AskOf) (answer : AnswerOf) (fill : FillOf) (p : PayloadOf) → Wanted ask answer → SaysFill fill ask p → is_readable ask (with_payload answer p) ≡ true
+filled_readable ask answer fill p wanted says =
+    or_true (is_other (λ (x y : ℕ). x == y) answer.operation (operation_number (operation_asked ask.asked))) (can_judge answer.status ask.asked (Some p))
+    (ap (λ (s : Status). can_judge s ask.asked (Some p)) wanted.undone ∙ of_asked ask.asked fill.payload p says.said)
+
+-- a call can be judged where the payloads that it waits for are put in
+pub call_readable : (request : RequestOf) (bytes : List ℕ) (response : ResponseOf) → AreResponse request bytes response → (fills : List FillOf) (full : ResponseOf)
+    → IsFilled request response fills full → IsReadableCall request full
+call_readable request bytes response r fills full f unrefused = pairs_readable (pairs_of request full) (λ place ask answer there. by place ask answer there)
+  where
+    by : (place : ℕ) (ask : AskOf) (filled : AnswerOf) → slice_get (pairs_of request full) place ≡ Some (ask, filled) → is_readable ask filled ≡ true
+    by place ask filled there =
+        let asked = pair_left request.items full.items place ask filled there in
+        let at = pair_right request.items full.items place ask filled there in
+        let answer = some_at response.items place (omega (arith, at_within full.items place filled at, f.counted)) in
+        here asked answer.1 (f.each place answer.0 filled answer.1 at)
+      where
+        here : {answer : AnswerOf} → slice_get request.items place ≡ Some ask → slice_get response.items place ≡ Some answer → IsFilledAt request response fills place answer filled
+            → is_readable ask filled ≡ true
+        here {answer} asked there (stays none is) =
+            let P : AnswerOf → Type 0 = λ x. is_readable ask x ≡ true in
+            subst P (sym is) (readable_at request.items (batch r.item) response.items place ask answer r.inside.said.items asked there
+            (λ w. none (is_wanted_here request response place ask answer asked there w)))
+        here {answer} asked there (put_in other w fill one its p says is) =
+            let q = pair_left request.items response.items place other answer w.there in
+            let same : other ≡ ask = cc in
+            let P : AnswerOf → Type 0 = λ x. is_readable ask x ≡ true in
+            let Q : AskOf → Type 0 = λ x. Wanted x answer × SaysFill fill x p in
+            let its = subst Q same (w.wanted, says) in
+            subst P (sym is) (filled_readable ask answer fill p its.0 its.1)
+
+-- what bytes say is the response of the call by the turn
+said_by : (marks : List MarkOf) (c : CallOf) (t : TurnOf) (response : ResponseOf) → IsEnded marks c → IsAnswered c t response → (bytes : List ℕ) × AreResponse c.request bytes response
+said_by marks c t response ended (given bytes unended answer says) = (bytes, says)
+said_by marks c t response (is_open none ends is) (recorded had unanswered) = absurd cc
+said_by marks c t response (has_ended e bytes x h says ends is) (recorded had unanswered) =
+    let same : x ≡ response = cc in
+    let P : ResponseOf → Type 0 = λ y. AreResponse c.request bytes y in
+    (bytes, subst P same says)
 
 pub step_readable : (marks : List MarkOf) (c : CallOf) (t : TurnOf) (s : StepOf) → IsRecorded marks c → IsStep c t s → IsReadableCall s.request s.response
 step_readable marks c t s r i =
-    let a = i.recorded in
-    let b = r.given in
-    let same : i.response ≡ r.answer = cc in
-    let P : ResponseOf → Type 0 = λ x. NeedsFill c.request x → ⊥ in
+    let b = said_by marks c t i.response r.ended i.answered in
     let Q : StepOf → Type 0 = λ x. IsReadableCall x.request x.response in
-    subst Q (sym (i.is ∙ ap (λ (x : ResponseOf). step_with c x) same)) (call_readable marks c r (subst P same i.given.complete))
+    subst Q (sym i.is) (call_readable c.request b.0 i.response b.1 t.fills i.full i.filled)

@@ -13,7 +13,8 @@ use Rattle.kmipa_ttlv.specs.Tree.{Tree}
 use Rattle.kmipa_ttlv.specs.Spelling.{Spells}
 use Rattle.kmipa_ttlv.specs.ViewTree.{view_tree}
 use Rattle.kmipa_ttlv.specs.declared.view.View.{View}
-use Rattle.kmipa_msgs.specs.Messages.{RequestOf, ResponseOf}
+use Rattle.kmipa_msgs.specs.declared.response.Response.{Response}
+use Rattle.kmipa_msgs.specs.Messages.{RequestOf, response_of}
 use Rattle.kmipa_msgs.specs.Outside.{Tells}
 use Rattle.kmipa_msgs.specs.declared.fault.ReadFault
 use Rattle.kmipa_msgs.specs.declared.fault.ReadFault.{ReadFault}
@@ -28,8 +29,8 @@ use Rattle.kmipa_msgs.specs.declared.kind.OutsideKind.{OutsideKind}
 use Rattle.kmipa_check.specs.declared.fault.Side.{Side}
 use Rattle.kmipa_check.specs.declared.fault.CheckFault.{CheckFault}
 use Rattle.kmipa_check.specs.declared.fault.CheckFault
-use Rattle.kmipa_check.specs.Calls.{CallOf, AreRequest, AreResponse, AreOutside, no_item, outside, HasMarks, IsRecorded, AreCalls, IsOutsideOn, IsFirstOutside, call_of}
-use Rattle.kmipa_check.specs.CallReading.{ItemRead, MessageFault, IsOutsideAt, BeginsNone, MarkFault, MarkRead, AreReadUpTo, CallsFault, no_message}
+use Rattle.kmipa_check.specs.Calls.{CallOf, AreRequest, AreResponse, AreOutside, no_item, outside, HasBegin, HasEnd, has_ended, is_open, IsRecorded, AreCalls, IsOutsideOn, IsFirstOutside, call_of}
+use Rattle.kmipa_check.specs.CallReading.{ItemRead, MessageFault, EndRead, IsOutsideAt, BeginsNone, MarkFault, MarkRead, AreReadUpTo, CallsFault, no_message}
 use Rattle.kmipa_check.proofs.PlaceLemmas.{at_contains, contains_at, at_within, get_at, mapped_at, mapped_from}
 
 -- ---- the numbers that the first marks begin
@@ -63,26 +64,10 @@ begun_front (mark ∷ marks) zero = refl
 begun_front (begins a b c ∷ marks) (suc k) = ap (λ (l : List ℤ). a ∷ l) (begun_front marks k)
 begun_front (ends a b ∷ marks) (suc k) = begun_front marks k
 
-begun_at : (marks : List MarkOf) (k : ℕ) (n : ℤ) (client m : List ℕ) → slice_get marks k ≡ Some (begins n client m) → Contains (begun marks) n
-begun_at marks k n client m at = contains_at (begun marks) (length (begun (take k marks))) n (begun_next marks k n client m at)
-
-ended_from : (marks : List MarkOf) (i : ℕ) (n : ℤ) → slice_get (ended marks) i ≡ Some n → (k : ℕ) × (m : List ℕ) × (slice_get marks k ≡ Some (ends n m))
-ended_from [] i n at = absurd cc
-ended_from (begins a b c ∷ marks) i n at = let r = ended_from marks i n at in (suc r.0, r.1, r.2)
-ended_from (ends a b ∷ marks) zero n at = (0, b, cc)
-ended_from (ends a b ∷ marks) (suc i) n at = let r = ended_from marks i n at in (suc r.0, r.1, r.2)
-
--- a call that is begun ends
-ends_somewhere : (marks : List MarkOf) (k : ℕ) (n : ℤ) (client m : List ℕ) → AreRecorded marks → slice_get marks k ≡ Some (begins n client m)
-    → (e : ℕ) × (a : List ℕ) × (slice_get marks e ≡ Some (ends n a))
-ends_somewhere marks k n client m recorded at =
-    let there = at_contains (ended marks) n (recorded.closed n (begun_at marks k n client m at)) in
-    ended_from marks there.0 n there.1
-
 -- ---- the events of the reading
 
 pub read_none : (marks : List MarkOf) → AreReadUpTo marks 0 []
-read_none marks = record { recorded = All-nil (IsRecorded marks); numbers = λ r. refl }
+read_none marks = record { recorded = All-nil (IsRecorded marks); numbers = refl }
 
 map_push : (calls : List CallOf) (c : CallOf) → map (λ (d : CallOf). d.number) (calls ++ c ∷ []) ≡ map (λ (d : CallOf). d.number) calls ++ c.number ∷ []
 map_push [] c = refl
@@ -98,10 +83,10 @@ all_one P x p = λ i d below. by i d below
 pub read_call : (marks : List MarkOf) (k : ℕ) (calls : List CallOf) (c : CallOf) → IsRecorded marks c × (c.begin ≡ k) → AreReadUpTo marks k calls → AreReadUpTo marks (suc k) (calls ++ c ∷ [])
 read_call marks k calls c h r =
     let P : ℕ → Type 0 = λ p. slice_get marks p ≡ Some (begins c.number h.0.carried.client h.0.asked) in
-    let at = subst P h.1 h.0.carried.begins in
+    let at = subst P h.1 h.0.carried.there in
     record {
       recorded = All-append (IsRecorded marks) calls (c ∷ []) r.recorded (all_one (IsRecorded marks) c h.0);
-      numbers = λ recorded. map_push calls c ∙ ap (λ (l : List ℤ). l ++ c.number ∷ []) (r.numbers recorded) ∙ sym (begun_begin marks k c.number h.0.carried.client h.0.asked at);
+      numbers = map_push calls c ∙ ap (λ (l : List ℤ). l ++ c.number ∷ []) r.numbers ∙ sym (begun_begin marks k c.number h.0.carried.client h.0.asked at);
     }
 
 begun_behind : (marks : List MarkOf) (k : ℕ) → slice_get marks k ≡ None → begun (take (suc k) marks) ≡ begun (take k marks)
@@ -112,15 +97,15 @@ begun_behind (begins a b c ∷ marks) (suc k) at = ap (λ (l : List ℤ). a ∷ 
 begun_behind (ends a b ∷ marks) (suc k) at = begun_behind marks k at
 
 pub read_other : (marks : List MarkOf) (k : ℕ) (calls : List CallOf) → BeginsNone marks k → AreReadUpTo marks k calls → AreReadUpTo marks (suc k) calls
-read_other marks k calls none r = record { recorded = r.recorded; numbers = λ recorded. r.numbers recorded ∙ sym (by recorded (slice_get marks k) refl) }
+read_other marks k calls none r = record { recorded = r.recorded; numbers = r.numbers ∙ sym (by (slice_get marks k) refl) }
   where
-    by : AreRecorded marks → (v : Option MarkOf) → slice_get marks k ≡ v → begun (take (suc k) marks) ≡ begun (take k marks)
-    by recorded None at = begun_behind marks k at
-    by recorded (Some (begins n client m)) at = let e = ends_somewhere marks k n client m recorded at in absurd (none n client m at e.0 e.1 e.2)
-    by recorded (Some (ends n m)) at = begun_end marks k n m at
+    by : (v : Option MarkOf) → slice_get marks k ≡ v → begun (take (suc k) marks) ≡ begun (take k marks)
+    by None at = begun_behind marks k at
+    by (Some (begins n client m)) at = absurd (none n client m at)
+    by (Some (ends n m)) at = begun_end marks k n m at
 
-pub read_all : (marks : List MarkOf) (k : ℕ) (calls : List CallOf) → length marks ≤ k → AreReadUpTo marks k calls → AreRecorded marks → AreCalls marks calls
-read_all marks k calls within r recorded = record { numbers = r.numbers recorded ∙ ap begun (take_all k marks within); recorded = r.recorded }
+pub read_all : (marks : List MarkOf) (k : ℕ) (calls : List CallOf) → length marks ≤ k → AreReadUpTo marks k calls → AreCalls marks calls
+read_all marks k calls within r = record { numbers = r.numbers ∙ ap begun (take_all k marks within); recorded = r.recorded }
 
 outside_first : (marks : List MarkOf) (k : ℕ) (calls : List CallOf) (number : ℤ) (side : Side) (item : ℕ) (kind : OutsideKind) → IsOutsideAt marks k number side item kind
     → map (λ (c : CallOf). c.number) calls ≡ begun (take k marks) → All (IsRecorded marks) calls → IsFirstOutside marks number side item kind
@@ -131,28 +116,26 @@ outside_first marks k calls number side item kind o same inside =
     record {
       before = calls;
       inside = record { numbers = same ∙ subst P long (begun_front marks k); recorded = inside };
-      next = subst Q long (begun_next marks k number o.carried.client o.asked o.carried.begins);
+      next = subst Q long (begun_next marks k number o.carried.client o.asked o.carried.there);
       begin = k;
-      end = o.end;
       asked = o.asked;
-      answered = o.answered;
       carried = o.carried;
       outside = o.outside;
     }
 
-pub read_fault : (marks : List MarkOf) (k : ℕ) (calls : List CallOf) (fault : CheckFault) → MarkFault marks k fault → AreReadUpTo marks k calls → AreRecorded marks → CallsFault marks fault
-read_fault marks k calls (CheckFault.TheVariants.Outside number side o) f r recorded = outside_first marks k calls number side o.item o.kind f (r.numbers recorded) r.recorded
-read_fault marks k calls (CheckFault.TheVariants.Witness w) f r recorded = f
-read_fault marks k calls CheckFault.TheVariants.Memory f r recorded = tt
+pub read_fault : (marks : List MarkOf) (k : ℕ) (calls : List CallOf) (fault : CheckFault) → MarkFault marks k fault → AreReadUpTo marks k calls → CallsFault marks fault
+read_fault marks k calls (CheckFault.TheVariants.Outside number side o) f r = outside_first marks k calls number side o.item o.kind f r.numbers r.recorded
+read_fault marks k calls (CheckFault.TheVariants.Witness w) f r = f
+read_fault marks k calls CheckFault.TheVariants.Memory f r = tt
 
 -- ---- the same of the program's values
 
 pub read_err : {X : Type 0} (G : X → Type 0) (lent items : List Mark) (k : ℕ) (calls : List CallOf) (r : Result X CheckFault) (fault : CheckFault) → lent ≡ items → r ≡ Err fault
-    → MarkFault (map mark_of lent) k fault → AreReadUpTo (map mark_of items) k calls → AreRecorded (map mark_of items) → MatchResult r G (CallsFault (map mark_of items))
-read_err {X} G lent items k calls r fault same e f s recorded =
+    → MarkFault (map mark_of lent) k fault → AreReadUpTo (map mark_of items) k calls → MatchResult r G (CallsFault (map mark_of items))
+read_err {X} G lent items k calls r fault same e f s =
     let P : List Mark → Type 0 = λ ms. MarkFault (map mark_of ms) k fault in
     let Q : Result X CheckFault → Type 0 = λ x. MatchResult x G (CallsFault (map mark_of items)) in
-    subst Q (sym e) (read_fault (map mark_of items) k calls fault (subst P same f) s recorded)
+    subst Q (sym e) (read_fault (map mark_of items) k calls fault (subst P same f) s)
 
 pushed_calls : (old : List Call) (call : Call) → map call_of (old ++ call ∷ []) ≡ map call_of old ++ call_of call ∷ []
 pushed_calls [] call = refl
@@ -180,19 +163,15 @@ read_past lent items k old new found same is e h s =
 
 -- ---- one mark
 
--- no end mark has the number of this begin mark
-pub none_ends : (marks : List Mark) (f : FirstPlaces) (place : ℕ) (mark : Mark) (b : Begin) (n : ℤ) → place < length marks → mark ≡ get_or marks place mark → mark ≡ Mark.TheVariants.Begin b → n ≡ b.call
-    → None ≡ place_in f n → Indexes (map (λ mark. end_number (mark_of mark)) marks) f → BeginsNone (map mark_of marks) place
-none_ends marks f place mark b n below is begin same none indexes = λ number client asked at end answered there.
-    let P : Mark → Type 0 = λ m. slice_get (map mark_of marks) place ≡ Some (mark_of m) in
-    let here : slice_get (map mark_of marks) place ≡ Some (begins b.call (string_bytes b.client) b.message.items) = subst P begin (mapped_at mark_of marks place mark below is) in
-    let equal : Some (begins b.call (string_bytes b.client) b.message.items) ≡ Some (begins number client asked) = sym here ∙ at in
-    let numbers : b.call ≡ number = cc in
+-- no end mark has the number
+pub none_ends : (marks : List Mark) (f : FirstPlaces) (n number : ℤ) → n ≡ number → None ≡ place_in f n → Indexes (map (λ mark. end_number (mark_of mark)) marks) f
+    → (end : ℕ) (answered : List ℕ) → HasEnd (map mark_of marks) number end answered → ⊥
+none_ends marks f n number same none indexes end answered there =
     let x = mapped_from mark_of marks end (ends number answered) there in
     let held : slice_get (map (λ mark. end_number (mark_of mark)) marks) end ≡ Some (Some number) = get_at (λ mark. end_number (mark_of mark)) marks end x.0 x.1 ∙ ap (λ (m : MarkOf). Some (end_number m)) x.2 in
     let Q : Option ℕ → Type 0 = λ v. StandsFirst (map (λ mark. end_number (mark_of mark)) marks) (length (map (λ mark. end_number (mark_of mark)) marks)) n v in
     let R : ℤ → Type 0 = λ z. slice_get (map (λ mark. end_number (mark_of mark)) marks) end ≡ Some (Some z) in
-    subst Q (sym none) (indexes n) end (at_within (map (λ mark. end_number (mark_of mark)) marks) end (Some number) held) (subst R (sym (same ∙ numbers)) held)
+    subst Q (sym none) (indexes n) end (at_within (map (λ mark. end_number (mark_of mark)) marks) end (Some number) held) (subst R (sym same) held)
 
 -- the mark at the noted place has the number
 noted_mark : (marks : List Mark) (f : FirstPlaces) (end : ℕ) (mark : Mark) (n : ℤ) → Some end ≡ place_in f n → Indexes (map (λ mark. end_number (mark_of mark)) marks) f → mark ≡ get_or marks end mark
@@ -221,54 +200,78 @@ same_call marks f end mark a n number noted indexes is ending same =
     let numbers : a.call ≡ n = cc in
     numbers ∙ same
 
-pub marks_of_call : (marks : List Mark) (f : FirstPlaces) (place end : ℕ) (mark other : Mark) (b : Begin) (a : End) (n : ℤ) → place < length marks → mark ≡ get_or marks place mark → mark ≡ Mark.TheVariants.Begin b
-    → n ≡ b.call → Some end ≡ place_in f n → Indexes (map (λ mark. end_number (mark_of mark)) marks) f → other ≡ get_or marks end other → other ≡ Mark.TheVariants.End a
-    → HasMarks (map mark_of marks) b.call place end b.message.items a.message.items
-marks_of_call marks f place end mark other b a n below is begin same noted indexes at ending =
-    let P : Mark → Type 0 = λ m. slice_get (map mark_of marks) place ≡ Some (mark_of m) in
+pub end_of_call : (marks : List Mark) (f : FirstPlaces) (end : ℕ) (other : Mark) (a : End) (n number : ℤ) → n ≡ number → Some end ≡ place_in f n → Indexes (map (λ mark. end_number (mark_of mark)) marks) f
+    → other ≡ get_or marks end other → other ≡ Mark.TheVariants.End a → HasEnd (map mark_of marks) number end a.message.items
+end_of_call marks f end other a n number same noted indexes at ending =
     let Q : Mark → Type 0 = λ m. slice_get (map mark_of marks) end ≡ Some (mark_of m) in
     let R : ℤ → Type 0 = λ z. slice_get (map mark_of marks) end ≡ Some (ends z a.message.items) in
-    record {
-      client = string_bytes b.client;
-      begins = subst P begin (mapped_at mark_of marks place mark below is);
-      ends = subst R (same_call marks f end other a n b.call noted indexes at ending same) (subst Q ending (mapped_at mark_of marks end other (noted_mark marks f end other n noted indexes at).0 at));
-    }
+    subst R (same_call marks f end other a n number noted indexes at ending same) (subst Q ending (mapped_at mark_of marks end other (noted_mark marks f end other n noted indexes at).0 at))
 
-fault_at : (marks : List MarkOf) (place end : ℕ) (number n : ℤ) (side s : Side) (asked answered : List ℕ) (item : ℕ) (kind : OutsideKind) → HasMarks marks number place end asked answered
-    → IsOutsideOn side asked answered item kind → n ≡ number → s ≡ side → IsOutsideAt marks place n s item kind
-fault_at marks place end number n side s asked answered item kind has out e f =
-    let here : IsOutsideAt marks place number side item kind = record { end = end; asked = asked; answered = answered; carried = has; outside = out } in
+pub begin_of_call : (marks : List Mark) (place : ℕ) (mark : Mark) (b : Begin) → place < length marks → mark ≡ get_or marks place mark → mark ≡ Mark.TheVariants.Begin b
+    → HasBegin (map mark_of marks) b.call place b.message.items
+begin_of_call marks place mark b below is begin =
+    let P : Mark → Type 0 = λ m. slice_get (map mark_of marks) place ≡ Some (mark_of m) in
+    record { client = string_bytes b.client; there = subst P begin (mapped_at mark_of marks place mark below is) }
+
+fault_at : (marks : List MarkOf) (place : ℕ) (number n : ℤ) (side s : Side) (asked : List ℕ) (item : ℕ) (kind : OutsideKind) → HasBegin marks number place asked
+    → IsOutsideOn marks number side asked item kind → n ≡ number → s ≡ side → IsOutsideAt marks place n s item kind
+fault_at marks place number n side s asked item kind begin out e f =
+    let here : IsOutsideAt marks place number side item kind = record { asked = asked; carried = begin; outside = out } in
     let P : Side → Type 0 = λ x. IsOutsideAt marks place number x item kind in
     let Q : ℤ → Type 0 = λ x. IsOutsideAt marks place x s item kind in
     subst Q (sym e) (subst P (sym f) here)
 
-pub request_wrong : (marks : List MarkOf) (place end : ℕ) (number : ℤ) (asked answered : List ℕ) (r : Result (Option Call) CheckFault) (fault : CheckFault)
-    → HasMarks marks number place end asked answered → r ≡ Err fault → MessageFault RequestFault Client number asked fault → MarkRead marks place r
-request_wrong marks place end number asked answered r fault has e h =
+pub request_wrong : (marks : List MarkOf) (place : ℕ) (number : ℤ) (asked : List ℕ) (r : Result (Option Call) CheckFault) (fault : CheckFault)
+    → HasBegin marks number place asked → r ≡ Err fault → MessageFault RequestFault Client number asked fault → MarkRead marks place r
+request_wrong marks place number asked r fault begin e h =
     let P : Result (Option Call) CheckFault → Type 0 = λ x. MarkRead marks place x in
     subst P (sym e) (by fault h)
   where
     by : (fault : CheckFault) → MessageFault RequestFault Client number asked fault → MarkFault marks place fault
-    by (CheckFault.TheVariants.Outside n s o) h = fault_at marks place end number n Client s asked answered o.item o.kind has h.2 h.0 h.1
+    by (CheckFault.TheVariants.Outside n s o) h = fault_at marks place number n Client s asked o.item o.kind begin h.2 h.0 h.1
     by (CheckFault.TheVariants.Witness w) h = h
     by CheckFault.TheVariants.Memory h = tt
 
-pub response_wrong : (marks : List MarkOf) (place end : ℕ) (number a : ℤ) (asked answered : List ℕ) (request : RequestOf) (r : Result (Option Call) CheckFault) (fault : CheckFault)
-    → HasMarks marks number place end asked answered → a ≡ number → AreRequest asked request → r ≡ Err fault → MessageFault (λ t. ResponseFault t request) Server a answered fault → MarkRead marks place r
-response_wrong marks place end number a asked answered request r fault has same said e h =
-    let P : Result (Option Call) CheckFault → Type 0 = λ x. MarkRead marks place x in
-    subst P (sym e) (by fault h)
+-- the response of an end mark is outside
+pub end_wrong : (marks : List MarkOf) (end : ℕ) (number a : ℤ) (answered : List ℕ) (request : RequestOf) (r : Result (Option (ℕ × Response)) CheckFault) (fault : CheckFault)
+    → HasEnd marks number end answered → a ≡ number → r ≡ Err fault → MessageFault (λ t. ResponseFault t request) Server a answered fault → EndRead marks number request r
+end_wrong marks end number a answered request r fault h same e told =
+    let P : Result (Option (ℕ × Response)) CheckFault → Type 0 = λ x. EndRead marks number request x in
+    subst P (sym e) (by fault told)
   where
-    by : (fault : CheckFault) → MessageFault (λ t. ResponseFault t request) Server a answered fault → MarkFault marks place fault
-    by (CheckFault.TheVariants.Outside n s o) h = fault_at marks place end number n Server s asked answered o.item o.kind has (request, said, h.2) (h.0 ∙ same) h.1
+    by : (fault : CheckFault) → MessageFault (λ t. ResponseFault t request) Server a answered fault → EndRead marks number request (Err fault)
+    by (CheckFault.TheVariants.Outside n s o) told = (told.0 ∙ same, told.1, (end, answered, h, told.2))
+    by (CheckFault.TheVariants.Witness w) told = told
+    by CheckFault.TheVariants.Memory told = tt
+
+pub response_wrong : (marks : List MarkOf) (place : ℕ) (number m : ℤ) (asked : List ℕ) (request : RequestOf) (r : Result (Option Call) CheckFault) (fault : CheckFault)
+    → HasBegin marks number place asked → m ≡ number → AreRequest asked request → r ≡ Err fault → EndRead marks m request (Err fault) → MarkRead marks place r
+response_wrong marks place number m asked request r fault begin same said e h =
+    let P : Result (Option Call) CheckFault → Type 0 = λ x. MarkRead marks place x in
+    let Q : ℤ → Type 0 = λ z. EndRead marks z request (Err fault) in
+    subst P (sym e) (by fault (subst Q same h))
+  where
+    by : (fault : CheckFault) → EndRead marks number request (Err fault) → MarkFault marks place fault
+    by (CheckFault.TheVariants.Outside n s o) (is, side, (end, answered, there, out)) =
+        fault_at marks place number n Server s asked o.item o.kind begin (record { end = end; answered = answered; ended = there; request = request; said = said; outside = out }) is side
     by (CheckFault.TheVariants.Witness w) h = h
     by CheckFault.TheVariants.Memory h = tt
 
-pub call_recorded : (marks : List MarkOf) (place end : ℕ) (number n : ℤ) (asked answered : List ℕ) (request : RequestOf) (response : ResponseOf) → HasMarks marks number place end asked answered → n ≡ number
-    → AreRequest asked request → AreResponse request answered response → IsRecorded marks (record { number = n; begin = place; end = Some end; request = request; response = Some response })
-call_recorded marks place end number n asked answered request response has same said told =
-    let P : ℤ → Type 0 = λ z. HasMarks marks z place end asked answered in
-    record { end = end; ended = refl; asked = asked; answered = answered; carried = subst P (sym same) has; request = said; answer = response; given = refl; response = told }
+-- a call that has ended, and one that is open
+pub call_ended : (marks : List MarkOf) (place end : ℕ) (number n m : ℤ) (asked : List ℕ) (request : RequestOf) (response : Response) → HasBegin marks number place asked → n ≡ number → m ≡ number
+    → AreRequest asked request → EndRead marks m request (Ok (Some (end, response)))
+    → IsRecorded marks (record { number = n; begin = place; end = Some end; request = request; response = Some (response_of response) })
+call_ended marks place end number n m asked request response begin same equal said (answered, there, told) =
+    let P : ℤ → Type 0 = λ z. HasBegin marks z place asked in
+    let Q : ℤ → Type 0 = λ z. HasEnd marks z end answered in
+    record { asked = asked; carried = subst P (sym same) begin; request = said; ended = has_ended end answered (response_of response) (subst Q (equal ∙ sym same) there) told refl refl }
+
+pub call_open : (marks : List MarkOf) (place : ℕ) (number n m : ℤ) (asked : List ℕ) (request : RequestOf) → HasBegin marks number place asked → n ≡ number → m ≡ number
+    → AreRequest asked request → EndRead marks m request (Ok None) → IsRecorded marks (record { number = n; begin = place; end = None; request = request; response = None })
+call_open marks place number n m asked request begin same equal said none =
+    let P : ℤ → Type 0 = λ z. HasBegin marks z place asked in
+    let Q : ℤ → Type 0 = λ z. (end : ℕ) (answered : List ℕ) → HasEnd marks z end answered → ⊥ in
+    record { asked = asked; carried = subst P (sym same) begin; request = said; ended = is_open (subst Q (equal ∙ sym same) none) refl refl }
 
 -- ---- one message
 

@@ -2,16 +2,13 @@
 use Rattle.std.proofs.Common.{◌≡◌, ◌<◌, ◌⊎◌, inl, inr, ℕ, zero, suc, ℤ, List, [], ◌∷◌, ◌++◌, map, length, take, drop, Contains, Option, Some, slice_get, refl, sym, ap, ◌∙◌, subst, arith}
 use Rattle.std.proofs.lemmas.List.{length-map}
 use Rattle.std.proofs.lemmas.Option.{get_or_from_slice_get, slice_get_within}
-use Rattle.kmipa_ttlv.specs.Tree.{Tree}
-use Rattle.kmipa_ttlv.specs.Spelling.{Spells}
-use Rattle.kmipa_ttlv.proofs.LawLemmas.{one_spelling_lem}
 use Rattle.kmipa_record.specs.Marks.{MarkOf, begins, ends, begun, ended, AreRecorded}
-use Rattle.kmipa_msgs.specs.declared.kind.OutsideKind.{OutsideKind}
 use Rattle.kmipa_msgs.specs.Messages.{RequestOf, ResponseOf}
 use Rattle.kmipa_msgs.specs.Requests.{SaysRequest, RequestFault}
 use Rattle.kmipa_msgs.specs.Responses.{SaysResponse, ResponseFault}
-use Rattle.kmipa_check.specs.Calls.{CallOf, AreMessage, AreOutside, no_item, outside, AreRequest, AreResponse, HasMarks, IsRecorded, AreCalls}
-use Rattle.kmipa_check.proofs.PlaceLemmas.{contains_at, get_at, some_at, same_elements}
+use Rattle.kmipa_check.specs.Calls.{CallOf, AreRequest, AreResponse, HasBegin, HasEnd, IsEnded, has_ended, is_open, IsRecorded, AreCalls}
+use Rattle.kmipa_check.proofs.PlaceLemmas.{contains_at, get_at, some_at, same_elements, apart}
+use Rattle.kmipa_check.proofs.MessageLemmas.{same_message}
 use Rattle.kmipa_check.proofs.OnceLemmas.{IsOnce, once_pairs}
 use Rattle.kmipa_check.proofs.WholeOrderLemmas.{number_of}
 
@@ -67,14 +64,8 @@ taken_at (y ∷ xs) (suc i) (suc j) x below at = taken_at xs i j x (omega (arith
 not_earlier : (marks : List MarkOf) (i j : ℕ) (n : ℤ) (a b : List ℕ) → AreRecorded marks → i < j → slice_get marks i ≡ Some (ends n a) → slice_get marks j ≡ Some (ends n b) → ⊥
 not_earlier marks i j n a b r below p q =
     let h = ended_has (take j marks) i n a (taken_at marks i j (ends n a) below p) in
-    let fresh = r.in_order.answered (take j marks) (drop (suc j) marks) n b (cut marks j (ends n b) q) in
+    let fresh = r.answered (take j marks) (drop (suc j) marks) n b (cut marks j (ends n b) q) in
     fresh.1 (contains_at (ended (take j marks)) h.0 n h.1)
-
-pub apart : (i j : ℕ) → (i < j) ⊎ ((j < i) ⊎ (i ≡ j))
-apart zero zero = inr (inr refl)
-apart zero (suc j) = inl (omega arith)
-apart (suc i) zero = inr (inl (omega arith))
-apart (suc i) (suc j) = elim (apart i j) [ inl h ↦ inl (omega (arith, h)) | inr g ↦ elim g [ inl h ↦ inr (inl (omega (arith, h))) | inr e ↦ inr (inr (ap suc e)) ] ]
 
 ended_once : (marks : List MarkOf) (i j : ℕ) (n : ℤ) (a b : List ℕ) → AreRecorded marks → slice_get marks i ≡ Some (ends n a) → slice_get marks j ≡ Some (ends n b) → i ≡ j
 ended_once marks i j n a b r p q = elim (apart i j) [
@@ -83,42 +74,21 @@ ended_once marks i j n a b r p q = elim (apart i j) [
 ]
 
 -- the marks of a call are at one place each, and carry one message each
-pub record AreSameMarks (b e b' e' : ℕ) (asked answered asked' answered' : List ℕ) : Type 0 where
-  pub begin : b ≡ b'
-  pub end : e ≡ e'
-  pub asked_same : asked ≡ asked'
-  pub answered_same : answered ≡ answered'
-
-pub same_marks : (marks : List MarkOf) (n : ℤ) (b e b' e' : ℕ) (asked answered asked' answered' : List ℕ) → AreRecorded marks
-    → HasMarks marks n b e asked answered → HasMarks marks n b' e' asked' answered' → AreSameMarks b e b' e' asked answered asked' answered'
-same_marks marks n b e b' e' asked answered asked' answered' r x y =
-    let bs : b ≡ b' = begun_once marks b b' n x.client asked y.client asked' (once_pairs (begun marks) r.in_order.once) x.begins y.begins in
-    let es : e ≡ e' = ended_once marks e e' n answered answered' r x.ends y.ends in
+pub same_begin : (marks : List MarkOf) (n : ℤ) (b b' : ℕ) (asked asked' : List ℕ) → AreRecorded marks → HasBegin marks n b asked → HasBegin marks n b' asked' → (b ≡ b') × (asked ≡ asked')
+same_begin marks n b b' asked asked' r x y =
+    let bs : b ≡ b' = begun_once marks b b' n x.client asked y.client asked' (once_pairs (begun marks) r.once) x.there y.there in
     let P : ℕ → Type 0 = λ k. slice_get marks k ≡ Some (begins n x.client asked) in
+    let p = subst P bs x.there in
+    let u = y.there in
+    (bs, cc)
+
+pub same_end : (marks : List MarkOf) (n : ℤ) (e e' : ℕ) (answered answered' : List ℕ) → AreRecorded marks → HasEnd marks n e answered → HasEnd marks n e' answered' → (e ≡ e') × (answered ≡ answered')
+same_end marks n e e' answered answered' r x y =
+    let es : e ≡ e' = ended_once marks e e' n answered answered' r x y in
     let Q : ℕ → Type 0 = λ k. slice_get marks k ≡ Some (ends n answered) in
-    let p = subst P bs x.begins in
-    let q = subst Q es x.ends in
-    let u = y.begins in
-    let v = y.ends in
-    record { begin = bs; end = es; asked_same = cc; answered_same = cc }
-
--- ---- messages
-
-pub same_item : (a b : Tree) (bytes : List ℕ) → Spells a bytes → Spells b bytes → a ≡ b
-same_item a b bytes p q = (one_spelling_lem a b bytes bytes [] [] p q refl).0
-
-pub same_message : {M : Type 0} (Said : Tree → M → Type 0) (Fault : Tree → ℕ → OutsideKind → Type 0) (bytes : List ℕ) (m n : M)
-    → AreMessage Said Fault bytes m → AreMessage Said Fault bytes n → m ≡ n
-same_message {M} Said Fault bytes m n x y =
-    let P : Tree → Type 0 = λ t. Said t n in
-    sym (x.inside.only n (subst P (same_item y.item x.item bytes y.spelled x.spelled) y.inside.said))
-
-pub not_outside : {M : Type 0} (Said : Tree → M → Type 0) (Fault : Tree → ℕ → OutsideKind → Type 0) (bytes : List ℕ) (m : M) (place : ℕ) (kind : OutsideKind)
-    → AreMessage Said Fault bytes m → AreOutside Fault bytes place kind → ⊥
-not_outside Said Fault bytes m place kind x (no_item none zero_is kind_is) = none x.item x.spelled
-not_outside Said Fault bytes m place kind x (outside t spelled o) =
-    let P : Tree → Type 0 = λ u. Fault u place kind in
-    x.inside.right place kind (subst P (same_item t x.item bytes spelled x.spelled) o.here)
+    let q : slice_get marks e' ≡ Some (ends n answered) = subst Q es x in
+    let v : slice_get marks e' ≡ Some (ends n answered') = y in
+    (es, cc)
 
 -- ---- calls
 
@@ -134,18 +104,26 @@ whole : (c : CallOf) → c ≡ made c.number c.begin c.end c.request c.response
 unfolding made
 whole c = refl
 
+same_ended : (marks : List MarkOf) (c d : CallOf) → AreRecorded marks → c.number ≡ d.number → c.request ≡ d.request → IsEnded marks c → IsEnded marks d → (c.end ≡ d.end) × (c.response ≡ d.response)
+same_ended marks c d r n q (has_ended e a x h says close is) (has_ended f b y k told ended being) =
+    let P : ℤ → Type 0 = λ z. HasEnd marks z f b in
+    let m = same_end marks c.number e f a b r h (subst P (sym n) k) in
+    let A : List ℕ → Type 0 = λ bytes. AreResponse d.request bytes y in
+    let B : RequestOf → Type 0 = λ w. AreResponse w a y in
+    let s : x ≡ y = same_message (λ t. SaysResponse t c.request) (λ t. ResponseFault t c.request) a x y says (subst B (sym q) (subst A (sym m.1) told)) in
+    (close ∙ ap Some m.0 ∙ sym ended, is ∙ ap Some s ∙ sym being)
+same_ended marks c d r n q (has_ended e a x h says close is) (is_open none ended being) = let P : ℤ → Type 0 = λ z. HasEnd marks z e a in absurd (none e a (subst P n h))
+same_ended marks c d r n q (is_open none close is) (has_ended f b y k told ended being) = let P : ℤ → Type 0 = λ z. HasEnd marks z f b in absurd (none f b (subst P (sym n) k))
+same_ended marks c d r n q (is_open none close is) (is_open never ended being) = (close ∙ sym ended, is ∙ sym being)
+
 pub same_recorded : (marks : List MarkOf) (c d : CallOf) → AreRecorded marks → IsRecorded marks c → IsRecorded marks d → c.number ≡ d.number → c ≡ d
 same_recorded marks c d r x y e =
-    let P : ℤ → Type 0 = λ n. HasMarks marks n d.begin y.end y.asked y.answered in
-    let m = same_marks marks c.number c.begin x.end d.begin y.end x.asked x.answered y.asked y.answered r x.carried (subst P (sym e) y.carried) in
+    let P : ℤ → Type 0 = λ n. HasBegin marks n d.begin y.asked in
+    let m = same_begin marks c.number c.begin d.begin x.asked y.asked r x.carried (subst P (sym e) y.carried) in
     let A : List ℕ → Type 0 = λ bytes. AreRequest bytes d.request in
-    let q : c.request ≡ d.request = same_message SaysRequest RequestFault x.asked c.request d.request x.request (subst A (sym m.asked_same) y.request) in
-    let B : List ℕ → Type 0 = λ bytes. AreResponse d.request bytes y.answer in
-    let C : RequestOf → Type 0 = λ w. AreResponse w x.answered y.answer in
-    let s : x.answer ≡ y.answer = same_message (λ t. SaysResponse t c.request) (λ t. ResponseFault t c.request) x.answered x.answer y.answer x.response (subst C (sym q) (subst B (sym m.answered_same) y.response)) in
-    whole c
-    ∙ same_made c.number d.number c.begin d.begin c.end d.end c.request d.request c.response d.response e m.begin (x.ended ∙ ap Some m.end ∙ sym y.ended) q (x.given ∙ ap Some s ∙ sym y.given)
-    ∙ sym (whole d)
+    let q : c.request ≡ d.request = same_message SaysRequest RequestFault x.asked c.request d.request x.request (subst A (sym m.1) y.request) in
+    let s = same_ended marks c d r e q x.ended y.ended in
+    whole c ∙ same_made c.number d.number c.begin d.begin c.end d.end c.request d.request c.response d.response e m.0 s.0 q s.1 ∙ sym (whole d)
 
 pub recorded_at : (marks : List MarkOf) (calls : List CallOf) (i : ℕ) (c : CallOf) → AreCalls marks calls → slice_get calls i ≡ Some c → IsRecorded marks c
 recorded_at marks calls i c are at =

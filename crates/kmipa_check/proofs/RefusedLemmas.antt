@@ -2,20 +2,25 @@
 use Rattle.std.proofs.Common.{◌≡◌, ◌<◌, ◌≤◌, ◌⊎◌, inl, inr, ℕ, zero, suc, ◌+◌, List, [], ◌∷◌, length, take, drop, Some, None, slice_get, refl, sym, ap, ◌∙◌, subst, arith, Option}
 use Rattle.std.proofs.lemmas.List.{take-append-drop}
 use Rattle.kmipa_object.specs.Inventory.{Thing}
+use Rattle.kmipa_store.specs.Ledger.{Meaning}
 use Rattle.kmipa_record.specs.Declarations.{DeclarationOf}
 use Rattle.kmipa_msgs.specs.Messages.{RulesOf, AskOf, AnswerOf, ResponseOf}
 use Rattle.kmipa_ops.specs.declared.why.Why.{Why}
 use Rattle.kmipa_ops.specs.Chains.{ChainSome}
 use Rattle.kmipa_ops.proofs.ExplainLemmas.{chain_split}
 use Rattle.kmipa_batch.specs.Calls.{pairs_of, RefusesMessage, CallSome}
+use Rattle.kmipa_batch.specs.Refusals.SpeaksAtAlong.{in_shape, in_item}
+use Rattle.kmipa_batch.specs.Refusals.{SpeaksAt}
 use Rattle.kmipa_check.specs.Steps.{StepOf}
 use Rattle.kmipa_check.specs.Runs.{Linked, rules_declared}
-use Rattle.kmipa_check.specs.Verdicts.{IsPlacedAt, GoesUpTo, ArePossibleUpTo, RefusedPlace, late, runs_back, RefusedAt, in_place, in_item, IsRefused}
+use Rattle.kmipa_check.specs.Verdicts.{IsPlacedAt, GoesUpTo, ArePossibleUpTo, RefusedPlace, late, runs_back, RefusedAt, in_place, RefusedAt.in_item as at_item, IsRefused}
 use Rattle.kmipa_check.specs.declared.verdict.Refused.{Refused}
-use Rattle.kmipa_check.proofs.RecordedLemmas.{apart, taken_at}
+use Rattle.kmipa_check.proofs.PlaceLemmas.{apart}
+use Rattle.kmipa_check.proofs.RecordedLemmas.{taken_at}
 use Rattle.kmipa_msgs.specs.declared.response.Status.{Status}
 use Rattle.kmipa_msgs.specs.declared.response.Status.TheVariants.{Success, Failed, Undone}
 use Rattle.kmipa_batch.proofs.CompletionLemmas.{batch_of_call}
+use Rattle.kmipa_batch.proofs.RunLemmas.{shaped_fewer, one_item_is_told}
 
 -- the inventories before and after a turn
 pub record AtTurn (rules : RulesOf) (V : List Thing) (order : List StepOf) (turn : ℕ) (c : StepOf) : Type 0 where
@@ -54,7 +59,7 @@ pub goes_up : (rules : RulesOf) (V : List Thing) (c : StepOf) (W : List Thing) (
 goes_up rules V c W count call = elim (refuses c.response) [
   | inl h ↦ inr h
   | inr not ↦
-      let b = batch_of_call rules V c.request c.response W not call in
+      let b = batch_of_call rules V c.request c.response None W not call in
       let pairs = pairs_of c.request c.response in
       let P : List (AskOf × AnswerOf) → Type 0 = λ ps. ChainSome rules c.response.stamp V None ps b.last b.placeholder in
       let s = chain_split rules c.response.stamp V None (take count pairs) (drop count pairs) b.last b.placeholder (subst P (sym (take-append-drop count pairs)) b.chain) in
@@ -78,7 +83,7 @@ goes_fewer rules V s n m few (inl (shaped, (W, placeholder, chain))) =
     let P : List (AskOf × AnswerOf) → Type 0 = λ ps. ChainSome rules s.response.stamp V None ps W placeholder in
     let c = chain_split rules s.response.stamp V None (take m pairs) (drop m pairs) W placeholder (subst P (sym (take-append-drop m pairs)) chain) in
     let Q : List (AskOf × AnswerOf) → Type 0 = λ ps. ChainSome rules s.response.stamp V None ps c.0 c.1 in
-    inl ((λ place below. shaped place (omega (arith, below, few))), (c.0, c.1, subst Q (take_take (pairs_of s.request s.response) m n few) c.2))
+    inl (shaped_fewer s.request s.response m n few shaped, (c.0, c.1, subst Q (take_take (pairs_of s.request s.response) m n few) c.2))
 
 possible_fewer : (declared : DeclarationOf) (order : List StepOf) (turn : ℕ) (s : StepOf) (n m : ℕ) → m ≤ n → ArePossibleUpTo declared order turn s n → ArePossibleUpTo declared order turn s m
 possible_fewer declared order turn s n m few p = record {
@@ -101,16 +106,27 @@ one_reason order turn s why other (late l is) (runs_back k m same) = absurd (k l
 one_reason order turn s why other (runs_back k l is) (late m same) = absurd (k m)
 one_reason order turn s why other (runs_back k l is) (runs_back j m same) = is ∙ sym same
 
+-- an item is told from 1
+told_some : (rules : RulesOf) (known : Meaning) (s : StepOf) (count item : ℕ) (why : Why) → SpeaksAt rules known s.request s.response count item why → item ≡ 0 → ⊥
+told_some rules known s count item why (in_shape place told judged first is) none = omega (arith, told, none)
+told_some rules known s count item why (in_item place told shaped at between placeholder ask answer e there r) none = omega (arith, told, none)
+
+told_same : (rules : RulesOf) (m k : Meaning) (s : StepOf) (count other i j : ℕ) (why because : Why)
+    → SpeaksAt rules m s.request s.response count i why → SpeaksAt rules k s.request s.response other j because → count ≡ other → i ≡ j
+told_same rules m k s count other i j why because p q e =
+    let P : ℕ → Type 0 = λ n. SpeaksAt rules m s.request s.response n i why in
+    one_item_is_told rules m k s.request s.response None other i j why because (subst P e p) q
+
 module _ (declared : DeclarationOf) (order : List StepOf) where
   one_item : (turn : ℕ) (s : StepOf) (i j : ℕ) (why other : Why) → RefusedAt declared order turn s i why → RefusedAt declared order turn s j other → (i ≡ j) × (i ≡ 0 → why ≡ other)
   one_item turn s i j why other (in_place is p) (in_place same q) = (is ∙ sym same, λ z. one_reason order turn s why other p q)
-  one_item turn s i j why other (in_place is p) (in_item n same q) = absurd (not_placed order turn s why q.before.here p)
-  one_item turn s i j why other (in_item n is p) (in_place same q) = absurd (not_placed order turn s other p.before.here q)
-  one_item turn s i j why other (in_item n is p) (in_item m same q) = elim (apart n m) [
+  one_item turn s i j why other (in_place is p) (at_item n q) = absurd (not_placed order turn s why q.before.here p)
+  one_item turn s i j why other (at_item n p) (in_place same q) = absurd (not_placed order turn s other p.before.here q)
+  one_item turn s i j why other (at_item n p) (at_item m q) = elim (apart n m) [
     | inl h ↦ absurd (p.never (possible_fewer declared order turn s m (n + 1) (omega (arith, h)) q.before))
     | inr g ↦ elim g [
       | inl h ↦ absurd (q.never (possible_fewer declared order turn s n (m + 1) (omega (arith, h)) p.before))
-      | inr e ↦ (is ∙ ap (λ (x : ℕ). x + 1) e ∙ sym same, λ z. absurd (omega (arith, is, z)))
+      | inr e ↦ (told_same (rules_declared declared) p.known q.known s n m i j why other p.speaks q.speaks e, λ z. absurd (told_some (rules_declared declared) p.known s n i why p.speaks z))
     ]
   ]
 
@@ -118,7 +134,7 @@ module _ (declared : DeclarationOf) (order : List StepOf) where
   none_ahead : (v w : Refused) (h : IsRefused declared order v) (k : IsRefused declared order w) → h.turn < k.turn → ⊥
   none_ahead v w h k below = elim h.refused [
     | in_place is p ↦ not_placed order h.turn h.call v.why here p
-    | in_item count is item ↦
+    | at_item count item ↦
         let t = linked_at (rules_declared declared) k.before.start (take k.turn order) h.turn h.call k.before.last k.before.linked (taken_at order h.turn k.turn h.call below h.there) in
         let P : List StepOf → Type 0 = λ steps. Linked (rules_declared declared) k.before.start steps t.before in
         item.never (record {

@@ -53,11 +53,10 @@ module _ (declared : DeclarationOf) (order : List StepOf) (n : ℕ) (c : StepOf)
 
   -- it is refused at an item
   refused_item : (item : ℕ) (why : Why) → CallRefuted (rules_declared declared) m c.request c.response item why
-      → (count : ℕ) × (item ≡ count + 1) × RefusedItem declared order n c count why
+      → (count : ℕ) × RefusedItem declared order n c count item why
   refused_item item why e =
       let f = r.known.sound e.before.choice e.before.chooses in (
         e.count,
-        e.told,
         record {
           before = record {
             placed = r.placed;
@@ -111,7 +110,7 @@ module _ (declared : DeclarationOf) (order : List StepOf) (n : ℕ) (m : Meaning
     refused_call v item why s u same told number at is kept stamped t =
         let E : Meaning → Type 0 = λ x. CallRefuted (rules_declared declared) x c.request c.response item why in
         let p = refused_item declared order n c m r (record { there = there; kept = kept; stamped = stamped }) item why (subst E same t.0) in
-        refused item why v told number at is (in_item p.0 p.1 p.2)
+        refused item why v told number at is (in_item p.0 p.1)
 
 -- past the last turn all are replayed
 pub replayed_all : (declared : DeclarationOf) (order : List StepOf) (turn : ℕ) (m : Meaning) → length order ≤ turn → Replayed declared order turn m → Replayed declared order (length order) m

@@ -64,7 +64,7 @@ taken_is_known_lem declared steps s m n k e = record {
 never_called : (rules : RulesOf) (m : Meaning) (s : StepOf) (item : ℕ) (why : Why) (choice : Choice) (V W : List Thing) → CallRefuted rules m s.request s.response item why
     → Chooses m.secrets choice → V ≡ inv choice m.objects → CallSome rules V s.request s.response W → ⊥
 never_called rules m s item why choice V W e h is call =
-    let b = batch_of_call rules V s.request s.response W e.unrefused call in
+    let b = batch_of_call rules V s.request s.response None W e.unrefused call in
     let pairs = pairs_of s.request s.response in
     let count = e.count + 1 in
     let P : List (AskOf × AnswerOf) → Type 0 = λ ps. ChainSome rules s.response.stamp V None ps b.last b.placeholder in

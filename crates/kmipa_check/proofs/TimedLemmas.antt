@@ -2,10 +2,10 @@
 use Rattle.std.proofs.Common.{◌≡◌, ◌<◌, ◌≤◌, inl, inr, ℕ, zero, suc, ℤ, List, [], ◌∷◌, length, take, drop, get_or, Contains, Some, slice_get, refl, ap, subst, arith}
 use Rattle.std.proofs.lemmas.Option.{slice_get-get_or}
 use Rattle.kmipa_record.specs.Marks.{MarkOf, begins, ends, begun, AreRecorded}
-use Rattle.kmipa_check.specs.Calls.{CallOf, AreCalls, AreTimed, IsRecorded}
-use Rattle.kmipa_check.proofs.PlaceLemmas.{at_contains, get_at}
+use Rattle.kmipa_check.specs.Calls.{CallOf, AreCalls, AreTimed, HasEnd, IsEnded, has_ended, is_open, IsRecorded}
+use Rattle.kmipa_check.proofs.PlaceLemmas.{apart, at_contains, get_at}
 use Rattle.kmipa_check.proofs.WholeOrderLemmas.{number_of}
-use Rattle.kmipa_check.proofs.RecordedLemmas.{cut, apart, same_marks, recorded_at}
+use Rattle.kmipa_check.proofs.RecordedLemmas.{cut, same_begin, recorded_at}
 
 -- the mark that begins the call of a place among those begun
 record BegunAt (marks : List MarkOf) (i : ℕ) (n : ℤ) : Type 0 where
@@ -47,14 +47,14 @@ behind (y ∷ xs) (suc i) (suc j) x at = let p = behind xs i j x at in (omega (a
 
 module _ (marks : List MarkOf) (r : AreRecorded marks) where
   -- a call begins before it ends
-  begins_first : (c : CallOf) (x : IsRecorded marks c) → c.begin < x.end
-  begins_first c x =
-      let there = r.in_order.answered (take x.end marks) (drop (suc x.end) marks) c.number x.answered (cut marks x.end (ends c.number x.answered) x.carried.ends) in
-      let at = at_contains (begun (take x.end marks)) c.number there.0 in
-      let p = begun_at (take x.end marks) at.0 c.number at.1 in
-      let q = behind marks p.place x.end (begins c.number p.client p.asked) p.there in
-      let same = same_marks marks c.number c.begin x.end p.place x.end x.asked x.answered p.asked x.answered r x.carried (record { client = p.client; begins = q.1; ends = x.carried.ends }) in
-      omega (arith, same.begin, q.0)
+  begins_first : (c : CallOf) (x : IsRecorded marks c) (end : ℕ) (answered : List ℕ) → HasEnd marks c.number end answered → c.begin < end
+  begins_first c x end answered h =
+      let there = r.answered (take end marks) (drop (suc end) marks) c.number answered (cut marks end (ends c.number answered) h) in
+      let at = at_contains (begun (take end marks)) c.number there.0 in
+      let p = begun_at (take end marks) at.0 c.number at.1 in
+      let q = behind marks p.place end (begins c.number p.client p.asked) p.there in
+      let same = same_begin marks c.number c.begin p.place x.asked p.asked r x.carried (record { client = p.client; there = q.1 }) in
+      omega (arith, same.0, q.0)
 
   module _ (calls : List CallOf) (are : AreCalls marks calls) where
     here : (i : ℕ) (d : CallOf) → i < length calls → slice_get calls i ≡ Some (get_or calls i d)
@@ -70,7 +70,7 @@ module _ (marks : List MarkOf) (r : AreRecorded marks) where
         let c = get_or calls i d in
         let x = recorded_at marks calls i c are (here i d below) in
         let m = mark i d below in
-        (same_marks marks c.number c.begin x.end m.place x.end x.asked x.answered m.asked x.answered r x.carried (record { client = m.client; begins = m.there; ends = x.carried.ends })).begin
+        (same_begin marks c.number c.begin m.place x.asked m.asked r x.carried (record { client = m.client; there = m.there })).0
 
     ascend : (p q : ℕ) (d : CallOf) → p < q → q < length calls → (get_or calls p d).begin < (get_or calls q d).begin
     ascend p q d less below =
@@ -83,12 +83,14 @@ module _ (marks : List MarkOf) (r : AreRecorded marks) where
         ]
 
     closed : (c : CallOf) (end : ℕ) → Contains calls c → c.end ≡ Some end → c.begin < end
-    closed c end has is =
-        let p = at_contains calls c has in
+    closed c end one is =
+        let p = at_contains calls c one in
         let x = recorded_at marks calls p.0 c are p.1 in
-        let e = x.ended in
-        let ended : x.end ≡ end = cc in
-        omega (arith, begins_first c x, ended)
+        by x x.ended
+      where
+        by : IsRecorded marks c → IsEnded marks c → c.begin < end
+        by x (has_ended e answered response h says ended told) = let same : e ≡ end = cc in omega (arith, begins_first c x e answered h, same)
+        by x (is_open none ended told) = absurd cc
 
     pub calls_are_timed_lem : AreTimed calls
     calls_are_timed_lem = record { ascend = ascend; closed = closed }

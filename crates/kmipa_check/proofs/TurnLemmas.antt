@@ -103,7 +103,7 @@ module _ (steps : List Step) (turn : ℕ) (now last : Step) (below : turn < leng
   same_now : (c : StepOf) → slice_get (map step_of steps) turn ≡ Some c → c ≡ step_of now
   same_now c at = let there = turn_at steps turn now below here in cc
 
-  pub back_decided : (c : StepOf) → slice_get (map step_of steps) turn ≡ Some c → (less : Bool) → Decided less (now.response.now.stamp <ℤ last.response.now.stamp)
+  pub back_decided : (c : StepOf) → slice_get (map step_of steps) turn ≡ Some c → (less : Bool) → Decided less ((step_of now).response.stamp <ℤ (step_of last).response.stamp)
       → Decided less (RunsBack (map step_of steps) turn c)
   back_decided c at true h =
       let P : StepOf → Type 0 = λ x. RunsBack (map step_of steps) turn x in
@@ -116,7 +116,7 @@ module _ (steps : List Step) (turn : ℕ) (now last : Step) (below : turn < leng
       let there = subst Q place b.3 in
       let that = last_at in
       let same : b.1 ≡ step_of last = cc in
-      let R : StepOf → Type 0 = λ x. now.response.now.stamp <ℤ x.response.stamp in
+      let R : StepOf → Type 0 = λ x. (step_of now).response.stamp <ℤ x.response.stamp in
       h (subst R same b.4)
 
 less_decided : (a b : ℤ) → Decided (int_lt a b) (a <ℤ b)

@@ -13,48 +13,59 @@ use Rattle.kmipa_check.specs.declared.call.Call.{Call}
 use Rattle.kmipa_check.specs.declared.numbers.FirstPlaces.{FirstPlaces}
 use Rattle.kmipa_check.specs.declared.fault.WitnessKind.{WitnessKind}
 use Rattle.kmipa_check.specs.declared.fault.WitnessKind.TheVariants.{LeftOut}
+use Rattle.kmipa_msgs.specs.declared.kind.OutsideKind.{OutsideKind}
 use Rattle.kmipa_msgs.specs.Messages.{ResponseOf}
-use Rattle.kmipa_check.specs.Calls.{CallOf, call_of}
-use Rattle.kmipa_check.specs.Steps.{StepOf, IsStep, NeedsFill, step_with}
+use Rattle.kmipa_msgs.specs.Responses.{SaysResponse, ResponseFault}
+use Rattle.kmipa_check.specs.Calls.{CallOf, AreResponse, AreOutside, call_of}
+use Rattle.kmipa_check.specs.Fills.{IsFilled, FillFault}
+use Rattle.kmipa_check.specs.Steps.{StepOf, IsAnswered, recorded, given, IsStep, step_with}
 use Rattle.kmipa_check.specs.Runs.{IsOfCalls, TakeEachOnce}
-use Rattle.kmipa_check.specs.Orders.{IsNamed, IsFormed, AreFormedBelow, IsOrder, GivenFault, answered, ordered, filled, unfilled, WitnessFaultAt, left_out}
+use Rattle.kmipa_check.specs.Orders.{IsNamed, IsFormed, AreFormedBelow, IsOrder, IsAnswerFault, answered, unanswered, formless, GivenFault, unfit_answer, ordered, unfilled, WitnessFaultAt, left_out}
 use Rattle.kmipa_check.specs.Numbers.{place_in, StandsFirst, Indexes}
 use Rattle.kmipa_check.specs.Ordering.{AreFormed, missing_or, first_missing}
 use Rattle.kmipa_check.proofs.PlaceLemmas.{mapped_from, contains_at, at_contains, same_elements, get_at, some_at}
+use Rattle.kmipa_check.proofs.MessageLemmas.{same_message, not_outside}
 use Rattle.kmipa_check.proofs.OnceLemmas.{IsOnce}
 use Rattle.kmipa_check.proofs.OrderLemmas.{formed_below}
+use Rattle.kmipa_check.proofs.FillLemmas.{one_filled, filled_right, one_fill_fault}
 
 abbrev pub number_of : CallOf → ℤ
 number_of = λ c. c.number
 
--- the first call without a place
+-- the first call that has ended and is without a place
 record FirstMissing (named : FirstPlaces) (calls : List CallOf) (number : ℤ) : Type 0 where
   place : ℕ
   call : CallOf
   there : slice_get calls place ≡ Some call
   is : call.number ≡ number
+  end : ℕ
+  ended : call.end ≡ Some end
   none : place_in named call.number ≡ None
-  earlier : (other : ℕ) (d : CallOf) → other < place → slice_get calls other ≡ Some d → place_in named d.number ≡ None → ⊥
+  earlier : (other : ℕ) (d : CallOf) (e : ℕ) → other < place → slice_get calls other ≡ Some d → d.end ≡ Some e → place_in named d.number ≡ None → ⊥
 
-earlier_missing : (named : FirstPlaces) (c : CallOf) (calls : List CallOf) (number : ℤ) (q : ℕ) → place_in named c.number ≡ Some q → (r : FirstMissing named calls number)
-    → (other : ℕ) (d : CallOf) → other < suc r.place → slice_get (c ∷ calls) other ≡ Some d → place_in named d.number ≡ None → ⊥
-earlier_missing named c calls number q is r zero d below at none =
+earlier_missing : (named : FirstPlaces) (c : CallOf) (calls : List CallOf) (number : ℤ) → ((e : ℕ) → c.end ≡ Some e → place_in named c.number ≡ None → ⊥) → (r : FirstMissing named calls number)
+    → (other : ℕ) (d : CallOf) (e : ℕ) → other < suc r.place → slice_get (c ∷ calls) other ≡ Some d → d.end ≡ Some e → place_in named d.number ≡ None → ⊥
+earlier_missing named c calls number never r zero d e below at ended none =
     let same : c ≡ d = cc in
-    let P : CallOf → Type 0 = λ x. place_in named x.number ≡ None in
-    let there = subst P (sym same) none in
-    cc
-earlier_missing named c calls number q is r (suc other) d below at none = r.earlier other d (omega (arith, below)) at none
+    let P : CallOf → Type 0 = λ x. x.end ≡ Some e in
+    let Q : CallOf → Type 0 = λ x. place_in named x.number ≡ None in
+    never e (subst P (sym same) ended) (subst Q (sym same) none)
+earlier_missing named c calls number never r (suc other) d e below at ended none = r.earlier other d e (omega (arith, below)) at ended none
 
-missing_case : (named : FirstPlaces) (c : CallOf) (calls : List CallOf) (number : ℤ) (v : Option ℕ) → place_in named c.number ≡ v → missing_or v c.number (first_missing named calls) ≡ Some number
+missing_case : (named : FirstPlaces) (c : CallOf) (calls : List CallOf) (number : ℤ) (e v : Option ℕ) → c.end ≡ e → place_in named c.number ≡ v → missing_or e v c.number (first_missing named calls) ≡ Some number
     → (first_missing named calls ≡ Some number → FirstMissing named calls number) → FirstMissing named (c ∷ calls) number
-missing_case named c calls number None is h rest = record { place = 0; call = c; there = refl; is = cc; none = is; earlier = λ other d below at none. omega (arith, below) }
-missing_case named c calls number (Some q) is h rest =
+missing_case named c calls number None v ends is h rest =
     let r = rest h in
-    record { place = suc r.place; call = r.call; there = r.there; is = r.is; none = r.none; earlier = earlier_missing named c calls number q is r }
+    record { place = suc r.place; call = r.call; there = r.there; is = r.is; end = r.end; ended = r.ended; none = r.none; earlier = earlier_missing named c calls number (λ e ended none. absurd cc) r }
+missing_case named c calls number (Some e) None ends is h rest =
+    record { place = 0; call = c; there = refl; is = cc; end = e; ended = ends; none = is; earlier = λ other d e below at ended none. omega (arith, below) }
+missing_case named c calls number (Some e) (Some q) ends is h rest =
+    let r = rest h in
+    record { place = suc r.place; call = r.call; there = r.there; is = r.is; end = r.end; ended = r.ended; none = r.none; earlier = earlier_missing named c calls number (λ e ended none. absurd cc) r }
 
 missing_is : (named : FirstPlaces) (calls : List CallOf) (number : ℤ) → first_missing named calls ≡ Some number → FirstMissing named calls number
 missing_is named [] number e = absurd cc
-missing_is named (c ∷ calls) number e = missing_case named c calls number (place_in named c.number) refl e (λ h. missing_is named calls number h)
+missing_is named (c ∷ calls) number e = missing_case named c calls number c.end (place_in named c.number) refl refl e (λ h. missing_is named calls number h)
 
 -- its number is that of a call
 pub missing_counted : (named : FirstPlaces) (calls : List Call) (number : ℤ) → first_missing named (map call_of calls) ≡ Some number → All (λ call. pos 1 ≤ℤ call.number) calls → pos 1 ≤ℤ number
@@ -75,20 +86,28 @@ told_number (Err e) (pos n) at told is one fits =
     absurd (told fitting)
 told_number (Err e) (negsuc n) at told is one fits = absurd one.le
 
--- no call is without one
-placed_case : (named : FirstPlaces) (x : CallOf) (calls : List CallOf) (v : Option ℕ) → place_in named x.number ≡ v → missing_or v x.number (first_missing named calls) ≡ None
-    → ((place : ℕ) (c : CallOf) → first_missing named calls ≡ None → slice_get calls place ≡ Some c → (q : ℕ) × (place_in named c.number ≡ Some q))
-    → (place : ℕ) (c : CallOf) → slice_get (x ∷ calls) place ≡ Some c → (q : ℕ) × (place_in named c.number ≡ Some q)
-placed_case named x calls None is e rest place c at = absurd cc
-placed_case named x calls (Some q) is e rest zero c at =
+-- no call that has ended is without one
+placed_case : (named : FirstPlaces) (x : CallOf) (calls : List CallOf) (e v : Option ℕ) → x.end ≡ e → place_in named x.number ≡ v → missing_or e v x.number (first_missing named calls) ≡ None
+    → ((place : ℕ) (c : CallOf) (end : ℕ) → first_missing named calls ≡ None → slice_get calls place ≡ Some c → c.end ≡ Some end → (q : ℕ) × (place_in named c.number ≡ Some q))
+    → (place : ℕ) (c : CallOf) (end : ℕ) → slice_get (x ∷ calls) place ≡ Some c → c.end ≡ Some end → (q : ℕ) × (place_in named c.number ≡ Some q)
+placed_case named x calls None v ends is h rest zero c end at ended =
+    let same : x ≡ c = cc in
+    let P : CallOf → Type 0 = λ d. d.end ≡ Some end in
+    let its = subst P (sym same) ended in
+    absurd cc
+placed_case named x calls None v ends is h rest (suc place) c end at ended = rest place c end h at ended
+placed_case named x calls (Some e) None ends is h rest place c end at ended = absurd cc
+placed_case named x calls (Some e) (Some q) ends is h rest zero c end at ended =
     let same : x ≡ c = cc in
     let P : CallOf → Type 0 = λ d. (q : ℕ) × (place_in named d.number ≡ Some q) in
     subst P same (q, is)
-placed_case named x calls (Some q) is e rest (suc place) c at = rest place c e at
+placed_case named x calls (Some e) (Some q) ends is h rest (suc place) c end at ended = rest place c end h at ended
 
-missing_none : (named : FirstPlaces) (calls : List CallOf) → first_missing named calls ≡ None → (place : ℕ) (c : CallOf) → slice_get calls place ≡ Some c → (q : ℕ) × (place_in named c.number ≡ Some q)
-missing_none named [] e place c at = absurd cc
-missing_none named (x ∷ calls) e place c at = placed_case named x calls (place_in named x.number) refl e (λ p d h. missing_none named calls h p d) place c at
+missing_none : (named : FirstPlaces) (calls : List CallOf) → first_missing named calls ≡ None → (place : ℕ) (c : CallOf) (end : ℕ) → slice_get calls place ≡ Some c → c.end ≡ Some end
+    → (q : ℕ) × (place_in named c.number ≡ Some q)
+missing_none named [] h place c end at ended = absurd cc
+missing_none named (x ∷ calls) h place c end at ended =
+    placed_case named x calls x.end (place_in named x.number) refl refl h (λ p d e f g k. missing_none named calls f p d e g k) place c end at ended
 
 -- what the places say of turns
 module _ (turns : List Turn) (named : FirstPlaces) (names : Indexes (map (λ (t : Turn). Some t.call) turns) named) where
@@ -117,19 +136,20 @@ module _ (turns : List Turn) (named : FirstPlaces) (names : Indexes (map (λ (t 
   left_out_told calls steps number at f missing is =
       let r = missing_is named calls number missing in
       let P : ℕ → Type 0 = λ n. AreFormedBelow calls (map turn_of turns) n in
-      left_out r.place r.call (subst P (sym (length-map turns turn_of)) (formed_below calls (map turn_of turns) (length turns) steps f)) r.there (unnamed r.call.number r.none)
-      (λ other d below there out. not_left_out d.number (place_in named d.number) refl (r.earlier other d below there) out) (r.is ∙ is) refl
+      left_out r.place r.call (subst P (sym (length-map turns turn_of)) (formed_below calls (map turn_of turns) (length turns) steps f)) r.there
+      (record { end = r.end; ended = r.ended; unnamed = unnamed r.call.number r.none })
+      (λ other d below there out. not_left_out d.number (place_in named d.number) refl (r.earlier other d out.end below there out.ended) out.unnamed) (r.is ∙ is) refl
 
   -- where none is left out, the steps are those of the whole witness
   pub order_told : (calls : List CallOf) (steps : List StepOf) → AreFormed calls (map turn_of turns) (length turns) steps → first_missing named calls ≡ None → IsOrder calls (map turn_of turns) steps
   order_told calls steps f missing = record {
     counted = f.counted ∙ sym (length-map turns turn_of);
     formed = f.each;
-    all = λ c has. by c (at_contains calls c has);
+    all = λ c end one ended. by c end ended (at_contains calls c one);
   }
     where
-      by : (c : CallOf) → (i : ℕ) × (slice_get calls i ≡ Some c) → IsNamed (map turn_of turns) c.number
-      by c p = let q = missing_none named calls missing p.0 c p.1 in is_named c.number q.0 q.1
+      by : (c : CallOf) (end : ℕ) → c.end ≡ Some end → (i : ℕ) × (slice_get calls i ≡ Some c) → IsNamed (map turn_of turns) c.number
+      by c end ended p = let q = missing_none named calls missing p.0 c end p.1 ended in is_named c.number q.0 q.1
 
 -- two calls of one number are one
 pub same_call : (calls : List CallOf) → IsOnce (map number_of calls) → (i j : ℕ) (a b : CallOf) → slice_get calls i ≡ Some a → slice_get calls j ≡ Some b → a.number ≡ b.number → a ≡ b
@@ -171,49 +191,77 @@ module _ (calls : List CallOf) (turns : List TurnOf) (steps : List StepOf) (o : 
   order_takes = record {
     of_calls = λ s has. by s (at_contains steps s has);
     once = taken_once;
-    all = λ c has. taken c (o.all c has);
+    all = λ c end one ended. taken c (o.all c end one ended);
   }
     where
       by : (s : StepOf) → (i : ℕ) × (slice_get steps i ≡ Some s) → IsOfCalls calls s
       by s p = let f = o.formed p.0 s p.1 in (f.call, f.turn, f.known, f.step)
 
+-- a call has one response by a turn
+one_answer : (c : CallOf) (t : TurnOf) (response other : ResponseOf) → IsAnswered c t response → IsAnswered c t other → response ≡ other
+one_answer c t response other (recorded had none) (recorded has nothing) = cc
+one_answer c t response other (recorded had none) (given bytes unended some says) = absurd cc
+one_answer c t response other (given bytes unended some says) (recorded had none) = absurd cc
+one_answer c t response other (given bytes unended some says) (given others lacks any told) =
+    let same : others ≡ bytes = cc in
+    let P : List ℕ → Type 0 = λ bs. AreResponse c.request bs other in
+    same_message (λ u. SaysResponse u c.request) (λ u. ResponseFault u c.request) bytes response other says (subst P same told)
+
+-- an answer that says a response is not outside
+said_right : (c : CallOf) (bytes others : List ℕ) (response : ResponseOf) (item : ℕ) (reason : OutsideKind) → bytes ≡ others → AreResponse c.request bytes response
+    → AreOutside (λ u. ResponseFault u c.request) others item reason → ⊥
+said_right c bytes others response item reason same says out =
+    let P : List ℕ → Type 0 = λ bs. AreResponse c.request bs response in
+    not_outside (λ u. SaysResponse u c.request) (λ u. ResponseFault u c.request) others response item reason (subst P same says) out
+
+-- where a call has a response by a turn nothing is wrong with its answer
+answered_right : (c : CallOf) (t : TurnOf) (response : ResponseOf) (kind : WitnessKind) → IsAnswered c t response → IsAnswerFault c t kind → ⊥
+answered_right c t response kind (recorded had none) (answered x has some is) = some none
+answered_right c t response kind (recorded had none) (unanswered unended nothing is) = absurd cc
+answered_right c t response kind (recorded had none) (formless bytes i k unended some out is) = absurd cc
+answered_right c t response kind (given bytes unended some says) (answered x has any is) = absurd cc
+answered_right c t response kind (given bytes unended some says) (unanswered lacks nothing is) = absurd cc
+answered_right c t response kind (given bytes unended some says) (formless others i k lacks any out is) = let same : bytes ≡ others = cc in said_right c bytes others response i k same says out
+
+one_answer_fault : (c : CallOf) (t : TurnOf) (kind other : WitnessKind) → IsAnswerFault c t kind → IsAnswerFault c t other → kind ≡ other
+one_answer_fault c t kind other (answered x has some is) (answered y had any same) = is ∙ sym same
+one_answer_fault c t kind other (answered x has some is) (unanswered unended none same) = absurd (some none)
+one_answer_fault c t kind other (answered x has some is) (formless bytes i k unended any out same) = absurd cc
+one_answer_fault c t kind other (unanswered unended none is) (answered y had any same) = absurd (any none)
+one_answer_fault c t kind other (unanswered unended none is) (unanswered lacks nothing same) = is ∙ sym same
+one_answer_fault c t kind other (unanswered unended none is) (formless bytes i k lacks any out same) = absurd cc
+one_answer_fault c t kind other (formless bytes i k unended some out is) (answered y had any same) = absurd cc
+one_answer_fault c t kind other (formless bytes i k unended some out is) (unanswered lacks none same) = absurd cc
+one_answer_fault c t kind other (formless bytes i k unended some out is) (formless others j l lacks any outs same) = is ∙ sym same
+
 -- where they make a step nothing is wrong with what the turn gives
 pub step_right : (c : CallOf) (t : TurnOf) (s : StepOf) (kind : WitnessKind) → IsStep c t s → GivenFault c t kind → ⊥
-step_right c t s kind i (answered some is) = some i.given.unanswered
-step_right c t s kind i (ordered none some is) = some i.given.unordered
-step_right c t s kind i (filled none places some is) = some i.given.unfilled
-step_right c t s kind i (unfilled none places fills response has needs is) =
-    let r = i.recorded in
-    let same : i.response ≡ response = cc in
-    let P : ResponseOf → Type 0 = λ x. NeedsFill c.request x → ⊥ in
-    subst P same i.given.complete needs
+step_right c t s kind i (unfit_answer fault) = answered_right c t i.response kind i.answered fault
+step_right c t s kind i (ordered response had some is) = some i.unordered
+step_right c t s kind i (unfilled response had places fault) =
+    let P : ResponseOf → Type 0 = λ x. IsFilled c.request x t.fills i.full in
+    filled_right c.request response t.fills i.full kind (subst P (one_answer c t i.response response i.answered had) i.filled) fault
 
 -- and else one thing is
 pub one_given : (c : CallOf) (t : TurnOf) (kind other : WitnessKind) → GivenFault c t kind → GivenFault c t other → kind ≡ other
-one_given c t kind other (answered some is) (answered any same) = is ∙ sym same
-one_given c t kind other (answered some is) (ordered none any same) = absurd (some none)
-one_given c t kind other (answered some is) (filled none places any same) = absurd (some none)
-one_given c t kind other (answered some is) (unfilled none places fills response has needs same) = absurd (some none)
-one_given c t kind other (ordered none some is) (answered any same) = absurd (any none)
-one_given c t kind other (ordered none some is) (ordered nothing any same) = is ∙ sym same
-one_given c t kind other (ordered none some is) (filled nothing places any same) = absurd (some places)
-one_given c t kind other (ordered none some is) (unfilled nothing places fills response has needs same) = absurd (some places)
-one_given c t kind other (filled none places some is) (answered any same) = absurd (any none)
-one_given c t kind other (filled none places some is) (ordered nothing any same) = absurd (any places)
-one_given c t kind other (filled none places some is) (filled nothing ps any same) = is ∙ sym same
-one_given c t kind other (filled none places some is) (unfilled nothing ps fills response has needs same) = absurd (some fills)
-one_given c t kind other (unfilled none places fills response has needs is) (answered any same) = absurd (any none)
-one_given c t kind other (unfilled none places fills response has needs is) (ordered nothing any same) = absurd (any places)
-one_given c t kind other (unfilled none places fills response has needs is) (filled nothing ps any same) = absurd (any fills)
-one_given c t kind other (unfilled none places fills response has needs is) (unfilled nothing ps fs answer had wants same) = is ∙ sym same
+one_given c t kind other (unfit_answer fault) (unfit_answer wrong) = one_answer_fault c t kind other fault wrong
+one_given c t kind other (unfit_answer fault) (ordered response had any same) = absurd (answered_right c t response kind had fault)
+one_given c t kind other (unfit_answer fault) (unfilled response had places wrong) = absurd (answered_right c t response kind had fault)
+one_given c t kind other (ordered response had some is) (unfit_answer fault) = absurd (answered_right c t response other had fault)
+one_given c t kind other (ordered response had some is) (ordered answer has any same) = is ∙ sym same
+one_given c t kind other (ordered response had some is) (unfilled answer has places wrong) = absurd (some places)
+one_given c t kind other (unfilled response had places fault) (unfit_answer wrong) = absurd (answered_right c t response other had wrong)
+one_given c t kind other (unfilled response had places fault) (ordered answer has any same) = absurd (any places)
+one_given c t kind other (unfilled response had places fault) (unfilled answer has ps wrong) =
+    let P : ResponseOf → Type 0 = λ x. FillFault c.request x t.fills other in
+    one_fill_fault c.request response t.fills kind other fault (subst P (one_answer c t answer response has had) wrong)
 
 -- a call and a turn make one step
 pub one_step_lem : (c : CallOf) (t : TurnOf) (s u : StepOf) → IsStep c t s → IsStep c t u → s ≡ u
 one_step_lem c t s u a b =
-    let p = a.recorded in
-    let q = b.recorded in
-    let same : a.response ≡ b.response = cc in
-    a.is ∙ ap (λ (r : ResponseOf). step_with c r) same ∙ sym b.is
+    let same = one_answer c t b.response a.response b.answered a.answered in
+    let P : ResponseOf → Type 0 = λ x. IsFilled c.request x t.fills b.full in
+    a.is ∙ ap (λ (r : ResponseOf). step_with c r) (one_filled c.request a.response t.fills a.full b.full a.filled (subst P same b.filled)) ∙ sym b.is
 
 -- and a witness gives one order
 pub one_order_lem : (calls : List CallOf) (turns : List TurnOf) (steps others : List StepOf) → IsOnce (map number_of calls) → IsOrder calls turns steps → IsOrder calls turns others → steps ≡ others

@@ -6,10 +6,9 @@ use Rattle.kmipa_check.specs.Calls.{CallOf}
 use Rattle.kmipa_check.specs.Steps.{StepOf, IsStep}
 use Rattle.kmipa_check.specs.Orders.{NamesAt, NamesBefore, IsFormed, IsOrder, GivenFault, TurnFault, unknown, twice, unfit, WitnessFaultAt, in_turn, left_out}
 use Rattle.kmipa_check.specs.declared.fault.WitnessKind.{WitnessKind}
-use Rattle.kmipa_check.proofs.PlaceLemmas.{at_contains, some_at}
+use Rattle.kmipa_check.proofs.PlaceLemmas.{apart, at_contains, some_at}
 use Rattle.kmipa_check.proofs.OnceLemmas.{IsOnce}
 use Rattle.kmipa_check.proofs.WholeOrderLemmas.{number_of, same_call, step_right, one_given}
-use Rattle.kmipa_check.proofs.RecordedLemmas.{apart}
 
 same_named : (turns : List TurnOf) (place : ℕ) (n m : ℤ) → NamesAt turns place n → NamesAt turns place m → n ≡ m
 same_named turns place n m (t, at, e) (u, there, f) = let same : t ≡ u = cc in sym e ∙ ap (λ (x : TurnOf). x.call) same ∙ f
@@ -65,7 +64,7 @@ module _ (calls : List CallOf) (turns : List TurnOf) (once : IsOnce (map number_
   order_right steps at kind o (in_turn place below t is) =
       let s = some_at steps place (omega (arith, fault_within place kind t, o.counted)) in
       formed_right place kind s.0 (o.formed place s.0 s.1) t
-  order_right steps at kind o (left_out place c below there none first is same) = none (o.all c (contained place c there))
+  order_right steps at kind o (left_out place c below there none first is same) = none.unnamed (o.all c none.end (contained place c there) none.ended)
     where
       contained : (place : ℕ) (c : CallOf) → slice_get calls place ≡ Some c → Contains calls c
       contained place c there = (place, slice_get_within calls place c there, get_or_from_slice_get calls place c c there)

@@ -15,9 +15,12 @@ use Rattle.kmipa_msgs.specs.Responses.{ResponseFault}
 use Rattle.kmipa_check.specs.declared.call.Call.{Call}
 use Rattle.kmipa_check.specs.declared.fault.Side.{Side}
 use Rattle.kmipa_check.specs.declared.fault.Side.TheVariants.{Client, Server}
+use Rattle.kmipa_check.specs.declared.fault.StepFault.{StepFault}
+use Rattle.kmipa_check.specs.declared.fault.StepFault.TheVariants as step_fault
+use Rattle.kmipa_check.specs.declared.fault.WitnessKind.TheVariants.{AnswerForm}
 use Rattle.kmipa_check.specs.declared.fault.CheckFault.{CheckFault}
 use Rattle.kmipa_check.specs.declared.fault.CheckFault.TheVariants.{Outside, Witness, Memory}
-use Rattle.kmipa_check.specs.Calls.{AreRequest, AreResponse, AreOutside, HasMarks, CallOf, IsRecorded, IsOutsideOn, IsFirstOutside, call_of}
+use Rattle.kmipa_check.specs.Calls.{AreRequest, AreResponse, AreOutside, HasBegin, HasEnd, CallOf, IsRecorded, IsOutsideOn, IsFirstOutside, call_of}
 
 -- the one item that the bytes spell, or none where they spell none
 abbrev pub ItemRead : List ℕ → Result (Option View) CheckFault → Type 0
@@ -45,16 +48,28 @@ ResponseRead number request bytes (Err fault) = MessageFault (λ t. ResponseFaul
 
 -- the mark at the place begins a call of this number, and the call's message on this side is outside
 pub record IsOutsideAt (marks : List MarkOf) (place : ℕ) (number : ℤ) (side : Side) (item : ℕ) (kind : OutsideKind) : Type 0 where
-  pub end : ℕ
   pub asked : List ℕ
-  pub answered : List ℕ
-  pub carried : HasMarks marks number place end asked answered
-  pub outside : IsOutsideOn side asked answered item kind
+  pub carried : HasBegin marks number place asked
+  pub outside : IsOutsideOn marks number side asked item kind
 
--- the mark at the place begins no call that ends
+-- the mark at the place begins no call
 abbrev pub BeginsNone : List MarkOf → ℕ → Type 0
-BeginsNone marks place = (number : ℤ) (client asked : List ℕ) → slice_get marks place ≡ Some (begins number client asked)
-    → (end : ℕ) (answered : List ℕ) → slice_get marks end ≡ Some (ends number answered) → ⊥
+BeginsNone marks place = (number : ℤ) (client asked : List ℕ) → slice_get marks place ≡ Some (begins number client asked) → ⊥
+
+-- where the call of this number ended, and the response to its request; nothing of an open call
+abbrev pub EndRead : List MarkOf → ℤ → RequestOf → Result (Option (ℕ × Response)) CheckFault → Type 0
+EndRead marks number request (Ok (Some (end, response))) = (answered : List ℕ) × HasEnd marks number end answered × AreResponse request answered (response_of response)
+EndRead marks number request (Ok None) = (end : ℕ) (answered : List ℕ) → HasEnd marks number end answered → ⊥
+EndRead marks number request (Err (Outside n side o)) =
+    (n ≡ number) × (side ≡ Server) × ((end : ℕ) × (answered : List ℕ) × HasEnd marks number end answered × AreOutside (λ t. ResponseFault t request) answered o.item o.kind)
+EndRead marks number request (Err (Witness w)) = ⊥
+EndRead marks number request (Err Memory) = Unit {0}
+
+-- what the bytes of an answer say to a request
+abbrev pub AnswerRead : RequestOf → List ℕ → Result Response StepFault → Type 0
+AnswerRead request bytes (Ok response) = AreResponse request bytes (response_of response)
+AnswerRead request bytes (Err (step_fault.Unfit kind)) = (kind ≡ AnswerForm) × ((item : ℕ) × (reason : OutsideKind) × AreOutside (λ t. ResponseFault t request) bytes item reason)
+AnswerRead request bytes (Err step_fault.Memory) = Unit {0}
 
 abbrev pub MarkFault : List MarkOf → ℕ → CheckFault → Type 0
 MarkFault marks place (Outside number side o) = IsOutsideAt marks place number side o.item o.kind
@@ -70,7 +85,7 @@ MarkRead marks place (Err fault) = MarkFault marks place fault
 -- the calls are those that the first so many marks begin
 pub record AreReadUpTo (marks : List MarkOf) (place : ℕ) (calls : List CallOf) : Type 0 where
   pub recorded : All (IsRecorded marks) calls
-  pub numbers : AreRecorded marks → map (λ (c : CallOf). c.number) calls ≡ begun (take place marks)
+  pub numbers : map (λ (c : CallOf). c.number) calls ≡ begun (take place marks)
 
 -- the first message that is outside; want of memory tells nothing
 abbrev pub CallsFault : List MarkOf → CheckFault → Type 0

@@ -1,5 +1,5 @@
 -- The calls of a transcript: what their messages say, and which message is the first that is outside the profile.
-use Rattle.std.specs.Prelude.{◌≡◌, ◌<◌, ℕ, ℤ, List, map, length, take, All, AllPairs, Contains, slice_get, Option, Some}
+use Rattle.std.specs.Prelude.{◌≡◌, ◌<◌, ℕ, ℤ, List, map, length, take, All, AllPairs, Contains, slice_get, Option, Some, None, option_map}
 use Rattle.kmipa_ttlv.specs.Tree.{Tree}
 use Rattle.kmipa_ttlv.specs.Spelling.{Spells}
 use Rattle.kmipa_record.specs.Marks.{MarkOf, begins, ends, begun}
@@ -39,23 +39,27 @@ pub record CallOf : Type 0 where
   pub request : RequestOf
   pub response : Option ResponseOf
 
--- the marks of a call of this number stand at these places, and carry these messages
-pub record HasMarks (marks : List MarkOf) (number : ℤ) (begin end : ℕ) (asked answered : List ℕ) : Type 0 where
+-- the begin mark of a call of this number stands at this place, and carries this message
+pub record HasBegin (marks : List MarkOf) (number : ℤ) (begin : ℕ) (asked : List ℕ) : Type 0 where
   pub client : List ℕ
-  pub begins : slice_get marks begin ≡ Some (begins number client asked)
-  pub ends : slice_get marks end ≡ Some (ends number answered)
+  pub there : slice_get marks begin ≡ Some (begins number client asked)
 
--- the call is recorded so; for now each has ended
+-- so does its end mark
+abbrev pub HasEnd : List MarkOf → ℤ → ℕ → List ℕ → Type 0
+HasEnd marks number end answered = slice_get marks end ≡ Some (ends number answered)
+
+-- how a call ended: its end mark carries what its response says; or it is open, and has neither
+pub data IsEnded (marks : List MarkOf) (c : CallOf) : Type 0 where
+  has_ended : (end : ℕ) (answered : List ℕ) (response : ResponseOf) → HasEnd marks c.number end answered → AreResponse c.request answered response
+      → c.end ≡ Some end → c.response ≡ Some response → IsEnded marks c
+  is_open : ((end : ℕ) (answered : List ℕ) → HasEnd marks c.number end answered → ⊥) → c.end ≡ None → c.response ≡ None → IsEnded marks c
+
+-- the call is recorded so
 pub record IsRecorded (marks : List MarkOf) (c : CallOf) : Type 0 where
-  pub end : ℕ
-  pub ended : c.end ≡ Some end
   pub asked : List ℕ
-  pub answered : List ℕ
-  pub carried : HasMarks marks c.number c.begin end asked answered
+  pub carried : HasBegin marks c.number c.begin asked
   pub request : AreRequest asked c.request
-  pub answer : ResponseOf
-  pub given : c.response ≡ Some answer
-  pub response : AreResponse c.request answered answer
+  pub ended : IsEnded marks c
 
 -- these are the first calls of a transcript, in the order of their begin marks
 pub record AreFirstCalls (marks : List MarkOf) (calls : List CallOf) : Type 0 where
@@ -72,10 +76,19 @@ pub record AreTimed (calls : List CallOf) : Type 0 where
   pub ascend : AllPairs (λ (a b : CallOf). a.begin < b.begin) calls
   pub closed : (c : CallOf) (end : ℕ) → Contains calls c → c.end ≡ Some end → c.begin < end
 
+-- the call of this number has ended, its request isn't outside, and its response is
+pub record IsResponseOutside (marks : List MarkOf) (number : ℤ) (asked : List ℕ) (item : ℕ) (kind : OutsideKind) : Type 0 where
+  pub end : ℕ
+  pub answered : List ℕ
+  pub ended : HasEnd marks number end answered
+  pub request : RequestOf
+  pub said : AreRequest asked request
+  pub outside : AreOutside (λ t. ResponseFault t request) answered item kind
+
 -- a call's request is outside; or it isn't, and its response is
-abbrev pub IsOutsideOn : Side → List ℕ → List ℕ → ℕ → OutsideKind → Type 0
-IsOutsideOn Client asked answered item kind = AreOutside RequestFault asked item kind
-IsOutsideOn Server asked answered item kind = (request : RequestOf) × AreRequest asked request × AreOutside (λ t. ResponseFault t request) answered item kind
+abbrev pub IsOutsideOn : List MarkOf → ℤ → Side → List ℕ → ℕ → OutsideKind → Type 0
+IsOutsideOn marks number Client asked item kind = AreOutside RequestFault asked item kind
+IsOutsideOn marks number Server asked item kind = IsResponseOutside marks number asked item kind
 
 -- the messages of these calls are inside, and the next call, by begin marks, is this one, whose message on this side is outside
 pub record IsFirstOutside (marks : List MarkOf) (number : ℤ) (side : Side) (item : ℕ) (kind : OutsideKind) : Type 0 where
@@ -83,12 +96,10 @@ pub record IsFirstOutside (marks : List MarkOf) (number : ℤ) (side : Side) (it
   pub inside : AreFirstCalls marks before
   pub next : slice_get (begun marks) (length before) ≡ Some number
   pub begin : ℕ
-  pub end : ℕ
   pub asked : List ℕ
-  pub answered : List ℕ
-  pub carried : HasMarks marks number begin end asked answered
-  pub outside : IsOutsideOn side asked answered item kind
+  pub carried : HasBegin marks number begin asked
+  pub outside : IsOutsideOn marks number side asked item kind
 
 -- what a call of the program means
 abbrev pub call_of : Call → CallOf
-call_of c = record { number = c.number; begin = c.begin; end = Some c.end; request = request_of c.request; response = Some (response_of c.response) }
+call_of c = record { number = c.number; begin = c.begin; end = c.end; request = request_of c.request; response = option_map response_of c.response }

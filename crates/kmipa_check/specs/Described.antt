@@ -1,15 +1,11 @@
 -- Which inventories a declaration describes.
 use Rattle.std.specs.Prelude.{◌≡◌, ℕ, List, Some}
 use Rattle.std.specs.List.{AllZip}
-use Rattle.kmipa_attrs.specs.Sets.{Attributes, no_attributes}
+use Rattle.kmipa_attrs.specs.Sets.{Attributes}
 use Rattle.kmipa_object.specs.Life.{Dates}
-use Rattle.kmipa_object.specs.Inventory.{Card, Thing, IsInventory}
+use Rattle.kmipa_object.specs.Inventory.{Card, Thing, given_of, IsInventory}
 use Rattle.kmipa_record.specs.Entries.{EntryOf}
 use Rattle.kmipa_record.specs.Declarations.{DeclarationOf}
-
--- names, algorithm, length and mask
-abbrev pub given_in : Attributes → Attributes
-given_in a = record no_attributes { names = a.names; algorithm = a.algorithm; length = a.length; mask = a.mask }
 
 abbrev pub dates_in : Attributes → Dates
 dates_in a = record {
@@ -22,7 +18,7 @@ dates_in a = record {
 
 -- the object of an entry, but for its bytes
 abbrev pub card_declared : EntryOf → Card
-card_declared e = record { id = e.id; kind = e.kind; given = given_in e.attributes; dates = dates_in e.attributes }
+card_declared e = record { id = e.id; kind = e.kind; given = given_of e.attributes; dates = dates_in e.attributes }
 
 -- the object is the one declared: identifier, type, names, algorithm, length, mask and dates are its own, and declared bytes are its bytes
 pub record IsDescribed (e : EntryOf) (thing : Thing) : Type 0 where

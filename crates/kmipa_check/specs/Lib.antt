@@ -1,4 +1,5 @@
 pub mod Calls
+pub mod Fills
 pub mod Steps
 pub mod Described
 pub mod Runs
@@ -9,8 +10,10 @@ pub mod Replays
 pub mod Numbers
 pub mod Late
 pub mod Ordering
+pub mod Filling
 pub mod Audits
 pub mod CallReading
 pub mod Kinds
 pub mod Stamps
 pub mod Laws
+pub mod Plain

@@ -2,10 +2,15 @@
 use Rattle.std.specs.Prelude.{◌≡◌, ◌<◌, ℕ, ◌+◌, ℤ, pos, List, [], Contains, slice_get, length, Some, None}
 use Rattle.kmipa_record.specs.Witnesses.{TurnOf}
 use Rattle.kmipa_msgs.specs.Messages.{ResponseOf}
-use Rattle.kmipa_check.specs.Calls.{CallOf}
-use Rattle.kmipa_check.specs.Steps.{StepOf, IsStep, NeedsFill}
+use Rattle.kmipa_msgs.specs.declared.kind.OutsideKind.{OutsideKind}
+use Rattle.kmipa_msgs.specs.Responses.{ResponseFault}
+use Rattle.kmipa_check.specs.Calls.{CallOf, AreOutside}
+use Rattle.kmipa_check.specs.Fills.{FillFault}
+use Rattle.kmipa_check.specs.Steps.{StepOf, IsAnswered, IsStep}
+use Rattle.kmipa_check.specs.declared.fault.StepFault.{StepFault}
+use Rattle.kmipa_check.specs.declared.fault.StepFault.TheVariants.{Unfit, Memory}
 use Rattle.kmipa_check.specs.declared.fault.WitnessKind.{WitnessKind}
-use Rattle.kmipa_check.specs.declared.fault.WitnessKind.TheVariants.{UnknownCall, Twice, LeftOut, FillNotWanted, FillMissing, AnswerNotWanted, OrderNotWanted}
+use Rattle.kmipa_check.specs.declared.fault.WitnessKind.TheVariants.{UnknownCall, Twice, LeftOut, AnswerNotWanted, AnswerMissing, AnswerForm, OrderNotWanted}
 
 -- the turn at this place names this number
 abbrev pub NamesAt : List TurnOf → ℕ → ℤ → Type 0
@@ -36,20 +41,30 @@ pub record IsFormed (calls : List CallOf) (turns : List TurnOf) (place : ℕ) (s
 abbrev pub AreFormedBelow : List CallOf → List TurnOf → ℕ → Type 0
 AreFormedBelow calls turns count = (place : ℕ) → place < count → (s : StepOf) × IsFormed calls turns place s
 
--- the witness is formed: each turn makes the step at its place, and no call is left out
+-- the witness is formed: each turn makes the step at its place, and no call that has ended is left out
 pub record IsOrder (calls : List CallOf) (turns : List TurnOf) (steps : List StepOf) : Type 0 where
   pub counted : length steps ≡ length turns
   pub formed : (place : ℕ) (s : StepOf) → slice_get steps place ≡ Some s → IsFormed calls turns place s
-  pub all : (c : CallOf) → Contains calls c → IsNamed turns c.number
+  pub all : (c : CallOf) (end : ℕ) → Contains calls c → c.end ≡ Some end → IsNamed turns c.number
 
--- The first fault of what the turn gives to a call. For now each call has ended and its items have their order, so that neither an answer
--- nor an order is wanted; and no fill is taken.
+-- the fault of a turn's answer: one to a call that has ended; none to an open call; or one that is outside as a response to its request
+pub data IsAnswerFault (c : CallOf) (t : TurnOf) (kind : WitnessKind) : Type 0 where
+  answered : (response : ResponseOf) → c.response ≡ Some response → (t.answer ≡ None → ⊥) → kind ≡ AnswerNotWanted → IsAnswerFault c t kind
+  unanswered : c.response ≡ None → t.answer ≡ None → kind ≡ AnswerMissing → IsAnswerFault c t kind
+  formless : (bytes : List ℕ) (item : ℕ) (reason : OutsideKind) → c.response ≡ None → t.answer ≡ Some bytes → AreOutside (λ u. ResponseFault u c.request) bytes item reason
+      → kind ≡ AnswerForm → IsAnswerFault c t kind
+
+-- The first fault of what the turn gives to a call: that of its answer; or, where there is a response, an order of its items, which for now
+-- have their own; or the first fault of its fills.
 pub data GivenFault (c : CallOf) (t : TurnOf) (kind : WitnessKind) : Type 0 where
-  answered : (t.answer ≡ None → ⊥) → kind ≡ AnswerNotWanted → GivenFault c t kind
-  ordered : t.answer ≡ None → (t.places ≡ [] → ⊥) → kind ≡ OrderNotWanted → GivenFault c t kind
-  filled : t.answer ≡ None → t.places ≡ [] → (t.fills ≡ [] → ⊥) → kind ≡ FillNotWanted → GivenFault c t kind
-  unfilled : t.answer ≡ None → t.places ≡ [] → t.fills ≡ [] → (response : ResponseOf) → c.response ≡ Some response → NeedsFill c.request response
-      → kind ≡ FillMissing → GivenFault c t kind
+  unfit_answer : IsAnswerFault c t kind → GivenFault c t kind
+  ordered : (response : ResponseOf) → IsAnswered c t response → (t.places ≡ [] → ⊥) → kind ≡ OrderNotWanted → GivenFault c t kind
+  unfilled : (response : ResponseOf) → IsAnswered c t response → t.places ≡ [] → FillFault c.request response t.fills kind → GivenFault c t kind
+
+-- what it comes to where the turn makes no step with the call; want of memory tells nothing
+abbrev pub Refuses : CallOf → TurnOf → StepFault → Type 0
+Refuses c t (Unfit kind) = GivenFault c t kind
+Refuses c t Memory = Unit {0}
 
 -- the first fault of the turn at this place
 pub data TurnFault (calls : List CallOf) (turns : List TurnOf) (place : ℕ) (kind : WitnessKind) : Type 0 where
@@ -58,10 +73,16 @@ pub data TurnFault (calls : List CallOf) (turns : List TurnOf) (place : ℕ) (ki
   unfit : (c : CallOf) (t : TurnOf) → slice_get turns place ≡ Some t → t.call ≡ c.number → Contains calls c → (NamesBefore turns place t.call → ⊥)
       → GivenFault c t kind → TurnFault calls turns place kind
 
--- The fault of a witness: that of its first faulty turn, counted from 1; or, where no turn is faulty, the number of the first call, by
--- begin marks, that no turn names.
+-- the call has ended, and no turn names it
+pub record IsLeftOut (turns : List TurnOf) (c : CallOf) : Type 0 where
+  pub end : ℕ
+  pub ended : c.end ≡ Some end
+  pub unnamed : IsNamed turns c.number → ⊥
+
+-- The fault of a witness: that of its first faulty turn, counted from 1; or, where no turn is faulty, the number of the first call that has
+-- ended, by begin marks, that no turn names.
 pub data WitnessFaultAt (calls : List CallOf) (turns : List TurnOf) (at : ℕ) (kind : WitnessKind) : Type 0 where
   in_turn : (place : ℕ) → AreFormedBelow calls turns place → TurnFault calls turns place kind → at ≡ place + 1 → WitnessFaultAt calls turns at kind
-  left_out : (place : ℕ) (c : CallOf) → AreFormedBelow calls turns (length turns) → slice_get calls place ≡ Some c → (IsNamed turns c.number → ⊥)
-      → ((earlier : ℕ) (d : CallOf) → earlier < place → slice_get calls earlier ≡ Some d → (IsNamed turns d.number → ⊥) → ⊥)
+  left_out : (place : ℕ) (c : CallOf) → AreFormedBelow calls turns (length turns) → slice_get calls place ≡ Some c → IsLeftOut turns c
+      → ((earlier : ℕ) (d : CallOf) → earlier < place → slice_get calls earlier ≡ Some d → IsLeftOut turns d → ⊥)
       → c.number ≡ pos at → kind ≡ LeftOut → WitnessFaultAt calls turns at kind

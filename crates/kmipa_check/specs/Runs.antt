@@ -34,13 +34,13 @@ Linked rules V (s ∷ steps) W = (M : List Thing) × CallSome rules V s.request 
 abbrev pub IsOfCalls : List CallOf → StepOf → Type 0
 IsOfCalls calls s = (c : CallOf) × (t : TurnOf) × Contains calls c × IsStep c t s
 
--- the steps take each of these calls once, and no other
+-- the steps take each of these calls once that has ended, each open one at most once, and no other
 pub record TakeEachOnce (calls : List CallOf) (steps : List StepOf) : Type 0 where
   pub of_calls : (s : StepOf) → Contains steps s → IsOfCalls calls s
   pub once : AllPairs (λ (a b : StepOf). a.number ≢ b.number) steps
-  pub all : (c : CallOf) → Contains calls c → (s : StepOf) × Contains steps s × (s.number ≡ c.number)
+  pub all : (c : CallOf) (end : ℕ) → Contains calls c → c.end ≡ Some end → (s : StepOf) × Contains steps s × (s.number ≡ c.number)
 
--- a run of the calls by these steps, from this inventory: each call once, none before one that it stands behind, stamps never falling
+-- a run of the calls by these steps, from this inventory: each call that has ended once, each open one at most once, none before one that it stands behind, stamps never falling
 pub record IsRun (rules : RulesOf) (calls : List CallOf) (start : List Thing) (steps : List StepOf) : Type 0 where
   pub once : TakeEachOnce calls steps
   pub placed : IsPlaced steps
@@ -67,8 +67,7 @@ pub record IsAccepted (marks : List MarkOf) (declared : DeclarationOf) (turns : 
   pub described : Describes declared start
   pub run : IsRun (rules_declared declared) calls start steps
 
--- Some inventory that the declaration describes has a run of all calls of the transcript, in some order. A call that waits for a payload
--- has no step yet, and so no run.
+-- Some inventory that the declaration describes has a run of all calls of the transcript, in some order.
 pub record IsExplained (marks : List MarkOf) (declared : DeclarationOf) : Type 0 where
   pub calls : List CallOf
   pub are : AreCalls marks calls

@@ -1,10 +1,11 @@
 -- What a turn of a witness takes. Runs, verdicts, lateness and stamps speak of steps alone.
-use Rattle.std.specs.Prelude.{◌≡◌, ℕ, ℤ, [], Option, Some, None, slice_get}
+use Rattle.std.specs.Prelude.{◌≡◌, ℕ, ℤ, List, [], Option, Some, None}
 use Rattle.kmipa_record.specs.Witnesses.{TurnOf}
-use Rattle.kmipa_msgs.specs.Messages.{AskOf, AnswerOf, RequestOf, ResponseOf, request_of, response_of}
-use Rattle.kmipa_msgs.specs.Wanted.{Wanted}
-use Rattle.kmipa_batch.specs.Calls.{pairs_of}
-use Rattle.kmipa_check.specs.Calls.{CallOf}
+use Rattle.kmipa_msgs.specs.Messages.{RequestOf, ResponseOf, request_of, response_of}
+use Rattle.kmipa_check.specs.Calls.{CallOf, AreResponse}
+use Rattle.kmipa_check.specs.Fills.{IsWanted, IsFilled}
+use Rattle.kmipa_check.specs.declared.step.Given.{Given}
+use Rattle.kmipa_check.specs.declared.step.Given.TheVariants.{Recorded, FromTurn}
 use Rattle.kmipa_check.specs.declared.step.Step.{Step}
 
 -- a call that is taken: its number, the places of its marks, its request, and the response that it is to give
@@ -16,32 +17,34 @@ pub record StepOf : Type 0 where
   pub response : ResponseOf
 
 -- some place of the call waits for a payload that the witness has to give
-pub record NeedsFill (request : RequestOf) (response : ResponseOf) : Type 0 where
-  pub place : ℕ
-  pub ask : AskOf
-  pub answer : AnswerOf
-  pub there : slice_get (pairs_of request response) place ≡ Some (ask, answer)
-  pub wanted : Wanted ask answer
+abbrev pub NeedsFill : RequestOf → ResponseOf → Type 0
+NeedsFill request response = (place : ℕ) × IsWanted request response place
 
 -- the call, taken with this response
 abbrev pub step_with : CallOf → ResponseOf → StepOf
 step_with c response = record { number = c.number; begin = c.begin; end = c.end; request = c.request; response = response }
 
--- the turn gives nothing to the call but its place, and the response waits for nothing
-pub record IsAsRecorded (request : RequestOf) (response : ResponseOf) (t : TurnOf) : Type 0 where
-  pub unanswered : t.answer ≡ None
-  pub unordered : t.places ≡ []
-  pub unfilled : t.fills ≡ []
-  pub complete : NeedsFill request response → ⊥
+-- the response that a call has by a turn: of a call that has ended the recorded one, and the turn gives none; of an open call what the
+-- answer says that the turn gives
+pub data IsAnswered (c : CallOf) (t : TurnOf) (response : ResponseOf) : Type 0 where
+  recorded : c.response ≡ Some response → t.answer ≡ None → IsAnswered c t response
+  given : (bytes : List ℕ) → c.response ≡ None → t.answer ≡ Some bytes → AreResponse c.request bytes response → IsAnswered c t response
 
--- The turn names the call, and they make this step: the call is taken with the recorded response.
+-- The turn names the call, and they make this step: the call is taken with its response, in which the turn's fills are put.
 pub record IsStep (c : CallOf) (t : TurnOf) (s : StepOf) : Type 0 where
   pub named : t.call ≡ c.number
   pub response : ResponseOf
-  pub recorded : c.response ≡ Some response
-  pub given : IsAsRecorded c.request response t
-  pub is : s ≡ step_with c response
+  pub answered : IsAnswered c t response
+  pub unordered : t.places ≡ []
+  pub full : ResponseOf
+  pub filled : IsFilled c.request response t.fills full
+  pub is : s ≡ step_with c full
+
+-- the response that a step of the program is to give
+abbrev pub given_of : Given → ResponseOf
+given_of (Recorded response) = response_of response.now
+given_of (FromTurn response) = response_of response
 
 -- what a step of the program means
 abbrev pub step_of : Step → StepOf
-step_of s = record { number = s.number; begin = s.begin; end = s.end; request = request_of s.request.now; response = response_of s.response.now }
+step_of s = record { number = s.number; begin = s.begin; end = s.end; request = request_of s.request.now; response = given_of s.response }

@@ -12,9 +12,8 @@ use Rattle.kmipa_ops.specs.declared.why.Why.{Why}
 use Rattle.kmipa_ops.specs.declared.why.Why.TheVariants.{EarlierCallLate, StampRunsBack}
 use Rattle.kmipa_ops.specs.Chains.{ChainSome}
 use Rattle.kmipa_ops.specs.Explains.{Tells}
-use Rattle.kmipa_batch.specs.Shapes.{IsShapedBelow}
 use Rattle.kmipa_batch.specs.Calls.{pairs_of, RefusesMessage}
-use Rattle.kmipa_batch.specs.Refusals.{SpeaksAt}
+use Rattle.kmipa_batch.specs.Refusals.{AreShapedFor, SpeaksAt}
 use Rattle.kmipa_check.specs.Calls.{CallOf, AreCalls, IsFirstOutside}
 use Rattle.kmipa_check.specs.Steps.{StepOf}
 use Rattle.kmipa_check.specs.Described.{Describes}
@@ -52,10 +51,10 @@ pub record ArePossible (declared : DeclarationOf) (order : List StepOf) (count :
   pub last : List Thing
   pub linked : Linked (rules_declared declared) start (take count order) last
 
--- from an inventory the first items of a call have their shape and are done, or its message is refused
+-- from an inventory the first items of a call are done, and the shapes that are judged by then are right; or its message is refused
 abbrev pub GoesUpTo : RulesOf → List Thing → StepOf → ℕ → Type 0
 GoesUpTo rules V c count =
-    (IsShapedBelow c.request c.response count
+    (AreShapedFor c.request c.response count
     × ((W : List Thing) × (placeholder : Option (List ℕ)) × ChainSome rules c.response.stamp V None (take count (pairs_of c.request c.response)) W placeholder))
     ⊎ RefusesMessage c.response
 
@@ -88,18 +87,18 @@ pub data RefusedPlace (order : List StepOf) (turn : ℕ) (c : StepOf) (why : Why
   late : IsLate order turn c → why ≡ EarlierCallLate → RefusedPlace order turn c why
   runs_back : (IsLate order turn c → ⊥) → RunsBack order turn c → why ≡ StampRunsBack → RefusedPlace order turn c why
 
--- the items before this one are possible, with it they are not, and this is the lowest reason
-pub record RefusedItem (declared : DeclarationOf) (order : List StepOf) (turn : ℕ) (c : StepOf) (count : ℕ) (why : Why) : Type 0 where
+-- so many items are possible, with one more they are not, and this item, counted from 1, is told with the lowest reason
+pub record RefusedItem (declared : DeclarationOf) (order : List StepOf) (turn : ℕ) (c : StepOf) (count item : ℕ) (why : Why) : Type 0 where
   pub before : ArePossibleUpTo declared order turn c count
   pub never : ArePossibleUpTo declared order turn c (count + 1) → ⊥
   pub known : Meaning
   pub knows : AreKnown declared (take turn order) known
-  pub speaks : SpeaksAt (rules_declared declared) known c.request c.response count why
+  pub speaks : SpeaksAt (rules_declared declared) known c.request c.response count item why
 
 -- where the turn is refused: itself, item 0, or at an item, counted from 1
 pub data RefusedAt (declared : DeclarationOf) (order : List StepOf) (turn : ℕ) (c : StepOf) (item : ℕ) (why : Why) : Type 0 where
   in_place : item ≡ 0 → RefusedPlace order turn c why → RefusedAt declared order turn c item why
-  in_item : (count : ℕ) → item ≡ count + 1 → RefusedItem declared order turn c count why → RefusedAt declared order turn c item why
+  in_item : (count : ℕ) → RefusedItem declared order turn c count item why → RefusedAt declared order turn c item why
 
 -- a no: the turns before are possible, and this one, counted from 1, of this call, is refused there
 pub record IsRefused (declared : DeclarationOf) (order : List StepOf) (r : Refused) : Type 0 where

@@ -62,7 +62,7 @@ pub enum WitnessKind {
     Twice = 2,
     /// No turn names the call.
     LeftOut = 3,
-    /// A fill is given where none is wanted, or a second one.
+    /// A fill is given where none is wanted, or a second one for one item.
     FillNotWanted = 4,
     /// A payload is wanted, and no fill gives it.
     FillMissing = 5,
@@ -108,6 +108,28 @@ impl WitnessKind {
             WitnessKind::OrderNotWanted => "OrderNotWanted",
             WitnessKind::OrderForm => "OrderForm",
         }
+    }
+}
+
+/// Why a turn makes no step with the call that it names.
+#[derive(Clone, Copy, Debug, PartialEq, Eq, Error)]
+pub enum StepFault {
+    /// What the turn gives doesn't fit the call.
+    #[error("{0:?}")]
+    Unfit(WitnessKind),
+    /// Memory ran out.
+    #[error("memory ran out")]
+    Memory,
+}
+
+impl From<AllocError> for StepFault {
+    ghost use Rattle.std.specs.Prelude.{◌≡◌};
+    ghost use Rattle.kmipa_check.specs.declared.fault.StepFault.TheVariants.{Memory};
+
+    ghost from_gives = { λ _ e. e ≡ Memory };
+
+    fn from(_e: AllocError) -> StepFault {
+        StepFault::Memory
     }
 }
 

@@ -5,31 +5,36 @@ mod auditing;
 mod call;
 mod checking;
 mod fault;
+mod filling;
 mod late;
 mod laws;
 mod numbers;
 mod opening;
 mod order;
+mod plain_laws;
 mod reading;
 mod replay;
 mod stamp;
 mod step;
+mod turn;
 mod verdict;
 
 pub use auditing::{AuditFault, Audited, audit, audit_with};
 pub use call::Call;
 pub use checking::check;
-pub use fault::{CheckFault, Side, WitnessFault, WitnessKind};
+pub use fault::{CheckFault, Side, StepFault, WitnessFault, WitnessKind};
+pub use filling::needs_fill;
 pub use laws::{
     accepted_audit_is_yes, accepted_is_explained, accepted_is_yes, calls_are_timed,
     known_is_accepted, one_answer, one_list_of_calls, one_order, placed_one_by_one,
     refused_is_never, step_is_readable, taken_is_known,
 };
 pub use opening::{open_ledger, rules_of_declaration};
-pub use order::needs_fill;
+pub use plain_laws::{plain_call_has_one_step, plain_call_is_taken_bare};
 pub use reading::read_calls;
 pub use stamp::stamp_of;
-pub use step::Step;
+pub use step::{Given, Step};
+pub use turn::step_of_turn;
 pub use verdict::{Refused, Verdict};
 
 #[cfg(test)]

@@ -1,15 +1,15 @@
-//! Where the number of a call first stands in a list.
+//! Where a number, of a call or an item, first stands in a list.
 
 ghost use Rattle.std.specs.Prelude.{◌≡◌, ℤ, Option, None, Some, OnOk, IfOk, length, map};
 ghost use Rattle.kmipa_record.specs.Marks.{mark_of};
 ghost use Rattle.kmipa_check.specs.Numbers.{Indexes, IndexesBelow, Noted, NotedIfAny, end_number, is_noted, place_in};
 
 use crate::call::Call;
-use kmipa_record::{Mark, Turn};
+use kmipa_record::{Fill, Mark, Turn};
 use std::alloc::{AllocError, Global};
 use std::collections::HashMap;
 
-/// What may have the number of a call.
+/// What may have a number.
 pub trait Numbered {
     ghost number_in: { Self → Option ℤ };
 
@@ -31,6 +31,15 @@ impl Numbered for Turn {
 
     fn number(&self) -> Option<i32> {
         Some(self.call)
+    }
+}
+
+/// A fill has the number of its item.
+impl Numbered for Fill {
+    ghost number_in = { λ fill. Some fill.item };
+
+    fn number(&self) -> Option<i32> {
+        Some(self.item)
     }
 }
 

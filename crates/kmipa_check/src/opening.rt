@@ -10,7 +10,7 @@ ghost use Rattle.kmipa_store.specs.States.{state_of_journal};
 ghost use Rattle.kmipa_record.specs.Declarations.{AreDeclared, declaration_of};
 ghost use Rattle.kmipa_record.specs.Entries.{IsDeclarable, entry_of};
 ghost use Rattle.kmipa_msgs.specs.Messages.{row_of, rules_of};
-ghost use Rattle.kmipa_check.specs.Described.{dates_in, given_in};
+ghost use Rattle.kmipa_check.specs.Described.{dates_in};
 ghost use Rattle.kmipa_check.specs.Opening.{Declares, Places};
 ghost use Rattle.kmipa_check.specs.Runs.{rows_declared, rules_declared};
 ghost use Rattle.kmipa_check.specs.Verdicts.{AreKnown};
@@ -47,7 +47,7 @@ fn declare<L: Ledger>(alloc: Global, ledger: &mut L, entry: &Entry) -> Result<()
     ensures { Declares (L.state ledger.old) (entry_of entry.now) result (L.state ledger.new) }
 {
     let id = String::from_str(alloc, entry.id.as_str())?;
-    let given = given_of(alloc, &entry.attrs)?;
+    let given = entry.attrs.copy(alloc)?;
     let material = material_of(ledger, entry)?;
     let _place = ledger.add(Object {
         id,
@@ -74,26 +74,6 @@ fn material_of<L: Ledger>(ledger: &mut L, entry: &Entry) -> Result<Material, Sto
         }
         None => Ok(Material::Secret(secret)),
     }
-}
-
-/// The names, algorithm, length and mask among these attributes.
-fn given_of(alloc: Global, attrs: &AttrSet) -> Result<AttrSet, AllocError>
-    ensures { IfOk result (λ given. attributes_of given ≡ given_in (attributes_of attrs.now)) }
-{
-    let said = attrs.copy(alloc)?;
-    Ok(AttrSet {
-        names: said.names,
-        algorithm: said.algorithm,
-        length: said.length,
-        mask: said.mask,
-        object_type: None,
-        state: None,
-        initial: None,
-        activation: None,
-        deactivation: None,
-        destroy: None,
-        compromise: None,
-    })
 }
 
 /// The life of an object with the dates among these attributes.

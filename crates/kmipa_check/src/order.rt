@@ -1,28 +1,27 @@
 //! The order that a witness gives.
 
-ghost use Rattle.std.specs.Prelude.{◌≡◌, ◌≢◌, ◌<◌, pos, ◌≤ℤ◌, All, AllPairs, Some, length, map, IfOk, MatchOption, MatchResult};
-ghost use Rattle.kmipa_msgs.specs.Messages.{request_of, response_of};
+ghost use Rattle.std.specs.Prelude.{◌≡◌, ◌≢◌, ◌<◌, ◌^◌, pos, ◌≤ℤ◌, All, AllPairs, Some, length, map, IfOk, MatchResult};
 ghost use Rattle.kmipa_record.specs.Witnesses.{turn_of};
 ghost use Rattle.kmipa_check.specs.Calls.{call_of};
 ghost use Rattle.kmipa_check.specs.Numbers.{Indexes};
-ghost use Rattle.kmipa_check.specs.Ordering.{AreFormed, Decided, OrderFault, first_missing};
-ghost use Rattle.kmipa_check.specs.Orders.{GivenFault, IsFormed, IsOrder, TurnFault};
-ghost use Rattle.kmipa_check.specs.Steps.{IsAsRecorded, NeedsFill, step_of};
+ghost use Rattle.kmipa_check.specs.Ordering.{AreFormed, OrderFault, TurnRefused, fault_at, first_missing};
+ghost use Rattle.kmipa_check.specs.Orders.{IsFormed, IsOrder};
+ghost use Rattle.kmipa_check.specs.Steps.{step_of};
 
 use crate::call::Call;
-use crate::fault::{CheckFault, WitnessFault, WitnessKind};
+use crate::fault::{CheckFault, StepFault, WitnessFault, WitnessKind};
 use crate::numbers::FirstPlaces;
 use crate::step::Step;
-use kmipa_msgs::{Request, Response, is_wanted};
+use crate::turn::step_of_turn;
 use kmipa_record::Turn;
 use std::alloc::Global;
 
 /// The steps that the turns make with the calls, or the first fault of the witness. Where the calls have numbers of their own, from 1 on,
-/// the steps take each call once.
+/// the steps take each call once that has ended, and each open one at most once.
 pub fn steps_of<'b, 'a>(
     alloc: Global,
     calls: &'b [Call<'a>],
-    turns: &[Turn],
+    turns: &'a [Turn],
 ) -> Result<Vec<Step<'b, 'a>>, CheckFault>
     ensures formed { IfOk result (λ steps. AreFormed (map call_of calls.now) (map turn_of turns.now) (length turns.now) (map step_of steps.items)) }
     ensures ordered { All (λ call. pos 1 ≤ℤ call.number) calls.now → AllPairs (λ x y. x ≢ y) (map (λ call. call.number) (map call_of calls.now))
@@ -34,14 +33,9 @@ pub fn steps_of<'b, 'a>(
     let mut steps = Vec::new(alloc);
     let mut place = 0;
     'turns: while place < turns.len() {
-        match step_at(calls, turns, &known, &named, place) {
+        match step_at(alloc, calls, turns, &known, &named, place) {
             Ok(step) => steps.push(step)?,
-            Err(kind) => {
-                return Err(CheckFault::Witness(WitnessFault {
-                    at: place + 1,
-                    kind,
-                }));
-            }
+            Err(fault) => return Err(fault_at(place, fault)),
         }
         place += 1;
     }
@@ -54,77 +48,51 @@ pub fn steps_of<'b, 'a>(
     }
 }
 
-/// The step that the turn at a place makes, or the lowest fault of the turn.
+/// The step that the turn at a place makes, or the first fault of the turn.
 fn step_at<'b, 'a>(
+    alloc: Global,
     calls: &'b [Call<'a>],
-    turns: &[Turn],
+    turns: &'a [Turn],
     known: &FirstPlaces,
     named: &FirstPlaces,
     place: usize,
-) -> Result<Step<'b, 'a>, WitnessKind>
+) -> Result<Step<'b, 'a>, StepFault>
     requires within { place < length turns.now }
     requires known { Indexes (map (λ call. Some call.number) calls.now) known.now }
     requires named { Indexes (map (λ turn. Some turn.call) turns.now) named.now }
     ensures { MatchResult result (λ step. IsFormed (map call_of calls.now) (map turn_of turns.now) place (step_of step))
-        (TurnFault (map call_of calls.now) (map turn_of turns.now) place) }
+        (TurnRefused (map call_of calls.now) (map turn_of turns.now) place) }
 {
     let turn = &turns[place];
     let Some(at) = known.place(turn.call) else {
-        return Err(WitnessKind::UnknownCall);
+        return Err(StepFault::Unfit(WitnessKind::UnknownCall));
     };
     if !named.is_first(turn.call, place) {
-        return Err(WitnessKind::Twice);
+        return Err(StepFault::Unfit(WitnessKind::Twice));
     }
-    let call = &calls[at];
-    match given_fault(turn, call) {
-        Some(kind) => Err(kind),
-        None => Ok(Step::recorded(call)),
-    }
+    step_of_turn(alloc, &calls[at], turn)
 }
 
-/// The first fault of what a turn gives to a call.
-fn given_fault(turn: &Turn, call: &Call) -> Option<WitnessKind>
-    ensures { MatchOption result (IsAsRecorded (request_of call.now.request) (response_of call.now.response) (turn_of turn.now))
-        (GivenFault (call_of call.now) (turn_of turn.now)) }
+/// The fault of a witness whose turn at a place, counted from 0, makes no step.
+fn fault_at(place: usize, fault: StepFault) -> CheckFault
+    requires { place < 2 ^ 63 }
+    ensures { result ≡ fault_at place fault }
 {
-    if turn.answer.is_some() {
-        return Some(WitnessKind::AnswerNotWanted);
+    match fault {
+        StepFault::Unfit(kind) => CheckFault::Witness(WitnessFault {
+            at: place + 1,
+            kind,
+        }),
+        StepFault::Memory => CheckFault::Memory,
     }
-    if !turn.places.is_empty() {
-        return Some(WitnessKind::OrderNotWanted);
-    }
-    if !turn.fills.is_empty() {
-        return Some(WitnessKind::FillNotWanted);
-    }
-    if needs_fill(&call.request, &call.response) {
-        return Some(WitnessKind::FillMissing);
-    }
-    None
 }
 
-/// Whether a call waits for a payload that the witness has to give.
-pub fn needs_fill(request: &Request, response: &Response) -> bool
-    ensures { Decided result (NeedsFill (request_of request.now) (response_of response.now)) }
-{
-    let mut place = 0;
-    'items: while place < request.items.len() {
-        if place >= response.items.len() {
-            return false;
-        }
-        if is_wanted(&request.items[place], &response.items[place]) {
-            return true;
-        }
-        place += 1;
-    }
-    false
-}
-
-/// The number of the first call that no turn names.
+/// The number of the first call that has ended and that no turn names.
 fn left_out(calls: &[Call], named: &FirstPlaces) -> Option<i32>
     ensures { result ≡ first_missing named.now (map call_of calls.now) }
 {
     for call in calls {
-        if named.place(call.number).is_none() {
+        if call.end.is_some() && named.place(call.number).is_none() {
             return Some(call.number);
         }
     }

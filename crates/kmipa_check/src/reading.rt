@@ -6,10 +6,10 @@ ghost use Rattle.kmipa_record.specs.Transcripts.{transcript_of};
 ghost use Rattle.kmipa_msgs.specs.Messages.{request_of};
 ghost use Rattle.kmipa_check.specs.Calls.{AreCalls, AreTimed, IsRecorded, call_of};
 ghost use Rattle.kmipa_check.specs.Numbers.{Indexes, end_number};
-ghost use Rattle.kmipa_check.specs.CallReading.{CallsFault, ItemRead, MarkRead, RequestRead, ResponseRead, no_message};
+ghost use Rattle.kmipa_check.specs.CallReading.{AnswerRead, CallsFault, EndRead, ItemRead, MarkRead, RequestRead, ResponseRead, no_message};
 
 use crate::call::Call;
-use crate::fault::{CheckFault, Side};
+use crate::fault::{CheckFault, Side, StepFault, WitnessKind};
 use crate::numbers::FirstPlaces;
 use kmipa_msgs::{Outside, OutsideKind, ReadFault, Request, Response, read_request, read_response};
 use kmipa_record::{Begin, End, Mark, Transcript};
@@ -18,7 +18,7 @@ use std::alloc::Global;
 
 /// The calls of a transcript, by their begin marks; or the first message that is outside the profile, request before response.
 ///
-/// A begin mark without an end mark, of which a whole transcript has none, is left out.
+/// A call whose begin mark no end mark answers is open: it has no response.
 pub fn read_calls<'a>(
     alloc: Global,
     transcript: &'a Transcript,
@@ -54,21 +54,44 @@ fn read_mark<'a>(
     let Mark::Begin(begin) = &marks[place] else {
         return Ok(None);
     };
-    let Some(end) = ends.place(begin.call) else {
-        return Ok(None);
-    };
-    let Mark::End(answered) = &marks[end] else {
-        return Ok(None);
-    };
     let request = request_in(alloc, begin)?;
-    let response = response_in(alloc, answered, &request)?;
-    Ok(Some(Call {
-        number: begin.call,
-        begin: place,
-        end,
-        request,
-        response,
-    }))
+    match read_end(alloc, marks, ends, begin.call, &request)? {
+        Some((end, response)) => Ok(Some(Call {
+            number: begin.call,
+            begin: place,
+            end: Some(end),
+            request,
+            response: Some(response),
+        })),
+        None => Ok(Some(Call {
+            number: begin.call,
+            begin: place,
+            end: None,
+            request,
+            response: None,
+        })),
+    }
+}
+
+/// The place of the end mark of the call of this number, and its response; `None` of an open call.
+fn read_end<'a>(
+    alloc: Global,
+    marks: &'a [Mark],
+    ends: &FirstPlaces,
+    number: i32,
+    request: &Request,
+) -> Result<Option<(usize, Response<'a>)>, CheckFault>
+    requires { Indexes (map (λ mark. end_number (mark_of mark)) marks.now) ends.now }
+    ensures { EndRead (map mark_of marks.now) number (request_of request.now) result }
+{
+    let Some(place) = ends.place(number) else {
+        return Ok(None);
+    };
+    let Mark::End(end) = &marks[place] else {
+        return Ok(None);
+    };
+    let response = response_in(alloc, end, request)?;
+    Ok(Some((place, response)))
 }
 
 /// The request of a begin mark.
@@ -104,6 +127,28 @@ pub fn response_in<'a>(
             Err(CheckFault::Outside(end.call, Side::Server, outside))
         }
         Err(ReadFault::Memory) => Err(CheckFault::Memory),
+    }
+}
+
+/// What the bytes of an answer say to a request.
+pub fn answer_in<'a>(
+    alloc: Global,
+    answer: &'a [u8],
+    request: &Request,
+) -> Result<Response<'a>, StepFault>
+    ensures { AnswerRead (request_of request.now) answer.now result }
+{
+    let Ok(item) = whole_item(alloc, answer) else {
+        // Only want of memory is told.
+        return Err(StepFault::Memory);
+    };
+    let Some(view) = item else {
+        return Err(StepFault::Unfit(WitnessKind::AnswerForm));
+    };
+    match read_response(alloc, &view, request) {
+        Ok(response) => Ok(response),
+        Err(ReadFault::Outside(_)) => Err(StepFault::Unfit(WitnessKind::AnswerForm)),
+        Err(ReadFault::Memory) => Err(StepFault::Memory),
     }
 }
 

@@ -70,7 +70,14 @@ fn take_turn<L: Ledger>(
     if runs_back(steps, turn) {
         return Ok(Some(refused_turn(turn, step, Why::StampRunsBack)));
     }
-    match take_call(alloc, ledger, rules, step.request, step.response) {
+    match take_call(
+        alloc,
+        ledger,
+        rules,
+        step.request,
+        step.response.response(),
+        None,
+    ) {
         Ok(()) => Ok(None),
         Err(refusal) => refused_call(turn, step, refusal),
     }
@@ -125,7 +132,7 @@ fn runs_back(steps: &[Step], turn: usize) -> bool
 }
 
 fn stamp_of(step: &Step) -> i64
-    ensures { result ≡ step.now.response.now.stamp }
+    ensures { result ≡ (step_of step.now).response.stamp }
 {
-    step.response.stamp
+    step.response.response().stamp
 }

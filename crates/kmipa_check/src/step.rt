@@ -1,6 +1,5 @@
 //! What a turn takes.
 
-use crate::call::Call;
 use kmipa_msgs::{Request, Response};
 
 /// A call that a turn of a witness takes, and the response that it is to give.
@@ -10,28 +9,33 @@ pub struct Step<'b, 'a> {
     pub number: i32,
     /// The place of its begin mark among the marks, from 0.
     pub begin: usize,
-    /// The place of its end mark.
+    /// The place of its end mark; none of a call that is open.
     pub end: Option<usize>,
     pub request: &'b Request<'a>,
-    pub response: &'b Response<'a>,
+    pub response: Given<'b, 'a>,
 }
 
-impl<'b, 'a> Step<'b, 'a> {
+/// The response that a step is to give.
+#[derive(Debug, Drop)]
+pub enum Given<'b, 'a> {
+    /// As it was recorded.
+    Recorded(&'b Response<'a>),
+    /// As the turn makes it: an answer that it gives, or payloads that it fills in.
+    FromTurn(Response<'a>),
+}
+
+impl<'b, 'a> Given<'b, 'a> {
     ghost use Rattle.std.specs.Prelude.{◌≡◌};
     ghost use Rattle.kmipa_msgs.specs.Messages.{response_of};
-    ghost use Rattle.kmipa_check.specs.Calls.{call_of};
-    ghost use Rattle.kmipa_check.specs.Steps.{step_of, step_with};
+    ghost use Rattle.kmipa_check.specs.Steps.{given_of};
 
-    /// The call, taken with its recorded response.
-    pub fn recorded(call: &'b Call<'a>) -> Step<'b, 'a>
-        ensures { step_of result ≡ step_with (call_of call.now) (response_of call.now.response) }
+    /// The response itself.
+    pub fn response(&self) -> &Response<'a>
+        ensures { response_of result.now ≡ given_of self.now }
     {
-        Step {
-            number: call.number,
-            begin: call.begin,
-            end: Some(call.end),
-            request: &call.request,
-            response: &call.response,
+        match self {
+            Given::Recorded(response) => response,
+            Given::FromTurn(response) => response,
         }
     }
 }

@@ -4,18 +4,21 @@ use mir.Syntax.{w32}
 use Rattle.std.proofs.lemmas.Int.{to_z-of_z}
 use Rattle.std.specs.Int.{FitsUnsignedBits}
 use Rattle.kmipa_record.specs.Witnesses.{turn_of}
+use Rattle.kmipa_check.specs.declared.fault.CheckFault.{CheckFault}
 use Rattle.kmipa_check.specs.declared.step.Step.{Step}
 use Rattle.kmipa_check.specs.Calls.{call_of}
 use Rattle.kmipa_check.specs.Steps.{StepOf, step_of}
-use Rattle.kmipa_check.specs.Orders.{in_turn}
-use Rattle.kmipa_check.specs.Ordering.{AreFormed}
-use Rattle.kmipa_check.proofs.OrderLemmas.{formed_more, formed_below, formed_whole, pushed_steps}
+use Rattle.kmipa_check.specs.Ordering.{AreFormed, OrderFault}
+use Rattle.kmipa_check.proofs.OrderLemmas.{fault_told, formed_more, formed_below, formed_whole, pushed_steps}
 use Rattle.kmipa_check.proofs.WholeOrderLemmas.{left_out_told, missing_counted, told_number, order_told}
 use Rattle.kmipa_check.proofs.order.steps_of.Goals as goal
 
 pub returns-in-Err-clause-ordered : goal.returns-in-Err-clause-ordered
 returns-in-Err-clause-ordered c = λ numbered once.
-    in_turn c.turns.place (formed_below (map call_of c.args.calls.now) (map turn_of c.args.turns.now) c.turns.place (map step_of c.turns.steps.items) c.turns.invariant) c.in-Err.ensures refl
+    let P : CheckFault → Type 0 = λ f. OrderFault (map call_of c.args.calls.now) (map turn_of c.args.turns.now) f in
+    subst P (sym c.fault_at.ensures)
+    (fault_told (map call_of c.args.calls.now) (map turn_of c.args.turns.now) c.turns.place c.in-Err.fault
+    (formed_below (map call_of c.args.calls.now) (map turn_of c.args.turns.now) c.turns.place (map step_of c.turns.steps.items) c.turns.invariant) c.in-Err.ensures)
 
 pub turns-preserved : goal.turns-preserved
 turns-preserved c =

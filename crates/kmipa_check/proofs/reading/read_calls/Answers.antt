@@ -10,7 +10,7 @@ use Rattle.kmipa_check.proofs.reading.read_calls.Goals as goal
 use Rattle.kmipa_check.proofs.reading.read_calls.Goals.{in-Some+in_ok-push, in_default}
 
 pub returns-in_err-call-clause-read : goal.returns-in_err-call-clause-read
-returns-in_err-call-clause-read c =
+returns-in_err-call-clause-read c recorded =
     let e : c.from_residual-in_err-call.result ≡ Err c.in_err-call.field-0.0 = search rules in
     read_err (λ (calls : Vec Call Global). AreCalls (transcript_of c.args.transcript.now) (map call_of calls.items)) c.deref-in-marks.result.now c.args.transcript.now.marks.items c.marks.place
     (map call_of c.marks.calls.items) c.from_residual-in_err-call.result c.in_err-call.field-0.0 c.deref-in-marks.ensures.value e c.in_err-call.ensures c.marks.invariant
@@ -26,4 +26,4 @@ marks-preserved c = elim c.match-branch-3.branch [
 pub returns-clause-timed : goal.returns-clause-timed
 returns-clause-timed c recorded =
     calls_are_timed_lem (map mark_of c.args.transcript.now.marks.items) recorded (map call_of c.marks.calls.items)
-    (read_all (map mark_of c.args.transcript.now.marks.items) c.marks.place (map call_of c.marks.calls.items) (omega (arith, c.marks-test.false, length-map c.args.transcript.now.marks.items mark_of)) c.marks.invariant recorded)
+    (read_all (map mark_of c.args.transcript.now.marks.items) c.marks.place (map call_of c.marks.calls.items) (omega (arith, c.marks-test.false, length-map c.args.transcript.now.marks.items mark_of)) c.marks.invariant)

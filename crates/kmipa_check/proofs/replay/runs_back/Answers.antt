@@ -1,5 +1,6 @@
 use Rattle.std.proofs.Common.{◌∙◌, FitsSigned, rules}
 use Rattle.std.proofs.lemmas.Int.{to_z-of_z}
+use Rattle.kmipa_check.specs.Steps.{step_of}
 use Rattle.kmipa_check.proofs.TurnLemmas.{back_decided, less_decided_of}
 use mir.Syntax.{w64}
 use mir.Val.{to_z, of_z}
@@ -10,5 +11,5 @@ returns c = λ x at.
     let now : FitsSigned w64 c.stamp_of-now.result = search rules in
     let last : FitsSigned w64 c.stamp_of-last.result = search rules in
     back_decided c.args.steps.now c.args.turn c.index-steps-turn.result c.index-steps-turn-2.result c.requires.below c.if-turn-eq0.false c.index-steps-turn.is c.index-steps-turn-2.is x at _
-    (less_decided_of (to_z w64 (of_z w64 c.stamp_of-now.result)) (to_z w64 (of_z w64 c.stamp_of-last.result)) c.index-steps-turn.result.response.now.stamp c.index-steps-turn-2.result.response.now.stamp
+    (less_decided_of (to_z w64 (of_z w64 c.stamp_of-now.result)) (to_z w64 (of_z w64 c.stamp_of-last.result)) (step_of c.index-steps-turn.result).response.stamp (step_of c.index-steps-turn-2.result).response.stamp
     (to_z-of_z w64 c.stamp_of-now.result now ∙ c.stamp_of-now.ensures) (to_z-of_z w64 c.stamp_of-last.result last ∙ c.stamp_of-last.ensures))

@@ -26,7 +26,7 @@ marks-preserved c =
 
 pub returns : goal.returns
 returns c = λ place message at.
-    let within = at_within (map mark_of c.args.marks.now) place _ at.1 in
+    let within = at_within (map mark_of c.args.marks.now) place _ at.there in
     let fits : SFits w32 c.args.call = search rules in
     let same = to_z-of_z w32 c.args.call fits in
     c.marks.invariant place (omega (arith, within, length-map c.args.marks.now mark_of, c.marks-test.false)) message (rw same at)
