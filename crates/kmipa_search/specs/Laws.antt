@@ -1,0 +1,34 @@
+-- Laws: where a search decides, and what the words of its promise come to.
+use Rattle.std.specs.Prelude.{◌≡◌, ◌≤◌, ◌⊎◌, ◌↔◌, ℕ, Bool, true, false, List, length}
+use Rattle.kmipa_record.specs.Marks.{MarkOf, AreRecorded}
+use Rattle.kmipa_record.specs.Declarations.{DeclarationOf}
+use Rattle.kmipa_check.specs.Calls.{CallOf, AreCalls}
+use Rattle.kmipa_check.specs.Steps.{StepOf}
+use Rattle.kmipa_check.specs.Runs.{IsExplained}
+use Rattle.kmipa_check.specs.Ordering.{Decided}
+use Rattle.kmipa_search.specs.Plain.{ArePlain, IsForced}
+use Rattle.kmipa_search.specs.Next.{IsNext, is_next, weight}
+use Rattle.kmipa_search.specs.Found.{Finds}
+use Rattle.kmipa_search.specs.declared.found.Found.{Found}
+use Rattle.kmipa_search.specs.declared.found.Found.TheVariants.{Yes, GaveUp}
+
+abbrev pub is_yes : Found → Bool
+is_yes (Yes witness count) = true
+is_yes (GaveUp count) = false
+
+-- the budget is enough for every try, or, of forced calls, to try each once
+abbrev pub IsEnough : List CallOf → ℕ → Type 0
+IsEnough calls budget = ((steps : List StepOf) × ArePlain calls steps × (weight steps ≤ budget)) ⊎ (IsForced calls × (length calls ≤ budget))
+
+-- then a search says yes exactly where the transcript is explained
+abbrev pub EnoughDecides : Type 0
+EnoughDecides = (marks : List MarkOf) (declared : DeclarationOf) (calls : List CallOf) (budget : ℕ) (found : Found)
+    → AreRecorded marks → AreCalls marks calls → IsEnough calls budget → Finds marks declared budget found → Decided (is_yes found) (IsExplained marks declared)
+
+-- of forced calls the weight is at most their number
+abbrev pub ForcedIsLight : Type 0
+ForcedIsLight = (calls : List CallOf) (f : IsForced calls) → weight f.steps ≤ length calls
+
+-- the test by which tries are counted is true exactly of what may be next
+abbrev pub NextIsTested : Type 0
+NextIsTested = (steps : List StepOf) (taken : List ℕ) (place : ℕ) → IsNext steps taken place ↔ (is_next steps taken place ≡ true)

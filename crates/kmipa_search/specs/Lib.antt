@@ -1,0 +1,14 @@
+pub mod Plain
+pub mod Next
+pub mod Found
+pub mod Forced
+pub mod Laws
+pub mod LawsOfCheck
+pub mod Candidates
+pub mod Progress
+pub mod Outcomes
+pub mod Confirming
+pub mod Links
+pub mod Ranks
+pub mod Remaining
+pub mod Guessing

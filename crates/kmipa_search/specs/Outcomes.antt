@@ -1,0 +1,22 @@
+-- What a search of calls comes to. Not promised: `Found` says what a search tells.
+use Rattle.std.specs.Prelude.{ℕ, List, Option, None, Vec, Result, Ok, Err, option_map}
+use Rattle.std.specs.declared.alloc.Global.{Global}
+use Rattle.kmipa_record.specs.Declarations.{DeclarationOf}
+use Rattle.kmipa_check.specs.Steps.{StepOf}
+use Rattle.kmipa_check.specs.declared.fault.CheckFault.{CheckFault}
+use Rattle.kmipa_check.specs.declared.fault.CheckFault.TheVariants.{Outside, Witness, Memory}
+use Rattle.kmipa_batch.specs.declared.refusal.CallRefusal.{CallRefusal}
+use Rattle.kmipa_batch.specs.declared.refusal.CallRefusal.TheVariants as refusal
+use Rattle.kmipa_search.specs.Progress.{ComesTo}
+use Rattle.kmipa_search.specs.declared.order.Outcome.{Outcome}
+
+abbrev pub TellsOutcome : DeclarationOf → List StepOf → ℕ → Result Outcome CheckFault → Type 0
+TellsOutcome declared calls budget (Ok l) = ComesTo declared calls budget (option_map (λ (v : Vec ℕ Global). v.items) l.order) l.steps
+TellsOutcome declared calls budget (Err Memory) = Unit {0}
+TellsOutcome declared calls budget (Err (Outside number side o)) = ⊥
+TellsOutcome declared calls budget (Err (Witness f)) = ⊥
+
+-- what is told of a call that was not taken
+abbrev pub not_taken : CallRefusal → Result (Option ℕ) CheckFault
+not_taken (refusal.Impossible item why) = Ok None
+not_taken refusal.Memory = Err Memory

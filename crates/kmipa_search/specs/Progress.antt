@@ -1,0 +1,150 @@
+-- A search on its way: the places taken, the newest first. Not promised: `Found` says what a search tells.
+use Rattle.std.specs.Prelude.{◌≡◌, ◌≢◌, ◌<◌, ◌≤◌, ◌⊎◌, ◌+◌, ◌-◌, ◌++◌, ℕ, pos, suc, true, cond, List, [], ◌∷◌, map, length, slice_index_or, AllPairs, Contains, IsPermutation, Option, Some, None, Result, Ok, Err}
+use Rattle.kmipa_object.specs.Inventory.{Thing}
+use Rattle.kmipa_store.specs.Ledger.{LedgerState, Meaning}
+use Rattle.kmipa_store.specs.Choices.{IsSound}
+use Rattle.kmipa_record.specs.Declarations.{DeclarationOf}
+use Rattle.kmipa_msgs.specs.Messages.{RulesOf}
+use Rattle.kmipa_msgs.specs.declared.request.BatchOption.TheVariants.{Stop}
+use Rattle.kmipa_ops.specs.declared.why.Why.{Why}
+use Rattle.kmipa_batch.specs.Readable.{IsReadableCall}
+use Rattle.kmipa_batch.specs.Refusals.{CallExplains, CallRefuted}
+use Rattle.kmipa_check.specs.Steps.{StepOf, step_with}
+use Rattle.kmipa_check.specs.Described.{Describes}
+use Rattle.kmipa_check.specs.Runs.{Before, IsPlaced, Linked, rules_declared}
+use Rattle.kmipa_check.specs.Verdicts.{AreKnown}
+use Rattle.kmipa_check.specs.Laws.{TakenIsKnown, RefusedIsNever}
+use Rattle.kmipa_check.specs.declared.fault.CheckFault.{CheckFault}
+use Rattle.kmipa_check.specs.declared.fault.CheckFault.TheVariants.{Outside, Witness, Memory}
+use Rattle.kmipa_search.specs.Next.{IsNext, is_next, sum_from, weigh, weight}
+
+abbrev pub no_step : StepOf
+no_step = step_with (record { number = pos 0; begin = 0; end = None; request = record { option = Stop; ordered = true; items = [] }; response = None }) (record { stamp = pos 0; items = [] })
+
+abbrev pub step_at : List StepOf → ℕ → StepOf
+step_at calls place = slice_index_or calls place no_step
+
+-- the steps at these places
+abbrev pub ordered : List StepOf → List ℕ → List StepOf
+ordered calls places = map (λ place. step_at calls place) places
+
+-- each step can be judged
+abbrev pub AllReadable : List StepOf → Type 0
+AllReadable calls = (c : StepOf) → Contains calls c → IsReadableCall c.request c.response
+
+-- steps that begin in their order
+abbrev pub AreBegun : List StepOf → Type 0
+AreBegun calls = (p q : ℕ) → p < q → q < length calls → (step_at calls p).begin < (step_at calls q).begin
+
+-- a run of these steps in this order, from this inventory
+pub record TakesAll (rules : RulesOf) (calls : List StepOf) (start : List Thing) (order : List StepOf) : Type 0 where
+  pub once : IsPermutation calls order
+  pub placed : IsPlaced order
+  pub last : List Thing
+  pub linked : Linked rules start order last
+
+-- some described inventory and some order of these steps have a run
+pub record HaveRun (declared : DeclarationOf) (calls : List StepOf) : Type 0 where
+  pub start : List Thing
+  pub described : Describes declared start
+  pub order : List StepOf
+  pub run : TakesAll (rules_declared declared) calls start order
+
+-- an order of these steps that can be taken, and what is known behind it
+pub record CanBeTaken (declared : DeclarationOf) (calls order : List StepOf) : Type 0 where
+  pub once : IsPermutation calls order
+  pub placed : IsPlaced order
+  pub known : Meaning
+  pub knows : AreKnown declared order known
+  pub sound : IsSound known
+
+-- the calls taken, the oldest first
+abbrev pub so_far : List StepOf → List ℕ → List StepOf
+so_far calls [] = []
+so_far calls (p ∷ taken) = so_far calls taken ++ step_at calls p ∷ []
+
+-- no run of the calls from a described inventory begins with those taken
+abbrev pub IsDead : DeclarationOf → List StepOf → List ℕ → Type 0
+IsDead declared calls taken = (start : List Thing) (order rest : List StepOf)
+    → Describes declared start → TakesAll (rules_declared declared) calls start order → order ≡ so_far calls taken ++ rest → ⊥
+
+-- each was next when it was taken
+abbrev pub AreNext : List StepOf → List ℕ → Type 0
+AreNext calls [] = Unit {0}
+AreNext calls (p ∷ taken) = IsNext calls taken p × AreNext calls taken
+
+-- no next call below a place leads to a run
+abbrev pub ClearedHere : DeclarationOf → List StepOf → List ℕ → ℕ → Type 0
+ClearedHere declared calls taken from = (p : ℕ) → p < from → IsNext calls taken p → IsDead declared calls (p ∷ taken)
+
+-- nor, at each call taken, one below it
+abbrev pub ClearedBehind : DeclarationOf → List StepOf → List ℕ → Type 0
+ClearedBehind declared calls [] = Unit {0}
+ClearedBehind declared calls (p ∷ taken) = ClearedHere declared calls taken p × ClearedBehind declared calls taken
+
+-- the ledger knows what the calls taken leave, and at each mark what those before it left
+abbrev pub KnowsAll : DeclarationOf → List StepOf → List ℕ → Meaning → List Meaning → Type 0
+KnowsAll declared calls [] now marks = AreKnown declared [] now × IsSound now
+KnowsAll declared calls (p ∷ taken) now [] = ⊥
+KnowsAll declared calls (p ∷ taken) now (m ∷ marks) = (AreKnown declared (so_far calls (p ∷ taken)) now × IsSound now) × KnowsAll declared calls taken m marks
+
+-- what the tries of one call come to
+abbrev pub cost : List StepOf → List ℕ → ℕ → ℕ
+cost calls taken place = cond (is_next calls taken place) (suc (weigh (length calls - suc (length taken)) calls (place ∷ taken))) 0
+
+-- what is left to be tried from a place on
+abbrev pub owed_here : List StepOf → List ℕ → ℕ → ℕ
+owed_here calls taken from = sum_from (cost calls taken) (length calls - from) from
+
+-- and at each call taken behind it
+abbrev pub owed_behind : List StepOf → List ℕ → ℕ
+owed_behind calls [] = 0
+owed_behind calls (p ∷ taken) = owed_here calls taken (suc p) + owed_behind calls taken
+
+-- a search that took these calls, and has tried the next ones below a place
+pub record Searching (declared : DeclarationOf) (calls : List StepOf) (taken : List ℕ) (from steps : ℕ) (now : Meaning) (marks : List Meaning) : Type 0 where
+  pub knows : KnowsAll declared calls taken now marks
+  pub nexts : AreNext calls taken
+  pub here : ClearedHere declared calls taken from
+  pub behind : ClearedBehind declared calls taken
+  pub paid : length taken ≤ steps
+  pub owed : length taken < length calls → steps + owed_here calls taken from + owed_behind calls taken ≤ weight calls
+
+-- the next call from a place on, or that there is none
+abbrev pub IsNextFrom : List StepOf → List ℕ → ℕ → Option ℕ → Type 0
+IsNextFrom calls taken from None = (q : ℕ) → from ≤ q → IsNext calls taken q → ⊥
+IsNextFrom calls taken from (Some p) = (from ≤ p) × IsNext calls taken p × ((q : ℕ) → from ≤ q → q < p → IsNext calls taken q → ⊥)
+
+-- no step is before itself
+abbrev pub AreTimed : List StepOf → Type 0
+AreTimed calls = (c : StepOf) → Contains calls c → Before c c → ⊥
+
+-- What a search stands on: each step stands once, they begin in their order, none is before itself, the ledger knows what is declared, and
+-- the laws of steps that are taken and of those that are refused.
+pub record Opens (declared : DeclarationOf) (rules : RulesOf) (calls : List StepOf) (m : Meaning) : Type 0 where
+  pub rules_are : rules ≡ rules_declared declared
+  pub once : AllPairs (λ (a b : StepOf). a ≢ b) calls
+  pub begun : AreBegun calls
+  pub timed : AreTimed calls
+  pub known : AreKnown declared [] m
+  pub taken : TakenIsKnown
+  pub refused : RefusedIsNever
+
+-- what trying a call comes to: taken behind a new mark, whose depth is told; or not, and nothing is changed
+abbrev pub CallTried : RulesOf → LedgerState → StepOf → Result (Option ℕ) CheckFault → LedgerState → Type 0
+CallTried rules s c (Ok (Some depth)) u = CallExplains rules s.now c.request c.response u.now × IsSound u.now × (u.marks ≡ s.now ∷ s.marks) × (depth ≡ length u.marks)
+CallTried rules s c (Ok None) u = ((item : ℕ) × (why : Why) × CallRefuted rules s.now c.request c.response item why) × (u ≡ s)
+CallTried rules s c (Err Memory) u = Unit {0}
+CallTried rules s c (Err (Outside number side o)) u = ⊥
+CallTried rules s c (Err (Witness f)) u = ⊥
+
+-- what a search of the calls comes to: the places of an order that can be taken, or none, and the steps
+abbrev pub ComesTo : DeclarationOf → List StepOf → ℕ → Option (List ℕ) → ℕ → Type 0
+ComesTo declared calls budget (Some order) steps = (steps ≤ budget) × (length calls ≤ steps) × CanBeTaken declared calls (ordered calls order)
+ComesTo declared calls budget None steps = (steps ≤ budget) × ((steps < budget) ⊎ (weight calls ≤ budget) → HaveRun declared calls → ⊥)
+
+-- the ledger is sound at each mark
+abbrev pub AreSoundBehind : List ℕ → List Meaning → Type 0
+AreSoundBehind [] marks = Unit {0}
+AreSoundBehind (p ∷ taken) [] = ⊥
+AreSoundBehind (p ∷ taken) (m ∷ marks) = IsSound m × AreSoundBehind taken marks

@@ -1,0 +1,12 @@
+//! What a search finds.
+
+use kmipa_record::Witness;
+
+/// What a search finds.
+#[derive(Debug, Drop)]
+pub enum Found {
+    /// A witness that a check accepts, and how many calls were tried.
+    Yes(Witness, u64),
+    /// No witness, and how many calls were tried.
+    GaveUp(u64),
+}

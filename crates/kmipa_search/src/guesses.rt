@@ -1,0 +1,97 @@
+//! What a search fills in where a response leaves a payload out: one guess for each.
+
+ghost use Rattle.std.specs.Prelude.{◌≡◌, IfOk};
+
+use crate::candidate::Candidate;
+use kmipa_attrs::Filter;
+use kmipa_msgs::{Ask, Asked, is_wanted};
+use kmipa_ops::{Fit, matches};
+use kmipa_record::{Fill, Turn};
+use kmipa_store::Ledger;
+use kmipa_ttlv::{Item, Tag};
+use std::alloc::{AllocError, Global};
+
+const RESPONSE_PAYLOAD: u32 = 0x42_007C;
+
+const UNIQUE_IDENTIFIER: u32 = 0x42_0094;
+
+/// The turn that is tried of a call: it fills in a guess where the call waits for a payload, and gives nothing else.
+pub fn guessed_turn<L: Ledger>(
+    alloc: Global,
+    ledger: &L,
+    call: &Candidate,
+) -> Result<Turn, AllocError>
+    ensures { IfOk result (λ turn. turn.call ≡ call.now.call.now.number) }
+{
+    let asks = call.request.items.as_slice();
+    let answers = call.response.items.as_slice();
+    let count = asks.len().min(answers.len());
+    let mut fills = Vec::new(alloc);
+    let mut place = 0;
+    'items: while place < count {
+        if is_wanted(&asks[place], &answers[place]) {
+            let item = i32::try_from(place + 1).unwrap_or(0);
+            let payload = guessed_payload(alloc, ledger, &asks[place], item)?;
+            fills.push(Fill { item, payload })?;
+        }
+        place += 1;
+    }
+    Ok(Turn {
+        call: call.call.number,
+        answer: None,
+        places: Vec::new(alloc),
+        fills,
+    })
+}
+
+/// The payload that is guessed: of a Locate each object that has to be listed, in the order of the inventory; of a Create or Register at
+/// item 2 the identifier `undone-2`.
+fn guessed_payload<L: Ledger>(
+    alloc: Global,
+    ledger: &L,
+    ask: &Ask,
+    item: i32,
+) -> Result<Item, AllocError> {
+    let ids = match &ask.asked {
+        Asked::Locate(locate) => fitting(alloc, ledger, &locate.filter)?,
+        _ => undone(alloc, item)?,
+    };
+    let tag = Tag {
+        number: RESPONSE_PAYLOAD,
+    };
+    Ok(Item::structure(tag, ids))
+}
+
+/// The identifier of an object that was made and undone.
+fn undone(alloc: Global, item: i32) -> Result<Vec<Item>, AllocError> {
+    let id = format!(in alloc; "undone-{item}")?;
+    let mut ids = Vec::new(alloc);
+    ids.push(identifier(alloc, id.as_str())?)?;
+    Ok(ids)
+}
+
+/// The identifiers of the objects that have to be listed, as many as may be.
+fn fitting<L: Ledger>(alloc: Global, ledger: &L, filter: &Filter) -> Result<Vec<Item>, AllocError> {
+    let count = ledger.len();
+    let most = match filter.maximum {
+        Some(most) => usize::try_from(most).unwrap_or(0),
+        None => count,
+    };
+    let mut ids = Vec::new(alloc);
+    let mut place = 0;
+    'objects: while place < count {
+        let object = ledger.at(place);
+        if ids.len() < most && matches(object, filter, ledger.state(place)) == Fit::Must {
+            ids.push(identifier(alloc, object.id.as_str())?)?;
+        }
+        place += 1;
+    }
+    Ok(ids)
+}
+
+fn identifier(alloc: Global, id: &str) -> Result<Item, AllocError> {
+    let tag = Tag {
+        number: UNIQUE_IDENTIFIER,
+    };
+    Item::text(alloc, tag, id)
+}

@@ -1,0 +1,149 @@
+//! The search for an order where some call waits for a payload.
+
+ghost use Rattle.std.specs.Prelude.{◌≡◌, ◌≤◌, IfOk, length, map};
+ghost use Rattle.kmipa_store.specs.Choices.{IsSound};
+ghost use Rattle.kmipa_check.specs.Calls.{call_of};
+ghost use Rattle.kmipa_search.specs.Guessing.{AreRecordedCalls, GuessTried, IsBounded, IsRecordedCall, TurnTried};
+
+use crate::candidate::Candidate;
+use crate::check_laws::check_laws;
+use crate::guesses::guessed_turn;
+use crate::order::not_taken;
+use crate::remaining::Remaining;
+use kmipa_batch::take_call;
+use kmipa_check::{Call, CheckFault, StepFault, step_of_turn};
+use kmipa_msgs::Rules;
+use kmipa_record::Turn;
+use kmipa_store::{Ledger, Mark};
+use std::alloc::Global;
+
+/// What a search with guesses comes to.
+#[derive(Drop)]
+pub struct Guessed {
+    /// The turns of all calls, in an order in which they were taken; none where the search gave up.
+    pub turns: Option<Vec<Turn>>,
+    /// How many calls were tried.
+    pub steps: u64,
+}
+
+/// Takes the calls one after the other, each time the first next one that leads on with its guesses, depth first.
+pub fn guess_order<L: Ledger>(
+    alloc: Global,
+    ledger: &mut L,
+    rules: &Rules,
+    calls: &[Candidate],
+    budget: u64,
+) -> Result<Guessed, CheckFault>
+    requires sound { IsSound (L.state ledger.old).now }
+    requires recorded { AreRecordedCalls calls.now }
+    ensures { IfOk result (IsBounded budget) }
+{
+    let mut remaining = Remaining::new(alloc, calls)?;
+    let mut path = Vec::new(alloc);
+    let mut turns = Vec::new(alloc);
+    let mut from = 0;
+    let mut depth = 0;
+    let mut steps = 0;
+    'tries: while path.len() < calls.len() {
+        match remaining.next(calls, from) {
+            Some(place) => {
+                if steps == budget {
+                    return Ok(Guessed { turns: None, steps });
+                }
+                steps += 1;
+                match try_guess(alloc, ledger, rules, &calls[place])? {
+                    Some(taken) => {
+                        turns.push(taken.turn)?;
+                        path.push(place)?;
+                        remaining.take(calls, place);
+                        depth = taken.depth;
+                        from = 0;
+                    }
+                    None => from = place + 1,
+                }
+            }
+            None => {
+                let Some(place) = path.pop() else {
+                    return Ok(Guessed { turns: None, steps });
+                };
+                turns.pop();
+                ledger.back(Mark { depth });
+                depth -= 1;
+                remaining.give_back(calls, place);
+                from = place + 1;
+            }
+        }
+    }
+    Ok(Guessed {
+        turns: Some(turns),
+        steps,
+    })
+}
+
+/// A call that was taken: the turn that took it, and the depth of the mark behind which it was.
+#[derive(Drop)]
+pub struct Taken {
+    pub turn: Turn,
+    pub depth: usize,
+}
+
+/// Takes a call with its guesses behind a new mark; or it is impossible with them, and the ledger is as before. An object is looked for as
+/// it is when the call begins.
+fn try_guess<L: Ledger>(
+    alloc: Global,
+    ledger: &mut L,
+    rules: &Rules,
+    call: &Candidate,
+) -> Result<Option<Taken>, CheckFault>
+    requires sound { IsSound (L.state ledger.old).now }
+    requires recorded { IsRecordedCall (call_of call.now.call.now) }
+    ensures { GuessTried (L.state ledger.old) result (L.state ledger.new) }
+{
+    ledger.set_moment(call.response.stamp);
+    let turn = guessed_turn(alloc, ledger, call)?;
+    match take_turn(alloc, ledger, rules, call.call, &turn)? {
+        Some(depth) => Ok(Some(Taken { turn, depth })),
+        None => Ok(None),
+    }
+}
+
+/// Takes a call as a turn makes its step, behind a new mark, and answers the mark's depth; or the ledger is as before.
+fn take_turn<L: Ledger>(
+    alloc: Global,
+    ledger: &mut L,
+    rules: &Rules,
+    call: &Call,
+    turn: &Turn,
+) -> Result<Option<usize>, CheckFault>
+    requires sound { IsSound (L.state ledger.old).now }
+    requires recorded { IsRecordedCall (call_of call.now) }
+    requires named { turn.now.call ≡ call.now.number }
+    ensures { TurnTried (L.state ledger.old) result (L.state ledger.new) }
+{
+    check_laws();
+    let step = match step_of_turn(alloc, call, turn) {
+        Ok(step) => step,
+        Err(StepFault::Unfit(_)) => return Ok(None),
+        Err(StepFault::Memory) => return Err(CheckFault::Memory),
+    };
+    let Ok(mark) = ledger.mark() else {
+        return Err(CheckFault::Memory);
+    };
+    match take_call(
+        alloc,
+        ledger,
+        rules,
+        step.request,
+        step.response.response(),
+        None,
+    ) {
+        Ok(()) => {
+            let Mark { depth } = mark;
+            Ok(Some(depth))
+        }
+        Err(refusal) => {
+            ledger.back(mark);
+            not_taken(refusal)
+        }
+    }
+}

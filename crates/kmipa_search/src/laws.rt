@@ -1,0 +1,19 @@
+//! Laws of the definitions.
+
+ghost use Rattle.kmipa_search.specs.Laws.{EnoughDecides, ForcedIsLight, NextIsTested};
+
+/// Where the budget is enough for every try, or in a forced transcript for each call once, a search says yes exactly where the transcript
+/// is explained.
+pub fn enough_decides()
+    ensures { EnoughDecides }
+{}
+
+/// The weight of forced calls is at most their number.
+pub fn forced_is_light()
+    ensures { ForcedIsLight }
+{}
+
+/// The test by which tries are counted is true of exactly the steps that may be next.
+pub fn next_is_tested()
+    ensures { NextIsTested }
+{}

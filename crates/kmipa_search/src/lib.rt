@@ -1,0 +1,24 @@
+//! The search for a witness, under a budget.
+#![tactic(auto)]
+
+mod candidate;
+mod check_laws;
+mod forced;
+mod found;
+mod guesses;
+mod guessing;
+mod laws;
+mod links;
+mod order;
+mod plain;
+mod ranks;
+mod remaining;
+mod searching;
+
+pub use forced::is_forced;
+pub use found::Found;
+pub use laws::{enough_decides, forced_is_light, next_is_tested};
+pub use searching::search;
+
+#[cfg(test)]
+mod tests;

@@ -1,0 +1,116 @@
+//! The search for an order of calls.
+
+ghost use Rattle.std.specs.Prelude.{◌≡◌, ◌<◌, ◌≤◌, All, IfOk, IfSome, length, map, slice_get, ℕ, Some, Ok, Err};
+ghost use Rattle.kmipa_store.specs.Choices.{IsSound};
+ghost use Rattle.kmipa_record.specs.Declarations.{DeclarationOf};
+ghost use Rattle.kmipa_msgs.specs.Messages.{rules_of};
+ghost use Rattle.kmipa_batch.specs.Readable.{IsReadableCall};
+ghost use Rattle.kmipa_search.specs.Candidates.{candidate_step};
+ghost use Rattle.kmipa_search.specs.Progress.{AllReadable, CallTried, Opens};
+ghost use Rattle.kmipa_search.specs.Outcomes.{TellsOutcome, not_taken};
+
+use crate::candidate::Candidate;
+use crate::remaining::Remaining;
+use kmipa_batch::{CallRefusal, take_call};
+use kmipa_check::CheckFault;
+use kmipa_msgs::Rules;
+use kmipa_store::{Ledger, Mark};
+use std::alloc::Global;
+
+/// What a search of the calls comes to.
+#[derive(Drop)]
+pub struct Outcome {
+    /// The places of the calls, in an order in which all were taken; none where the search gave up.
+    pub order: Option<Vec<usize>>,
+    /// How many calls were tried.
+    pub steps: u64,
+}
+
+/// Takes the calls one after the other, each time the first next one that leads on, depth first.
+pub fn find_order<L: Ledger>(
+    alloc: Global,
+    ledger: &mut L,
+    rules: &Rules,
+    calls: &[Candidate],
+    budget: u64,
+) -> Result<Outcome, CheckFault>
+    requires sound { IsSound (L.state ledger.old).now }
+    requires readable { AllReadable (map candidate_step calls.now) }
+    ensures within { IfOk result (λ l. IfSome l.order (λ o. All (λ p. p < length calls.now) o.items)) }
+    ensures tells { (declared : DeclarationOf) → Opens declared (rules_of rules.now) (map candidate_step calls.now) (L.state ledger.old).now
+        → TellsOutcome declared (map candidate_step calls.now) budget result }
+{
+    let mut remaining = Remaining::new(alloc, calls)?;
+    let mut path = Vec::new(alloc);
+    let mut from = 0;
+    let mut depth = 0;
+    let mut steps = 0;
+    'tries: while path.len() < calls.len() {
+        match remaining.next(calls, from) {
+            Some(place) => {
+                if steps == budget {
+                    return Ok(Outcome { order: None, steps });
+                }
+                steps += 1;
+                match try_call(alloc, ledger, rules, &calls[place])? {
+                    Some(mark) => {
+                        path.push(place)?;
+                        remaining.take(calls, place);
+                        depth = mark;
+                        from = 0;
+                    }
+                    None => from = place + 1,
+                }
+            }
+            None => {
+                let Some(place) = path.pop() else {
+                    return Ok(Outcome { order: None, steps });
+                };
+                ledger.back(Mark { depth });
+                depth -= 1;
+                remaining.give_back(calls, place);
+                from = place + 1;
+            }
+        }
+    }
+    Ok(Outcome {
+        order: Some(path),
+        steps,
+    })
+}
+
+/// Takes a call behind a new mark, and answers the mark's depth; or the call is impossible, and the ledger is as before.
+fn try_call<L: Ledger>(
+    alloc: Global,
+    ledger: &mut L,
+    rules: &Rules,
+    call: &Candidate,
+) -> Result<Option<usize>, CheckFault>
+    requires sound { IsSound (L.state ledger.old).now }
+    requires readable { IsReadableCall (candidate_step call.now).request (candidate_step call.now).response }
+    ensures { CallTried (rules_of rules.now) (L.state ledger.old) (candidate_step call.now) result (L.state ledger.new) }
+{
+    let Ok(mark) = ledger.mark() else {
+        return Err(CheckFault::Memory);
+    };
+    match take_call(alloc, ledger, rules, call.request, call.response, None) {
+        Ok(()) => {
+            let Mark { depth } = mark;
+            Ok(Some(depth))
+        }
+        Err(refusal) => {
+            ledger.back(mark);
+            not_taken(refusal)
+        }
+    }
+}
+
+/// A call that was not taken.
+pub fn not_taken(refusal: CallRefusal) -> Result<Option<usize>, CheckFault>
+    ensures { result ≡ not_taken refusal }
+{
+    match refusal {
+        CallRefusal::Impossible(_, _) => Ok(None),
+        CallRefusal::Memory => Err(CheckFault::Memory),
+    }
+}

@@ -1,0 +1,58 @@
+//! Plain calls: those that a search decides.
+
+ghost use Rattle.std.specs.Prelude.{◌≡◌, map, IfOk, MatchOption};
+ghost use Rattle.kmipa_check.specs.Calls.{call_of};
+ghost use Rattle.kmipa_search.specs.Candidates.{AreNotPlain, AreOfCalls, IsNotPlain, candidate_step, own_call};
+ghost use Rattle.kmipa_search.specs.Plain.{ArePlain, IsPlainStep};
+
+use crate::candidate::Candidate;
+use kmipa_batch::is_unordered;
+use kmipa_check::{Call, needs_fill};
+use std::alloc::{AllocError, Global};
+
+/// The calls as a search takes them, where all are plain.
+pub fn candidates<'b, 'a>(
+    alloc: Global,
+    calls: &'b [Call<'a>],
+) -> Result<Option<Vec<Candidate<'b, 'a>>>, AllocError>
+    ensures { IfOk result (λ told. MatchOption told (AreNotPlain (map call_of calls.now)) (λ own. ArePlain (map call_of calls.now) (map candidate_step own.items))) }
+{
+    let mut own = Vec::new(alloc);
+    'calls: for call in calls {
+        let Some(candidate) = candidate_of(call) else {
+            return Ok(None);
+        };
+        own.push(candidate)?;
+    }
+    Ok(Some(own))
+}
+
+/// The call as a search takes it, where it is plain.
+fn candidate_of<'b, 'a>(call: &'b Call<'a>) -> Option<Candidate<'b, 'a>>
+    ensures { MatchOption result (IsNotPlain (call_of call.now)) (λ own. IsPlainStep (call_of call.now) (candidate_step own)) }
+{
+    if is_unordered(&call.request) {
+        return None;
+    }
+    let own = Candidate::of(call)?;
+    if needs_fill(own.request, own.response) {
+        return None;
+    }
+    Some(own)
+}
+
+/// The calls that have ended, as a search takes them.
+pub fn every_candidate<'b, 'a>(
+    alloc: Global,
+    calls: &'b [Call<'a>],
+) -> Result<Vec<Candidate<'b, 'a>>, AllocError>
+    ensures { IfOk result (λ own. AreOfCalls (map call_of calls.now) (map own_call own.items)) }
+{
+    let mut own = Vec::new(alloc);
+    'calls: for call in calls {
+        if let Some(candidate) = Candidate::of(call) {
+            own.push(candidate)?;
+        }
+    }
+    Ok(own)
+}

@@ -1,0 +1,204 @@
+//! The search for a witness.
+
+ghost use Rattle.std.specs.Prelude.{◌≡◌, ◌<◌, ◌⊎◌, All, IfErr, IfOk, Err, List, Ok, length, map, true, ℕ};
+ghost use Rattle.kmipa_record.specs.Declarations.{AreDeclared, declaration_of};
+ghost use Rattle.kmipa_record.specs.Marks.{AreRecorded};
+ghost use Rattle.kmipa_record.specs.Transcripts.{transcript_of};
+ghost use Rattle.kmipa_record.specs.Witnesses.{IsWitness, turn_of, witness_of};
+ghost use Rattle.kmipa_check.specs.Calls.{CallOf, AreCalls, IsRecorded, call_of};
+ghost use Rattle.kmipa_check.specs.Plain.{bare_turn};
+ghost use Rattle.kmipa_check.specs.Runs.{IsAccepted};
+ghost use Rattle.kmipa_search.specs.Candidates.{AreNotPlain, candidate_step};
+ghost use Rattle.kmipa_search.specs.Plain.{ArePlain};
+ghost use Rattle.kmipa_search.specs.Progress.{AllReadable};
+ghost use Rattle.kmipa_search.specs.Found.{Searches};
+ghost use Rattle.kmipa_search.specs.Confirming.{Confirms, IsTried, turns_at};
+
+use crate::candidate::Candidate;
+use crate::check_laws::check_laws;
+use crate::found::Found;
+use crate::guessing::guess_order;
+use crate::order::find_order;
+use crate::plain::{candidates, every_candidate};
+use kmipa_check::{
+    Call, CheckFault, Verdict, check, open_ledger, read_calls, rules_of_declaration,
+};
+use kmipa_record::{Declaration, RecordKind, Transcript, Turn, Witness, write_witness};
+use std::alloc::{AllocError, Global};
+
+/// Looks for a witness that a check accepts, trying at most `budget` calls.
+///
+/// # Order of tries
+/// A call is tried only where its stamp is least among the calls not yet taken and none of these ended before it. Such calls are tried in
+/// the order of their begin marks, depth first. Where a call waits for payloads, each of them has one guess.
+pub fn search(
+    alloc: Global,
+    transcript: &Transcript,
+    declaration: &Declaration,
+    budget: u64,
+) -> Result<Found, CheckFault>
+    requires { AreDeclared (declaration_of declaration.now) }
+    ensures { AreRecorded (transcript_of transcript.now) → Searches (transcript_of transcript.now) (declaration_of declaration.now) budget result }
+{
+    check_laws();
+    let calls = read_calls(alloc, transcript)?;
+    match candidates(alloc, &calls)? {
+        Some(own) => search_plain(alloc, transcript, declaration, &own, budget),
+        None => search_waiting(alloc, transcript, declaration, &calls, budget),
+    }
+}
+
+/// Looks for a witness of calls that are plain.
+fn search_plain(
+    alloc: Global,
+    transcript: &Transcript,
+    declaration: &Declaration,
+    calls: &[Candidate],
+    budget: u64,
+) -> Result<Found, CheckFault>
+    requires declared { AreDeclared (declaration_of declaration.now) }
+    requires readable { AllReadable (map candidate_step calls.now) }
+    ensures { (all : List CallOf) → AreRecorded (transcript_of transcript.now) → AreCalls (transcript_of transcript.now) all → ArePlain all (map candidate_step calls.now)
+        → Searches (transcript_of transcript.now) (declaration_of declaration.now) budget result }
+{
+    check_laws();
+    let rules = rules_of_declaration(alloc, declaration)?;
+    let mut ledger = open_ledger(alloc, declaration)?;
+    let Ok(outcome) = find_order(alloc, &mut ledger, &rules, calls, budget) else {
+        return Err(CheckFault::Memory);
+    };
+    let steps = outcome.steps;
+    let order = outcome.order;
+    match order {
+        Some(order) => {
+            let witness = witness_at(alloc, calls, &order)?;
+            confirm(alloc, transcript, declaration, witness, steps)
+        }
+        None => Ok(Found::GaveUp(steps)),
+    }
+}
+
+/// Looks for a witness of calls of which some aren't plain.
+fn search_waiting(
+    alloc: Global,
+    transcript: &Transcript,
+    declaration: &Declaration,
+    calls: &[Call],
+    budget: u64,
+) -> Result<Found, CheckFault>
+    requires declared { AreDeclared (declaration_of declaration.now) }
+    requires each { All (IsRecorded (transcript_of transcript.now)) (map call_of calls.now) }
+    ensures { AreRecorded (transcript_of transcript.now) → AreCalls (transcript_of transcript.now) (map call_of calls.now) → AreNotPlain (map call_of calls.now)
+        → Searches (transcript_of transcript.now) (declaration_of declaration.now) budget result }
+{
+    check_laws();
+    let rules = rules_of_declaration(alloc, declaration)?;
+    let mut ledger = open_ledger(alloc, declaration)?;
+    let own = every_candidate(alloc, calls)?;
+    let Ok(guessed) = guess_order(alloc, &mut ledger, &rules, &own, budget) else {
+        return Err(CheckFault::Memory);
+    };
+    let steps = guessed.steps;
+    let turns = guessed.turns;
+    match turns {
+        Some(turns) => try_witness(alloc, transcript, declaration, Witness { turns }, steps),
+        None => Ok(Found::GaveUp(steps)),
+    }
+}
+
+/// Hands a witness out if it is accepted and can be written.
+fn try_witness(
+    alloc: Global,
+    transcript: &Transcript,
+    declaration: &Declaration,
+    witness: Witness,
+    steps: u64,
+) -> Result<Found, CheckFault>
+    requires { AreDeclared (declaration_of declaration.now) }
+    ensures { AreRecorded (transcript_of transcript.now) → IsTried (transcript_of transcript.now) (declaration_of declaration.now) witness steps result }
+{
+    match check(alloc, transcript, declaration, &witness) {
+        Ok(Verdict::Yes) => {
+            if is_written(alloc, &witness)? {
+                Ok(Found::Yes(witness, steps))
+            } else {
+                Ok(Found::GaveUp(steps))
+            }
+        }
+        Ok(Verdict::No(_)) => Ok(Found::GaveUp(steps)),
+        Err(fault) => unconfirmed(fault, steps),
+    }
+}
+
+/// Whether some bytes are a file of the witness.
+fn is_written(alloc: Global, witness: &Witness) -> Result<bool, CheckFault>
+    ensures ok { result ≡ Ok true → (bytes : List ℕ) × IsWitness bytes (witness_of witness.now) }
+    ensures err { IfErr result (λ fault. fault ≡ CheckFault.Memory) }
+{
+    let mut bytes = Vec::new(alloc);
+    match write_witness(alloc, witness, &mut bytes) {
+        Ok(()) => Ok(true),
+        Err(fault) => {
+            if fault.kind == RecordKind::Memory {
+                Err(CheckFault::Memory)
+            } else {
+                Ok(false)
+            }
+        }
+    }
+}
+
+/// The witness that takes the calls at these places.
+fn witness_at(alloc: Global, calls: &[Candidate], order: &[usize]) -> Result<Witness, AllocError>
+    requires { All (λ place. place < length calls.now) order.now }
+    ensures { IfOk result (λ witness. witness_of witness ≡ turns_at (map candidate_step calls.now) order.now) }
+{
+    let mut turns = Vec::new(alloc);
+    'places: for place in order {
+        turns.push(bare_turn(alloc, calls[*place].number))?;
+    }
+    Ok(Witness { turns })
+}
+
+/// The turn that names a call, and gives nothing else.
+fn bare_turn(alloc: Global, call: i32) -> Turn
+    ensures { turn_of result ≡ bare_turn call }
+{
+    Turn {
+        call,
+        answer: None,
+        places: Vec::new(alloc),
+        fills: Vec::new(alloc),
+    }
+}
+
+/// Hands a witness out that is accepted.
+fn confirm(
+    alloc: Global,
+    transcript: &Transcript,
+    declaration: &Declaration,
+    witness: Witness,
+    steps: u64,
+) -> Result<Found, CheckFault>
+    requires { AreDeclared (declaration_of declaration.now) }
+    ensures { AreRecorded (transcript_of transcript.now)
+        → IsAccepted (transcript_of transcript.now) (declaration_of declaration.now) (witness_of witness) → Confirms witness steps result }
+{
+    check_laws();
+    match check(alloc, transcript, declaration, &witness) {
+        Ok(Verdict::Yes) => Ok(Found::Yes(witness, steps)),
+        Ok(Verdict::No(_)) => Ok(Found::GaveUp(steps)),
+        Err(fault) => unconfirmed(fault, steps),
+    }
+}
+
+/// A witness of which the check tells no verdict.
+fn unconfirmed(fault: CheckFault, steps: u64) -> Result<Found, CheckFault>
+    ensures memory { fault ≡ CheckFault.Memory → result ≡ Err CheckFault.Memory }
+    ensures other { (fault ≡ CheckFault.Memory) ⊎ (result ≡ Ok (Found.GaveUp steps)) }
+{
+    match fault {
+        CheckFault::Memory => Err(fault),
+        _ => Ok(Found::GaveUp(steps)),
+    }
+}
