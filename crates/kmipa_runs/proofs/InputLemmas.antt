@@ -1,5 +1,5 @@
 -- Items one behind the other: what is shown and written of them, and the first fault behind them.
-use Rattle.std.proofs.Common.{◌≡◌, ◌≢◌, ◌⊎◌, inl, inr, ◌≤◌, ◌<◌, ◌+◌, ◌-◌, ◌^◌, ℕ, zero, suc, Bool, false, IsTrue, List, [], ◌∷◌, ◌++◌, length, take, drop, Err, refl, sym, ap, subst, ◌∙◌, arith, append_assoc, length-append}
+use Rattle.std.proofs.Common.{◌≡◌, ◌≢◌, ◌⊎◌, inl, inr, ◌≤◌, ◌<◌, ◌+◌, ◌-◌, ◌^◌, ℕ, zero, suc, Bool, false, IsTrue, List, [], ◌∷◌, ◌++◌, length, drop, Err, refl, sym, ap, subst, ◌∙◌, arith, append_assoc, length-append}
 use Rattle.std.proofs.lemmas.List.{append-nil}
 use Rattle.std.specs.Io.{StartsWith, appended_bytes}
 use Rattle.hex.specs.declared.error.FromHexError.{FromHexError}
@@ -19,6 +19,7 @@ use Rattle.kmipa_ttlv.proofs.ReadLemmas.{known_flaw_lem, outer_flaw_own}
 use Rattle.kmipa_runs.specs.Inputs.{bytes_of, joined, refused_line, AreShown, TellsFirst, Writes, no_digits, no_memory}
 use Rattle.kmipa_runs.specs.Shown.{ShowsItem, ShowsItems}
 use Rattle.kmipa_runs.specs.Statuses.{IsSilent}
+use Rattle.kmipa_runs.specs.declared.options.ShowOptions.{ShowOptions}
 use Rattle.kmipa_runs.specs.declared.status.Status.{Status}
 use Rattle.kmipa_runs.specs.declared.status.Status.TheVariants as status
 use Rattle.kmipa_runs.proofs.AppendLemmas.{split}
@@ -38,16 +39,16 @@ mutual
 
 -- ---- one item more
 
-shows_last : (ts : List Tree) (t : Tree) (lines first : List ℕ) → ShowsItems 0 (forest (λ u. u) ts) lines → ShowsItem 0 t first
-    → ShowsItems 0 (forest (λ u. u) (ts ++ t ∷ [])) (lines ++ first)
-shows_last [] t lines first h s = (first, [], s, refl, ap (λ (l : List ℕ). l ++ first) h ∙ sym (append-nil first))
-shows_last (u ∷ us) t lines first h s =
-    (h.0, h.1 ++ first, h.2, shows_last us t h.1 first h.3 s, ap (λ (l : List ℕ). l ++ first) h.4 ∙ append_assoc h.0 h.1 first)
+shows_last : (options : ShowOptions) (ts : List Tree) (t : Tree) (lines first : List ℕ) → ShowsItems options 0 (forest (λ u. u) ts) lines → ShowsItem options 0 t first
+    → ShowsItems options 0 (forest (λ u. u) (ts ++ t ∷ [])) (lines ++ first)
+shows_last options [] t lines first h s = (first, [], s, refl, ap (λ (l : List ℕ). l ++ first) h ∙ sym (append-nil first))
+shows_last options (u ∷ us) t lines first h s =
+    (h.0, h.1 ++ first, h.2, shows_last options us t h.1 first h.3 s, ap (λ (l : List ℕ). l ++ first) h.4 ∙ append_assoc h.0 h.1 first)
 
-pub shown_last : (came new lines first : List ℕ) (t : Tree) → ((given : List Tree) → AreItems given came → AreItems (given ++ t ∷ []) new)
-    → ShowsItem 0 t first → AreShown came lines → AreShown new (lines ++ first)
-shown_last came new lines first t next s h =
-    record { items = h.items ++ t ∷ []; are = next h.items h.are; shown = shows_last h.items t lines first h.shown s }
+pub shown_last : (options : ShowOptions) (came new lines first : List ℕ) (t : Tree) → ((given : List Tree) → AreItems given came → AreItems (given ++ t ∷ []) new)
+    → ShowsItem options 0 t first → AreShown options came lines → AreShown options new (lines ++ first)
+shown_last options came new lines first t next s h =
+    record { items = h.items ++ t ∷ []; are = next h.items h.are; shown = shows_last options h.items t lines first h.shown s }
 
 pub begins_last : (ts : List Tree) (t : Tree) (bytes rest front after : List ℕ) → rest ≡ front ++ after → Spells t front → Begins ts bytes rest → Begins (ts ++ t ∷ []) bytes after
 begins_last [] t bytes rest front after e s b = (front, after, b ∙ e, s, refl)

@@ -1,27 +1,52 @@
 -- The lines of items, from what is appended.
-use Rattle.std.proofs.Common.{◌≡◌, ℕ, ◌+◌, ◌/◌, ◌%◌, ◌<◌, List, [], ◌∷◌, ◌++◌, length, get_or, drop, suc, refl, sym, ap, ◌∙◌, append_assoc, add-one, drop-cons}
+use Rattle.std.proofs.Common.{◌≡◌, ℕ, Bool, true, false, ◌+◌, ◌/◌, ◌%◌, ◌<◌, List, [], ◌∷◌, ◌++◌, length, get_or, drop, suc, refl, sym, ap, ◌∙◌, append_assoc, add-one, drop-cons, Vec, Global}
 use Rattle.std.specs.Prelude.{codes}
+use Rattle.std.proofs.lemmas.List.{append-nil}
 use Rattle.hex.specs.Hex.{encode_with}
 use Rattle.kmipa_ttlv.specs.Tree.{more}
 use Rattle.kmipa_ttlv.specs.ItemTree.{tree, trees, value_tree, IsPlain}
 use Rattle.kmipa_ttlv.specs.declared.item.Item.{Item}
 use Rattle.kmipa_ttlv.specs.declared.item.Value.{Value, Structure', Integer, LongInteger, BigInteger, Enumeration, Boolean, Text, Bytes, DateTime, Interval, DateTimeExtended}
-use Rattle.kmipa_runs.specs.Shown.{head, kind_name, ShowsItem, ShowsValue}
+use Rattle.kmipa_runs.specs.Shown.{head, kind_name, note, ShowsBelow, ShowsItemOver, ShowsLine, ShowsValue}
 
 -- the line of an item without children
-pub plain_line : (level tag : ℕ) (v : Value) (value lines : List ℕ) → IsPlain v → ShowsValue (value_tree tag v) value
-    → lines ≡ head level tag (kind_name (value_tree tag v)) ++ codes " " ++ value ++ codes "\n" → ShowsItem level (value_tree tag v) lines
-plain_line level tag (Structure' shape row) value lines plain shows e = absurd plain
-plain_line level tag (Integer z) value lines plain shows e = (value, shows, e)
-plain_line level tag (LongInteger z) value lines plain shows e = (value, shows, e)
-plain_line level tag (BigInteger bs) value lines plain shows e = (value, shows, e)
-plain_line level tag (Enumeration x) value lines plain shows e = (value, shows, e)
-plain_line level tag (Boolean b) value lines plain shows e = (value, shows, e)
-plain_line level tag (Text s) value lines plain shows e = (value, shows, e)
-plain_line level tag (Bytes bs) value lines plain shows e = (value, shows, e)
-plain_line level tag (DateTime z) value lines plain shows e = (value, shows, e)
-plain_line level tag (Interval x) value lines plain shows e = (value, shows, e)
-plain_line level tag (DateTimeExtended z) value lines plain shows e = (value, shows, e)
+pub plain_line : (notes : Bool) (level tag : ℕ) (v : Value) (value line : List ℕ) → IsPlain v → ShowsValue (value_tree tag v) value
+    → line ≡ head level tag (kind_name (value_tree tag v)) ++ codes " " ++ value ++ note notes (value_tree tag v) ++ codes "\n" → ShowsLine notes level (value_tree tag v) line
+plain_line notes level tag (Structure' shape row) value line plain shows e = absurd plain
+plain_line notes level tag (Integer z) value line plain shows e = (value, shows, e)
+plain_line notes level tag (LongInteger z) value line plain shows e = (value, shows, e)
+plain_line notes level tag (BigInteger bs) value line plain shows e = (value, shows, e)
+plain_line notes level tag (Enumeration x) value line plain shows e = (value, shows, e)
+plain_line notes level tag (Boolean b) value line plain shows e = (value, shows, e)
+plain_line notes level tag (Text s) value line plain shows e = (value, shows, e)
+plain_line notes level tag (Bytes bs) value line plain shows e = (value, shows, e)
+plain_line notes level tag (DateTime z) value line plain shows e = (value, shows, e)
+plain_line notes level tag (Interval x) value line plain shows e = (value, shows, e)
+plain_line notes level tag (DateTimeExtended z) value line plain shows e = (value, shows, e)
+
+-- nothing stands below the line of an item that is no Structure and no Byte String
+pub line_alone : (messages notes : Bool) (level tag : ℕ) (v : Value) (line : List ℕ) → ((x : Vec ℕ Global) → v ≡ Bytes x → ⊥) → ShowsLine notes level (value_tree tag v) line
+    → ShowsItemOver (ShowsBelow messages notes) notes level (value_tree tag v) line
+line_alone messages notes level tag (Structure' shape row) line other shows = absurd shows
+line_alone messages notes level tag (Bytes bs) line other shows = absurd (other bs refl)
+line_alone true notes level tag (Integer z) line other shows = (line, [], shows, refl, sym (append-nil line))
+line_alone false notes level tag (Integer z) line other shows = (line, [], shows, refl, sym (append-nil line))
+line_alone true notes level tag (LongInteger z) line other shows = (line, [], shows, refl, sym (append-nil line))
+line_alone false notes level tag (LongInteger z) line other shows = (line, [], shows, refl, sym (append-nil line))
+line_alone true notes level tag (BigInteger bs) line other shows = (line, [], shows, refl, sym (append-nil line))
+line_alone false notes level tag (BigInteger bs) line other shows = (line, [], shows, refl, sym (append-nil line))
+line_alone true notes level tag (Enumeration x) line other shows = (line, [], shows, refl, sym (append-nil line))
+line_alone false notes level tag (Enumeration x) line other shows = (line, [], shows, refl, sym (append-nil line))
+line_alone true notes level tag (Boolean b) line other shows = (line, [], shows, refl, sym (append-nil line))
+line_alone false notes level tag (Boolean b) line other shows = (line, [], shows, refl, sym (append-nil line))
+line_alone true notes level tag (Text s) line other shows = (line, [], shows, refl, sym (append-nil line))
+line_alone false notes level tag (Text s) line other shows = (line, [], shows, refl, sym (append-nil line))
+line_alone true notes level tag (DateTime z) line other shows = (line, [], shows, refl, sym (append-nil line))
+line_alone false notes level tag (DateTime z) line other shows = (line, [], shows, refl, sym (append-nil line))
+line_alone true notes level tag (Interval x) line other shows = (line, [], shows, refl, sym (append-nil line))
+line_alone false notes level tag (Interval x) line other shows = (line, [], shows, refl, sym (append-nil line))
+line_alone true notes level tag (DateTimeExtended z) line other shows = (line, [], shows, refl, sym (append-nil line))
+line_alone false notes level tag (DateTimeExtended z) line other shows = (line, [], shows, refl, sym (append-nil line))
 
 dropped : (is : List Item) (i : ℕ) (x : Item) → i < length is → x ≡ get_or is i x → drop i is ≡ x ∷ drop (i + 1) is
 dropped is i x lt e = rw add-one (drop-cons is i x lt ∙ ap (λ (y : Item). y ∷ drop (suc i) is) (sym e))
@@ -41,5 +66,8 @@ unfolding encode_with
 no_digits table = refl
 
 -- one append after the other
+pub five : (a b d e f g : List ℕ) → ((((a ++ b) ++ d) ++ e) ++ f) ++ g ≡ a ++ (b ++ d ++ e ++ f ++ g)
+five a b d e f g = simp append_assoc
+
 pub four : (a b d e f : List ℕ) → (((a ++ b) ++ d) ++ e) ++ f ≡ a ++ (b ++ d ++ e ++ f)
 four a b d e f = simp append_assoc

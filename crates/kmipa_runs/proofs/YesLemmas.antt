@@ -2,6 +2,7 @@
 use Rattle.std.proofs.Common.{◌≡◌, ◌⊎◌, inl, inr, ℕ, Bool, false, List, Result, Ok, Err, ◌∙◌, subst}
 use Rattle.std.specs.Prelude.{IfOk, IsOkAnd, codes, string_bytes}
 use Rattle.std.specs.declared.alloc.AllocError.{AllocError}
+use Rattle.kmipa_record.specs.Witnesses.{witness_of}
 use Rattle.kmipa_record.specs.Transcripts.{transcript_of}
 use Rattle.kmipa_record.specs.declared.fault.RecordKind.{RecordKind}
 use Rattle.kmipa_record.specs.declared.fault.RecordKind.TheVariants.{Memory}
@@ -33,7 +34,7 @@ silent_check fault said lines is p =
 -- what is printed of a yes, or where memory ran out
 yes_told : (outcome : Result Audited AuditFault) (said : Status) (lines : List ℕ) → IsYes outcome → PrintsOutcome outcome said lines → (said ≡ status.Done) ⊎ IsSilent said lines
 yes_told (Ok audited) said lines is prints =
-    let P : Verdict → Type 0 = λ v. PrintsVerdict (transcript_of audited.transcript) v said lines in
+    let P : Verdict → Type 0 = λ v. PrintsVerdict (transcript_of audited.transcript) (witness_of audited.witness) v said lines in
     inl (subst P is prints).0
 yes_told (Err (audit.Transcript f)) said lines is prints = inr (silent_record (codes "transcript") f.offset f.kind said lines is prints)
 yes_told (Err (audit.Declaration f)) said lines is prints = inr (silent_record (codes "declaration") f.offset f.kind said lines is prints)

@@ -15,6 +15,7 @@ use Rattle.kmipa_record.specs.declared.fault.RecordKind.TheVariants as record_ki
 use Rattle.kmipa_runs.specs.Lines.{line, device_line, record_status, record_text}
 use Rattle.kmipa_runs.specs.Shown.{ShowsItems}
 use Rattle.kmipa_runs.specs.Statuses.{IsSilent}
+use Rattle.kmipa_runs.specs.declared.options.ShowOptions.{ShowOptions}
 use Rattle.kmipa_runs.specs.declared.status.Status.{Status}
 use Rattle.kmipa_runs.specs.declared.status.Status.TheVariants as status
 
@@ -45,15 +46,15 @@ pub record TellsFirst (bytes : List ℕ) (failed : Bool) (f : TtlvFault) : Type 
   pub begins : Begins given bytes rest
   pub tells : TellsKnown (length bytes - length rest) rest failed f
 
--- the bytes are items one behind the other, and these are their lines
-pub record AreShown (bytes lines : List ℕ) : Type 0 where
+-- the bytes are items one behind the other, and these are their lines, with what the options ask for
+pub record AreShown (options : ShowOptions) (bytes lines : List ℕ) : Type 0 where
   pub items : List Tree
   pub are : AreItems items bytes
-  pub shown : ShowsItems 0 (forest (λ t. t) items) lines
+  pub shown : ShowsItems options 0 (forest (λ t. t) items) lines
 
 -- What `show` prints of a file at a status: the lines of its items, or the line of its first fault alone.
-abbrev pub PrintsShown : List ℕ → Bool → Status → List ℕ → Type 0
-PrintsShown file failed said lines = ((said ≡ status.Done) × AreShown file lines)
+abbrev pub PrintsShown : ShowOptions → List ℕ → Bool → Status → List ℕ → Type 0
+PrintsShown options file failed said lines = ((said ≡ status.Done) × AreShown options file lines)
     ⊎ ((f : TtlvFault) × TellsFirst file failed f × (said ≡ flaw_status f) × (lines ≡ flaw_text f))
 
 -- the spellings of items, one behind the other, with zeros for padding

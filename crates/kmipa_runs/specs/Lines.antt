@@ -9,6 +9,7 @@ use Rattle.kmipa_record.specs.Kinds as files
 use Rattle.kmipa_record.specs.declared.fault.RecordKind.{RecordKind}
 use Rattle.kmipa_record.specs.declared.fault.RecordKind.TheVariants.{Ttlv, Device, Memory}
 use Rattle.kmipa_record.specs.Marks.{MarkOf}
+use Rattle.kmipa_record.specs.Witnesses.{TurnOf, witness_of, IsWitness}
 use Rattle.kmipa_record.specs.Transcripts.{transcript_of, IsTranscript}
 use Rattle.kmipa_check.specs.Audits.{AreAccepted}
 use Rattle.kmipa_check.specs.Kinds as witnesses
@@ -91,19 +92,22 @@ PrintsDate None lines = lines ≡ []
 PrintsDate (Some second) lines =
     (date : List ℕ) × (¬ (HasDate second) → date ≡ signed_decimal second) × (lines ≡ line (codes "at " ∷ date ∷ []))
 
--- what is printed of a verdict on these marks: behind a no the date of its turn, which is the Time Stamp of its call's response
-abbrev pub PrintsVerdict : List MarkOf → Verdict → Status → List ℕ → Type 0
-PrintsVerdict marks verdict.Yes said lines = (said ≡ status.Done) × (lines ≡ yes_line)
-PrintsVerdict marks (verdict.No refused) said lines = (said ≡ status.No)
-    × ((stamp : Option ℤ) × TellsStamp marks refused.call stamp × ((dated : List ℕ) × (PrintsDate stamp dated) × (lines ≡ no_line refused ++ dated)))
+-- what is printed of a verdict on these marks and turns: behind a no the date of its turn, which is the Time Stamp of its call's response
+abbrev pub PrintsVerdict : List MarkOf → List TurnOf → Verdict → Status → List ℕ → Type 0
+PrintsVerdict marks turns verdict.Yes said lines = (said ≡ status.Done) × (lines ≡ yes_line)
+PrintsVerdict marks turns (verdict.No refused) said lines = (said ≡ status.No)
+    × ((stamp : Option ℤ) × TellsStamp marks turns refused.call stamp × ((dated : List ℕ) × (PrintsDate stamp dated) × (lines ≡ no_line refused ++ dated)))
 
--- Behind the line of a no stands the date of its turn: the Time Stamp of the response of its call, which the transcript records.
+-- Behind the line of a no stands the date of its turn: the Time Stamp of the response of its call, which the transcript records,
+-- or which the witness gives.
 pub record IsDated (lines transcript declaration witness : List ℕ) : Type 0 where
   pub marks : List MarkOf
   pub recorded : IsTranscript transcript marks
+  pub turns : List TurnOf
+  pub witnessed : IsWitness witness turns
   pub refused : Refused
   pub stamp : ℤ
-  pub answered : IsAnsweredAt marks refused.call stamp
+  pub answered : IsAnsweredAt marks turns refused.call stamp
   pub dated : List ℕ
   pub date : PrintsDate (Some stamp) dated
   pub are : lines ≡ no_line refused ++ dated
@@ -114,7 +118,7 @@ PrintsFault fault said lines = (said ≡ fault_status fault) × (lines ≡ fault
 
 -- what is printed of an audit
 abbrev pub PrintsOutcome : Result Audited AuditFault → Status → List ℕ → Type 0
-PrintsOutcome (Ok audited) said lines = PrintsVerdict (transcript_of audited.transcript) audited.verdict said lines
+PrintsOutcome (Ok audited) said lines = PrintsVerdict (transcript_of audited.transcript) (witness_of audited.witness) audited.verdict said lines
 PrintsOutcome (Err fault) said lines = PrintsFault fault said lines
 
 -- where the bytes are accepted, and no input failed, the answer is yes, or memory ran out
@@ -129,4 +133,5 @@ FitsStatus status.No lines = StartsWith lines (codes "no: turn ")
 FitsStatus status.Refused lines = StartsWith lines (codes "outside: call ")
     ⊎ (StartsWith lines (codes "witness: at ") ⊎ StartsWith lines (codes "malformed: "))
 FitsStatus status.Failed lines = (lines ≡ device_line) ⊎ (lines ≡ [])
+FitsStatus status.GaveUp lines = ⊥
 FitsStatus status.Usage lines = ⊥

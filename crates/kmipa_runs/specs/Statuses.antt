@@ -1,7 +1,7 @@
 -- The statuses that the process ends with.
 use Rattle.std.specs.Prelude.{◌≡◌, ℕ, List, []}
 use Rattle.kmipa_runs.specs.declared.status.Status.{Status}
-use Rattle.kmipa_runs.specs.declared.status.Status.TheVariants.{Done, No, Refused, Failed, Usage}
+use Rattle.kmipa_runs.specs.declared.status.Status.TheVariants.{Done, No, Refused, Failed, GaveUp, Usage}
 
 -- the number that the shell sees
 abbrev pub status_number : Status → ℕ
@@ -9,6 +9,7 @@ status_number Done = 0
 status_number No = 1
 status_number Refused = 2
 status_number Failed = 3
+status_number GaveUp = 4
 status_number Usage = 64
 
 -- nothing is told, since memory ran out

@@ -2,12 +2,13 @@
 
 ghost use Rattle.std.specs.Prelude.{◌≡◌, IfOk, string_bytes};
 ghost use Rattle.kmipa_record.specs.Transcripts.{transcript_of};
+ghost use Rattle.kmipa_record.specs.Witnesses.{witness_of};
 ghost use Rattle.kmipa_runs.specs.Lines.{PrintsVerdict, PrintsDate, PrintsFault, no_line, record_text, record_status, check_text, check_status, side_name};
 
 use crate::dates::date_text;
 use crate::status::Status;
 use kmipa_check::{AuditFault, CheckFault, Refused, Side, Verdict, stamp_of};
-use kmipa_record::{RecordFault, RecordKind, Transcript};
+use kmipa_record::{RecordFault, RecordKind, Transcript, Witness};
 use std::alloc::{AllocError, Global};
 
 /// Whole lines, each ended by a line feed, and the status that goes with them.
@@ -17,13 +18,14 @@ pub struct Lines {
     pub status: Status,
 }
 
-/// The lines of a verdict on this transcript.
+/// The lines of a verdict on this transcript and this witness.
 pub fn verdict_lines(
     alloc: Global,
     verdict: &Verdict,
     transcript: &Transcript,
+    witness: &Witness,
 ) -> Result<Lines, AllocError>
-    ensures { IfOk result (λ lines. PrintsVerdict (transcript_of transcript.now) verdict.now lines.status (string_bytes lines.text)) }
+    ensures { IfOk result (λ lines. PrintsVerdict (transcript_of transcript.now) (witness_of witness.now) verdict.now lines.status (string_bytes lines.text)) }
 {
     match verdict {
         Verdict::Yes => Ok(Lines {
@@ -32,7 +34,7 @@ pub fn verdict_lines(
         }),
         Verdict::No(refused) => {
             let line = no_text(alloc, refused)?;
-            let stamp = stamp_of(alloc, transcript, refused.call)?;
+            let stamp = stamp_of(alloc, transcript, witness, refused.call)?;
             let date = date_lines(alloc, stamp)?;
             Ok(Lines {
                 text: format!(in alloc; "{line}{date}")?,

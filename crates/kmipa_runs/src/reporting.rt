@@ -3,28 +3,30 @@
 ghost use Rattle.std.specs.Prelude.{◌≡◌, ◌⊎◌, IsOkAnd, string_bytes};
 ghost use Rattle.std.specs.Io.{StartsWith, appended_bytes};
 ghost use Rattle.kmipa_record.specs.Transcripts.{transcript_of};
+ghost use Rattle.kmipa_record.specs.Witnesses.{witness_of};
 ghost use Rattle.kmipa_runs.specs.Statuses.{IsSilent};
 ghost use Rattle.kmipa_runs.specs.Lines.{PrintsVerdict};
 
 use crate::lines::{Lines, verdict_lines};
 use crate::status::Status;
 use kmipa_check::Verdict;
-use kmipa_record::Transcript;
+use kmipa_record::{Transcript, Witness};
 use std::alloc::{AllocError, Global};
 
-/// Appends the lines of a verdict on this transcript, and answers their status. Where memory runs out nothing is
+/// Appends the lines of a verdict on this transcript and this witness, and answers their status. Where memory runs out nothing is
 /// appended, and the status is `Failed`.
 pub fn report(
     alloc: Global,
     verdict: &Verdict,
     transcript: &Transcript,
+    witness: &Witness,
     out: &mut Vec<u8>,
 ) -> Status
-    ensures prints { PrintsVerdict (transcript_of transcript.now) verdict.now result (appended_bytes out.old.items out.new.items)
+    ensures prints { PrintsVerdict (transcript_of transcript.now) (witness_of witness.now) verdict.now result (appended_bytes out.old.items out.new.items)
         ⊎ IsSilent result (appended_bytes out.old.items out.new.items) }
     ensures appends { StartsWith out.new.items out.old.items }
 {
-    append(verdict_lines(alloc, verdict, transcript), out)
+    append(verdict_lines(alloc, verdict, transcript, witness), out)
 }
 
 /// Appends lines, all or, where memory runs out, none.

@@ -46,7 +46,13 @@ pub fn check_run<R: Read>(
     ensures dated { result ≡ Status.No → IsDated (appended_bytes out.old.items out.new.items) (came_of transcript.new) (came_of declaration.new) (came_of witness.new) }
 {
     match audit_with(alloc, transcript, declaration, witness) {
-        Ok(audited) => report(alloc, &audited.verdict, &audited.transcript, out),
+        Ok(audited) => report(
+            alloc,
+            &audited.verdict,
+            &audited.transcript,
+            &audited.witness,
+            out,
+        ),
         Err(fault) => append(fault_lines(alloc, &fault), out),
     }
 }

@@ -8,6 +8,7 @@ ghost use Rattle.kmipa_runs.specs.Inputs.{AreShown, PrintsShown, TellsFirst};
 ghost use Rattle.kmipa_runs.specs.Statuses.{IsSilent};
 
 use crate::flaws::tell_flaw;
+use crate::options::ShowOptions;
 use crate::shown::push_item;
 use crate::status::Status;
 use kmipa_ttlv::{FaultKind, Input, TtlvFault, read_item_into};
@@ -16,17 +17,22 @@ use std::io::Read;
 
 /// `show FILE`: appends the lines of the items of an input of which nothing was read, or the line of its first fault
 /// alone, and answers their status. Where memory runs out nothing is appended, and the status is `Failed`.
-pub fn show_run<R: Read>(alloc: Global, input: &mut Input<R>, out: &mut Vec<u8>) -> Status
+pub fn show_run<R: Read>(
+    alloc: Global,
+    input: &mut Input<R>,
+    options: ShowOptions,
+    out: &mut Vec<u8>,
+) -> Status
     requires { came_of input.old ≡ [] }
     // What is printed is told of whatever the input may be, or memory ran out.
     ensures prints { (file : List ℕ) → IsFileOf file input.new
-        → PrintsShown file (is_failed input.new) result (appended_bytes out.old.items out.new.items) ⊎ IsSilent result (appended_bytes out.old.items out.new.items) }
+        → PrintsShown options file (is_failed input.new) result (appended_bytes out.old.items out.new.items) ⊎ IsSilent result (appended_bytes out.old.items out.new.items) }
     // Status 0 is answered only where the bytes that came, to the end that was seen, are the items that are shown.
-    ensures shows { result ≡ Status.Done → AreShown (came_of input.new) (appended_bytes out.old.items out.new.items) × IsTrue (is_ended input.new) }
+    ensures shows { result ≡ Status.Done → AreShown options (came_of input.new) (appended_bytes out.old.items out.new.items) × IsTrue (is_ended input.new) }
     ensures appends { StartsWith out.new.items out.old.items }
 {
     let kept = out.len();
-    match show_items(alloc, input, out) {
+    match show_items(alloc, input, options, out) {
         Ok(()) => Status::Done,
         Err(fault) => {
             out.truncate(kept);
@@ -39,16 +45,17 @@ pub fn show_run<R: Read>(alloc: Global, input: &mut Input<R>, out: &mut Vec<u8>)
 fn show_items<R: Read>(
     alloc: Global,
     input: &mut Input<R>,
+    options: ShowOptions,
     out: &mut Vec<u8>,
 ) -> Result<(), TtlvFault>
     requires { came_of input.old ≡ [] }
-    ensures shows { OnOk result (AreShown (came_of input.new) (appended_bytes out.old.items out.new.items)) }
+    ensures shows { OnOk result (AreShown options (came_of input.new) (appended_bytes out.old.items out.new.items)) }
     ensures ended { OnOk result (IsTrue (is_ended input.new)) }
     ensures fault { (file : List ℕ) → IsFileOf file input.new → IfErr result (TellsFirst file (is_failed input.new)) }
     ensures appends { StartsWith out.new.items out.old.items }
 {
     let mut bytes = Vec::new(alloc);
-    'items: while show_next(alloc, input, &mut bytes, out)? {}
+    'items: while show_next(alloc, input, options, &mut bytes, out)? {}
     Ok(())
 }
 
@@ -56,12 +63,13 @@ fn show_items<R: Read>(
 fn show_next<R: Read>(
     alloc: Global,
     input: &mut Input<R>,
+    options: ShowOptions,
     bytes: &mut Vec<u8>,
     out: &mut Vec<u8>,
 ) -> Result<bool, TtlvFault>
     // Where what came before is shown, what came now is.
-    ensures shows { OnOk result ((lines : List ℕ) → AreShown (came_of input.old) lines
-        → AreShown (came_of input.new) (lines ++ appended_bytes out.old.items out.new.items)) }
+    ensures shows { OnOk result ((lines : List ℕ) → AreShown options (came_of input.old) lines
+        → AreShown options (came_of input.new) (lines ++ appended_bytes out.old.items out.new.items)) }
     ensures end { IfOk result (λ more. more ≡ false → IsTrue (is_ended input.new)) }
     ensures nearer { IfOk result (λ more. more ≡ true → taken_of input.old < taken_of input.new) }
     ensures fault { IfErr result (λ f. ReadTells (taken_of input.old) (appended_bytes (came_of input.old) (came_of input.new)) (is_ended input.new) (is_failed input.new) f) }
@@ -72,7 +80,7 @@ fn show_next<R: Read>(
     let Some(item) = read_item_into(alloc, input, bytes)? else {
         return Ok(false);
     };
-    match push_item(alloc, &item, 0, out) {
+    match push_item(alloc, &item, options, 0, out) {
         Ok(()) => Ok(true),
         Err(_) => Err(TtlvFault {
             offset,

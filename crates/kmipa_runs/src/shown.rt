@@ -1,19 +1,23 @@
 //! The lines that show an item.
 
-ghost use Rattle.std.specs.Prelude.{◌≡◌, ◌≤◌, ◌+◌, ◌*◌, ◌++◌, replicate, OnOk};
+ghost use Rattle.std.specs.Prelude.{◌≡◌, ◌≤◌, ◌+◌, ◌*◌, ◌++◌, replicate, IsTrue, OnOk};
 ghost use Rattle.std.specs.Io.{StartsWith, appended_bytes};
 ghost use Rattle.kmipa_ttlv.specs.ItemTree.{tree, trees, value_tree, IsPlain};
+ghost use Rattle.kmipa_ttlv.specs.Tree.{byte_string};
 ghost use Rattle.kmipa_ttlv.specs.Written.{depth, depths};
-ghost use Rattle.kmipa_runs.specs.Shown.{head, ShowsItem, ShowsItems};
+ghost use Rattle.kmipa_runs.specs.Shown.{head, ShowsBelow, ShowsItem, ShowsItems, ShowsLine};
 
-use crate::values::{UPPER, kind_name, push_digits, push_text, push_value, push_word};
+use crate::message::message_of;
+use crate::options::ShowOptions;
+use crate::values::{UPPER, kind_name, push_digits, push_note, push_text, push_value, push_word};
 use byteorder::{BigEndian, ByteOrder};
 use kmipa_attrs::tag_name;
 use kmipa_ttlv::{Item, Tag, Value};
 use std::alloc::{AllocError, Global};
 
-/// Two spaces for each level that an item may have above it.
-const MARGIN: [u8; 30] = [b' '; 30];
+/// Two spaces for each level that an item may have above it: 15 in a file, and 16 more in a message below one of its
+/// Byte Strings.
+const MARGIN: [u8; 62] = [b' '; 62];
 
 /// Appends the lines of an item with so many levels above it, and of the items in it. Where memory runs out a part
 /// of them may be appended.
@@ -21,20 +25,27 @@ const MARGIN: [u8; 30] = [b' '; 30];
 pub fn push_item(
     alloc: Global,
     item: &Item,
+    options: ShowOptions,
     level: usize,
     out: &mut Vec<u8>,
 ) -> Result<(), AllocError>
-    requires { level + depth (tree item.now) ≤ 16 }
-    ensures shows { OnOk result (ShowsItem level (tree item.now) (appended_bytes out.old.items out.new.items)) }
+    requires level { level + depth (tree item.now) ≤ 32 }
+    // Room for the levels of a message.
+    requires room { IsTrue options.messages → level + depth (tree item.now) ≤ 16 }
+    ensures shows { OnOk result (ShowsItem options level (tree item.now) (appended_bytes out.old.items out.new.items)) }
     ensures appends { StartsWith out.new.items out.old.items }
 {
     match &item.value {
         Value::Structure(children) => {
             push_head(item.tag, "Structure", level, out)?;
             push_text("\n", out)?;
-            push_items(alloc, children, level + 1, out)
+            push_items(alloc, children, options, level + 1, out)
         }
-        value => push_plain(alloc, item.tag, value, level, out),
+        Value::Bytes(bytes) => {
+            push_line(alloc, item, options.notes, level, out)?;
+            push_below(alloc, bytes, options, level, out)
+        }
+        _ => push_line(alloc, item, options.notes, level, out),
     }
 }
 
@@ -43,41 +54,70 @@ pub fn push_item(
 fn push_items(
     alloc: Global,
     items: &[Item],
+    options: ShowOptions,
     level: usize,
     out: &mut Vec<u8>,
 ) -> Result<(), AllocError>
-    requires { level + depths (trees items.now) ≤ 16 }
-    ensures shows { OnOk result (ShowsItems level (trees items.now) (appended_bytes out.old.items out.new.items)) }
+    requires level { level + depths (trees items.now) ≤ 32 }
+    requires room { IsTrue options.messages → level + depths (trees items.now) ≤ 16 }
+    ensures shows { OnOk result (ShowsItems options level (trees items.now) (appended_bytes out.old.items out.new.items)) }
     ensures appends { StartsWith out.new.items out.old.items }
 {
     for item in items {
-        push_item(alloc, item, level, out)?;
+        push_item(alloc, item, options, level, out)?;
     }
     Ok(())
 }
 
-/// Appends the line of an item without children.
-fn push_plain(
+/// Appends what stands below a Byte String at this level: the lines of the message that it is, if that is asked for.
+#[cycle(showing)]
+fn push_below(
     alloc: Global,
-    tag: Tag,
-    value: &Value,
+    bytes: &[u8],
+    options: ShowOptions,
     level: usize,
     out: &mut Vec<u8>,
 ) -> Result<(), AllocError>
-    requires plain { IsPlain value.now }
-    requires level { level ≤ 15 }
-    ensures shows { OnOk result (ShowsItem level (value_tree tag.number value.now) (appended_bytes out.old.items out.new.items)) }
+    requires { IsTrue options.messages → level ≤ 15 }
+    ensures shows { OnOk result (ShowsBelow options.messages options.notes level (byte_string bytes.now) (appended_bytes out.old.items out.new.items)) }
     ensures appends { StartsWith out.new.items out.old.items }
 {
-    push_head(tag, kind_name(value), level, out)?;
+    if !options.messages {
+        return Ok(());
+    }
+    let Some(message) = message_of(alloc, bytes)? else {
+        return Ok(());
+    };
+    let within = ShowOptions {
+        messages: false,
+        notes: options.notes,
+    };
+    push_item(alloc, &message, within, level + 1, out)
+}
+
+/// Appends the line of an item without children.
+fn push_line(
+    alloc: Global,
+    item: &Item,
+    notes: bool,
+    level: usize,
+    out: &mut Vec<u8>,
+) -> Result<(), AllocError>
+    requires plain { IsPlain item.now.value }
+    requires level { level ≤ 31 }
+    ensures shows { OnOk result (ShowsLine notes level (tree item.now) (appended_bytes out.old.items out.new.items)) }
+    ensures appends { StartsWith out.new.items out.old.items }
+{
+    push_head(item.tag, kind_name(&item.value), level, out)?;
     push_text(" ", out)?;
-    push_value(alloc, value, out)?;
+    push_value(alloc, &item.value, out)?;
+    push_note(notes, item.tag, &item.value, out)?;
     push_text("\n", out)
 }
 
 /// Appends the margin, the tag, its name and the type.
 fn push_head(tag: Tag, kind: &str, level: usize, out: &mut Vec<u8>) -> Result<(), AllocError>
-    requires { level ≤ 15 }
+    requires { level ≤ 31 }
     ensures pushes { OnOk result (out.new.items ≡ out.old.items ++ head level tag.number kind.now) }
     ensures appends { StartsWith out.new.items out.old.items }
 {
@@ -91,7 +131,7 @@ fn push_head(tag: Tag, kind: &str, level: usize, out: &mut Vec<u8>) -> Result<()
 
 /// Appends two spaces a level.
 fn push_margin(level: usize, out: &mut Vec<u8>) -> Result<(), AllocError>
-    requires { level ≤ 15 }
+    requires { level ≤ 31 }
     ensures pushes { OnOk result (out.new.items ≡ out.old.items ++ replicate (2 * level) 32) }
     ensures appends { StartsWith out.new.items out.old.items }
 {

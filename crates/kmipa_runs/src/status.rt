@@ -11,6 +11,8 @@ pub enum Status {
     Refused = 2,
     /// A device failed or memory ran out.
     Failed = 3,
+    /// No answer was found within the steps that were given.
+    GaveUp = 4,
     /// The words of the command line are not understood.
     Usage = 64,
 }

@@ -1,13 +1,14 @@
 //! The texts of values.
 
-ghost use Rattle.std.specs.Prelude.{◌≡◌, ◌++◌, ◌∷◌, ℕ, OnOk};
+ghost use Rattle.std.specs.Prelude.{◌≡◌, ◌++◌, ◌∷◌, ℕ, OnOk, option_map};
 ghost use Rattle.std.specs.Io.{StartsWith, appended_bytes};
 ghost use Rattle.hex.specs.Hex.{encode_with};
 ghost use Rattle.kmipa_ttlv.specs.ItemTree.{value_tree};
-ghost use Rattle.kmipa_runs.specs.Shown.{escaped, quoted, kind_name as name_of, ShowsMoment, ShowsValue};
+ghost use Rattle.kmipa_runs.specs.Shown.{escaped, quoted, kind_name as name_of, note, noted, ShowsMoment, ShowsValue};
 
 use crate::dates::calendar_date;
-use kmipa_ttlv::Value;
+use crate::notes::number_name;
+use kmipa_ttlv::{Tag, Value};
 use std::alloc::{AllocError, Global};
 
 /// The digits of tags and Enumerations.
@@ -71,6 +72,34 @@ pub fn push_word(text: &str, out: &mut Vec<u8>) -> Result<(), AllocError>
 {
     push_text(" ", out)?;
     push_text(text, out)
+}
+
+/// With the notes, appends the name of an Enumeration's number behind a space, in parentheses, where the standard
+/// names it.
+pub fn push_note(notes: bool, tag: Tag, value: &Value, out: &mut Vec<u8>) -> Result<(), AllocError>
+    ensures pushes { OnOk result (out.new.items ≡ out.old.items ++ note notes (value_tree tag.number value.now)) }
+    ensures appends { StartsWith out.new.items out.old.items }
+{
+    if !notes {
+        return Ok(());
+    }
+    match value {
+        Value::Enumeration(number) => push_name(number_name(tag, *number), out),
+        _ => Ok(()),
+    }
+}
+
+/// Appends a name, if there is one, behind a space, in parentheses.
+fn push_name(name: Option<&str>, out: &mut Vec<u8>) -> Result<(), AllocError>
+    ensures pushes { OnOk result (out.new.items ≡ out.old.items ++ noted (option_map (λ text. text.now) name.entry)) }
+    ensures appends { StartsWith out.new.items out.old.items }
+{
+    let Some(name) = name else {
+        return Ok(());
+    };
+    push_text(" (", out)?;
+    push_text(name, out)?;
+    push_text(")", out)
 }
 
 /// Appends bytes as hexadecimal digits of this table.

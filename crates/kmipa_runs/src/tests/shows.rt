@@ -1,7 +1,12 @@
 //! Runs of `show` and `write` over bytes in memory.
 
+use super::records::GET_R1;
 use super::runs::bytes_of;
-use super::vectors::{GET_K1, GET_K1_LINES, KINDS, KINDS_LINES, SHOWN_K1};
+use super::vectors::{
+    GET_K1, GET_K1_LINES, KINDS, KINDS_LINES, MARK_LINES, MARK_LINES_WITH_BOTH,
+    MARK_LINES_WITH_MESSAGES, SHOWN_K1,
+};
+use crate::options::ShowOptions;
 use crate::showing::show_run;
 use crate::status::Status;
 use crate::writing::write_run;
@@ -10,8 +15,12 @@ use std::alloc::Global;
 use std::test::Fail;
 
 fn show(alloc: Global, bytes: &[u8]) -> Result<(Status, String), Fail> {
+    show_with(alloc, bytes, ShowOptions::PLAIN)
+}
+
+fn show_with(alloc: Global, bytes: &[u8], options: ShowOptions) -> Result<(Status, String), Fail> {
     let mut out = Vec::new(alloc);
-    let status = show_run(alloc, &mut Input::new(bytes), &mut out);
+    let status = show_run(alloc, &mut Input::new(bytes), options, &mut out);
     Ok((status, String::from_utf8(out)?))
 }
 
@@ -37,6 +46,25 @@ fn shows_items(rt: HostRuntime) -> Result<(), Fail> {
     let (_, out) = show(rt.alloc(), bytes_of(rt.alloc(), SHOWN_K1)?.as_slice())?;
     let dated = "\n    420092 Time Stamp DateTime 1700000000 2023-11-14T22:13:20Z\n";
     assert!(rt; out.as_str().contains(dated));
+    Ok(())
+}
+
+// A mark of a call: its message stands below the Byte String, and the operation's number has its name.
+#[test]
+fn shows_messages_and_notes(rt: HostRuntime) -> Result<(), Fail> {
+    let mark = bytes_of(rt.alloc(), GET_R1)?;
+    let cases = [
+        (false, false, MARK_LINES),
+        (true, false, MARK_LINES_WITH_MESSAGES),
+        (true, true, MARK_LINES_WITH_BOTH),
+        (false, true, MARK_LINES),
+    ];
+    for (messages, notes, lines) in cases {
+        let options = ShowOptions { messages, notes };
+        let (status, out) = show_with(rt.alloc(), mark.as_slice(), options)?;
+        assert_eq!(rt; out.as_str(), lines);
+        assert_eq!(rt; status, Status::Done);
+    }
     Ok(())
 }
 

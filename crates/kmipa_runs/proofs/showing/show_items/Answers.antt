@@ -24,7 +24,7 @@ items-preserved g c =
     let inv = c.items.invariant in
     let joined : appended_bytes first new ≡ appended_bytes first old ++ appended_bytes old new
     = onto first old new (appended_bytes first old) (split first old inv.appends) c.show_next.ensures.appends in
-    let P : List ℕ → Type 0 = λ lines. AreShown (came_of c.show_next.new.input) lines in
+    let P : List ℕ → Type 0 = λ lines. AreShown c.args.options (came_of c.show_next.new.input) lines in
     record {
       shown = subst P (sym joined) (c.in_ok-show_next.ensures.shows (appended_bytes first old) inv.shown);
       appends = starts_on first old new inv.appends c.show_next.ensures.appends;
@@ -38,5 +38,5 @@ returns-clause-shows g c =
     let inv = c.items.invariant in
     let joined : appended_bytes first new ≡ appended_bytes first old ++ appended_bytes old new
     = onto first old new (appended_bytes first old) (split first old inv.appends) c.show_next.ensures.appends in
-    let P : List ℕ → Type 0 = λ lines. AreShown (came_of c.show_next.new.input) lines in
+    let P : List ℕ → Type 0 = λ lines. AreShown c.args.options (came_of c.show_next.new.input) lines in
     subst P (sym joined) (c.in_ok-show_next.ensures.shows (appended_bytes first old) inv.shown)

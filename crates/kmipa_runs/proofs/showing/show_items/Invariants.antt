@@ -10,6 +10,6 @@ decreases-items g l = 0x100_0000_0000 - taken_of l.input
 -- what came so far is shown
 abbrev pub invariant-items : goal.invariant-items
 invariant-items g l = record {
-  shown : AreShown (came_of l.input) (appended_bytes l.initial.out.items l.out.items);
+  shown : AreShown l.options (came_of l.input) (appended_bytes l.initial.out.items l.out.items);
   appends : StartsWith l.out.items l.initial.out.items;
 }

@@ -8,10 +8,11 @@ use Rattle.kmipa_runs.proofs.showing.show_next.Goals as goal
 pub push_item-requires : goal.push_item-requires
 push_item-requires g c =
     let read = rw c.in-Some.is at c.in_ok-item.ensures.item in
-    omega (arith, levels 16 (tree c.in-Some.item) read.0 read.1.stands)
+    let few = levels 16 (tree c.in-Some.item) read.0 read.1.stands in
+    record { level = omega (arith, few); room = λ _. omega (arith, few) }
 
 pub returns-in-Ok-clause-shows : goal.returns-in-Ok-clause-shows
 returns-in-Ok-clause-shows g c = λ lines h.
     let next = rw c.in-Some.is at c.in_ok-item.ensures.next in
-    shown_last (came_of c.args.input.now) (came_of c.read_item_into.new.input) lines (appended_bytes c.args.out.now.items c.push_item.new.out.items)
+    shown_last c.args.options (came_of c.args.input.now) (came_of c.read_item_into.new.input) lines (appended_bytes c.args.out.now.items c.push_item.new.out.items)
     (tree c.in-Some.item) next c.in-Ok.ensures.shows h

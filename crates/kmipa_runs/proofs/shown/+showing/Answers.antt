@@ -1,24 +1,27 @@
-use Rattle.std.proofs.Common.{◌≡◌, ◌+◌, ◌++◌, ℕ, List, [], drop, refl, sym, ap, subst, ◌∙◌, append_assoc, arith}
+use Rattle.std.proofs.Common.{◌≡◌, ◌++◌, ℕ, List, [], drop, refl, sym, ap, subst, ◌∙◌, append_assoc, arith, rules, IsTrue, true, false}
 use Rattle.std.specs.Prelude.{codes}
 use Rattle.std.specs.Io.{appended_bytes}
 use Rattle.std.proofs.lemmas.List.{drop_all, append-nil}
 use Rattle.std.proofs.lemmas.Result.{on_ok_weaker}
-use Rattle.kmipa_ttlv.specs.Tree.{Tree, Trees, structure}
+use Rattle.kmipa_ttlv.specs.Tree.{Tree, Trees, structure, scalar, byte_string}
 use Rattle.kmipa_ttlv.specs.ItemTree.{value_tree, tree, trees}
 use Rattle.kmipa_ttlv.specs.Written.{depth, depths}
 use Rattle.kmipa_ttlv.specs.declared.item.Item.{Item}
 use Rattle.kmipa_ttlv.proofs.ItemTreeLemmas.{tree_of_structure}
-use Rattle.kmipa_runs.specs.Shown.{head, ShowsItem, ShowsItems}
+use Rattle.kmipa_runs.specs.Shown.{head, ShowsBelow, ShowsItem, ShowsItems, ShowsLine}
 use Rattle.kmipa_runs.proofs.AppendLemmas.{split, onto, starts_on}
-use Rattle.kmipa_runs.proofs.ShownLemmas.{next_item}
+use Rattle.kmipa_runs.proofs.InputLemmas.{levels}
+use Rattle.kmipa_runs.proofs.ShownLemmas.{line_alone, next_item}
 use Rattle.kmipa_runs.proofs.shown.+showing.Goals as goal
 
 pub push_item-push_items-requires : goal.push_item-push_items-requires
 push_item-push_items-requires t c =
     let tag = c.args.item.now.tag.number in
     let e : tree c.args.item.now ≡ structure tag (trees c.deref.result.now)
-    = ap (value_tree tag) c.in-Structure.is ∙ tree_of_structure tag c.in-Structure.children ∙ ap (λ (is : List Item). structure tag (trees is)) (sym c.deref.ensures.value) in
-    (omega (arith, c.requires, ap depth e, c.decreases), omega (arith, c.requires, ap depth e))
+    = ap (value_tree tag) c.in-Structure.is ∙ tree_of_structure tag c.in-Structure.children ∙ ap (λ (is : List Item). structure tag (trees is)) (sym c.deref.ensures.value) in (
+      omega (arith, c.requires.level, ap depth e, c.decreases),
+      (omega (arith, c.requires.level, ap depth e), λ asked. let fits = c.requires.room asked in omega (arith, fits, ap depth e)),
+    )
 
 pub push_item-returns-in_ok-push_text-in-Structure-clause-shows : goal.push_item-returns-in_ok-push_text-in-Structure-clause-shows
 push_item-returns-in_ok-push_text-in-Structure-clause-shows t c =
@@ -33,13 +36,15 @@ push_item-returns-in_ok-push_text-in-Structure-clause-shows t c =
     let line : lined ≡ old ++ (first ++ codes "\n")
     = c.in_ok-push_text-in-Structure.ensures.pushes ∙ ap (λ (l : List ℕ). l ++ codes "\n") c.in_ok-push_head-in-Structure.ensures.pushes ∙ append_assoc old first (codes "\n") in
     let whole = onto old lined new (first ++ codes "\n") line c.push_items.ensures.appends in
-    let P : Tree → Type 0 = λ tr. ShowsItem c.args.level tr (appended_bytes old new) in
+    let P : Tree → Type 0 = λ tr. ShowsItem c.args.options c.args.level tr (appended_bytes old new) in
     on_ok_weaker c.push_items.result (λ below. subst P (sym e) (appended_bytes lined new, below, whole)) c.push_items.ensures.shows
 
 pub push_items-push_item-requires : goal.push_items-push_item-requires
 push_items-push_item-requires t c =
-    let e = next_item c.args.items.now c.loop-item.item-index c.item-item.result c.loop-item-test.true c.item-item.is in
-    (omega (arith, c.decreases), omega (arith, c.loop-item.invariant.levels, ap depths e))
+    let e = next_item c.args.items.now c.loop-item.item-index c.item-item.result c.loop-item-test.true c.item-item.is in (
+      omega (arith, c.decreases),
+      (omega (arith, c.loop-item.invariant.levels, ap depths e), λ asked. let fits = c.loop-item.invariant.room asked in omega (arith, fits, ap depths e)),
+    )
 
 pub push_items-loop-item-preserved : goal.push_items-loop-item-preserved
 push_items-loop-item-preserved t c =
@@ -51,9 +56,10 @@ push_items-loop-item-preserved t c =
     let new = c.push_item.new.out.items in
     let inv = c.loop-item.invariant in
     let e = next_item is i x c.loop-item-test.true c.item-item.is in
-    let P : Trees → List ℕ → Type 0 = λ ts lines. ShowsItems c.args.level ts lines in
+    let P : Trees → List ℕ → Type 0 = λ ts lines. ShowsItems c.args.options c.args.level ts lines in
     record {
       levels = omega (arith, inv.levels, ap depths e);
+      room = λ asked. let fits = inv.room asked in omega (arith, fits, ap depths e);
       shown = λ others rest.
           let lines = appended_bytes old new ++ others in
           let joined : appended_bytes initial new ++ others ≡ appended_bytes initial old ++ lines
@@ -70,6 +76,42 @@ push_items-returns-clause-shows t c =
     let initial = c.args.out.now.items in
     let last = c.loop-item.out.items in
     let none : trees (drop c.loop-item.item-index is) ≡ trees [] = ap trees (drop_all c.loop-item.item-index is c.loop-item-test.false) in
-    let P : Trees → Type 0 = λ ts. ShowsItems c.args.level ts [] in
-    let Q : List ℕ → Type 0 = λ lines. ShowsItems c.args.level (trees is) lines in
+    let P : Trees → Type 0 = λ ts. ShowsItems c.args.options c.args.level ts [] in
+    let Q : List ℕ → Type 0 = λ lines. ShowsItems c.args.options c.args.level (trees is) lines in
     subst Q (append-nil (appended_bytes initial last)) (c.loop-item.invariant.shown [] (subst P (sym none) refl))
+
+pub push_item-returns-in_ok-push_line-in-Bytes-clause-shows : goal.push_item-returns-in_ok-push_line-in-Bytes-clause-shows
+push_item-returns-in_ok-push_line-in-Bytes-clause-shows t c =
+    let tag = c.args.item.now.tag.number in
+    let options = c.args.options in
+    let level = c.args.level in
+    let old = c.args.out.now.items in
+    let lined = c.push_line.new.out.items in
+    let new = c.push_below.new.out.items in
+    let line = appended_bytes old lined in
+    let below = appended_bytes lined new in
+    let e : tree c.args.item.now ≡ scalar tag (byte_string c.in-Bytes.bytes.items) = ap (value_tree tag) c.in-Bytes.is in
+    let L : Tree → Type 0 = λ tr. ShowsLine options.notes level tr line in
+    let B : List ℕ → Type 0 = λ bs. ShowsBelow options.messages options.notes level (byte_string bs) below in
+    let P : Tree → Type 0 = λ tr. ShowsItem options level tr (appended_bytes old new) in
+    let whole = onto old lined new line (split old lined c.push_line.ensures.appends) c.push_below.ensures.appends in
+    on_ok_weaker c.push_below.result
+    (λ shows. subst P (sym e) (line, below, subst L e c.in_ok-push_line-in-Bytes.ensures.shows, subst B c.deref-in-Bytes.ensures.value shows, whole))
+    c.push_below.ensures.shows
+
+pub push_item-returns-in_default-clause-shows : goal.push_item-returns-in_default-clause-shows
+push_item-returns-in_default-clause-shows t c =
+    let item = c.args.item.now in
+    let old = c.args.out.now.items in
+    let new = c.push_line-in_default.new.out.items in
+    on_ok_weaker c.push_line-in_default.result
+    (λ shows. line_alone c.args.options.messages c.args.options.notes c.args.level item.tag.number item.value (appended_bytes old new) c.in_default.not-Bytes shows)
+    c.push_line-in_default.ensures.shows
+
+pub push_below-push_item-requires : goal.push_below-push_item-requires
+push_below-push_item-requires t c =
+    let found = rw c.in-Some.is at c.in_ok-message.ensures in
+    let few = levels 16 (tree c.in-Some.message) c.args.bytes.now found.spelled.stands in
+    let asked : IsTrue c.args.options.messages = search (rules, c.if-not-options.false) in
+    let here = c.requires asked in
+    (omega (arith, here, few, c.decreases), (omega (arith, here, few), λ no. let clash : false ≡ true = no in absurd cc))

@@ -6,4 +6,4 @@ use Rattle.kmipa_runs.proofs.shown.push_margin.Goals as goal
 pub returns-clause-pushes : goal.returns-clause-pushes
 returns-clause-pushes c =
     on_ok c.extend_from_slice.result _ _ _ _ c.extend_from_slice.ensures.items
-    (ap (λ (l : List ℕ). c.args.out.now.items ++ l) (take-replicate (2 * c.args.level) 30 32 (omega arith)))
+    (ap (λ (l : List ℕ). c.args.out.now.items ++ l) (take-replicate (2 * c.args.level) 62 32 (omega arith)))

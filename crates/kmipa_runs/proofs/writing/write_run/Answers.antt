@@ -1,4 +1,4 @@
-use Rattle.std.proofs.Common.{List, [], ℕ, Ok, sym, ap, subst, ◌∙◌}
+use Rattle.std.proofs.Common.{List, [], ℕ, sym, ap, subst, ◌∙◌}
 use Rattle.std.specs.Io.{appended_bytes}
 use Rattle.std.proofs.lemmas.List.{append-nil}
 use Rattle.kmipa_ttlv.specs.Input.{came_of, is_failed}

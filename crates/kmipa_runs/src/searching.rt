@@ -1,0 +1,203 @@
+//! `search`: a witness of a transcript and a declaration.
+
+ghost use Rattle.std.specs.Prelude.{◌≡◌, ◌≢◌, ◌⊎◌, ◌++◌, ℕ, List, [], IsTrue, IfOk, OnOk, Result, Ok, Err, string_bytes};
+ghost use Rattle.std.specs.Io.{StartsWith, appended_bytes};
+ghost use Rattle.kmipa_ttlv.specs.Input.{came_of, is_ended, is_failed, IsFileOf};
+ghost use Rattle.kmipa_record.specs.Declarations.{AreDeclared, declaration_of};
+ghost use Rattle.kmipa_record.specs.Marks.{AreRecorded};
+ghost use Rattle.kmipa_record.specs.Transcripts.{transcript_of};
+ghost use Rattle.kmipa_record.specs.Witnesses.{witness_of, IsWitness};
+ghost use Rattle.kmipa_check.specs.Audits.{AreAccepted};
+ghost use Rattle.kmipa_runs.specs.Searches.{found_status, found_text, forced_text, PrintsSearch, SearchesFiles, SearchesRecords, TellsIfForced};
+ghost use Rattle.kmipa_runs.specs.Statuses.{IsSilent};
+
+use crate::lines::{Lines, fault_lines};
+use crate::reporting::append;
+use crate::searched::Searched;
+use crate::status::Status;
+use kmipa_check::{AuditFault, CheckFault};
+use kmipa_record::{
+    Declaration, Transcript, Witness, read_declaration, read_transcript, write_witness,
+};
+use kmipa_search::{Found, is_forced, search};
+use kmipa_ttlv::Input;
+use std::alloc::{AllocError, Global};
+use std::io::Read;
+
+/// `search TRANSCRIPT DECLARATION OUT`: looks for a witness with at most `budget` steps. Appends to `out` the lines of
+/// what was found, with `forced` ahead of them whether the transcript is forced, or the line of the fault that stands
+/// in their place, and answers the status. A witness that was found is appended to `made`, as a file; at every other
+/// status than `Done` nothing is. Where memory runs out nothing is appended to either, and the status is `Failed`.
+pub fn search_run<R: Read>(
+    alloc: Global,
+    transcript: &mut Input<R>,
+    declaration: &mut Input<R>,
+    budget: u64,
+    forced: bool,
+    out: &mut Vec<u8>,
+    made: &mut Vec<u8>,
+) -> Status
+    requires transcript { came_of transcript.old ≡ [] }
+    requires declaration { came_of declaration.old ≡ [] }
+    // What is made and printed tells what a search answers of whatever the inputs may be, or memory ran out.
+    ensures prints { (outcome : Result Searched AuditFault)
+        × ((t d : List ℕ) → IsFileOf t transcript.new → IsFileOf d declaration.new
+        → SearchesFiles t d (is_failed transcript.new) (is_failed declaration.new) budget forced outcome)
+        × (PrintsSearch outcome result (appended_bytes out.old.items out.new.items) (appended_bytes made.old.items made.new.items)
+        ⊎ (IsSilent result (appended_bytes out.old.items out.new.items) × (appended_bytes made.old.items made.new.items ≡ []))) }
+    // Status 0 is answered only where the bytes that came, to the ends that were seen, are accepted with the witness that is made.
+    ensures accepts { result ≡ Status.Done → AreAccepted (came_of transcript.new) (came_of declaration.new) (appended_bytes made.old.items made.new.items)
+        × IsTrue (is_ended transcript.new) × IsTrue (is_ended declaration.new) }
+    ensures nothing { result ≢ Status.Done → made.new.items ≡ made.old.items }
+    ensures appends { StartsWith out.new.items out.old.items }
+    ensures makes { StartsWith made.new.items made.old.items }
+{
+    match search_inputs(alloc, transcript, declaration, budget, forced) {
+        Ok(searched) => tell_searched(alloc, &searched, out, made),
+        Err(fault) => append(fault_lines(alloc, &fault), out),
+    }
+}
+
+/// Reads the two inputs, of which nothing was read, one after the other, and searches.
+fn search_inputs<R: Read>(
+    alloc: Global,
+    transcript: &mut Input<R>,
+    declaration: &mut Input<R>,
+    budget: u64,
+    forced: bool,
+) -> Result<Searched, AuditFault>
+    requires transcript { came_of transcript.old ≡ [] }
+    requires declaration { came_of declaration.old ≡ [] }
+    ensures searches { (t d : List ℕ) → IsFileOf t transcript.new → IsFileOf d declaration.new
+        → SearchesFiles t d (is_failed transcript.new) (is_failed declaration.new) budget forced result }
+    ensures ended { OnOk result (IsTrue (is_ended transcript.new) × IsTrue (is_ended declaration.new)) }
+{
+    let transcript = match read_transcript(alloc, transcript) {
+        Ok(transcript) => transcript,
+        Err(fault) => return Err(AuditFault::Transcript(fault)),
+    };
+    let declaration = match read_declaration(alloc, declaration) {
+        Ok(declaration) => declaration,
+        Err(fault) => return Err(AuditFault::Declaration(fault)),
+    };
+    match search_records(alloc, &transcript, &declaration, budget, forced) {
+        Ok(searched) => Ok(searched),
+        Err(fault) => Err(AuditFault::Check(fault)),
+    }
+}
+
+fn search_records(
+    alloc: Global,
+    transcript: &Transcript,
+    declaration: &Declaration,
+    budget: u64,
+    forced: bool,
+) -> Result<Searched, CheckFault>
+    requires { AreDeclared (declaration_of declaration.now) }
+    ensures { AreRecorded (transcript_of transcript.now)
+        → SearchesRecords (transcript_of transcript.now) (declaration_of declaration.now) budget forced result }
+{
+    let forced = if_forced(alloc, transcript, forced)?;
+    let found = search(alloc, transcript, declaration, budget)?;
+    Ok(Searched { forced, found })
+}
+
+/// Whether a transcript is forced, where that is asked for.
+fn if_forced(
+    alloc: Global,
+    transcript: &Transcript,
+    asked: bool,
+) -> Result<Option<bool>, CheckFault>
+    ensures { AreRecorded (transcript_of transcript.now) → TellsIfForced (transcript_of transcript.now) asked result }
+{
+    if asked {
+        Ok(Some(is_forced(alloc, transcript)?))
+    } else {
+        Ok(None)
+    }
+}
+
+/// Appends the lines of what was found to `out`, and a witness that was found to `made`; nothing to either where
+/// memory runs out.
+fn tell_searched(
+    alloc: Global,
+    searched: &Searched,
+    out: &mut Vec<u8>,
+    made: &mut Vec<u8>,
+) -> Status
+    ensures tells { PrintsSearch (Ok searched.now) result (appended_bytes out.old.items out.new.items) (appended_bytes made.old.items made.new.items)
+        ⊎ (IsSilent result (appended_bytes out.old.items out.new.items) × (appended_bytes made.old.items made.new.items ≡ [])) }
+    ensures nothing { result ≢ Status.Done → made.new.items ≡ made.old.items }
+    ensures appends { StartsWith out.new.items out.old.items }
+    ensures makes { StartsWith made.new.items made.old.items }
+{
+    let Ok(lines) = searched_lines(alloc, searched) else {
+        return Status::Failed;
+    };
+    match &searched.found {
+        Found::Yes(witness, _) => tell_witness(alloc, witness, &lines, out, made),
+        Found::GaveUp(_) => append(Ok(lines), out),
+    }
+}
+
+/// Appends a witness to `made`, and the lines that tell of it to `out`; nothing to either where memory runs out.
+fn tell_witness(
+    alloc: Global,
+    witness: &Witness,
+    lines: &Lines,
+    out: &mut Vec<u8>,
+    made: &mut Vec<u8>,
+) -> Status
+    ensures tells { ((result ≡ lines.now.status) × (appended_bytes out.old.items out.new.items ≡ string_bytes lines.now.text)
+        × IsWitness (appended_bytes made.old.items made.new.items) (witness_of witness.now))
+        ⊎ (IsSilent result (appended_bytes out.old.items out.new.items) × (made.new.items ≡ made.old.items)) }
+    ensures appends { StartsWith out.new.items out.old.items }
+    ensures makes { StartsWith made.new.items made.old.items }
+{
+    let kept = made.len();
+    if write_witness(alloc, witness, made).is_err() {
+        return Status::Failed;
+    }
+    if out.extend_from_slice(lines.text.as_bytes()).is_err() {
+        made.truncate(kept);
+        return Status::Failed;
+    }
+    lines.status
+}
+
+/// The lines of what a search found, and ahead of them whether the transcript is forced, where that was asked for.
+fn searched_lines(alloc: Global, searched: &Searched) -> Result<Lines, AllocError>
+    ensures { IfOk result (λ lines. (lines.status ≡ found_status searched.now.found)
+        × (string_bytes lines.text ≡ forced_text searched.now.forced ++ found_text searched.now.found)) }
+{
+    let Lines { text, status } = found_lines(alloc, &searched.found)?;
+    let first = forced_line(searched.forced);
+    let text = format!(in alloc; "{first}{text}")?;
+    Ok(Lines { text, status })
+}
+
+fn forced_line(forced: Option<bool>) -> &'static str
+    ensures { result.now ≡ forced_text forced }
+{
+    match forced {
+        None => "",
+        Some(true) => "forced: yes\n",
+        Some(false) => "forced: no\n",
+    }
+}
+
+/// The line of what a search found.
+fn found_lines(alloc: Global, found: &Found) -> Result<Lines, AllocError>
+    ensures { IfOk result (λ lines. (lines.status ≡ found_status found.now) × (string_bytes lines.text ≡ found_text found.now)) }
+{
+    match found {
+        Found::Yes(_, count) => Ok(Lines {
+            text: format!(in alloc; "yes: {count} steps\n")?,
+            status: Status::Done,
+        }),
+        Found::GaveUp(count) => Ok(Lines {
+            text: format!(in alloc; "gave up: {count} steps\n")?,
+            status: Status::GaveUp,
+        }),
+    }
+}
