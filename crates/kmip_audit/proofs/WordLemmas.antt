@@ -1,18 +1,22 @@
 -- From what the parser says of its matches and errors to the words of the program.
-use Rattle.std.proofs.Common.{refl, ◌≡◌, ◌⊎◌, List, ℕ, Some, None, Option, inl, inr, true, subst, ap, sym, ◌∙◌}
-use Rattle.std.specs.Prelude.{codes, option_map, string_bytes}
+use Rattle.std.proofs.Common.{refl, ◌≡◌, ◌⊎◌, List, [], ℕ, Some, None, Option, inl, inr, Bool, true, false, subst, ap, sym, ◌∙◌}
+use Rattle.std.specs.Prelude.{codes, option_map, string_bytes, IfSome, OnOk, Result, Ok, Err}
+use Rattle.std.specs.Str.Parse.{IsNumeral, digits_value, without_leading_plus}
 use Rattle.clap.specs.Words.{Row, Text, Kinds, first_value, first_of, rows_of, kind_of, is_simple_and_free, fault_of, subcommand_name_of, subcommand_rows, subcommand_rows_of}
 use Rattle.clap.specs.declared.parser.matches.ArgMatches.{ArgMatches}
 use Rattle.clap.specs.declared.parser.matches.ArgMatches.TheViews.{out-ArgMatches, out-SubCommand}
 use Rattle.std.specs.Box.{box_value}
 use Rattle.clap.specs.Kinds.{HasKind}
-use Rattle.clap.proofs.WalkLemmas.{first_value-rows}
+use Rattle.clap.proofs.WalkLemmas.{first_value-rows, one_text-rows}
+use Rattle.clap.specs.Matches.{one_text}
 use Rattle.clap.specs.declared.parser.matches.Found.{Found}
 use Rattle.clap.specs.declared.error.Error.{Error}
 use Rattle.clap.specs.declared.error.kind.ErrorKind.TheVariants.{OutOfMemory}
 use Rattle.kmipa_runs.specs.Statuses.{IsSilent}
-use Rattle.kmip_audit.specs.Words.{IsJob, IsTold, status_of, program_app, with_settings, check_app, show_app, write_app}
-use Rattle.kmip_audit.specs.declared.words.Job.TheVariants.{Check, Show, Write}
+use Rattle.kmip_audit.specs.Words.{IsFlag, IsJob, IsNumber, IsSearch, IsTold, status_of, program_app, with_settings, check_app, search_app, show_app, write_app}
+use Rattle.kmip_audit.specs.declared.words.Job.{Job}
+use Rattle.kmip_audit.specs.declared.words.Job.TheVariants.{Check, Search, Show, Write}
+use Rattle.kmipa_runs.specs.declared.options.ShowOptions.{ShowOptions}
 use Rattle.kmip_audit.specs.declared.words.Usage.{Usage}
 use Rattle.clap.specs.Simple.{App, app_of_fields, new_app, with_subcommand}
 use Rattle.clap.specs.declared.builder.command.Command.{Command}
@@ -20,7 +24,7 @@ use Rattle.clap.specs.declared.builder.command.Command.TheOpen.{Command-F}
 use denote.Bor.{Bor}
 
 -- a value that a getter found stands first in its row
-at_row : (f : Found) (id v : Text) → Some v ≡ first_value f id → first_of id (rows_of f) ≡ Some v
+pub at_row : (f : Found) (id v : Text) → Some v ≡ first_value f id → first_of id (rows_of f) ≡ Some v
 at_row f id v e = sym (first_value-rows f id) ∙ sym e
 
 -- the name that was found stands before the values
@@ -48,13 +52,51 @@ check_found f t d w (Some found) n e et ed ew =
       ap (first_of (codes "WITNESS")) (sym rows) ∙ at_row f (codes "WITNESS") w.now ew,
     )
 
-pub show_found : (f : Found) (file : Bor (List ℕ)) (o : Option (Text × List Row))
-    → Some (codes "show") ≡ option_map (λ p. p.0) o → Some (rows_of f) ≡ option_map (λ p. p.1) o → Some file.now ≡ first_value f (codes "FILE") → IsJob (Show file) o
-show_found f file None n e ef = cc
-show_found f file (Some found) n e ef =
+-- a flag that a getter found
+pub flag_found : (f : Found) (id : Text) (given : Bool) → (one_text f id ≡ None → given ≡ false) → (one_text f id ≡ Some (codes "true") → given ≡ true)
+    → (one_text f id ≡ Some (codes "false") → given ≡ false) → IsFlag id (rows_of f) given
+flag_found f id given none on off = record {
+  set = λ e. on (one_text-rows f id ∙ e);
+  unset = λ e. off (one_text-rows f id ∙ e);
+  absent = λ e. none (one_text-rows f id ∙ e);
+}
+
+-- a number that a getter found
+pub number_found : (f : Found) (id : Text) (n : ℕ) → (one_text f id ≡ None → Some n ≡ None)
+    → ((t : Text) → one_text f id ≡ Some t → (IsNumeral 10 (without_leading_plus t)) × (n ≡ digits_value 10 (without_leading_plus t))) → IsNumber id (rows_of f) n
+number_found f id n none value = go (one_text f id) refl
+  where
+    go : (o : Option Text) → one_text f id ≡ o → IsNumber id (rows_of f) n
+    go None e = let clash : Some n ≡ None = none e in absurd cc
+    go (Some t) e = record { text = t; is = sym (one_text-rows f id) ∙ e; numeral = (value t e).0; reads = (value t e).1 }
+
+pub search_found : (f : Found) (job : Job) (o : Option (Text × List Row))
+    → Some (codes "search") ≡ option_map (λ p. p.0) o → Some (rows_of f) ≡ option_map (λ p. p.1) o → IsSearch job (rows_of f) → IsJob job o
+search_found f (Search t d out budget forced quiet) None n e is = cc
+search_found f (Search t d out budget forced quiet) (Some found) n e is =
+    let name : codes "search" ≡ found.0 = cc in
+    let rows : rows_of f ≡ found.1 = cc in
+    let P : List Row → Type 0 = λ r. IsSearch (Search t d out budget forced quiet) r in
+    (sym name, subst P rows is)
+search_found f (Check t d w) o n e is = absurd is
+search_found f (Show file options) o n e is = absurd is
+search_found f (Write hex out) o n e is = absurd is
+
+pub search_found_some : (f : Found) (found : Option Job) (o : Option (Text × List Row))
+    → Some (codes "search") ≡ option_map (λ p. p.0) o → Some (rows_of f) ≡ option_map (λ p. p.1) o → IfSome found (λ job. IsSearch job (rows_of f)) → IfSome found (λ job. IsJob job o)
+search_found_some f None o n e is = tt
+search_found_some f (Some job) o n e is = search_found f job o n e is
+
+pub show_found : (f : Found) (file : Bor (List ℕ)) (options : ShowOptions) (o : Option (Text × List Row))
+    → Some (codes "show") ≡ option_map (λ p. p.0) o → Some (rows_of f) ≡ option_map (λ p. p.1) o → Some file.now ≡ first_value f (codes "FILE")
+    → IsFlag (codes "messages") (rows_of f) options.messages → IsFlag (codes "notes") (rows_of f) options.notes → IsJob (Show file options) o
+show_found f file options None n e ef em en = cc
+show_found f file options (Some found) n e ef em en =
     let name : codes "show" ≡ found.0 = cc in
     let rows : rows_of f ≡ found.1 = cc in
-    (sym name, ap (first_of (codes "FILE")) (sym rows) ∙ at_row f (codes "FILE") file.now ef)
+    let M : List Row → Type 0 = λ r. IsFlag (codes "messages") r options.messages in
+    let N : List Row → Type 0 = λ r. IsFlag (codes "notes") r options.notes in
+    (sym name, ap (first_of (codes "FILE")) (sym rows) ∙ at_row f (codes "FILE") file.now ef, subst M rows em, subst N rows en)
 
 pub write_found : (f : Found) (hex out : Bor (List ℕ)) (o : Option (Text × List Row))
     → Some (codes "write") ≡ option_map (λ p. p.0) o → Some (rows_of f) ≡ option_map (λ p. p.1) o
@@ -86,16 +128,29 @@ settings about version examples bare told versioned explained named helped et ev
     (ex ∙ ap (λ (f : Command-F Command). record f { after_help = Some examples }) (ev ∙ ap (λ (f : Command-F Command). record f { version = Some version }) et))))
 
 -- the whole command line, from its settings and its subcommands
-pub whole : (bare check show write one two app : App) → bare ≡ new_app (codes "kmip_audit") → check ≡ check_app → show ≡ show_app → write ≡ write_app
-    → one ≡ with_subcommand (with_settings bare) check.top → two ≡ with_subcommand one show.top → app ≡ with_subcommand two write.top → app ≡ program_app
-whole bare check show write one two app eb ec es ew e1 e2 e3 =
+pub whole : (bare check search show write one two three app : App) → bare ≡ new_app (codes "kmip_audit") → check ≡ check_app → search ≡ search_app → show ≡ show_app
+    → write ≡ write_app → one ≡ with_subcommand (with_settings bare) check.top → two ≡ with_subcommand one search.top → three ≡ with_subcommand two show.top
+    → app ≡ with_subcommand three write.top → app ≡ program_app
+whole bare check search show write one two three app eb ec es eh ew e1 e2 e3 e4 =
     let set = with_settings (new_app (codes "kmip_audit")) in
     let checks = with_subcommand set check_app.top in
+    let searches = with_subcommand checks search_app.top in
+    let shows = with_subcommand searches show_app.top in
     let first : one ≡ checks
     = e1 ∙ ap (λ (a : App). with_subcommand (with_settings a) check.top) eb ∙ ap (λ (a : App). with_subcommand set a.top) ec in
-    let second : two ≡ with_subcommand checks show_app.top
-    = e2 ∙ ap (λ (a : App). with_subcommand a show.top) first ∙ ap (λ (a : App). with_subcommand checks a.top) es in
-    e3 ∙ ap (λ (a : App). with_subcommand a write.top) second ∙ ap (λ (a : App). with_subcommand (with_subcommand checks show_app.top) a.top) ew
+    let second : two ≡ searches
+    = e2 ∙ ap (λ (a : App). with_subcommand a search.top) first ∙ ap (λ (a : App). with_subcommand checks a.top) es in
+    let third : three ≡ shows
+    = e3 ∙ ap (λ (a : App). with_subcommand a show.top) second ∙ ap (λ (a : App). with_subcommand searches a.top) eh in
+    e4 ∙ ap (λ (a : App). with_subcommand a write.top) third ∙ ap (λ (a : App). with_subcommand shows a.top) ew
+
+-- a parse of the command line that succeeds has no fault
+pub fits : {T E : Type 0} (r : Result T E) (app : App) (words : List Text) → app ≡ program_app → (is_simple_and_free app ≡ true → fault_of app words ≡ [])
+    → OnOk r (fault_of program_app words ≡ [])
+fits (Err e) app words is none = tt
+fits (Ok x) app words is none =
+    let P : App → Type 0 = λ a. fault_of a words ≡ [] in
+    subst P is (none (ap is_simple_and_free is))
 
 -- the kinds of a parse of the command line that failed
 pub has_kind : (app : App) (words : List Text) (e : Error) → app ≡ program_app

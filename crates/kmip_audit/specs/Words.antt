@@ -1,28 +1,52 @@
 -- The command line: which words name which job, and what is told where they name none.
-use Rattle.std.specs.Prelude.{◌≡◌, ◌⊎◌, List, codes, string_bytes, true, Option, Some, None}
-use Rattle.clap.specs.Words.{App, Row, Rule, Text, Kinds, IsAmong, new_app, new_rule, with_rule, with_subcommand, first_of}
-use Rattle.clap.specs.declared.builder.action.ArgAction.TheVariants.{Set}
+use Rattle.std.specs.Prelude.{◌≡◌, ◌⊎◌, ℕ, List, [], ◌∷◌, codes, string_bytes, Bool, true, false, Option, Some, None}
+use Rattle.std.specs.Str.Parse.{IsNumeral, digits_value, without_leading_plus}
+use Rattle.clap.specs.Words.{App, Row, Rule, Text, Kinds, IsAmong, new_app, new_rule, with_rule, with_subcommand, first_of, one_of}
+use Rattle.clap.specs.declared.builder.action.ArgAction.TheVariants.{Set, SetTrue}
+use Rattle.clap.specs.declared.builder.value_parser.ValueParser.TheVariants.{Unsigned}
 use Rattle.clap.specs.declared.error.kind.ErrorKind.{ErrorKind}
 use Rattle.clap.specs.declared.error.kind.ErrorKind.TheVariants.{DisplayHelp, DisplayHelpOnMissingArgumentOrSubcommand, DisplayVersion, OutOfMemory}
 use Rattle.kmipa_runs.specs.declared.status.Status.{Status}
 use Rattle.kmipa_runs.specs.declared.status.Status.TheVariants.{Done, Failed, Usage as Mistake}
 use Rattle.kmipa_runs.specs.Statuses.{IsSilent}
 use Rattle.kmip_audit.specs.declared.words.Job.{Job}
-use Rattle.kmip_audit.specs.declared.words.Job.TheVariants.{Check, Show, Write}
+use Rattle.kmip_audit.specs.declared.words.Job.TheVariants.{Check, Search, Show, Write}
 use Rattle.kmip_audit.specs.declared.words.Usage.{Usage}
 
 -- a file that has to be named
 abbrev pub file_rule : Text → Rule
 file_rule name = record (new_rule name) { action = Some Set; required = true }
 
+-- an option without a value
+abbrev pub flag_rule : Text → Rule
+flag_rule name = record (new_rule name) { long = Some name; action = Some SetTrue }
+
+-- `--budget N`, from 0 to 1,000,000,000; 1,000,000 where it isn't given
+abbrev pub budget_rule : Rule
+budget_rule = record (new_rule (codes "budget")) {
+  long = Some (codes "budget");
+  value_names = 1;
+  defaults = codes "1000000" ∷ [];
+  parser = Some (Unsigned 0 1_000_000_000);
+}
+
 -- `check TRANSCRIPT DECLARATION WITNESS`
 abbrev pub check_app : App
 check_app = with_rule (with_rule (with_rule (new_app (codes "check")) (file_rule (codes "TRANSCRIPT")))
     (file_rule (codes "DECLARATION"))) (file_rule (codes "WITNESS"))
 
--- `show FILE`
+-- `search TRANSCRIPT DECLARATION OUT`
+abbrev pub search_files_app : App
+search_files_app = with_rule (with_rule (with_rule (new_app (codes "search")) (file_rule (codes "TRANSCRIPT")))
+    (file_rule (codes "DECLARATION"))) (file_rule (codes "OUT"))
+
+-- and behind it `[--budget N] [--forced] [--quiet]`
+abbrev pub search_app : App
+search_app = with_rule (with_rule (with_rule search_files_app budget_rule) (flag_rule (codes "forced"))) (flag_rule (codes "quiet"))
+
+-- `show FILE [--messages] [--notes]`
 abbrev pub show_app : App
-show_app = with_rule (new_app (codes "show")) (file_rule (codes "FILE"))
+show_app = with_rule (with_rule (with_rule (new_app (codes "show")) (file_rule (codes "FILE"))) (flag_rule (codes "messages"))) (flag_rule (codes "notes"))
 
 -- `write HEX OUT`
 abbrev pub write_app : App
@@ -33,14 +57,38 @@ abbrev pub with_settings : App → App
 with_settings app = record app { top = record app.top { has_version = true; subcommand_required = true; arg_required_else_help = true } }
 
 abbrev pub program_app : App
-program_app = with_subcommand (with_subcommand (with_subcommand (with_settings (new_app (codes "kmip_audit"))) check_app.top) show_app.top) write_app.top
+program_app = with_subcommand (with_subcommand (with_subcommand (with_subcommand (with_settings (new_app (codes "kmip_audit"))) check_app.top) search_app.top)
+    show_app.top) write_app.top
+
+-- the option is given or it isn't
+pub record IsFlag (name : Text) (rows : List Row) (given : Bool) : Type 0 where
+  pub set : one_of name rows ≡ Some (codes "true") → given ≡ true
+  pub unset : one_of name rows ≡ Some (codes "false") → given ≡ false
+  pub absent : one_of name rows ≡ None → given ≡ false
+
+-- the number in decimal digits that the option has
+pub record IsNumber (name : Text) (rows : List Row) (number : ℕ) : Type 0 where
+  pub text : Text
+  pub is : one_of name rows ≡ Some text
+  pub numeral : IsNumeral 10 (without_leading_plus text)
+  pub reads : number ≡ digits_value 10 (without_leading_plus text)
+
+-- these values are of this search
+abbrev pub IsSearch : Job → List Row → Type 0
+IsSearch (Search transcript declaration out budget forced quiet) rows = (first_of (codes "TRANSCRIPT") rows ≡ Some transcript.now)
+    × (first_of (codes "DECLARATION") rows ≡ Some declaration.now) × (first_of (codes "OUT") rows ≡ Some out.now)
+    × IsNumber (codes "budget") rows budget × IsFlag (codes "forced") rows forced × IsFlag (codes "quiet") rows quiet
+IsSearch job rows = ⊥
 
 -- the subcommand with this name and these values is this job
 abbrev pub IsJob : Job → Option (Text × List Row) → Type 0
 IsJob job None = ⊥
 IsJob (Check transcript declaration witness) (Some found) = (found.0 ≡ codes "check") × (first_of (codes "TRANSCRIPT") found.1 ≡ Some transcript.now)
     × (first_of (codes "DECLARATION") found.1 ≡ Some declaration.now) × (first_of (codes "WITNESS") found.1 ≡ Some witness.now)
-IsJob (Show file) (Some found) = (found.0 ≡ codes "show") × (first_of (codes "FILE") found.1 ≡ Some file.now)
+IsJob (Search transcript declaration out budget forced quiet) (Some found) = (found.0 ≡ codes "search")
+    × IsSearch (Search transcript declaration out budget forced quiet) found.1
+IsJob (Show file options) (Some found) = (found.0 ≡ codes "show") × (first_of (codes "FILE") found.1 ≡ Some file.now)
+    × IsFlag (codes "messages") found.1 options.messages × IsFlag (codes "notes") found.1 options.notes
 IsJob (Write hex out) (Some found) = (found.0 ≡ codes "write") × (first_of (codes "HEX") found.1 ≡ Some hex.now) × (first_of (codes "OUT") found.1 ≡ Some out.now)
 
 -- help and the version end well, and every other kind of mistake as a mistake

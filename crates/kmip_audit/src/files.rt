@@ -1,6 +1,6 @@
 //! The files that the words name.
 
-ghost use Rattle.std.specs.Prelude.{◌≡◌, [], IfOk};
+ghost use Rattle.std.specs.Prelude.{◌≡◌, ◌≤◌, [], IfOk, length};
 ghost use Rattle.kmipa_ttlv.specs.Input.{came_of};
 
 use kmipa_ttlv::Input;
@@ -9,7 +9,7 @@ use std::io::{BufReader, Read, Write};
 use std::rt::Files;
 use std::{fs, io};
 
-/// The words for the three files of an audit, and what a file of each kind begins with.
+/// The words for the three files of an audit, in the order of the command line, and what a file of each kind begins with.
 const KINDS: [(&str, [u8; 3]); 3] = [
     ("transcript", [0x54, 0x00, 0x01]),
     ("declaration", [0x54, 0x00, 0x30]),
@@ -81,7 +81,9 @@ fn write_new<R: Files>(rt: &R, name: &str, bytes: &[u8]) -> io::Result<()> {
 }
 
 /// Where a file's header is refused, and the file is of another kind, tells so on standard error.
-pub fn hint_kind<R: Files + Eprint>(rt: &R, names: &[&str; 3], lines: &[u8]) {
+pub fn hint_kind<R: Files + Eprint>(rt: &R, names: &[&str], lines: &[u8])
+    requires { length names.now ≤ 3 }
+{
     for (place, name) in names.iter().enumerate() {
         let (wanted, _) = KINDS[place];
         if !is_header_fault(lines, wanted) {

@@ -7,7 +7,7 @@ ghost use Rattle.kmipa_runs.specs.declared.status.Status.{Status};
 use crate::files::{hint_kind, open_input, replace_file};
 use crate::printing::{tell, tell_error, tell_usage, tell_words};
 use crate::words::{Job, read_words};
-use kmipa_runs::{Status, check_run, show_run, write_run};
+use kmipa_runs::{ShowOptions, Status, check_run, search_run, show_run, write_run};
 use std::rt::{Env, Files};
 use std::{env, io};
 
@@ -36,7 +36,21 @@ fn run_job<R: Files + AllocGlobal + Print + Eprint>(rt: &R, job: &Job<'_>) -> St
             declaration,
             witness,
         } => check_files(rt, [transcript, declaration, witness], &mut out),
-        Job::Show { file } => show_file(rt, file, &mut out),
+        Job::Search {
+            transcript,
+            declaration,
+            out: made,
+            budget,
+            forced,
+            ..
+        } => search_files(
+            rt,
+            [transcript, declaration, made],
+            budget,
+            forced,
+            &mut out,
+        ),
+        Job::Show { file, options } => show_file(rt, file, options, &mut out),
         Job::Write { hex, out: made } => write_file(rt, hex, made, &mut out),
     };
     match done {
@@ -71,13 +85,46 @@ fn check_files<R: Files + AllocGlobal + Eprint>(
     Ok(status)
 }
 
+/// Looks for a witness of the first two files, with at most `budget` steps, and makes the third of it. Where the
+/// status is not `Done` nothing is made.
+fn search_files<R: Files + AllocGlobal + Eprint>(
+    rt: &R,
+    names: [&str; 3],
+    budget: u64,
+    forced: bool,
+    out: &mut Vec<u8>,
+) -> io::Result<Status> {
+    let mut transcript = open_input(rt, names[0])?;
+    let mut declaration = open_input(rt, names[1])?;
+    let mut made = Vec::new(rt.alloc());
+    let status = search_run(
+        rt.alloc(),
+        &mut transcript,
+        &mut declaration,
+        budget,
+        forced,
+        out,
+        &mut made,
+    );
+    drop(transcript);
+    drop(declaration);
+    if status == Status::Refused {
+        hint_kind(rt, &names[..2], out);
+    }
+    if status == Status::Done {
+        replace_file(rt, names[2], made.as_slice())?;
+    }
+    Ok(status)
+}
+
 fn show_file<R: Files + AllocGlobal + Eprint>(
     rt: &R,
     name: &str,
+    options: ShowOptions,
     out: &mut Vec<u8>,
 ) -> io::Result<Status> {
     let mut input = open_input(rt, name)?;
-    Ok(show_run(rt.alloc(), &mut input, out))
+    Ok(show_run(rt.alloc(), &mut input, options, out))
 }
 
 /// Makes the file `name` of the digits of another one. Where the status is not `Done` nothing is made.

@@ -1,14 +1,15 @@
 //! The words of the command line.
 
 ghost use Rattle.std.specs.Prelude.{◌≡◌, ◌≢◌, ◌⊎◌, false, [], IfErr, IfOk, IfSome, OnOk, map, string_bytes};
-ghost use Rattle.clap.specs.Words.{app_of, rule_of, kind_of, subcommand_of, subcommand_rows_of, fault_of};
+ghost use Rattle.clap.specs.Words.{app_of, rule_of, rows_of, found_of, kind_of, subcommand_of, subcommand_rows_of, fault_of};
 ghost use Rattle.clap.specs.declared.builder.command.Command.TheViews.{out-Command};
 ghost use Rattle.kmipa_runs.specs.Statuses.{IsSilent};
-ghost use Rattle.kmip_audit.specs.Words.{program_app, check_app, show_app, write_app, file_rule, status_of, IsJob, IsTold};
+ghost use Rattle.kmip_audit.specs.Words.{program_app, check_app, search_app, search_files_app, show_app, write_app, budget_rule, file_rule, flag_rule, status_of, IsJob, IsSearch, IsTold};
 
+use clap::builder::ValueParser;
 use clap::error::ErrorKind;
 use clap::{Arg, ArgAction, ArgMatches, Command, Error};
-use kmipa_runs::Status;
+use kmipa_runs::{ShowOptions, Status};
 use std::alloc::{AllocError, Global};
 use std::convert::AsStr;
 
@@ -24,14 +25,58 @@ const HEX: &str = "HEX";
 
 const OUT: &str = "OUT";
 
+const BUDGET: &str = "budget";
+
+const FORCED: &str = "forced";
+
+const QUIET: &str = "quiet";
+
+const MESSAGES: &str = "messages";
+
+const NOTES: &str = "notes";
+
+/// The most steps that a search may be given.
+const MOST_STEPS: u64 = 1_000_000_000;
+
 /// What stands below the list of words.
 const EXAMPLES: &str = "\
 Examples:
   kmip_audit check transcript.ttlv declaration.ttlv witness.ttlv
+  kmip_audit search transcript.ttlv declaration.ttlv witness.ttlv
   kmip_audit show transcript.ttlv
   kmip_audit write transcript.txt transcript.ttlv
 
-Status: 0 yes, shown or written; 1 no; 2 a file is refused; 3 a device failed or memory ran out; 64 wrong words";
+Status: 0 yes, found, shown or written; 1 no; 2 a file is refused; 3 a device failed or memory ran out;
+  4 a search gave up; 64 wrong words";
+
+const CHECK_HELP: &str = "\
+Example:
+  kmip_audit check transcript.ttlv declaration.ttlv witness.ttlv
+
+Status: 0 yes; 1 no; 2 a file is refused; 3 a device failed or memory ran out; 64 wrong words";
+
+const SEARCH_HELP: &str = "\
+Example:
+  kmip_audit search transcript.ttlv declaration.ttlv witness.ttlv --budget 5000000
+
+It prints 'yes: N steps' and writes the witness to OUT, or 'gave up: N steps' and writes nothing. A step is one call
+that is tried. A transcript is plain where no call lacks its end, no message leaves the order of its items open and no
+undone answer hides what a witness would have to give. Where a plain transcript is given up with steps left, no order
+explains it.
+
+Status: 0 found; 2 a file is refused; 3 a device failed or memory ran out; 4 gave up; 64 wrong words";
+
+const SHOW_HELP: &str = "\
+Example:
+  kmip_audit show transcript.ttlv --messages --notes
+
+Status: 0 shown; 2 the file is refused; 3 a device failed or memory ran out; 64 wrong words";
+
+const WRITE_HELP: &str = "\
+Example:
+  kmip_audit write transcript.txt transcript.ttlv
+
+Status: 0 written; 2 the digits are refused; 3 a device failed or memory ran out; 64 wrong words";
 
 /// What the words ask for, with the names of the files that it reads.
 #[derive(Clone, Copy, Debug, PartialEq, Eq)]
@@ -42,9 +87,22 @@ pub enum Job<'a> {
         declaration: &'a str,
         witness: &'a str,
     },
+    /// An order in which the calls of a transcript are possible, tried with at most so many steps.
+    Search {
+        transcript: &'a str,
+        declaration: &'a str,
+        /// The witness that is written.
+        out: &'a str,
+        budget: u64,
+        /// Tells first whether the transcript leaves no choice.
+        forced: bool,
+        /// Tells nothing on standard error while it searches.
+        quiet: bool,
+    },
     /// The items of a file as text.
     Show {
         file: &'a str,
+        options: ShowOptions,
     },
     /// A file of the items that the digits of another one spell.
     Write {
@@ -64,7 +122,8 @@ pub struct Usage {
 /// The job that the words of a command line name, the first of which is the program's name.
 ///
 /// - `kmip_audit check TRANSCRIPT DECLARATION WITNESS`
-/// - `kmip_audit show FILE`
+/// - `kmip_audit search TRANSCRIPT DECLARATION OUT [--budget N] [--forced] [--quiet]`, N from 0 to 1,000,000,000
+/// - `kmip_audit show FILE [--messages] [--notes]`
 /// - `kmip_audit write HEX OUT`
 pub fn read_words<'a, S: AsStr>(alloc: Global, words: &'a [S]) -> Result<Job<'a>, Usage>
     ensures job { IfOk result (λ job. IsJob job (subcommand_of program_app (map S.text words.now))) }
@@ -90,6 +149,7 @@ fn command<'a>(alloc: Global) -> Result<Command<'a>, AllocError>
         .subcommand_required(true)
         .arg_required_else_help(true)
         .subcommand(check(alloc)?)?
+        .subcommand(search(alloc)?)?
         .subcommand(show(alloc)?)?
         .subcommand(write(alloc)?)
 }
@@ -100,9 +160,41 @@ fn check<'a>(alloc: Global) -> Result<Command<'a>, AllocError>
 {
     Command::new(alloc, "check")
         .about("Says whether the calls are possible in the order of the witness")
+        .after_help(CHECK_HELP)
         .arg(file(alloc, TRANSCRIPT, "The calls, as they were seen"))?
         .arg(file(alloc, DECLARATION, "What the server held at the start"))?
         .arg(file(alloc, WITNESS, "An order of the calls"))
+}
+
+fn search<'a>(alloc: Global) -> Result<Command<'a>, AllocError>
+    ensures app { IfOk result (λ command. app_of command ≡ search_app) }
+    ensures local { IfOk result (λ command. (out-Command command).has_globals ≡ false) }
+{
+    search_of_files(alloc)?
+        .arg(budget(alloc))?
+        .arg(flag(
+            alloc,
+            FORCED,
+            "Tells first whether stamps and marks leave no choice of the order",
+        ))?
+        .arg(flag(
+            alloc,
+            QUIET,
+            "Tells nothing on standard error while it searches",
+        ))
+}
+
+/// A search without its options.
+fn search_of_files<'a>(alloc: Global) -> Result<Command<'a>, AllocError>
+    ensures app { IfOk result (λ command. app_of command ≡ search_files_app) }
+    ensures local { IfOk result (λ command. (out-Command command).has_globals ≡ false) }
+{
+    Command::new(alloc, "search")
+        .about("Looks for an order in which the calls are possible")
+        .after_help(SEARCH_HELP)
+        .arg(file(alloc, TRANSCRIPT, "The calls, as they were seen"))?
+        .arg(file(alloc, DECLARATION, "What the server held at the start"))?
+        .arg(file(alloc, OUT, "The witness that is written"))
 }
 
 fn show<'a>(alloc: Global) -> Result<Command<'a>, AllocError>
@@ -111,7 +203,18 @@ fn show<'a>(alloc: Global) -> Result<Command<'a>, AllocError>
 {
     Command::new(alloc, "show")
         .about("Prints the items of a file, each on a line")
-        .arg(file(alloc, FILE, "TTLV, item after item"))
+        .after_help(SHOW_HELP)
+        .arg(file(alloc, FILE, "TTLV, item after item"))?
+        .arg(flag(
+            alloc,
+            MESSAGES,
+            "Prints below a byte string that is a message the message's items",
+        ))?
+        .arg(flag(
+            alloc,
+            NOTES,
+            "Prints the names of operations, states and the like behind their numbers",
+        ))
 }
 
 fn write<'a>(alloc: Global) -> Result<Command<'a>, AllocError>
@@ -120,6 +223,7 @@ fn write<'a>(alloc: Global) -> Result<Command<'a>, AllocError>
 {
     Command::new(alloc, "write")
         .about("Writes the items that hexadecimal digits spell")
+        .after_help(WRITE_HELP)
         .arg(file(alloc, HEX, "The digits, with white space anywhere"))?
         .arg(file(alloc, OUT, "The file that is made"))
 }
@@ -135,26 +239,68 @@ fn file<'a>(alloc: Global, name: &'a str, about: &'a str) -> Arg<'a>
         .help(about)
 }
 
+/// How many steps a search may make.
+fn budget<'a>(alloc: Global) -> Arg<'a>
+    ensures rule { rule_of result ≡ budget_rule }
+    ensures local { result.global ≡ false }
+{
+    Arg::new(alloc, BUDGET)
+        .long(BUDGET)
+        .value_name("N")
+        .value_parser(ValueParser::unsigned(0, MOST_STEPS))
+        .default_value("1000000")
+        .help("The most steps that are made, from 0 to 1000000000")
+}
+
+/// An option without a value.
+fn flag<'a>(alloc: Global, name: &'a str, about: &'a str) -> Arg<'a>
+    ensures rule { rule_of result ≡ flag_rule name.entry.now }
+    ensures local { result.global ≡ false }
+{
+    Arg::new(alloc, name)
+        .long(name)
+        .action(ArgAction::SetTrue)
+        .help(about)
+}
+
 /// The job that a parse found. A parse has a subcommand with all its files, so `None` never comes.
 fn job_of<'a>(matches: &ArgMatches<'a>) -> Option<Job<'a>>
     ensures { IfSome result (λ job. IsJob job (subcommand_rows_of matches.now)) }
 {
-    let (name, files) = matches.subcommand()?;
+    let (name, words) = matches.subcommand()?;
     match name {
         "check" => Some(Job::Check {
-            transcript: files.get_str(TRANSCRIPT)?,
-            declaration: files.get_str(DECLARATION)?,
-            witness: files.get_str(WITNESS)?,
+            transcript: words.get_str(TRANSCRIPT)?,
+            declaration: words.get_str(DECLARATION)?,
+            witness: words.get_str(WITNESS)?,
         }),
+        "search" => search_of(words),
         "show" => Some(Job::Show {
-            file: files.get_str(FILE)?,
+            file: words.get_str(FILE)?,
+            options: ShowOptions {
+                messages: words.get_flag(MESSAGES),
+                notes: words.get_flag(NOTES),
+            },
         }),
         "write" => Some(Job::Write {
-            hex: files.get_str(HEX)?,
-            out: files.get_str(OUT)?,
+            hex: words.get_str(HEX)?,
+            out: words.get_str(OUT)?,
         }),
         _ => None,
     }
+}
+
+fn search_of<'a>(words: &ArgMatches<'a>) -> Option<Job<'a>>
+    ensures { IfSome result (λ job. IsSearch job (rows_of (found_of words.now))) }
+{
+    Some(Job::Search {
+        transcript: words.get_str(TRANSCRIPT)?,
+        declaration: words.get_str(DECLARATION)?,
+        out: words.get_str(OUT)?,
+        budget: words.get_one::<u64>(BUDGET)?,
+        forced: words.get_flag(FORCED),
+        quiet: words.get_flag(QUIET),
+    })
 }
 
 fn usage_of(alloc: Global, error: &Error) -> Usage

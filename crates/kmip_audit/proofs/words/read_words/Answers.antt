@@ -1,7 +1,7 @@
 use Rattle.std.proofs.Common.{map}
 use Rattle.clap.specs.Words.{app_of, fault_of}
 use Rattle.kmip_audit.specs.Words.{program_app}
-use Rattle.kmip_audit.proofs.WordLemmas.{told, has_kind}
+use Rattle.kmip_audit.proofs.WordLemmas.{fits, told, has_kind}
 use Rattle.kmip_audit.proofs.words.read_words.Goals as goal
 
 pub returns-in-Err-clause-told :
@@ -12,3 +12,8 @@ returns-in-Err-clause-told g c =
     told (fault_of program_app words) error c.usage_of.result
     (has_kind (app_of c.in-Ok.command) words error c.in-Ok.ensures c.in-Err.ensures.kinds)
     c.usage_of.ensures
+
+pub returns-in-Ok-try_get_matches_from-clause-fits : goal.returns-in-Ok-try_get_matches_from-clause-fits
+returns-in-Ok-try_get_matches_from-clause-fits g c =
+    let words = map g.S.AsStr.text c.args.words.now in
+    fits c.ok_or.result (app_of c.in-Ok.command) words c.in-Ok.ensures c.in-Ok-try_get_matches_from.ensures.kinds
