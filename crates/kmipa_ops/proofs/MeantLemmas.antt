@@ -16,10 +16,9 @@ use Rattle.kmipa_store.specs.Choices.{IsSound, GoneIfDestroyed}
 use Rattle.kmipa_store.proofs.ChoiceLemmas.{told-last}
 use Rattle.kmipa_store.proofs.InventoryLemmas.{get-cards_of}
 use Rattle.kmipa_store.proofs.LearnLemmas.{told_known}
-use Rattle.kmipa_msgs.specs.Messages.{GotOf, PayloadOf, gets}
+use Rattle.kmipa_msgs.specs.Messages.{GotOf}
 use Rattle.kmipa_ops.specs.declared.why.Why.{Why}
 use Rattle.kmipa_ops.specs.declared.why.Why.TheVariants.{NoSuchObject, WrongState, BytesDiffer, LengthImpossible, AttributeDiffers, EchoDiffers}
-use Rattle.kmipa_ops.specs.Blame.{IsUnopposed}
 use Rattle.kmipa_ops.specs.Whys.{whys}
 use Rattle.kmipa_ops.specs.After.{Changes, Leaves}
 use Rattle.kmipa_ops.specs.Objects.{meant, card_meant, is_other_id}
@@ -28,8 +27,8 @@ use Rattle.kmipa_store.specs.Queries.{state_of_place}
 use Rattle.kmipa_ops.specs.Founded.{is_must, is_live_there, is_refusable}
 use Rattle.kmipa_ops.specs.Shown.{IsSecretOf, live_speak}
 use Rattle.kmipa_ops.specs.Meant.{place_meant, object_meant, secret_at, secret_meant, is_not, is_excluded}
-use Rattle.kmipa_ops.specs.Get.{shows_other, differs_at, get_speaks, seen_got, taught, taught_at}
-use Rattle.kmipa_ops.proofs.TestLemmas.{none_holds, true_not}
+use Rattle.kmipa_ops.specs.Get.{shows_other, differs_at, get_speaks, taught, taught_at}
+use Rattle.kmipa_ops.proofs.TestLemmas.{true_not}
 use Rattle.kmipa_ops.proofs.GetLemmas.{alive_if, alive_not, meant_at}
 
 card_at : (hs : List Held) (o : Option ℕ) → option_and_then (slice_get (cards_of hs)) o ≡ option_map (λ (h : Held). h.card) (option_and_then (slice_get hs) o)
@@ -184,15 +183,6 @@ pub leaves_taught : {E : Type 0} (s u : LedgerState) (before id p : Option (List
     → Changes s (taught s.now (option_and_then (slice_get s.now.objects) o) bytes) r u → Leaves s (taught s.now (object_meant s.now.objects (meant id before)) bytes) before r u p
 leaves_taught s u before id p o bytes (Ok done) place held x = (x ∙ ap (λ (y : Option ℕ). changed s (taught s.now (option_and_then (slice_get s.now.objects) y) bytes)) place, held)
 leaves_taught s u before id p o bytes (Err e) place held x = x
-
--- where no reason speaks against a Get no bytes are known that differ from those that are shown
-pub shows_known : (m : Meaning) (before id : Option (List ℕ)) (t : ℤ) (payload : Option PayloadOf) (o : Option ℕ) (shown : Option GotOf) (a : GotOf)
-    → IsUnopposed m before t (gets id) payload → o ≡ place_meant m.objects (meant id before) → shown ≡ option_and_then seen_got payload → shown ≡ Some a
-    → differs_at m (option_and_then (slice_get m.objects) o) a.block.material ≡ false
-shows_known m before id t payload o shown a clear place seen is =
-    let about = meant id before in
-    let none : find (get_speaks m about t (Some a)) whys ≡ None = ap (λ (x : Option GotOf). find (get_speaks m about t x) whys) (sym is ∙ seen) ∙ clear.1 in
-    ap (λ (x : Option ℕ). differs_at m (option_and_then (slice_get m.objects) x) a.block.material) place ∙ none_holds (get_speaks m about t (Some a)) none BytesDiffer
 
 some_known : (o : Option Known) (known : List ℕ) → option_map (λ (k : Known). k.bytes) o ≡ Some (Some known) → is_unknown o ≡ false
 some_known None known e = let bad : ⊥ = cc in absurd bad
