@@ -26,13 +26,13 @@ pub fn places_given(
     if !wants_order(request, response) {
         return Err(StepFault::Unfit(WitnessKind::OrderNotWanted));
     }
-    let Some(places) = places_of(alloc, numbers)? else {
+    let Some(order) = places_of(alloc, numbers)? else {
         return Err(StepFault::Unfit(WitnessKind::OrderForm));
     };
-    if !is_taking_order(alloc, request, response, &places)? {
+    if !is_taking_order(alloc, request, response, &order)? {
         return Err(StepFault::Unfit(WitnessKind::OrderForm));
     }
-    Ok(Some(places))
+    Ok(Some(order))
 }
 
 /// Whether the items of a call may be taken in an order of their own: the request is without order, and wasn't refused as a whole.
