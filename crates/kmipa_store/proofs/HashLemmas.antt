@@ -4,7 +4,7 @@ use Rattle.std.specs.declared.cmp.Ordering.TheVariants.{Less, Equal, Greater}
 use Rattle.std.specs.declared.ops.Bound.TheVariants.{Included}
 use Rattle.std.specs.Ordering.{nat_cmp, is_eq, is_lt, is_le, ordering_then}
 use Rattle.std.specs.Cmp.{IsTotalOrder, on_total, then_total}
-use Rattle.std.specs.List.{list_any, filter, position_from}
+use Rattle.std.specs.List.{filter, position_from}
 use Rattle.std.specs.BTreeMap.{is_at}
 use Rattle.std.specs.BTreeMap.Range.{range_contains}
 use Rattle.std.specs.BTreeSet.{insert_key}
@@ -16,10 +16,10 @@ use Rattle.std.proofs.lemmas.Slice.Eq.{bytes_eq-Decides}
 use Rattle.kmipa_object.specs.Inventory.{Card, place_of}
 use Rattle.kmipa_object.specs.declared.life.Life.{Life}
 use Rattle.kmipa_object.proofs.ListLemmas.{get-append_cases, get-append_old, get_below}
+use Rattle.kmipa_store.specs.Hashes.{id_hash}
 use Rattle.kmipa_store.specs.Ledger.{Held, cards_of, relived, with_life}
-use Rattle.kmipa_store.specs.Objects.{AreHashed, Hashed, has_id, hashed_cmp, id_hash, is_hashed}
-use Rattle.kmipa_store.specs.declared.seed.Seed.{Seed}
-use Rattle.kmipa_store.proofs.OrderLemmas.{equal_at, found_inserted, or_true, still_found}
+use Rattle.kmipa_store.specs.Objects.{AreHashed, Hashed, has_id, hashed_cmp, is_hashed}
+use Rattle.kmipa_store.proofs.OrderLemmas.{equal_at, found_inserted, still_found, still_there}
 use Rattle.kmipa_store.proofs.SoundLemmas.{relived_from}
 
 hashed_total : IsTotalOrder hashed_cmp
@@ -71,12 +71,12 @@ pub record Seeks (objects : List Held) (id : List ℕ) (hash : ℕ) (rest : List
 same_id : (id jd : List ℕ) → bytes_eq id jd ≡ true → id ≡ jd
 same_id id jd e = (bytes_eq-Decides id jd).0 e
 
-pub seeks_start : (seed : Seed) (places : List Hashed) (objects : List Held) (id : List ℕ) (hash max : ℕ) (rest : List Hashed) → hash ≡ id_hash seed id → max ≡ length objects → rest ≡ under hash max places
-    → AreHashed seed places objects → Seeks objects id hash rest
-seeks_start seed places objects id hash max rest is m e a = record {
+pub seeks_start : (places : List Hashed) (objects : List Held) (id : List ℕ) (hash max : ℕ) (rest : List Hashed) → hash ≡ id_hash id → max ≡ length objects → rest ≡ under hash max places
+    → AreHashed places objects → Seeks objects id hash rest
+seeks_start places objects id hash max rest is m e a = record {
   left = λ p h at same.
       let b = get_below objects p h at in
-      let listed : is_hashed places hash p ≡ true = ap (λ (k : ℕ). is_hashed places k p) (is ∙ ap (id_hash seed) (same_id id h.card.id same)) ∙ a.listed p h at in
+      let listed : is_hashed places hash p ≡ true = ap (λ (k : ℕ). is_hashed places k p) (is ∙ ap id_hash (same_id id h.card.id same)) ∙ a.listed p h at in
       ap (λ (ds : List Hashed). is_hashed ds hash p) e ∙ still_under hash max places p (omega (arith, b, m)) listed;
 }
 
@@ -122,8 +122,8 @@ one_id : (id : List ℕ) (g h : Held) → bytes_eq id g.card.id ≡ true → byt
 one_id id g h e f = sym (same_id id g.card.id e) ∙ same_id id h.card.id f
 
 -- the object that was found is the first
-pub found_here : (seed : Seed) (places : List Hashed) (objects : List Held) (id : List ℕ) (p : ℕ) → AreHashed seed places objects → has_id (slice_get objects p) id ≡ true → place_of id (cards_of objects) ≡ Some p
-found_here seed places objects id p a is = (elim (slice_get objects p) as (λ o. slice_get objects p ≡ o → has_id o id ≡ true → place_of id (cards_of objects) ≡ Some p) [
+pub found_here : (places : List Hashed) (objects : List Held) (id : List ℕ) (p : ℕ) → AreHashed places objects → has_id (slice_get objects p) id ≡ true → place_of id (cards_of objects) ≡ Some p
+found_here places objects id p a is = (elim (slice_get objects p) as (λ o. slice_get objects p ≡ o → has_id o id ≡ true → place_of id (cards_of objects) ≡ Some p) [
   | None ↦ λ at e. cc
   | Some h ↦ λ at e.
       let r = first_from id objects 0 p h at e in
@@ -149,13 +149,13 @@ none_has id objects p h none at is =
     cc
 
 -- an object more
-pub hashed_pushed : (seed : Seed) (places : List Hashed) (hs : List Held) (h : Held) (hash place : ℕ) → place ≡ length hs → hash ≡ id_hash seed h.card.id → place_of h.card.id (cards_of hs) ≡ None → AreHashed seed places hs
-    → AreHashed seed (insert_key hashed_cmp places (hash, place)) (hs ++ h ∷ [])
-hashed_pushed seed places hs h hash place last is none a = record {
+pub hashed_pushed : (places : List Hashed) (hs : List Held) (h : Held) (hash place : ℕ) → place ≡ length hs → hash ≡ id_hash h.card.id → place_of h.card.id (cards_of hs) ≡ None → AreHashed places hs
+    → AreHashed (insert_key hashed_cmp places (hash, place)) (hs ++ h ∷ [])
+hashed_pushed places hs h hash place last is none a = record {
   listed = λ p g at. elim (get-append_cases hs h p g at) [
-    | inl old ↦ still_found hashed_cmp (hash, place) (hashed_itself (hash, place)) (is_at (hashed_cmp (id_hash seed g.card.id, p))) places (a.listed p g old)
+    | inl old ↦ still_found hashed_cmp (hash, place) (hashed_itself (hash, place)) (is_at (hashed_cmp (id_hash g.card.id, p))) places (a.listed p g old)
     | inr new ↦
-        let same : id_hash seed g.card.id ≡ hash = ap (λ (x : Held). id_hash seed x.card.id) new.1 ∙ sym is in
+        let same : id_hash g.card.id ≡ hash = ap (λ (x : Held). id_hash x.card.id) new.1 ∙ sym is in
         let here : p ≡ place = new.0 ∙ sym last in
         ap (λ (k : ℕ). is_hashed (insert_key hashed_cmp places (hash, place)) k p) same ∙ ap (λ (k : ℕ). is_hashed (insert_key hashed_cmp places (hash, place)) hash k) here
         ∙ found_inserted hashed_cmp (hash, place) (hashed_itself (hash, place)) places
@@ -173,27 +173,17 @@ hashed_pushed seed places hs h hash place last is none a = record {
 }
 
 -- an object fewer
-pub still_there : {K : Type 0} (test other : K → Bool) → ((k : K) → test k ≡ true → other k ≡ false) → (ks : List K) → list_any test ks ≡ true → list_any test (remove_key other ks) ≡ true
-still_there test other apart [] h = h
-still_there test other apart (k ∷ ks) h = (elim (test k) as (λ t. test k ≡ t → (t || list_any test ks) ≡ true → list_any test (remove_key other (k ∷ ks)) ≡ true) [
-  | true ↦ λ e g. ap (λ (b : Bool). list_any test (cond b ks (k ∷ remove_key other ks))) (apart k e) ∙ ap (λ (b : Bool). b || list_any test (remove_key other ks)) e
-  | false ↦ λ e g. (elim (other k) as (λ o. list_any test (cond o ks (k ∷ remove_key other ks)) ≡ true) [
-    | true ↦ g
-    | false ↦ ap (λ (b : Bool). test k || b) (still_there test other apart ks g) ∙ or_true (test k)
-  ])
-]) refl h
-
 apart_from : (a b p q : ℕ) → p ≢ q → (k : Hashed) → is_at (hashed_cmp (a, p)) k ≡ true → is_at (hashed_cmp (b, q)) k ≡ false
 apart_from a b p q n k is = false_from_ne_true (is_at (hashed_cmp (b, q)) k) (λ also.
     let one : p ≡ k.1 = (same_parts a k.0 p k.1 (equal_at (hashed_cmp (a, p) k) is)).1 in
     let two : q ≡ k.1 = (same_parts b k.0 q k.1 (equal_at (hashed_cmp (b, q) k) also)).1 in
     n (one ∙ sym two))
 
-pub hashed_popped : (seed : Seed) (places : List Hashed) (hs : List Held) (h : Held) (hash last : ℕ) → last ≡ length hs → AreHashed seed places (hs ++ h ∷ []) → AreHashed seed (remove_key (is_at (hashed_cmp (hash, last))) places) hs
-hashed_popped seed places hs h hash last is a = record {
+pub hashed_popped : (places : List Hashed) (hs : List Held) (h : Held) (hash last : ℕ) → last ≡ length hs → AreHashed places (hs ++ h ∷ []) → AreHashed (remove_key (is_at (hashed_cmp (hash, last))) places) hs
+hashed_popped places hs h hash last is a = record {
   listed = λ p g at.
       let before : p ≢ last = λ (e : p ≡ last). let b = get_below hs p g at in absurd (omega (arith, b, is, e)) in
-      still_there (is_at (hashed_cmp (id_hash seed g.card.id, p))) (is_at (hashed_cmp (hash, last))) (apart_from (id_hash seed g.card.id) hash p last before) places (a.listed p g (get-append_old hs h p g at));
+      still_there (is_at (hashed_cmp (id_hash g.card.id, p))) (is_at (hashed_cmp (hash, last))) (apart_from (id_hash g.card.id) hash p last before) places (a.listed p g (get-append_old hs h p g at));
   distinct = λ p q f g atp atq same. a.distinct p q f g (get-append_old hs h p f atp) (get-append_old hs h q g atq) same;
 }
 
@@ -202,11 +192,11 @@ id_stays : (place p : ℕ) (life : Life) (g h : Held) → (g ≡ h) ⊎ ((p ≡ 
 id_stays place p life g h (inl e) = ap (λ (x : Held). x.card.id) e
 id_stays place p life g h (inr e) = ap (λ (x : Held). x.card.id) e.1
 
-pub hashed_relived : (seed : Seed) (places : List Hashed) (hs : List Held) (place : ℕ) (life : Life) → AreHashed seed places hs → AreHashed seed places (relived hs place life)
-hashed_relived seed places hs place life a = record {
+pub hashed_relived : (places : List Hashed) (hs : List Held) (place : ℕ) (life : Life) → AreHashed places hs → AreHashed places (relived hs place life)
+hashed_relived places hs place life a = record {
   listed = λ p g at.
       let r = relived_from hs place p life g at in
-      ap (λ (id : List ℕ). is_hashed places (id_hash seed id) p) (id_stays place p life g r.0 r.2) ∙ a.listed p r.0 r.1;
+      ap (λ (id : List ℕ). is_hashed places (id_hash id) p) (id_stays place p life g r.0 r.2) ∙ a.listed p r.0 r.1;
   distinct = λ p q f g atp atq same.
       let r = relived_from hs place p life f atp in
       let s = relived_from hs place q life g atq in
@@ -221,20 +211,20 @@ taken_from (h ∷ hs) zero p g e = let bad : ⊥ = cc in absurd bad
 taken_from (h ∷ hs) (suc n) zero g e = (e, omega arith)
 taken_from (h ∷ hs) (suc n) (suc p) g e = let r = taken_from hs n p g e in let b = r.1 in (r.0, omega (arith, b))
 
-pub free_before : (seed : Seed) (places : List Hashed) (hs : List Held) (p : ℕ) (h : Held) → AreHashed seed places hs → slice_get hs p ≡ Some h → place_of h.card.id (cards_of (take p hs)) ≡ None
-free_before seed places hs p h a at = none_from h.card.id (take p hs) 0 (λ q g of. false_from_ne_true (bytes_eq h.card.id g.card.id) (λ e.
+pub free_before : (places : List Hashed) (hs : List Held) (p : ℕ) (h : Held) → AreHashed places hs → slice_get hs p ≡ Some h → place_of h.card.id (cards_of (take p hs)) ≡ None
+free_before places hs p h a at = none_from h.card.id (take p hs) 0 (λ q g of. false_from_ne_true (bytes_eq h.card.id g.card.id) (λ e.
     let t = taken_from hs p q g of in
     let same : q ≡ p = a.distinct q p g h t.0 at (sym (same_id h.card.id g.card.id e)) in
     let before = t.1 in
     absurd (omega (arith, same, before))))
 
 -- what is put behind the others and taken away again
-pub hashed_again : (seed : Seed) (places : List Hashed) (hs : List Held) (hash place : ℕ) → place ≡ length hs → AreHashed seed places hs → AreHashed seed (remove_key (is_at (hashed_cmp (hash, place))) (insert_key hashed_cmp places (hash, place))) hs
-hashed_again seed places hs hash place is a = record {
+pub hashed_again : (places : List Hashed) (hs : List Held) (hash place : ℕ) → place ≡ length hs → AreHashed places hs → AreHashed (remove_key (is_at (hashed_cmp (hash, place))) (insert_key hashed_cmp places (hash, place))) hs
+hashed_again places hs hash place is a = record {
   listed = λ p g at.
       let before : p ≢ place = λ (e : p ≡ place). let b = get_below hs p g at in absurd (omega (arith, b, is, e)) in
-      let test : Hashed → Bool = is_at (hashed_cmp (id_hash seed g.card.id, p)) in
-      still_there test (is_at (hashed_cmp (hash, place))) (apart_from (id_hash seed g.card.id) hash p place before) (insert_key hashed_cmp places (hash, place))
+      let test : Hashed → Bool = is_at (hashed_cmp (id_hash g.card.id, p)) in
+      still_there test (is_at (hashed_cmp (hash, place))) (apart_from (id_hash g.card.id) hash p place before) (insert_key hashed_cmp places (hash, place))
       (still_found hashed_cmp (hash, place) (hashed_itself (hash, place)) test places (a.listed p g at));
   distinct = a.distinct;
 }

@@ -1,110 +1,283 @@
--- What the index of names says of the objects.
-use Rattle.std.proofs.Common.{◌≡◌, ◌<◌, ◌≤◌, ◌&&◌, ◌||◌, ◌==◌, ◌-◌, ◌+◌, ℕ, zero, suc, Bool, true, false, nat_eq, nat_lt, nat_le, cond, List, [], ◌∷◌, ◌++◌, length, map, take, position, Option, Some, None, is_some, option_map, slice_index_or, Result, Ok, Err, Vec, slice_get, refl, ap, sym, ◌∙◌, subst, inl, inr, arith}
-use Rattle.std.specs.declared.alloc.Global.{Global}
+-- What the names that are listed say of the objects.
+use Rattle.std.proofs.Common.{◌≡◌, ◌≢◌, ◌<◌, ◌≤◌, ◌&&◌, ◌||◌, ◌-◌, ◌+◌, ℕ, zero, suc, Bool, true, false, not, nat_lt, nat_le, cond, List, [], ◌∷◌, ◌++◌, length, map, take, Option, Some, None, Result, Ok, Err, slice_get, refl, ap, sym, ◌∙◌, subst, inl, inr, arith}
+use Rattle.std.specs.declared.cmp.Ordering.{Ordering}
+use Rattle.std.specs.declared.cmp.Ordering.TheVariants.{Less, Equal, Greater}
+use Rattle.std.specs.declared.ops.Bound.TheVariants.{Included, Excluded}
+use Rattle.std.specs.Ordering.{nat_cmp, is_eq, is_le, ordering_then}
+use Rattle.std.specs.Cmp.{IsTotalOrder, on_total, then_total}
+use Rattle.std.specs.List.{AllByRecursion, list_any, filter}
+use Rattle.std.specs.List.Sorted.{IsStrictlySortedBy}
+use Rattle.std.specs.BTreeMap.{is_at}
+use Rattle.std.specs.BTreeMap.Range.{range_contains}
+use Rattle.std.specs.BTreeSet.{insert_key}
+use Rattle.std.specs.Set.{remove_key}
 use Rattle.std.proofs.lemmas.Bool.{and_parts, false_from_ne_true}
 use Rattle.std.proofs.lemmas.Bool.Decides.{nat_tests}
-use Rattle.std.proofs.lemmas.Iterator.Adapters.{position_from-zero}
-use Rattle.std.proofs.lemmas.Map.Entries.{hash_map_get_place}
-use Rattle.std.specs.Cmp.{nat_eq_equiv}
-use Rattle.indexmap.specs.IndexMap.{IndexMap, get, keys, insert_entry, with_value_at, IsUnique}
-use Rattle.indexmap.proofs.CallerLemmas.{insert_entry-new, updates-with_value_at}
+use Rattle.std.proofs.lemmas.Cmp.{nat_cmp_total, ranked, tied_itself}
+use Rattle.std.proofs.lemmas.List.Folds.{list_any-append}
+use Rattle.std.proofs.lemmas.List.Kept.{IsStrictlySortedBy-filter}
+use Rattle.std.proofs.lemmas.Map.Keys.{sorted_head, sorted_tail}
+use Rattle.std.proofs.lemmas.Map.Views.{any-filter_same}
 use Rattle.kmipa_attrs.specs.Sets.{NameOf}
 use Rattle.kmipa_object.specs.Inventory.{live}
 use Rattle.kmipa_object.specs.declared.life.Life.{Life}
-use Rattle.kmipa_object.proofs.ListLemmas.{get_below, get-append_last, get-append_cases, get-map, map-push}
+use Rattle.kmipa_object.proofs.ListLemmas.{get_below, get-append_cases}
+use Rattle.kmipa_store.specs.Hashes.{name_hash}
 use Rattle.kmipa_store.specs.Ledger.{Held, relived}
 use Rattle.kmipa_store.specs.Queries.{is_name, has_name, next_named, any_live_named}
-use Rattle.kmipa_store.specs.Bearers.{Lists, Ascends, Keeps, PutsLast, bears, bears_of, bears_live, bears_live_of, is_listed, is_named_at, is_next, is_the_name, listed, precedes}
-use Rattle.kmipa_store.specs.Names.{bearers_at, name_hash, Covers, KeepsBelow, AreListed, ListsAll, ListsOne}
+use Rattle.kmipa_store.specs.Bearers.{bears, bears_of, bears_live, bears_live_of, is_named_at}
+use Rattle.kmipa_store.specs.Names.{AreListed, Covers, Keeps, KeepsOthers, Named, Notes, is_listed, named_cmp}
 use Rattle.kmipa_store.specs.declared.fault.StoreFault.{StoreFault}
-use Rattle.kmipa_store.specs.declared.names.Bearer.{Bearer}
 use Rattle.kmipa_store.specs.declared.names.Names.{Names}
-use Rattle.kmipa_store.specs.declared.seed.Seed.{Seed}
-use Rattle.kmipa_store.proofs.BearerLemmas.{any_there, at_listed, bears_has, bears_live_has, first_place, listed_at, name_is, no_place, none_there, place_there}
-use Rattle.kmipa_store.proofs.QueryLemmas.{position_found}
+use Rattle.kmipa_store.proofs.BearerLemmas.{any_there, bears_at, bears_live_at, bears_somewhere, first_place, name_at, name_is, named_at, no_place, none_there}
+use Rattle.kmipa_store.proofs.OrderLemmas.{equal_at, found_inserted, still_found, still_there}
 use Rattle.kmipa_store.proofs.SoundLemmas.{relived_from}
 
 pub length-map : {X Y : Type 0} (f : X → Y) (xs : List X) → length (map f xs) ≡ length xs
 length-map f [] = refl
 length-map f (x ∷ xs) = ap suc (length-map f xs)
 
-at_most : (p n : ℕ) → p ≤ n → nat_le p n ≡ true
-at_most p n h = grind (arith, nat_tests)
-
-pub hash_same : (seed : Seed) (value : List ℕ) (kind : ℕ) (n : NameOf) → is_name value kind n ≡ true → name_hash seed n.value n.kind ≡ name_hash seed value kind
-hash_same seed value kind n is =
+pub hash_same : (value : List ℕ) (kind : ℕ) (n : NameOf) → is_name value kind n ≡ true → name_hash n.value n.kind ≡ name_hash value kind
+hash_same value kind n is =
     let e = name_is value kind n is in
-    ap (λ (v : List ℕ). name_hash seed v n.kind) (sym e.0) ∙ ap (λ (k : ℕ). name_hash seed value k) (sym e.1)
+    ap (λ (v : List ℕ). name_hash v n.kind) (sym e.0) ∙ ap (λ (k : ℕ). name_hash value k) (sym e.1)
 
--- an object with the name is listed
-has_listed : (names : Names) (objects : List Held) (p : ℕ) (h : Held) (value : List ℕ) (kind : ℕ) → Covers names objects → slice_get objects p ≡ Some h → has_name value kind h ≡ true
-    → (s : ℕ) × Lists (bearers_at names (name_hash names.seed value kind)) (record { place = p; slot = s }) × (is_named_at h s value kind ≡ true)
-has_listed names objects p h value kind c at is =
-    let n = place_there (is_name value kind) h.card.given.names is in
-    let P : ℕ → Type 0 = λ k. Lists (bearers_at names k) (record { place = p; slot = n.0 }) in
-    (n.0, subst P (hash_same names.seed value kind n.1 n.3) (listed_at (bearers_at names (name_hash names.seed n.1.value n.1.kind)) (record { place = p; slot = n.0 }) (c.all p h at n.0 n.1 n.2)), ap (λ (o : Option NameOf). is_the_name o value kind) n.2 ∙ n.3)
+-- the order
+named_total : IsTotalOrder named_cmp
+named_total = then_total (then_total (on_total (λ (x : Named). x.0) nat_cmp_total) (on_total (λ (x : Named). x.1) nat_cmp_total)) (on_total (λ (x : Named). x.2) nat_cmp_total)
 
-ordered : (bearers : List Bearer) (i j : ℕ) (a b : Bearer) → Ascends bearers → i ≤ j → slice_get bearers i ≡ Some a → slice_get bearers j ≡ Some b → a.place ≤ b.place
-ordered bearers i j a b o le at of = (elim (nat_lt i j) as (λ t. nat_lt i j ≡ t → a.place ≤ b.place) [
-  | true ↦ λ is. o.order i j a b (grind (arith, nat_tests, is)) at of
-  | false ↦ λ is.
-      let past : j ≤ i = grind (arith, nat_tests, is) in
-      let same : i ≡ j = omega (arith, le, past) in
-      let q : Some a ≡ Some b = sym at ∙ ap (slice_get bearers) same ∙ of in
-      let r : a ≡ b = cc in
-      let e : a.place ≡ b.place = ap (λ (x : Bearer). x.place) r in
-      omega (arith, e)
+pub named_itself : (x : Named) → named_cmp x x ≡ Equal
+named_itself x = tied_itself named_total x
+
+both_equal : (a b : Ordering) → ordering_then a b ≡ Equal → (a ≡ Equal) × (b ≡ Equal)
+both_equal Less b e = let bad : ⊥ = cc in absurd bad
+both_equal Equal b e = (refl, e)
+both_equal Greater b e = let bad : ⊥ = cc in absurd bad
+
+number_same : (a b : ℕ) → nat_cmp a b ≡ Equal → a ≡ b
+number_same a b e = ranked a b Equal (sym e)
+
+named_same : (hash p s : ℕ) (x : Named) → named_cmp (hash, p, s) x ≡ Equal → (hash ≡ x.0) × (p ≡ x.1) × (s ≡ x.2)
+named_same hash p s x e =
+    let a = both_equal (ordering_then (nat_cmp hash x.0) (nat_cmp p x.1)) (nat_cmp s x.2) e in
+    let b = both_equal (nat_cmp hash x.0) (nat_cmp p x.1) a.0 in
+    (number_same hash x.0 b.0, number_same p x.1 b.1, number_same s x.2 a.1)
+
+is_named : (hash p s : ℕ) (x : Named) → named_cmp (hash, p, s) x ≡ Equal → (hash, p, s) ≡ x
+is_named hash p s x e =
+    let q = named_same hash p s x e in
+    ap (λ (h : ℕ). (h, p, s)) q.0 ∙ ap (λ (n : ℕ). (x.0, n, s)) q.1 ∙ ap (λ (n : ℕ). (x.0, x.1, n)) q.2
+
+less_than : (a b : ℕ) → a < b → nat_cmp a b ≡ Less
+less_than a b h = (elim (nat_cmp a b) as (λ o. nat_cmp a b ≡ o → o ≡ Less) [
+  | Less ↦ λ e. refl
+  | Equal ↦ λ e. let bad : a ≡ b = ranked a b Equal (sym e) in absurd (omega (arith, bad, h))
+  | Greater ↦ λ e. let bad : b < a = ranked a b Greater (sym e) in absurd (omega (arith, bad, h))
 ]) refl
 
-module _ (names : Names) (objects : List Held) (value : List ℕ) (kind : ℕ) (bearers : List Bearer) (covers : Covers names objects) (same : bearers ≡ bearers_at names (name_hash names.seed value kind)) where
-  -- the bearer of an object with the name
-  bearer_of : (q : ℕ) (h : Held) → slice_get objects q ≡ Some h → has_name value kind h ≡ true → (s : ℕ) × Lists bearers (record { place = q; slot = s }) × (is_named_at h s value kind ≡ true)
-  bearer_of q h at found =
-      let l = has_listed names objects q h value kind covers at found in
-      let P : List Bearer → Type 0 = λ x. Lists x (record { place = q; slot = l.0 }) in
-      (l.0, subst P (sym same) l.1, l.2)
+greater_than : (a b : ℕ) → b < a → nat_cmp a b ≡ Greater
+greater_than a b h = (elim (nat_cmp a b) as (λ o. nat_cmp a b ≡ o → o ≡ Greater) [
+  | Less ↦ λ e. let bad : a < b = ranked a b Less (sym e) in absurd (omega (arith, bad, h))
+  | Equal ↦ λ e. let bad : a ≡ b = ranked a b Equal (sym e) in absurd (omega (arith, bad, h))
+  | Greater ↦ λ e. refl
+]) refl
 
-  next_of : (from q s : ℕ) (h : Held) → from ≤ q → slice_get objects q ≡ Some h → is_named_at h s value kind ≡ true → is_next objects (record { place = q; slot = s }) value kind from ≡ true
-  next_of from q s h le at is =
-      ap (λ (b : Bool). b && bears objects (record { place = q; slot = s }) value kind) (at_most from q le)
-      ∙ ap (λ (o : Option Held). bears_of o s value kind) at ∙ is
+at_most : (a b : ℕ) → a ≤ b → is_le (nat_cmp a b) ≡ true
+at_most a b h = (elim (nat_cmp a b) as (λ o. nat_cmp a b ≡ o → is_le o ≡ true) [
+  | Less ↦ λ e. refl
+  | Equal ↦ λ e. refl
+  | Greater ↦ λ e. let bad : b < a = ranked a b Greater (sym e) in absurd (omega (arith, bad, h))
+]) refl
 
-  -- the first bearer that is what it is listed for, from a place on
-  pub next_here : (from i : ℕ) (b : Bearer) → Ascends bearers → slice_get bearers i ≡ Some b → is_next objects b value kind from ≡ true
-      → ((j : ℕ) (a : Bearer) → j < i → slice_get bearers j ≡ Some a → is_next objects a value kind from ≡ false) → next_named value kind from objects ≡ Some b.place
-  next_here from i b o here is before =
-      let parts = and_parts (nat_le from b.place) (bears objects b value kind) is in
-      let has = bears_has objects b value kind parts.1 in
-      let le : from ≤ b.place = grind (arith, nat_tests, parts.0) in
-      first_place (has_name value kind) objects from b.place has.0 le has.1 has.2 (λ q h ge lt at. false_from_ne_true (has_name value kind h) (λ found.
-      let l = bearer_of q h at found in
-      let next : is_next objects (record { place = q; slot = l.0 }) value kind from ≡ true = next_of from q l.0 h ge at l.2 in
-      (elim (nat_lt l.1.0 i) as (λ t. nat_lt l.1.0 i ≡ t → ⊥) [
-        | true ↦ λ e. let clash : true ≡ false = sym next ∙ before l.1.0 (record { place = q; slot = l.0 }) (grind (arith, nat_tests, e)) l.1.1 in cc
-        | false ↦ λ e.
-            let past : i ≤ l.1.0 = grind (arith, nat_tests, e) in
-            let order : b.place ≤ q = ordered bearers i l.1.0 b (record { place = q; slot = l.0 }) o past here l.1.1 in
-            omega (arith, order, lt)
-      ]) refl))
+-- what is listed under a hash for the places from one on and below another
+abbrev pub under : ℕ → ℕ → ℕ → List Named → List Named
+under hash from end listed = filter (range_contains named_cmp (Included (hash, from, 0)) (Excluded (hash, end, 0))) listed
 
-  pub next_none : (from : ℕ) → ((j : ℕ) (a : Bearer) → j < length bearers → slice_get bearers j ≡ Some a → is_next objects a value kind from ≡ false) → next_named value kind from objects ≡ None
-  next_none from none = no_place (has_name value kind) objects from (λ q h ge at. false_from_ne_true (has_name value kind h) (λ found.
-      let l = bearer_of q h at found in
-      let clash : true ≡ false = sym (next_of from q l.0 h ge at l.2) ∙ none l.1.0 (record { place = q; slot = l.0 }) (get_below bearers l.1.0 _ l.1.1) l.1.1 in
+tied : (hash : ℕ) → nat_cmp hash hash ≡ Equal
+tied hash = tied_itself nat_cmp_total hash
+
+from_start : (hash from p s : ℕ) → from ≤ p → is_le (named_cmp (hash, from, 0) (hash, p, s)) ≡ true
+from_start hash from p s h =
+    ap (λ o. is_le (ordering_then (ordering_then o (nat_cmp from p)) (nat_cmp 0 s))) (tied hash)
+    ∙ (elim (nat_cmp from p) as (λ o. nat_cmp from p ≡ o → is_le (ordering_then o (nat_cmp 0 s)) ≡ true) [
+      | Less ↦ λ e. refl
+      | Equal ↦ λ e. at_most 0 s (omega arith)
+      | Greater ↦ λ e. let bad : p < from = ranked from p Greater (sym e) in absurd (omega (arith, bad, h))
+    ]) refl
+
+below_end : (hash end p s : ℕ) → p < end → is_le (named_cmp (hash, end, 0) (hash, p, s)) ≡ false
+below_end hash end p s h =
+    ap (λ o. is_le (ordering_then (ordering_then o (nat_cmp end p)) (nat_cmp 0 s))) (tied hash) ∙ ap (λ o. is_le (ordering_then o (nat_cmp 0 s))) (greater_than end p h)
+
+still_under : (hash from end : ℕ) (listed : List Named) (p s : ℕ) → from ≤ p → p < end → is_listed listed hash p s ≡ true → is_listed (under hash from end listed) hash p s ≡ true
+still_under hash from end listed p s a b h =
+    any-filter_same (is_at (named_cmp (hash, p, s))) (range_contains named_cmp (Included (hash, from, 0)) (Excluded (hash, end, 0))) true (λ x is.
+    ap (range_contains named_cmp (Included (hash, from, 0)) (Excluded (hash, end, 0))) (sym (is_named hash p s x (equal_at (named_cmp (hash, p, s) x) is)))
+    ∙ ap (λ (t : Bool). t && not (is_le (named_cmp (hash, end, 0) (hash, p, s)))) (from_start hash from p s a) ∙ ap not (below_end hash end p s b)) listed
+    ∙ h
+
+inside_is : (hash from end : ℕ) (x : Named) → range_contains named_cmp (Included (hash, from, 0)) (Excluded (hash, end, 0)) x ≡ true → (hash ≡ x.0) × (from ≤ x.1)
+inside_is hash from end x h =
+    let parts = and_parts (is_le (named_cmp (hash, from, 0) x)) (not (is_le (named_cmp (hash, end, 0) x))) h in
+    (elim (nat_cmp hash x.0) as (λ o. nat_cmp hash x.0 ≡ o → is_le (ordering_then (ordering_then o (nat_cmp from x.1)) (nat_cmp 0 x.2)) ≡ true
+    → not (is_le (ordering_then (ordering_then o (nat_cmp end x.1)) (nat_cmp 0 x.2))) ≡ true → (hash ≡ x.0) × (from ≤ x.1)) [
+      | Less ↦ λ e a b. let bad : ⊥ = cc in absurd bad
+      | Equal ↦ λ e a b. (
+        number_same hash x.0 e,
+        (elim (nat_cmp from x.1) as (λ o. nat_cmp from x.1 ≡ o → is_le (ordering_then o (nat_cmp 0 x.2)) ≡ true → from ≤ x.1) [
+          | Less ↦ λ f c. let l : from < x.1 = ranked from x.1 Less (sym f) in omega (arith, l)
+          | Equal ↦ λ f c. let l : from ≡ x.1 = number_same from x.1 f in omega (arith, l)
+          | Greater ↦ λ f c. let bad : ⊥ = cc in absurd bad
+        ]) refl a,
+      )
+      | Greater ↦ λ e a b. let bad : ⊥ = cc in absurd bad
+    ]) refl parts.0 parts.1
+
+-- what is left of it: all of it is under the hash, in order
+pub record Rests (hash from : ℕ) (rest : List Named) : Type 0 where
+  pub sorted : IsStrictlySortedBy named_cmp rest
+  pub inside : AllByRecursion (λ (x : Named). (hash ≡ x.0) × (from ≤ x.1)) rest
+
+all_inside : (hash from end : ℕ) (listed : List Named) → AllByRecursion (λ (x : Named). (hash ≡ x.0) × (from ≤ x.1)) (under hash from end listed)
+all_inside hash from end [] = tt
+all_inside hash from end (x ∷ xs) =
+    let test : Named → Bool = range_contains named_cmp (Included (hash, from, 0)) (Excluded (hash, end, 0)) in
+    (elim (test x) as (λ t. test x ≡ t → AllByRecursion (λ (y : Named). (hash ≡ y.0) × (from ≤ y.1)) (cond t (x ∷ filter test xs) (filter test xs))) [
+      | true ↦ λ e. (inside_is hash from end x e, all_inside hash from end xs)
+      | false ↦ λ e. all_inside hash from end xs
+    ]) refl
+
+pub rests_start : (hash from end : ℕ) (listed rest : List Named) → rest ≡ under hash from end listed → IsStrictlySortedBy named_cmp listed → Rests hash from rest
+rests_start hash from end listed rest e sorted =
+    subst (λ (x : List Named). Rests hash from x) (sym e)
+    (record { sorted = IsStrictlySortedBy-filter named_cmp (range_contains named_cmp (Included (hash, from, 0)) (Excluded (hash, end, 0))) listed sorted; inside = all_inside hash from end listed })
+
+pub rests_on : (hash from : ℕ) (one : Named) (rest : List Named) → Rests hash from (one ∷ rest) → Rests hash from rest
+rests_on hash from one rest r = record { sorted = sorted_tail named_cmp one rest r.sorted; inside = r.inside.1 }
+
+or_false : (b : Bool) → (b || false) ≡ true → b ≡ true
+or_false true e = refl
+or_false false e = e
+
+-- the names that are looked for are among those that are left
+pub record Seeks (passes : ℕ → ℕ → Bool) (hash : ℕ) (rest : List Named) : Type 0 where
+  pub left : (p s : ℕ) → passes p s ≡ true → is_listed rest hash p s ≡ true
+
+module _ (passes : ℕ → ℕ → Bool) (hash : ℕ) where
+  not_it : (one : Named) (p s : ℕ) → passes one.1 one.2 ≡ false → passes p s ≡ true → is_at (named_cmp (hash, p, s)) one ≡ false
+  not_it one p s fails is = false_from_ne_true (is_at (named_cmp (hash, p, s)) one) (λ e.
+      let q = named_same hash p s one (equal_at (named_cmp (hash, p, s) one) e) in
+      let clash : true ≡ false = sym is ∙ ap (λ (n : ℕ). passes n s) q.1 ∙ ap (passes one.1) q.2 ∙ fails in
+      cc)
+
+  pub seeks_on : (one : Named) (rest : List Named) → passes one.1 one.2 ≡ false → Seeks passes hash (one ∷ rest) → Seeks passes hash rest
+  seeks_on one rest fails k = record {
+    left = λ p s is. ap (λ (b : Bool). b || is_listed rest hash p s) (sym (not_it one p s fails is)) ∙ k.left p s is;
+  }
+
+  pub seeks_back : (rest : List Named) (one : Named) → passes one.1 one.2 ≡ false → Seeks passes hash (rest ++ one ∷ []) → Seeks passes hash rest
+  seeks_back rest one fails k = record {
+    left = λ p s is.
+        let test : Named → Bool = is_at (named_cmp (hash, p, s)) in
+        let none : list_any test (one ∷ []) ≡ false = ap (λ (b : Bool). b || false) (not_it one p s fails is) in
+        let either : (list_any test rest || false) ≡ true = ap (λ (b : Bool). list_any test rest || b) (sym none) ∙ sym (list_any-append test rest (one ∷ [])) ∙ k.left p s is in
+        or_false (list_any test rest) either;
+  }
+
+-- below the first of what is left nothing is left
+all_below : (x k : Named) (ks : List Named) → named_cmp x k ≡ Less → AllByRecursion (λ (y : Named). named_cmp k y ≡ Less) ks → list_any (is_at (named_cmp x)) ks ≡ false
+all_below x k [] e a = refl
+all_below x k (y ∷ ys) e a = ap (λ o. is_eq o || list_any (is_at (named_cmp x)) ys) (named_total.trans x k y e a.0) ∙ all_below x k ys e a.1
+
+none_before : (x one : Named) (rest : List Named) → IsStrictlySortedBy named_cmp (one ∷ rest) → named_cmp x one ≡ Less → list_any (is_at (named_cmp x)) (one ∷ rest) ≡ false
+none_before x one rest sorted e = ap (λ o. is_eq o || list_any (is_at (named_cmp x)) rest) e ∙ all_below x one rest e (sorted_head named_cmp one rest sorted)
+
+-- a name that is had is listed
+listed_bearer : (names : Names) (objects : List Held) (p s : ℕ) (value : List ℕ) (kind : ℕ) → Covers names objects → bears objects p s value kind ≡ true
+    → (p < length objects) × (is_listed names.by_hash.keys (name_hash value kind) p s ≡ true)
+listed_bearer names objects p s value kind c is =
+    let h = bears_at objects p s value kind is in
+    let n = name_at h.0 s value kind h.2 in
+    (get_below objects p h.0 h.1, ap (λ (k : ℕ). is_listed names.by_hash.keys k p s) (sym (hash_same value kind n.0 n.2)) ∙ c.all p h.0 h.1 s n.0 n.1)
+
+-- the test of the first place from one on
+abbrev pub bears_from : List Held → ℕ → List ℕ → ℕ → ℕ → ℕ → Bool
+bears_from objects from value kind p s = nat_le from p && bears objects p s value kind
+
+abbrev pub bears_now : List Held → List ℕ → ℕ → ℕ → ℕ → Bool
+bears_now objects value kind p s = bears_live objects p s value kind
+
+module _ (names : Names) (objects : List Held) (value : List ℕ) (kind hash : ℕ) (covers : Covers names objects) (is : hash ≡ name_hash value kind) where
+  there : (from end p s : ℕ) → end ≡ length objects → from ≤ p → bears objects p s value kind ≡ true → is_listed (under hash from end names.by_hash.keys) hash p s ≡ true
+  there from end p s count le has =
+      let l = listed_bearer names objects p s value kind covers has in
+      let below = l.0 in
+      still_under hash from end names.by_hash.keys p s le (omega (arith, below, count)) (ap (λ (k : ℕ). is_listed names.by_hash.keys k p s) is ∙ l.1)
+
+  pub next_start : (from end : ℕ) (rest : List Named) → end ≡ length objects → rest ≡ under hash from end names.by_hash.keys → Seeks (bears_from objects from value kind) hash rest
+  next_start from end rest count e = record {
+    left = λ p s passes.
+        let parts = and_parts (nat_le from p) (bears objects p s value kind) passes in
+        ap (λ (x : List Named). is_listed x hash p s) e ∙ there from end p s count (grind (arith, nat_tests, parts.0)) parts.1;
+  }
+
+  pub live_start : (end : ℕ) (rest : List Named) → end ≡ length objects → rest ≡ under hash 0 end names.by_hash.keys → Seeks (bears_now objects value kind) hash rest
+  live_start end rest count e = record {
+    left = λ p s passes.
+        let h = bears_live_at objects p s value kind passes in
+        ap (λ (x : List Named). is_listed x hash p s) e ∙ there 0 end p s count (omega arith) (ap (λ (o : Option Held). bears_of o s value kind) h.1 ∙ h.3);
+  }
+
+module _ (objects : List Held) (value : List ℕ) (kind : ℕ) where
+  from_passes : (from q s : ℕ) (h : Held) → from ≤ q → slice_get objects q ≡ Some h → is_named_at h s value kind ≡ true → bears_from objects from value kind q s ≡ true
+  from_passes from q s h le at has =
+      let e : nat_le from q ≡ true = grind (arith, nat_tests, le) in
+      ap (λ (b : Bool). b && bears objects q s value kind) e ∙ ap (λ (o : Option Held). bears_of o s value kind) at ∙ has
+
+  -- the first that is left and has the name
+  pub next_here : (hash from : ℕ) (one : Named) (rest : List Named) → bears objects one.1 one.2 value kind ≡ true → Seeks (bears_from objects from value kind) hash (one ∷ rest) → Rests hash from (one ∷ rest)
+      → next_named value kind from objects ≡ Some one.1
+  next_here hash from one rest is k r =
+      let h = bears_at objects one.1 one.2 value kind is in
+      first_place (has_name value kind) objects from one.1 h.0 r.inside.0.1 h.1 (named_at h.0 one.2 value kind h.2) (λ q g ge lt at. false_from_ne_true (has_name value kind g) (λ found.
+      let s = bears_somewhere objects q g value kind at found in
+      let less : named_cmp (hash, q, s.0) one ≡ Less =
+      ap (λ (n : ℕ). ordering_then (ordering_then (nat_cmp hash n) (nat_cmp q one.1)) (nat_cmp s.0 one.2)) (sym r.inside.0.0)
+      ∙ ap (λ o. ordering_then (ordering_then o (nat_cmp q one.1)) (nat_cmp s.0 one.2)) (tied hash) ∙ ap (λ o. ordering_then o (nat_cmp s.0 one.2)) (less_than q one.1 lt) in
+      let clash : true ≡ false = sym (k.left q s.0 (from_passes from q s.0 g ge at s.1)) ∙ none_before (hash, q, s.0) one rest r.sorted less in
       cc))
 
-  pub live_here : (b : Bearer) → bears_live objects b value kind ≡ true → any_live_named value kind objects ≡ true
-  live_here b is =
-      let has = bears_live_has objects b value kind is in
-      any_there (λ (h : Held). live h.card && has_name value kind h) objects b.place has.0 has.1 has.2
+  pub next_none : (hash from : ℕ) → Seeks (bears_from objects from value kind) hash [] → next_named value kind from objects ≡ None
+  next_none hash from k = no_place (has_name value kind) objects from (λ q g ge at. false_from_ne_true (has_name value kind g) (λ found.
+      let s = bears_somewhere objects q g value kind at found in
+      let clash : false ≡ true = k.left q s.0 (from_passes from q s.0 g ge at s.1) in
+      cc))
 
-  pub live_none : ((j : ℕ) (a : Bearer) → j < length bearers → slice_get bearers j ≡ Some a → bears_live objects a value kind ≡ false) → any_live_named value kind objects ≡ false
-  live_none none = none_there (λ (h : Held). live h.card && has_name value kind h) objects (λ q h at. false_from_ne_true (live h.card && has_name value kind h) (λ found.
-      let parts = and_parts (live h.card) (has_name value kind h) found in
-      let l = bearer_of q h at parts.1 in
-      let is : bears_live objects (record { place = q; slot = l.0 }) value kind ≡ true =
-      ap (λ (o : Option Held). bears_live_of o l.0 value kind) at ∙ ap (λ (b : Bool). b && is_named_at h l.0 value kind) parts.0 ∙ l.2 in
-      let clash : true ≡ false = sym is ∙ none l.1.0 (record { place = q; slot = l.0 }) (get_below bearers l.1.0 _ l.1.1) l.1.1 in
+  pub next_past : (from : ℕ) → length objects < from → next_named value kind from objects ≡ None
+  next_past from past = no_place (has_name value kind) objects from (λ q g ge at. let below = get_below objects q g at in absurd (omega (arith, below, past, ge)))
+
+  pub next_within : (p s : ℕ) → bears objects p s value kind ≡ true → p < length objects
+  next_within p s is = let h = bears_at objects p s value kind is in get_below objects p h.0 h.1
+
+  -- one that fails is not the one looked for
+  pub fails_from : (from p s : ℕ) → bears objects p s value kind ≡ false → bears_from objects from value kind p s ≡ false
+  fails_from from p s is = false_from_ne_true (bears_from objects from value kind p s) (λ e.
+      let parts = and_parts (nat_le from p) (bears objects p s value kind) e in
+      let clash : true ≡ false = sym parts.1 ∙ is in
+      cc)
+
+  pub live_here : (p s : ℕ) → bears_live objects p s value kind ≡ true → any_live_named value kind objects ≡ true
+  live_here p s is =
+      let h = bears_live_at objects p s value kind is in
+      any_there (λ (g : Held). live g.card && has_name value kind g) objects p h.0 h.1 (ap (λ (b : Bool). b && has_name value kind h.0) h.2 ∙ named_at h.0 s value kind h.3)
+
+  pub live_none : (hash : ℕ) → Seeks (bears_now objects value kind) hash [] → any_live_named value kind objects ≡ false
+  live_none hash k = none_there (λ (g : Held). live g.card && has_name value kind g) objects (λ q g at. false_from_ne_true (live g.card && has_name value kind g) (λ found.
+      let parts = and_parts (live g.card) (has_name value kind g) found in
+      let s = bears_somewhere objects q g value kind at parts.1 in
+      let is : bears_live objects q s.0 value kind ≡ true =
+      ap (λ (o : Option Held). bears_live_of o s.0 value kind) at ∙ ap (λ (b : Bool). b && is_named_at g s.0 value kind) parts.0 ∙ s.1 in
+      let clash : false ≡ true = k.left q s.0 is in
       cc))
 
 -- objects with the names that they had
@@ -128,225 +301,85 @@ covers_relived names hs place life = covers_fewer names hs (relived hs place lif
     let r = relived_from hs place p life g at in
     (r.0, r.1, elim r.2 [ inl a ↦ ap (λ (x : Held). x.card.given.names) a | inr b ↦ ap (λ (x : Held). x.card.given.names) b.1 ]))
 
-pub covers_popped : (names : Names) (hs : List Held) → Covers names hs → Covers names (take (length hs - 1) hs)
-covers_popped names hs = covers_fewer names hs (take (length hs - 1) hs) (λ p g at. (g, taken_from hs (length hs - 1) p g at, refl))
+taken_below : {X : Type 0} (xs : List X) (n p : ℕ) (x : X) → slice_get (take n xs) p ≡ Some x → p < n
+taken_below [] zero p x e = let bad : ⊥ = cc in absurd bad
+taken_below [] (suc n) p x e = let bad : ⊥ = cc in absurd bad
+taken_below (y ∷ ys) zero p x e = let bad : ⊥ = cc in absurd bad
+taken_below (y ∷ ys) (suc n) zero x e = omega arith
+taken_below (y ∷ ys) (suc n) (suc p) x e = let b = taken_below ys n p x e in omega (arith, b)
 
-covers_kept : (old new : Names) (hs : List Held) → Covers old hs → (new.seed ≡ old.seed) → KeepsBelow old (length hs) new → (p : ℕ) (g : Held) → slice_get hs p ≡ Some g → AreListed new p g.card.given.names
-covers_kept old new hs c seed keeps p g at s n e =
-    let P : Seed → Type 0 = λ x. is_listed (bearers_at new (name_hash x n.value n.kind)) (record { place = p; slot = s }) ≡ true in
-    let was : Lists (bearers_at old (name_hash old.seed n.value n.kind)) (record { place = p; slot = s }) = listed_at (bearers_at old (name_hash old.seed n.value n.kind)) (record { place = p; slot = s }) (c.all p g at s n e) in
-    subst P (sym seed) (at_listed (bearers_at new (name_hash old.seed n.value n.kind)) (record { place = p; slot = s }) (keeps (name_hash old.seed n.value n.kind) (record { place = p; slot = s }) (get_below hs p g at) was))
-
--- one object more, whose names were listed
-pub covers_added : (old new : Names) (hs : List Held) (h : Held) → Covers old hs → (new.seed ≡ old.seed) → KeepsBelow old (length hs) new → AreListed new (length hs) h.card.given.names → Covers new (hs ++ h ∷ [])
-covers_added old new hs h c seed keeps lists = record {
-  all = λ p g at. elim (get-append_cases hs h p g at) [
-    | inl e ↦ covers_kept old new hs c seed keeps p g e
-    | inr e ↦
-        let Q : Held → Type 0 = λ x. AreListed new p x.card.given.names in
-        let R : ℕ → Type 0 = λ k. AreListed new k h.card.given.names in
-        subst Q (sym e.1) (subst R (sym e.0) lists)
-  ];
+pub covers_popped : (old new : Names) (hs : List Held) → Covers old hs → KeepsOthers old (length hs - 1) new → Covers new (take (length hs - 1) hs)
+covers_popped old new hs c keeps = record {
+  all = λ p g at s n e.
+      let below = taken_below hs (length hs - 1) p g at in
+      let other : p ≢ length hs - 1 = λ same. absurd (omega (arith, below, same)) in
+      keeps (name_hash n.value n.kind) p s other (c.all p g (taken_from hs (length hs - 1) p g at) s n e);
 }
 
--- and none more
-pub covers_same : (old new : Names) (hs : List Held) → Covers old hs → (new.seed ≡ old.seed) → KeepsBelow old (length hs) new → Covers new hs
-covers_same old new hs c seed keeps = record { all = covers_kept old new hs c seed keeps }
+-- more that is listed
+pub covers_more : (old new : Names) (hs : List Held) → Covers old hs → Keeps old new → Covers new hs
+covers_more old new hs c keeps = record { all = λ p g at s n e. keeps (name_hash n.value n.kind) p s (c.all p g at s n e) }
+
+-- one object more, whose names were listed
+pub covers_pushed : (old new : Names) (hs ys : List Held) (h : Held) (place : ℕ) → Covers old hs → place ≡ length hs → Keeps old new → AreListed new place h.card.given.names → ys ≡ hs ++ h ∷ [] → Covers new ys
+covers_pushed old new hs ys h place c is keeps lists e =
+    subst (λ (x : List Held). Covers new x) (sym e)
+    (record {
+      all = λ p g at. elim (get-append_cases hs h p g at) [
+        | inl f ↦ (covers_more old new hs c keeps).all p g f
+        | inr f ↦
+            let Q : Held → Type 0 = λ x. AreListed new p x.card.given.names in
+            let R : ℕ → Type 0 = λ k. AreListed new k h.card.given.names in
+            subst Q (sym f.1) (subst R (is ∙ sym f.0) lists)
+      ];
+    })
+
+-- a name listed no longer
+pub others_start : (old : Names) (gone : ℕ) → KeepsOthers old gone old
+others_start old gone hash p s other h = h
+
+pub others_on : (old mid new : Names) (gone hash slot : ℕ) → KeepsOthers old gone mid → new.by_hash.keys ≡ remove_key (is_at (named_cmp (hash, gone, slot))) mid.by_hash.keys → KeepsOthers old gone new
+others_on old mid new gone hash slot keeps e k p s other h =
+    ap (λ (ks : List Named). is_listed ks k p s) e
+    ∙ still_there (is_at (named_cmp (k, p, s))) (is_at (named_cmp (hash, gone, slot))) (λ x is. false_from_ne_true (is_at (named_cmp (hash, gone, slot)) x) (λ also.
+    let one = named_same k p s x (equal_at (named_cmp (k, p, s) x) is) in
+    let two = named_same hash gone slot x (equal_at (named_cmp (hash, gone, slot) x) also) in
+    other (one.1 ∙ sym two.1))) mid.by_hash.keys (keeps k p s other h)
+
+-- whatever `note` answers
+pub covers_noted : (old new : Names) (hs : List Held) (place : ℕ) (ns : List NameOf) (r : Result (Unit {0}) StoreFault) → Covers old hs → Notes old place ns r new → Covers new hs
+covers_noted old new hs place ns (Ok u) c l = covers_more old new hs c l.0
+covers_noted old new hs place ns (Err f) c l = covers_more old new hs c l.1
 
 -- the names listed so far, of those of the object at a place
 pub record Listing (old : Names) (place : ℕ) (ns : List NameOf) (count : ℕ) (now : Names) : Type 0 where
-  pub seed : now.seed ≡ old.seed
-  pub keeps : KeepsBelow old place now
-  pub lists : (s : ℕ) (n : NameOf) → s < count → slice_get ns s ≡ Some n → Lists (bearers_at now (name_hash now.seed n.value n.kind)) (record { place = place; slot = s })
+  pub keeps : Keeps old now
+  pub lists : (s : ℕ) (n : NameOf) → s < count → slice_get ns s ≡ Some n → is_listed now.by_hash.keys (name_hash n.value n.kind) place s ≡ true
 
-ahead_below : (a b : Bearer) → a.place < b.place → precedes a b ≡ true
-ahead_below a b h =
-    let e : nat_lt a.place b.place ≡ true = grind (arith, nat_tests, h) in
-    ap (λ (x : Bool). x || ((a.place == b.place) && nat_lt a.slot b.slot)) e
+keeps_put : (mid new : Names) (x : Named) → new.by_hash.keys ≡ insert_key named_cmp mid.by_hash.keys x → Keeps mid new
+keeps_put mid new x e hash p s h =
+    ap (λ (ks : List Named). is_listed ks hash p s) e ∙ still_found named_cmp x (named_itself x) (is_at (named_cmp (hash, p, s))) mid.by_hash.keys h
 
-ahead_slot : (place s t : ℕ) → s < t → precedes (record { place = place; slot = s }) (record { place = place; slot = t }) ≡ true
-ahead_slot place s t h =
-    let level : nat_lt place place ≡ false = grind (arith, nat_tests) in
-    let same : (place == place) ≡ true = grind (arith, nat_tests) in
-    let less : nat_lt s t ≡ true = grind (arith, nat_tests, h) in
-    ap (λ (x : Bool). x || ((place == place) && nat_lt s t)) level ∙ ap (λ (x : Bool). x && nat_lt s t) same ∙ less
+pub listing_more : (old mid new : Names) (place : ℕ) (ns : List NameOf) (slot hash : ℕ) (m : NameOf) → Listing old place ns slot mid → slice_get ns slot ≡ Some m → hash ≡ name_hash m.value m.kind
+    → new.by_hash.keys ≡ insert_key named_cmp mid.by_hash.keys (hash, place, slot) → Listing old place ns (slot + 1) new
+listing_more old mid new place ns slot hash m g at is e =
+    let keeps = keeps_put mid new (hash, place, slot) e in
+    record {
+      keeps = λ k p s h. keeps k p s (g.keeps k p s h);
+      lists = λ s n lt of. (elim (nat_lt s slot) as (λ t. nat_lt s slot ≡ t → is_listed new.by_hash.keys (name_hash n.value n.kind) place s ≡ true) [
+        | true ↦ λ b. keeps (name_hash n.value n.kind) place s (g.lists s n (grind (arith, nat_tests, b)) of)
+        | false ↦ λ b.
+            let past : slot ≤ s = grind (arith, nat_tests, b) in
+            let same : s ≡ slot = omega (arith, past, lt) in
+            let q : Some m ≡ Some n = sym at ∙ ap (slice_get ns) (sym same) ∙ of in
+            let r : m ≡ n = cc in
+            let here : name_hash n.value n.kind ≡ hash = ap (λ (x : NameOf). name_hash x.value x.kind) (sym r) ∙ sym is in
+            ap (λ (ks : List Named). is_listed ks (name_hash n.value n.kind) place s) e
+            ∙ ap (λ (k : ℕ). is_listed (insert_key named_cmp mid.by_hash.keys (hash, place, slot)) k place s) here
+            ∙ ap (λ (k : ℕ). is_listed (insert_key named_cmp mid.by_hash.keys (hash, place, slot)) hash place k) same
+            ∙ found_inserted named_cmp (hash, place, slot) (named_itself (hash, place, slot)) mid.by_hash.keys
+      ]) refl;
+    }
 
-one_seed : (mid new : Names) (hash : ℕ) (b : Bearer) (r : Result (Unit {0}) StoreFault) → ListsOne mid hash b r new → new.seed ≡ mid.seed
-one_seed mid new hash b (Ok u) l = l.0
-one_seed mid new hash b (Err f) l = l.1
-
-one_keeps : (mid new : Names) (hash : ℕ) (b : Bearer) (r : Result (Unit {0}) StoreFault) → ListsOne mid hash b r new → (k : ℕ) → Keeps (bearers_at mid k) b (bearers_at new k)
-one_keeps mid new hash b (Ok u) l = l.1
-one_keeps mid new hash b (Err f) l = l.2
-
-pub listing_keeps : (old mid new : Names) (place : ℕ) (ns : List NameOf) (slot hash : ℕ) (r : Result (Unit {0}) StoreFault) → Listing old place ns slot mid → ListsOne mid hash (record { place = place; slot = slot }) r new
-    → (new.seed ≡ old.seed) × KeepsBelow old place new
-listing_keeps old mid new place ns slot hash r g l = (
-  one_seed mid new hash (record { place = place; slot = slot }) r l ∙ g.seed,
-  (λ k a lt at. one_keeps mid new hash (record { place = place; slot = slot }) r l k a (ahead_below a (record { place = place; slot = slot }) lt) (g.keeps k a lt at)),
-)
-
-pub listing_more : (old mid new : Names) (place : ℕ) (ns : List NameOf) (slot hash : ℕ) (m : NameOf) → Listing old place ns slot mid → slice_get ns slot ≡ Some m → hash ≡ name_hash mid.seed m.value m.kind
-    → ListsOne mid hash (record { place = place; slot = slot }) (Ok tt) new → Listing old place ns (slot + 1) new
-listing_more old mid new place ns slot hash m g at is l = record {
-  seed = l.0 ∙ g.seed;
-  keeps = (listing_keeps old mid new place ns slot hash (Ok tt) g l).1;
-  lists = λ s n lt e. (elim (nat_lt s slot) as (λ t. nat_lt s slot ≡ t → Lists (bearers_at new (name_hash new.seed n.value n.kind)) (record { place = place; slot = s })) [
-    | true ↦ λ b.
-        let less : s < slot = grind (arith, nat_tests, b) in
-        let P : Seed → Type 0 = λ x. Lists (bearers_at new (name_hash x n.value n.kind)) (record { place = place; slot = s }) in
-        subst P (sym l.0) (l.1 (name_hash mid.seed n.value n.kind) (record { place = place; slot = s }) (ahead_slot place s slot less) (g.lists s n less e))
-    | false ↦ λ b.
-        let past : slot ≤ s = grind (arith, nat_tests, b) in
-        let same : slot ≡ s = omega (arith, past, lt) in
-        let q : Some m ≡ Some n = sym at ∙ ap (slice_get ns) same ∙ e in
-        let r : m ≡ n = cc in
-        let h : hash ≡ name_hash new.seed n.value n.kind = is ∙ ap (λ (x : NameOf). name_hash mid.seed x.value x.kind) r ∙ ap (λ (x : Seed). name_hash x n.value n.kind) (sym l.0) in
-        let P : ℕ → Type 0 = λ k. Lists (bearers_at new k) (record { place = place; slot = slot }) in
-        let Q : ℕ → Type 0 = λ k. Lists (bearers_at new (name_hash new.seed n.value n.kind)) (record { place = place; slot = k }) in
-        subst Q same (subst P h l.2)
-  ]) refl;
-}
-
-pub listing_all : (old now : Names) (place : ℕ) (ns : List NameOf) (count : ℕ) → Listing old place ns count now → length ns ≤ count → (now.seed ≡ old.seed) × KeepsBelow old place now × AreListed now place ns
-listing_all old now place ns count g h = (g.seed, g.keeps, (λ s n e. let below : s < length ns = get_below ns s n e in at_listed (bearers_at now (name_hash now.seed n.value n.kind)) (record { place = place; slot = s }) (g.lists s n (omega (arith, below, h)) e)))
-
-pub none_is : {X : Type 0} (o : Option X) → is_some o ≡ false → o ≡ None
-none_is None e = refl
-none_is (Some x) e = cc
-
-pub got_at : {X : Type 0} (xs : List X) (i : ℕ) (d : X) → i < length xs → slice_get xs i ≡ Some (slice_index_or xs i d)
-got_at [] i d h = absurd (omega (arith, h))
-got_at (x ∷ xs) zero d h = refl
-got_at (x ∷ xs) (suc i) d h = got_at xs i d (omega (arith, h))
-
--- one bearer more that fails a test
-pub more_fail : (t : Bearer → Bool) (bearers : List Bearer) (i : ℕ) (b : Bearer) → ((j : ℕ) (a : Bearer) → j < i → slice_get bearers j ≡ Some a → t a ≡ false) → slice_get bearers i ≡ Some b → t b ≡ false
-    → (j : ℕ) (a : Bearer) → j < i + 1 → slice_get bearers j ≡ Some a → t a ≡ false
-more_fail t bearers i b before at is j a lt of = (elim (nat_lt j i) as (λ x. nat_lt j i ≡ x → t a ≡ false) [
-  | true ↦ λ e. before j a (grind (arith, nat_tests, e)) of
-  | false ↦ λ e.
-      let past : i ≤ j = grind (arith, nat_tests, e) in
-      let same : i ≡ j = omega (arith, past, lt) in
-      let q : Some b ≡ Some a = sym at ∙ ap (slice_get bearers) same ∙ of in
-      let r : b ≡ a = cc in
-      ap t (sym r) ∙ is
-]) refl
-
--- the same from the last on
-pub more_fail_before : (t : Bearer → Bool) (bearers : List Bearer) (i : ℕ) (b : Bearer) → ((j : ℕ) (a : Bearer) → i + 1 ≤ j → slice_get bearers j ≡ Some a → t a ≡ false) → slice_get bearers i ≡ Some b → t b ≡ false
-    → (j : ℕ) (a : Bearer) → i ≤ j → slice_get bearers j ≡ Some a → t a ≡ false
-more_fail_before t bearers i b h at is j a le e = (elim (nat_lt i j) as (λ s. nat_lt i j ≡ s → t a ≡ false) [
-  | true ↦ λ w. let past : i < j = grind (arith, nat_tests, w) in h j a (omega (arith, past)) e
-  | false ↦ λ w.
-      let here : j ≤ i = grind (arith, nat_tests, w) in
-      let same : i ≡ j = omega (arith, le, here) in
-      let q : Some b ≡ Some a = sym at ∙ ap (slice_get bearers) same ∙ e in
-      let r : b ≡ a = cc in
-      ap t (sym r) ∙ is
-]) refl
-
-pub next_within : (objects : List Held) (b : Bearer) (value : List ℕ) (kind from : ℕ) → is_next objects b value kind from ≡ true → b.place < length objects
-next_within objects b value kind from is =
-    let parts = and_parts (nat_le from b.place) (bears objects b value kind) is in
-    let has = bears_has objects b value kind parts.1 in
-    get_below objects b.place has.0 has.1
-
--- a key that is found
-pub key_found : (hash i : ℕ) (ks : List ℕ) → position (nat_eq hash) ks ≡ Some i → slice_get ks i ≡ Some hash
-key_found hash i ks e =
-    let r = position_found (nat_eq hash) ks 0 i (sym (position_from-zero (nat_eq hash) ks) ∙ e) in
-    let at : i ≡ r.0 = omega (arith, r.1) in
-    let is : r.2 ≡ hash = grind (arith, nat_tests, r.4) in
-    ap (slice_get ks) at ∙ r.3 ∙ ap Some is
-
-module _ (m n : IndexMap ℕ (Vec Bearer Global) Seed) (hash : ℕ) where
-  pub new_key : (v : Vec Bearer Global) (index : ℕ) → index ≡ length m.entries → get nat_eq m hash ≡ None → n.entries ≡ insert_entry nat_eq m.entries hash v → slice_get (keys n) index ≡ Some hash
-  new_key v index at none e =
-      let key : (ℕ × Vec Bearer Global) → ℕ = λ x. x.0 in
-      let last : map key n.entries ≡ map key m.entries ++ hash ∷ [] = ap (map key) (e ∙ insert_entry-new nat_eq m hash v none) ∙ map-push key m.entries (hash, v) in
-      let long : index ≡ length (map key m.entries) = at ∙ sym (length-map key m.entries) in
-      ap (slice_get (map key n.entries)) long ∙ ap (λ (ks : List ℕ). slice_get ks (length (map key m.entries))) last ∙ get-append_last (map key m.entries) hash
-
--- a list written at the index of its hash
-module _ (m : IndexMap ℕ (Vec Bearer Global) Seed) (index hash key : ℕ) (v w : Vec Bearer Global) (unique : IsUnique nat_eq m) (at : slice_get m.entries index ≡ Some (key, v)) (there : slice_get (keys m) index ≡ Some hash) where
-  key_is : key ≡ hash
-  key_is =
-      let e : Some hash ≡ Some key = sym there ∙ get-map (λ (x : ℕ × Vec Bearer Global). x.0) m.entries index ∙ ap (option_map (λ (x : ℕ × Vec Bearer Global). x.0)) at in
-      cc
-
-  was : get nat_eq m hash ≡ Some v
-  was = ap (get nat_eq m) (sym key_is) ∙ hash_map_get_place nat_eq_equiv m index key v unique at
-
-  now_is : (k : ℕ) → get nat_eq (with_value_at m index w) k ≡ cond (nat_eq hash k) (Some w) (get nat_eq m k)
-  now_is k = (updates-with_value_at m index w nat_eq_equiv unique key v at).0 k ∙ ap (λ (x : ℕ). cond (nat_eq x k) (Some w) (get nat_eq m k)) key_is
-
-  -- the list under the hash, and those under others
-  put_cases : (P : List Bearer → List Bearer → Type 0) → P v.items w.items → ((xs : List Bearer) → P xs xs) → (k : ℕ) → P (listed (get nat_eq m k)) (listed (get nat_eq (with_value_at m index w) k))
-  put_cases P h same k = (elim (nat_eq hash k) as (λ t. nat_eq hash k ≡ t → P (listed (get nat_eq m k)) (listed (get nat_eq (with_value_at m index w) k))) [
-    | true ↦ λ is.
-        let e : hash ≡ k = grind (arith, nat_tests, is) in
-        let old : listed (get nat_eq m k) ≡ v.items = ap (λ (x : ℕ). listed (get nat_eq m x)) (sym e) ∙ ap listed was in
-        let new : listed (get nat_eq (with_value_at m index w) k) ≡ w.items = ap listed (now_is k ∙ ap (λ (t : Bool). cond t (Some w) (get nat_eq m k)) is) in
-        let Q : List Bearer → Type 0 = λ xs. P xs w.items in
-        let R : List Bearer → Type 0 = λ ys. P (listed (get nat_eq m k)) ys in
-        subst R (sym new) (subst Q (sym old) h)
-    | false ↦ λ is.
-        let new : listed (get nat_eq (with_value_at m index w) k) ≡ listed (get nat_eq m k) = ap listed (now_is k ∙ ap (λ (t : Bool). cond t (Some w) (get nat_eq m k)) is) in
-        let R : List Bearer → Type 0 = λ ys. P (listed (get nat_eq m k)) ys in
-        subst R (sym new) (same (listed (get nat_eq m k)))
-  ]) refl
-
-  pub put_keeps : (b : Bearer) → Keeps v.items b w.items → (k : ℕ) → Keeps (listed (get nat_eq m k)) b (listed (get nat_eq (with_value_at m index w) k))
-  put_keeps b h k = put_cases (λ xs ys. Keeps xs b ys) h (λ xs a is l. l) k
-
-  pub put_ascends : ((k : ℕ) → Ascends (listed (get nat_eq m k))) → Ascends w.items → (k : ℕ) → Ascends (listed (get nat_eq (with_value_at m index w) k))
-  put_ascends o h k = put_cases (λ xs ys. Ascends xs → Ascends ys) (λ _. h) (λ xs a. a) k (o k)
-
-  pub put_there : (b : Bearer) → Lists w.items b → Lists (listed (get nat_eq (with_value_at m index w) hash)) b
-  put_there b l =
-      let is : nat_eq hash hash ≡ true = grind (arith, nat_tests) in
-      let new : listed (get nat_eq (with_value_at m index w) hash) ≡ w.items = ap listed (now_is hash ∙ ap (λ (t : Bool). cond t (Some w) (get nat_eq m hash)) is) in
-      let P : List Bearer → Type 0 = λ xs. Lists xs b in
-      subst P (sym new) l
-
-pub list_ascends : (m : IndexMap ℕ (Vec Bearer Global) Seed) (index key : ℕ) (v : Vec Bearer Global) → IsUnique nat_eq m → slice_get m.entries index ≡ Some (key, v) → ((k : ℕ) → Ascends (listed (get nat_eq m k))) → Ascends v.items
-list_ascends m index key v unique at o =
-    let P : Option (Vec Bearer Global) → Type 0 = λ x. Ascends (listed x) in
-    subst P (hash_map_get_place nat_eq_equiv m index key v unique at) (o key)
-
-pub puts_ascend : (old new : List Bearer) (b : Bearer) (r : Result (Unit {0}) StoreFault) → PutsLast old b r new → Ascends new
-puts_ascend old new b (Ok u) p = p.0
-puts_ascend old new b (Err f) p = p.1
-
--- what `list` leaves
-pub lists_one : (old new : Names) (m : IndexMap ℕ (Vec Bearer Global) Seed) (index hash key : ℕ) (v w : Vec Bearer Global) (b : Bearer) (r : Result (Unit {0}) StoreFault)
-    → IsUnique nat_eq m → slice_get m.entries index ≡ Some (key, v) → slice_get (keys m) index ≡ Some hash → ((k : ℕ) → listed (get nat_eq m k) ≡ bearers_at old k)
-    → new.seed ≡ old.seed → ((k : ℕ) → bearers_at new k ≡ listed (get nat_eq (with_value_at m index w) k)) → PutsLast v.items b r w.items → ListsOne old hash b r new
-lists_one old new m index hash key v w b (Ok u) unique at there before seed after p = (
-  seed,
-  (λ k a is l.
-      let P : List Bearer → Type 0 = λ xs. Lists xs a in
-      subst P (sym (after k)) (put_keeps m index hash key v w unique at there b p.1 k a is (subst P (sym (before k)) l))),
-  (let P : List Bearer → Type 0 = λ xs. Lists xs b in subst P (sym (after hash)) (put_there m index hash key v w unique at there b p.2)),
-)
-lists_one old new m index hash key v w b (Err f) unique at there before seed after p = (
-  p.0,
-  seed,
-  (λ k a is l.
-      let P : List Bearer → Type 0 = λ xs. Lists xs a in
-      subst P (sym (after k)) (put_keeps m index hash key v w unique at there b p.2 k a is (subst P (sym (before k)) l))),
-)
-
--- whatever `note` answers
-pub covers_noted : (old new : Names) (hs : List Held) (place : ℕ) (ns : List NameOf) (r : Result (Unit {0}) StoreFault) → Covers old hs → place ≡ length hs → ListsAll old place ns r new → Covers new hs
-covers_noted old new hs place ns (Ok u) c is l = let Q : ℕ → Type 0 = λ x. KeepsBelow old x new in covers_same old new hs c l.0 (subst Q is l.1)
-covers_noted old new hs place ns (Err f) c is l = let Q : ℕ → Type 0 = λ x. KeepsBelow old x new in covers_same old new hs c l.1 (subst Q is l.2)
-
--- an object more, whose names were noted
-pub covers_pushed : (old new : Names) (hs ys : List Held) (h : Held) (place : ℕ) → Covers old hs → place ≡ length hs → new.seed ≡ old.seed → KeepsBelow old place new → AreListed new place h.card.given.names → ys ≡ hs ++ h ∷ [] → Covers new ys
-covers_pushed old new hs ys h place c is seed keeps lists e =
-    let P : List Held → Type 0 = λ x. Covers new x in
-    let Q : ℕ → Type 0 = λ x. KeepsBelow old x new in
-    let R : ℕ → Type 0 = λ x. AreListed new x h.card.given.names in
-    subst P (sym e) (covers_added old new hs h c seed (subst Q is keeps) (subst R is lists))
+pub listing_all : (old now : Names) (place : ℕ) (ns : List NameOf) (count : ℕ) → Listing old place ns count now → length ns ≤ count → Keeps old now × AreListed now place ns
+listing_all old now place ns count g h = (g.keeps, (λ s n e. let below : s < length ns = get_below ns s n e in g.lists s n (omega (arith, below, h)) e))

@@ -45,3 +45,14 @@ module _ {K : Type 0} (cmp : K → K → Ordering) (k : K) (own : cmp k k ≡ Eq
       | false ↦ λ g. still_found test xs g
     ]) h
   ])
+
+-- what passes another test is still there
+pub still_there : {K : Type 0} (test other : K → Bool) → ((k : K) → test k ≡ true → other k ≡ false) → (ks : List K) → list_any test ks ≡ true → list_any test (remove_key other ks) ≡ true
+still_there test other apart [] h = h
+still_there test other apart (k ∷ ks) h = (elim (test k) as (λ t. test k ≡ t → (t || list_any test ks) ≡ true → list_any test (remove_key other (k ∷ ks)) ≡ true) [
+  | true ↦ λ e g. ap (λ (b : Bool). list_any test (cond b ks (k ∷ remove_key other ks))) (apart k e) ∙ ap (λ (b : Bool). b || list_any test (remove_key other ks)) e
+  | false ↦ λ e g. (elim (other k) as (λ o. list_any test (cond o ks (k ∷ remove_key other ks)) ≡ true) [
+    | true ↦ g
+    | false ↦ ap (λ (b : Bool). test k || b) (still_there test other apart ks g) ∙ or_true (test k)
+  ])
+]) refl h

@@ -9,160 +9,148 @@ use Rattle.kmipa_object.specs.Inventory.{live}
 use Rattle.kmipa_object.specs.declared.life.Life.{Life}
 use Rattle.kmipa_object.proofs.ListLemmas.{get-append_last, get-updated_same}
 use Rattle.kmipa_store.specs.Ledger.{Held, relived, with_life}
-use Rattle.kmipa_store.specs.Names.{name_hash}
+use Rattle.kmipa_store.specs.Hashes.{name_hash}
 use Rattle.kmipa_store.specs.Queries.{any_live_named, has_name, is_name}
 use Rattle.kmipa_store.specs.Tally.{Counts, Lowers, Raises, Stays, all_with, count_at, live_with, names_with, one_at}
-use Rattle.kmipa_store.specs.declared.seed.Seed.{Seed}
 use Rattle.kmipa_store.specs.declared.tally.Tally.{Tally}
 use Rattle.kmipa_store.proofs.NameLemmas.{hash_same}
 use Rattle.kmipa_store.proofs.QueryLemmas.{drop-one, drop-past}
 
 -- names counted one after the other
 pub record Raising (old : Tally) (ns : List NameOf) (i : ℕ) (now : Tally) : Type 0 where
-  pub seed : now.seed ≡ old.seed
   pub was : now.exact ≡ true → old.exact ≡ true
-  pub counts : now.exact ≡ true → (k : ℕ) → names_with old.seed k (drop i ns) + count_at now k ≡ names_with old.seed k ns + count_at old k
+  pub counts : now.exact ≡ true → (k : ℕ) → names_with k (drop i ns) + count_at now k ≡ names_with k ns + count_at old k
 
 pub record Lowering (old : Tally) (ns : List NameOf) (i : ℕ) (now : Tally) : Type 0 where
-  pub seed : now.seed ≡ old.seed
   pub was : now.exact ≡ true → old.exact ≡ true
-  pub counts : now.exact ≡ true → (k : ℕ) → names_with old.seed k ns + count_at now k ≡ names_with old.seed k (drop i ns) + count_at old k
+  pub counts : now.exact ≡ true → (k : ℕ) → names_with k ns + count_at now k ≡ names_with k (drop i ns) + count_at old k
 
 pub raising_start : (old : Tally) (ns : List NameOf) → Raising old ns 0 old
-raising_start old ns = record { seed = refl; was = λ e. e; counts = λ e k. refl }
+raising_start old ns = record { was = λ e. e; counts = λ e k. refl }
 
 pub lowering_start : (old : Tally) (ns : List NameOf) → Lowering old ns 0 old
-lowering_start old ns = record { seed = refl; was = λ e. e; counts = λ e k. refl }
+lowering_start old ns = record { was = λ e. e; counts = λ e k. refl }
 
-next_name : (seed : Seed) (k : ℕ) (ns : List NameOf) (i : ℕ) (n : NameOf) → slice_get ns i ≡ Some n → names_with seed k (drop i ns) ≡ one_at (name_hash seed n.value n.kind) k + names_with seed k (drop (suc i) ns)
-next_name seed k ns i n at = ap (names_with seed k) (drop-one ns i n at)
+next_name : (k : ℕ) (ns : List NameOf) (i : ℕ) (n : NameOf) → slice_get ns i ≡ Some n → names_with k (drop i ns) ≡ one_at (name_hash n.value n.kind) k + names_with k (drop (suc i) ns)
+next_name k ns i n at = ap (names_with k) (drop-one ns i n at)
 
-pub raising_on : (old now new : Tally) (ns : List NameOf) (i hash : ℕ) (n : NameOf) → slice_get ns i ≡ Some n → hash ≡ name_hash now.seed n.value n.kind → Raising old ns i now → Raises now (λ k. one_at hash k) new → Raising old ns (suc i) new
+pub raising_on : (old now new : Tally) (ns : List NameOf) (i hash : ℕ) (n : NameOf) → slice_get ns i ≡ Some n → hash ≡ name_hash n.value n.kind → Raising old ns i now → Raises now (λ k. one_at hash k) new → Raising old ns (suc i) new
 raising_on old now new ns i hash n at is r s = record {
-  seed = s.seed ∙ r.seed;
   was = λ e. r.was (s.was e);
   counts = λ e k.
-      let same : hash ≡ name_hash old.seed n.value n.kind = is ∙ ap (λ (x : Seed). name_hash x n.value n.kind) r.seed in
-      let a : names_with old.seed k (drop i ns) ≡ one_at hash k + names_with old.seed k (drop (suc i) ns) = next_name old.seed k ns i n at ∙ ap (λ h. one_at h k + names_with old.seed k (drop (suc i) ns)) (sym same) in
+      let a : names_with k (drop i ns) ≡ one_at hash k + names_with k (drop (suc i) ns) = next_name k ns i n at ∙ ap (λ h. one_at h k + names_with k (drop (suc i) ns)) (sym is) in
       let b = r.counts (s.was e) k in
       let d = s.counts e k in
       omega (arith, a, b, d);
 }
 
-pub lowering_on : (old now new : Tally) (ns : List NameOf) (i hash : ℕ) (n : NameOf) → slice_get ns i ≡ Some n → hash ≡ name_hash now.seed n.value n.kind → Lowering old ns i now → Lowers now (λ k. one_at hash k) new → Lowering old ns (suc i) new
+pub lowering_on : (old now new : Tally) (ns : List NameOf) (i hash : ℕ) (n : NameOf) → slice_get ns i ≡ Some n → hash ≡ name_hash n.value n.kind → Lowering old ns i now → Lowers now (λ k. one_at hash k) new → Lowering old ns (suc i) new
 lowering_on old now new ns i hash n at is r s = record {
-  seed = s.seed ∙ r.seed;
   was = λ e. r.was (s.was e);
   counts = λ e k.
-      let same : hash ≡ name_hash old.seed n.value n.kind = is ∙ ap (λ (x : Seed). name_hash x n.value n.kind) r.seed in
-      let a : names_with old.seed k (drop i ns) ≡ one_at hash k + names_with old.seed k (drop (suc i) ns) = next_name old.seed k ns i n at ∙ ap (λ h. one_at h k + names_with old.seed k (drop (suc i) ns)) (sym same) in
+      let a : names_with k (drop i ns) ≡ one_at hash k + names_with k (drop (suc i) ns) = next_name k ns i n at ∙ ap (λ h. one_at h k + names_with k (drop (suc i) ns)) (sym is) in
       let b = r.counts (s.was e) k in
       let d = s.counts e k in
       omega (arith, a, b, d);
 }
 
-pub raising_end : (old now : Tally) (ns : List NameOf) (i : ℕ) → length ns ≤ i → Raising old ns i now → Raises old (λ k. names_with old.seed k ns) now
+pub raising_end : (old now : Tally) (ns : List NameOf) (i : ℕ) → length ns ≤ i → Raising old ns i now → Raises old (λ k. names_with k ns) now
 raising_end old now ns i past r = record {
-  seed = r.seed;
   was = r.was;
-  counts = λ e k. let none : names_with old.seed k (drop i ns) ≡ 0 = ap (names_with old.seed k) (drop-past ns i past) in let a = r.counts e k in omega (arith, none, a);
+  counts = λ e k. let none : names_with k (drop i ns) ≡ 0 = ap (names_with k) (drop-past ns i past) in let a = r.counts e k in omega (arith, none, a);
 }
 
-pub lowering_end : (old now : Tally) (ns : List NameOf) (i : ℕ) → length ns ≤ i → Lowering old ns i now → Lowers old (λ k. names_with old.seed k ns) now
+pub lowering_end : (old now : Tally) (ns : List NameOf) (i : ℕ) → length ns ≤ i → Lowering old ns i now → Lowers old (λ k. names_with k ns) now
 lowering_end old now ns i past r = record {
-  seed = r.seed;
   was = r.was;
-  counts = λ e k. let none : names_with old.seed k (drop i ns) ≡ 0 = ap (names_with old.seed k) (drop-past ns i past) in let a = r.counts e k in omega (arith, none, a);
+  counts = λ e k. let none : names_with k (drop i ns) ≡ 0 = ap (names_with k) (drop-past ns i past) in let a = r.counts e k in omega (arith, none, a);
 }
 
 -- sums over objects
-pub all_pushed : (seed : Seed) (k : ℕ) (hs : List Held) (h : Held) → all_with seed k (hs ++ h ∷ []) ≡ live_with seed k h + all_with seed k hs
-all_pushed seed k [] h = refl
-all_pushed seed k (g ∷ hs) h = let i = all_pushed seed k hs h in omega (arith, i)
+pub all_pushed : (k : ℕ) (hs : List Held) (h : Held) → all_with k (hs ++ h ∷ []) ≡ live_with k h + all_with k hs
+all_pushed k [] h = refl
+all_pushed k (g ∷ hs) h = let i = all_pushed k hs h in omega (arith, i)
 
-pub all_relived : (seed : Seed) (k : ℕ) (hs : List Held) (place : ℕ) (h : Held) (life : Life) → slice_get hs place ≡ Some h
-    → live_with seed k h + all_with seed k (relived hs place life) ≡ live_with seed k (with_life h life) + all_with seed k hs
-all_relived seed k [] place h life at = cc
-all_relived seed k (g ∷ hs) zero h life at =
+pub all_relived : (k : ℕ) (hs : List Held) (place : ℕ) (h : Held) (life : Life) → slice_get hs place ≡ Some h
+    → live_with k h + all_with k (relived hs place life) ≡ live_with k (with_life h life) + all_with k hs
+all_relived k [] place h life at = cc
+all_relived k (g ∷ hs) zero h life at =
     let is : g ≡ h = cc in
-    let a : live_with seed k (with_life g life) ≡ live_with seed k (with_life h life) = ap (λ (x : Held). live_with seed k (with_life x life)) is in
-    let b : live_with seed k g ≡ live_with seed k h = ap (live_with seed k) is in
+    let a : live_with k (with_life g life) ≡ live_with k (with_life h life) = ap (λ (x : Held). live_with k (with_life x life)) is in
+    let b : live_with k g ≡ live_with k h = ap (live_with k) is in
     omega (arith, a, b)
-all_relived seed k (g ∷ hs) (suc place) h life at = let i = all_relived seed k hs place h life at in omega (arith, i)
+all_relived k (g ∷ hs) (suc place) h life at = let i = all_relived k hs place h life at in omega (arith, i)
 
-pub all_popped : (seed : Seed) (k : ℕ) (hs : List Held) (last : ℕ) (h : Held) → length hs ≡ suc last → slice_get hs last ≡ Some h → live_with seed k h + all_with seed k (take last hs) ≡ all_with seed k hs
-all_popped seed k [] last h l at = absurd (omega (arith, l))
-all_popped seed k (g ∷ []) zero h l at = let is : g ≡ h = cc in let b : live_with seed k g ≡ live_with seed k h = ap (live_with seed k) is in omega (arith, b)
-all_popped seed k (g ∷ f ∷ hs) zero h l at = absurd (omega (arith, l))
-all_popped seed k (g ∷ hs) (suc last) h l at = let n : length hs ≡ suc last = omega (arith, l) in let i = all_popped seed k hs last h n at in omega (arith, i)
+pub all_popped : (k : ℕ) (hs : List Held) (last : ℕ) (h : Held) → length hs ≡ suc last → slice_get hs last ≡ Some h → live_with k h + all_with k (take last hs) ≡ all_with k hs
+all_popped k [] last h l at = absurd (omega (arith, l))
+all_popped k (g ∷ []) zero h l at = let is : g ≡ h = cc in let b : live_with k g ≡ live_with k h = ap (live_with k) is in omega (arith, b)
+all_popped k (g ∷ f ∷ hs) zero h l at = absurd (omega (arith, l))
+all_popped k (g ∷ hs) (suc last) h l at = let n : length hs ≡ suc last = omega (arith, l) in let i = all_popped k hs last h n at in omega (arith, i)
 
 -- counts after a change
 pub counts_stay : (old new : Tally) (hs : List Held) → Counts old hs → Stays old new → Counts new hs
 counts_stay old new hs c s = record {
-  all = λ e k. s.counts k ∙ c.all (sym s.exact ∙ e) k ∙ ap (λ (x : Seed). all_with x k hs) (sym s.seed);
+  all = λ e k. s.counts k ∙ c.all (sym s.exact ∙ e) k;
 }
 
-pub counts_pushed : (old new : Tally) (hs : List Held) (h : Held) → Counts old hs → Raises old (λ k. live_with old.seed k h) new → Counts new (hs ++ h ∷ [])
+pub counts_pushed : (old new : Tally) (hs : List Held) (h : Held) → Counts old hs → Raises old (λ k. live_with k h) new → Counts new (hs ++ h ∷ [])
 counts_pushed old new hs h c r = record {
   all = λ e k.
       let a = r.counts e k in
       let b = c.all (r.was e) k in
-      let d = all_pushed old.seed k hs h in
-      let sum : count_at new k ≡ all_with old.seed k (hs ++ h ∷ []) = omega (arith, a, b, d) in
-      sum ∙ ap (λ (x : Seed). all_with x k (hs ++ h ∷ [])) (sym r.seed);
+      let d = all_pushed k hs h in
+      omega (arith, a, b, d);
 }
 
 pub counts_relived : (old mid new : Tally) (hs : List Held) (place : ℕ) (h : Held) (life : Life) → Counts old hs → slice_get hs place ≡ Some h
-    → Lowers old (λ k. live_with old.seed k h) mid → Raises mid (λ k. live_with mid.seed k (with_life h life)) new → Counts new (relived hs place life)
+    → Lowers old (λ k. live_with k h) mid → Raises mid (λ k. live_with k (with_life h life)) new → Counts new (relived hs place life)
 counts_relived old mid new hs place h life c at l r = record {
   all = λ e k.
-      let a : count_at new k ≡ live_with old.seed k (with_life h life) + count_at mid k = r.counts e k ∙ ap (λ (x : Seed). live_with x k (with_life h life) + count_at mid k) l.seed in
+      let a : count_at new k ≡ live_with k (with_life h life) + count_at mid k = r.counts e k in
       let b = l.counts (r.was e) k in
       let d = c.all (l.was (r.was e)) k in
-      let s = all_relived old.seed k hs place h life at in
-      let sum : count_at new k ≡ all_with old.seed k (relived hs place life) = omega (arith, a, b, d, s) in
-      sum ∙ ap (λ (x : Seed). all_with x k (relived hs place life)) (sym (r.seed ∙ l.seed));
+      let s = all_relived k hs place h life at in
+      omega (arith, a, b, d, s);
 }
 
-pub counts_popped : (old new : Tally) (hs : List Held) (last : ℕ) (h : Held) → Counts old hs → length hs ≡ suc last → slice_get hs last ≡ Some h → Lowers old (λ k. live_with old.seed k h) new → Counts new (take last hs)
+pub counts_popped : (old new : Tally) (hs : List Held) (last : ℕ) (h : Held) → Counts old hs → length hs ≡ suc last → slice_get hs last ≡ Some h → Lowers old (λ k. live_with k h) new → Counts new (take last hs)
 counts_popped old new hs last h c n at l = record {
   all = λ e k.
       let b = l.counts e k in
       let d = c.all (l.was e) k in
-      let s = all_popped old.seed k hs last h n at in
-      let sum : count_at new k ≡ all_with old.seed k (take last hs) = omega (arith, b, d, s) in
-      sum ∙ ap (λ (x : Seed). all_with x k (take last hs)) (sym l.seed);
+      let s = all_popped k hs last h n at in
+      omega (arith, b, d, s);
 }
 
 -- where none is counted none has the name
 one_same : (a b : ℕ) → a ≡ b → one_at a b ≡ 1
 one_same a b e = let t : (a == b) ≡ true = grind (arith, nat_tests) in ap (λ (x : Bool). cond x 1 0) t
 
-none_named : (seed : Seed) (value : List ℕ) (kind : ℕ) (ns : List NameOf) → names_with seed (name_hash seed value kind) ns ≡ 0 → list_any (is_name value kind) ns ≡ false
-none_named seed value kind [] e = refl
-none_named seed value kind (n ∷ ns) e =
-    let first : one_at (name_hash seed n.value n.kind) (name_hash seed value kind) ≡ 0 = omega (arith, e) in
-    let rest : names_with seed (name_hash seed value kind) ns ≡ 0 = omega (arith, e) in
+none_named : (value : List ℕ) (kind : ℕ) (ns : List NameOf) → names_with (name_hash value kind) ns ≡ 0 → list_any (is_name value kind) ns ≡ false
+none_named value kind [] e = refl
+none_named value kind (n ∷ ns) e =
+    let first : one_at (name_hash n.value n.kind) (name_hash value kind) ≡ 0 = omega (arith, e) in
+    let rest : names_with (name_hash value kind) ns ≡ 0 = omega (arith, e) in
     (elim (is_name value kind n) as (λ t. is_name value kind n ≡ t → (t || list_any (is_name value kind) ns) ≡ false) [
-      | true ↦ λ is. let one = one_same (name_hash seed n.value n.kind) (name_hash seed value kind) (hash_same seed value kind n is) in absurd (omega (arith, first, one))
-      | false ↦ λ is. none_named seed value kind ns rest
+      | true ↦ λ is. let one = one_same (name_hash n.value n.kind) (name_hash value kind) (hash_same value kind n is) in absurd (omega (arith, first, one))
+      | false ↦ λ is. none_named value kind ns rest
     ]) refl
 
-none_live : (seed : Seed) (value : List ℕ) (kind : ℕ) (h : Held) → live_with seed (name_hash seed value kind) h ≡ 0 → (live h.card && has_name value kind h) ≡ false
-none_live seed value kind h e = (elim (live h.card) as (λ t. cond t (names_with seed (name_hash seed value kind) h.card.given.names) 0 ≡ 0 → (t && has_name value kind h) ≡ false) [
-  | true ↦ λ z. none_named seed value kind h.card.given.names z
+none_live : (value : List ℕ) (kind : ℕ) (h : Held) → live_with (name_hash value kind) h ≡ 0 → (live h.card && has_name value kind h) ≡ false
+none_live value kind h e = (elim (live h.card) as (λ t. cond t (names_with (name_hash value kind) h.card.given.names) 0 ≡ 0 → (t && has_name value kind h) ≡ false) [
+  | true ↦ λ z. none_named value kind h.card.given.names z
   | false ↦ λ z. refl
 ]) e
 
-none_of : (seed : Seed) (value : List ℕ) (kind : ℕ) (hs : List Held) → all_with seed (name_hash seed value kind) hs ≡ 0 → any_live_named value kind hs ≡ false
-none_of seed value kind [] e = refl
-none_of seed value kind (h ∷ hs) e =
-    let first : live_with seed (name_hash seed value kind) h ≡ 0 = omega (arith, e) in
-    let rest : all_with seed (name_hash seed value kind) hs ≡ 0 = omega (arith, e) in
-    ap (λ (b : Bool). b || any_live_named value kind hs) (none_live seed value kind h first) ∙ none_of seed value kind hs rest
+none_of : (value : List ℕ) (kind : ℕ) (hs : List Held) → all_with (name_hash value kind) hs ≡ 0 → any_live_named value kind hs ≡ false
+none_of value kind [] e = refl
+none_of value kind (h ∷ hs) e =
+    let first : live_with (name_hash value kind) h ≡ 0 = omega (arith, e) in
+    let rest : all_with (name_hash value kind) hs ≡ 0 = omega (arith, e) in
+    ap (λ (b : Bool). b || any_live_named value kind hs) (none_live value kind h first) ∙ none_of value kind hs rest
 
-pub none_counted : (t : Tally) (hs : List Held) (value : List ℕ) (kind : ℕ) → Counts t hs → t.exact ≡ true → count_at t (name_hash t.seed value kind) ≡ 0 → any_live_named value kind hs ≡ false
-none_counted t hs value kind c e z = none_of t.seed value kind hs (sym (c.all e (name_hash t.seed value kind)) ∙ z)
+pub none_counted : (t : Tally) (hs : List Held) (value : List ℕ) (kind : ℕ) → Counts t hs → t.exact ≡ true → count_at t (name_hash value kind) ≡ 0 → any_live_named value kind hs ≡ false
+none_counted t hs value kind c e z = none_of value kind hs (sym (c.all e (name_hash value kind)) ∙ z)
 
 -- the test of a key's order is that of its number
 pub same_key : (a b : ℕ) → is_eq (nat_cmp a b) ≡ (a == b)
@@ -173,7 +161,7 @@ same_key a b = (elim (nat_lt a b) as (λ t. nat_lt a b ≡ t → is_eq (cond t L
 
 -- an object more, found at its place
 pub counts_more : (old mid new : Tally) (hs ys : List Held) (h g : Held) (place : ℕ) → Counts old hs → Stays old mid → ys ≡ hs ++ h ∷ [] → place ≡ length hs → slice_get ys place ≡ Some g
-    → Raises mid (λ k. live_with mid.seed k g) new → Counts new ys
+    → Raises mid (λ k. live_with k g) new → Counts new ys
 counts_more old mid new hs ys h g place c s e at is r =
     let one : Some h ≡ Some g = sym (get-append_last hs h) ∙ ap (slice_get (hs ++ h ∷ [])) (sym at) ∙ ap (λ (x : List Held). slice_get x place) (sym e) ∙ is in
     let same : h ≡ g = cc in
@@ -181,15 +169,15 @@ counts_more old mid new hs ys h g place c s e at is r =
 
 -- an object that leads another life, found at its place
 pub counts_led : (old mid new : Tally) (hs ys : List Held) (place : ℕ) (h g : Held) (life : Life) → Counts old hs → slice_get hs place ≡ Some h → ys ≡ relived hs place life → slice_get ys place ≡ Some g
-    → Lowers old (λ k. live_with old.seed k h) mid → Raises mid (λ k. live_with mid.seed k g) new → Counts new ys
+    → Lowers old (λ k. live_with k h) mid → Raises mid (λ k. live_with k g) new → Counts new ys
 counts_led old mid new hs ys place h g life c at e is l r =
     let one : Some (with_life h life) ≡ Some g = sym (get-updated_same hs place (λ x. with_life x life) h at) ∙ ap (λ (x : List Held). slice_get x place) (sym e) ∙ is in
     let same : with_life h life ≡ g = cc in
-    subst (λ (x : List Held). Counts new x) (sym e) (counts_relived old mid new hs place h life c at l (subst (λ (x : Held). Raises mid (λ k. live_with mid.seed k x) new) (sym same) r))
+    subst (λ (x : List Held). Counts new x) (sym e) (counts_relived old mid new hs place h life c at l (subst (λ (x : Held). Raises mid (λ k. live_with k x) new) (sym same) r))
 
 -- an object fewer
 pub counts_fewer : (old new : Tally) (hs ys : List Held) (count last : ℕ) (h : Held) → Counts old hs → count ≡ length hs → (1 ≤ count) × (last ≡ count - 1) → slice_get hs last ≡ Some h → ys ≡ take (length hs - 1) hs
-    → Lowers old (λ k. live_with old.seed k h) new → Counts new ys
+    → Lowers old (λ k. live_with k h) new → Counts new ys
 counts_fewer old new hs ys count last h c n w at e l =
     let some = w.0 in
     let is = w.1 in

@@ -6,6 +6,7 @@ pub mod Queries
 pub mod Choices
 pub mod Objects
 pub mod Secrets
+pub mod Hashes
 pub mod Histories
 pub mod Clock
 pub mod Present

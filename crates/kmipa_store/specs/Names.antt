@@ -1,42 +1,42 @@
--- The index of names: where the objects stand that have a name. It may list more than it has to, since what is taken back stays.
-use Rattle.std.specs.Prelude.{◌≡◌, ◌<◌, ℕ, true, nat_eq, List, fold, Some, Result, Ok, Err, slice_get}
-use Rattle.std.specs.Hash as hashing
-use Rattle.std.specs.Hash.DefaultHasher as sip
-use Rattle.indexmap.specs.IndexMap.{get}
+-- Not promised. The names of objects, found by their hashes. More may be listed than there is.
+use Rattle.std.specs.Prelude.{◌≡◌, ◌≢◌, ℕ, Bool, true, List, Result, Ok, Err, Some, slice_get}
+use Rattle.std.specs.declared.cmp.Ordering.{Ordering}
+use Rattle.std.specs.List.{list_any}
+use Rattle.std.specs.Ordering.{nat_cmp, ordering_then}
+use Rattle.std.specs.BTreeMap.{is_at}
 use Rattle.kmipa_attrs.specs.Sets.{NameOf}
+use Rattle.kmipa_store.specs.Hashes.{name_hash}
 use Rattle.kmipa_store.specs.Ledger.{Held}
-use Rattle.kmipa_store.specs.Bearers.{Keeps, Lists, is_listed, listed}
 use Rattle.kmipa_store.specs.declared.fault.StoreFault.{StoreFault}
 use Rattle.kmipa_store.specs.declared.fault.StoreFault.TheVariants.{Memory}
-use Rattle.kmipa_store.specs.declared.names.Bearer.{Bearer}
 use Rattle.kmipa_store.specs.declared.names.Names.{Names}
-use Rattle.kmipa_store.specs.declared.seed.Seed.{Seed}
 
--- the hash of a name
-abbrev pub name_hash : Seed → List ℕ → ℕ → ℕ
-name_hash seed value kind = sip.finish (fold sip.write (sip.write seed.initial value) (hashing.u32 kind))
+-- the hash of a name, the place of an object that has it, and its own place among the names of the object; in this order
+abbrev pub Named : Type 0
+Named = ℕ × ℕ × ℕ
 
--- the bearers under a hash
-abbrev pub bearers_at : Names → ℕ → List Bearer
-bearers_at names k = listed (get nat_eq names.by_hash k)
+abbrev pub named_cmp : Named → Named → Ordering
+named_cmp x y = ordering_then (ordering_then (nat_cmp x.0 y.0) (nat_cmp x.1 y.1)) (nat_cmp x.2 y.2)
 
--- the same under each hash, and the bearer is listed under this one
-abbrev pub ListsOne : Names → ℕ → Bearer → Result (Unit {0}) StoreFault → Names → Type 0
-ListsOne old hash b (Ok u) new = (new.seed ≡ old.seed) × ((k : ℕ) → Keeps (bearers_at old k) b (bearers_at new k)) × Lists (bearers_at new hash) b
-ListsOne old hash b (Err fault) new = (fault ≡ Memory) × (new.seed ≡ old.seed) × ((k : ℕ) → Keeps (bearers_at old k) b (bearers_at new k))
-
--- bearers of places below this one are still listed
-abbrev pub KeepsBelow : Names → ℕ → Names → Type 0
-KeepsBelow old place new = (k : ℕ) (a : Bearer) → a.place < place → Lists (bearers_at old k) a → Lists (bearers_at new k) a
+abbrev pub is_listed : List Named → ℕ → ℕ → ℕ → Bool
+is_listed listed hash place slot = list_any (is_at (named_cmp (hash, place, slot))) listed
 
 -- each of these names is listed, as one of the object at this place
 abbrev pub AreListed : Names → ℕ → List NameOf → Type 0
-AreListed names place ns = (s : ℕ) (n : NameOf) → slice_get ns s ≡ Some n → is_listed (bearers_at names (name_hash names.seed n.value n.kind)) (record { place = place; slot = s }) ≡ true
+AreListed names place ns = (slot : ℕ) (n : NameOf) → slice_get ns slot ≡ Some n → is_listed names.by_hash.keys (name_hash n.value n.kind) place slot ≡ true
 
-abbrev pub ListsAll : Names → ℕ → List NameOf → Result (Unit {0}) StoreFault → Names → Type 0
-ListsAll old place ns (Ok u) new = (new.seed ≡ old.seed) × KeepsBelow old place new × AreListed new place ns
-ListsAll old place ns (Err fault) new = (fault ≡ Memory) × (new.seed ≡ old.seed) × KeepsBelow old place new
+-- what was listed still is
+abbrev pub Keeps : Names → Names → Type 0
+Keeps old new = (hash place slot : ℕ) → is_listed old.by_hash.keys hash place slot ≡ true → is_listed new.by_hash.keys hash place slot ≡ true
 
--- each name of each object is listed under its hash
+-- what was listed for the objects at other places still is
+abbrev pub KeepsOthers : Names → ℕ → Names → Type 0
+KeepsOthers old gone new = (hash place slot : ℕ) → place ≢ gone → is_listed old.by_hash.keys hash place slot ≡ true → is_listed new.by_hash.keys hash place slot ≡ true
+
+abbrev pub Notes : Names → ℕ → List NameOf → Result (Unit {0}) StoreFault → Names → Type 0
+Notes old place ns (Ok u) new = Keeps old new × AreListed new place ns
+Notes old place ns (Err fault) new = (fault ≡ Memory) × Keeps old new
+
+-- each name of each object is listed
 pub record Covers (names : Names) (objects : List Held) : Type 0 where
   pub all : (p : ℕ) (h : Held) → slice_get objects p ≡ Some h → AreListed names p h.card.given.names

@@ -4,7 +4,6 @@ use crate::fault::StoreFault;
 use crate::ledger::{Ledger, Mark};
 use crate::objects::Objects;
 use crate::secrets::{Lesson, Secrets};
-use crate::seed::Seed;
 use kmipa_object::{Life, Object, Rule, SecretNo, State};
 use std::alloc::Global;
 
@@ -37,7 +36,7 @@ impl Copies {
         Copies {
             alloc,
             moment: 0,
-            objects: Objects::new(alloc, Seed::new(0, 0)),
+            objects: Objects::new(alloc),
             secrets: Secrets::new(alloc),
             marks: Vec::new(alloc),
         }

@@ -2,7 +2,6 @@
 
 use crate::fault::StoreFault;
 use crate::objects::Objects;
-use crate::seed::Seed;
 use crate::tally::Tally;
 use kmipa_object::{Life, Object};
 use std::alloc::Global;
@@ -34,12 +33,12 @@ impl Counted {
     ghost use Rattle.kmipa_store.specs.Queries.{any_live_named};
 
     /// No objects.
-    pub fn new(alloc: Global, seed: Seed) -> Counted
+    pub fn new(alloc: Global) -> Counted
         ensures { result ≡ [] }
     {
         Counted {
-            objects: Objects::new(alloc, seed),
-            tally: Tally::new(alloc, seed),
+            objects: Objects::new(alloc),
+            tally: Tally::new(alloc),
         }
     }
 

@@ -13,7 +13,6 @@ use crate::fault::StoreFault;
 use crate::ledger::{Ledger, Mark};
 use crate::present::Present;
 use crate::secrets::{Lesson, Secrets};
-use crate::seed::Seed;
 use kmipa_object::{Life, Object, Rule, SecretNo, State};
 use std::alloc::Global;
 
@@ -51,22 +50,14 @@ impl Journal {
     ghost use Rattle.kmipa_store.specs.Ledger.{LedgerState};
     ghost use Rattle.kmipa_store.specs.States.{moment_of_journal, state_of_journal};
 
-    /// A ledger without objects, secrets and marks, of a seed that is always the same.
+    /// A ledger without objects, secrets and marks.
     pub fn new(alloc: Global) -> Journal
-        ensures meaning { state_of_journal result ≡ record { now = record { objects = []; secrets = [] }; marks = [] } }
-        ensures moment { moment_of_journal result ≡ pos 0 }
-    {
-        Journal::seeded(alloc, Seed::new(0, 0))
-    }
-
-    /// A ledger without objects, secrets and marks. With a seed drawn at random it finds identifiers fast whoever picks them.
-    pub fn seeded(alloc: Global, seed: Seed) -> Journal
         ensures meaning { state_of_journal result ≡ record { now = record { objects = []; secrets = [] }; marks = [] } }
         ensures moment { moment_of_journal result ≡ pos 0 }
     {
         Journal {
             alloc,
-            present: Present::new(alloc, seed),
+            present: Present::new(alloc),
             object_changes: Vec::new(alloc),
             secrets: Secrets::new(alloc),
             secret_changes: Vec::new(alloc),

@@ -6,6 +6,7 @@ mod clock;
 mod copies;
 mod counted;
 mod fault;
+mod hashes;
 mod journal;
 mod laws;
 mod ledger;
@@ -13,7 +14,6 @@ mod names;
 mod objects;
 mod present;
 mod secrets;
-mod seed;
 mod tally;
 
 pub use copies::Copies;
@@ -21,7 +21,6 @@ pub use fault::StoreFault;
 pub use journal::Journal;
 pub use laws::{calls_keep_ledgers_sound, every_choice_gives_an_inventory};
 pub use ledger::{Ledger, Mark};
-pub use seed::Seed;
 
 #[cfg(test)]
 mod tests;

@@ -8,7 +8,7 @@ ghost use Rattle.kmipa_store.specs.Ledger.{held};
 ghost use Rattle.kmipa_store.specs.Queries.{has_name, is_name};
 
 use crate::fault::StoreFault;
-use crate::seed::Seed;
+use crate::hashes::id_hash;
 use kmipa_attrs::Name;
 use kmipa_object::{Life, Object, State, state_at};
 use std::alloc::Global;
@@ -23,7 +23,6 @@ use std::ops::Bound;
 /// one whole hash are compared with what is looked for.
 #[derive(Drop)]
 pub struct Objects {
-    seed: Seed,
     in_order: Vec<Object>,
     by_hash: BTreeSet<(u64, usize)>,
 }
@@ -37,7 +36,7 @@ impl Model for Objects {
 
     ghost view = { λ o. objects_of o.in_order.items };
 
-    ghost invariant = { λ o. AreHashed o.seed o.by_hash.keys (objects_of o.in_order.items) };
+    ghost invariant = { λ o. AreHashed o.by_hash.keys (objects_of o.in_order.items) };
 }
 
 impl Objects {
@@ -47,12 +46,11 @@ impl Objects {
     ghost use Rattle.kmipa_store.specs.Objects.{has_id};
     ghost use Rattle.kmipa_store.specs.Queries.{has_name, next_named, any_live_named, state_of_place};
 
-    /// No objects. Their identifiers are found by hashes that start from a seed.
-    pub fn new(alloc: Global, seed: Seed) -> Objects
+    /// No objects.
+    pub fn new(alloc: Global) -> Objects
         ensures { result ≡ [] }
     {
         Objects {
-            seed,
             in_order: Vec::new(alloc),
             by_hash: BTreeSet::new(alloc),
         }
@@ -63,7 +61,7 @@ impl Objects {
         ensures place { result ≡ place_of id.now (cards_of self.now) }
         ensures within { IfSome result (λ place. place < length self.now) }
     {
-        let hash = self.seed.id_hash(id);
+        let hash = id_hash(id);
         let start = Bound::Included((hash, 0));
         let end = Bound::Included((hash, self.in_order.len()));
         for one in self.by_hash.range((start, end)) {
@@ -138,7 +136,7 @@ impl Objects {
         ensures { Pushes self.old (held object) result self.new }
     {
         let place = self.in_order.len();
-        let hash = self.seed.id_hash(object.id.as_str());
+        let hash = id_hash(object.id.as_str());
         self.by_hash.insert((hash, place))?;
         match self.in_order.push(object) {
             Ok(()) => Ok(()),
@@ -166,7 +164,7 @@ impl Objects {
         let Some(last) = self.in_order.pop() else {
             return;
         };
-        let hash = self.seed.id_hash(last.id.as_str());
+        let hash = id_hash(last.id.as_str());
         let _ = self.by_hash.remove(&(hash, self.in_order.len()));
     }
 
@@ -176,7 +174,7 @@ impl Objects {
         ensures err { IfErr result (λ fault. fault ≡ StoreFault.Memory) }
     {
         let count = self.in_order.len();
-        let mut copy = Objects::new(alloc, self.seed);
+        let mut copy = Objects::new(alloc);
         for place in 0..count {
             let object = self.at(place).copy(alloc)?;
             copy.push(object)?;

@@ -1,11 +1,13 @@
 //! The objects of the present, with their names, their states and their dates.
 
+ghost use Rattle.std.specs.Prelude.{◌-◌, length};
+ghost use Rattle.kmipa_store.specs.Names.{KeepsOthers};
+
 use crate::changes::{ObjectChange, Undo};
 use crate::clock::Clock;
 use crate::counted::Counted;
 use crate::fault::StoreFault;
 use crate::names::Names;
-use crate::seed::Seed;
 use kmipa_object::{Life, Object, State};
 use std::alloc::Global;
 use std::marker::Model;
@@ -38,12 +40,12 @@ impl Present {
     ghost use Rattle.kmipa_store.specs.Queries.{next_named, any_live_named, state_of_place};
 
     /// No objects, at moment 0.
-    pub fn new(alloc: Global, seed: Seed) -> Present
+    pub fn new(alloc: Global) -> Present
         ensures { result ≡ record { dated = record { objects = []; due = [] }; moment = pos 0 } }
     {
         Present {
-            objects: Counted::new(alloc, seed),
-            names: Names::new(alloc, seed),
+            objects: Counted::new(alloc),
+            names: Names::new(alloc),
             clock: Clock::new(alloc),
         }
     }
@@ -150,6 +152,7 @@ impl Undo<ObjectChange> for Present {
     fn take_back(&mut self, change: ObjectChange) {
         match change {
             ObjectChange::Added(brought) => {
+                forget_last(&mut self.names, &self.objects);
                 self.objects.pop();
                 self.clock.remove(self.objects.len(), brought);
             }
@@ -159,5 +162,14 @@ impl Undo<ObjectChange> for Present {
                 self.clock.forget(place, brought);
             }
         }
+    }
+}
+
+/// Lists the names of the last object no longer, if there is one.
+fn forget_last(names: &mut Names, objects: &Counted)
+    ensures { KeepsOthers names.old (length objects.now - 1) names.new }
+{
+    if let Some(last) = objects.len().checked_sub(1) {
+        names.forget(last, objects.at(last).given.names.as_slice());
     }
 }

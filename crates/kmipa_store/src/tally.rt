@@ -1,7 +1,7 @@
 //! How many live objects have a name.
 
 use crate::fault::StoreFault;
-use crate::seed::Seed;
+use crate::hashes::name_hash;
 use kmipa_attrs::Name;
 use kmipa_object::Object;
 use std::alloc::Global;
@@ -13,7 +13,6 @@ use std::collections::BTreeMap;
 /// Where a count does not fit its number, or has no room, the counts are no longer exact, and tell nothing.
 #[derive(Drop)]
 pub struct Tally {
-    seed: Seed,
     live: BTreeMap<u64, usize>,
     exact: bool,
 }
@@ -22,15 +21,14 @@ impl Tally {
     ghost use Rattle.std.specs.Prelude.{◌≡◌, [], true, map, IfErr};
     ghost use Rattle.kmipa_attrs.specs.Sets.{name_of};
     ghost use Rattle.kmipa_store.specs.Ledger.{held};
-    ghost use Rattle.kmipa_store.specs.Names.{name_hash};
+    ghost use Rattle.kmipa_store.specs.Hashes.{name_hash};
     ghost use Rattle.kmipa_store.specs.Tally.{Counts, Lowers, Raises, Stays, Writes, count_at, live_with, names_with, one_at};
 
     /// Counts of no objects.
-    pub fn new(alloc: Global, seed: Seed) -> Tally
+    pub fn new(alloc: Global) -> Tally
         ensures { Counts result [] }
     {
         Tally {
-            seed,
             live: BTreeMap::new(alloc),
             exact: true,
         }
@@ -39,9 +37,9 @@ impl Tally {
     /// Whether it is known that no live object has a name of the hash of this one.
     pub fn is_none(&self, value: &str, kind: u32) -> bool
         ensures exact { result ≡ true → self.now.exact ≡ true }
-        ensures none { result ≡ true → count_at self.now (name_hash self.now.seed value.now kind) ≡ 0 }
+        ensures none { result ≡ true → count_at self.now (name_hash value.now kind) ≡ 0 }
     {
-        self.exact && self.count(self.seed.name_hash(value, kind)) == 0
+        self.exact && self.count(name_hash(value, kind)) == 0
     }
 
     /// Makes room for the counts of these names.
@@ -51,7 +49,7 @@ impl Tally {
     {
         for i in 0..names.len() {
             let name = &names[i];
-            let hash = self.seed.name_hash(name.value.as_str(), name.kind);
+            let hash = name_hash(name.value.as_str(), name.kind);
             self.open(hash)?;
         }
         Ok(())
@@ -59,7 +57,7 @@ impl Tally {
 
     /// Counts the names of an object, unless it is destroyed.
     pub fn add(&mut self, object: &Object)
-        ensures { Raises self.old (λ k. live_with self.old.seed k (held object.now)) self.new }
+        ensures { Raises self.old (λ k. live_with k (held object.now)) self.new }
     {
         if object.life.destroy.is_some() {
             return;
@@ -69,7 +67,7 @@ impl Tally {
 
     /// Counts the names of an object no longer, unless it is destroyed.
     pub fn remove(&mut self, object: &Object)
-        ensures { Lowers self.old (λ k. live_with self.old.seed k (held object.now)) self.new }
+        ensures { Lowers self.old (λ k. live_with k (held object.now)) self.new }
     {
         if object.life.destroy.is_some() {
             return;
@@ -78,21 +76,21 @@ impl Tally {
     }
 
     fn raise_all(&mut self, names: &[Name])
-        ensures { Raises self.old (λ k. names_with self.old.seed k (map name_of names.now)) self.new }
+        ensures { Raises self.old (λ k. names_with k (map name_of names.now)) self.new }
     {
         for i in 0..names.len() {
             let name = &names[i];
-            let hash = self.seed.name_hash(name.value.as_str(), name.kind);
+            let hash = name_hash(name.value.as_str(), name.kind);
             self.raise(hash);
         }
     }
 
     fn lower_all(&mut self, names: &[Name])
-        ensures { Lowers self.old (λ k. names_with self.old.seed k (map name_of names.now)) self.new }
+        ensures { Lowers self.old (λ k. names_with k (map name_of names.now)) self.new }
     {
         for i in 0..names.len() {
             let name = &names[i];
-            let hash = self.seed.name_hash(name.value.as_str(), name.kind);
+            let hash = name_hash(name.value.as_str(), name.kind);
             self.lower(hash);
         }
     }

@@ -5,13 +5,11 @@ ghost use Rattle.std.specs.Prelude.{◌≡◌, ◌<◌, length};
 mod queries;
 
 use crate::{
-    Copies, Journal, Ledger, Seed, StoreFault, calls_keep_ledgers_sound,
-    every_choice_gives_an_inventory,
+    Copies, Journal, Ledger, StoreFault, calls_keep_ledgers_sound, every_choice_gives_an_inventory,
 };
 use kmipa_attrs::{AttrSet, ObjectType};
 use kmipa_object::{Life, Material, Object, Rule, SecretNo};
 use std::alloc::Global;
-use std::hash::BuildHasher;
 use std::process::Abort;
 
 const K: [u8; 16] = [0, 1, 2, 3, 4, 5, 6, 7, 8, 9, 10, 11, 12, 13, 14, 15];
@@ -166,7 +164,7 @@ fn journal_keeps_the_laws(rt: HostRuntime) {
     let alloc = rt.alloc();
     calls_in_turn(&rt, alloc, &mut Journal::new(alloc));
     refusals(&rt, alloc, &mut Journal::new(alloc));
-    replaces(&rt, alloc, &mut Journal::seeded(alloc, Seed::new(1, 2)));
+    replaces(&rt, alloc, &mut Journal::new(alloc));
 }
 
 #[test]
@@ -184,12 +182,4 @@ fn faults_are_numbered_and_named(rt: HostRuntime) {
     assert_eq!(rt; StoreFault::BytesDiffer.name(), "BytesDiffer");
     every_choice_gives_an_inventory();
     calls_keep_ledgers_sound();
-}
-
-#[test]
-fn seeds_give_other_hashes(rt: HostRuntime) {
-    let hash = Seed::new(1, 2).hash_one("a");
-    assert!(rt; hash != Seed::new(1, 3).hash_one("a"));
-    assert!(rt; hash != Seed::new(2, 2).hash_one("a"));
-    assert_eq!(rt; hash, Seed::new(1, 2).hash_one("a"));
 }

@@ -1,13 +1,9 @@
-use Rattle.std.proofs.Common.{◌≡◌, ◌≤◌, ℕ, false, length, slice_get, Some}
-use Rattle.kmipa_store.specs.Bearers.{bears_live}
-use Rattle.kmipa_store.specs.declared.names.Bearer.{Bearer}
+use Rattle.std.proofs.Common.{length}
+use Rattle.kmipa_store.proofs.NameLemmas.{Seeks, bears_now}
 use Rattle.kmipa_store.proofs.names.Names.any_live.Given as goal
 
-abbrev pub invariant-loop-left : goal.invariant-loop-left
-invariant-loop-left l = record {
-  none : (j : ℕ) (a : Bearer) → l.left ≤ j → slice_get l.bearers j ≡ Some a → bears_live l.objects a l.value l.kind ≡ false;
-  within : l.left ≤ length l.bearers;
-}
+abbrev pub invariant-loop-one : goal.invariant-loop-one
+invariant-loop-one l = Seeks (bears_now l.objects l.value l.kind) l.hash l.left
 
-abbrev pub decreases-loop-left : goal.decreases-loop-left
-decreases-loop-left l = l.left
+abbrev pub decreases-loop-one : goal.decreases-loop-one
+decreases-loop-one l = length l.left

@@ -1,23 +1,37 @@
-use Rattle.std.proofs.Common.{◌∙◌, ap, sym, arith}
-use Rattle.kmipa_store.specs.Bearers.{is_next}
-use Rattle.kmipa_store.specs.Names.{bearers_at}
-use Rattle.kmipa_store.specs.declared.names.Bearer.{Bearer}
-use Rattle.kmipa_store.proofs.NameLemmas.{got_at, more_fail, next_here, next_none, next_within}
+use Rattle.std.proofs.Common.{◌∙◌, List, sym, subst}
+use Rattle.kmipa_store.specs.Names.{Named}
+use Rattle.kmipa_store.proofs.NameLemmas.{Rests, Seeks, bears_from, fails_from, next_here, next_none, next_start, rests_on, rests_start, seeks_on}
 use Rattle.kmipa_store.proofs.names.Names.next.Goals as goal
 
-pub returns-then-is_next-clause-place : goal.returns-then-is_next-clause-place
-returns-then-is_next-clause-place c =
-    sym (next_here c.args.self.now c.args.objects.now c.args.value.now c.args.kind c.bearers-bearers.result.now c.requires (c.bearers-bearers.ensures.found ∙ ap (bearers_at c.args.self.now) c.hash.ensures) c.args.from c.loop-i.i _ c.bearers-bearers.ensures.ascending
-    (got_at c.bearers-bearers.result.now c.loop-i.i (record { place = 0; slot = 0 }) c.loop-i-test.true) (sym c.is_next.ensures ∙ c.if-is_next.true) c.loop-i.invariant)
+pub loop-one-init : goal.loop-one-init
+loop-one-init c =
+    let is = c.into_iter-one-iterator.ensures.into_iter_gives ∙ c.range-one-items.ensures.between tt in
+    record {
+      seeks = next_start c.args.self.now c.args.objects.now c.args.value.now c.args.kind c.name_hash-hash.result c.requires c.name_hash-hash.ensures c.args.from c.len-count.result c.into_iter-one-iterator.result
+          c.len-count.ensures is;
+      rests = rests_start c.name_hash-hash.result c.args.from c.len-count.result c.args.self.now.by_hash.keys c.into_iter-one-iterator.result is c.range-one-items.ensures.ordered;
+    }
 
-pub returns-then-is_next-clause-within : goal.returns-then-is_next-clause-within
-returns-then-is_next-clause-within c = next_within c.args.objects.now _ c.args.value.now c.args.kind c.args.from (sym c.is_next.ensures ∙ c.if-is_next.true)
+pub returns-then-bears-clause-place : goal.returns-then-bears-clause-place
+returns-then-bears-clause-place c =
+    let hash = c.name_hash-hash.result in
+    let passes = bears_from c.args.objects.now c.args.from c.args.value.now c.args.kind in
+    sym (next_here c.args.objects.now c.args.value.now c.args.kind hash c.args.from c.in-Some.one.now c.next.new.self (sym c.bears.ensures ∙ c.if-bears.true)
+    (subst (λ (x : List Named). Seeks passes hash x) c.in-Some.ensures.steps c.loop-one.invariant.seeks) (subst (λ (x : List Named). Rests hash c.args.from x) c.in-Some.ensures.steps c.loop-one.invariant.rests))
 
-pub loop-i-preserved : goal.loop-i-preserved
-loop-i-preserved c =
-    more_fail (λ (a : Bearer). is_next c.args.objects.now a c.args.value.now c.args.kind c.args.from) c.bearers-bearers.result.now c.loop-i.i _ c.loop-i.invariant
-    (got_at c.bearers-bearers.result.now c.loop-i.i (record { place = 0; slot = 0 }) c.loop-i-test.true) (sym c.is_next.ensures ∙ c.if-is_next.false)
+pub loop-one-preserved : goal.loop-one-preserved
+loop-one-preserved c =
+    let hash = c.name_hash-hash.result in
+    let one = c.in-Some.one.now in
+    let passes = bears_from c.args.objects.now c.args.from c.args.value.now c.args.kind in
+    record {
+      seeks = seeks_on passes hash one c.next.new.self (fails_from c.args.objects.now c.args.value.now c.args.kind c.args.from one.1 one.2 (sym c.bears.ensures ∙ c.if-bears.false))
+          (subst (λ (x : List Named). Seeks passes hash x) c.in-Some.ensures.steps c.loop-one.invariant.seeks);
+      rests = rests_on hash c.args.from one c.next.new.self (subst (λ (x : List Named). Rests hash c.args.from x) c.in-Some.ensures.steps c.loop-one.invariant.rests);
+    }
 
 pub returns-clause-place : goal.returns-clause-place
 returns-clause-place c =
-    sym (next_none c.args.self.now c.args.objects.now c.args.value.now c.args.kind c.bearers-bearers.result.now c.requires (c.bearers-bearers.ensures.found ∙ ap (bearers_at c.args.self.now) c.hash.ensures) c.args.from (λ j a lt at. c.loop-i.invariant j a (omega (arith, lt, c.loop-i-test.false)) at))
+    let hash = c.name_hash-hash.result in
+    let passes = bears_from c.args.objects.now c.args.from c.args.value.now c.args.kind in
+    sym (next_none c.args.objects.now c.args.value.now c.args.kind hash c.args.from (subst (λ (x : List Named). Seeks passes hash x) c.in-None.ensures.steps.0 c.loop-one.invariant.seeks))

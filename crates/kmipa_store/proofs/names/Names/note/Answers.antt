@@ -1,21 +1,16 @@
-use Rattle.std.proofs.Common.{◌∙◌, ap, map, option_map, refl, List, ℕ, arith}
+use Rattle.std.proofs.Common.{List, ℕ, ◌∙◌, map, option_map, ap, arith}
 use Rattle.kmipa_attrs.specs.Sets.{name_of}
 use Rattle.kmipa_object.proofs.ListLemmas.{get-at, get-map}
-use Rattle.kmipa_store.specs.Names.{name_hash}
-use Rattle.kmipa_store.proofs.NameLemmas.{length-map, listing_all, listing_keeps, listing_more}
+use Rattle.kmipa_store.specs.Hashes.{name_hash}
+use Rattle.kmipa_store.proofs.NameLemmas.{length-map, listing_all, listing_more}
 use Rattle.kmipa_store.proofs.names.Names.note.Goals as goal
-
-pub returns-in_default : goal.returns-in_default
-returns-in_default c =
-    let k = listing_keeps c.args.self.now c.loop-slot.self c.list.new.self c.args.place (map name_of c.args.names.now) c.loop-slot.slot c.hash-hash.result c.list.result c.loop-slot.invariant c.list.ensures in
-    (refl, k.0, k.1)
 
 pub loop-slot-preserved : goal.loop-slot-preserved
 loop-slot-preserved c =
     let name = c.index-names-slot.result in
-    listing_more c.args.self.now c.loop-slot.self c.list.new.self c.args.place (map name_of c.args.names.now) c.loop-slot.slot c.hash-hash.result (name_of name) c.loop-slot.invariant
+    listing_more c.args.self.now c.loop-slot.self _ c.args.place (map name_of c.args.names.now) c.loop-slot.slot c.name_hash-hash.result (name_of name) c.loop-slot.invariant
     (get-map name_of c.args.names.now c.loop-slot.slot ∙ ap (option_map name_of) (get-at c.args.names.now c.loop-slot.slot name c.loop-slot-test.true c.index-names-slot.is))
-    (c.hash-hash.ensures ∙ ap (λ (v : List ℕ). name_hash c.loop-slot.self.seed v name.kind) c.as_str.ensures.value) c.in-Ok.ensures
+    (c.name_hash-hash.ensures ∙ ap (λ (v : List ℕ). name_hash v name.kind) c.as_str.ensures.value) c.in_ok-insert.ensures.keys
 
 pub returns : goal.returns
 returns c =

@@ -9,13 +9,13 @@ pub loop-one-init : goal.loop-one-init
 loop-one-init c =
     let i = c.self.inside in
     let count : c.len.result ≡ length c.args.self.now = c.len.ensures ∙ i.in_order.ok.0 ∙ sym (length-map held i.in_order.items) ∙ ap (λ (x : List Held). length x) c.self.view_is in
-    seeks_start i.seed i.by_hash.keys c.args.self.now c.args.id.now c.id_hash-hash.result c.len.result c.into_iter-one-iterator.result c.id_hash-hash.ensures count
-    (c.into_iter-one-iterator.ensures.into_iter_gives ∙ c.range-one-items.ensures.between tt) (subst (λ (x : List Held). AreHashed i.seed i.by_hash.keys x) c.self.view_is c.self.invariant)
+    seeks_start i.by_hash.keys c.args.self.now c.args.id.now c.id_hash-hash.result c.len.result c.into_iter-one-iterator.result c.id_hash-hash.ensures count
+    (c.into_iter-one-iterator.ensures.into_iter_gives ∙ c.range-one-items.ensures.between tt) (subst (λ (x : List Held). AreHashed i.by_hash.keys x) c.self.view_is c.self.invariant)
 
 pub returns-then-is_at-clause-place : goal.returns-then-is_at-clause-place
 returns-then-is_at-clause-place c =
     let i = c.self.inside in
-    sym (found_here i.seed i.by_hash.keys c.args.self.now c.args.id.now c.in-Some.one.now.1 (subst (λ (x : List Held). AreHashed i.seed i.by_hash.keys x) c.self.view_is c.self.invariant) (sym c.is_at.ensures ∙ c.if-is_at.true))
+    sym (found_here i.by_hash.keys c.args.self.now c.args.id.now c.in-Some.one.now.1 (subst (λ (x : List Held). AreHashed i.by_hash.keys x) c.self.view_is c.self.invariant) (sym c.is_at.ensures ∙ c.if-is_at.true))
 
 pub returns-then-is_at-clause-within : goal.returns-then-is_at-clause-within
 returns-then-is_at-clause-within c = found_within c.args.self.now c.args.id.now c.in-Some.one.now.1 (sym c.is_at.ensures ∙ c.if-is_at.true)

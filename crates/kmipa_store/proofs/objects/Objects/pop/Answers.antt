@@ -13,5 +13,5 @@ invariant_of-self-2 c =
     let new = c.pop.new.self in
     let hs = objects_of new.items in
     let all : objects_of i.in_order.items ≡ hs ++ held c.in-Some.last ∷ [] = ap (λ (x : List Object). objects_of x) c.in-Some.ensures.items ∙ map-push held new.items c.in-Some.last in
-    subst (λ (x : List Hashed). AreHashed i.seed x hs) (sym c.remove.ensures.keys)
-    (hashed_popped i.seed i.by_hash.keys hs (held c.in-Some.last) c.id_hash-hash.result c.len.result (c.len.ensures ∙ new.ok.0 ∙ sym (length-map held new.items)) (subst (λ (x : List Held). AreHashed i.seed i.by_hash.keys x) all c.self.invariant))
+    subst (λ (x : List Hashed). AreHashed x hs) (sym c.remove.ensures.keys)
+    (hashed_popped i.by_hash.keys hs (held c.in-Some.last) c.id_hash-hash.result c.len.result (c.len.ensures ∙ new.ok.0 ∙ sym (length-map held new.items)) (subst (λ (x : List Held). AreHashed i.by_hash.keys x) all c.self.invariant))

@@ -16,8 +16,8 @@ pub invariant_of-self-2 : goal.invariant_of-self-2
 invariant_of-self-2 c =
     let i = c.self.inside in
     let o = c.in-Some.object.now in
-    subst (λ (x : List Held). AreHashed i.seed i.by_hash.keys x) (sym (map-set held (λ (h : Held). with_life h c.args.life) i.in_order.items c.args.place o (record o { life = c.args.life }) c.in-Some.ensures.value refl))
-    (hashed_relived i.seed i.by_hash.keys (objects_of i.in_order.items) c.args.place c.args.life c.self.invariant)
+    subst (λ (x : List Held). AreHashed i.by_hash.keys x) (sym (map-set held (λ (h : Held). with_life h c.args.life) i.in_order.items c.args.place o (record o { life = c.args.life }) c.in-Some.ensures.value refl))
+    (hashed_relived i.by_hash.keys (objects_of i.in_order.items) c.args.place c.args.life c.self.invariant)
 
 pub returns : goal.returns
 returns c =

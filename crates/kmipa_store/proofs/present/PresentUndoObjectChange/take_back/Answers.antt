@@ -10,7 +10,7 @@ pub invariant_of-self : goal.invariant_of-self
 invariant_of-self c =
     let i = c.self.inside in (
       told_popped i.objects c.pop.new.self i.clock c.remove.new.self (without i.clock.due c.len.result c.in-Added.brought) c.self.invariant.0 c.pop.ensures c.remove.ensures,
-      subst (λ (x : List Held). Covers i.names x) (sym c.pop.ensures) (covers_popped i.names i.objects c.self.invariant.1),
+      subst (λ (x : List Held). Covers c.forget_last.new.names x) (sym c.pop.ensures) (covers_popped i.names c.forget_last.new.names i.objects c.self.invariant.1 c.forget_last.ensures),
     )
 
 pub invariant_of-self-in-Replaced : goal.invariant_of-self-in-Replaced

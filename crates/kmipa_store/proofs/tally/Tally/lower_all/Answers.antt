@@ -1,7 +1,7 @@
 use Rattle.std.proofs.Common.{List, ℕ, map, option_map, ap, sym, ◌∙◌, subst, add-one}
 use Rattle.kmipa_attrs.specs.Sets.{name_of}
 use Rattle.kmipa_object.proofs.ListLemmas.{get-at, get-map}
-use Rattle.kmipa_store.specs.Names.{name_hash}
+use Rattle.kmipa_store.specs.Hashes.{name_hash}
 use Rattle.kmipa_store.proofs.TallyLemmas.{Lowering, lowering_on}
 use Rattle.kmipa_store.proofs.tally.Tally.lower_all.Goals as goal
 
@@ -13,4 +13,4 @@ loop-i-preserved c =
     subst (λ (n : ℕ). Lowering c.args.self.now ns n c.lower.new.self) (sym (add-one l.i))
     (lowering_on c.args.self.now l.self c.lower.new.self ns l.i c.name_hash-hash.result (name_of name)
     (get-map name_of c.args.names.now l.i ∙ ap (option_map name_of) (get-at c.args.names.now l.i name c.loop-i-test.true c.index-names-i.is))
-    (c.name_hash-hash.ensures ∙ ap (λ (v : List ℕ). name_hash l.self.seed v name.kind) c.as_str.ensures.value) l.invariant c.lower.ensures)
+    (c.name_hash-hash.ensures ∙ ap (λ (v : List ℕ). name_hash v name.kind) c.as_str.ensures.value) l.invariant c.lower.ensures)
