@@ -268,14 +268,21 @@ first_once request response place other a b = elim (less_or_not place other) [
 ]
 
 pub one_item_is_told : OneItemIsTold
-one_item_is_told rules m n request response order count item other why because (in_shape p told judged first is) (in_shape q said tested lowest same) =
-    told ∙ ap (λ k. k + 1) (first_once request response p q first lowest) ∙ sym said
+one_item_is_told rules m n request response order count item other why because (in_shape p told judged first is) (in_shape q said tested least same) =
+    told ∙ ap (λ k. k + 1) (first_once request response p q first least) ∙ sym said
 one_item_is_told rules m n request response order count item other why because (in_shape p told judged first is) (in_item q said shaped at k b x a e kept there r) = absurd (first.1 (shaped p judged))
 one_item_is_told rules m n request response order count item other why because (in_item p told shaped at k b x a e kept there r) (in_shape q said judged first is) = absurd (first.1 (shaped q judged))
 one_item_is_told rules m n request response order count item other why because (in_item p told shaped at k b x a e kept there r) (in_item q said formed stands l c y d f still here z) =
     let two : Some p ≡ Some q = sym at ∙ stands in
     let one : p ≡ q = cc in
     told ∙ ap (λ k. k + 1) one ∙ sym said
+
+same_pair : (p q : AskOf × AnswerOf) → Some p ≡ Some q → (p.0 ≡ q.0) × (p.1 ≡ q.1)
+same_pair p q e = (ap (λ o. (of o).0) e, ap (λ o. (of o).1) e)
+  where
+    of : Option (AskOf × AnswerOf) → AskOf × AnswerOf
+    of None = p
+    of (Some x) = x
 
 -- and over ledgers that stand for the same inventories one reason
 item_told : (rules : RulesOf) (t : ℤ) (k l : Meaning) (b c : Option (List ℕ)) (x y : AskOf) (a d : AnswerOf) (why because : Why)
@@ -286,14 +293,12 @@ item_told rules t k l b c x y a d why because kept still alike same one two e f 
     cc
 
 pub one_reason_is_told : OneReasonIsTold
-one_reason_is_told rules m n request response order count item other why because alike (in_shape p told judged first is) (in_shape q said tested lowest same) = is ∙ sym same
+one_reason_is_told rules m n request response order count item other why because alike (in_shape p told judged first is) (in_shape q said tested least same) = is ∙ sym same
 one_reason_is_told rules m n request response order count item other why because alike (in_shape p told judged first is) (in_item q said shaped at k b x a e kept there r) = absurd (first.1 (shaped p judged))
 one_reason_is_told rules m n request response order count item other why because alike (in_item p told shaped at k b x a e kept there r) (in_shape q said judged first is) = absurd (first.1 (shaped q judged))
 one_reason_is_told rules m n request response order count item other why because alike (in_item p told shaped at k b x a e kept there r) (in_item q said formed stands l c y d f still here z) =
     let two : Some p ≡ Some q = sym at ∙ stands in
     let one : p ≡ q = cc in
-    let pair : Some (x, a) ≡ Some (y, d) = sym there ∙ ap (slice_get (pairs_of request response)) one ∙ here in
-    let ask : x ≡ y = cc in
-    let answer : a ≡ d = cc in
+    let pair = same_pair (x, a) (y, d) (sym there ∙ ap (slice_get (pairs_of request response)) one ∙ here) in
     let go = alike_go_alike rules response.stamp m n None (take count (pairs_taken request response order)) k l b c alike kept e f in
-    item_told rules response.stamp k l b c x y a d why because kept still go.0 go.1 ask answer r.named z.named
+    item_told rules response.stamp k l b c x y a d why because kept still go.0 go.1 pair.0 pair.1 r.named z.named
