@@ -12,7 +12,7 @@ use Rattle.kmipa_ops.specs.Whys.{whys}
 use Rattle.kmipa_ops.specs.Objects.{is_other, clash}
 use Rattle.kmipa_ops.specs.Row.{Row, deed, idle, unknown, seen_in, row_speaks}
 use Rattle.kmipa_ops.specs.Rows.{row_of}
-use Rattle.kmipa_ops.specs.Blame.{outcome_speaks, frame_speaks, lowest}
+use Rattle.kmipa_ops.specs.Blame.{IsDoneUnopposed, outcome_speaks, frame_speaks, lowest}
 use Rattle.kmipa_ops.proofs.DeedLaws.{outer_whys, IsRow}
 use Rattle.kmipa_ops.proofs.RowLemmas.{is_row}
 use Rattle.kmipa_ops.proofs.FirstLemmas.{or_or, find-append, find-or}
@@ -72,6 +72,24 @@ pub lowest_is : (rules : RulesOf) (m : Meaning) (p : Option (List ℕ)) (t : ℤ
     (option_or (find (outcome_speaks answer.status rules m p t ask.asked answer.reason answer.payload) whys) (cond (clash bytes_eq answer.batch_id ask.batch_id) (Some EchoDiffers) None))
 lowest_is rules m p t ask answer =
     split ask answer (outcome_speaks answer.status rules m p t ask.asked answer.reason answer.payload) (quiet answer.status rules m p t ask.asked answer.reason answer.payload)
+
+-- where no reason speaks none speaks against what was done
+none_own : (b : Bool) (w : Why) (o e : Option Why) → cond b (Some w) (option_or o e) ≡ None → o ≡ None
+none_own true w o e h = let bad : ⊥ = cc in absurd bad
+none_own false w None e h = refl
+none_own false w (Some x) e h = h
+
+none_done : (status : Status) (rules : RulesOf) (m : Meaning) (p : Option (List ℕ)) (t : ℤ) (asked : AskedOf) (reason : Option ℕ) (payload : Option PayloadOf)
+    → find (outcome_speaks status rules m p t asked reason payload) whys ≡ None → IsDoneUnopposed status m p t asked payload
+none_done Success rules m p t asked reason payload none = (rules, none)
+none_done Undone rules m p t asked reason payload none = (rules, none)
+none_done Failed rules m p t asked reason payload none = tt
+
+pub done_unopposed : (rules : RulesOf) (m : Meaning) (p : Option (List ℕ)) (t : ℤ) (ask : AskOf) (answer : AnswerOf) → lowest rules m p t ask answer ≡ None
+    → IsDoneUnopposed answer.status m p t ask.asked answer.payload
+done_unopposed rules m p t ask answer none =
+    let own = find (outcome_speaks answer.status rules m p t ask.asked answer.reason answer.payload) whys in
+    none_done answer.status rules m p t ask.asked answer.reason answer.payload (none_own _ OperationDiffers own _ (sym (lowest_is rules m p t ask answer) ∙ none))
 
 -- of the operation asked for: the lowest reason against the outcome, or else what its frame says
 pub own_lowest : (rules : RulesOf) (m : Meaning) (p : Option (List ℕ)) (t u : ℤ) (ask : AskOf) (answer : AnswerOf) (o : Option Why)

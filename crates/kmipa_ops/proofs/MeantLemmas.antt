@@ -10,11 +10,12 @@ use Rattle.kmipa_object.specs.declared.life.Material.{Material}
 use Rattle.kmipa_object.specs.declared.life.Material.TheVariants.{Gone, Secret}
 use Rattle.kmipa_object.specs.declared.life.SecretNo.{SecretNo}
 use Rattle.kmipa_object.specs.declared.rule.Rule.{Rule}
-use Rattle.kmipa_store.specs.Ledger.{Held, Known, Meaning, LedgerState, cards_of, changed, with_secret, learned}
-use Rattle.kmipa_store.specs.Calls.{differs, breaks}
+use Rattle.kmipa_store.specs.Ledger.{Held, Known, Meaning, LedgerState, bytes_at, cards_of, changed, told, with_secret, learned}
+use Rattle.kmipa_store.specs.Calls.{differs, breaks, is_unknown}
 use Rattle.kmipa_store.specs.Choices.{IsSound, GoneIfDestroyed}
 use Rattle.kmipa_store.proofs.ChoiceLemmas.{told-last}
 use Rattle.kmipa_store.proofs.InventoryLemmas.{get-cards_of}
+use Rattle.kmipa_store.proofs.LearnLemmas.{told_known}
 use Rattle.kmipa_msgs.specs.Messages.{GotOf}
 use Rattle.kmipa_ops.specs.declared.why.Why.{Why}
 use Rattle.kmipa_ops.specs.declared.why.Why.TheVariants.{NoSuchObject, WrongState, BytesDiffer, LengthImpossible, AttributeDiffers, EchoDiffers}
@@ -26,7 +27,7 @@ use Rattle.kmipa_store.specs.Queries.{state_of_place}
 use Rattle.kmipa_ops.specs.Founded.{is_must, is_live_there, is_refusable}
 use Rattle.kmipa_ops.specs.Shown.{IsSecretOf, live_speak}
 use Rattle.kmipa_ops.specs.Meant.{place_meant, object_meant, secret_at, secret_meant, is_not, is_excluded}
-use Rattle.kmipa_ops.specs.Get.{shows_other, get_speaks, taught, taught_at}
+use Rattle.kmipa_ops.specs.Get.{shows_other, differs_at, get_speaks, taught, taught_at}
 use Rattle.kmipa_ops.proofs.TestLemmas.{true_not}
 use Rattle.kmipa_ops.proofs.GetLemmas.{alive_if, alive_not, meant_at}
 
@@ -183,6 +184,13 @@ pub leaves_taught : {E : Type 0} (s u : LedgerState) (before id p : Option (List
 leaves_taught s u before id p o bytes (Ok done) place held x = (x ∙ ap (λ (y : Option ℕ). changed s (taught s.now (option_and_then (slice_get s.now.objects) y) bytes)) place, held)
 leaves_taught s u before id p o bytes (Err e) place held x = x
 
+some_known : (o : Option Known) (known : List ℕ) → option_map (λ (k : Known). k.bytes) o ≡ Some (Some known) → is_unknown o ≡ false
+some_known None known e = let bad : ⊥ = cc in absurd bad
+some_known (Some k) known e = let is : k.bytes ≡ Some known = cc in ap is_none is
+
+differs_there : (m : Meaning) (h : Held) (secret : SecretNo) (bytes : List ℕ) → h.material ≡ Secret secret → differs (slice_get m.secrets secret.number) bytes ≡ differs_at m (Some h) bytes
+differs_there m h secret bytes mat = ap (λ (x : Material). differs (secret_at m.secrets x) bytes) (sym mat)
+
 taught_here : (s : LedgerState) (o : Option ℕ) (p : ℕ) (h : Held) (bytes : List ℕ) → o ≡ Some p → slice_get s.now.objects p ≡ Some h → taught s.now (Some h) bytes ≡ taught s.now (option_and_then (slice_get s.now.objects) o) bytes
 taught_here s o p h bytes here at = ap (λ (x : Option Held). taught s.now x bytes) (sym (ap (option_and_then (slice_get s.now.objects)) here ∙ at))
 
@@ -195,3 +203,13 @@ taught_gone s o p h bytes here at mat = ap (λ (x : Material). changed s (taught
 pub taught_secret : (s u : LedgerState) (o : Option ℕ) (p : ℕ) (h : Held) (secret : SecretNo) (bytes : List ℕ) → o ≡ Some p → slice_get s.now.objects p ≡ Some h → h.material ≡ Secret secret → u ≡ learned s secret.number bytes
     → u ≡ changed s (taught s.now (option_and_then (slice_get s.now.objects) o) bytes)
 taught_secret s u o p h secret bytes here at mat is = is ∙ ap (λ (x : Material). changed s (taught_at s.now x bytes)) (sym mat) ∙ ap (changed s) (taught_here s o p h bytes here at)
+
+-- bytes that are known are taught already
+pub taught_known : (s : LedgerState) (o : Option ℕ) (p : ℕ) (h : Held) (secret : SecretNo) (bytes known : List ℕ) → o ≡ Some p → slice_get s.now.objects p ≡ Some h → h.material ≡ Secret secret
+    → bytes_at s.now.secrets secret.number ≡ Some (Some known) → differs_at s.now (option_and_then (slice_get s.now.objects) o) bytes ≡ false
+    → s ≡ changed s (taught s.now (option_and_then (slice_get s.now.objects) o) bytes)
+taught_known s o p h secret bytes known here at mat is same =
+    let there : option_and_then (slice_get s.now.objects) o ≡ Some h = ap (option_and_then (slice_get s.now.objects)) here ∙ at in
+    let fits : differs (slice_get s.now.secrets secret.number) bytes ≡ false = differs_there s.now h secret bytes mat ∙ ap (λ (x : Option Held). differs_at s.now x bytes) (sym there) ∙ same in
+    let stays : told s.now.secrets secret.number bytes ≡ s.now.secrets = told_known s.now.secrets secret.number bytes (some_known (slice_get s.now.secrets secret.number) known is, fits) in
+    taught_secret s s o p h secret bytes here at mat (ap (λ (ks : List Known). changed s (record { objects = s.now.objects; secrets = ks })) (sym stays))

@@ -1,6 +1,6 @@
 -- Which of the numbered reasons speak against an answer: each is a condition in its own words, over the ledger's meaning, in which the
 -- known bytes are those of its secrets (profile). A condition that speaks of the object holds only where there is one.
-use Rattle.std.specs.Prelude.{ℕ, ℤ, Bool, false, List, Option, ◌||◌, ◌==◌, not, bytes_eq, find}
+use Rattle.std.specs.Prelude.{◌≡◌, ℕ, ℤ, Bool, false, List, Option, None, ◌||◌, ◌==◌, not, bytes_eq, find}
 use Rattle.kmipa_store.specs.Ledger.{Meaning, cards_of}
 use Rattle.kmipa_msgs.specs.Messages.{RulesOf, AskedOf, AskOf, operation_asked, PayloadOf, AnswerOf}
 use Rattle.kmipa_msgs.specs.Operations.{operation_number}
@@ -27,6 +27,16 @@ abbrev pub outcome_speaks : Status → RulesOf → Meaning → Option (List ℕ)
 outcome_speaks Success rules m before t asked reason payload why = done_speaks rules m before t asked payload why
 outcome_speaks Undone rules m before t asked reason payload why = done_speaks rules m before t asked payload why
 outcome_speaks Failed rules m before t asked reason payload why = failure_speaks rules m before t asked reason why
+
+-- under some rules no reason speaks against a Success
+abbrev pub IsUnopposed : Meaning → Option (List ℕ) → ℤ → AskedOf → Option PayloadOf → Type 0
+IsUnopposed m before t asked payload = (rules : RulesOf) × (find (done_speaks rules m before t asked payload) whys ≡ None)
+
+-- nor against an answer that says that the item was done
+abbrev pub IsDoneUnopposed : Status → Meaning → Option (List ℕ) → ℤ → AskedOf → Option PayloadOf → Type 0
+IsDoneUnopposed Success m before t asked payload = IsUnopposed m before t asked payload
+IsDoneUnopposed Undone m before t asked payload = IsUnopposed m before t asked payload
+IsDoneUnopposed Failed m before t asked payload = Unit {0}
 
 -- against any answer: its Operation isn't the request's, or its Unique Batch Item ID isn't
 abbrev pub frame_speaks : AskOf → AnswerOf → Why → Bool

@@ -1,13 +1,13 @@
 -- Get.
 use Rattle.std.specs.Ordering.{int_eq}
-use Rattle.std.specs.Prelude.{◌≡◌, ℕ, ℤ, Bool, true, false, List, Option, Some, None, ◌||◌, ◌==◌, not, is_none}
+use Rattle.std.specs.Prelude.{◌≡◌, ℕ, ℤ, Bool, true, false, List, Option, Some, None, ◌||◌, ◌==◌, not, is_none, option_and_then}
 use Rattle.kmipa_object.specs.Inventory.{Thing, live}
 use Rattle.kmipa_object.specs.declared.life.Material.{Material}
 use Rattle.kmipa_object.specs.declared.life.Material.TheVariants.{Gone, Secret}
 use Rattle.kmipa_store.specs.Calls.{differs, breaks}
 use Rattle.kmipa_store.specs.Ledger.{Held, Meaning, told}
 use Rattle.kmipa_msgs.specs.Messages.{GotOf, PayloadOf, got}
-use Rattle.kmipa_ops.specs.Meant.{object_meant, secret_meant, is_excluded}
+use Rattle.kmipa_ops.specs.Meant.{object_meant, secret_at, secret_meant, is_excluded}
 use Rattle.kmipa_ops.specs.Objects.{meant, HasObject, Echoes, Agree, is_other, is_other_id, clash, same_type}
 use Rattle.kmipa_ops.specs.Sayable.{IsSayableId, IsSayableBlock}
 use Rattle.kmipa_ops.specs.Row.{Deed, on_object}
@@ -48,6 +48,10 @@ get_speaks m about t (Some a) LengthImpossible = breaks (secret_meant m about) a
 get_speaks m about t (Some a) AttributeDiffers = shows_other a (object_meant m.objects about)
 get_speaks m about t (Some a) EchoDiffers = is_other_id a.id about
 get_speaks m about t shown why = false
+
+-- of this object other bytes are known
+abbrev pub differs_at : Meaning → Option Held → List ℕ → Bool
+differs_at m object bytes = differs (option_and_then (λ (h : Held). secret_at m.secrets h.material) object) bytes
 
 -- with the bytes that a Get shows
 abbrev pub taught_at : Meaning → Material → List ℕ → Meaning

@@ -24,7 +24,7 @@ pub(crate) trait Deed {
     ghost use Rattle.kmipa_store.specs.Choices.{IsSound};
     ghost use Rattle.kmipa_msgs.specs.Messages.{AskedOf, maybe_lent, payload_of, rules_of};
     ghost use Rattle.kmipa_ops.specs.After.{Leaves, after_done, placeholder_done};
-    ghost use Rattle.kmipa_ops.specs.Blame.{done_speaks};
+    ghost use Rattle.kmipa_ops.specs.Blame.{IsUnopposed, done_speaks};
     ghost use Rattle.kmipa_ops.specs.Completes.{is_idle, is_of, may_lack};
     ghost use Rattle.kmipa_ops.specs.Explains.{brings};
     ghost use Rattle.kmipa_ops.specs.Meant.{place_about};
@@ -84,5 +84,6 @@ pub(crate) trait Deed {
         requires sound { IsSound (L.state ledger.old).now }
         requires place { place ≡ place_about (L.state ledger.old).now.objects (placeholder_of placeholder.old) (row_subject (row_of (asked self.now))) }
         requires within { IfSome place (λ p. p < length (L.state ledger.old).now.objects) }
+        requires unopposed { IsUnopposed (L.state ledger.old).now (placeholder_of placeholder.old) (L.moment ledger.old) (asked self.now) (option_map payload_of payload.now) }
         ensures { Leaves (L.state ledger.old) (after_done (L.state ledger.old).now (placeholder_of placeholder.old) (L.moment ledger.old) (asked self.now) (option_map payload_of payload.now)) (placeholder_done (placeholder_of placeholder.old) (asked self.now) (option_map payload_of payload.now)) result (L.state ledger.new) (placeholder_of placeholder.new) };
 }

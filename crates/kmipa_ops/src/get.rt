@@ -1,6 +1,6 @@
 //! Get.
 
-ghost use Rattle.std.specs.Prelude.{◌≡◌, ◌<◌, IfSome, length, bytes_eq, cond, find, option_and_then, option_map, slice_get};
+ghost use Rattle.std.specs.Prelude.{◌≡◌, ◌<◌, IfSome, false, length, bytes_eq, cond, find, option_and_then, option_map, slice_get};
 ghost use Rattle.kmipa_object.specs.Inventory.{admits};
 ghost use Rattle.kmipa_store.specs.Choices.{IsSound};
 ghost use Rattle.kmipa_store.specs.Ledger.{held};
@@ -8,7 +8,7 @@ ghost use Rattle.kmipa_msgs.specs.Messages.{got_of, gets, id_of, maybe_lent, pay
 ghost use Rattle.kmipa_ops.specs.After.{Changes};
 ghost use Rattle.kmipa_ops.specs.Shown.{HasRule, IsSecretOf, bytes_speak, live_speak, shown_speak};
 ghost use Rattle.kmipa_ops.specs.Whys.{whys};
-ghost use Rattle.kmipa_ops.specs.Get.{get_speaks, seen_got, shows_other, taught};
+ghost use Rattle.kmipa_ops.specs.Get.{differs_at, get_speaks, seen_got, shows_other, taught};
 ghost use Rattle.kmipa_ops.specs.Meant.{place_meant};
 
 use crate::deed::{Deed, Subject};
@@ -190,7 +190,7 @@ fn shows_other(object: &Object, got: &Got) -> bool
         || clash_lengths(got.block.length, object.given.length)
 }
 
-/// From now on the object at this place has the bytes that were shown.
+/// From now on the object at this place has the bytes that were shown, of which none known differ: known ones are not looked at again.
 pub(crate) fn teach<L: Ledger>(
     ledger: &mut L,
     place: Option<usize>,
@@ -198,6 +198,7 @@ pub(crate) fn teach<L: Ledger>(
 ) -> Result<(), AllocError>
     requires sound { IsSound (L.state ledger.old).now }
     requires within { IfSome place (λ p. p < length (L.state ledger.old).now.objects) }
+    requires same { differs_at (L.state ledger.old).now (option_and_then (slice_get (L.state ledger.old).now.objects) place) bytes.now ≡ false }
     ensures { Changes (L.state ledger.old) (taught (L.state ledger.old).now (option_and_then (slice_get (L.state ledger.old).now.objects) place) bytes.now) result (L.state ledger.new) }
 {
     let Some(place) = place else {
@@ -206,6 +207,9 @@ pub(crate) fn teach<L: Ledger>(
     let Material::Secret(secret) = ledger.at(place).life.material else {
         return Ok(());
     };
+    if let Some(_known) = ledger.secret(secret) {
+        return Ok(());
+    }
     match ledger.learn(secret, bytes) {
         Ok(()) => Ok(()),
         Err(_) => Err(AllocError),

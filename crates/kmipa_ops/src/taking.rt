@@ -6,7 +6,7 @@ ghost use Rattle.kmipa_msgs.specs.Operations.{operation_number};
 ghost use Rattle.kmipa_msgs.specs.Messages.{answer_of, ask_of, asked_of, maybe_lent, operation_asked, payload_of, rules_of};
 ghost use Rattle.kmipa_ops.specs.After.{Leaves, after, placeholder_after};
 ghost use Rattle.kmipa_ops.specs.Asks.{ask_with};
-ghost use Rattle.kmipa_ops.specs.Blame.{failure_speaks, lowest, outcome_speaks};
+ghost use Rattle.kmipa_ops.specs.Blame.{IsDoneUnopposed, failure_speaks, lowest, outcome_speaks};
 ghost use Rattle.kmipa_ops.specs.Explains.{AreBytes, Taken, TellsBytes, brings, is_readable, shows};
 ghost use Rattle.kmipa_ops.specs.Meant.{place_about};
 ghost use Rattle.kmipa_ops.specs.Objects.{clash};
@@ -214,6 +214,7 @@ fn leave<D: Deed, L: Ledger>(
     requires sound { IsSound (L.state ledger.old).now }
     requires place { place ≡ place_about (L.state ledger.old).now.objects (placeholder_of placeholder.old) (row_subject (row_of (D.asked deed.now))) }
     requires within { IfSome place (λ p. p < length (L.state ledger.old).now.objects) }
+    requires unopposed { IsDoneUnopposed answer.now.status (L.state ledger.old).now (placeholder_of placeholder.old) (L.moment ledger.old) (D.asked deed.now) (answer_of answer.now).payload }
     ensures { Leaves (L.state ledger.old) (after answer.now.status (L.state ledger.old).now (placeholder_of placeholder.old) (L.moment ledger.old) (D.asked deed.now) (answer_of answer.now).payload) (placeholder_after answer.now.status (placeholder_of placeholder.old) (D.asked deed.now) (answer_of answer.now).payload) result (L.state ledger.new) (placeholder_of placeholder.new) }
 {
     match answer.status {
