@@ -11,7 +11,7 @@ use Rattle.kmipa_check.specs.Calls.{CallOf, call_of, AreCalls, IsRecorded}
 use Rattle.kmipa_check.specs.Steps.{StepOf}
 use Rattle.kmipa_check.specs.Orders.{IsOrder}
 use Rattle.kmipa_check.specs.Ordering.{AreFormed, OrderFault}
-use Rattle.kmipa_check.specs.Replays.{TellsRun, AllReadable}
+use Rattle.kmipa_check.specs.Replays.{TellsRun, AllTakable}
 use Rattle.kmipa_check.specs.Verdicts.{Checks}
 use Rattle.kmipa_check.specs.CallReading.{CallsFault}
 use Rattle.kmipa_check.specs.declared.call.Call.{Call}
@@ -20,6 +20,7 @@ use Rattle.kmipa_check.specs.declared.fault.CheckFault.TheVariants.{Outside, Wit
 use Rattle.kmipa_check.specs.declared.verdict.Verdict.{Verdict}
 use Rattle.kmipa_check.specs.declared.verdict.Verdict.TheVariants.{Yes, No}
 use Rattle.kmipa_check.proofs.PlaceLemmas.{at_contains}
+use Rattle.kmipa_check.proofs.PlacesLemmas.{step_taken}
 use Rattle.kmipa_check.proofs.ReadableLemmas.{step_readable}
 use Rattle.kmipa_check.proofs.ReplayLemmas.{replayed_accepts}
 use Rattle.kmipa_check.proofs.WholeOrderLemmas.{order_takes}
@@ -43,13 +44,13 @@ calls_once marks calls r are =
     let P : List ℤ → Type 0 = λ xs. AllPairs (λ (x y : ℤ). x ≢ y) xs in
     subst P (sym are.numbers) r.once
 
--- each step can be judged
-pub steps_readable : (marks : List MarkOf) (calls : List CallOf) (turns : List TurnOf) (count : ℕ) (steps : List StepOf) → All (IsRecorded marks) calls → AreFormed calls turns count steps → AllReadable steps
-steps_readable marks calls turns count steps each formed s has =
+-- each step can be taken
+pub steps_takable : (marks : List MarkOf) (calls : List CallOf) (turns : List TurnOf) (count : ℕ) (steps : List StepOf) → All (IsRecorded marks) calls → AreFormed calls turns count steps → AllTakable steps
+steps_takable marks calls turns count steps each formed s has =
     let p = at_contains steps s has in
     let f = formed.each p.0 s p.1 in
     let P : CallOf → Type 0 = λ c. IsRecorded marks c in
-    step_readable marks f.call f.turn s (subst P f.known.2 (each f.known.0 f.call f.known.1)) f.step
+    (step_readable marks f.call f.turn s (subst P f.known.2 (each f.known.0 f.call f.known.1)) f.step, step_taken f.call f.turn s f.step)
 
 -- a fault of the order
 pub order_faults : (marks : List MarkOf) (declared : DeclarationOf) (turns : List TurnOf) (calls : List CallOf) (f : CheckFault) → AreCalls marks calls

@@ -1,13 +1,11 @@
 -- Fills: the places that wait for them, and what they make of a response.
-use Rattle.std.proofs.Common.{◌≡◌, ◌≢◌, ◌<◌, ◌⊎◌, inl, inr, ℕ, zero, suc, ◌+◌, ℤ, pos, List, [], ◌∷◌, length, get_or, Contains, Option, Some, None, slice_get, refl, sym, ap, ◌∙◌, subst, arith}
+use Rattle.std.proofs.Common.{◌≡◌, ◌≢◌, ◌<◌, inl, inr, ℕ, zero, suc, List, [], ◌∷◌, Contains, Some, slice_get, refl, sym, ap, ◌∙◌, subst, arith}
 use Rattle.std.specs.Prelude.{AllPairs}
 use Rattle.std.specs.List.{zip}
-use Rattle.std.proofs.lemmas.Option.{get_or_from_slice_get, slice_get_within}
+use Rattle.std.proofs.lemmas.Option.{get_or_from_slice_get}
 use Rattle.kmipa_record.specs.Witnesses.{FillOf}
 use Rattle.kmipa_msgs.specs.Messages.{AskOf, PayloadOf, AnswerOf, RequestOf, ResponseOf}
-use Rattle.kmipa_msgs.specs.Wanted.{Wanted}
-use Rattle.kmipa_batch.specs.Calls.{pairs_of}
-use Rattle.kmipa_check.specs.Fills.{IsWantedAt, IsWanted, IsFor, AreWanted, NoneMissing, SaysFill, with_payload, IsFilledAt, stays, put_in, IsFilled, SomeFormless, FillFault, unwanted, missing, misformed}
+use Rattle.kmipa_check.specs.Fills.{IsWantedAt, AreWanted, SaysFill, with_payload, IsFilledAt, stays, put_in, IsFilled, SomeFormless, FillFault, unwanted, missing, misformed}
 use Rattle.kmipa_check.specs.Steps.{NeedsFill}
 use Rattle.kmipa_check.specs.declared.fault.WitnessKind.{WitnessKind}
 use Rattle.kmipa_check.proofs.PlaceLemmas.{apart, at_contains, at_within, some_at, same_elements}

@@ -2,7 +2,7 @@
 use Rattle.std.proofs.Common.{◌≡◌, ◌≢◌, ◌<◌, ◌≤◌, ◌⊎◌, inl, inr, ◌==◌, ℕ, zero, suc, ◌+◌, ℤ, pos, negsuc, ◌≤ℤ◌, Bool, true, false, List, [], ◌∷◌, map, length, set, length-set, get_or, Contains, Option, Some, None, slice_get, refl, sym, ap, ◌∙◌, subst, arith, add-one}
 use mir.Syntax.{w32}
 use mir.Val.{SFits, to_z, of_z}
-use Rattle.std.specs.Prelude.{is_some, option_map, Result, Ok, Err, OkIff, ◌↔◌}
+use Rattle.std.specs.Prelude.{is_some, option_map, Err, ◌↔◌}
 use Rattle.std.proofs.lemmas.Bool.Decides.{nat_tests}
 use Rattle.std.proofs.lemmas.Int.{ints, to_z-of_z}
 use Rattle.std.proofs.lemmas.Option.{slice_get_within, slice_get-get_or}
@@ -14,15 +14,16 @@ use Rattle.kmipa_check.specs.declared.numbers.FirstPlaces.{FirstPlaces}
 use Rattle.kmipa_check.specs.declared.fault.StepFault.{StepFault}
 use Rattle.kmipa_check.specs.declared.fault.StepFault.TheVariants.{Unfit, Memory}
 use Rattle.kmipa_check.specs.Fills.{IsWantedAt, IsWanted, IsFor, AreWanted, NoneMissing, SaysFill, with_payload, IsFilledAt, stays, put_in, IsFilled}
-use Rattle.kmipa_check.specs.Filling.{IsWantedItem, HasFillFor, AreNumbered, AreWantedBelow, HaveFillsBelow, NoneFor, IsPutAt, waits, put, IsFilledUpTo, FillRead, FormFault, FillsRefused}
+use Rattle.kmipa_check.specs.Filling.{IsWantedItem, HasFillFor, AreNumbered, AreWantedBelow, HaveFillsBelow, IsPutAt, waits, put, IsFilledUpTo, FillRead, FormFault, FillsRefused}
 use Rattle.kmipa_check.specs.Calls.{CallOf}
 use Rattle.kmipa_check.specs.CallReading.{AnswerRead}
-use Rattle.kmipa_check.specs.Orders.{Refuses, formless, unfit_answer, unfilled}
+use Rattle.kmipa_check.specs.Orders.{Refuses, formless, unfit_answer, unfit_places, unfilled}
+use Rattle.kmipa_check.specs.Places.{AreTaken, PlacesRefused}
 use Rattle.kmipa_check.specs.Numbers.{place_in, StandsFirst, Indexes, is_noted}
 use Rattle.kmipa_check.specs.Ordering.{Decided, NoneWantedBelow}
 use Rattle.kmipa_check.specs.Steps.{NeedsFill, IsAnswered}
 use Rattle.kmipa_check.proofs.FillLemmas.{pair_at, pair_left, pair_right, once_at, filled_itself}
-use Rattle.kmipa_check.proofs.PlaceLemmas.{below_suc, mapped_at, mapped_from, contains_at, at_contains, get_at, at_within}
+use Rattle.kmipa_check.proofs.PlaceLemmas.{below_suc, mapped_from, contains_at, at_contains, get_at, at_within}
 
 -- ---- places that wait
 
@@ -357,10 +358,15 @@ filled_nothing request response [] none complete = filled_itself request respons
 filled_nothing request response (x ∷ fills) none complete = absurd cc
 
 -- fills that are refused refuse the turn
-pub turn_refused : (c : CallOf) (t : TurnOf) (response : ResponseOf) (fault : StepFault) → IsAnswered c t response → t.places ≡ [] → FillsRefused c.request response t.fills fault
-    → Refuses c t fault
-turn_refused c t response (Unfit kind) answered places told = unfilled response answered places told
-turn_refused c t response Memory answered places told = tt
+pub turn_refused : (c : CallOf) (t : TurnOf) (response : ResponseOf) (places : Option (List ℕ)) (fault : StepFault) → IsAnswered c t response
+    → AreTaken c.request response t.places places → FillsRefused c.request response t.fills fault → Refuses c t fault
+turn_refused c t response places (Unfit kind) answered taken told = unfilled response answered places taken.0 taken.1 told
+turn_refused c t response places Memory answered taken told = tt
+
+-- places that are refused refuse it
+pub places_refuse : (c : CallOf) (t : TurnOf) (response : ResponseOf) (fault : StepFault) → IsAnswered c t response → PlacesRefused c.request response t.places fault → Refuses c t fault
+places_refuse c t response (Unfit kind) answered told = unfit_places response answered told
+places_refuse c t response Memory answered told = tt
 
 -- an answer that is outside refuses the turn of an open call
 pub answer_refused : (c : CallOf) (t : TurnOf) (bytes : List ℕ) (fault : StepFault) → c.response ≡ None → t.answer ≡ Some bytes → AnswerRead c.request bytes (Err fault) → Refuses c t fault

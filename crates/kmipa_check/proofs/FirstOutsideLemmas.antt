@@ -7,11 +7,11 @@ use Rattle.kmipa_record.specs.Marks.{MarkOf, begun, AreRecorded}
 use Rattle.kmipa_msgs.specs.declared.kind.OutsideKind.{OutsideKind}
 use Rattle.kmipa_msgs.specs.declared.kind.OutsideKind.TheVariants.{NotAMessage, Version, Count, Operation, ObjectType, IdentifierForm, Wrapped, Format, Missing, Attribute, Pending, Disagree, Unordered}
 use Rattle.kmipa_msgs.specs.Kinds.{kind_number}
-use Rattle.kmipa_msgs.specs.Messages.{RequestOf, ResponseOf}
+use Rattle.kmipa_msgs.specs.Messages.{RequestOf}
 use Rattle.kmipa_msgs.specs.Outside.{OutsideAt}
 use Rattle.kmipa_msgs.specs.Requests.{SaysRequest, RequestFault}
 use Rattle.kmipa_msgs.specs.Responses.{SaysResponse, ResponseFault}
-use Rattle.kmipa_check.specs.Calls.{CallOf, AreOutside, no_item, outside, AreRequest, AreResponse, HasBegin, HasEnd, IsEnded, has_ended, is_open, IsRecorded, AreFirstCalls, AreCalls, IsOutsideOn, IsFirstOutside}
+use Rattle.kmipa_check.specs.Calls.{CallOf, AreOutside, no_item, outside, AreRequest, HasBegin, IsEnded, has_ended, is_open, IsRecorded, AreFirstCalls, AreCalls, IsOutsideOn, IsFirstOutside}
 use Rattle.kmipa_check.specs.declared.fault.Side.{Side}
 use Rattle.kmipa_check.specs.declared.fault.Side.TheVariants.{Client, Server}
 use Rattle.kmipa_check.proofs.PlaceLemmas.{apart, get_at, some_at}

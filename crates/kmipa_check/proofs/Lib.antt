@@ -9,6 +9,7 @@ pub mod LateLemmas
 pub mod OrderLemmas
 pub mod FillLemmas
 pub mod FillingLemmas
+pub mod PlacesLemmas
 pub mod WholeOrderLemmas
 pub mod DescribedLemmas
 pub mod DeclarableLemmas

@@ -1,10 +1,10 @@
 -- The reading of calls, one mark more.
-use Rattle.std.proofs.Common.{◌≡◌, ◌<◌, ◌≤◌, ℕ, zero, suc, ◌+◌, ℤ, List, [], ◌∷◌, ◌++◌, length, map, take, Option, Some, None, slice_get, get_or, Contains, Result, Ok, Err, refl, sym, ap, ◌∙◌, subst, arith, add-one}
+use Rattle.std.proofs.Common.{◌≡◌, ◌<◌, ◌≤◌, ℕ, zero, suc, ◌+◌, ℤ, List, [], ◌∷◌, ◌++◌, length, map, take, Option, Some, None, slice_get, get_or, Result, Ok, Err, refl, sym, ap, ◌∙◌, subst, arith, add-one}
 use Rattle.std.specs.Prelude.{All, MatchResult}
 use Rattle.std.specs.String.{string_bytes}
 use Rattle.std.proofs.lemmas.List.{take_all, length-map}
 use Rattle.std.proofs.lemmas.List.Elements.{All-append, All-nil}
-use Rattle.kmipa_record.specs.Marks.{MarkOf, begins, ends, begun, ended, AreRecorded, mark_of}
+use Rattle.kmipa_record.specs.Marks.{MarkOf, begins, ends, begun, mark_of}
 use Rattle.kmipa_record.specs.declared.transcript.Mark.{Mark}
 use Rattle.kmipa_record.specs.declared.transcript.Mark
 use Rattle.kmipa_record.specs.declared.transcript.Begin.{Begin}
@@ -29,9 +29,9 @@ use Rattle.kmipa_msgs.specs.declared.kind.OutsideKind.{OutsideKind}
 use Rattle.kmipa_check.specs.declared.fault.Side.{Side}
 use Rattle.kmipa_check.specs.declared.fault.CheckFault.{CheckFault}
 use Rattle.kmipa_check.specs.declared.fault.CheckFault
-use Rattle.kmipa_check.specs.Calls.{CallOf, AreRequest, AreResponse, AreOutside, no_item, outside, HasBegin, HasEnd, has_ended, is_open, IsRecorded, AreCalls, IsOutsideOn, IsFirstOutside, call_of}
+use Rattle.kmipa_check.specs.Calls.{CallOf, AreRequest, AreOutside, no_item, outside, HasBegin, HasEnd, has_ended, is_open, IsRecorded, AreCalls, IsOutsideOn, IsFirstOutside, call_of}
 use Rattle.kmipa_check.specs.CallReading.{ItemRead, MessageFault, EndRead, IsOutsideAt, BeginsNone, MarkFault, MarkRead, AreReadUpTo, CallsFault, no_message}
-use Rattle.kmipa_check.proofs.PlaceLemmas.{at_contains, contains_at, at_within, get_at, mapped_at, mapped_from}
+use Rattle.kmipa_check.proofs.PlaceLemmas.{at_within, get_at, mapped_at, mapped_from}
 
 -- ---- the numbers that the first marks begin
 

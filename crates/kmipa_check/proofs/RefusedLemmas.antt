@@ -8,10 +8,10 @@ use Rattle.kmipa_msgs.specs.Messages.{RulesOf, AskOf, AnswerOf, ResponseOf}
 use Rattle.kmipa_ops.specs.declared.why.Why.{Why}
 use Rattle.kmipa_ops.specs.Chains.{ChainSome}
 use Rattle.kmipa_ops.proofs.ExplainLemmas.{chain_split}
-use Rattle.kmipa_batch.specs.Calls.{pairs_of, RefusesMessage, CallSome}
+use Rattle.kmipa_batch.specs.Calls.{pairs_taken, RefusesMessage, CallSomeAlong}
 use Rattle.kmipa_batch.specs.Refusals.SpeaksAtAlong.{in_shape, in_item}
-use Rattle.kmipa_batch.specs.Refusals.{SpeaksAt}
-use Rattle.kmipa_check.specs.Steps.{StepOf}
+use Rattle.kmipa_batch.specs.Refusals.{SpeaksAtAlong}
+use Rattle.kmipa_check.specs.Steps.{StepOf, order_of}
 use Rattle.kmipa_check.specs.Runs.{Linked, rules_declared}
 use Rattle.kmipa_check.specs.Verdicts.{IsPlacedAt, GoesUpTo, ArePossibleUpTo, RefusedPlace, late, runs_back, RefusedAt, in_place, RefusedAt.in_item as at_item, IsRefused}
 use Rattle.kmipa_check.specs.declared.verdict.Refused.{Refused}
@@ -27,13 +27,13 @@ pub record AtTurn (rules : RulesOf) (V : List Thing) (order : List StepOf) (turn
   pub before : List Thing
   pub after : List Thing
   pub linked : Linked rules V (take turn order) before
-  pub call : CallSome rules before c.request c.response after
+  pub call : CallSomeAlong rules before c.request c.response (order_of c) after
 
 pub linked_at : (rules : RulesOf) (V : List Thing) (order : List StepOf) (turn : ℕ) (c : StepOf) (W : List Thing) → Linked rules V order W → slice_get order turn ≡ Some c → AtTurn rules V order turn c
 linked_at rules V [] turn c W l at = absurd cc
 linked_at rules V (x ∷ order) zero c W l at =
     let is : x ≡ c = cc in
-    let P : StepOf → Type 0 = λ d. CallSome rules V d.request d.response l.0 in
+    let P : StepOf → Type 0 = λ d. CallSomeAlong rules V d.request d.response (order_of d) l.0 in
     record { before = V; after = l.0; linked = refl; call = subst P is l.1 }
 linked_at rules V (x ∷ order) (suc turn) c W l at =
     let t = linked_at rules l.0 order turn c W l.2 at in
@@ -55,12 +55,12 @@ refuses r = of r.items refl
     of (a ∷ b ∷ items) is = inr (λ h. let x : 1 ≡ suc (suc (length items)) = sym (ap length h.alone) ∙ ap length is in omega (arith, x))
 
 -- a call that is given goes up to each of its items
-pub goes_up : (rules : RulesOf) (V : List Thing) (c : StepOf) (W : List Thing) (count : ℕ) → CallSome rules V c.request c.response W → GoesUpTo rules V c count
+pub goes_up : (rules : RulesOf) (V : List Thing) (c : StepOf) (W : List Thing) (count : ℕ) → CallSomeAlong rules V c.request c.response (order_of c) W → GoesUpTo rules V c count
 goes_up rules V c W count call = elim (refuses c.response) [
   | inl h ↦ inr h
   | inr not ↦
-      let b = batch_of_call rules V c.request c.response None W not call in
-      let pairs = pairs_of c.request c.response in
+      let b = batch_of_call rules V c.request c.response (order_of c) W not call in
+      let pairs = pairs_taken c.request c.response (order_of c) in
       let P : List (AskOf × AnswerOf) → Type 0 = λ ps. ChainSome rules c.response.stamp V None ps b.last b.placeholder in
       let s = chain_split rules c.response.stamp V None (take count pairs) (drop count pairs) b.last b.placeholder (subst P (sym (take-append-drop count pairs)) b.chain) in
       inl ((λ place below. b.shaped place), (s.0, s.1, s.2))
@@ -79,11 +79,11 @@ take_take (x ∷ xs) (suc i) (suc j) h = ap (λ (l : List _). x ∷ l) (take_tak
 goes_fewer : (rules : RulesOf) (V : List Thing) (s : StepOf) (n m : ℕ) → m ≤ n → GoesUpTo rules V s n → GoesUpTo rules V s m
 goes_fewer rules V s n m few (inr refused) = inr refused
 goes_fewer rules V s n m few (inl (shaped, (W, placeholder, chain))) =
-    let pairs = take n (pairs_of s.request s.response) in
+    let pairs = take n (pairs_taken s.request s.response (order_of s)) in
     let P : List (AskOf × AnswerOf) → Type 0 = λ ps. ChainSome rules s.response.stamp V None ps W placeholder in
     let c = chain_split rules s.response.stamp V None (take m pairs) (drop m pairs) W placeholder (subst P (sym (take-append-drop m pairs)) chain) in
     let Q : List (AskOf × AnswerOf) → Type 0 = λ ps. ChainSome rules s.response.stamp V None ps c.0 c.1 in
-    inl (shaped_fewer s.request s.response m n few shaped, (c.0, c.1, subst Q (take_take (pairs_of s.request s.response) m n few) c.2))
+    inl (shaped_fewer s.request s.response m n few shaped, (c.0, c.1, subst Q (take_take (pairs_taken s.request s.response (order_of s)) m n few) c.2))
 
 possible_fewer : (declared : DeclarationOf) (order : List StepOf) (turn : ℕ) (s : StepOf) (n m : ℕ) → m ≤ n → ArePossibleUpTo declared order turn s n → ArePossibleUpTo declared order turn s m
 possible_fewer declared order turn s n m few p = record {
@@ -107,15 +107,15 @@ one_reason order turn s why other (runs_back k l is) (late m same) = absurd (k m
 one_reason order turn s why other (runs_back k l is) (runs_back j m same) = is ∙ sym same
 
 -- an item is told from 1
-told_some : (rules : RulesOf) (known : Meaning) (s : StepOf) (count item : ℕ) (why : Why) → SpeaksAt rules known s.request s.response count item why → item ≡ 0 → ⊥
+told_some : (rules : RulesOf) (known : Meaning) (s : StepOf) (count item : ℕ) (why : Why) → SpeaksAtAlong rules known s.request s.response (order_of s) count item why → item ≡ 0 → ⊥
 told_some rules known s count item why (in_shape place told judged first is) none = omega (arith, told, none)
 told_some rules known s count item why (in_item place told shaped at between placeholder ask answer e there r) none = omega (arith, told, none)
 
 told_same : (rules : RulesOf) (m k : Meaning) (s : StepOf) (count other i j : ℕ) (why because : Why)
-    → SpeaksAt rules m s.request s.response count i why → SpeaksAt rules k s.request s.response other j because → count ≡ other → i ≡ j
+    → SpeaksAtAlong rules m s.request s.response (order_of s) count i why → SpeaksAtAlong rules k s.request s.response (order_of s) other j because → count ≡ other → i ≡ j
 told_same rules m k s count other i j why because p q e =
-    let P : ℕ → Type 0 = λ n. SpeaksAt rules m s.request s.response n i why in
-    one_item_is_told rules m k s.request s.response None other i j why because (subst P e p) q
+    let P : ℕ → Type 0 = λ n. SpeaksAtAlong rules m s.request s.response (order_of s) n i why in
+    one_item_is_told rules m k s.request s.response (order_of s) other i j why because (subst P e p) q
 
 module _ (declared : DeclarationOf) (order : List StepOf) where
   one_item : (turn : ℕ) (s : StepOf) (i j : ℕ) (why other : Why) → RefusedAt declared order turn s i why → RefusedAt declared order turn s j other → (i ≡ j) × (i ≡ 0 → why ≡ other)

@@ -14,11 +14,11 @@ use Rattle.kmipa_record.specs.Witnesses.{TurnOf}
 use Rattle.kmipa_ops.specs.declared.why.Why.{Why}
 use Rattle.kmipa_ops.specs.declared.why.Why.TheVariants.{EarlierCallLate, StampRunsBack}
 use Rattle.kmipa_ops.specs.Chains.{ChainSome}
-use Rattle.kmipa_batch.specs.Calls.{pairs_of, RefusesMessage}
-use Rattle.kmipa_batch.specs.Refusals.{CallExplains, CallRefuted, CallTaken, IsPossibleUpTo}
+use Rattle.kmipa_batch.specs.Calls.{pairs_taken, RefusesMessage}
+use Rattle.kmipa_batch.specs.Refusals.{CallExplainsAlong, CallRefutedAlong, CallTakenAlong, IsPossibleUpToAlong}
 use Rattle.kmipa_batch.specs.declared.refusal.CallRefusal.TheVariants.{Impossible}
 use Rattle.kmipa_check.specs.Calls.{CallOf, AreCalls}
-use Rattle.kmipa_check.specs.Steps.{StepOf}
+use Rattle.kmipa_check.specs.Steps.{StepOf, order_of}
 use Rattle.kmipa_check.specs.Runs.{Linked, rules_declared, Before, IsPlaced, TakeEachOnce, IsAccepted}
 use Rattle.kmipa_check.specs.Orders.{IsOrder}
 use Rattle.kmipa_check.specs.Verdicts.{IsLate, RunsBack, IsPlacedAt, ArePlaced, ArePossible, AreKnown, RefusedItem, late, runs_back, RefusedAt, in_place, in_item, IsRefused, GoesUpTo}
@@ -39,20 +39,20 @@ module _ (declared : DeclarationOf) (order : List StepOf) (n : ℕ) (c : StepOf)
       by (inl h) = r.placed turn h
       by (inr e) = let P : ℕ → Type 0 = λ k. (d : StepOf) × IsPlacedAt order k d in subst P (sym e) (c, here)
 
-  known_more : (k : Meaning) → CallExplains (rules_declared declared) m c.request c.response k → AreKnown declared (take (suc n) order) k
+  known_more : (k : Meaning) → CallExplainsAlong (rules_declared declared) m c.request c.response (order_of c) k → AreKnown declared (take (suc n) order) k
   known_more k e =
       let P : List StepOf → Type 0 = λ steps. AreKnown declared steps k in
       subst P (sym (take_next order n c here.there)) (taken_is_known_lem declared (take n order) c m k r.known e)
 
   -- the call of this turn is taken
-  pub replayed_more : (s u : LedgerState) → s.now ≡ m → CallTaken (rules_declared declared) s c.request c.response (Ok tt) u → Replayed declared order (n + 1) u.now
+  pub replayed_more : (s u : LedgerState) → s.now ≡ m → CallTakenAlong (rules_declared declared) s c.request c.response (order_of c) (Ok tt) u → Replayed declared order (n + 1) u.now
   replayed_more s u is t =
       let P : ℕ → Type 0 = λ k. Replayed declared order k u.now in
-      let E : Meaning → Type 0 = λ x. CallExplains (rules_declared declared) x c.request c.response u.now in
+      let E : Meaning → Type 0 = λ x. CallExplainsAlong (rules_declared declared) x c.request c.response (order_of c) u.now in
       subst P (sym (add-one n)) (record { placed = placed_more; known = known_more u.now (subst E is t.0); sound = t.1 })
 
   -- it is refused at an item
-  refused_item : (item : ℕ) (why : Why) → CallRefuted (rules_declared declared) m c.request c.response item why
+  refused_item : (item : ℕ) (why : Why) → CallRefutedAlong (rules_declared declared) m c.request c.response (order_of c) item why
       → (count : ℕ) × RefusedItem declared order n c count item why
   refused_item item why e =
       let f = r.known.sound e.before.choice e.before.chooses in (
@@ -77,10 +77,10 @@ module _ (declared : DeclarationOf) (order : List StepOf) (n : ℕ) (c : StepOf)
       )
     where
       never_from : (count : ℕ) (V : List Thing) (choice : Choice) → Chooses m.secrets choice → V ≡ inv choice m.objects
-          → (IsPossibleUpTo (rules_declared declared) m c.request c.response (count + 1) → ⊥) → (RefusesMessage c.response → ⊥)
+          → (IsPossibleUpToAlong (rules_declared declared) m c.request c.response (order_of c) (count + 1) → ⊥) → (RefusesMessage c.response → ⊥)
           → GoesUpTo (rules_declared declared) V c (count + 1) → ⊥
       never_from count V choice h is never unrefused (inl g) =
-          let P : List Thing → Type 0 = λ X. ChainSome (rules_declared declared) c.response.stamp X None (take (count + 1) (pairs_of c.request c.response)) g.1.0 g.1.1 in
+          let P : List Thing → Type 0 = λ X. ChainSome (rules_declared declared) c.response.stamp X None (take (count + 1) (pairs_taken c.request c.response (order_of c))) g.1.0 g.1.1 in
           never (record { shaped = g.0; choice = choice; chooses = h; things = g.1.0; placeholder = g.1.1; chain = subst P is g.1.2 })
       never_from count V choice h is never unrefused (inr g) = unrefused g
 
@@ -106,9 +106,9 @@ module _ (declared : DeclarationOf) (order : List StepOf) (n : ℕ) (m : Meaning
     refused_back v told number at is kept back = refused 0 StampRunsBack v told number at is (in_place refl (runs_back kept back refl))
 
     pub refused_call : (v : Refused) (item : ℕ) (why : Why) (s u : LedgerState) → s.now ≡ m → v.turn ≡ n + 1 → c.number ≡ v.call → v.item ≡ item → v.why ≡ why
-        → (IsLate order n c → ⊥) → (RunsBack order n c → ⊥) → CallTaken (rules_declared declared) s c.request c.response (Err (Impossible item why)) u → IsRefused declared order v
+        → (IsLate order n c → ⊥) → (RunsBack order n c → ⊥) → CallTakenAlong (rules_declared declared) s c.request c.response (order_of c) (Err (Impossible item why)) u → IsRefused declared order v
     refused_call v item why s u same told number at is kept stamped t =
-        let E : Meaning → Type 0 = λ x. CallRefuted (rules_declared declared) x c.request c.response item why in
+        let E : Meaning → Type 0 = λ x. CallRefutedAlong (rules_declared declared) x c.request c.response (order_of c) item why in
         let p = refused_item declared order n c m r (record { there = there; kept = kept; stamped = stamped }) item why (subst E same t.0) in
         refused item why v told number at is (in_item p.0 p.1)
 

@@ -10,10 +10,10 @@ use Rattle.kmipa_msgs.specs.Messages.{RulesOf, AskOf, AnswerOf}
 use Rattle.kmipa_ops.specs.declared.why.Why.{Why}
 use Rattle.kmipa_ops.specs.Chains.{ChainSome}
 use Rattle.kmipa_ops.proofs.ExplainLemmas.{chain_split}
-use Rattle.kmipa_batch.specs.Calls.{CallSome, pairs_of}
-use Rattle.kmipa_batch.specs.Refusals.{CallExplains, CallRefuted}
+use Rattle.kmipa_batch.specs.Calls.{CallSomeAlong, pairs_taken}
+use Rattle.kmipa_batch.specs.Refusals.{CallExplainsAlong, CallRefutedAlong}
 use Rattle.kmipa_batch.proofs.CompletionLemmas.{batch_of_call}
-use Rattle.kmipa_check.specs.Steps.{StepOf}
+use Rattle.kmipa_check.specs.Steps.{StepOf, order_of}
 use Rattle.kmipa_check.specs.Described.{Describes}
 use Rattle.kmipa_check.specs.Runs.{Linked, rules_declared}
 use Rattle.kmipa_check.specs.Verdicts.{AreKnown, WereTold, by_declaration, by_step}
@@ -34,7 +34,7 @@ take_next (y ∷ xs) (suc n) x at = ap (λ (l : List _). y ∷ l) (take_next xs 
 
 -- a call that is taken
 pub taken_is_known_lem : (declared : DeclarationOf) (steps : List StepOf) (s : StepOf) (m n : Meaning) → AreKnown declared steps m
-    → CallExplains (rules_declared declared) m s.request s.response n → AreKnown declared (steps ++ s ∷ []) n
+    → CallExplainsAlong (rules_declared declared) m s.request s.response (order_of s) n → AreKnown declared (steps ++ s ∷ []) n
 taken_is_known_lem declared steps s m n k e = record {
   sound = λ choice h.
       let f = e.sound choice h in
@@ -43,8 +43,8 @@ taken_is_known_lem declared steps s m n k e = record {
   complete = λ start V d l.
       let p = linked_split (rules_declared declared) start steps (s ∷ []) V l in
       let q = k.complete start p.0 d p.1 in
-      let P : List Thing → Type 0 = λ X. CallSome (rules_declared declared) X s.request s.response V in
-      let Q : List Thing → Type 0 = λ X. CallSome (rules_declared declared) p.0 s.request s.response X in
+      let P : List Thing → Type 0 = λ X. CallSomeAlong (rules_declared declared) X s.request s.response (order_of s) V in
+      let Q : List Thing → Type 0 = λ X. CallSomeAlong (rules_declared declared) p.0 s.request s.response (order_of s) X in
       let f = e.complete q.0 q.1 V (subst P q.2 (subst Q (sym p.2.2) p.2.1)) in
       (f.0, f.1, f.3);
   told = λ number bytes known. elim (e.learns number bytes known) [
@@ -61,11 +61,11 @@ taken_is_known_lem declared steps s m n k e = record {
     kept bytes (by_step x has t) = by_step x (Contains-append_left steps (s ∷ []) x has) t
 
 -- one that is refused is possible from no inventory of the ledger
-never_called : (rules : RulesOf) (m : Meaning) (s : StepOf) (item : ℕ) (why : Why) (choice : Choice) (V W : List Thing) → CallRefuted rules m s.request s.response item why
-    → Chooses m.secrets choice → V ≡ inv choice m.objects → CallSome rules V s.request s.response W → ⊥
+never_called : (rules : RulesOf) (m : Meaning) (s : StepOf) (item : ℕ) (why : Why) (choice : Choice) (V W : List Thing) → CallRefutedAlong rules m s.request s.response (order_of s) item why
+    → Chooses m.secrets choice → V ≡ inv choice m.objects → CallSomeAlong rules V s.request s.response (order_of s) W → ⊥
 never_called rules m s item why choice V W e h is call =
-    let b = batch_of_call rules V s.request s.response None W e.unrefused call in
-    let pairs = pairs_of s.request s.response in
+    let b = batch_of_call rules V s.request s.response (order_of s) W e.unrefused call in
+    let pairs = pairs_taken s.request s.response (order_of s) in
     let count = e.count + 1 in
     let P : List (AskOf × AnswerOf) → Type 0 = λ ps. ChainSome rules s.response.stamp V None ps b.last b.placeholder in
     let c = chain_split rules s.response.stamp V None (take count pairs) (drop count pairs) b.last b.placeholder (subst P (sym (take-append-drop count pairs)) b.chain) in
@@ -74,7 +74,7 @@ never_called rules m s item why choice V W e h is call =
 
 -- so no linked steps go on with it
 pub refused_is_never_lem : (declared : DeclarationOf) (steps rest : List StepOf) (s : StepOf) (m : Meaning) (item : ℕ) (why : Why) (start last : List Thing) → AreKnown declared steps m
-    → CallRefuted (rules_declared declared) m s.request s.response item why → Describes declared start → Linked (rules_declared declared) start (steps ++ s ∷ rest) last → ⊥
+    → CallRefutedAlong (rules_declared declared) m s.request s.response (order_of s) item why → Describes declared start → Linked (rules_declared declared) start (steps ++ s ∷ rest) last → ⊥
 refused_is_never_lem declared steps rest s m item why start last k e d l =
     let p = linked_split (rules_declared declared) start steps (s ∷ rest) last l in
     let q = k.complete start p.0 d p.1 in

@@ -1,5 +1,5 @@
 -- The stamp of the one call of a number.
-use Rattle.std.proofs.Common.{◌≡◌, ◌≢◌, ◌<◌, ◌⊎◌, inl, inr, ℕ, ℤ, List, length, map, get_or, Contains, Option, Some, None, slice_get, option_map, Result, Ok, Err, refl, sym, ap, ◌∙◌, subst, arith}
+use Rattle.std.proofs.Common.{◌≡◌, ◌≢◌, ◌<◌, inl, inr, ℕ, ℤ, List, length, map, get_or, Contains, Option, Some, None, slice_get, option_map, Result, Ok, Err, refl, sym, ap, ◌∙◌, subst, arith}
 use denote.Bor.{Bor}
 use Rattle.std.specs.Prelude.{AllPairs, MatchOption}
 use Rattle.std.specs.String.{string_bytes}

@@ -8,7 +8,7 @@ use Rattle.kmipa_store.specs.Ledger.{Meaning, LedgerState}
 use Rattle.kmipa_msgs.specs.Messages.{RulesOf}
 use Rattle.kmipa_ops.specs.declared.why.Why.{Why}
 use Rattle.kmipa_ops.specs.declared.why.Why.TheVariants.{EarlierCallLate, StampRunsBack}
-use Rattle.kmipa_batch.specs.Refusals.{CallTaken}
+use Rattle.kmipa_batch.specs.Refusals.{CallTakenAlong}
 use Rattle.kmipa_batch.specs.Readable.{IsReadableCall}
 use Rattle.kmipa_batch.specs.declared.refusal.CallRefusal.{CallRefusal}
 use Rattle.kmipa_batch.specs.declared.refusal.CallRefusal.TheVariants as refusal
@@ -16,11 +16,12 @@ use Rattle.kmipa_check.specs.declared.fault.CheckFault.{CheckFault}
 use Rattle.kmipa_check.specs.declared.fault.CheckFault.TheVariants.{Memory}
 use Rattle.kmipa_check.specs.declared.verdict.Refused.{Refused}
 use Rattle.kmipa_check.specs.declared.step.Step.{Step}
-use Rattle.kmipa_check.specs.Steps.{StepOf, step_of}
+use Rattle.kmipa_check.specs.Places.{MayBeTaken}
+use Rattle.kmipa_check.specs.Steps.{StepOf, order_of, step_of}
 use Rattle.kmipa_check.specs.Verdicts.{IsLate, RunsBack, ArePlaced}
 use Rattle.kmipa_check.specs.Late.{FirstLate, is_at}
 use Rattle.kmipa_check.specs.Ordering.{Decided}
-use Rattle.kmipa_check.specs.Replays.{TurnTaken, AllReadable}
+use Rattle.kmipa_check.specs.Replays.{TurnTaken, AllTakable}
 use Rattle.kmipa_check.proofs.ReplayLemmas.{replayed_more, refused_late, refused_back, refused_call}
 use Rattle.kmipa_check.proofs.PlaceLemmas.{mapped_at, contains_at}
 
@@ -64,17 +65,17 @@ module _ (rules : RulesOf) (order : List StepOf) (turn : ℕ) (c : StepOf) (ther
         refused_back declared order turn s.now r c there v (ap (λ (x : Refused). x.turn) e) (sym (ap (λ (x : Refused). x.call) e)) (ap (λ (x : Refused). x.item) e) (ap (λ (x : Refused). x.why) e)
         (none_late order late turn c first r.placed there here) back
 
-    pub turn_refused : (u : LedgerState) (item : ℕ) (why : Why) → (RunsBack order turn c → ⊥) → CallTaken rules s c.request c.response (Err (refusal.Impossible item why)) u
+    pub turn_refused : (u : LedgerState) (item : ℕ) (why : Why) → (RunsBack order turn c → ⊥) → CallTakenAlong rules s c.request c.response (order_of c) (Err (refusal.Impossible item why)) u
         → TurnTaken rules order turn s.now (Ok (Some (record { turn = turn + 1; call = c.number; item = item; why = why }))) u.now
     turn_refused u item why stamped t = λ declared is r.
-        let P : RulesOf → Type 0 = λ x. CallTaken x s c.request c.response (Err (refusal.Impossible item why)) u in
+        let P : RulesOf → Type 0 = λ x. CallTakenAlong x s c.request c.response (order_of c) (Err (refusal.Impossible item why)) u in
         refused_call declared order turn s.now r c there (record { turn = turn + 1; call = c.number; item = item; why = why }) item why s u refl refl refl refl refl
         (none_late order late turn c first r.placed there here) stamped (subst P is t)
 
     -- whatever is answered, where it tells a refused item as such, and want of memory as such
     pub turn_not_taken : (u : LedgerState) (r : CallRefusal) (result : Result (Option Refused) CheckFault) → (RunsBack order turn c → ⊥)
         → ((item : ℕ) (why : Why) → r ≡ refusal.Impossible item why → result ≡ Ok (Some (record { turn = turn + 1; call = c.number; item = item; why = why })))
-        → (r ≡ refusal.Memory → result ≡ Err Memory) → CallTaken rules s c.request c.response (Err r) u → TurnTaken rules order turn s.now result u.now
+        → (r ≡ refusal.Memory → result ≡ Err Memory) → CallTakenAlong rules s c.request c.response (order_of c) (Err r) u → TurnTaken rules order turn s.now result u.now
     turn_not_taken u (refusal.Impossible item why) result stamped told full t =
         let P : Result (Option Refused) CheckFault → Type 0 = λ x. TurnTaken rules order turn s.now x u.now in
         subst P (sym (told item why refl)) (turn_refused u item why stamped t)
@@ -82,18 +83,18 @@ module _ (rules : RulesOf) (order : List StepOf) (turn : ℕ) (c : StepOf) (ther
         let P : Result (Option Refused) CheckFault → Type 0 = λ x. TurnTaken rules order turn s.now x u.now in
         subst P (sym (full refl)) (λ declared is r. tt)
 
-    pub turn_done : (u : LedgerState) → (RunsBack order turn c → ⊥) → CallTaken rules s c.request c.response (Ok tt) u → TurnTaken rules order turn s.now (Ok None) u.now
+    pub turn_done : (u : LedgerState) → (RunsBack order turn c → ⊥) → CallTakenAlong rules s c.request c.response (order_of c) (Ok tt) u → TurnTaken rules order turn s.now (Ok None) u.now
     turn_done u stamped t = λ declared is r.
-        let P : RulesOf → Type 0 = λ x. CallTaken x s c.request c.response (Ok tt) u in
+        let P : RulesOf → Type 0 = λ x. CallTakenAlong x s c.request c.response (order_of c) (Ok tt) u in
         replayed_more declared order turn c s.now r (record { there = there; kept = none_late order late turn c first r.placed there here; stamped = stamped }) s u refl (subst P is t)
 
 -- the step at a turn
 pub turn_at : (steps : List Step) (turn : ℕ) (s : Step) → turn < length steps → s ≡ get_or steps turn s → slice_get (map step_of steps) turn ≡ Some (step_of s)
 turn_at steps turn s below is = mapped_at step_of steps turn s below is
 
-pub turn_readable : (steps : List Step) (turn : ℕ) (s : Step) → turn < length steps → s ≡ get_or steps turn s
-    → AllReadable (map step_of steps) → IsReadableCall (step_of s).request (step_of s).response
-turn_readable steps turn s below is readable = readable (step_of s) (contains_at (map step_of steps) turn (step_of s) (turn_at steps turn s below is))
+pub turn_takable : (steps : List Step) (turn : ℕ) (s : Step) → turn < length steps → s ≡ get_or steps turn s
+    → AllTakable (map step_of steps) → IsReadableCall (step_of s).request (step_of s).response × MayBeTaken (step_of s).request (step_of s).response (step_of s).places
+turn_takable steps turn s below is takable = takable (step_of s) (contains_at (map step_of steps) turn (step_of s) (turn_at steps turn s below is))
 
 -- the stamp is less than that of the turn before, or it isn't
 module _ (steps : List Step) (turn : ℕ) (now last : Step) (below : turn < length steps) (some : turn ≢ 0) (here : now ≡ get_or steps turn now) (before : last ≡ get_or steps (turn - 1) last) where

@@ -18,9 +18,10 @@ use Rattle.kmipa_msgs.specs.Messages.{ResponseOf}
 use Rattle.kmipa_msgs.specs.Responses.{SaysResponse, ResponseFault}
 use Rattle.kmipa_check.specs.Calls.{CallOf, AreResponse, AreOutside, call_of}
 use Rattle.kmipa_check.specs.Fills.{IsFilled, FillFault}
-use Rattle.kmipa_check.specs.Steps.{StepOf, IsAnswered, recorded, given, IsStep, step_with}
+use Rattle.kmipa_check.specs.Places.{PlacesFault}
+use Rattle.kmipa_check.specs.Steps.{StepOf, IsAnswered, recorded, given, IsStep, step_along}
 use Rattle.kmipa_check.specs.Runs.{IsOfCalls, TakeEachOnce}
-use Rattle.kmipa_check.specs.Orders.{IsNamed, IsFormed, AreFormedBelow, IsOrder, IsAnswerFault, answered, unanswered, formless, GivenFault, unfit_answer, ordered, unfilled, WitnessFaultAt, left_out}
+use Rattle.kmipa_check.specs.Orders.{IsNamed, IsFormed, AreFormedBelow, IsOrder, IsAnswerFault, answered, unanswered, formless, GivenFault, unfit_answer, unfit_places, unfilled, WitnessFaultAt, left_out}
 use Rattle.kmipa_check.specs.Numbers.{place_in, StandsFirst, Indexes}
 use Rattle.kmipa_check.specs.Ordering.{AreFormed, missing_or, first_missing}
 use Rattle.kmipa_check.proofs.PlaceLemmas.{mapped_from, contains_at, at_contains, same_elements, get_at, some_at}
@@ -28,6 +29,7 @@ use Rattle.kmipa_check.proofs.MessageLemmas.{same_message, not_outside}
 use Rattle.kmipa_check.proofs.OnceLemmas.{IsOnce}
 use Rattle.kmipa_check.proofs.OrderLemmas.{formed_below}
 use Rattle.kmipa_check.proofs.FillLemmas.{one_filled, filled_right, one_fill_fault}
+use Rattle.kmipa_check.proofs.PlacesLemmas.{one_places, places_right, one_places_fault}
 
 abbrev pub number_of : CallOf → ℤ
 number_of = λ c. c.number
@@ -237,22 +239,30 @@ one_answer_fault c t kind other (formless bytes i k unended some out is) (formle
 -- where they make a step nothing is wrong with what the turn gives
 pub step_right : (c : CallOf) (t : TurnOf) (s : StepOf) (kind : WitnessKind) → IsStep c t s → GivenFault c t kind → ⊥
 step_right c t s kind i (unfit_answer fault) = answered_right c t i.response kind i.answered fault
-step_right c t s kind i (ordered response had some is) = some i.unordered
-step_right c t s kind i (unfilled response had places fault) =
+step_right c t s kind i (unfit_places response had fault) =
+    let P : ResponseOf → Type 0 = λ x. PlacesFault c.request x t.places kind in
+    places_right c.request i.response t.places i.places kind i.ordered i.taken (subst P (one_answer c t response i.response had i.answered) fault)
+step_right c t s kind i (unfilled response had places gives taken fault) =
     let P : ResponseOf → Type 0 = λ x. IsFilled c.request x t.fills i.full in
     filled_right c.request response t.fills i.full kind (subst P (one_answer c t i.response response i.answered had) i.filled) fault
 
 -- and else one thing is
 pub one_given : (c : CallOf) (t : TurnOf) (kind other : WitnessKind) → GivenFault c t kind → GivenFault c t other → kind ≡ other
 one_given c t kind other (unfit_answer fault) (unfit_answer wrong) = one_answer_fault c t kind other fault wrong
-one_given c t kind other (unfit_answer fault) (ordered response had any same) = absurd (answered_right c t response kind had fault)
-one_given c t kind other (unfit_answer fault) (unfilled response had places wrong) = absurd (answered_right c t response kind had fault)
-one_given c t kind other (ordered response had some is) (unfit_answer fault) = absurd (answered_right c t response other had fault)
-one_given c t kind other (ordered response had some is) (ordered answer has any same) = is ∙ sym same
-one_given c t kind other (ordered response had some is) (unfilled answer has places wrong) = absurd (some places)
-one_given c t kind other (unfilled response had places fault) (unfit_answer wrong) = absurd (answered_right c t response other had wrong)
-one_given c t kind other (unfilled response had places fault) (ordered answer has any same) = absurd (any places)
-one_given c t kind other (unfilled response had places fault) (unfilled answer has ps wrong) =
+one_given c t kind other (unfit_answer fault) (unfit_places response had wrong) = absurd (answered_right c t response kind had fault)
+one_given c t kind other (unfit_answer fault) (unfilled response had places gives taken wrong) = absurd (answered_right c t response kind had fault)
+one_given c t kind other (unfit_places response had fault) (unfit_answer wrong) = absurd (answered_right c t response other had wrong)
+one_given c t kind other (unfit_places response had fault) (unfit_places answer has wrong) =
+    let P : ResponseOf → Type 0 = λ x. PlacesFault c.request x t.places other in
+    one_places_fault c.request response t.places kind other fault (subst P (one_answer c t answer response has had) wrong)
+one_given c t kind other (unfit_places response had fault) (unfilled answer has places gives taken wrong) =
+    let P : ResponseOf → Type 0 = λ x. PlacesFault c.request x t.places kind in
+    absurd (places_right c.request answer t.places places kind gives taken (subst P (one_answer c t response answer had has) fault))
+one_given c t kind other (unfilled response had places gives taken fault) (unfit_answer wrong) = absurd (answered_right c t response other had wrong)
+one_given c t kind other (unfilled response had places gives taken fault) (unfit_places answer has wrong) =
+    let P : ResponseOf → Type 0 = λ x. PlacesFault c.request x t.places other in
+    absurd (places_right c.request response t.places places other gives taken (subst P (one_answer c t answer response has had) wrong))
+one_given c t kind other (unfilled response had places gives taken fault) (unfilled answer has ps give take wrong) =
     let P : ResponseOf → Type 0 = λ x. FillFault c.request x t.fills other in
     one_fill_fault c.request response t.fills kind other fault (subst P (one_answer c t answer response has had) wrong)
 
@@ -261,7 +271,8 @@ pub one_step_lem : (c : CallOf) (t : TurnOf) (s u : StepOf) → IsStep c t s →
 one_step_lem c t s u a b =
     let same = one_answer c t b.response a.response b.answered a.answered in
     let P : ResponseOf → Type 0 = λ x. IsFilled c.request x t.fills b.full in
-    a.is ∙ ap (λ (r : ResponseOf). step_with c r) (one_filled c.request a.response t.fills a.full b.full a.filled (subst P same b.filled)) ∙ sym b.is
+    a.is ∙ ap (λ (r : ResponseOf). step_along c r a.places) (one_filled c.request a.response t.fills a.full b.full a.filled (subst P same b.filled))
+    ∙ ap (step_along c b.full) (one_places t.places a.places b.places a.ordered b.ordered) ∙ sym b.is
 
 -- and a witness gives one order
 pub one_order_lem : (calls : List CallOf) (turns : List TurnOf) (steps others : List StepOf) → IsOnce (map number_of calls) → IsOrder calls turns steps → IsOrder calls turns others → steps ≡ others

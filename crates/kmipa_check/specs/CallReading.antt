@@ -4,7 +4,7 @@ use Rattle.kmipa_ttlv.specs.Tree.{Tree}
 use Rattle.kmipa_ttlv.specs.Spelling.{Spells}
 use Rattle.kmipa_ttlv.specs.ViewTree.{view_tree}
 use Rattle.kmipa_ttlv.specs.declared.view.View.{View}
-use Rattle.kmipa_record.specs.Marks.{MarkOf, begins, ends, begun, AreRecorded}
+use Rattle.kmipa_record.specs.Marks.{MarkOf, begins, begun}
 use Rattle.kmipa_msgs.specs.declared.kind.OutsideKind.{OutsideKind}
 use Rattle.kmipa_msgs.specs.declared.kind.OutsideKind.TheVariants.{NotAMessage}
 use Rattle.kmipa_msgs.specs.declared.request.Request.{Request}

@@ -8,10 +8,10 @@ use Rattle.kmipa_record.specs.Marks.{MarkOf, AreRecorded}
 use Rattle.kmipa_record.specs.Declarations.{DeclarationOf}
 use Rattle.kmipa_record.specs.Witnesses.{TurnOf}
 use Rattle.kmipa_ops.specs.declared.why.Why.{Why}
-use Rattle.kmipa_batch.specs.Refusals.{CallExplains, CallRefuted}
+use Rattle.kmipa_batch.specs.Refusals.{CallExplainsAlong, CallRefutedAlong}
 use Rattle.kmipa_batch.specs.Readable.{IsReadableCall}
 use Rattle.kmipa_check.specs.Calls.{CallOf, AreCalls, AreTimed, IsRecorded}
-use Rattle.kmipa_check.specs.Steps.{StepOf, IsStep}
+use Rattle.kmipa_check.specs.Steps.{StepOf, order_of, IsStep}
 use Rattle.kmipa_check.specs.Described.{Describes}
 use Rattle.kmipa_check.specs.Orders.{IsOrder}
 use Rattle.kmipa_check.specs.Runs.{Before, IsPlaced, Linked, TakeEachOnce, IsAccepted, IsExplained, rules_declared}
@@ -65,12 +65,12 @@ PlacedOneByOne = (steps : List StepOf) → IsPlaced steps ↔ ((taken left : Lis
 -- known before, and the call is taken: known after it
 abbrev pub TakenIsKnown : Type 0
 TakenIsKnown = (declared : DeclarationOf) (steps : List StepOf) (s : StepOf) (m n : Meaning)
-    → AreKnown declared steps m → CallExplains (rules_declared declared) m s.request s.response n → AreKnown declared (steps ++ s ∷ []) n
+    → AreKnown declared steps m → CallExplainsAlong (rules_declared declared) m s.request s.response (order_of s) n → AreKnown declared (steps ++ s ∷ []) n
 
 -- known before, and the call is refused: no run from a described inventory begins so
 abbrev pub RefusedIsNever : Type 0
 RefusedIsNever = (declared : DeclarationOf) (steps rest : List StepOf) (s : StepOf) (m : Meaning) (item : ℕ) (why : Why) (start last : List Thing)
-    → AreKnown declared steps m → CallRefuted (rules_declared declared) m s.request s.response item why → Describes declared start
+    → AreKnown declared steps m → CallRefutedAlong (rules_declared declared) m s.request s.response (order_of s) item why → Describes declared start
     → Linked (rules_declared declared) start (steps ++ s ∷ rest) last → ⊥
 
 -- a step of a recorded call can be judged

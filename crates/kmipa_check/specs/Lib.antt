@@ -1,5 +1,6 @@
 pub mod Calls
 pub mod Fills
+pub mod Places
 pub mod Steps
 pub mod Described
 pub mod Runs

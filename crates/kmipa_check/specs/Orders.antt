@@ -1,16 +1,17 @@
 -- The order of a witness: each turn names a call and makes a step with it, and no call is named twice or left out.
-use Rattle.std.specs.Prelude.{◌≡◌, ◌<◌, ℕ, ◌+◌, ℤ, pos, List, [], Contains, slice_get, length, Some, None}
+use Rattle.std.specs.Prelude.{◌≡◌, ◌<◌, ℕ, ◌+◌, ℤ, pos, List, Contains, slice_get, length, Option, Some, None}
 use Rattle.kmipa_record.specs.Witnesses.{TurnOf}
 use Rattle.kmipa_msgs.specs.Messages.{ResponseOf}
 use Rattle.kmipa_msgs.specs.declared.kind.OutsideKind.{OutsideKind}
 use Rattle.kmipa_msgs.specs.Responses.{ResponseFault}
 use Rattle.kmipa_check.specs.Calls.{CallOf, AreOutside}
 use Rattle.kmipa_check.specs.Fills.{FillFault}
+use Rattle.kmipa_check.specs.Places.{GivesPlaces, MayBeTaken, PlacesFault}
 use Rattle.kmipa_check.specs.Steps.{StepOf, IsAnswered, IsStep}
 use Rattle.kmipa_check.specs.declared.fault.StepFault.{StepFault}
 use Rattle.kmipa_check.specs.declared.fault.StepFault.TheVariants.{Unfit, Memory}
 use Rattle.kmipa_check.specs.declared.fault.WitnessKind.{WitnessKind}
-use Rattle.kmipa_check.specs.declared.fault.WitnessKind.TheVariants.{UnknownCall, Twice, LeftOut, AnswerNotWanted, AnswerMissing, AnswerForm, OrderNotWanted}
+use Rattle.kmipa_check.specs.declared.fault.WitnessKind.TheVariants.{UnknownCall, Twice, LeftOut, AnswerNotWanted, AnswerMissing, AnswerForm}
 
 -- the turn at this place names this number
 abbrev pub NamesAt : List TurnOf → ℕ → ℤ → Type 0
@@ -54,12 +55,13 @@ pub data IsAnswerFault (c : CallOf) (t : TurnOf) (kind : WitnessKind) : Type 0 w
   formless : (bytes : List ℕ) (item : ℕ) (reason : OutsideKind) → c.response ≡ None → t.answer ≡ Some bytes → AreOutside (λ u. ResponseFault u c.request) bytes item reason
       → kind ≡ AnswerForm → IsAnswerFault c t kind
 
--- The first fault of what the turn gives to a call: that of its answer; or, where there is a response, an order of its items, which for now
--- have their own; or the first fault of its fills.
+-- The first fault of what the turn gives to a call: that of its answer; or, where there is a response, that of its places; or the first
+-- fault of its fills.
 pub data GivenFault (c : CallOf) (t : TurnOf) (kind : WitnessKind) : Type 0 where
   unfit_answer : IsAnswerFault c t kind → GivenFault c t kind
-  ordered : (response : ResponseOf) → IsAnswered c t response → (t.places ≡ [] → ⊥) → kind ≡ OrderNotWanted → GivenFault c t kind
-  unfilled : (response : ResponseOf) → IsAnswered c t response → t.places ≡ [] → FillFault c.request response t.fills kind → GivenFault c t kind
+  unfit_places : (response : ResponseOf) → IsAnswered c t response → PlacesFault c.request response t.places kind → GivenFault c t kind
+  unfilled : (response : ResponseOf) → IsAnswered c t response → (places : Option (List ℕ)) → GivesPlaces t.places places → MayBeTaken c.request response places
+      → FillFault c.request response t.fills kind → GivenFault c t kind
 
 -- what it comes to where the turn makes no step with the call; want of memory tells nothing
 abbrev pub Refuses : CallOf → TurnOf → StepFault → Type 0

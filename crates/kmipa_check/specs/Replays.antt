@@ -5,6 +5,7 @@ use Rattle.kmipa_store.specs.Choices.{IsSound}
 use Rattle.kmipa_record.specs.Declarations.{DeclarationOf}
 use Rattle.kmipa_msgs.specs.Messages.{RulesOf}
 use Rattle.kmipa_batch.specs.Readable.{IsReadableCall}
+use Rattle.kmipa_check.specs.Places.{MayBeTaken}
 use Rattle.kmipa_check.specs.Steps.{StepOf}
 use Rattle.kmipa_check.specs.Runs.{rules_declared}
 use Rattle.kmipa_check.specs.Verdicts.{ArePlaced, AreKnown, IsRefused}
@@ -20,9 +21,9 @@ pub record Replayed (declared : DeclarationOf) (order : List StepOf) (count : �
   pub known : AreKnown declared (take count order) m
   pub sound : IsSound m
 
--- each call can be judged
-abbrev pub AllReadable : List StepOf → Type 0
-AllReadable calls = (c : StepOf) → Contains calls c → IsReadableCall c.request c.response
+-- each call can be judged, and its items may be taken in its order
+abbrev pub AllTakable : List StepOf → Type 0
+AllTakable calls = (c : StepOf) → Contains calls c → IsReadableCall c.request c.response × MayBeTaken c.request c.response c.places
 
 -- what a turn comes to, from a ledger that has replayed the turns before
 abbrev pub TurnTold : DeclarationOf → List StepOf → ℕ → Result (Option Refused) CheckFault → Meaning → Type 0

@@ -5,9 +5,9 @@ use Rattle.kmipa_record.specs.Marks.{MarkOf}
 use Rattle.kmipa_record.specs.Declarations.{DeclarationOf}
 use Rattle.kmipa_record.specs.Witnesses.{TurnOf}
 use Rattle.kmipa_msgs.specs.Messages.{RulesOf, RowOf, default_rules}
-use Rattle.kmipa_batch.specs.Calls.{CallSome}
+use Rattle.kmipa_batch.specs.Calls.{CallSomeAlong}
 use Rattle.kmipa_check.specs.Calls.{CallOf, AreCalls}
-use Rattle.kmipa_check.specs.Steps.{StepOf, IsStep}
+use Rattle.kmipa_check.specs.Steps.{StepOf, order_of, IsStep}
 use Rattle.kmipa_check.specs.Described.{Describes}
 use Rattle.kmipa_check.specs.Orders.{IsOrder}
 
@@ -25,10 +25,10 @@ pub record IsPlaced (steps : List StepOf) : Type 0 where
   pub kept : AllPairs (λ (a b : StepOf). ¬ (Before b a)) steps
   pub stamped : AllPairs (λ (a b : StepOf). a.response.stamp ≤ℤ b.response.stamp) steps
 
--- the steps lead from one inventory to another, one after the other; each response is given, or a completion of it
+-- the steps lead from one inventory to another, one after the other; each response is given in its order, or a completion of it
 abbrev pub Linked : RulesOf → List Thing → List StepOf → List Thing → Type 0
 Linked rules V [] W = W ≡ V
-Linked rules V (s ∷ steps) W = (M : List Thing) × CallSome rules V s.request s.response M × Linked rules M steps W
+Linked rules V (s ∷ steps) W = (M : List Thing) × CallSomeAlong rules V s.request s.response (order_of s) M × Linked rules M steps W
 
 -- some turn makes this step with one of the calls
 abbrev pub IsOfCalls : List CallOf → StepOf → Type 0

@@ -12,10 +12,10 @@ use Rattle.kmipa_ops.specs.declared.why.Why.{Why}
 use Rattle.kmipa_ops.specs.declared.why.Why.TheVariants.{EarlierCallLate, StampRunsBack}
 use Rattle.kmipa_ops.specs.Chains.{ChainSome}
 use Rattle.kmipa_ops.specs.Explains.{Tells}
-use Rattle.kmipa_batch.specs.Calls.{pairs_of, RefusesMessage}
-use Rattle.kmipa_batch.specs.Refusals.{AreShapedFor, SpeaksAt}
+use Rattle.kmipa_batch.specs.Calls.{pairs_of, pairs_taken, RefusesMessage}
+use Rattle.kmipa_batch.specs.Refusals.{AreShapedFor, SpeaksAtAlong}
 use Rattle.kmipa_check.specs.Calls.{CallOf, AreCalls, IsFirstOutside}
-use Rattle.kmipa_check.specs.Steps.{StepOf}
+use Rattle.kmipa_check.specs.Steps.{StepOf, order_of}
 use Rattle.kmipa_check.specs.Described.{Describes}
 use Rattle.kmipa_check.specs.Runs.{Before, Linked, rules_declared, IsAccepted}
 use Rattle.kmipa_check.specs.Orders.{IsOrder, WitnessFaultAt}
@@ -51,11 +51,11 @@ pub record ArePossible (declared : DeclarationOf) (order : List StepOf) (count :
   pub last : List Thing
   pub linked : Linked (rules_declared declared) start (take count order) last
 
--- from an inventory the first items of a call are done, and the shapes that are judged by then are right; or its message is refused
+-- from an inventory the first items of a call are done, in its order, and the shapes that are judged by then are right; or its message is refused
 abbrev pub GoesUpTo : RulesOf → List Thing → StepOf → ℕ → Type 0
 GoesUpTo rules V c count =
     (AreShapedFor c.request c.response count
-    × ((W : List Thing) × (placeholder : Option (List ℕ)) × ChainSome rules c.response.stamp V None (take count (pairs_of c.request c.response)) W placeholder))
+    × ((W : List Thing) × (placeholder : Option (List ℕ)) × ChainSome rules c.response.stamp V None (take count (pairs_taken c.request c.response (order_of c))) W placeholder))
     ⊎ RefusesMessage c.response
 
 -- besides the turns before it, this turn is placed, and its first items are done
@@ -93,7 +93,7 @@ pub record RefusedItem (declared : DeclarationOf) (order : List StepOf) (turn : 
   pub never : ArePossibleUpTo declared order turn c (count + 1) → ⊥
   pub known : Meaning
   pub knows : AreKnown declared (take turn order) known
-  pub speaks : SpeaksAt (rules_declared declared) known c.request c.response count item why
+  pub speaks : SpeaksAtAlong (rules_declared declared) known c.request c.response (order_of c) count item why
 
 -- where the turn is refused: itself, item 0, or at an item, counted from 1
 pub data RefusedAt (declared : DeclarationOf) (order : List StepOf) (turn : ℕ) (c : StepOf) (item : ℕ) (why : Why) : Type 0 where

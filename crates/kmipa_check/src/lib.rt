@@ -11,6 +11,7 @@ mod laws;
 mod numbers;
 mod opening;
 mod order;
+mod places;
 mod plain_laws;
 mod reading;
 mod replay;

@@ -9,7 +9,7 @@ ghost use Rattle.kmipa_check.specs.Ordering.{Decided};
 ghost use Rattle.kmipa_check.specs.Runs.{rules_declared};
 ghost use Rattle.kmipa_check.specs.Steps.{StepOf, step_of};
 ghost use Rattle.kmipa_check.specs.Verdicts.{RunsBack};
-ghost use Rattle.kmipa_check.specs.Replays.{Replayed, TellsRun, TurnTaken, AllReadable};
+ghost use Rattle.kmipa_check.specs.Replays.{AllTakable, Replayed, TellsRun, TurnTaken};
 
 use crate::fault::CheckFault;
 use crate::late::{first_late, is_at};
@@ -29,7 +29,7 @@ pub fn replay<L: Ledger>(
     steps: &[Step],
 ) -> Result<Verdict, CheckFault>
     requires sound { IsSound (L.state ledger.old).now }
-    requires readable { AllReadable (map step_of steps.now) }
+    requires takable { AllTakable (map step_of steps.now) }
     ensures { (declared : DeclarationOf) → rules_of rules.now ≡ rules_declared declared
         → Replayed declared (map step_of steps.now) 0 (L.state ledger.old).now
         → TellsRun declared (map step_of steps.now) result }
@@ -59,7 +59,7 @@ fn take_turn<L: Ledger>(
     requires below { turn < length steps.now }
     requires late { FirstLate (map step_of steps.now) late }
     requires sound { IsSound (L.state ledger.old).now }
-    requires readable { AllReadable (map step_of steps.now) }
+    requires takable { AllTakable (map step_of steps.now) }
     ensures sound { IfOk result (λ refused. IsSound (L.state ledger.new).now) }
     ensures taken { TurnTaken (rules_of rules.now) (map step_of steps.now) turn (L.state ledger.old).now result (L.state ledger.new).now }
 {
@@ -76,7 +76,7 @@ fn take_turn<L: Ledger>(
         rules,
         step.request,
         step.response.response(),
-        None,
+        step.places(),
     ) {
         Ok(()) => Ok(None),
         Err(refusal) => refused_call(turn, step, refusal),

@@ -13,6 +13,24 @@ pub struct Step<'b, 'a> {
     pub end: Option<usize>,
     pub request: &'b Request<'a>,
     pub response: Given<'b, 'a>,
+    /// The places of its items, counted from 1, in the order in which they are taken; `None`: by place.
+    pub places: Option<Vec<usize>>,
+}
+
+impl<'b, 'a> Step<'b, 'a> {
+    ghost use Rattle.std.specs.Prelude.{◌≡◌};
+    ghost use Rattle.kmipa_msgs.specs.Messages.{maybe_lent};
+    ghost use Rattle.kmipa_check.specs.Steps.{step_of};
+
+    /// The places of its items, counted from 1, in the order in which they are taken; `None`: by place.
+    pub fn places(&self) -> Option<&[usize]>
+        ensures { maybe_lent result ≡ (step_of self.now).places }
+    {
+        match &self.places {
+            Some(places) => Some(places.as_slice()),
+            None => None,
+        }
+    }
 }
 
 /// The response that a step is to give.

@@ -13,6 +13,7 @@ use crate::call::Call;
 use crate::fault::{StepFault, WitnessKind};
 use crate::filling::{are_wanted, filled, none_missing};
 use crate::numbers::FirstPlaces;
+use crate::places::places_given;
 use crate::reading::answer_in;
 use crate::step::{Given, Step};
 use kmipa_msgs::Request;
@@ -32,9 +33,10 @@ pub fn step_of_turn<'b, 'a>(
         Ok(given) => given,
         Err(fault) => return Err(fault),
     };
-    if !turn.places.is_empty() {
-        return Err(StepFault::Unfit(WitnessKind::OrderNotWanted));
-    }
+    let places = match places_given(alloc, &call.request, answered.response(), &turn.places) {
+        Ok(places) => places,
+        Err(fault) => return Err(fault),
+    };
     match filled_in(alloc, &call.request, answered, &turn.fills) {
         Ok(response) => Ok(Step {
             number: call.number,
@@ -42,6 +44,7 @@ pub fn step_of_turn<'b, 'a>(
             end: call.end,
             request: &call.request,
             response,
+            places,
         }),
         Err(fault) => Err(fault),
     }

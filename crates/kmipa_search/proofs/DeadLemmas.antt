@@ -6,8 +6,8 @@ use Rattle.kmipa_store.specs.Ledger.{Meaning}
 use Rattle.kmipa_store.specs.Choices.{IsSound}
 use Rattle.kmipa_record.specs.Declarations.{DeclarationOf}
 use Rattle.kmipa_ops.specs.declared.why.Why.{Why}
-use Rattle.kmipa_batch.specs.Refusals.{CallRefuted}
-use Rattle.kmipa_check.specs.Steps.{StepOf}
+use Rattle.kmipa_batch.specs.Refusals.{CallRefutedAlong}
+use Rattle.kmipa_check.specs.Steps.{StepOf, order_of}
 use Rattle.kmipa_check.specs.Runs.{Linked, rules_declared}
 use Rattle.kmipa_check.specs.Laws.{RefusedIsNever}
 use Rattle.kmipa_check.specs.Verdicts.{AreKnown}
@@ -23,7 +23,7 @@ module _ (declared : DeclarationOf) (calls : List StepOf) where
 
   -- a call that the ledger refuses
   pub refused_dead : RefusedIsNever → (taken : List ℕ) (p : ℕ) (n : IsNext calls taken p) (m : Meaning) (item : ℕ) (why : Why) → AreKnown declared (so_far calls taken) m
-      → CallRefuted (rules_declared declared) m n.call.request n.call.response item why → IsDead declared calls (p ∷ taken)
+      → CallRefutedAlong (rules_declared declared) m n.call.request n.call.response (order_of n.call) item why → IsDead declared calls (p ∷ taken)
   refused_dead law taken p n m item why k e start order rest d run is =
       let P : List StepOf → Type 0 = λ o. Linked (rules_declared declared) start o run.last in
       let Q : StepOf → Type 0 = λ c. Linked (rules_declared declared) start (so_far calls taken ++ c ∷ rest) run.last in

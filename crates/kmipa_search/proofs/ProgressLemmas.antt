@@ -8,8 +8,8 @@ use Rattle.kmipa_store.specs.Ledger.{Meaning, LedgerState, gone_back, back_from}
 use Rattle.kmipa_store.specs.Choices.{IsSound}
 use Rattle.kmipa_record.specs.Declarations.{DeclarationOf}
 use Rattle.kmipa_msgs.specs.Messages.{RulesOf}
-use Rattle.kmipa_batch.specs.Refusals.{CallExplains, CallRefuted}
-use Rattle.kmipa_check.specs.Steps.{StepOf}
+use Rattle.kmipa_batch.specs.Refusals.{CallExplainsAlong, CallRefutedAlong}
+use Rattle.kmipa_check.specs.Steps.{StepOf, order_of}
 use Rattle.kmipa_check.specs.Runs.{rules_declared}
 use Rattle.kmipa_search.specs.Next.{IsNext}
 use Rattle.kmipa_search.specs.Progress.{step_at, so_far, ordered, AreBegun, AreSoundBehind, CanBeTaken, Searching, IsNextFrom, Opens, CallTried, ComesTo}
@@ -72,8 +72,8 @@ module _ (rules : RulesOf) (calls : List StepOf) (budget : ℕ) (first : Meaning
           searching = λ declared o.
               let P : List Meaning → Type 0 = λ marks. Searching declared calls (p ∷ taken) 0 (steps + 1) v.now marks in
               let Q : ℕ → Type 0 = λ n. Searching declared calls (p ∷ taken) 0 n v.now (u.now ∷ u.marks) in
-              let R : RulesOf → Type 0 = λ r. CallExplains r u.now c.request c.response v.now in
-              let C : StepOf → Type 0 = λ d. CallExplains (rules_declared declared) u.now d.request d.response v.now in
+              let R : RulesOf → Type 0 = λ r. CallExplainsAlong r u.now c.request c.response (order_of c) v.now in
+              let C : StepOf → Type 0 = λ d. CallExplainsAlong (rules_declared declared) u.now d.request d.response (order_of d) v.now in
               subst P (sym e.2)
               (subst Q (sym (add-one steps))
               (search_taken declared calls taken from steps u.now u.marks (t.searching declared o) p (f o.begun) o.taken v.now (subst C (sym (same o.begun)) (subst R o.rules_are e.0)) e.1));
@@ -96,8 +96,8 @@ module _ (rules : RulesOf) (calls : List StepOf) (budget : ℕ) (first : Meaning
               searching = λ declared o.
                   let Q : ℕ → Type 0 = λ n. Searching declared calls taken (p + 1) n u.now u.marks in
                   let F : ℕ → Type 0 = λ n. Searching declared calls taken n (suc steps) u.now u.marks in
-                  let R : RulesOf → Type 0 = λ r. CallRefuted r u.now c.request c.response e.0.0 e.0.1 in
-                  let C : StepOf → Type 0 = λ d. CallRefuted (rules_declared declared) u.now d.request d.response e.0.0 e.0.1 in
+                  let R : RulesOf → Type 0 = λ r. CallRefutedAlong r u.now c.request c.response (order_of c) e.0.0 e.0.1 in
+                  let C : StepOf → Type 0 = λ d. CallRefutedAlong (rules_declared declared) u.now d.request d.response (order_of d) e.0.0 e.0.1 in
                   subst Q (sym (add-one steps))
                   (subst F (sym (add-one p))
                   (search_refused declared calls taken from steps u.now u.marks (t.searching declared o) p (f o.begun) o.refused e.0.0 e.0.1 (subst C (sym (same o.begun)) (subst R o.rules_are e.0.2))));

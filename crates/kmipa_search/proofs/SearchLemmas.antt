@@ -7,8 +7,8 @@ use Rattle.kmipa_store.specs.Choices.{IsSound}
 use Rattle.kmipa_record.specs.Declarations.{DeclarationOf}
 use Rattle.kmipa_msgs.specs.Messages.{RulesOf}
 use Rattle.kmipa_ops.specs.declared.why.Why.{Why}
-use Rattle.kmipa_batch.specs.Refusals.{CallExplains, CallRefuted}
-use Rattle.kmipa_check.specs.Steps.{StepOf}
+use Rattle.kmipa_batch.specs.Refusals.{CallExplainsAlong, CallRefutedAlong}
+use Rattle.kmipa_check.specs.Steps.{StepOf, order_of}
 use Rattle.kmipa_check.specs.Runs.{rules_declared}
 use Rattle.kmipa_check.specs.Laws.{TakenIsKnown, RefusedIsNever}
 use Rattle.kmipa_check.specs.Verdicts.{AreKnown}
@@ -61,7 +61,7 @@ module _ (declared : DeclarationOf) (calls : List StepOf) (taken : List ℕ) (fr
     step_left budget few enough = omega (arith, enough, s.owed few, owed_split)
 
     -- it is refused
-    pub search_refused : RefusedIsNever → (item : ℕ) (why : Why) → CallRefuted (rules_declared declared) now f.1.call.request f.1.call.response item why
+    pub search_refused : RefusedIsNever → (item : ℕ) (why : Why) → CallRefutedAlong (rules_declared declared) now f.1.call.request f.1.call.response (order_of f.1.call) item why
         → Searching declared calls taken (suc p) (suc steps) now marks
     search_refused law item why e = record {
       knows = s.knows;
@@ -78,7 +78,7 @@ module _ (declared : DeclarationOf) (calls : List StepOf) (taken : List ℕ) (fr
     }
 
     -- it is taken
-    pub search_taken : TakenIsKnown → (m : Meaning) → CallExplains (rules_declared declared) now f.1.call.request f.1.call.response m → IsSound m
+    pub search_taken : TakenIsKnown → (m : Meaning) → CallExplainsAlong (rules_declared declared) now f.1.call.request f.1.call.response (order_of f.1.call) m → IsSound m
         → Searching declared calls (p ∷ taken) 0 (suc steps) m (now ∷ marks)
     search_taken law m e sound = record {
       knows =

@@ -8,8 +8,8 @@ use Rattle.kmipa_msgs.specs.Messages.{RulesOf}
 use Rattle.kmipa_msgs.specs.declared.request.BatchOption.TheVariants.{Stop}
 use Rattle.kmipa_ops.specs.declared.why.Why.{Why}
 use Rattle.kmipa_batch.specs.Readable.{IsReadableCall}
-use Rattle.kmipa_batch.specs.Refusals.{CallExplains, CallRefuted}
-use Rattle.kmipa_check.specs.Steps.{StepOf, step_with}
+use Rattle.kmipa_batch.specs.Refusals.{CallExplainsAlong, CallRefutedAlong}
+use Rattle.kmipa_check.specs.Steps.{StepOf, order_of, step_with}
 use Rattle.kmipa_check.specs.Described.{Describes}
 use Rattle.kmipa_check.specs.Runs.{Before, IsPlaced, Linked, rules_declared}
 use Rattle.kmipa_check.specs.Verdicts.{AreKnown}
@@ -132,8 +132,8 @@ pub record Opens (declared : DeclarationOf) (rules : RulesOf) (calls : List Step
 
 -- what trying a call comes to: taken behind a new mark, whose depth is told; or not, and nothing is changed
 abbrev pub CallTried : RulesOf → LedgerState → StepOf → Result (Option ℕ) CheckFault → LedgerState → Type 0
-CallTried rules s c (Ok (Some depth)) u = CallExplains rules s.now c.request c.response u.now × IsSound u.now × (u.marks ≡ s.now ∷ s.marks) × (depth ≡ length u.marks)
-CallTried rules s c (Ok None) u = ((item : ℕ) × (why : Why) × CallRefuted rules s.now c.request c.response item why) × (u ≡ s)
+CallTried rules s c (Ok (Some depth)) u = CallExplainsAlong rules s.now c.request c.response (order_of c) u.now × IsSound u.now × (u.marks ≡ s.now ∷ s.marks) × (depth ≡ length u.marks)
+CallTried rules s c (Ok None) u = ((item : ℕ) × (why : Why) × CallRefutedAlong rules s.now c.request c.response (order_of c) item why) × (u ≡ s)
 CallTried rules s c (Err Memory) u = Unit {0}
 CallTried rules s c (Err (Outside number side o)) u = ⊥
 CallTried rules s c (Err (Witness f)) u = ⊥

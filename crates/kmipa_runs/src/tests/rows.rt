@@ -3,6 +3,7 @@
 mod ledger;
 mod lifecycle;
 mod locate;
+mod unordered;
 
 use super::runs::{Files, bytes_of};
 use std::alloc::Global;
@@ -44,7 +45,7 @@ fn split<'a>(text: &'a str, mark: char) -> Result<(&'a str, &'a str), Fail> {
 #[test]
 fn rows_give_their_lines(rt: HostRuntime) -> Result<(), Fail> {
     let mut count = 0u32;
-    for table in [lifecycle::ROWS, ledger::ROWS, locate::ROWS] {
+    for table in [lifecycle::ROWS, ledger::ROWS, locate::ROWS, unordered::ROWS] {
         for text in table.split('#').skip(1) {
             let Row { name, files, lines } = row_of(rt.alloc(), text)?;
             let (_, out) = files.check(rt.alloc())?;
@@ -52,6 +53,6 @@ fn rows_give_their_lines(rt: HostRuntime) -> Result<(), Fail> {
             count = count.saturating_add(1);
         }
     }
-    assert_eq!(rt; count, 57);
+    assert_eq!(rt; count, 61);
     Ok(())
 }

@@ -9,10 +9,10 @@ use Rattle.kmipa_check.specs.Calls.{call_of, AreCalls}
 use Rattle.kmipa_check.specs.Orders.{IsOrder}
 use Rattle.kmipa_check.specs.Ordering.{AreFormed, OrderFault}
 use Rattle.kmipa_check.specs.Steps.{step_of}
-use Rattle.kmipa_check.specs.Replays.{AllReadable, TellsRun}
+use Rattle.kmipa_check.specs.Replays.{AllTakable, TellsRun}
 use Rattle.kmipa_check.specs.declared.call.Call.{Call}
 use Rattle.kmipa_check.specs.declared.step.Step.{Step}
-use Rattle.kmipa_check.proofs.CheckLemmas.{calls_numbered, calls_once, steps_readable, order_faults, run_told}
+use Rattle.kmipa_check.proofs.CheckLemmas.{calls_numbered, calls_once, steps_takable, order_faults, run_told}
 use Rattle.kmipa_check.proofs.ReplayLemmas.{replayed_none}
 use Rattle.kmipa_check.proofs.checking.check.Goals as goal
 
@@ -27,15 +27,15 @@ returns-in_err-steps c recorded =
     let Q : List Turn → Type 0 = λ ts. OrderFault (map call_of calls) (map turn_of ts) c.in_err-steps.field-0.0 in
     rw (p.1, p.2) (order_faults marks (declaration_of c.args.declaration.now) (witness_of c.args.witness.now) (map call_of calls) c.in_err-steps.field-0.0 are (subst Q c.deref-2.ensures.value f))
 
-pub replay-requires-clause-readable : goal.replay-requires-clause-readable
-replay-requires-clause-readable c =
+pub replay-requires-clause-takable : goal.replay-requires-clause-takable
+replay-requires-clause-takable c =
     let calls : List Call = c.in_ok-calls.calls.items in
     let turns : List Turn = c.deref-2.result.now in
     let steps : List Step = c.in_ok-steps.steps.items in
     let F : List Call → Type 0 = λ cs. AreFormed (map call_of cs) (map turn_of turns) (length turns) (map step_of steps) in
-    let R : List Step → Type 0 = λ ss. AllReadable (map step_of ss) in
+    let R : List Step → Type 0 = λ ss. AllTakable (map step_of ss) in
     subst R (sym c.deref-3.ensures.value)
-    (steps_readable (transcript_of c.args.transcript.now) (map call_of calls) (map turn_of turns) (length turns) (map step_of steps) c.in_ok-calls.ensures.each
+    (steps_takable (transcript_of c.args.transcript.now) (map call_of calls) (map turn_of turns) (length turns) (map step_of steps) c.in_ok-calls.ensures.each
     (subst F c.deref.ensures.value c.in_ok-steps.ensures.formed))
 
 pub returns : goal.returns

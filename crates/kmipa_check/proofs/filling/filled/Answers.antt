@@ -1,4 +1,4 @@
-use Rattle.std.proofs.Common.{◌≡◌, ◌<◌, ◌∙◌, ℤ, pos, ◌≤ℤ◌, Some, slice_get, length, map, vec_len, refl, sym, subst, rules, arith}
+use Rattle.std.proofs.Common.{◌≡◌, ◌<◌, ℤ, pos, ◌≤ℤ◌, Some, length, map, vec_len, refl, sym, subst, rules, arith}
 use mir.Val.{SFits}
 use mir.Syntax.{w32}
 use Rattle.std.proofs.lemmas.Int.{to_z-of_z}
@@ -8,7 +8,7 @@ use Rattle.kmipa_msgs.specs.Messages.{ask_of, answer_of, payload_of, request_of,
 use Rattle.kmipa_msgs.specs.declared.response.Answer.{Answer}
 use Rattle.kmipa_record.specs.Witnesses.{fill_of}
 use Rattle.kmipa_check.proofs.PlaceLemmas.{mapped_at, some_at}
-use Rattle.kmipa_check.proofs.FillingLemmas.{filled_up_to_none, filled_up_to_more, filled_up_to_all, form_fault, fill_for, wanted_from_one, wanted_place, wanted_within}
+use Rattle.kmipa_check.proofs.FillingLemmas.{filled_up_to_more, filled_up_to_all, form_fault, fill_for, wanted_from_one, wanted_place, wanted_within}
 use Rattle.kmipa_check.proofs.filling.filled.Goals as goal
 
 pub place_of-place-requires : goal.place_of-place-requires

@@ -1,4 +1,4 @@
-use Rattle.std.proofs.Common.{◌∙◌, ◌+◌, ℤ, List, map, OkIff, unsigned_abs, refl, sym, subst, arith, ap, rules}
+use Rattle.std.proofs.Common.{◌∙◌, ◌+◌, ℤ, List, map, OkIff, unsigned_abs, sym, subst, arith, ap, rules}
 use mir.Val.{SFits}
 use mir.Syntax.{w32}
 use Rattle.std.proofs.lemmas.Int.{to_z-of_z}

@@ -1,0 +1,18 @@
+use Rattle.std.proofs.Common.{◌≡◌, ◌≢◌, ◌↔◌, IsTrue, MatchOption, List, [], Option, ℕ, refl, subst, rules}
+use Rattle.std.specs.Prelude.{Vec}
+use Rattle.std.specs.declared.alloc.Global.{Global}
+use Rattle.kmipa_msgs.specs.Messages.{request_of, response_of}
+use Rattle.kmipa_batch.specs.Orders.{AreTakingOrder}
+use Rattle.kmipa_check.specs.Places.{place_numbers}
+use Rattle.kmipa_check.proofs.PlacesLemmas.{no_order}
+use Rattle.kmipa_check.proofs.places.places_given.Goals as goal
+
+pub returns-then-not-branch : goal.returns-then-not-branch
+returns-then-not-branch c =
+    let request = request_of c.args.request.now in
+    let response = response_of c.args.response.now in
+    let some : c.args.numbers.now ≢ [] = search rules in
+    let M : Option (Vec ℕ Global) → Type 0 = λ o. MatchOption o ((places : List ℕ) → c.args.numbers.now ≡ place_numbers places → ⊥) (λ places. c.args.numbers.now ≡ place_numbers places.items) in
+    let N : List ℕ → Type 0 = λ places. IsTrue c.in_ok-is_taking_order.field-0 ↔ AreTakingOrder request response places in
+    no_order request response c.args.numbers.now c.in-Some.order.items c.in_ok-is_taking_order.field-0 some (c.if-not-wants_order.ensures.0 refl) (subst M c.in-Some.is c.in_ok-places.ensures)
+    (subst N c.deref.ensures.value c.in_ok-is_taking_order.ensures) c.if-not-branch.true
