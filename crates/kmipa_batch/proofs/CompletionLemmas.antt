@@ -9,7 +9,7 @@ use Rattle.kmipa_msgs.specs.declared.request.BatchOption.{BatchOption}
 use Rattle.kmipa_msgs.specs.declared.response.Status.{Status}
 use Rattle.kmipa_msgs.specs.declared.response.Status.TheVariants.{Success, Failed, Undone}
 use Rattle.kmipa_msgs.specs.Messages.{RulesOf, AskedOf, AskOf, RequestOf, PayloadOf, AnswerOf, ResponseOf}
-use Rattle.kmipa_ops.specs.Completes.{Fills, CompletesAnswer, DoesSome}
+use Rattle.kmipa_ops.specs.Completes.{Fills, CompletesAnswer}
 use Rattle.kmipa_ops.specs.Does.{Outcome}
 use Rattle.kmipa_ops.specs.Chains.{Chain, ChainSome}
 use Rattle.kmipa_batch.specs.Shapes.{IsShaped}

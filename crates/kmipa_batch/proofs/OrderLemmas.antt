@@ -1,5 +1,5 @@
 -- What stands along an order of places, and the order by place.
-use Rattle.std.proofs.Common.{◌≡◌, ◌≢◌, ◌≤◌, ◌<◌, ◌⊎◌, inl, inr, ℕ, zero, suc, ◌+◌, ◌-◌, List, [], ◌∷◌, ◌++◌, length, take, Option, Some, None, IfSome, option_map, slice_get, get_or, refl, sym, ap, ◌∙◌, subst, arith, add-one}
+use Rattle.std.proofs.Common.{◌≡◌, ◌≢◌, ◌≤◌, ◌<◌, inl, inr, ℕ, zero, suc, ◌+◌, ◌-◌, List, [], ◌∷◌, ◌++◌, length, take, Option, Some, None, IfSome, option_map, slice_get, get_or, refl, sym, ap, ◌∙◌, subst, arith, add-one}
 use Rattle.std.specs.List.{zip}
 use Rattle.std.proofs.lemmas.List.{length-map}
 use Rattle.std.proofs.lemmas.Option.{slice_get-map, slice_get-get_or, slice_get_within}
@@ -7,7 +7,7 @@ use Rattle.kmipa_object.proofs.ListLemmas.{below_get}
 use Rattle.kmipa_msgs.specs.declared.request.BatchOption.TheVariants.{Continue}
 use Rattle.kmipa_msgs.specs.Messages.{AskOf, RequestOf, AnswerOf, ResponseOf}
 use Rattle.kmipa_batch.specs.Shapes.{IsFirstFailed, AnswerShape, HasShape, IsShapedAt, IsShaped}
-use Rattle.kmipa_batch.specs.Orders.{one_of, along, places_from, order_given, IsTakingOrder}
+use Rattle.kmipa_batch.specs.Orders.{one_of, along, places_from, order_given}
 use Rattle.kmipa_batch.specs.Calls.{pairs_of}
 use Rattle.kmipa_batch.specs.Composing.{ByPlaceIsAll, ByPlaceIsAnOrder}
 use Rattle.kmipa_batch.specs.Running.{places_of, TakesCount}

@@ -9,12 +9,15 @@ use Rattle.kmipa_ops.specs.declared.why.Why.{Why}
 use Rattle.kmipa_ops.specs.declared.why.Why.TheVariants.{BatchShape}
 use Rattle.kmipa_ops.specs.declared.why.Refusal.{Refusal}
 use Rattle.kmipa_ops.specs.declared.why.Refusal.TheVariants as item
+use Rattle.kmipa_ops.specs.Alike.{StandAlike}
+use Rattle.kmipa_ops.specs.Blame.{lowest}
 use Rattle.kmipa_ops.specs.Explains.{Explains, Taken}
+use Rattle.kmipa_ops.proofs.AlikeLemmas.{alike_speak_alike, alike_go_alike}
 use Rattle.kmipa_ops.proofs.ExplainLemmas.{explains_none, explains_more}
 use Rattle.kmipa_batch.specs.Shapes.{IsShapedBelow, IsShaped, IsFirstUnshaped}
 use Rattle.kmipa_batch.specs.Orders.{is_unordered, IsTakingOrder, one_of, along, place_at, places_from, order_given}
 use Rattle.kmipa_batch.specs.Calls.{pairs_of, pairs_taken, RefusesMessage, MayTake}
-use Rattle.kmipa_batch.specs.Composing.{CanChain, OneItemIsTold}
+use Rattle.kmipa_batch.specs.Composing.{CanChain, OneItemIsTold, OneReasonIsTold}
 use Rattle.kmipa_batch.specs.Refusals.SpeaksAtAlong.{in_shape, in_item}
 use Rattle.kmipa_batch.specs.Refusals.{IsJudgedBy, AreShapedFor, IsPossibleUpToAlong, CallRefutedAlong}
 use Rattle.kmipa_batch.specs.declared.refusal.CallRefusal.{CallRefusal}
@@ -187,7 +190,7 @@ module _ (rules : RulesOf) (s : LedgerState) (request : RequestOf) (response : R
             refused_cannot rules t s.now None front n before taken r.ask r.answer why r.refuted
             (subst Q last (record { choice = p.choice; chooses = p.chooses; things = p.things; placeholder = p.placeholder; chain = p.chain }));
         unrefused = unrefused;
-        speaks = in_item place refl shaped next.at n before r.ask r.answer taken r.there r.refuted;
+        speaks = in_item place refl shaped next.at n before r.ask r.answer taken sound r.there r.refuted;
       }
 
   -- an item was refused, where all shapes that are judged by then are right
@@ -265,11 +268,37 @@ first_once request response place other a b = elim (less_or_not place other) [
 ]
 
 pub one_item_is_told : OneItemIsTold
-one_item_is_told rules m n request response order count item other why because (in_shape p told judged first is) (in_shape q said tested lowest same) =
-    told ∙ ap (λ k. k + 1) (first_once request response p q first lowest) ∙ sym said
-one_item_is_told rules m n request response order count item other why because (in_shape p told judged first is) (in_item q said shaped at k b x a e there r) = absurd (first.1 (shaped p judged))
-one_item_is_told rules m n request response order count item other why because (in_item p told shaped at k b x a e there r) (in_shape q said judged first is) = absurd (first.1 (shaped q judged))
-one_item_is_told rules m n request response order count item other why because (in_item p told shaped at k b x a e there r) (in_item q said formed stands l c y d f here z) =
+one_item_is_told rules m n request response order count item other why because (in_shape p told judged first is) (in_shape q said tested least same) =
+    told ∙ ap (λ k. k + 1) (first_once request response p q first least) ∙ sym said
+one_item_is_told rules m n request response order count item other why because (in_shape p told judged first is) (in_item q said shaped at k b x a e kept there r) = absurd (first.1 (shaped p judged))
+one_item_is_told rules m n request response order count item other why because (in_item p told shaped at k b x a e kept there r) (in_shape q said judged first is) = absurd (first.1 (shaped q judged))
+one_item_is_told rules m n request response order count item other why because (in_item p told shaped at k b x a e kept there r) (in_item q said formed stands l c y d f still here z) =
     let two : Some p ≡ Some q = sym at ∙ stands in
     let one : p ≡ q = cc in
     told ∙ ap (λ k. k + 1) one ∙ sym said
+
+same_pair : (p q : AskOf × AnswerOf) → Some p ≡ Some q → (p.0 ≡ q.0) × (p.1 ≡ q.1)
+same_pair p q e = (ap (λ o. (of o).0) e, ap (λ o. (of o).1) e)
+  where
+    of : Option (AskOf × AnswerOf) → AskOf × AnswerOf
+    of None = p
+    of (Some x) = x
+
+-- and over ledgers that stand for the same inventories one reason
+item_told : (rules : RulesOf) (t : ℤ) (k l : Meaning) (b c : Option (List ℕ)) (x y : AskOf) (a d : AnswerOf) (why because : Why)
+    → IsSound k → IsSound l → StandAlike k l → b ≡ c → x ≡ y → a ≡ d → lowest rules k b t x a ≡ Some why → lowest rules l c t y d ≡ Some because → why ≡ because
+item_told rules t k l b c x y a d why because kept still alike same one two e f =
+    let g : lowest rules k b t x a ≡ lowest rules l c t y d = (λ i. lowest rules k (same i) t (one i) (two i)) ∙ (alike_speak_alike rules k l c t y d kept still alike).1 in
+    let h : Some why ≡ Some because = sym e ∙ g ∙ f in
+    cc
+
+pub one_reason_is_told : OneReasonIsTold
+one_reason_is_told rules m n request response order count item other why because alike (in_shape p told judged first is) (in_shape q said tested least same) = is ∙ sym same
+one_reason_is_told rules m n request response order count item other why because alike (in_shape p told judged first is) (in_item q said shaped at k b x a e kept there r) = absurd (first.1 (shaped p judged))
+one_reason_is_told rules m n request response order count item other why because alike (in_item p told shaped at k b x a e kept there r) (in_shape q said judged first is) = absurd (first.1 (shaped q judged))
+one_reason_is_told rules m n request response order count item other why because alike (in_item p told shaped at k b x a e kept there r) (in_item q said formed stands l c y d f still here z) =
+    let two : Some p ≡ Some q = sym at ∙ stands in
+    let one : p ≡ q = cc in
+    let pair = same_pair (x, a) (y, d) (sym there ∙ ap (slice_get (pairs_of request response)) one ∙ here) in
+    let go = alike_go_alike rules response.stamp m n None (take count (pairs_taken request response order)) k l b c alike kept e f in
+    item_told rules response.stamp k l b c x y a d why because kept still go.0 go.1 pair.0 pair.1 r.named z.named

@@ -1,16 +1,15 @@
 -- An order that is handed in is looked at place by place.
-use Rattle.std.proofs.Common.{◌≡◌, ◌≢◌, ◌≤◌, ◌<◌, ◌⊎◌, inl, inr, ℕ, zero, suc, ◌+◌, ◌-◌, Bool, true, false, IsTrue, List, [], ◌∷◌, ◌++◌, length, map, take, Option, Some, None, option_map, slice_get, slice_set, replicate, get_or, refl, sym, ap, ◌∙◌, subst, arith, add-one}
-use Rattle.std.specs.Prelude.{All, nat_eq}
+use Rattle.std.proofs.Common.{◌≡◌, ◌≢◌, ◌≤◌, ◌<◌, ◌⊎◌, inl, inr, ℕ, zero, suc, ◌+◌, ◌-◌, Bool, true, false, List, [], ◌∷◌, ◌++◌, length, map, take, Option, Some, None, option_map, slice_get, slice_set, replicate, get_or, refl, sym, ap, ◌∙◌, subst, arith, add-one}
+use Rattle.std.specs.Prelude.{nat_eq}
 use Rattle.std.proofs.lemmas.Bool.Decides.{nat_tests}
 use Rattle.std.proofs.lemmas.List.{length-map, take_all}
 use Rattle.std.proofs.lemmas.Option.{slice_get-map, slice_get-get_or, slice_get_within, get_or_from_slice_get}
 use Rattle.kmipa_object.proofs.ListLemmas.{below_get, get-append_last}
-use Rattle.kmipa_msgs.specs.declared.request.BatchOption.{BatchOption}
 use Rattle.kmipa_msgs.specs.declared.request.BatchOption.TheVariants.{Continue}
-use Rattle.kmipa_msgs.specs.Messages.{RequestOf, AnswerOf, ResponseOf}
+use Rattle.kmipa_msgs.specs.Messages.{RequestOf, ResponseOf}
 use Rattle.kmipa_batch.specs.Shapes.{IsFirstFailed}
 use Rattle.kmipa_batch.specs.Fits.{FailedAt}
-use Rattle.kmipa_batch.specs.Orders.{IsTakingOrder, AreTakingOrder}
+use Rattle.kmipa_batch.specs.Orders.{AreTakingOrder}
 use Rattle.kmipa_batch.specs.Standing.{StandOnce, Sees, EndsAt}
 use Rattle.kmipa_batch.proofs.ShapeLemmas.{less_or_not, none_first, same_first}
 use Rattle.kmipa_batch.proofs.OrderLemmas.{take_next}

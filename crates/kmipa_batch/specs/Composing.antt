@@ -5,6 +5,7 @@ use Rattle.kmipa_store.specs.Ledger.{Meaning}
 use Rattle.kmipa_store.specs.Choices.{Choice, Chooses, inv, IsSound}
 use Rattle.kmipa_msgs.specs.Messages.{RulesOf, AskOf, RequestOf, AnswerOf, ResponseOf}
 use Rattle.kmipa_ops.specs.declared.why.Why.{Why}
+use Rattle.kmipa_ops.specs.Alike.{StandAlike}
 use Rattle.kmipa_ops.specs.Chains.{ChainSome}
 use Rattle.kmipa_ops.specs.Explains.{Explains, Refuted}
 use Rattle.kmipa_batch.specs.Shapes.{IsShaped}
@@ -49,3 +50,9 @@ abbrev pub OneItemIsTold : Type 0
 OneItemIsTold =
     (rules : RulesOf) (m n : Meaning) (request : RequestOf) (response : ResponseOf) (order : Option (List ℕ)) (count item other : ℕ) (why because : Why)
     → SpeaksAtAlong rules m request response order count item why → SpeaksAtAlong rules n request response order count other because → item ≡ other
+
+-- and where two ledgers stand for the same inventories, however they number their secrets, it is told with one reason
+abbrev pub OneReasonIsTold : Type 0
+OneReasonIsTold =
+    (rules : RulesOf) (m n : Meaning) (request : RequestOf) (response : ResponseOf) (order : Option (List ℕ)) (count item other : ℕ) (why because : Why)
+    → StandAlike m n → SpeaksAtAlong rules m request response order count item why → SpeaksAtAlong rules n request response order count other because → why ≡ because

@@ -55,7 +55,7 @@ pub data SpeaksAtAlong (rules : RulesOf) (m : Meaning) (request : RequestOf) (re
       → SpeaksAtAlong rules m request response order count item why
   in_item : (place : ℕ) → item ≡ place + 1 → AreShapedFor request response (count + 1) → place_at order count ≡ Some place
       → (between : Meaning) (placeholder : Option (List ℕ)) (ask : AskOf) (answer : AnswerOf)
-      → Explains rules response.stamp m None (take count (pairs_taken request response order)) between placeholder
+      → Explains rules response.stamp m None (take count (pairs_taken request response order)) between placeholder → IsSound between
       → slice_get (pairs_of request response) place ≡ Some (ask, answer) → Refuted rules between placeholder response.stamp ask answer why
       → SpeaksAtAlong rules m request response order count item why
 

@@ -1,6 +1,6 @@
 //! What the definitions say together: of any list of pairs of an item and its answer, and of the orders of a call.
 
-ghost use Rattle.kmipa_batch.specs.Composing.{ByPlaceIsAll, ByPlaceIsAnOrder, ChainsCompose, OneItemIsTold, RefusalsAreExact};
+ghost use Rattle.kmipa_batch.specs.Composing.{ByPlaceIsAll, ByPlaceIsAnOrder, ChainsCompose, OneItemIsTold, OneReasonIsTold, RefusalsAreExact};
 
 /// A ledger that was led along some pairs, and then along others, was led along both together.
 pub fn chains_compose()
@@ -25,4 +25,9 @@ pub fn by_place_is_an_order()
 /// Behind so many items of an order only one item of the call is told.
 pub fn one_item_is_told()
     ensures { OneItemIsTold }
+{}
+
+/// Over ledgers that stand for the same inventories it is told with one reason.
+pub fn one_reason_is_told()
+    ensures { OneReasonIsTold }
 {}

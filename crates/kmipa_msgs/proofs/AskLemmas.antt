@@ -1,9 +1,9 @@
 -- The items of requests are read.
-use Rattle.std.proofs.Common.{◌≡◌, ◌<◌, ℕ, Bool, true, false, not, ◌&&◌, cond, List, Option, Some, None, Result, Ok, Err, refl, ap, ◌∙◌, inl, inr, ◌⊎◌, arith}
+use Rattle.std.proofs.Common.{◌≡◌, ◌<◌, ℕ, Bool, true, false, not, ◌&&◌, cond, List, Option, None, Result, Ok, Err, refl, ap, ◌∙◌, inl, inr, ◌⊎◌, arith}
 use Rattle.kmipa_ttlv.specs.Tree.{Tree, Trees}
-use Rattle.kmipa_attrs.specs.Fields.{first, at, inside, or_none, value_in, as_structure, as_enumeration, as_bytes}
-use Rattle.kmipa_attrs.specs.Readings.{Reads, IsWrong, NeededFault, both, map_ok, and_then, kept_if, passing}
-use Rattle.kmipa_attrs.specs.Tags.{operation_tag, request_payload, unique_batch_item_id}
+use Rattle.kmipa_attrs.specs.Fields.{first, at, inside, or_none, as_structure, as_enumeration}
+use Rattle.kmipa_attrs.specs.Readings.{Reads, IsWrong, NeededFault, needed, both, map_ok, and_then, kept_if, passing}
+use Rattle.kmipa_attrs.specs.Tags.{operation_tag, request_payload}
 use Rattle.kmipa_attrs.specs.declared.fields.Field.{Field}
 use Rattle.kmipa_attrs.specs.declared.fields.Field.TheVariants.{Absent, Wrong, There}
 use Rattle.kmipa_attrs.proofs.ReadingLemmas.{reads_both, reads_as, reads_then}
@@ -14,11 +14,11 @@ use Rattle.kmipa_msgs.specs.declared.operation.Operation.{Operation}
 use Rattle.kmipa_msgs.specs.Kinds.{kind_number}
 use Rattle.kmipa_msgs.specs.Operations.{operation_of, is_judged}
 use Rattle.kmipa_msgs.specs.Messages.{AskedOf, AskOf}
-use Rattle.kmipa_msgs.specs.Tables.{unless_wrong, children, Listed, Unlisted}
-use Rattle.kmipa_msgs.specs.Asks.{SaysAsked, AskedFault, SaysAsk, AskFault, asked_in, form_in, payload_asked, operation_in, ask_at, ask_in, means_placeholder, ItemFault, may_stand, item_in}
-use Rattle.kmipa_msgs.specs.Asks.AskFault.{in_operation, in_unread, in_payload, in_asked}
+use Rattle.kmipa_msgs.specs.Tables.{unless_wrong, children}
+use Rattle.kmipa_msgs.specs.Asks.{TellsOperation, SaysAsked, AskedFault, SaysAsk, AskFault, asked_in, form_in, payload_asked, operation_in, ask_at, ask_in, means_placeholder, ItemFault, may_stand, item_in}
+use Rattle.kmipa_msgs.specs.Asks.AskFault.{in_operation, in_payload, in_asked}
 use Rattle.kmipa_msgs.specs.Asks.ItemFault.{in_ask, in_order}
-use Rattle.kmipa_msgs.proofs.TableLemmas.{same_kind, reads_listed, apart_needed, apart_unlisted}
+use Rattle.kmipa_msgs.proofs.TableLemmas.{same_kind}
 use Rattle.kmipa_msgs.proofs.RowLemmas.{is_row}
 
 reads_form : {A : Type 0} (b : Bool) (f : Field A) (k : OutsideKind) → Reads kind_number (λ (u : Unit {0}). Unit {0}) (λ j. (b ≡ true) × (j ≡ k) × IsWrong f) (cond b (unless_wrong f k) (Ok tt))
@@ -36,28 +36,36 @@ reads_payload_asked operation ts =
     (λ y s. s.1) (λ y t. ((tt, y), (tt, t), refl)) (λ k w. w) (λ k w. w)
     (reads_both kind_number _ _ _ _ _ _ (reads_form (is_judged operation) (at as_structure request_payload ts) Missing) ((is_row operation).reads_asked (inside request_payload ts)))
 
+reads_operation : (f : Field ℕ) → Reads kind_number (TellsOperation f) (NeededFault f Missing Missing) (map_ok operation_of (needed f Missing Missing))
+reads_operation Absent = record { here = refl; least = λ j lt h. same_kind j Missing lt h }
+reads_operation Wrong = record { here = refl; least = λ j lt h. same_kind j Missing lt h }
+reads_operation (There n) = record { said = refl; only = λ y h. h; right = λ j h. h }
+
+apart_operation : (f : Field ℕ) (operation : Operation) (k : OutsideKind) → NeededFault f Missing Missing k → TellsOperation f operation → ⊥
+apart_operation Absent operation k w s = s
+apart_operation Wrong operation k w s = s
+apart_operation (There n) operation k w s = w
+
 pub reads_ask : (t : Tree) → Reads kind_number (SaysAsk t) (AskFault t) (ask_in t)
 unfolding ask_in
 reads_ask t =
     let ts = children t in
     let field = at as_enumeration operation_tag ts in
-    let off = OutsideKind.TheVariants.Operation in
     reads_as kind_number _ _ (SaysAsk t) (AskFault t) (ask_at ts) (and_then (λ operation. payload_asked operation ts) (operation_in ts))
     (λ a s. record { operation = s.0; is = s.1.0; asked = s.1.1; batch_id = refl })
     (λ y s. (y.asked, (s.operation, (s.is, s.asked)), ap (λ (b : Option (List ℕ)). item b y.asked) s.batch_id))
     (λ k w. elim w [
-      | inl a ↦ elim a [ inl b ↦ in_operation b | inr b ↦ in_unread b.0 b.1 ]
+      | inl a ↦ in_operation a
       | inr b ↦ elim b.1.1 [ inl c ↦ in_payload b.0 b.1.0 c.0 c.1 c.2 | inr c ↦ in_asked b.0 b.1.0 c ]
     ])
     (λ k w. elim w [
-      | in_operation a ↦ inl (inl a)
-      | in_unread e a ↦ inl (inr (e, a))
+      | in_operation a ↦ inl a
       | in_payload o l j e a ↦ inr (o, (l, inl (j, e, a)))
       | in_asked o l a ↦ inr (o, (l, inr a))
     ])
-    (reads_then kind_number (Listed field operation_of) (λ k. NeededFault field Missing Missing k ⊎ ((k ≡ off) × Unlisted field operation_of)) (λ operation. SaysAsked operation (inside request_payload ts)) (λ operation. PayloadFault operation ts)
-    (λ operation. payload_asked operation ts) (operation_in ts) (reads_listed field operation_of Missing off) (λ operation. reads_payload_asked operation ts)
-    (λ k x w s. elim w [ inl a ↦ apart_needed field s.number Missing Missing k a s.is | inr b ↦ apart_unlisted field operation_of x b.1 s ]))
+    (reads_then kind_number (TellsOperation field) (λ k. NeededFault field Missing Missing k) (λ operation. SaysAsked operation (inside request_payload ts)) (λ operation. PayloadFault operation ts)
+    (λ operation. payload_asked operation ts) (operation_in ts) (reads_operation field) (λ operation. reads_payload_asked operation ts)
+    (λ k x w s. apart_operation field x k w s))
   where
     item : Option (List ℕ) → AskedOf → AskOf
     item b a = record { batch_id = b; asked = a }

@@ -1,9 +1,8 @@
 -- Requests are read.
-use Rattle.std.proofs.Common.{◌≡◌, ◌<◌, ◌≤◌, ℕ, Bool, true, false, nat_lt, List, length, Option, Some, None, Result, Ok, Err, refl, sym, ap, ◌∙◌, inl, inr, ◌⊎◌, arith, ltb-true}
-use Rattle.std.proofs.lemmas.Bool.{ltb-false}
+use Rattle.std.proofs.Common.{◌≡◌, ℕ, Bool, true, false, List, length, Option, Some, None, Result, Ok, Err, refl, sym, ap, ◌∙◌, inl, inr, ◌⊎◌}
 use Rattle.kmipa_ttlv.specs.Tree.{Tree, Trees}
 use Rattle.kmipa_attrs.specs.Fields.{every, at, inside, as_enumeration, as_boolean}
-use Rattle.kmipa_attrs.specs.Readings.{Reads, IsWrong, both, kept_if, map_ok}
+use Rattle.kmipa_attrs.specs.Readings.{Reads, IsWrong, both, map_ok}
 use Rattle.kmipa_attrs.specs.Tags.{batch_error_continuation_option, batch_item, batch_order_option, request_header_tag, request_message}
 use Rattle.kmipa_attrs.specs.declared.fields.Field.{Field}
 use Rattle.kmipa_attrs.specs.declared.fields.Field.TheVariants.{Absent, Wrong, There}

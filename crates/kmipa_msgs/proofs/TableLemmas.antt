@@ -126,13 +126,6 @@ apart_needed Absent x absent wrong k h e = cc
 apart_needed Wrong x absent wrong k h e = cc
 apart_needed (There y) x absent wrong k h e = h
 
-pub apart_unlisted : {A : Type 0} (f : Field ℕ) (table : ℕ → Option A) (x : A) → Unlisted f table → Listed f table x → ⊥
-apart_unlisted f table x u s =
-    let same : There u.number ≡ There s.number = sym u.is ∙ s.is in
-    let m : u.number ≡ s.number = cc in
-    let h : None ≡ Some x = sym u.unlisted ∙ ap table m ∙ s.listed in
-    cc
-
 -- a field that may be absent
 pub reads_unless_wrong : {A : Type 0} (f : Field A) (k : OutsideKind) → Reads kind_number (λ (u : Unit {0}). Unit {0}) (λ j. (j ≡ k) × IsWrong f) (unless_wrong f k)
 reads_unless_wrong Absent k = record { said = tt; only = λ y h. refl; right = λ j h. h.1 }

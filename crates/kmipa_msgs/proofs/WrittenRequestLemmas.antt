@@ -16,7 +16,7 @@ use Rattle.kmipa_msgs.specs.Messages.{AskedOf, idles, does_other, AskOf, operati
 use Rattle.kmipa_msgs.specs.Tables.{children}
 use Rattle.kmipa_msgs.specs.Headers.{is_message, is_version, batch}
 use Rattle.kmipa_msgs.specs.Outside.{SaysEach}
-use Rattle.kmipa_msgs.specs.Asks.{SaysAsked, SaysAsk}
+use Rattle.kmipa_msgs.specs.Asks.{TellsOperation, SaysAsked, SaysAsk}
 use Rattle.kmipa_msgs.specs.Requests.{SaysOption, SaysOrder, SaysHeader, header_of, request_header, SaysRequest}
 use Rattle.kmipa_msgs.specs.WrittenFields.{in_order, field}
 use Rattle.kmipa_msgs.specs.Written.{told_option, told_order, written_asked, ask_fields, written_ask, request_header_fields, written_request}
@@ -29,10 +29,10 @@ use Rattle.kmipa_msgs.proofs.WrittenMessageLemmas.{each_length, each_written, ev
 -- ITEMS
 
 -- an operation that is written has a number by which it is read
-pub operation_listed : (a : AskedOf) → IsWritableAsked a → operation_of (operation_number (operation_asked a)) ≡ Some (operation_asked a)
-operation_listed (idles n) w = absurd w
-operation_listed (does_other n) w = absurd w
-operation_listed _ w = refl
+pub operation_again : (a : AskedOf) → IsWritableAsked a → operation_asked a ≡ operation_of (operation_number (operation_asked a))
+operation_again (idles n) w = absurd w
+operation_again (does_other n) w = absurd w
+operation_again _ w = refl
 
 asked_again : (operation : Operation) (ts : Trees) (a : AskedOf) → IsWritableAsked a → SaysAsked operation ts a → SaysAsked (operation_asked a) (in_order (asked_fields a)) a
 asked_again operation ts a w s =
@@ -49,11 +49,8 @@ ask_written t a w h =
     let number = operation_number (operation_asked a.asked) in
     record {
       operation = operation_asked a.asked;
-      is = record {
-        number = number;
-        is = required_written as_enumeration operation_tag (ask_fields a) (scalar operation_tag (Tree.enumeration number)) number refl refl;
-        listed = operation_listed a.asked w;
-      };
+      is = subst (λ (f : Field ℕ). TellsOperation f (operation_asked a.asked))
+          (sym (required_written as_enumeration operation_tag (ask_fields a) (scalar operation_tag (Tree.enumeration number)) number refl refl)) (operation_again a.asked w);
       asked = subst (λ (ts : Trees). SaysAsked (operation_asked a.asked) ts a.asked) (sym (payload_inside a)) (asked_again h.operation (inside request_payload (children t)) a.asked w h.asked);
       batch_id = value_written (at as_bytes unique_batch_item_id (in_order (ask_fields a))) a.batch_id
           (optional_written as_bytes Tree.byte_string unique_batch_item_id a.batch_id (ask_fields a) (Some (written_asked a.asked) ∷ []) refl refl (λ x. refl) refl);

@@ -1,20 +1,19 @@
 -- The items of a request: Operation, Unique Batch Item ID?, Request Payload (KMIP 2.1, section 9).
-use Rattle.std.specs.Prelude.{◌≡◌, Bool, true, false, not, ◌&&◌, cond, is_none, Result, Ok, Err}
+use Rattle.std.specs.Prelude.{◌≡◌, ℕ, Bool, true, false, not, ◌&&◌, cond, is_none, Result, Ok}
 use Rattle.kmipa_ttlv.specs.Tree.{Tree, Trees}
 use Rattle.kmipa_attrs.specs.Fields.{at, inside, value_in, as_structure, as_enumeration, as_bytes}
-use Rattle.kmipa_attrs.specs.Readings.{NeededFault, IsWrong, both, map_ok, and_then, passing}
+use Rattle.kmipa_attrs.specs.Readings.{NeededFault, IsWrong, needed, both, map_ok, and_then, passing}
 use Rattle.kmipa_attrs.specs.Tags.{operation_tag, request_payload, unique_batch_item_id}
 use Rattle.kmipa_attrs.specs.declared.fields.Field.{Field}
 use Rattle.kmipa_attrs.specs.declared.fields.Field.TheVariants.{Absent, Wrong, There}
 use Rattle.kmipa_msgs.specs.declared.kind.OutsideKind.{OutsideKind}
-use Rattle.kmipa_msgs.specs.declared.kind.OutsideKind
 use Rattle.kmipa_msgs.specs.declared.kind.OutsideKind.TheVariants.{Missing, Unordered}
 use Rattle.kmipa_msgs.specs.declared.operation.Operation.{Operation}
 use Rattle.kmipa_msgs.specs.Kinds.{kind_number}
 use Rattle.kmipa_msgs.specs.Operations.{operation_of, is_judged}
 use Rattle.kmipa_msgs.specs.Messages.{AskedOf, gets, gets_attributes, activates, revokes, destroys, AskOf}
 use Rattle.kmipa_msgs.specs.Rows.{row_of}
-use Rattle.kmipa_msgs.specs.Tables.{children, Listed, Unlisted, listed, unless_wrong}
+use Rattle.kmipa_msgs.specs.Tables.{children, unless_wrong}
 
 -- the children of a Request Payload say what the operation asks for, as its row has it
 abbrev pub SaysAsked : Operation → Trees → AskedOf → Type 0
@@ -23,20 +22,25 @@ SaysAsked operation ts a = (row_of operation).SaysAsked ts a
 abbrev pub AskedFault : Operation → Trees → OutsideKind → Type 0
 AskedFault operation ts k = (row_of operation).AskedFault ts k
 
+-- the field is there, and its number is that of the operation
+abbrev pub TellsOperation : Field ℕ → Operation → Type 0
+TellsOperation Absent operation = ⊥
+TellsOperation Wrong operation = ⊥
+TellsOperation (There number) operation = operation ≡ operation_of number
+
 -- an absent Request Payload is read as empty; a Unique Batch Item ID of another type is read over
 pub record SaysAsk (t : Tree) (a : AskOf) : Type 0 where
   pub operation : Operation
-  pub is : Listed (at as_enumeration operation_tag (children t)) operation_of operation
+  pub is : TellsOperation (at as_enumeration operation_tag (children t)) operation
   pub asked : SaysAsked operation (inside request_payload (children t)) a.asked
   pub batch_id : a.batch_id ≡ value_in (at as_bytes unique_batch_item_id (children t))
 
--- in_unread is that of a number off the table, of which there is none now that Locate is read; a Request Payload is to be a structure where it is read
+-- a Request Payload is to be a structure where it is read
 pub data AskFault (t : Tree) (k : OutsideKind) : Type 0 where
   in_operation : NeededFault (at as_enumeration operation_tag (children t)) Missing Missing k → AskFault t k
-  in_unread : k ≡ OutsideKind.TheVariants.Operation → Unlisted (at as_enumeration operation_tag (children t)) operation_of → AskFault t k
-  in_payload : (operation : Operation) → Listed (at as_enumeration operation_tag (children t)) operation_of operation
+  in_payload : (operation : Operation) → TellsOperation (at as_enumeration operation_tag (children t)) operation
       → is_judged operation ≡ true → k ≡ Missing → IsWrong (at as_structure request_payload (children t)) → AskFault t k
-  in_asked : (operation : Operation) → Listed (at as_enumeration operation_tag (children t)) operation_of operation
+  in_asked : (operation : Operation) → TellsOperation (at as_enumeration operation_tag (children t)) operation
       → AskedFault operation (inside request_payload (children t)) k → AskFault t k
 
 -- an operation on an object that names none, so that the ID Placeholder is meant
@@ -65,7 +69,7 @@ abbrev pub payload_asked : Operation → Trees → Result AskedOf OutsideKind
 payload_asked operation ts = map_ok (λ p. p.1) (both kind_number (form_in operation (at as_structure request_payload ts)) (asked_in operation (inside request_payload ts)))
 
 abbrev pub operation_in : Trees → Result Operation OutsideKind
-operation_in ts = listed (at as_enumeration operation_tag ts) operation_of Missing OutsideKind.TheVariants.Operation
+operation_in ts = map_ok operation_of (needed (at as_enumeration operation_tag ts) Missing Missing)
 
 abbrev pub ask_at : Trees → AskedOf → AskOf
 ask_at ts asked = record { batch_id = value_in (at as_bytes unique_batch_item_id ts); asked = asked }

@@ -1,5 +1,5 @@
 -- Locate: the request { Maximum Items?, Attributes? } and its answer { any number of Unique Identifiers } (KMIP 2.1, section 6.1, Locate).
-use Rattle.std.specs.Prelude.{◌≡◌, ℕ, ℤ, pos, Bool, true, false, ◌==◌, ◌||◌, not, map, List, [], ◌∷◌, Option, Some, None, Result, Ok, Err}
+use Rattle.std.specs.Prelude.{◌≡◌, ℕ, Bool, true, false, ◌==◌, ◌||◌, not, map, List, [], ◌∷◌, Option, Some, None, Result, Ok, Err}
 use Rattle.kmipa_ttlv.specs.Tree.{Tree, Trees, structure, none, more}
 use Rattle.kmipa_ttlv.specs.Tree
 use Rattle.kmipa_attrs.specs.Attributes.{each, SomeWrong}

@@ -1,5 +1,5 @@
 -- The operations.
-use Rattle.std.specs.Prelude.{ℕ, Bool, true, false, ◌==◌, if◌then◌else◌, Option, Some, None}
+use Rattle.std.specs.Prelude.{ℕ, Bool, true, false, ◌==◌, if◌then◌else◌}
 use Rattle.kmipa_msgs.specs.declared.operation.Operation.{Operation}
 use Rattle.kmipa_msgs.specs.declared.operation.Operation.TheVariants.{Create, Register, Locate, Get, GetAttributes, Activate, Revoke, Destroy, Idle, Other}
 
@@ -16,20 +16,20 @@ operation_number Destroy = 20
 operation_number (Idle n) = n
 operation_number (Other n) = n
 
--- Query and Discover Versions have no effect
-abbrev pub operation_of : ℕ → Option Operation
+-- the operation of a number, which each has: Query and Discover Versions have no effect
+abbrev pub operation_of : ℕ → Operation
 operation_of n =
-    if n == 1 then Some Create
-    else if n == 3 then Some Register
-    else if n == 8 then Some Locate
-    else if n == 10 then Some Get
-    else if n == 11 then Some GetAttributes
-    else if n == 18 then Some Activate
-    else if n == 19 then Some Revoke
-    else if n == 20 then Some Destroy
-    else if n == 24 then Some (Idle n)
-    else if n == 30 then Some (Idle n)
-    else Some (Other n)
+    if n == 1 then Create
+    else if n == 3 then Register
+    else if n == 8 then Locate
+    else if n == 10 then Get
+    else if n == 11 then GetAttributes
+    else if n == 18 then Activate
+    else if n == 19 then Revoke
+    else if n == 20 then Destroy
+    else if n == 24 then Idle n
+    else if n == 30 then Idle n
+    else Other n
 
 -- its payloads are read
 abbrev pub is_judged : Operation → Bool

@@ -15,7 +15,7 @@ impl<'a> Response<'a> {
     pub fn copy(&self, alloc: Global) -> Result<Response<'a>, AllocError>
         ensures { IfOk result (λ copy. response_of copy ≡ response_of self.now) }
     {
-        let mut items = Vec::new(alloc);
+        let mut items = Vec::with_capacity(alloc, self.items.len())?;
         for answer in &self.items {
             items.push(answer.copy(alloc)?)?;
         }
@@ -70,7 +70,7 @@ impl<'a> Payload<'a> {
 fn copy_ids<'a>(alloc: Global, ids: &Vec<&'a str>) -> Result<Vec<&'a str>, AllocError>
     ensures { IfOk result (λ copy. map lent copy.items ≡ map lent ids.now.items) }
 {
-    let mut copy = Vec::new(alloc);
+    let mut copy = Vec::with_capacity(alloc, ids.len())?;
     for id in ids {
         copy.push(*id)?;
     }

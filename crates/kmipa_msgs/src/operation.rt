@@ -42,21 +42,21 @@ impl Operation {
         }
     }
 
-    /// The operation with this number.
-    pub fn of(number: u32) -> Option<Operation>
+    /// The operation with this number, which each number has.
+    pub fn of(number: u32) -> Operation
         ensures { result ≡ operation_of number }
     {
         match number {
-            1 => Some(Operation::Create),
-            3 => Some(Operation::Register),
-            8 => Some(Operation::Locate),
-            10 => Some(Operation::Get),
-            11 => Some(Operation::GetAttributes),
-            18 => Some(Operation::Activate),
-            19 => Some(Operation::Revoke),
-            20 => Some(Operation::Destroy),
-            24 | 30 => Some(Operation::Idle(number)),
-            _ => Some(Operation::Other(number)),
+            1 => Operation::Create,
+            3 => Operation::Register,
+            8 => Operation::Locate,
+            10 => Operation::Get,
+            11 => Operation::GetAttributes,
+            18 => Operation::Activate,
+            19 => Operation::Revoke,
+            20 => Operation::Destroy,
+            24 | 30 => Operation::Idle(number),
+            _ => Operation::Other(number),
         }
     }
 

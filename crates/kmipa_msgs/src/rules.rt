@@ -61,7 +61,7 @@ impl Rules {
     pub fn default_rules(alloc: Global) -> Result<Rules, AllocError>
         ensures { IfOk result (λ rules. rules_of rules ≡ default_rules) }
     {
-        let mut rows = Vec::new(alloc);
+        let mut rows = Vec::with_capacity(alloc, 1)?;
         rows.push(Row {
             reason: 1,
             cause: Cause::NotFound,

@@ -22,4 +22,5 @@ pub mod ExplainLemmas
 mod ReasonLemmas
 mod TakenLemmas
 mod OneInventoryLemmas
+pub mod AlikeLemmas
 mod ListingLemmas

@@ -26,6 +26,7 @@ pub mod Blame
 pub mod Explains
 pub mod Reasons
 pub mod OneInventory
+pub mod Alike
 pub mod After
 pub mod Shown
 pub mod Listing

@@ -1,5 +1,6 @@
 //! What the definitions say together.
 
+ghost use Rattle.kmipa_ops.specs.Alike.{AlikeGoAlike, AlikeSpeakAlike};
 ghost use Rattle.kmipa_ops.specs.Chains.{ChainsComplete};
 ghost use Rattle.kmipa_ops.specs.Explains.{BlameIsExact};
 ghost use Rattle.kmipa_ops.specs.Founded.{FoundedIsDecided};
@@ -49,4 +50,14 @@ pub fn reasons_are_decided()
 /// required is shown.
 pub fn attributes_are_decided()
     ensures { AttributesAreDecided }
+{}
+
+/// Over ledgers that stand for the same inventories the same reasons speak, however they number their secrets.
+pub fn alike_speak_alike()
+    ensures { AlikeSpeakAlike }
+{}
+
+/// Ledgers that stand for the same inventories, and were led along the same items, stand for the same inventories again.
+pub fn alike_go_alike()
+    ensures { AlikeGoAlike }
 {}

@@ -87,7 +87,7 @@ fn operation(children: &[View]) -> Result<Operation, OutsideKind>
     ensures { result ≡ operation_in (view_trees children.now) }
 {
     match enumeration_at(children, OPERATION) {
-        Field::There(number) => Operation::of(number).ok_or(OutsideKind::Operation),
+        Field::There(number) => Ok(Operation::of(number)),
         _ => Err(OutsideKind::Missing),
     }
 }

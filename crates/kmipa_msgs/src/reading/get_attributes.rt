@@ -1,15 +1,14 @@
 //! Get Attributes and its answer.
 
-ghost use Rattle.std.specs.Prelude.{◌≡◌, ◌==◌, IfOk, count_by};
+ghost use Rattle.std.specs.Prelude.{◌≡◌, IfOk};
 ghost use Rattle.kmipa_ttlv.specs.ViewTree.{view_tree, view_trees};
-ghost use Rattle.kmipa_attrs.specs.Tags.{unique_identifier};
 ghost use Rattle.kmipa_msgs.specs.Messages.{get_attributes_of, got_attributes_of};
 ghost use Rattle.kmipa_msgs.specs.GetsAttributes.{references, is_selective, as_reference, is_other, some_other, has_others, get_attributes_in, got_attributes_in};
 ghost use Rattle.kmipa_msgs.specs.Yields.{Yields};
 
 use crate::reading::attributes::{read_attributes, type_known};
 use crate::reading::identifier::read_identifier;
-use crate::reading::rows::both_read;
+use crate::reading::rows::{both_read, count};
 use crate::reading::unread::Unread;
 use crate::request::GetAttributes;
 use crate::response::GotAttributes;
@@ -39,7 +38,7 @@ pub fn read_get_attributes<'a>(
 fn read_references(alloc: Global, payload: &[View]) -> Result<Vec<u32>, AllocError>
     ensures { IfOk result (λ tags. tags.items ≡ references (view_trees payload.now)) }
 {
-    let mut tags = Vec::new(alloc);
+    let mut tags = Vec::with_capacity(alloc, count(payload, ATTRIBUTE_REFERENCE))?;
     for child in payload {
         if let Some(tag) = reference(child) {
             tags.push(tag)?;
@@ -70,17 +69,7 @@ fn is_selective(payload: &[View]) -> bool
 fn has_others(payload: &[View]) -> bool
     ensures { result ≡ has_others (view_trees payload.now) }
 {
-    some_other(payload) || identifier_count(payload) > 1
-}
-
-/// How many Unique Identifiers there are.
-fn identifier_count(payload: &[View]) -> usize
-    ensures { result ≡ count_by (λ v. v.tag.number == unique_identifier) payload.now }
-{
-    payload
-        .iter()
-        .filter(|child| child.tag.number == UNIQUE_IDENTIFIER)
-        .count()
+    some_other(payload) || count(payload, UNIQUE_IDENTIFIER) > 1
 }
 
 fn some_other(payload: &[View]) -> bool

@@ -5,6 +5,7 @@ ghost use Rattle.kmipa_ttlv.specs.ViewTree.{view_tree, view_trees};
 ghost use Rattle.kmipa_attrs.specs.Tags.{batch_item};
 ghost use Rattle.kmipa_msgs.specs.Headers.{is_number, is_version, counts, is_count, Opens};
 
+use crate::reading::rows::count;
 use kmipa_attrs::Field;
 use kmipa_attrs::fields::{as_structure, inside, integer_at, structure_at};
 use kmipa_attrs::tags::{
@@ -36,10 +37,7 @@ pub fn message_parts<'a, 'b>(
 pub fn item_count(children: &[View]) -> usize
     ensures { result ≡ count_by (λ v. v.tag.number == batch_item) children.now }
 {
-    children
-        .iter()
-        .filter(|child| child.tag.number == BATCH_ITEM)
-        .count()
+    count(children, BATCH_ITEM)
 }
 
 /// Whether the Protocol Version in a header is 2.1.

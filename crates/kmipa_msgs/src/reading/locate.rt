@@ -1,6 +1,6 @@
 //! Locate and its answer.
 
-ghost use Rattle.std.specs.Prelude.{◌≡◌, ◌==◌, count_by};
+ghost use Rattle.std.specs.Prelude.{◌≡◌};
 ghost use Rattle.std.specs.List.{list_any};
 ghost use Rattle.kmipa_ttlv.specs.ViewTree.{view_trees};
 ghost use Rattle.kmipa_attrs.specs.Fields.{at, as_structure};
@@ -13,7 +13,7 @@ ghost use Rattle.kmipa_msgs.specs.Yields.{Yields};
 
 use crate::kind::OutsideKind;
 use crate::reading::attributes::type_known;
-use crate::reading::rows::{both_read, unless_wrong};
+use crate::reading::rows::{both_read, count, unless_wrong};
 use crate::reading::unread::Unread;
 use crate::request::Locate;
 use crate::response::Located;
@@ -74,16 +74,6 @@ fn is_repeated(payload: &[View], tag: u32) -> bool
     count(payload, tag) > 1
 }
 
-/// How many children have the tag.
-fn count(payload: &[View], tag: u32) -> usize
-    ensures { result ≡ count_by (λ v. v.tag.number == tag) payload.now }
-{
-    payload
-        .iter()
-        .filter(|child| child.tag.number == tag)
-        .count()
-}
-
 /// Whether some item is neither Maximum Items nor Attributes.
 fn some_unknown(payload: &[View]) -> bool
     ensures { result ≡ some_unknown (view_trees payload.now) }
@@ -107,7 +97,7 @@ fn is_unknown(tag: u32) -> bool
 pub fn read_located<'a>(alloc: Global, payload: &[View<'a>]) -> Result<Located<'a>, Unread>
     ensures { Yields located_of result (located_in (view_trees payload.now)) }
 {
-    let mut ids = Vec::new(alloc);
+    let mut ids = Vec::with_capacity(alloc, count(payload, UNIQUE_IDENTIFIER))?;
     for child in payload {
         if child.tag.number == UNIQUE_IDENTIFIER {
             let Some(id) = as_text(child) else {

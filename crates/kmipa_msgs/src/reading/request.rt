@@ -47,6 +47,7 @@ fn request<'a>(alloc: Global, message: &View<'a>) -> Result<Request<'a>, ReadFau
 }
 
 /// What a header says before so many items: the option, and whether they are to be done in order.
+#[tactic(auto, unfolding(crate::specs::Requests::order_said))]
 fn request_header(header: &[View], items: usize) -> Result<(BatchOption, bool), OutsideKind>
     ensures { result ≡ order_said (view_trees header.now) items }
 {
@@ -54,10 +55,8 @@ fn request_header(header: &[View], items: usize) -> Result<(BatchOption, bool), 
     let count = passing(is_count(header, items), (), OutsideKind::Count);
     let plain = both(version, count);
     let said = both(batch_option(header), ordered(header));
-    match both(plain, said) {
-        Ok((_, said)) => Ok(said),
-        Err(kind) => Err(kind),
-    }
+    let (_, said) = both(plain, said)?;
+    Ok(said)
 }
 
 /// Stop where no option is there.

@@ -1,4 +1,4 @@
-use Rattle.std.proofs.Common.{◌≡◌, ◌∙◌, ◌≤◌, ◌<◌, ℕ, suc, List, length, map, sym, subst, arith}
+use Rattle.std.proofs.Common.{◌∙◌, ◌≤◌, ◌<◌, ℕ, suc, List, length, map, sym, subst, arith}
 use Rattle.std.proofs.lemmas.List.{length-map}
 use Rattle.kmipa_msgs.specs.declared.response.Answer.{Answer}
 use Rattle.kmipa_msgs.specs.Messages.{answer_of, ask_of, RequestOf, request_of, ResponseOf, response_of}
