@@ -1,11 +1,11 @@
 //! What is read from an input: its next item, or all of its bytes.
 
-ghost use Rattle.std.specs.Prelude.{◌≡◌, ◌≢◌, ◌≤◌, ◌<◌, ◌+◌, ℕ, List, [], ◌∷◌, ◌++◌, true, false, Err, length, vec_len, IsTrue, IfOk, IfErr, IfSome, IfNone, OnOk, ◌⊎◌};
+ghost use Rattle.std.specs.Prelude.{◌≡◌, ◌≢◌, ◌≤◌, ◌<◌, ◌+◌, ℕ, List, [], ◌∷◌, ◌++◌, true, false, Err, length, vec_len, IsTrue, IfOk, IfErr, IfSome, IfNone, OnOk, OnSome, take, ◌⊎◌};
 ghost use Rattle.std.specs.Io.{StartsWith, appended_bytes};
 ghost use Rattle.kmipa_ttlv.specs.Input.{came_of, taken_of, is_ended, is_failed, StaysOver};
 ghost use Rattle.kmipa_ttlv.specs.Items.{AreItems};
 ghost use Rattle.kmipa_ttlv.specs.ItemTree.{tree};
-ghost use Rattle.kmipa_ttlv.specs.Reading.{IsWhole, ReadTells};
+ghost use Rattle.kmipa_ttlv.specs.Reading.{IsWhole, ReadTells, CameShort, StopsInside};
 ghost use Rattle.kmipa_ttlv.specs.Spelling.{Spells};
 ghost use Rattle.kmipa_ttlv.specs.Stream.{capped};
 ghost use Rattle.kmipa_ttlv.specs.Tree.{Tree};
@@ -20,9 +20,6 @@ use std::io::Read;
 
 /// How many bytes `read_all` asks for at once.
 const CHUNK: usize = 65_536;
-
-/// How many bytes of an item are asked for at once.
-const PIECE: usize = 4096;
 
 /// The next item of an input, or `None` at its end. The input is then just behind the item.
 ///
@@ -95,6 +92,8 @@ pub fn read_bytes<R: Read>(input: &mut Input<R>, bytes: &mut Vec<u8>) -> Result<
     ensures whole { IfOk result (λ some. some ≡ true → IsWhole bytes.new.items) }
     ensures end { IfOk result (λ some. some ≡ false → (bytes.new.items ≡ []) × IsTrue (is_ended input.new)) }
     ensures fault { IfErr result (λ f. ReadTells (taken_of input.old) (appended_bytes (came_of input.old) (came_of input.new)) (is_ended input.new) (is_failed input.new) f) }
+    // Where a read failed or memory ran out, what came is the beginning of an item, as far as it goes.
+    ensures inside { IfErr result (λ f. StopsInside f.kind (appended_bytes (came_of input.old) (came_of input.new))) }
     ensures sound { IfErr result (λ f. f.kind ≢ FaultKind.Device → is_failed input.new ≡ false) }
     ensures grows { StartsWith (came_of input.new) (came_of input.old) }
     ensures over { StaysOver R.remaining input.old input.new }
@@ -116,6 +115,9 @@ pub fn read_bytes<R: Read>(input: &mut Input<R>, bytes: &mut Vec<u8>) -> Result<
         Ok(all) => all,
         Err(fault) => return Err(placed(place, fault.offset, fault.kind)),
     };
+    if all == HEADER {
+        return Ok(true);
+    }
     let more = append_up_to(input, place, all - HEADER, bytes)?;
     if more < all - HEADER {
         return Err(placed(place, HEADER as u64 + more as u64, FaultKind::Truncated));
@@ -185,9 +187,12 @@ fn append_up_to<R: Read>(
     most: usize,
     out: &mut Vec<u8>,
 ) -> Result<usize, TtlvFault>
+    requires some { 0 < most }
+    requires room { vec_len out.old + most ≤ 0x10_0000 }
     ensures counted { IfOk result (λ n. (vec_len out.new ≡ vec_len out.old + n) × (n ≤ most)) }
     ensures bounded { vec_len out.new ≤ vec_len out.old + most }
     ensures came { OnOk result (came_of input.new ≡ came_of input.old ++ appended_bytes out.old.items out.new.items) }
+    ensures short { IfErr result (λ _. CameShort (came_of input.old) (came_of input.new) most) }
     ensures end { IfOk result (λ n. n < most → IsTrue (is_ended input.new)) }
     ensures sound { IfErr result (λ f. f.kind ≢ FaultKind.Device → is_failed input.new ≡ false) }
     ensures grows { StartsWith (came_of input.new) (came_of input.old) }
@@ -196,29 +201,53 @@ fn append_up_to<R: Read>(
     ensures kinds { IfErr result (λ f. (f.offset ≡ place) × ((f.kind ≡ FaultKind.Device × IsTrue (is_failed input.new))
         ⊎ (f.kind ≡ FaultKind.Memory))) }
     ensures works { OnOk result (is_failed input.new ≡ is_failed input.old) }
-    ensures failed { 0 < most → IsTrue (is_failed input.old) → result ≡ Err (record { offset = place; kind = FaultKind.Device }) }
+    ensures failed { IsTrue (is_failed input.old) → result ≡ Err (record { offset = place; kind = FaultKind.Device }) }
     ensures stays { IsTrue (is_failed input.old) → IsTrue (is_failed input.new) }
 {
-    let mut chunk = [0u8; PIECE];
+    let start = out.len();
+    if input.failed() {
+        return Err(TtlvFault {
+            offset: place,
+            kind: FaultKind::Device,
+        });
+    }
+    if out.resize(start + most, 0).is_err() {
+        return Err(TtlvFault {
+            offset: place,
+            kind: FaultKind::Memory,
+        });
+    }
+    let Some(got) = fill(input, out.slice_mut(start..)) else {
+        return Err(TtlvFault {
+            offset: place,
+            kind: FaultKind::Device,
+        });
+    };
+    out.truncate(start + got);
+    Ok(got)
+}
+
+/// Reads into the buffer up to its end or that of the input, and answers how many bytes came; `None` where the input is
+/// failed.
+fn fill<R: Read>(input: &mut Input<R>, buf: &mut [u8]) -> Option<usize>
+    requires { 0 < length buf.old }
+    ensures within { IfSome result (λ n. n ≤ length buf.new) }
+    ensures came { IfSome result (λ n. came_of input.new ≡ came_of input.old ++ take n buf.new) }
+    ensures short { IfNone result (CameShort (came_of input.old) (came_of input.new) (length buf.old)) }
+    ensures end { IfSome result (λ n. n < length buf.new → IsTrue (is_ended input.new)) }
+    ensures grows { StartsWith (came_of input.new) (came_of input.old) }
+    ensures over { StaysOver R.remaining input.old input.new }
+    ensures fails { IfNone result (IsTrue (is_failed input.new)) }
+    ensures works { OnSome result ((is_failed input.old ≡ false) × (is_failed input.new ≡ false)) }
+    ensures stays { IsTrue (is_failed input.old) → IsTrue (is_failed input.new) }
+{
     let mut got: usize = 0;
-    'reads: while got < most {
-        let want = PIECE.min(most - got);
-        let Some(n) = input.read_some(&mut chunk[..want]) else {
-            return Err(TtlvFault {
-                offset: place,
-                kind: FaultKind::Device,
-            });
-        };
+    'reads: while got < buf.len() {
+        let n = input.read_some(&mut buf[got..])?;
         if n == 0 {
             break;
         }
-        if out.extend_from_slice(&chunk[..n]).is_err() {
-            return Err(TtlvFault {
-                offset: place,
-                kind: FaultKind::Memory,
-            });
-        }
         got += n;
     }
-    Ok(got)
+    Some(got)
 }

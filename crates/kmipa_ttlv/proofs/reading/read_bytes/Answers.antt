@@ -1,8 +1,10 @@
-use Rattle.std.proofs.Common.{rules, ◌≡◌, ◌≤◌, ◌<◌, ◌+◌, length, arith, subst, refl, ◌∙◌, List, ℕ, None, Some}
+use Rattle.std.proofs.Common.{rules, ◌≡◌, ◌≤◌, ◌<◌, ◌+◌, ◌-◌, length, arith, subst, refl, ◌∙◌, List, ℕ, None, Some}
 use Rattle.kmipa_ttlv.specs.Input.{came_of, taken_of, is_ended, is_failed}
 use Rattle.kmipa_ttlv.specs.Spelling.{extent}
 use Rattle.kmipa_ttlv.specs.Flaw.{head_flaw}
 use Rattle.kmipa_ttlv.proofs.ReadLemmas.{told_short, told_head, since, fresh, joined_reads, same_head, whole_read, no_header, head_short}
+use Rattle.std.proofs.lemmas.Result.{err_from_is_err_and}
+use Rattle.kmipa_ttlv.proofs.FillLemmas.{stops_in_header, flawed_header_stops, stops_in_value}
 use Rattle.kmipa_ttlv.proofs.reading.read_bytes.Goals as goal
 
 pub returns-then-got-lt-HEADER-clause-fault : goal.returns-then-got-lt-HEADER-clause-fault
@@ -53,3 +55,25 @@ returns-clause-whole g c = λ _.
     let right : head_flaw front ≡ None = subst (λ (l : List ℕ). head_flaw l ≡ None) c.deref.ensures.value c.in-Ok.ensures.0 in
     let all : c.in-Ok.all ≡ extent front = subst (λ (l : List ℕ). c.in-Ok.all ≡ extent l) c.deref.ensures.value c.in-Ok.ensures.1 in
     whole_read front bytes c.append_up_to-2.ensures.appends long right (omega (arith, len, all, c.if-more-all.false, c.in_ok-more.ensures.counted))
+
+pub returns-in_err-got-clause-inside : goal.returns-in_err-got-clause-inside
+returns-in_err-got-clause-inside g c =
+    let p = err_from_is_err_and c.from_residual.result c.from_residual.ensures.1 in
+    rw (p.1, p.2) (stops_in_header _ (came_of c.args.input.now) (came_of c.append_up_to.new.input) c.in_err-got.ensures.short)
+
+pub returns-in-Err-clause-inside : goal.returns-in-Err-clause-inside
+returns-in-Err-clause-inside g c =
+    let fault = c.in-Err.fault in
+    let flaw : head_flaw c.append_up_to.new.out.items ≡ Some (fault.offset, fault.kind) = subst (λ (l : List ℕ). head_flaw l ≡ Some (fault.offset, fault.kind)) c.deref.ensures.value c.in-Err.ensures.0 in
+    rw c.placed-in-Err.ensures (flawed_header_stops fault.kind fault.offset _ c.append_up_to.new.out.items flaw)
+
+pub returns-in_err-more-clause-inside : goal.returns-in_err-more-clause-inside
+returns-in_err-more-clause-inside g c =
+    let before = came_of c.args.input.now in
+    let mid = came_of c.append_up_to.new.input in
+    let front = c.append_up_to.new.out.items in
+    let p = err_from_is_err_and c.from_residual-in_err-more.result c.from_residual-in_err-more.ensures.1 in
+    let h = fresh before mid c.clear.new.self.items front c.clear.ensures.items c.in_ok-got.ensures.came in
+    let right : head_flaw front ≡ None = subst (λ (l : List ℕ). head_flaw l ≡ None) c.deref.ensures.value c.in-Ok.ensures.0 in
+    let all : c.in-Ok.all ≡ extent front = subst (λ (l : List ℕ). c.in-Ok.all ≡ extent l) c.deref.ensures.value c.in-Ok.ensures.1 in
+    rw (p.1, p.2) (stops_in_value _ before mid (came_of c.append_up_to-2.new.input) front (c.in-Ok.all - 8) h (search rules) right (omega (arith, all)) c.in_err-more.ensures.short)
