@@ -33,7 +33,7 @@ index_suc numbers k old new n at noted h number true e =
 index_suc numbers k old new n at noted h number false e =
     let Q : Option ℕ → Type 0 = λ v. StandsFirst numbers (suc k) number v in
     let differs : n ≢ number = λ same. absurd (let yes = (Decides-int_eq n number).1 same in cc) in
-    subst Q (sym (noted.others number e)) (stays numbers k number (place_in old number) (λ other. differs cc) (h number))
+    subst Q (sym (noted.others number (λ same. differs (sym same)))) (stays numbers k number (place_in old number) (λ other. differs cc) (h number))
 
 -- one element more
 index_next : (numbers : List (Option ℤ)) (k : ℕ) (old new : FirstPlaces) (v : Option ℤ) → slice_get numbers k ≡ Some v → NotedIfAny old new v k → IndexesBelow numbers k old

@@ -1,13 +1,12 @@
 -- Where the number of a call first stands in a list. Not promised.
-use Rattle.std.specs.Prelude.{◌≡◌, ◌<◌, ◌==◌, ℕ, ℤ, Bool, false, List, length, Option, Some, None, slice_get}
-use Rattle.std.specs.Ordering.{int_eq}
-use Rattle.std.specs.HashMap.{get}
+use Rattle.std.specs.Prelude.{◌≡◌, ◌≢◌, ◌<◌, ◌==◌, ℕ, ℤ, Bool, false, List, length, Option, Some, None, slice_get}
 use Rattle.kmipa_record.specs.Marks.{MarkOf, begins, ends}
+use Rattle.kmipa_record.specs.NumberMaps.{value_at}
 use Rattle.kmipa_check.specs.declared.numbers.FirstPlaces.{FirstPlaces}
 
 -- the place that is noted for a number
 abbrev pub place_in : FirstPlaces → ℤ → Option ℕ
-place_in f number = get int_eq f.places number
+place_in f number = value_at f.places number
 
 -- the number that an end mark has
 abbrev pub end_number : MarkOf → Option ℤ
@@ -39,7 +38,7 @@ or_else (Some first) place = Some first
 -- a number stands at a place behind the others
 pub record Noted (old new : FirstPlaces) (number : ℤ) (place : ℕ) : Type 0 where
   pub here : place_in new number ≡ or_else (place_in old number) place
-  pub others : (other : ℤ) → int_eq number other ≡ false → place_in new other ≡ place_in old other
+  pub others : (other : ℤ) → other ≢ number → place_in new other ≡ place_in old other
 
 -- the same, where there is one
 abbrev pub NotedIfAny : FirstPlaces → FirstPlaces → Option ℤ → ℕ → Type 0

@@ -5,9 +5,8 @@ ghost use Rattle.kmipa_record.specs.Marks.{mark_of};
 ghost use Rattle.kmipa_check.specs.Numbers.{Indexes, IndexesBelow, Noted, NotedIfAny, end_number, is_noted, place_in};
 
 use crate::call::Call;
-use kmipa_record::{Fill, Mark, Turn};
+use kmipa_record::{Fill, Mark, NumberMap, Turn};
 use std::alloc::{AllocError, Global};
-use std::collections::HashMap;
 
 /// What may have a number.
 pub trait Numbered {
@@ -58,7 +57,7 @@ impl Numbered for Mark {
 /// The first place of each number of a list.
 #[derive(Drop)]
 pub struct FirstPlaces {
-    places: HashMap<i32, usize>,
+    places: NumberMap<usize>,
 }
 
 impl FirstPlaces {
@@ -67,7 +66,7 @@ impl FirstPlaces {
         ensures { IfOk result (λ f. Indexes (map T.number_in items.now) f) }
     {
         let mut first = FirstPlaces {
-            places: HashMap::new(alloc),
+            places: NumberMap::new(alloc),
         };
         let mut place = 0;
         'items: while place < items.len() {
@@ -91,26 +90,25 @@ impl FirstPlaces {
     fn note(&mut self, number: i32, place: usize) -> Result<(), AllocError>
         ensures { OnOk result (Noted self.old self.new number place) }
     {
-        if self.places.contains_key(&number) {
+        if self.places.get(number).is_some() {
             return Ok(());
         }
-        self.places.insert(number, place)?;
-        Ok(())
+        self.places.add(number, place)
     }
 
     /// The first place of a number.
     pub fn place(&self, number: i32) -> Option<usize>
         ensures { result ≡ place_in self.now number }
     {
-        self.places.get(&number).copied()
+        self.places.get(number)
     }
 
     /// Whether this is the first place of a number.
     pub fn is_first(&self, number: i32, place: usize) -> bool
         ensures { result ≡ is_noted (place_in self.now number) place }
     {
-        match self.places.get(&number) {
-            Some(first) => *first == place,
+        match self.places.get(number) {
+            Some(first) => first == place,
             None => false,
         }
     }

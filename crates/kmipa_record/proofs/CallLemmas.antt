@@ -61,7 +61,7 @@ each_stands marks mark old new p f puts here call true e =
     subst (λ (c : ℤ). StandsSo (marks ++ mark ∷ []) c (progress_of new c)) same (subst (StandsSo (marks ++ mark ∷ []) (call_of mark)) (sym puts.here) here)
 each_stands marks mark old new p f puts here call false e =
     let differs : call_of mark ≢ call = λ same. absurd (let yes = (Decides-int_eq (call_of mark) call).1 same in cc) in
-    subst (StandsSo (marks ++ mark ∷ []) call) (sym (puts.others call e)) (others_stand marks mark call (progress_of old call) differs (f.each call))
+    subst (StandsSo (marks ++ mark ∷ []) call) (sym (puts.others call (λ same. differs (sym same)))) (others_stand marks mark call (progress_of old call) differs (f.each call))
 
 pub follow_begin : (marks : List MarkOf) (call : ℤ) (client message : List ℕ) (old new : Calls) → Follow marks old → BeginsCall old new call → Follow (marks ++ begins call client message ∷ []) new
 follow_begin marks call client message old new f b =

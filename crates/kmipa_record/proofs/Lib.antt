@@ -3,6 +3,7 @@ pub mod KindLemmas
 pub mod NextLemmas
 pub mod FileLemmas
 pub mod MarkLemmas
+pub mod NumberMapLemmas
 pub mod CallLemmas
 pub mod TranscriptLemmas
 pub mod TurnLemmas

@@ -1,6 +1,6 @@
 -- Records that are put behind others.
 use Rattle.std.proofs.Common.{◌≡◌, ◌≢◌, ◌<◌, ◌||◌, ℕ, List, [], ◌∷◌, ◌++◌, length, map, get_or, Bool, true, false, not, cond, refl, sym, ap, subst, ◌∙◌, bytes_eq, string_bytes}
-use Rattle.std.specs.HashSet.{contains_text}
+use Rattle.std.specs.BTreeSet.{contains_text}
 use Rattle.std.specs.List.{list_any}
 use Rattle.std.specs.Prelude.{All, AllPairs, Any}
 use Rattle.std.proofs.lemmas.Bool.Decides.{same_from_decides, Decides-like}

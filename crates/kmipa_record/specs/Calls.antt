@@ -1,7 +1,7 @@
 -- The calls of some marks: where each stands. Not promised: `Marks` says what a transcript is.
-use Rattle.std.specs.Prelude.{◌≡◌, ◌≤◌, ◌<◌, ℕ, ◌+◌, ℤ, pos, ◌≤ℤ◌, ◌<ℤ◌, List, length, false, Contains, Option, None, Some, IsSome}
-use Rattle.std.specs.Ordering.{int_eq}
-use Rattle.std.specs.HashMap.{get, hash_map_len}
+use Rattle.std.specs.Prelude.{◌≡◌, ◌≤◌, ◌<◌, ℕ, ◌+◌, ℤ, pos, ◌≤ℤ◌, ◌<ℤ◌, List, length, Contains, Option, None, Some, IsSome}
+use Rattle.kmipa_record.specs.NumberMaps.{value_at, Sets}
+use Rattle.kmipa_record.specs.NumberMaps as numbers
 use Rattle.kmipa_record.specs.Marks.{MarkOf, begins, ends, begun, ended, IsCallNumber}
 use Rattle.kmipa_record.specs.declared.calls.Calls.{Calls}
 use Rattle.kmipa_record.specs.declared.calls.Progress.{Progress}
@@ -12,16 +12,15 @@ use Rattle.kmipa_record.specs.declared.fault.RecordKind.TheVariants
 
 -- where a call stands
 abbrev pub progress_of : Calls → ℤ → Option Progress
-progress_of calls call = get int_eq calls.progress call
+progress_of calls call = value_at calls.progress call
 
 -- how many calls were begun
 abbrev pub count_of : Calls → ℕ
-count_of calls = hash_map_len calls.progress
+count_of calls = numbers.count_of calls.progress
 
 -- this call stands so now, and the others as before
-pub record Puts (old new : Calls) (call : ℤ) (progress : Progress) : Type 0 where
-  pub here : progress_of new call ≡ Some progress
-  pub others : (other : ℤ) → int_eq call other ≡ false → progress_of new other ≡ progress_of old other
+abbrev pub Puts : Calls → Calls → ℤ → Progress → Type 0
+Puts old new call progress = Sets old.progress new.progress call progress
 
 pub record HasNone (calls : Calls) : Type 0 where
   pub each : (call : ℤ) → progress_of calls call ≡ None

@@ -1,6 +1,6 @@
 -- How a declaration is read record by record. Not promised.
 use Rattle.std.specs.Prelude.{◌≡◌, ◌≢◌, ◌⊎◌, ◌%◌, ◌==◌, ◌&&◌, nat_lt, ℕ, ℤ, pos, negsuc, Bool, false, List, [], ◌∷◌, ◌++◌, map, All, AllPairs, Any}
-use Rattle.std.specs.HashSet.{contains_text}
+use Rattle.std.specs.BTreeSet.{contains_text}
 use Rattle.std.specs.List.{AllZip, list_any}
 use Rattle.std.specs.Str.{bytes_eq}
 use Rattle.kmipa_record.specs.Reading.{IsReading}

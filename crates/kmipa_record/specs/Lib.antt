@@ -6,6 +6,7 @@ pub mod Entries
 pub mod Declarations
 pub mod Witnesses
 pub mod Reading
+pub mod NumberMaps
 pub mod Calls
 pub mod TranscriptReading
 pub mod DeclarationReading

@@ -5,9 +5,9 @@ ghost use Rattle.kmipa_record.specs.Calls.{HasNone, BeginsCall, RefusesBegin, En
 ghost use Rattle.kmipa_record.specs.Marks.{mark_of};
 
 use crate::fault::RecordKind;
+use crate::number_map::NumberMap;
 use crate::transcript::Mark;
 use std::alloc::Global;
-use std::collections::HashMap;
 
 /// The most calls that a transcript may have.
 const MOST: usize = 100_000;
@@ -23,7 +23,7 @@ pub enum Progress {
 /// The calls that were begun, by their numbers.
 #[derive(Drop)]
 pub struct Calls {
-    progress: HashMap<i32, Progress>,
+    progress: NumberMap<Progress>,
 }
 
 impl Calls {
@@ -32,7 +32,7 @@ impl Calls {
         ensures { HasNone result }
     {
         Calls {
-            progress: HashMap::new(alloc),
+            progress: NumberMap::new(alloc),
         }
     }
 
@@ -52,14 +52,14 @@ impl Calls {
         if call < 1 {
             return Err(RecordKind::Number);
         }
-        if self.progress.contains_key(&call) {
+        if self.progress.get(call).is_some() {
             return Err(RecordKind::Number);
         }
-        if self.progress.len() >= MOST {
+        if self.progress.count() >= MOST {
             return Err(RecordKind::Calls);
         }
-        match self.progress.insert(call, Progress::Open) {
-            Ok(_) => Ok(()),
+        match self.progress.add(call, Progress::Open) {
+            Ok(()) => Ok(()),
             Err(_) => Err(RecordKind::Memory),
         }
     }
@@ -70,14 +70,12 @@ impl Calls {
         if call < 1 {
             return Err(RecordKind::Number);
         }
-        match self.progress.get(&call) {
+        match self.progress.get(call) {
             None => return Err(RecordKind::EndWithoutBegin),
             Some(Progress::Ended) => return Err(RecordKind::SecondEnd),
             Some(Progress::Open) => {}
         }
-        match self.progress.insert(call, Progress::Ended) {
-            Ok(_) => Ok(()),
-            Err(_) => unreachable!(),
-        }
+        self.progress.set(call, Progress::Ended);
+        Ok(())
     }
 }

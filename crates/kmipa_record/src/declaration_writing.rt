@@ -21,7 +21,7 @@ use kmipa_attrs::{AttrSet, write_short_attrs};
 use kmipa_msgs::Row;
 use kmipa_ttlv::{Item, Tag};
 use std::alloc::{AllocError, Global};
-use std::collections::HashSet;
+use std::collections::BTreeSet;
 
 /// Appends a declaration of this.
 ///
@@ -73,7 +73,7 @@ fn test_entries(alloc: Global, entries: &[Entry]) -> Result<(), RecordKind>
     ensures together { OnOk result (MayStandTogether (map entry_of entries.now)) }
     ensures refused { IfErr result (Refused (MayStandTogether (map entry_of entries.now))) }
 {
-    let mut identifiers = HashSet::new(alloc);
+    let mut identifiers = BTreeSet::new(alloc);
     for entry in entries {
         if !may_stand(entry) {
             return Err(RecordKind::Entry);

@@ -16,6 +16,7 @@ mod header;
 mod laws;
 mod mark_reading;
 mod marks;
+mod number_map;
 mod record;
 mod records;
 mod row;
@@ -37,6 +38,7 @@ pub use laws::{
     one_declaration_fault, one_transcript, one_transcript_fault, one_witness, one_witness_fault,
 };
 pub use marks::Marks;
+pub use number_map::NumberMap;
 pub use transcript::{Begin, End, Mark, Transcript, read_transcript};
 pub use transcript_writing::write_transcript;
 pub use turn::Turn;

@@ -12,7 +12,7 @@ use crate::row::row_in;
 use kmipa_msgs::Row;
 use kmipa_ttlv::View;
 use std::alloc::{AllocError, Global};
-use std::collections::HashSet;
+use std::collections::BTreeSet;
 
 /// A record of a declaration.
 #[derive(Drop)]
@@ -42,7 +42,7 @@ impl Record for DeclarationRecord {
 pub struct Records {
     rows: Vec<Row>,
     entries: Vec<Entry>,
-    identifiers: HashSet<String>,
+    identifiers: BTreeSet<String>,
 }
 
 impl Records {
@@ -54,7 +54,7 @@ impl Records {
         Records {
             rows: Vec::new(alloc),
             entries: Vec::new(alloc),
-            identifiers: HashSet::new(alloc),
+            identifiers: BTreeSet::new(alloc),
         }
     }
 

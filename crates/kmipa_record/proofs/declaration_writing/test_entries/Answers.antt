@@ -1,6 +1,6 @@
 use Rattle.std.proofs.Common.{◌≡◌, ℕ, List, map, take, drop, suc, true, false, refl, sym, subst, ◌∙◌, string_bytes}
-use Rattle.std.proofs.lemmas.Map.Text.{hash_set_updates_text}
-use Rattle.std.specs.HashSet.{contains_text}
+use Rattle.std.proofs.lemmas.Map.Text.{btree_set_updates_text}
+use Rattle.std.specs.BTreeSet.{contains_text}
 use Rattle.kmipa_record.specs.DeclarationWriting.{MayStand, MayStandTogether}
 use Rattle.kmipa_record.specs.Entries.{EntryOf, entry_of}
 use Rattle.kmipa_record.specs.Writing.{refused}
@@ -37,5 +37,5 @@ loop-entry-preserved c =
     subst (λ (l : List EntryOf). MayStandTogether l × ((cs : List ℕ) → contains_text c.insert.new.self cs ≡ has_id cs l)) (sym (mapped_more entry_of entries i entry c.loop-entry-test.true c.entry-item.is)) (
       together_more before (entry_of entry) c.loop-entry.invariant.0 may alone,
       λ cs. known_more before (entry_of entry) (contains_text c.loop-entry.identifiers cs) (contains_text c.insert.new.self cs) id cs (sym same)
-          (hash_set_updates_text id c.loop-entry.identifiers c.insert.new.self _ c.in-Ok-true.ensures.updates cs) (c.loop-entry.invariant.1 cs),
+          (btree_set_updates_text id c.loop-entry.identifiers c.insert.new.self _ c.in-Ok-true.ensures.updates cs) (c.loop-entry.invariant.1 cs),
     )

@@ -1,5 +1,5 @@
 use Rattle.std.proofs.Common.{◌≡◌, ℕ, List, map, take}
-use Rattle.std.specs.HashSet.{contains_text}
+use Rattle.std.specs.BTreeSet.{contains_text}
 use Rattle.kmipa_record.specs.DeclarationWriting.{MayStandTogether}
 use Rattle.kmipa_record.specs.Entries.{entry_of}
 use Rattle.kmipa_record.proofs.DeclarationWritingLemmas.{has_id}

@@ -1,5 +1,5 @@
 use Rattle.std.proofs.Common.{◌≡◌, inr, refl, sym, ◌∙◌, string_bytes}
-use Rattle.std.proofs.lemmas.Map.Text.{hash_set_updates_text}
+use Rattle.std.proofs.lemmas.Map.Text.{btree_set_updates_text}
 use Rattle.kmipa_record.proofs.RecordsLemmas.{not_false, not_true, used_before, kept_more}
 use Rattle.kmipa_record.proofs.records.Records.take_entry.Goals.{in-Ok-push, in-Err-push}
 use Rattle.kmipa_record.proofs.records.Records.take_entry.Goals as goal
@@ -17,6 +17,6 @@ returns-clause-kept c =
     elim c.match-push.branch [
       | in-Ok-push w ↦ rw w.result-is (kept_more c.args.self.now (record { rows = c.args.self.now.rows; entries = c.push.new.self; identifiers = c.insert.new.self }) c.args.entry (string_bytes c.in-Ok.id) c.requires.kept
           c.requires.fit (sym same) w.in-Ok-push.ensures.items fresh
-          (λ cs. hash_set_updates_text (string_bytes c.in-Ok.id) c.args.self.now.identifiers c.insert.new.self _ c.in-Ok-true.ensures.updates cs))
+          (λ cs. btree_set_updates_text (string_bytes c.in-Ok.id) c.args.self.now.identifiers c.insert.new.self _ c.in-Ok-true.ensures.updates cs))
       | in-Err-push w ↦ rw w.result-is tt
     ]
