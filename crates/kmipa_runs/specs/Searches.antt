@@ -1,5 +1,5 @@
 -- What `search` makes and prints of a transcript and a declaration.
-use Rattle.std.specs.Prelude.{◌≡◌, ◌⊎◌, ℕ, List, [], ◌∷◌, ◌++◌, Bool, true, false, Option, Some, None, Result, Ok, Err, codes}
+use Rattle.std.specs.Prelude.{◌≡◌, ℕ, List, [], ◌∷◌, ◌++◌, Bool, true, false, Option, Some, None, Result, Ok, Err, codes}
 use Rattle.std.specs.Fmt.{decimal}
 use Rattle.kmipa_record.specs.Marks.{MarkOf}
 use Rattle.kmipa_record.specs.Files.{Tells}
@@ -17,7 +17,6 @@ use Rattle.kmipa_search.specs.Found.{Finds}
 use Rattle.kmipa_search.specs.declared.found.Found.{Found}
 use Rattle.kmipa_search.specs.declared.found.Found.TheVariants.{Yes, GaveUp}
 use Rattle.kmipa_runs.specs.Lines.{line, PrintsFault}
-use Rattle.kmipa_runs.specs.Statuses.{IsSilent}
 use Rattle.kmipa_runs.specs.declared.searched.Searched.{Searched}
 use Rattle.kmipa_runs.specs.declared.status.Status.{Status}
 use Rattle.kmipa_runs.specs.declared.status.Status.TheVariants as status

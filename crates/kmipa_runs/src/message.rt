@@ -1,22 +1,22 @@
 //! Byte Strings that are messages.
 
 ghost use Rattle.std.specs.Prelude.{◌≡◌, ◌↔◌, IfOk, MatchOption, IsTrue};
-ghost use Rattle.kmipa_ttlv.specs.ItemTree.{tree};
+ghost use Rattle.kmipa_ttlv.specs.ViewTree.{view_tree};
 ghost use Rattle.kmipa_ttlv.specs.Tree.{Tree};
 ghost use Rattle.kmipa_runs.specs.Shown.{AreMessage, IsMessage};
 
 use kmipa_attrs::tags;
-use kmipa_ttlv::{FaultKind, Item, Value, decode};
+use kmipa_ttlv::{FaultKind, View, ViewValue, decode_view};
 use std::alloc::{AllocError, Global};
 
 /// The Request Message or Response Message that these bytes are, or `None` where they are no whole one.
-pub fn message_of(alloc: Global, bytes: &[u8]) -> Result<Option<Item>, AllocError>
-    ensures { IfOk result (λ found. MatchOption found ((m : Tree) → AreMessage m bytes.now → ⊥) (λ item. AreMessage (tree item) bytes.now)) }
+pub fn message_of(alloc: Global, bytes: &[u8]) -> Result<Option<View<'_>>, AllocError>
+    ensures { IfOk result (λ found. MatchOption found ((m : Tree) → AreMessage m bytes.now → ⊥) (λ view. AreMessage (view_tree view) bytes.now)) }
 {
-    match decode(alloc, bytes) {
-        Ok((item, taken)) => {
-            if taken == bytes.len() && is_message(&item) {
-                Ok(Some(item))
+    match decode_view(alloc, bytes) {
+        Ok((view, taken)) => {
+            if taken == bytes.len() && is_message(&view) {
+                Ok(Some(view))
             } else {
                 Ok(None)
             }
@@ -28,12 +28,12 @@ pub fn message_of(alloc: Global, bytes: &[u8]) -> Result<Option<Item>, AllocErro
     }
 }
 
-fn is_message(item: &Item) -> bool
-    ensures { IsTrue result ↔ IsMessage (tree item.now) }
+fn is_message(view: &View) -> bool
+    ensures { IsTrue result ↔ IsMessage (view_tree view.now) }
 {
-    match &item.value {
-        Value::Structure(_) => {
-            let tag = item.tag.number;
+    match &view.value {
+        ViewValue::Structure(_) => {
+            let tag = view.tag.number;
             tag == tags::REQUEST_MESSAGE || tag == tags::RESPONSE_MESSAGE
         }
         _ => false,

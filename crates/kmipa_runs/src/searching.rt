@@ -19,7 +19,7 @@ use kmipa_check::{AuditFault, CheckFault};
 use kmipa_record::{
     Declaration, Transcript, Witness, read_declaration, read_transcript, write_witness,
 };
-use kmipa_search::{Found, is_forced, search};
+use kmipa_search::{Found, Watch, is_forced, search_watched};
 use kmipa_ttlv::Input;
 use std::alloc::{AllocError, Global};
 use std::io::Read;
@@ -27,13 +27,15 @@ use std::io::Read;
 /// `search TRANSCRIPT DECLARATION OUT`: looks for a witness with at most `budget` steps. Appends to `out` the lines of
 /// what was found, with `forced` ahead of them whether the transcript is forced, or the line of the fault that stands
 /// in their place, and answers the status. A witness that was found is appended to `made`, as a file; at every other
-/// status than `Done` nothing is. Where memory runs out nothing is appended to either, and the status is `Failed`.
-pub fn search_run<R: Read>(
+/// status than `Done` nothing is. Where memory runs out nothing is appended to either, and the status is `Failed`. The
+/// watcher is told of each step.
+pub fn search_run<R: Read, W: Watch>(
     alloc: Global,
     transcript: &mut Input<R>,
     declaration: &mut Input<R>,
     budget: u64,
     forced: bool,
+    watch: &mut W,
     out: &mut Vec<u8>,
     made: &mut Vec<u8>,
 ) -> Status
@@ -52,19 +54,20 @@ pub fn search_run<R: Read>(
     ensures appends { StartsWith out.new.items out.old.items }
     ensures makes { StartsWith made.new.items made.old.items }
 {
-    match search_inputs(alloc, transcript, declaration, budget, forced) {
+    match search_inputs(alloc, transcript, declaration, budget, forced, watch) {
         Ok(searched) => tell_searched(alloc, &searched, out, made),
         Err(fault) => append(fault_lines(alloc, &fault), out),
     }
 }
 
 /// Reads the two inputs, of which nothing was read, one after the other, and searches.
-fn search_inputs<R: Read>(
+fn search_inputs<R: Read, W: Watch>(
     alloc: Global,
     transcript: &mut Input<R>,
     declaration: &mut Input<R>,
     budget: u64,
     forced: bool,
+    watch: &mut W,
 ) -> Result<Searched, AuditFault>
     requires transcript { came_of transcript.old ≡ [] }
     requires declaration { came_of declaration.old ≡ [] }
@@ -80,25 +83,26 @@ fn search_inputs<R: Read>(
         Ok(declaration) => declaration,
         Err(fault) => return Err(AuditFault::Declaration(fault)),
     };
-    match search_records(alloc, &transcript, &declaration, budget, forced) {
+    match search_records(alloc, &transcript, &declaration, budget, forced, watch) {
         Ok(searched) => Ok(searched),
         Err(fault) => Err(AuditFault::Check(fault)),
     }
 }
 
-fn search_records(
+fn search_records<W: Watch>(
     alloc: Global,
     transcript: &Transcript,
     declaration: &Declaration,
     budget: u64,
     forced: bool,
+    watch: &mut W,
 ) -> Result<Searched, CheckFault>
     requires { AreDeclared (declaration_of declaration.now) }
     ensures { AreRecorded (transcript_of transcript.now)
         → SearchesRecords (transcript_of transcript.now) (declaration_of declaration.now) budget forced result }
 {
     let forced = if_forced(alloc, transcript, forced)?;
-    let found = search(alloc, transcript, declaration, budget)?;
+    let found = search_watched(alloc, transcript, declaration, budget, watch)?;
     Ok(Searched { forced, found })
 }
 

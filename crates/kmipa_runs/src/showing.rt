@@ -11,7 +11,8 @@ use crate::flaws::tell_flaw;
 use crate::options::ShowOptions;
 use crate::shown::push_item;
 use crate::status::Status;
-use kmipa_ttlv::{FaultKind, Input, TtlvFault, read_item_into};
+use crate::viewing::read_view;
+use kmipa_ttlv::{FaultKind, Input, TtlvFault};
 use std::alloc::Global;
 use std::io::Read;
 
@@ -77,10 +78,10 @@ fn show_next<R: Read>(
     ensures appends { StartsWith out.new.items out.old.items }
 {
     let offset = input.taken();
-    let Some(item) = read_item_into(alloc, input, bytes)? else {
+    let Some(view) = read_view(alloc, input, bytes)? else {
         return Ok(false);
     };
-    match push_item(alloc, &item, options, 0, out) {
+    match push_item(alloc, &view, options, 0, out) {
         Ok(()) => Ok(true),
         Err(_) => Err(TtlvFault {
             offset,

@@ -2,17 +2,17 @@
 
 ghost use Rattle.std.specs.Prelude.{◌≡◌, ◌≤◌, ◌+◌, ◌*◌, ◌++◌, replicate, IsTrue, OnOk};
 ghost use Rattle.std.specs.Io.{StartsWith, appended_bytes};
-ghost use Rattle.kmipa_ttlv.specs.ItemTree.{tree, trees, value_tree, IsPlain};
+ghost use Rattle.kmipa_ttlv.specs.ViewTree.{view_tree, view_trees};
 ghost use Rattle.kmipa_ttlv.specs.Tree.{byte_string};
 ghost use Rattle.kmipa_ttlv.specs.Written.{depth, depths};
-ghost use Rattle.kmipa_runs.specs.Shown.{head, ShowsBelow, ShowsItem, ShowsItems, ShowsLine};
+ghost use Rattle.kmipa_runs.specs.Shown.{head, IsPlain, ShowsBelow, ShowsItem, ShowsItems, ShowsLine};
 
 use crate::message::message_of;
 use crate::options::ShowOptions;
 use crate::values::{UPPER, kind_name, push_digits, push_note, push_text, push_value, push_word};
 use byteorder::{BigEndian, ByteOrder};
 use kmipa_attrs::tag_name;
-use kmipa_ttlv::{Item, Tag, Value};
+use kmipa_ttlv::{Tag, View, ViewValue};
 use std::alloc::{AllocError, Global};
 
 /// Two spaces for each level that an item may have above it: 15 in a file, and 16 more in a message below one of its
@@ -24,24 +24,24 @@ const MARGIN: [u8; 62] = [b' '; 62];
 #[cycle(showing)]
 pub fn push_item(
     alloc: Global,
-    item: &Item,
+    item: &View,
     options: ShowOptions,
     level: usize,
     out: &mut Vec<u8>,
 ) -> Result<(), AllocError>
-    requires level { level + depth (tree item.now) ≤ 32 }
+    requires level { level + depth (view_tree item.now) ≤ 32 }
     // Room for the levels of a message.
-    requires room { IsTrue options.messages → level + depth (tree item.now) ≤ 16 }
-    ensures shows { OnOk result (ShowsItem options level (tree item.now) (appended_bytes out.old.items out.new.items)) }
+    requires room { IsTrue options.messages → level + depth (view_tree item.now) ≤ 16 }
+    ensures shows { OnOk result (ShowsItem options level (view_tree item.now) (appended_bytes out.old.items out.new.items)) }
     ensures appends { StartsWith out.new.items out.old.items }
 {
     match &item.value {
-        Value::Structure(children) => {
+        ViewValue::Structure(children) => {
             push_head(item.tag, "Structure", level, out)?;
             push_text("\n", out)?;
             push_items(alloc, children, options, level + 1, out)
         }
-        Value::Bytes(bytes) => {
+        ViewValue::Bytes(bytes) => {
             push_line(alloc, item, options.notes, level, out)?;
             push_below(alloc, bytes, options, level, out)
         }
@@ -53,14 +53,14 @@ pub fn push_item(
 #[cycle(showing)]
 fn push_items(
     alloc: Global,
-    items: &[Item],
+    items: &[View],
     options: ShowOptions,
     level: usize,
     out: &mut Vec<u8>,
 ) -> Result<(), AllocError>
-    requires level { level + depths (trees items.now) ≤ 32 }
-    requires room { IsTrue options.messages → level + depths (trees items.now) ≤ 16 }
-    ensures shows { OnOk result (ShowsItems options level (trees items.now) (appended_bytes out.old.items out.new.items)) }
+    requires level { level + depths (view_trees items.now) ≤ 32 }
+    requires room { IsTrue options.messages → level + depths (view_trees items.now) ≤ 16 }
+    ensures shows { OnOk result (ShowsItems options level (view_trees items.now) (appended_bytes out.old.items out.new.items)) }
     ensures appends { StartsWith out.new.items out.old.items }
 {
     for item in items {
@@ -98,14 +98,14 @@ fn push_below(
 /// Appends the line of an item without children.
 fn push_line(
     alloc: Global,
-    item: &Item,
+    item: &View,
     notes: bool,
     level: usize,
     out: &mut Vec<u8>,
 ) -> Result<(), AllocError>
     requires plain { IsPlain item.now.value }
     requires level { level ≤ 31 }
-    ensures shows { OnOk result (ShowsLine notes level (tree item.now) (appended_bytes out.old.items out.new.items)) }
+    ensures shows { OnOk result (ShowsLine notes level (view_tree item.now) (appended_bytes out.old.items out.new.items)) }
     ensures appends { StartsWith out.new.items out.old.items }
 {
     push_head(item.tag, kind_name(&item.value), level, out)?;

@@ -1,14 +1,17 @@
 //! The texts of values.
 
-ghost use Rattle.std.specs.Prelude.{◌≡◌, ◌++◌, ◌∷◌, ℕ, OnOk, option_map};
+ghost use Rattle.std.specs.Prelude.{◌≡◌, ◌*◌, ◌++◌, ◌∷◌, [], ℕ, length, IsTrue, codes, if◌then◌else◌, OnOk, option_map};
+ghost use Rattle.std.specs.List.{flat_map};
+ghost use Rattle.std.specs.Fmt.{signed_decimal};
 ghost use Rattle.std.specs.Io.{StartsWith, appended_bytes};
-ghost use Rattle.hex.specs.Hex.{encode_with};
-ghost use Rattle.kmipa_ttlv.specs.ItemTree.{value_tree};
+ghost use Rattle.hex.specs.Hex.{encode_lower, encode_with};
+ghost use Rattle.kmipa_ttlv.specs.ViewTree.{view_value_tree};
 ghost use Rattle.kmipa_runs.specs.Shown.{escaped, quoted, kind_name as name_of, note, noted, ShowsMoment, ShowsValue};
 
 use crate::dates::calendar_date;
 use crate::notes::number_name;
-use kmipa_ttlv::{Tag, Value};
+use itoa::Buffer;
+use kmipa_ttlv::{Tag, ViewValue};
 use std::alloc::{AllocError, Global};
 
 /// The digits of tags and Enumerations.
@@ -18,42 +21,42 @@ pub const UPPER: &[u8; 16] = b"0123456789ABCDEF";
 const LOWER: &[u8; 16] = b"0123456789abcdef";
 
 /// The name of a value's type.
-pub fn kind_name(value: &Value) -> &'static str
-    ensures { (tag : ℕ) → result.now ≡ name_of (value_tree tag value.now) }
+pub fn kind_name(value: &ViewValue) -> &'static str
+    ensures { (tag : ℕ) → result.now ≡ name_of (view_value_tree tag value.now) }
 {
     match value {
-        Value::Structure(_) => "Structure",
-        Value::Integer(_) => "Integer",
-        Value::LongInteger(_) => "LongInteger",
-        Value::BigInteger(_) => "BigInteger",
-        Value::Enumeration(_) => "Enumeration",
-        Value::Boolean(_) => "Boolean",
-        Value::Text(_) => "Text",
-        Value::Bytes(_) => "Bytes",
-        Value::DateTime(_) => "DateTime",
-        Value::Interval(_) => "Interval",
-        Value::DateTimeExtended(_) => "DateTimeExtended",
+        ViewValue::Structure(_) => "Structure",
+        ViewValue::Integer(_) => "Integer",
+        ViewValue::LongInteger(_) => "LongInteger",
+        ViewValue::BigInteger(_) => "BigInteger",
+        ViewValue::Enumeration(_) => "Enumeration",
+        ViewValue::Boolean(_) => "Boolean",
+        ViewValue::Text(_) => "Text",
+        ViewValue::Bytes(_) => "Bytes",
+        ViewValue::DateTime(_) => "DateTime",
+        ViewValue::Interval(_) => "Interval",
+        ViewValue::DateTimeExtended(_) => "DateTimeExtended",
     }
 }
 
 /// Appends the text of a value; of a Structure nothing. Where memory runs out a part of it may be appended.
-pub fn push_value(alloc: Global, value: &Value, out: &mut Vec<u8>) -> Result<(), AllocError>
-    ensures shows { OnOk result ((tag : ℕ) → ShowsValue (value_tree tag value.now) (appended_bytes out.old.items out.new.items)) }
+pub fn push_value(alloc: Global, value: &ViewValue, out: &mut Vec<u8>) -> Result<(), AllocError>
+    ensures shows { OnOk result ((tag : ℕ) → ShowsValue (view_value_tree tag value.now) (appended_bytes out.old.items out.new.items)) }
     ensures appends { StartsWith out.new.items out.old.items }
 {
     match value {
-        Value::Structure(_) => Ok(()),
-        Value::Integer(n) => push_text(n.to_string(alloc)?.as_str(), out),
-        Value::LongInteger(n) => push_text(n.to_string(alloc)?.as_str(), out),
-        Value::BigInteger(bytes) => push_digits(LOWER, bytes, out),
-        Value::Enumeration(n) => push_digits(UPPER, &n.to_be_bytes(), out),
-        Value::Boolean(true) => push_text("true", out),
-        Value::Boolean(false) => push_text("false", out),
-        Value::Text(text) => push_quoted(text.as_bytes(), out),
-        Value::Bytes(bytes) => push_digits(LOWER, bytes, out),
-        Value::DateTime(second) => push_moment(alloc, *second, out),
-        Value::Interval(n) => push_text(n.to_string(alloc)?.as_str(), out),
-        Value::DateTimeExtended(n) => push_text(n.to_string(alloc)?.as_str(), out),
+        ViewValue::Structure(_) => Ok(()),
+        ViewValue::Integer(n) => push_number(i64::from(*n), out),
+        ViewValue::LongInteger(n) => push_number(*n, out),
+        ViewValue::BigInteger(bytes) => push_digits(LOWER, bytes, out),
+        ViewValue::Enumeration(n) => push_digits(UPPER, &n.to_be_bytes(), out),
+        ViewValue::Boolean(true) => push_text("true", out),
+        ViewValue::Boolean(false) => push_text("false", out),
+        ViewValue::Text(text) => push_quoted(text.as_bytes(), out),
+        ViewValue::Bytes(bytes) => push_digits(LOWER, bytes, out),
+        ViewValue::DateTime(second) => push_moment(alloc, *second, out),
+        ViewValue::Interval(n) => push_number(i64::from(*n), out),
+        ViewValue::DateTimeExtended(n) => push_number(*n, out),
     }
 }
 
@@ -76,15 +79,20 @@ pub fn push_word(text: &str, out: &mut Vec<u8>) -> Result<(), AllocError>
 
 /// With the notes, appends the name of an Enumeration's number behind a space, in parentheses, where the standard
 /// names it.
-pub fn push_note(notes: bool, tag: Tag, value: &Value, out: &mut Vec<u8>) -> Result<(), AllocError>
-    ensures pushes { OnOk result (out.new.items ≡ out.old.items ++ note notes (value_tree tag.number value.now)) }
+pub fn push_note(
+    notes: bool,
+    tag: Tag,
+    value: &ViewValue,
+    out: &mut Vec<u8>,
+) -> Result<(), AllocError>
+    ensures pushes { OnOk result (out.new.items ≡ out.old.items ++ note notes (view_value_tree tag.number value.now)) }
     ensures appends { StartsWith out.new.items out.old.items }
 {
     if !notes {
         return Ok(());
     }
     match value {
-        Value::Enumeration(number) => push_name(number_name(tag, *number), out),
+        ViewValue::Enumeration(number) => push_name(number_name(tag, *number), out),
         _ => Ok(()),
     }
 }
@@ -102,17 +110,42 @@ fn push_name(name: Option<&str>, out: &mut Vec<u8>) -> Result<(), AllocError>
     push_text(")", out)
 }
 
+/// Appends a number in decimal.
+fn push_number(number: i64, out: &mut Vec<u8>) -> Result<(), AllocError>
+    ensures pushes { OnOk result (out.new.items ≡ out.old.items ++ signed_decimal number) }
+    ensures appends { StartsWith out.new.items out.old.items }
+{
+    push_text(Buffer::new().format(number), out)
+}
+
 /// Appends bytes as hexadecimal digits of this table.
 pub fn push_digits(table: &[u8; 16], bytes: &[u8], out: &mut Vec<u8>) -> Result<(), AllocError>
     ensures pushes { OnOk result (out.new.items ≡ out.old.items ++ encode_with table.now bytes.now) }
     ensures appends { StartsWith out.new.items out.old.items }
 {
-    for byte in bytes {
-        let high = table[usize::from(*byte / 16)];
-        let low = table[usize::from(*byte % 16)];
-        out.extend_from_slice(&[high, low])?;
-    }
+    let kept = out.len();
+    let Some(grown) = bytes
+        .len()
+        .checked_mul(2)
+        .and_then(|more| more.checked_add(kept))
+    else {
+        return Err(AllocError);
+    };
+    out.resize(grown, 0)?;
+    fill_digits(table, bytes, &mut out[kept..]);
     Ok(())
+}
+
+/// Writes bytes as hexadecimal digits of this table.
+fn fill_digits(table: &[u8; 16], bytes: &[u8], digits: &mut [u8])
+    requires { length digits.old ≡ 2 * length bytes.now }
+    ensures { digits.new ≡ encode_with table.now bytes.now }
+{
+    'bytes: for i in 0..bytes.len() {
+        let byte = bytes[i];
+        digits[2 * i] = table[(byte >> 4) as usize];
+        digits[2 * i + 1] = table[(byte & 0x0F) as usize];
+    }
 }
 
 /// Appends the number of a moment's second, and behind a space its date, where the calendar has one.
@@ -120,7 +153,7 @@ fn push_moment(alloc: Global, second: i64, out: &mut Vec<u8>) -> Result<(), Allo
     ensures shows { OnOk result (ShowsMoment second (appended_bytes out.old.items out.new.items)) }
     ensures appends { StartsWith out.new.items out.old.items }
 {
-    push_text(second.to_string(alloc)?.as_str(), out)?;
+    push_number(second, out)?;
     let Some(date) = calendar_date(alloc, second)? else {
         return Ok(());
     };
@@ -133,10 +166,32 @@ fn push_quoted(text: &[u8], out: &mut Vec<u8>) -> Result<(), AllocError>
     ensures appends { StartsWith out.new.items out.old.items }
 {
     push_text("\"", out)?;
-    for byte in text {
-        push_escaped(*byte, out)?;
+    if are_plain(text) {
+        out.extend_from_slice(text)?;
+    } else {
+        for byte in text {
+            push_escaped(*byte, out)?;
+        }
     }
     push_text("\"", out)
+}
+
+/// Whether the bytes of a text stand for themselves.
+fn are_plain(text: &[u8]) -> bool
+    ensures { IsTrue result → flat_map escaped text.now ≡ text.now }
+{
+    for byte in text {
+        if !is_plain(*byte) {
+            return false;
+        }
+    }
+    true
+}
+
+fn is_plain(byte: u8) -> bool
+    ensures { escaped byte ≡ (if result then byte ∷ [] else codes "\\x" ++ encode_lower (byte ∷ [])) }
+{
+    b' ' <= byte && byte <= b'~' && byte != b'"' && byte != b'\\'
 }
 
 /// Appends a byte of a text.
@@ -144,9 +199,9 @@ fn push_escaped(byte: u8, out: &mut Vec<u8>) -> Result<(), AllocError>
     ensures pushes { OnOk result (out.new.items ≡ out.old.items ++ escaped byte) }
     ensures appends { StartsWith out.new.items out.old.items }
 {
-    if byte < b' ' || byte > b'~' || byte == b'"' || byte == b'\\' {
-        push_text("\\x", out)?;
-        return push_digits(LOWER, &[byte], out);
+    if is_plain(byte) {
+        return out.extend_from_slice(&[byte]);
     }
-    out.extend_from_slice(&[byte])
+    push_text("\\x", out)?;
+    push_digits(LOWER, &[byte], out)
 }

@@ -10,6 +10,7 @@ use crate::check_laws::check_laws;
 use crate::guesses::guessed_turn;
 use crate::order::not_taken;
 use crate::remaining::Remaining;
+use crate::watch::Watch;
 use kmipa_batch::take_call;
 use kmipa_check::{Call, CheckFault, StepFault, step_of_turn};
 use kmipa_msgs::Rules;
@@ -27,12 +28,13 @@ pub struct Guessed {
 }
 
 /// Takes the calls one after the other, each time the first next one that leads on with its guesses, depth first.
-pub fn guess_order<L: Ledger>(
+pub fn guess_order<L: Ledger, W: Watch>(
     alloc: Global,
     ledger: &mut L,
     rules: &Rules,
     calls: &[Candidate],
     budget: u64,
+    watch: &mut W,
 ) -> Result<Guessed, CheckFault>
     requires sound { IsSound (L.state ledger.old).now }
     requires recorded { AreRecordedCalls calls.now }
@@ -51,6 +53,7 @@ pub fn guess_order<L: Ledger>(
                     return Ok(Guessed { turns: None, steps });
                 }
                 steps += 1;
+                watch.step(steps, path.len());
                 match try_guess(alloc, ledger, rules, &calls[place])? {
                     Some(taken) => {
                         turns.push(taken.turn)?;

@@ -14,11 +14,13 @@ mod plain;
 mod ranks;
 mod remaining;
 mod searching;
+mod watch;
 
 pub use forced::is_forced;
 pub use found::Found;
 pub use laws::{enough_decides, forced_is_light, next_is_tested};
-pub use searching::search;
+pub use searching::{search, search_watched};
+pub use watch::{Unwatched, Watch};
 
 #[cfg(test)]
 mod tests;

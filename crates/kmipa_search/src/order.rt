@@ -11,6 +11,7 @@ ghost use Rattle.kmipa_search.specs.Outcomes.{TellsOutcome, not_taken};
 
 use crate::candidate::Candidate;
 use crate::remaining::Remaining;
+use crate::watch::Watch;
 use kmipa_batch::{CallRefusal, take_call};
 use kmipa_check::CheckFault;
 use kmipa_msgs::Rules;
@@ -27,12 +28,13 @@ pub struct Outcome {
 }
 
 /// Takes the calls one after the other, each time the first next one that leads on, depth first.
-pub fn find_order<L: Ledger>(
+pub fn find_order<L: Ledger, W: Watch>(
     alloc: Global,
     ledger: &mut L,
     rules: &Rules,
     calls: &[Candidate],
     budget: u64,
+    watch: &mut W,
 ) -> Result<Outcome, CheckFault>
     requires sound { IsSound (L.state ledger.old).now }
     requires readable { AllReadable (map candidate_step calls.now) }
@@ -52,6 +54,7 @@ pub fn find_order<L: Ledger>(
                     return Ok(Outcome { order: None, steps });
                 }
                 steps += 1;
+                watch.step(steps, path.len());
                 match try_call(alloc, ledger, rules, &calls[place])? {
                     Some(mark) => {
                         path.push(place)?;

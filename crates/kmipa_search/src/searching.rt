@@ -20,6 +20,7 @@ use crate::found::Found;
 use crate::guessing::guess_order;
 use crate::order::find_order;
 use crate::plain::{candidates, every_candidate};
+use crate::watch::{Unwatched, Watch};
 use kmipa_check::{
     Call, CheckFault, Verdict, check, open_ledger, read_calls, rules_of_declaration,
 };
@@ -40,21 +41,36 @@ pub fn search(
     requires { AreDeclared (declaration_of declaration.now) }
     ensures { AreRecorded (transcript_of transcript.now) → Searches (transcript_of transcript.now) (declaration_of declaration.now) budget result }
 {
+    search_watched(alloc, transcript, declaration, budget, &mut Unwatched {})
+}
+
+/// The same as `search`, told to a watcher step by step.
+pub fn search_watched<W: Watch>(
+    alloc: Global,
+    transcript: &Transcript,
+    declaration: &Declaration,
+    budget: u64,
+    watch: &mut W,
+) -> Result<Found, CheckFault>
+    requires { AreDeclared (declaration_of declaration.now) }
+    ensures { AreRecorded (transcript_of transcript.now) → Searches (transcript_of transcript.now) (declaration_of declaration.now) budget result }
+{
     check_laws();
     let calls = read_calls(alloc, transcript)?;
     match candidates(alloc, &calls)? {
-        Some(own) => search_plain(alloc, transcript, declaration, &own, budget),
-        None => search_waiting(alloc, transcript, declaration, &calls, budget),
+        Some(own) => search_plain(alloc, transcript, declaration, &own, budget, watch),
+        None => search_waiting(alloc, transcript, declaration, &calls, budget, watch),
     }
 }
 
 /// Looks for a witness of calls that are plain.
-fn search_plain(
+fn search_plain<W: Watch>(
     alloc: Global,
     transcript: &Transcript,
     declaration: &Declaration,
     calls: &[Candidate],
     budget: u64,
+    watch: &mut W,
 ) -> Result<Found, CheckFault>
     requires declared { AreDeclared (declaration_of declaration.now) }
     requires readable { AllReadable (map candidate_step calls.now) }
@@ -64,7 +80,7 @@ fn search_plain(
     check_laws();
     let rules = rules_of_declaration(alloc, declaration)?;
     let mut ledger = open_ledger(alloc, declaration)?;
-    let Ok(outcome) = find_order(alloc, &mut ledger, &rules, calls, budget) else {
+    let Ok(outcome) = find_order(alloc, &mut ledger, &rules, calls, budget, watch) else {
         return Err(CheckFault::Memory);
     };
     let steps = outcome.steps;
@@ -79,12 +95,13 @@ fn search_plain(
 }
 
 /// Looks for a witness of calls of which some aren't plain.
-fn search_waiting(
+fn search_waiting<W: Watch>(
     alloc: Global,
     transcript: &Transcript,
     declaration: &Declaration,
     calls: &[Call],
     budget: u64,
+    watch: &mut W,
 ) -> Result<Found, CheckFault>
     requires declared { AreDeclared (declaration_of declaration.now) }
     requires each { All (IsRecorded (transcript_of transcript.now)) (map call_of calls.now) }
@@ -95,7 +112,7 @@ fn search_waiting(
     let rules = rules_of_declaration(alloc, declaration)?;
     let mut ledger = open_ledger(alloc, declaration)?;
     let own = every_candidate(alloc, calls)?;
-    let Ok(guessed) = guess_order(alloc, &mut ledger, &rules, &own, budget) else {
+    let Ok(guessed) = guess_order(alloc, &mut ledger, &rules, &own, budget, watch) else {
         return Err(CheckFault::Memory);
     };
     let steps = guessed.steps;

@@ -4,6 +4,7 @@ use super::records::*;
 use super::runs::Files;
 use crate::searching::search_run;
 use crate::status::Status;
+use kmipa_search::Unwatched;
 use kmipa_ttlv::Input;
 use std::alloc::Global;
 use std::test::Fail;
@@ -22,6 +23,7 @@ fn search(
         &mut Input::new(files.declaration.as_slice()),
         budget,
         forced,
+        &mut Unwatched {},
         &mut out,
         &mut made,
     );

@@ -4,11 +4,11 @@ use Rattle.std.specs.Io.{appended_bytes}
 use Rattle.std.proofs.lemmas.List.{drop_all, append-nil}
 use Rattle.std.proofs.lemmas.Result.{on_ok_weaker}
 use Rattle.kmipa_ttlv.specs.Tree.{Tree, Trees, structure, scalar, byte_string}
-use Rattle.kmipa_ttlv.specs.ItemTree.{value_tree, tree, trees}
+use Rattle.kmipa_ttlv.specs.ViewTree.{view_value_tree, view_tree, view_trees}
 use Rattle.kmipa_ttlv.specs.Written.{depth, depths}
-use Rattle.kmipa_ttlv.specs.declared.item.Item.{Item}
-use Rattle.kmipa_ttlv.proofs.ItemTreeLemmas.{tree_of_structure}
-use Rattle.kmipa_runs.specs.Shown.{head, ShowsBelow, ShowsItem, ShowsItems, ShowsLine}
+use Rattle.kmipa_ttlv.specs.declared.view.View.{View}
+use Rattle.kmipa_ttlv.proofs.ViewTreeLemmas.{view_tree_of_structure}
+use Rattle.kmipa_runs.specs.Shown.{head, ShowsItem, ShowsItems, ShowsLine}
 use Rattle.kmipa_runs.proofs.AppendLemmas.{split, onto, starts_on}
 use Rattle.kmipa_runs.proofs.InputLemmas.{levels}
 use Rattle.kmipa_runs.proofs.ShownLemmas.{line_alone, next_item}
@@ -17,8 +17,8 @@ use Rattle.kmipa_runs.proofs.shown.+showing.Goals as goal
 pub push_item-push_items-requires : goal.push_item-push_items-requires
 push_item-push_items-requires t c =
     let tag = c.args.item.now.tag.number in
-    let e : tree c.args.item.now ≡ structure tag (trees c.deref.result.now)
-    = ap (value_tree tag) c.in-Structure.is ∙ tree_of_structure tag c.in-Structure.children ∙ ap (λ (is : List Item). structure tag (trees is)) (sym c.deref.ensures.value) in (
+    let e : view_tree c.args.item.now ≡ structure tag (view_trees c.deref.result.now)
+    = ap (view_value_tree tag) c.in-Structure.is ∙ view_tree_of_structure tag c.in-Structure.children ∙ ap (λ (is : List View). structure tag (view_trees is)) (sym c.deref.ensures.value) in (
       omega (arith, c.requires.level, ap depth e, c.decreases),
       (omega (arith, c.requires.level, ap depth e), λ asked. let fits = c.requires.room asked in omega (arith, fits, ap depth e)),
     )
@@ -31,8 +31,8 @@ push_item-returns-in_ok-push_text-in-Structure-clause-shows t c =
     let lined = c.push_text.new.out.items in
     let new = c.push_items.new.out.items in
     let first = head c.args.level tag (codes "Structure") in
-    let e : tree c.args.item.now ≡ structure tag (trees c.deref.result.now)
-    = ap (value_tree tag) c.in-Structure.is ∙ tree_of_structure tag c.in-Structure.children ∙ ap (λ (is : List Item). structure tag (trees is)) (sym c.deref.ensures.value) in
+    let e : view_tree c.args.item.now ≡ structure tag (view_trees c.deref.result.now)
+    = ap (view_value_tree tag) c.in-Structure.is ∙ view_tree_of_structure tag c.in-Structure.children ∙ ap (λ (is : List View). structure tag (view_trees is)) (sym c.deref.ensures.value) in
     let line : lined ≡ old ++ (first ++ codes "\n")
     = c.in_ok-push_text-in-Structure.ensures.pushes ∙ ap (λ (l : List ℕ). l ++ codes "\n") c.in_ok-push_head-in-Structure.ensures.pushes ∙ append_assoc old first (codes "\n") in
     let whole = onto old lined new (first ++ codes "\n") line c.push_items.ensures.appends in
@@ -66,7 +66,7 @@ push_items-loop-item-preserved t c =
           = ap (λ (l : List ℕ). l ++ others) (onto initial old new (appended_bytes initial old) (split initial old inv.appends) c.push_item.ensures.appends)
           ∙ append_assoc (appended_bytes initial old) (appended_bytes old new) others in
           let step = subst (λ (ts : Trees). P ts lines) (sym e) (appended_bytes old new, others, c.in_ok-push_item.ensures.shows, rest, refl) in
-          subst (P (trees is)) (sym joined) (inv.shown lines step);
+          subst (P (view_trees is)) (sym joined) (inv.shown lines step);
       appends = starts_on initial old new inv.appends c.push_item.ensures.appends;
     }
 
@@ -75,9 +75,9 @@ push_items-returns-clause-shows t c =
     let is = c.args.items.now in
     let initial = c.args.out.now.items in
     let last = c.loop-item.out.items in
-    let none : trees (drop c.loop-item.item-index is) ≡ trees [] = ap trees (drop_all c.loop-item.item-index is c.loop-item-test.false) in
+    let none : view_trees (drop c.loop-item.item-index is) ≡ view_trees [] = ap view_trees (drop_all c.loop-item.item-index is c.loop-item-test.false) in
     let P : Trees → Type 0 = λ ts. ShowsItems c.args.options c.args.level ts [] in
-    let Q : List ℕ → Type 0 = λ lines. ShowsItems c.args.options c.args.level (trees is) lines in
+    let Q : List ℕ → Type 0 = λ lines. ShowsItems c.args.options c.args.level (view_trees is) lines in
     subst Q (append-nil (appended_bytes initial last)) (c.loop-item.invariant.shown [] (subst P (sym none) refl))
 
 pub push_item-returns-in_ok-push_line-in-Bytes-clause-shows : goal.push_item-returns-in_ok-push_line-in-Bytes-clause-shows
@@ -90,13 +90,12 @@ push_item-returns-in_ok-push_line-in-Bytes-clause-shows t c =
     let new = c.push_below.new.out.items in
     let line = appended_bytes old lined in
     let below = appended_bytes lined new in
-    let e : tree c.args.item.now ≡ scalar tag (byte_string c.in-Bytes.bytes.items) = ap (value_tree tag) c.in-Bytes.is in
+    let e : view_tree c.args.item.now ≡ scalar tag (byte_string c.in-Bytes.bytes.now) = ap (view_value_tree tag) c.in-Bytes.is in
     let L : Tree → Type 0 = λ tr. ShowsLine options.notes level tr line in
-    let B : List ℕ → Type 0 = λ bs. ShowsBelow options.messages options.notes level (byte_string bs) below in
     let P : Tree → Type 0 = λ tr. ShowsItem options level tr (appended_bytes old new) in
     let whole = onto old lined new line (split old lined c.push_line.ensures.appends) c.push_below.ensures.appends in
     on_ok_weaker c.push_below.result
-    (λ shows. subst P (sym e) (line, below, subst L e c.in_ok-push_line-in-Bytes.ensures.shows, subst B c.deref-in-Bytes.ensures.value shows, whole))
+    (λ shows. subst P (sym e) (line, below, subst L e c.in_ok-push_line-in-Bytes.ensures.shows, shows, whole))
     c.push_below.ensures.shows
 
 pub push_item-returns-in_default-clause-shows : goal.push_item-returns-in_default-clause-shows
@@ -111,7 +110,7 @@ push_item-returns-in_default-clause-shows t c =
 pub push_below-push_item-requires : goal.push_below-push_item-requires
 push_below-push_item-requires t c =
     let found = rw c.in-Some.is at c.in_ok-message.ensures in
-    let few = levels 16 (tree c.in-Some.message) c.args.bytes.now found.spelled.stands in
+    let few = levels 16 (view_tree c.in-Some.message) c.args.bytes.now found.spelled.stands in
     let asked : IsTrue c.args.options.messages = search (rules, c.if-not-options.false) in
     let here = c.requires asked in
     (omega (arith, here, few, c.decreases), (omega (arith, here, few), λ no. let clash : false ≡ true = no in absurd cc))

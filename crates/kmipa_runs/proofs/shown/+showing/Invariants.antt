@@ -1,6 +1,6 @@
 use Rattle.std.proofs.Common.{◌≤◌, ◌+◌, ◌-◌, ◌*◌, ◌++◌, ℕ, List, drop, IsTrue}
 use Rattle.std.specs.Io.{StartsWith, appended_bytes}
-use Rattle.kmipa_ttlv.specs.ItemTree.{trees}
+use Rattle.kmipa_ttlv.specs.ViewTree.{view_trees}
 use Rattle.kmipa_ttlv.specs.Written.{depths}
 use Rattle.kmipa_runs.specs.Shown.{ShowsItems}
 use Rattle.kmipa_runs.proofs.shown.+showing.Given as goal
@@ -16,9 +16,9 @@ decreases-push_below l = 2 * (32 - l.level) - 1
 
 abbrev pub invariant-push_items-loop-item : goal.invariant-push_items-loop-item
 invariant-push_items-loop-item l = record {
-  levels : l.level + depths (trees (drop l.item-index l.items)) ≤ 32;
-  room : IsTrue l.options.messages → l.level + depths (trees (drop l.item-index l.items)) ≤ 16;
-  shown : (others : List ℕ) → ShowsItems l.options l.level (trees (drop l.item-index l.items)) others
-      → ShowsItems l.options l.level (trees l.items) (appended_bytes l.initial.out.items l.out.items ++ others);
+  levels : l.level + depths (view_trees (drop l.item-index l.items)) ≤ 32;
+  room : IsTrue l.options.messages → l.level + depths (view_trees (drop l.item-index l.items)) ≤ 16;
+  shown : (others : List ℕ) → ShowsItems l.options l.level (view_trees (drop l.item-index l.items)) others
+      → ShowsItems l.options l.level (view_trees l.items) (appended_bytes l.initial.out.items l.out.items ++ others);
   appends : StartsWith l.out.items l.initial.out.items;
 }

@@ -2,7 +2,7 @@ use Rattle.std.proofs.Common.{◌≡◌, ◌++◌, ℕ, List, ap, ◌∙◌}
 use Rattle.std.specs.Prelude.{codes}
 use Rattle.std.specs.Io.{appended_bytes}
 use Rattle.std.proofs.lemmas.Result.{on_ok_weaker}
-use Rattle.kmipa_ttlv.specs.ItemTree.{tree}
+use Rattle.kmipa_ttlv.specs.ViewTree.{view_tree}
 use Rattle.kmipa_runs.specs.Shown.{head, kind_name, note}
 use Rattle.kmipa_runs.proofs.AppendLemmas.{since, split}
 use Rattle.kmipa_runs.proofs.ShownLemmas.{plain_line, five}
@@ -18,8 +18,8 @@ returns-clause-shows c =
     let spaced = c.push_text.new.out.items in
     let valued = c.push_value.new.out.items in
     let value = appended_bytes spaced valued in
-    let behind = note c.args.notes (tree item) in
-    let first = head c.args.level tag (kind_name (tree item)) in
+    let behind = note c.args.notes (view_tree item) in
+    let first = head c.args.level tag (kind_name (view_tree item)) in
     let a : headed ≡ old ++ first = c.in_ok-push_head.ensures.pushes ∙ ap (λ (k : List ℕ). old ++ head c.args.level tag k) (c.kind_name.ensures tag) in
     let b : spaced ≡ (old ++ first) ++ codes " " = c.in_ok-push_text.ensures.pushes ∙ ap (λ (l : List ℕ). l ++ codes " ") a in
     let d : valued ≡ ((old ++ first) ++ codes " ") ++ value = split spaced valued c.push_value.ensures.appends ∙ ap (λ (l : List ℕ). l ++ value) b in

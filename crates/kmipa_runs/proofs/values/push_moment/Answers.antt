@@ -9,8 +9,8 @@ pub returns-clause-shows : goal.returns-clause-shows
 returns-clause-shows c =
     let old = c.args.out.now.items in
     let new = c.push_word.new.out.items in
-    let date = c.as_str-2.result.now in
-    let number : c.push_text.new.out.items ≡ old ++ signed_decimal c.args.second = search rules in
+    let date = c.as_str.result.now in
+    let number : c.push_number.new.out.items ≡ old ++ signed_decimal c.args.second = search rules in
     let has : HasDate c.args.second = search (rules, c.in_ok-date.ensures) in
     on_ok_weaker c.push_word.result
     (λ e. record {

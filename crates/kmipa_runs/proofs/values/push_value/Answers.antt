@@ -3,8 +3,8 @@ use Rattle.std.specs.Io.{appended_bytes}
 use Rattle.std.proofs.lemmas.Result.{on_ok_weaker}
 use Rattle.byteorder.specs.Endian.{big_bytes}
 use Rattle.hex.specs.Hex.{encode_lower, encode_upper}
-use Rattle.kmipa_ttlv.specs.ItemTree.{value_tree}
-use Rattle.kmipa_ttlv.specs.declared.item.Value.{Value}
+use Rattle.kmipa_ttlv.specs.ViewTree.{view_value_tree}
+use Rattle.kmipa_ttlv.specs.declared.view.ViewValue.{ViewValue}
 use Rattle.kmipa_runs.specs.Shown.{ShowsValue}
 use Rattle.kmipa_runs.proofs.AppendLemmas.{since}
 use Rattle.kmipa_runs.proofs.values.push_value.Goals as goal
@@ -13,20 +13,20 @@ pub returns-in-BigInteger-clause-shows : goal.returns-in-BigInteger-clause-shows
 returns-in-BigInteger-clause-shows c =
     let old = c.args.out.now.items in
     let new = c.push_digits.new.out.items in
-    let bs = c.in-BigInteger.bytes.items in
+    let bs = c.in-BigInteger.bytes.now in
     on_ok_weaker c.push_digits.result
-    (λ e. λ tag. let P : Value → Type 0 = λ v. ShowsValue (value_tree tag v) (appended_bytes old new) in
-    subst P (sym c.in-BigInteger.is) (since old (encode_lower bs) new (e ∙ ap (λ (l : List ℕ). old ++ encode_lower l) c.deref.ensures.value)))
+    (λ e. λ tag. let P : ViewValue → Type 0 = λ v. ShowsValue (view_value_tree tag v) (appended_bytes old new) in
+    subst P (sym c.in-BigInteger.is) (since old (encode_lower bs) new e))
     c.push_digits.ensures.pushes
 
 pub returns-in-Bytes-clause-shows : goal.returns-in-Bytes-clause-shows
 returns-in-Bytes-clause-shows c =
     let old = c.args.out.now.items in
     let new = c.push_digits-in-Bytes.new.out.items in
-    let bs = c.in-Bytes.bytes.items in
+    let bs = c.in-Bytes.bytes.now in
     on_ok_weaker c.push_digits-in-Bytes.result
-    (λ e. λ tag. let P : Value → Type 0 = λ v. ShowsValue (value_tree tag v) (appended_bytes old new) in
-    subst P (sym c.in-Bytes.is) (since old (encode_lower bs) new (e ∙ ap (λ (l : List ℕ). old ++ encode_lower l) c.deref-in-Bytes.ensures.value)))
+    (λ e. λ tag. let P : ViewValue → Type 0 = λ v. ShowsValue (view_value_tree tag v) (appended_bytes old new) in
+    subst P (sym c.in-Bytes.is) (since old (encode_lower bs) new e))
     c.push_digits-in-Bytes.ensures.pushes
 
 pub returns-in-Enumeration-clause-shows : goal.returns-in-Enumeration-clause-shows
@@ -35,6 +35,6 @@ returns-in-Enumeration-clause-shows c =
     let new = c.push_digits-in-Enumeration.new.out.items in
     let n = c.in-Enumeration.n in
     on_ok_weaker c.push_digits-in-Enumeration.result
-    (λ e. λ tag. let P : Value → Type 0 = λ v. ShowsValue (value_tree tag v) (appended_bytes old new) in
+    (λ e. λ tag. let P : ViewValue → Type 0 = λ v. ShowsValue (view_value_tree tag v) (appended_bytes old new) in
     subst P (sym c.in-Enumeration.is) (since old (encode_upper (big_bytes 4 n)) new (e ∙ ap (λ (l : List ℕ). old ++ encode_upper l) c.to_be_bytes.ensures)))
     c.push_digits-in-Enumeration.ensures.pushes

@@ -12,7 +12,7 @@ use Rattle.kmipa_search.proofs.AnswerLemmas.{opens, gave_up, found}
 use Rattle.kmipa_search.proofs.searching.search_plain.Goals as goal
 
 pub returns-in-Some : goal.returns-in-Some
-returns-in-Some c = λ all r are plain.
+returns-in-Some g c = λ all r are plain.
     let marks = transcript_of c.args.transcript.now in
     let declared = declaration_of c.args.declaration.now in
     let calls = map candidate_step c.args.calls.now in
@@ -24,7 +24,7 @@ returns-in-Some c = λ all r are plain.
     (subst W c.deref.ensures.value c.in_ok-witness-in-Some.ensures) (λ a. c.confirm.ensures r a)
 
 pub returns : goal.returns
-returns c = λ all r are plain.
+returns g c = λ all r are plain.
     let marks = transcript_of c.args.transcript.now in
     let declared = declaration_of c.args.declaration.now in
     let calls = map candidate_step c.args.calls.now in

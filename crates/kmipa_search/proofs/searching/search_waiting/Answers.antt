@@ -11,11 +11,11 @@ use Rattle.kmipa_search.proofs.GuessLemmas.{own_recorded}
 use Rattle.kmipa_search.proofs.searching.search_waiting.Goals as goal
 
 pub guess_order-requires-clause-recorded : goal.guess_order-requires-clause-recorded
-guess_order-requires-clause-recorded c =
+guess_order-requires-clause-recorded g c =
     own_recorded (transcript_of c.args.transcript.now) (map call_of c.args.calls.now) c.in_ok-own.own.items c.deref.result.now c.deref.ensures.value c.in_ok-own.ensures c.requires.each
 
 pub returns-in-Some : goal.returns-in-Some
-returns-in-Some c = λ r are not.
+returns-in-Some g c = λ r are not.
     let steps = c.in-Ok.guessed.steps in
     let P : Option (Vec Turn Global) → Type 0 = λ o. IfSome o (λ turns. length turns.items ≤ steps) in
     let paid : length c.in-Some.turns.items ≤ steps = subst P c.in-Some.is c.in-Ok.ensures.1 in

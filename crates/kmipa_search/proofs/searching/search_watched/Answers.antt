@@ -5,10 +5,10 @@ use Rattle.kmipa_search.specs.Candidates.{candidate_step}
 use Rattle.kmipa_search.specs.Plain.{ArePlain}
 use Rattle.kmipa_search.proofs.CandidateLemmas.{plain_own}
 use Rattle.kmipa_search.proofs.PlainLemmas.{plain_readable}
-use Rattle.kmipa_search.proofs.searching.search.Goals as goal
+use Rattle.kmipa_search.proofs.searching.search_watched.Goals as goal
 
 pub search_plain-requires-clause-readable : goal.search_plain-requires-clause-readable
-search_plain-requires-clause-readable c =
+search_plain-requires-clause-readable g c =
     let calls = map call_of c.in_ok-calls.calls.items in
     let steps = map candidate_step c.deref-in-Some.result.now in
     let plain : ArePlain calls steps = plain_own c.in_ok-calls.calls.items c.deref.result.now c.in_ok-own.field-0 c.in-Some.own c.deref-in-Some.result.now c.deref.ensures.value c.in-Some.is c.deref-in-Some.ensures.value c.in_ok-own.ensures in

@@ -1,0 +1,15 @@
+//! Watching a search on its way.
+
+/// Who watches a search: it is told of each step, and changes nothing of what the search answers.
+pub trait Watch {
+    /// One more call is tried: so many steps were made with it, and so many calls are taken ahead of it.
+    fn step(&mut self, steps: u64, taken: usize);
+}
+
+/// Nobody watches.
+#[derive(Debug, Drop)]
+pub struct Unwatched {}
+
+impl Watch for Unwatched {
+    fn step(&mut self, _steps: u64, _taken: usize) {}
+}
