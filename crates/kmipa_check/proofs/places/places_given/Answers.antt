@@ -14,5 +14,5 @@ returns-then-not-branch c =
     let some : c.args.numbers.now ≢ [] = search rules in
     let M : Option (Vec ℕ Global) → Type 0 = λ o. MatchOption o ((places : List ℕ) → c.args.numbers.now ≡ place_numbers places → ⊥) (λ places. c.args.numbers.now ≡ place_numbers places.items) in
     let N : List ℕ → Type 0 = λ places. IsTrue c.in_ok-is_taking_order.field-0 ↔ AreTakingOrder request response places in
-    no_order request response c.args.numbers.now c.in-Some.order.items c.in_ok-is_taking_order.field-0 some (c.if-not-wants_order.ensures.0 refl) (subst M c.in-Some.is c.in_ok-places.ensures)
+    no_order request response c.args.numbers.now c.in-Some.order.items c.in_ok-is_taking_order.field-0 some (c.if-not-wants_order.ensures.0 refl) (subst M c.in-Some.is c.in_ok-order.ensures)
     (subst N c.deref.ensures.value c.in_ok-is_taking_order.ensures) c.if-not-branch.true
