@@ -3,13 +3,16 @@
 
 mod files;
 mod printing;
+mod progress;
 mod session;
 mod words;
 
+use std::io::IsTerminal;
 use std::process::ExitCode;
 
 fn main(rt: HostRuntime) -> ExitCode {
-    ExitCode::from(session::run_session(&rt).number())
+    let watched = rt.stderr().is_terminal();
+    ExitCode::from(session::run_session(&rt, watched).number())
 }
 
 #[cfg(test)]

@@ -6,19 +6,25 @@ ghost use Rattle.kmipa_runs.specs.declared.status.Status.{Status};
 
 use crate::files::{hint_kind, open_input, replace_file};
 use crate::printing::{tell, tell_error, tell_usage, tell_words};
+use crate::progress::Progress;
 use crate::words::{Job, read_words};
 use kmipa_runs::{ShowOptions, Status, check_run, search_run, show_run, write_run};
-use std::rt::{Env, Files};
+use kmipa_search::Watch;
+use std::rt::{Clock, Env, Files};
 use std::{env, io};
 
-/// Does what the words of the command line ask for, and answers the status to end with.
-pub fn run_session<R: Env + Files + AllocGlobal + Print + Eprint>(rt: &R) -> Status {
+/// Does what the words of the command line ask for, and answers the status to end with. Where standard error is watched
+/// by somebody, a long search tells there how far it got.
+pub fn run_session<R: Env + Files + Clock + AllocGlobal + Print + Eprint>(
+    rt: &R,
+    watched: bool,
+) -> Status {
     let words = match words_of(rt) {
         Ok(words) => words,
         Err(error) => return tell_words(rt, &error),
     };
     match read_words(rt.alloc(), words.as_slice()) {
-        Ok(job) => run_job(rt, &job),
+        Ok(job) => run_job(rt, &job, watched),
         Err(usage) => tell_usage(rt, &usage),
     }
 }
@@ -28,7 +34,11 @@ fn words_of<R: Env + AllocGlobal>(rt: &R) -> io::Result<Vec<String>> {
 }
 
 /// Opens the files of a job, in the order in which they were named, and prints its lines.
-fn run_job<R: Files + AllocGlobal + Print + Eprint>(rt: &R, job: &Job<'_>) -> Status {
+fn run_job<R: Files + Clock + AllocGlobal + Print + Eprint>(
+    rt: &R,
+    job: &Job<'_>,
+    watched: bool,
+) -> Status {
     let mut out = Vec::new(rt.alloc());
     let done = match *job {
         Job::Check {
@@ -42,12 +52,13 @@ fn run_job<R: Files + AllocGlobal + Print + Eprint>(rt: &R, job: &Job<'_>) -> St
             out: made,
             budget,
             forced,
-            ..
+            quiet,
         } => search_files(
             rt,
             [transcript, declaration, made],
             budget,
             forced,
+            &mut Progress::new(rt, budget, watched && !quiet),
             &mut out,
         ),
         Job::Show { file, options } => show_file(rt, file, options, &mut out),
@@ -87,11 +98,12 @@ fn check_files<R: Files + AllocGlobal + Eprint>(
 
 /// Looks for a witness of the first two files, with at most `budget` steps, and makes the third of it. Where the
 /// status is not `Done` nothing is made.
-fn search_files<R: Files + AllocGlobal + Eprint>(
+fn search_files<R: Files + AllocGlobal + Eprint, W: Watch>(
     rt: &R,
     names: [&str; 3],
     budget: u64,
     forced: bool,
+    watch: &mut W,
     out: &mut Vec<u8>,
 ) -> io::Result<Status> {
     let mut transcript = open_input(rt, names[0])?;
@@ -103,6 +115,7 @@ fn search_files<R: Files + AllocGlobal + Eprint>(
         &mut declaration,
         budget,
         forced,
+        watch,
         out,
         &mut made,
     );

@@ -64,6 +64,8 @@ that is tried. A transcript is plain where no call lacks its end, no message lea
 undone answer hides what a witness would have to give. Where a plain transcript is given up with steps left, no order
 explains it.
 
+Where standard error is a terminal, a long search tells there once a second how far it got, unless --quiet is given.
+
 Status: 0 found; 2 a file is refused; 3 a device failed or memory ran out; 4 gave up; 64 wrong words";
 
 const SHOW_HELP: &str = "\
