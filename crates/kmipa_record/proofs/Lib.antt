@@ -1,6 +1,7 @@
 pub mod ShapeLemmas
 pub mod KindLemmas
 pub mod NextLemmas
+mod PlaceLemmas
 pub mod FileLemmas
 pub mod MarkLemmas
 pub mod NumberMapLemmas

@@ -1,35 +1,110 @@
--- A transcript that is read mark by mark.
-use Rattle.std.proofs.Common.{◌≡◌, ◌≢◌, ℕ, ℤ, List, [], ◌∷◌, ◌++◌, Bool, refl, sym, ap, subst, ◌∙◌, arith, map, ◌⊎◌, inl, inr}
-use Rattle.std.proofs.lemmas.List.{map-append}
+-- A transcript that is taken mark by mark.
+use Rattle.std.proofs.Common.{◌≡◌, ◌≢◌, ℕ, ℤ, List, [], ◌∷◌, ◌++◌, length, drop, Bool, true, Some, None, refl, sym, ap, subst, ◌∙◌, arith, map, ◌⊎◌, inl, inr}
+use Rattle.std.proofs.lemmas.List.{map-append, append-nil, length-append}
 use Rattle.kmipa_ttlv.specs.Tree.{Tree}
+use Rattle.kmipa_ttlv.specs.Stream.{IsSplit}
 use Rattle.kmipa_record.specs.Calls.{HasNone}
 use Rattle.kmipa_record.specs.Calls as calls
-use Rattle.kmipa_record.specs.Files.{Tells}
+use Rattle.kmipa_record.specs.Files.{in_bytes, in_item, at_end, IsUpTo, Tells, TellsItem, IsOneItemAtMost}
 use Rattle.kmipa_record.specs.Marks.{MarkOf, ends, mark_of, mark_item, AreRecorded}
-use Rattle.kmipa_record.specs.Reading.{IsReading, Takes, ReadFails, HeaderFails}
-use Rattle.kmipa_record.specs.Transcripts.{transcript_header, IsTranscript, AreRightInTranscript, TranscriptItemFault, TranscriptEndFault, MarkItemFault, no_mark, in_mark, TranscriptFault, IsTranscriptUpTo}
-use Rattle.kmipa_record.specs.TranscriptReading.{IsReadSoFar}
+use Rattle.kmipa_record.specs.MarkReading.{AreThese, IsNoMark, HasNoHeader, FaultBehind, IsRightBehind, AreGivenOf, HasGiven, GivesNext, StandsAt, input_of, told_of}
+use Rattle.kmipa_record.specs.Reading.{IsReading, Takes}
+use Rattle.kmipa_record.specs.Transcripts.{transcript_header, AreRightInTranscript, TranscriptItemFault, TranscriptEndFault, MarkItemFault, no_mark, in_mark, TranscriptFault, IsTranscriptUpTo}
+use Rattle.kmipa_record.specs.TranscriptReading.{AreTaken}
 use Rattle.kmipa_record.specs.declared.calls.Calls.{Calls}
 use Rattle.kmipa_record.specs.declared.fault.RecordFault.{RecordFault}
 use Rattle.kmipa_record.specs.declared.fault.RecordKind.{RecordKind}
-use Rattle.kmipa_record.specs.declared.fault.RecordKind.TheVariants.{Entry, Memory}
+use Rattle.kmipa_record.specs.declared.fault.RecordKind.TheVariants.{Memory}
+use Rattle.kmipa_record.specs.declared.marks.Marks.{Marks}
 use Rattle.kmipa_record.specs.declared.transcript.Mark.{Mark}
-use Rattle.kmipa_record.proofs.KindLemmas.{memory_cause}
-use Rattle.kmipa_record.proofs.FileLemmas.{goes_on, starts, ends_here, Stands, tells_read, item_told, tells_header, right_here}
+use Rattle.kmipa_record.proofs.KindLemmas.{ByCause-map, memory_cause}
+use Rattle.kmipa_record.proofs.FileLemmas.{goes_on, Stands, item_told, right_here}
+use Rattle.kmipa_record.proofs.PlaceLemmas.{one_whole, spelled_whole, begins_ahead}
 use Rattle.kmipa_record.proofs.CallLemmas.{follow_none, one_more_taken, refused_mark, refused_cause}
 
 abbrev items_of : List MarkOf → List Tree
 items_of marks = transcript_header ∷ map mark_item marks
 
-stands : (file : List ℕ) (marks : List MarkOf) (calls : Calls) (left : List ℕ) (place : ℕ) → IsReadSoFar file marks calls left place → Stands AreRightInTranscript file (items_of marks) left place
-stands file marks calls left place s = record { right = (refl, record { marks = marks; are = refl; recorded = s.recorded }); reading = s.reading }
+-- ---- the first fault
 
--- ---- the header
+right : (items : List Tree) (marks : List MarkOf) → AreRecorded marks → AreThese marks items → AreRightInTranscript items
+right items marks recorded (inl none) = subst AreRightInTranscript (sym none) tt
+right items marks recorded (inr all) = subst AreRightInTranscript (sym all) (refl, record { marks = marks; are = refl; recorded = recorded })
 
-pub header_fails : (file : List ℕ) (place : ℕ) (failed : Bool) (f : RecordFault) → place ≡ 0 → HeaderFails (λ item. item ≡ transcript_header) place file failed f
+right_up_to : (file : List ℕ) (marks : List MarkOf) (items : List Tree) (rest : List ℕ) → AreRecorded marks → IsUpTo (AreThese marks) file items rest → IsUpTo AreRightInTranscript file items rest
+right_up_to file marks items rest recorded u = record { right = right items marks recorded u.right; begins = u.begins }
+
+item_fault : (items : List Tree) (item : Tree) (kind : RecordKind) → IsNoMark items item kind → TranscriptItemFault items item kind
+item_fault [] item kind f = f
+item_fault (header ∷ records) item kind f = no_mark f.0 f.1
+
+end_fault : (bytes : List ℕ) (items : List Tree) (offset : ℕ) (kind : RecordKind) → HasNoHeader bytes items offset kind → TranscriptEndFault bytes items offset kind
+end_fault bytes [] offset kind f = f
+end_fault bytes (header ∷ records) offset kind f = f
+
+first_fault : (file : List ℕ) (marks : List MarkOf) (offset : ℕ) (kind : RecordKind) → AreRecorded marks → FaultBehind marks file offset kind → TranscriptFault file offset kind
+first_fault file marks offset kind r (in_bytes items rest from flaw u some wrong o k) = in_bytes items rest from flaw (right_up_to file marks items rest r u) some wrong o k
+first_fault file marks offset kind r (in_item items item front rest u spelled wrong o) =
+    in_item items item front rest (right_up_to file marks items _ r u) spelled (item_fault items item kind wrong) o
+first_fault file marks offset kind r (at_end items u wrong) = at_end items (right_up_to file marks items [] r u) (end_fault file items offset kind wrong)
+
+-- a fault behind marks of a transcript is one of the transcript
+pub behind_told : (file : List ℕ) (marks : List MarkOf) (failed : Bool) (f : RecordFault) → AreRecorded marks → Tells (FaultBehind marks) (IsRightBehind marks) file failed f
     → Tells TranscriptFault IsTranscriptUpTo file failed f
-header_fails file place failed f zero h =
-    tells_header AreRightInTranscript TranscriptItemFault TranscriptEndFault (λ item. item ≡ transcript_header) tt (λ item kind differs k. (differs, k)) (λ file offset kind o k. (o, k)) file place failed f zero h
+behind_told file marks failed f r h =
+    let here : IsRightBehind marks file f.offset → IsTranscriptUpTo file f.offset =
+    λ u. record { items = u.items; rest = u.rest; up_to = right_up_to file marks u.items u.rest r u.up_to; placed = u.placed } in
+    ByCause-map f.kind _ _ _ _ _ _ (λ d. (d.0, here d.1)) here (first_fault file marks f.offset f.kind r) h
+
+-- ---- a mark
+
+refused_item : (marks : List MarkOf) (old : Calls) (mark : MarkOf) (kind : RecordKind) → calls.Follow marks old → kind ≢ Memory → calls.Refuses old mark kind
+    → MarkItemFault (map mark_item marks) (mark_item mark) kind
+refused_item marks old mark kind follow ne r = in_mark marks mark refl refl (refused_mark marks old mark kind follow ne r)
+
+pub refused_told : (file came after : List ℕ) (marks : List MarkOf) (old : Calls) (mark : MarkOf) (place : ℕ) (failed : Bool) (f : RecordFault) → file ≡ came ++ after
+    → AreRecorded marks → calls.Follow marks old → StandsAt marks mark place came after → f.offset ≡ place → (f.kind ≡ Memory) ⊎ calls.Refuses old mark f.kind
+    → Tells TranscriptFault IsTranscriptUpTo file failed f
+refused_told file came after marks old mark place failed f e recorded follow s o r =
+    let reading : IsReading file (items_of marks) s.left place = subst (λ (l : List ℕ). IsReading l (items_of marks) s.left place) (sym e) s.reading in
+    let here : Stands AreRightInTranscript file (items_of marks) s.left place =
+    record { right = (refl, record { marks = marks; are = refl; recorded = recorded }); reading = reading } in
+    let right : IsTranscriptUpTo file f.offset = subst (IsTranscriptUpTo file) (sym o) (right_here AreRightInTranscript file (items_of marks) s.left place here) in
+    elim r [
+      | inl m ↦ memory_cause f.kind _ _ _ m right
+      | inr q ↦ refused_cause old mark f.kind _ _ _ q right
+          (λ ne. subst (λ (n : ℕ). TranscriptFault file n f.kind) (sym o)
+          (item_told AreRightInTranscript TranscriptItemFault TranscriptEndFault file (items_of marks) (mark_item mark) s.left after place (length came) f.kind here s.taken
+          (refused_item marks old mark f.kind follow ne q)))
+    ]
+
+-- the mark was read whole, and nothing behind it
+whole_mark : (came : List ℕ) (marks : List MarkOf) (mark : MarkOf) (place offset : ℕ) → StandsAt marks mark place came [] → offset ≡ place → IsOneItemAtMost (drop offset came)
+whole_mark came marks mark place offset s o =
+    let front = s.taken.front in
+    let split : IsSplit (came ++ []) (items_of marks) s.left place None = s.reading in
+    let b = begins_ahead (items_of marks) (came ++ []) s.left split.begins in
+    let same : came ≡ b.0 ++ front = sym (append-nil came) ∙ b.1 ∙ ap (λ (l : List ℕ). b.0 ++ l) (s.taken.consumed ∙ append-nil front) in
+    one_whole b.0 came front offset (omega (arith, o, s.taken.taken, ap length same, length-append b.0 front)) same (spelled_whole (mark_item mark) front s.taken.spelled)
+
+pub refused_place : (came : List ℕ) (marks : List MarkOf) (old : Calls) (mark : MarkOf) (place : ℕ) (f : RecordFault) → StandsAt marks mark place came [] → f.offset ≡ place
+    → (f.kind ≡ Memory) ⊎ calls.Refuses old mark f.kind → TellsItem came f
+refused_place came marks old mark place f s o r =
+    let whole = whole_mark came marks mark place f.offset s o in
+    elim r [
+      | inl m ↦ memory_cause f.kind _ _ _ m whole
+      | inr q ↦ refused_cause old mark f.kind _ _ _ q whole (λ ne. tt)
+    ]
+
+pub one_more : (file : List ℕ) (marks : List MarkOf) (mark : MarkOf) (left after : List ℕ) (place place' : ℕ) → Takes (mark_item mark) left after place place'
+    → IsReading file (items_of marks) left place → IsReading file (items_of (marks ++ mark ∷ [])) after place'
+one_more file marks mark left after place place' t r =
+    subst (λ (l : List Tree). IsReading file (transcript_header ∷ l) after place') (sym (map-append mark_item marks (mark ∷ []))) (goes_on file (items_of marks) (mark_item mark) left after place place' t r)
+
+given_now : {R : Type 0} (source : Marks R) (marks : List MarkOf) → source.begun ≡ true → AreGivenOf true marks (input_of source) → HasGiven marks source
+given_now source marks begun given = subst (λ (b : Bool). AreGivenOf b marks (input_of source)) (sym begun) given
+
+-- ---- what was taken
 
 no_end : (before after : List MarkOf) (call : ℤ) (message : List ℕ) → [] ≡ before ++ ends call message ∷ after → ⊥
 no_end [] after call message e = cc
@@ -43,66 +118,14 @@ none_recorded = record {
   answered = λ before after call message e. absurd (no_end before after call message e);
 }
 
-pub header_read : (file left : List ℕ) (place place' : ℕ) (calls : Calls) (marks : List Mark) → place ≡ 0 → marks ≡ [] → Takes transcript_header file left place place' → HasNone calls
-    → IsReadSoFar file (map mark_of marks) calls left place'
-header_read file left place place' calls marks zero e t none =
-    subst (λ (l : List Mark). IsReadSoFar file (map mark_of l) calls left place') (sym e) (record {
-      reading = goes_on file [] transcript_header file left place place' t (starts file place zero);
-      recorded = none_recorded;
-      follow = follow_none calls none;
-    })
+pub none_taken : {R : Type 0} (source : Marks R) (of : Calls) (marks : List Mark) → marks ≡ [] → HasGiven [] source → told_of source ≡ None → HasNone of → AreTaken (map mark_of marks) of source
+none_taken source of marks e given untold none =
+    subst (λ (l : List Mark). AreTaken (map mark_of l) of source) (sym e) (record { given = given; untold = untold; recorded = none_recorded; follow = follow_none of none })
 
--- ---- a mark
-
-pub read_fails : (file : List ℕ) (marks : List MarkOf) (calls : Calls) (left : List ℕ) (place : ℕ) (failed : Bool) (f : RecordFault)
-    → IsReadSoFar file marks calls left place → ReadFails place left failed f → Tells TranscriptFault IsTranscriptUpTo file failed f
-read_fails file marks calls left place failed f s h =
-    tells_read AreRightInTranscript TranscriptItemFault TranscriptEndFault file (items_of marks) left place failed f (stands file marks calls left place s) h
-
-pub no_mark_told : (file : List ℕ) (marks : List MarkOf) (calls : Calls) (item : Tree) (left after : List ℕ) (place place' : ℕ) (failed : Bool)
-    → IsReadSoFar file marks calls left place → Takes item left after place place' → ¬ ((mark : MarkOf) × (item ≡ mark_item mark))
-    → Tells TranscriptFault IsTranscriptUpTo file failed (record { offset = place; kind = Entry })
-no_mark_told file marks calls item left after place place' failed s t none =
-    item_told AreRightInTranscript TranscriptItemFault TranscriptEndFault file (items_of marks) item left after place place' Entry (stands file marks calls left place s) t
-    (no_mark (λ mark e. none (mark, e)) refl)
-
-refused_item : (file : List ℕ) (marks : List MarkOf) (old : Calls) (mark : MarkOf) (left : List ℕ) (place : ℕ) (kind : RecordKind) → IsReadSoFar file marks old left place
-    → kind ≢ Memory → calls.Refuses old mark kind → MarkItemFault (map mark_item marks) (mark_item mark) kind
-refused_item file marks old mark left place kind s ne r = in_mark marks mark refl refl (refused_mark marks old mark kind s.follow ne r)
-
-pub refused_told : (file : List ℕ) (marks : List MarkOf) (old : Calls) (mark : MarkOf) (left after : List ℕ) (place place' : ℕ) (failed : Bool) (f : RecordFault)
-    → IsReadSoFar file marks old left place → Takes (mark_item mark) left after place place' → f.offset ≡ place → (f.kind ≡ Memory) ⊎ calls.Refuses old mark f.kind
-    → Tells TranscriptFault IsTranscriptUpTo file failed f
-refused_told file marks old mark left after place place' failed f s t o r =
-    let here = stands file marks old left place s in
-    let right : IsTranscriptUpTo file f.offset = subst (IsTranscriptUpTo file) (sym o) (right_here AreRightInTranscript file (items_of marks) left place here) in
-    elim r [
-      | inl m ↦ memory_cause f.kind _ _ _ m right
-      | inr q ↦ refused_cause old mark f.kind _ _ _ q right
-          (λ ne. subst (λ (n : ℕ). TranscriptFault file n f.kind) (sym o)
-          (item_told AreRightInTranscript TranscriptItemFault TranscriptEndFault file (items_of marks) (mark_item mark) left after place place' f.kind here t
-          (refused_item file marks old mark left place f.kind s ne q)))
-    ]
-
-pub one_more : (file : List ℕ) (marks : List MarkOf) (mark : MarkOf) (left after : List ℕ) (place place' : ℕ) → Takes (mark_item mark) left after place place'
-    → IsReading file (items_of marks) left place → IsReading file (items_of (marks ++ mark ∷ [])) after place'
-one_more file marks mark left after place place' t r =
-    subst (λ (l : List Tree). IsReading file (transcript_header ∷ l) after place') (sym (map-append mark_item marks (mark ∷ []))) (goes_on file (items_of marks) (mark_item mark) left after place place' t r)
-
-took : (file : List ℕ) (marks : List MarkOf) (mark : MarkOf) (old new : Calls) (left after : List ℕ) (place place' : ℕ) → Takes (mark_item mark) left after place place'
-    → calls.Takes old new mark → IsReadSoFar file marks old left place → IsReadSoFar file (marks ++ mark ∷ []) new after place'
-took file marks mark old new left after place place' t b s =
-    let next = one_more_taken marks mark old new b s.recorded s.follow in
-    record { reading = one_more file marks mark left after place place' t s.reading; recorded = next.0; follow = next.1 }
-
-pub mark_taken : (file : List ℕ) (marks more : List Mark) (mark : Mark) (old new : Calls) (left after : List ℕ) (place place' : ℕ) → more ≡ marks ++ mark ∷ []
-    → Takes (mark_item (mark_of mark)) left after place place' → calls.Takes old new (mark_of mark) → IsReadSoFar file (map mark_of marks) old left place
-    → IsReadSoFar file (map mark_of more) new after place'
-mark_taken file marks more mark old new left after place place' e t b s =
+pub mark_taken : {R : Type 0} (source : Marks R) (marks more : List Mark) (mark : Mark) (old new : Calls) → more ≡ marks ++ mark ∷ [] → AreRecorded (map mark_of marks)
+    → calls.Follow (map mark_of marks) old → calls.Takes old new (mark_of mark) → GivesNext (map mark_of marks) source (Some mark) → told_of source ≡ None → AreTaken (map mark_of more) new source
+mark_taken source marks more mark old new e recorded follow takes gives untold =
     let same : map mark_of more ≡ map mark_of marks ++ mark_of mark ∷ [] = ap (map mark_of) e ∙ map-append mark_of marks (mark ∷ []) in
-    subst (λ (l : List MarkOf). IsReadSoFar file l new after place') (sym same) (took file (map mark_of marks) (mark_of mark) old new left after place place' t b s)
-
--- ---- the end
-
-pub ended_right : (file : List ℕ) (marks : List MarkOf) (calls : Calls) (place : ℕ) → IsReadSoFar file marks calls [] place → IsTranscript file marks
-ended_right file marks calls place s = record { spelled = ends_here file (items_of marks) [] place refl s.reading; recorded = s.recorded }
+    let next = one_more_taken (map mark_of marks) (mark_of mark) old new takes recorded follow in
+    subst (λ (l : List MarkOf). AreTaken l new source) (sym same)
+    (record { given = given_now source _ gives.1 gives.0; untold = untold; recorded = next.0; follow = next.1 })

@@ -1,9 +1,10 @@
 -- Files of items: a header and records, one behind the other.
-use Rattle.std.specs.Prelude.{◌≡◌, ◌<◌, ℕ, ◌+◌, ◌-◌, List, [], ◌++◌, length, Bool, IsTrue}
+use Rattle.std.specs.Prelude.{◌≡◌, ◌<◌, ◌⊎◌, ℕ, ◌+◌, ◌-◌, List, [], ◌++◌, length, drop, Bool, IsTrue}
 use Rattle.kmipa_ttlv.specs.Tree.{Tree}
 use Rattle.kmipa_ttlv.specs.Spelling.{Spells}
 use Rattle.kmipa_ttlv.specs.Flaw.{OuterFlaw}
-use Rattle.kmipa_ttlv.specs.Stream.{Begins, capped}
+use Rattle.kmipa_ttlv.specs.Stream.{Begins, IsCutShort, capped}
+use Rattle.kmipa_ttlv.specs.Reading.{IsWhole}
 use Rattle.kmipa_ttlv.specs.declared.fault.FaultKind.{FaultKind}
 use Rattle.kmipa_record.specs.Kinds.{ByCause}
 use Rattle.kmipa_record.specs.declared.fault.RecordFault.{RecordFault}
@@ -42,3 +43,11 @@ pub data FirstFault (AreRight : List Tree → Type 0) (ItemFault : List Tree →
 abbrev pub Tells : (List ℕ → ℕ → RecordKind → Type 0) → (List ℕ → ℕ → Type 0) → List ℕ → Bool → RecordFault → Type 0
 Tells Fault RightUpTo file failed f =
     ByCause f.kind (IsTrue failed × RightUpTo file f.offset) (RightUpTo file f.offset) (Fault file f.offset f.kind)
+
+-- one item at most: the beginning of one, or as many bytes as its header says
+abbrev pub IsOneItemAtMost : List ℕ → Type 0
+IsOneItemAtMost bytes = IsCutShort bytes ⊎ IsWhole bytes
+
+-- Device and Memory are told where the item begins that was being read: from there on came the beginning of it or, where memory ran out, perhaps all of it.
+abbrev pub TellsItem : List ℕ → RecordFault → Type 0
+TellsItem came f = ByCause f.kind (IsCutShort (drop f.offset came)) (IsOneItemAtMost (drop f.offset came)) (Unit {0})

@@ -1,16 +1,17 @@
 -- The marks of a transcript that are given one at a time.
-use Rattle.std.specs.Prelude.{◌≡◌, ◌≢◌, ◌⊎◌, ℕ, Bool, true, false, IsTrue, List, [], ◌∷◌, ◌++◌, map, Option, Some, None}
+use Rattle.std.specs.Prelude.{◌≡◌, ◌≢◌, ◌⊎◌, ℕ, Bool, true, false, IsTrue, List, [], ◌∷◌, ◌++◌, length, map, Option, Some, None}
 use Rattle.kmipa_ttlv.specs.Input.{came_of, taken_of, is_ended}
 use Rattle.kmipa_ttlv.specs.Stream.{Begins}
 use Rattle.kmipa_ttlv.specs.Tree.{Tree}
 use Rattle.kmipa_ttlv.specs.declared.input.Input.{Input}
 use Rattle.kmipa_record.specs.Files.{FirstFault, IsRightUpTo}
 use Rattle.kmipa_record.specs.Marks.{MarkOf, mark_of, mark_item}
-use Rattle.kmipa_record.specs.Reading.{IsReading}
+use Rattle.kmipa_record.specs.Reading.{IsReading, Takes}
 use Rattle.kmipa_record.specs.Transcripts.{transcript_header}
 use Rattle.kmipa_record.specs.declared.fault.RecordFault.{RecordFault}
 use Rattle.kmipa_record.specs.declared.fault.RecordKind.{RecordKind}
 use Rattle.kmipa_record.specs.declared.fault.RecordKind.TheVariants.{Header, Entry}
+use Rattle.kmipa_record.specs.declared.mark_reading.PlacedMark.{PlacedMark}
 use Rattle.kmipa_record.specs.declared.marks.Marks.{Marks}
 use Rattle.kmipa_record.specs.declared.transcript.Mark.{Mark}
 
@@ -27,9 +28,31 @@ abbrev pub GivesNextOf : {R : Type 0} → List MarkOf → Input R → Option Mar
 GivesNextOf marks input (Some mark) = AreGivenOf true (marks ++ mark_of mark ∷ []) input
 GivesNextOf marks input None = Begins (transcript_header ∷ map mark_item marks) (came_of input) [] × IsTrue (is_ended input) × AreGivenOf true marks input
 
+-- Of each file that begins with what came: behind the header and these marks, at this place, stands this mark, and what is left is behind it.
+pub record StandsAt (marks : List MarkOf) (mark : MarkOf) (place : ℕ) (came after : List ℕ) : Type 0 where
+  pub left : List ℕ
+  pub reading : IsReading (came ++ after) (transcript_header ∷ map mark_item marks) left place
+  pub taken : Takes (mark_item mark) left after place (length came)
+
+abbrev pub StandsNext : {R : Type 0} → List MarkOf → MarkOf → ℕ → Input R → Type 0
+StandsNext marks mark place input = (after : List ℕ) → StandsAt marks mark place (came_of input) after
+
+-- the same, with the place of the mark that is given
+abbrev pub GivesPlaced : {R : Type 0} → List MarkOf → Input R → Option PlacedMark → Type 0
+GivesPlaced marks input (Some given) = StandsNext marks (mark_of given.mark) given.place input
+GivesPlaced marks input None = GivesNextOf marks input None
+
 -- the input below
 abbrev pub input_of : {R : Type 0} → Marks R → Input R
 input_of m = m.input.now
+
+-- the name of the reference to it, by which a caller knows that it is still the same
+abbrev pub reference_of : {R : Type 0} → Marks R → ℕ
+reference_of m = m.input.ghost_name
+
+-- where the mark begins that was given last
+abbrev pub place_of : {R : Type 0} → Marks R → ℕ
+place_of m = m.place
 
 -- the fault that was told
 abbrev pub told_of : {R : Type 0} → Marks R → Option RecordFault

@@ -1,13 +1,14 @@
--- How a transcript is read mark by mark. Not promised.
-use Rattle.std.specs.Prelude.{ℕ, List, ◌∷◌, map}
+-- How a transcript is taken mark by mark. Not promised.
+use Rattle.std.specs.Prelude.{◌≡◌, List, None}
 use Rattle.kmipa_record.specs.Calls.{Follow}
-use Rattle.kmipa_record.specs.Marks.{MarkOf, mark_item, AreRecorded}
-use Rattle.kmipa_record.specs.Reading.{IsReading}
-use Rattle.kmipa_record.specs.Transcripts.{transcript_header}
+use Rattle.kmipa_record.specs.Marks.{MarkOf, AreRecorded}
+use Rattle.kmipa_record.specs.MarkReading.{HasGiven, told_of}
 use Rattle.kmipa_record.specs.declared.calls.Calls.{Calls}
+use Rattle.kmipa_record.specs.declared.marks.Marks.{Marks}
 
--- the header and these marks were read of the file, and this is left at this place
-pub record IsReadSoFar (file : List ℕ) (marks : List MarkOf) (calls : Calls) (left : List ℕ) (place : ℕ) : Type 0 where
-  pub reading : IsReading file (transcript_header ∷ map mark_item marks) left place
+-- these marks were given, they are those of a transcript so far, and these are their calls
+pub record AreTaken {R : Type 0} (marks : List MarkOf) (calls : Calls) (source : Marks R) : Type 0 where
+  pub given : HasGiven marks source
+  pub untold : told_of source ≡ None
   pub recorded : AreRecorded marks
   pub follow : Follow marks calls

@@ -3,7 +3,7 @@
 ghost use Rattle.std.specs.Prelude.{◌≡◌, ◌<◌, ◌≢◌, ℕ, List, [], ◌++◌, Bool, true, false, IsTrue, IfOk, IfErr, MatchResult};
 ghost use Rattle.std.specs.Io.{StartsWith, appended_bytes};
 ghost use Rattle.kmipa_ttlv.specs.Input.{came_of, taken_of, is_ended, is_failed, Leaves, EndsWith, IsFileOf, StaysOver};
-ghost use Rattle.kmipa_record.specs.Files.{Tells};
+ghost use Rattle.kmipa_record.specs.Files.{Tells, TellsItem};
 ghost use Rattle.kmipa_record.specs.DeclarationReading.{declared_by, AreKept, IsReadSoFar};
 ghost use Rattle.kmipa_record.specs.Declarations.{declaration_of, AreDeclared, IsDeclaration, DeclarationFault, IsDeclarationUpTo};
 
@@ -42,6 +42,8 @@ pub fn read_declaration<R: Read>(
     ensures declared { IfOk result (λ declaration. AreDeclared (declaration_of declaration)) }
     // Else the first fault is told, whatever follows what came, and nothing where the end was seen; unless a read failed or memory ran out.
     ensures fault { (file : List ℕ) → IsFileOf file input.new → IfErr result (Tells DeclarationFault IsDeclarationUpTo file (is_failed input.new)) }
+    // These two are told where the item begins that was being read.
+    ensures place { IfErr result (TellsItem (came_of input.new)) }
     ensures sound { MatchResult result (λ _. is_failed input.new ≡ false) (λ f. f.kind ≢ RecordKind.Device → is_failed input.new ≡ false) }
     // Over a reader whose bytes are known what came is their front, and all where the end was seen.
     ensures over { StaysOver R.remaining input.old input.new }
@@ -68,6 +70,7 @@ fn read_record<R: Read>(
     ensures fault { (file left after : List ℕ) (unique : Bool) → Leaves input.old input.new left after → EndsWith input.new after
         → IsReadSoFar file (declared_by unique records.old) left (taken_of input.old)
         → IfErr result (Tells DeclarationFault IsDeclarationUpTo file (is_failed input.new)) }
+    ensures place { IfErr result (TellsItem (came_of input.new)) }
     ensures end { IfOk result (λ more. more ≡ false → IsTrue (is_ended input.new)) }
     ensures nearer { IfOk result (λ more. more ≡ true → taken_of input.old < taken_of input.new) }
     ensures sound { MatchResult result (λ _. is_failed input.new ≡ false) (λ f. f.kind ≢ RecordKind.Device → is_failed input.new ≡ false) }

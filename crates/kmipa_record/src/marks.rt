@@ -3,7 +3,7 @@
 ghost use Rattle.std.specs.Prelude.{◌≤◌, vec_len};
 
 use crate::fault::{RecordFault, RecordKind};
-use crate::mark_reading::read_on;
+use crate::mark_reading::{PlacedMark, read_on};
 use crate::transcript::Mark;
 use kmipa_ttlv::Input;
 use std::alloc::Global;
@@ -23,17 +23,19 @@ pub struct Marks<'a, R> {
     bytes: Vec<u8>,
     // Whether the header was read.
     begun: bool,
+    // Where the mark begins that was given last.
+    place: u64,
     // The fault that stays.
     fault: Option<RecordFault>,
     ghost bounded: { vec_len bytes ≤ 0x10_0000 },
 }
 
 impl<'a, R: Read> Marks<'a, R> {
-    ghost use Rattle.std.specs.Prelude.{◌≡◌, ◌≢◌, ℕ, List, [], false, None, Some, Err, IfOk, IfErr, MatchResult};
-    ghost use Rattle.kmipa_ttlv.specs.Input.{came_of, is_failed, IsFileOf, StaysOver};
-    ghost use Rattle.kmipa_record.specs.Files.{Tells};
-    ghost use Rattle.kmipa_record.specs.Marks.{MarkOf};
-    ghost use Rattle.kmipa_record.specs.MarkReading.{input_of, told_of, HasGiven, GivesNext, FaultBehind, IsRightBehind};
+    ghost use Rattle.std.specs.Prelude.{◌≡◌, ◌≢◌, ◌<◌, ℕ, List, [], false, None, Some, Err, IfOk, IfErr, IfSome, MatchResult};
+    ghost use Rattle.kmipa_ttlv.specs.Input.{came_of, taken_of, is_failed, IsFileOf, StaysOver};
+    ghost use Rattle.kmipa_record.specs.Files.{Tells, TellsItem};
+    ghost use Rattle.kmipa_record.specs.Marks.{MarkOf, mark_of};
+    ghost use Rattle.kmipa_record.specs.MarkReading.{input_of, reference_of, place_of, told_of, HasGiven, GivesNext, StandsNext, FaultBehind, IsRightBehind};
 
     /// The marks of a transcript of whose bytes none was read.
     pub fn new(alloc: Global, input: &'a mut Input<R>) -> Marks<'a, R>
@@ -41,28 +43,53 @@ impl<'a, R: Read> Marks<'a, R> {
         ensures given { HasGiven [] result }
         ensures told { told_of result ≡ None }
         ensures input { input_of result ≡ input.old }
+        ensures same_reference { reference_of result ≡ input.entry.ghost_name }
     {
         Marks {
             alloc,
             input,
             bytes: Vec::new(alloc),
             begun: false,
+            place: 0,
             fault: None,
         }
+    }
+
+    /// The input below.
+    pub fn into_input(self) -> &'a mut Input<R>
+        ensures same_reference { result.ghost_name ≡ reference_of self.entry }
+        ensures input { result.now ≡ input_of self.entry }
+    {
+        let Marks { input, .. } = self;
+        input
+    }
+
+    /// Where the mark that was given last begins, counted in bytes from the transcript's first.
+    pub fn place(&self) -> u64
+        ensures { result ≡ place_of self.now }
+    {
+        self.place
     }
 
     /// The next mark; `None` at the end of the transcript.
     pub fn next(&mut self) -> Result<Option<Mark>, RecordFault>
         // The marks that are given are those of the transcript, in order, and all of them once there is none.
         ensures given { (marks : List MarkOf) → HasGiven marks self.old → IfOk result (GivesNext marks self.new) }
+        // A mark stands behind those, at the place that is then told.
+        ensures placed { (marks : List MarkOf) → HasGiven marks self.old
+            → IfOk result (λ next. IfSome next (λ mark. StandsNext marks (mark_of mark) (place_of self.new) (input_of self.new))) }
+        ensures nearer { IfOk result (λ next. IfSome next (λ mark. taken_of (input_of self.old) < taken_of (input_of self.new))) }
         // A fault is the first behind the marks that were given, whatever follows what came, unless a read failed or memory ran out.
         ensures fault { (marks : List MarkOf) (file : List ℕ) → HasGiven marks self.old → told_of self.old ≡ None → IsFileOf file (input_of self.new)
             → IfErr result (Tells (FaultBehind marks) (IsRightBehind marks) file (is_failed (input_of self.new))) }
+        // Device and Memory are told where the item begins that was being read.
+        ensures place { told_of self.old ≡ None → IfErr result (TellsItem (came_of (input_of self.new))) }
         ensures sound { told_of self.old ≡ None
             → MatchResult result (λ _. is_failed (input_of self.new) ≡ false) (λ f. f.kind ≢ RecordKind.Device → is_failed (input_of self.new) ≡ false) }
         // It is told again.
-        ensures told { IfErr result (λ f. told_of self.new ≡ Some f) }
+        ensures told { MatchResult result (λ _. told_of self.new ≡ None) (λ f. told_of self.new ≡ Some f) }
         ensures again { (f : RecordFault) → told_of self.old ≡ Some f → (result ≡ Err f) × (input_of self.new ≡ input_of self.old) }
+        ensures same_reference { reference_of self.new ≡ reference_of self.old }
         // Over a reader whose bytes are known what came is their front.
         ensures over { StaysOver R.remaining (input_of self.old) (input_of self.new) }
     {
@@ -70,9 +97,14 @@ impl<'a, R: Read> Marks<'a, R> {
             return Err(fault);
         }
         match read_on(self.alloc, self.input, &mut self.bytes, self.begun) {
-            Ok(next) => {
+            Ok(Some(PlacedMark { place, mark })) => {
                 self.begun = true;
-                Ok(next)
+                self.place = place;
+                Ok(Some(mark))
+            }
+            Ok(None) => {
+                self.begun = true;
+                Ok(None)
             }
             Err(fault) => {
                 self.fault = Some(fault);

@@ -7,6 +7,7 @@ ghost use Rattle.kmipa_ttlv.specs.Reading.{IsWhole, ReadTells};
 ghost use Rattle.kmipa_ttlv.specs.Spelling.{Spells};
 ghost use Rattle.kmipa_ttlv.specs.Tree.{Tree};
 ghost use Rattle.kmipa_ttlv.specs.ViewTree.{view_tree};
+ghost use Rattle.kmipa_record.specs.Files.{TellsItem};
 ghost use Rattle.kmipa_record.specs.Reading.{record_kind, ReadFails, WholeFails, HeaderFails, NextIs, TakesSaid};
 
 use crate::fault::{RecordFault, RecordKind};
@@ -45,6 +46,7 @@ pub fn read_header<R: Read, H: Record + Drop>(
         → IfOk result (TakesSaid H.says left after (taken_of input.old) (taken_of input.new)) }
     ensures fault { (left after : List ℕ) → Leaves input.old input.new left after → EndsWith input.new after
         → IfErr result (HeaderFails H.is_record (taken_of input.old) left (is_failed input.new)) }
+    ensures place { IfErr result (TellsItem (came_of input.new)) }
     ensures sound { MatchResult result (λ _. is_failed input.new ≡ false) (λ f. f.kind ≢ RecordKind.Device → is_failed input.new ≡ false) }
     ensures grows { StartsWith (came_of input.new) (came_of input.old) }
     ensures over { StaysOver R.remaining input.old input.new }
@@ -71,6 +73,7 @@ pub fn read_next<R: Read, T: Record + Drop>(
         → IfOk result (NextIs T.says T.is_record left after (taken_of input.old) (taken_of input.new) (is_ended input.new)) }
     ensures fault { (left after : List ℕ) → Leaves input.old input.new left after → EndsWith input.new after
         → IfErr result (ReadFails (taken_of input.old) left (is_failed input.new)) }
+    ensures place { IfErr result (TellsItem (came_of input.new)) }
     ensures sound { MatchResult result (λ _. is_failed input.new ≡ false) (λ f. f.kind ≢ RecordKind.Device → is_failed input.new ≡ false) }
     ensures grows { StartsWith (came_of input.new) (came_of input.old) }
     ensures over { StaysOver R.remaining input.old input.new }

@@ -1,21 +1,21 @@
 //! Transcripts: which calls were made, and what was answered.
 
-ghost use Rattle.std.specs.Prelude.{◌≡◌, ◌<◌, ◌≢◌, ◌⊎◌, ℕ, ℤ, List, [], ◌∷◌, ◌++◌, true, false, IsTrue, map, Option, IfOk, IfErr, IfSome, MatchOption, MatchResult};
+ghost use Rattle.std.specs.Prelude.{◌≡◌, ◌<◌, ◌≢◌, ◌⊎◌, ℕ, ℤ, List, [], ◌∷◌, ◌++◌, true, false, IsTrue, map, Option, OnOk, IfOk, IfErr, MatchOption, MatchResult};
 ghost use Rattle.std.specs.String.{string_bytes};
-ghost use Rattle.std.specs.Io.{StartsWith, appended_bytes};
-ghost use Rattle.kmipa_ttlv.specs.Input.{came_of, taken_of, is_ended, is_failed, Leaves, EndsWith, IsFileOf, StaysOver};
+ghost use Rattle.kmipa_ttlv.specs.Input.{came_of, taken_of, is_ended, is_failed, IsFileOf, StaysOver};
 ghost use Rattle.kmipa_ttlv.specs.Tree.{Tree};
 ghost use Rattle.kmipa_ttlv.specs.ViewTree.{view_tree, view_trees};
 ghost use Rattle.kmipa_record.specs.Calls.{Takes, Refuses};
-ghost use Rattle.kmipa_record.specs.Files.{Tells};
+ghost use Rattle.kmipa_record.specs.Files.{Tells, TellsItem};
+ghost use Rattle.kmipa_record.specs.MarkReading.{input_of, reference_of};
 ghost use Rattle.kmipa_record.specs.Marks.{MarkOf, mark_of, mark_item, begin_fields, end_fields, AreRecorded};
 ghost use Rattle.kmipa_record.specs.Transcripts.{transcript_of, IsTranscript, TranscriptFault, IsTranscriptUpTo};
-ghost use Rattle.kmipa_record.specs.TranscriptReading.{IsReadSoFar};
+ghost use Rattle.kmipa_record.specs.TranscriptReading.{AreTaken};
 
 use crate::calls::Calls;
 use crate::fault::{RecordFault, RecordKind};
-use crate::header::TranscriptHeader;
-use crate::record::{Next, Record, read_header, read_next};
+use crate::marks::Marks;
+use crate::record::Record;
 use crate::shape::{bytes_of, children_of, integer_of, text_of};
 use kmipa_ttlv::{Input, View};
 use std::alloc::{AllocError, Global};
@@ -151,48 +151,61 @@ pub fn read_transcript<R: Read>(
     ensures recorded { IfOk result (λ transcript. AreRecorded (transcript_of transcript)) }
     // Else the first fault is told, whatever follows what came, and nothing where the end was seen; unless a read failed or memory ran out.
     ensures fault { (file : List ℕ) → IsFileOf file input.new → IfErr result (Tells TranscriptFault IsTranscriptUpTo file (is_failed input.new)) }
+    // These two are told where the item begins that was being read.
+    ensures place { IfErr result (TellsItem (came_of input.new)) }
     ensures sound { MatchResult result (λ _. is_failed input.new ≡ false) (λ f. f.kind ≢ RecordKind.Device → is_failed input.new ≡ false) }
     // Over a reader whose bytes are known what came is their front, and all where the end was seen.
     ensures over { StaysOver R.remaining input.old input.new }
 {
-    let mut bytes = Vec::new(alloc);
-    let _: TranscriptHeader = read_header(alloc, input, &mut bytes)?;
+    let mut source = Marks::new(alloc, input);
     let mut calls = Calls::new(alloc);
     let mut marks = Vec::new(alloc);
-    'marks: while read_mark(alloc, input, &mut bytes, &mut calls, &mut marks)? {}
-    Ok(Transcript { marks })
+    let taken = take_marks(&mut source, &mut calls, &mut marks);
+    let _ = source.into_input();
+    match taken {
+        Ok(()) => Ok(Transcript { marks }),
+        Err(fault) => Err(fault),
+    }
 }
 
-/// Reads the next mark of a transcript onto those before it; `false` at the end.
-fn read_mark<R: Read>(
-    alloc: Global,
-    input: &mut Input<R>,
-    bytes: &mut Vec<u8>,
+/// Takes the marks of a transcript up to its end.
+fn take_marks<R: Read>(
+    source: &mut Marks<'_, R>,
+    calls: &mut Calls,
+    marks: &mut Vec<Mark>,
+) -> Result<(), RecordFault>
+    requires { AreTaken (map mark_of marks.old.items) calls.old source.old }
+    ensures found { OnOk result (IsTranscript (came_of (input_of source.new)) (map mark_of marks.new.items) × IsTrue (is_ended (input_of source.new))) }
+    ensures fault { (file : List ℕ) → IsFileOf file (input_of source.new) → IfErr result (Tells TranscriptFault IsTranscriptUpTo file (is_failed (input_of source.new))) }
+    ensures place { IfErr result (TellsItem (came_of (input_of source.new))) }
+    ensures sound { MatchResult result (λ _. is_failed (input_of source.new) ≡ false) (λ f. f.kind ≢ RecordKind.Device → is_failed (input_of source.new) ≡ false) }
+    ensures same_reference { reference_of source.new ≡ reference_of source.old }
+    ensures over { StaysOver R.remaining (input_of source.old) (input_of source.new) }
+{
+    'marks: while take_mark(source, calls, marks)? {}
+    Ok(())
+}
+
+/// Takes the next mark of a transcript behind those before it; `false` at the end.
+fn take_mark<R: Read>(
+    source: &mut Marks<'_, R>,
     calls: &mut Calls,
     marks: &mut Vec<Mark>,
 ) -> Result<bool, RecordFault>
-    ensures read { (file left after : List ℕ) → Leaves input.old input.new left after
-        → IsReadSoFar file (map mark_of marks.old.items) calls.old left (taken_of input.old)
-        → IfOk result (λ more. IsReadSoFar file (map mark_of marks.new.items) calls.new after (taken_of input.new)) }
-    ensures fault { (file left after : List ℕ) → Leaves input.old input.new left after → EndsWith input.new after
-        → IsReadSoFar file (map mark_of marks.old.items) calls.old left (taken_of input.old)
-        → IfErr result (Tells TranscriptFault IsTranscriptUpTo file (is_failed input.new)) }
-    ensures end { IfOk result (λ more. more ≡ false → IsTrue (is_ended input.new)) }
-    ensures nearer { IfOk result (λ more. more ≡ true → taken_of input.old < taken_of input.new) }
-    ensures sound { MatchResult result (λ _. is_failed input.new ≡ false) (λ f. f.kind ≢ RecordKind.Device → is_failed input.new ≡ false) }
-    ensures grows { StartsWith (came_of input.new) (came_of input.old) }
-    ensures over { StaysOver R.remaining input.old input.new }
+    requires { AreTaken (map mark_of marks.old.items) calls.old source.old }
+    ensures taken { OnOk result (AreTaken (map mark_of marks.new.items) calls.new source.new) }
+    ensures end { IfOk result (λ more. more ≡ false → IsTranscript (came_of (input_of source.new)) (map mark_of marks.new.items) × IsTrue (is_ended (input_of source.new))) }
+    ensures fault { (file : List ℕ) → IsFileOf file (input_of source.new) → IfErr result (Tells TranscriptFault IsTranscriptUpTo file (is_failed (input_of source.new))) }
+    ensures place { IfErr result (TellsItem (came_of (input_of source.new))) }
+    ensures nearer { IfOk result (λ more. more ≡ true → taken_of (input_of source.old) < taken_of (input_of source.new)) }
+    ensures sound { MatchResult result (λ _. is_failed (input_of source.new) ≡ false) (λ f. f.kind ≢ RecordKind.Device → is_failed (input_of source.new) ≡ false) }
+    ensures same_reference { reference_of source.new ≡ reference_of source.old }
+    ensures over { StaysOver R.remaining (input_of source.old) (input_of source.new) }
 {
-    let offset = input.taken();
-    let next: Next<Mark> = read_next(alloc, input, bytes)?;
-    match next {
-        Next::End => Ok(false),
-        Next::Other => Err(RecordFault {
-            offset,
-            kind: RecordKind::Entry,
-        }),
-        Next::Record(mark) => {
-            keep_mark(calls, marks, mark, offset)?;
+    match source.next()? {
+        None => Ok(false),
+        Some(mark) => {
+            keep_mark(calls, marks, mark, source.place())?;
             Ok(true)
         }
     }

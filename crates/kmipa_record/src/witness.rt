@@ -3,7 +3,7 @@
 ghost use Rattle.std.specs.Prelude.{◌≡◌, ◌<◌, ◌↔◌, ℕ, List, [], ◌∷◌, ◌++◌, ◌≢◌, true, false, IsTrue, map, IfOk, IfErr, MatchResult};
 ghost use Rattle.std.specs.Io.{StartsWith, appended_bytes};
 ghost use Rattle.kmipa_ttlv.specs.Input.{came_of, taken_of, is_ended, is_failed, Leaves, EndsWith, IsFileOf, StaysOver};
-ghost use Rattle.kmipa_record.specs.Files.{Tells};
+ghost use Rattle.kmipa_record.specs.Files.{Tells, TellsItem};
 ghost use Rattle.kmipa_record.specs.Marks.{IsCallNumber};
 ghost use Rattle.kmipa_record.specs.Witnesses.{turn_of, witness_of, ArePayloads, Admits, IsWitness, WitnessFault, IsWitnessUpTo};
 ghost use Rattle.kmipa_record.specs.WitnessReading.{IsReadSoFar, RefusesTurn};
@@ -32,6 +32,8 @@ pub fn read_witness<R: Read>(alloc: Global, input: &mut Input<R>) -> Result<Witn
     ensures found { IfOk result (λ witness. IsWitness (came_of input.new) (witness_of witness) × IsTrue (is_ended input.new)) }
     // Else the first fault is told, whatever follows what came, and nothing where the end was seen; unless a read failed or memory ran out.
     ensures fault { (file : List ℕ) → IsFileOf file input.new → IfErr result (Tells WitnessFault IsWitnessUpTo file (is_failed input.new)) }
+    // These two are told where the item begins that was being read.
+    ensures place { IfErr result (TellsItem (came_of input.new)) }
     ensures sound { MatchResult result (λ _. is_failed input.new ≡ false) (λ f. f.kind ≢ RecordKind.Device → is_failed input.new ≡ false) }
     // Over a reader whose bytes are known what came is their front, and all where the end was seen.
     ensures over { StaysOver R.remaining input.old input.new }
@@ -57,6 +59,7 @@ fn read_turn<R: Read>(
     ensures fault { (file left after : List ℕ) → Leaves input.old input.new left after → EndsWith input.new after
         → IsReadSoFar file version (map turn_of turns.old.items) left (taken_of input.old)
         → IfErr result (Tells WitnessFault IsWitnessUpTo file (is_failed input.new)) }
+    ensures place { IfErr result (TellsItem (came_of input.new)) }
     ensures end { IfOk result (λ more. more ≡ false → IsTrue (is_ended input.new)) }
     ensures nearer { IfOk result (λ more. more ≡ true → taken_of input.old < taken_of input.new) }
     ensures sound { MatchResult result (λ _. is_failed input.new ≡ false) (λ f. f.kind ≢ RecordKind.Device → is_failed input.new ≡ false) }

@@ -1,11 +1,12 @@
 use Rattle.std.proofs.Common.{ℕ, sym, subst, refl, arith, []}
 use Rattle.std.proofs.lemmas.Result.{err_from_is_err_and}
-use Rattle.kmipa_ttlv.specs.Input.{taken_of, is_failed}
+use Rattle.kmipa_ttlv.specs.Input.{came_of, taken_of, is_failed}
 use Rattle.kmipa_record.specs.DeclarationReading.{record_of, declared_by}
 use Rattle.kmipa_record.specs.Declarations.{DeclarationFault, IsDeclarationUpTo}
 use Rattle.kmipa_record.specs.Files.{Tells}
 use Rattle.kmipa_record.specs.declared.fault.RecordKind.TheVariants.{Entry}
 use Rattle.kmipa_record.proofs.DeclarationLemmas.{objects, read_fails, no_record_told, refused_told, record_taken}
+use Rattle.kmipa_record.proofs.PlaceLemmas.{whole_taken, refused_record_place}
 use Rattle.kmipa_record.proofs.declaration.read_record.Goals as goal
 
 pub returns-in_err-next-clause-fault : goal.returns-in_err-next-clause-fault
@@ -51,3 +52,9 @@ pub take-requires-clause-fit : goal.take-requires-clause-fit
 take-requires-clause-fit g c =
     let x = rw c.in-Record.is at (c.in_ok-next.ensures.ok _ [] refl) in
     x.2.1
+
+pub returns-in-Err-clause-place : goal.returns-in-Err-clause-place
+returns-in-Err-clause-place g c =
+    let x = rw c.in-Record.is at (c.in_ok-next.ensures.ok _ [] refl) in
+    let one = whole_taken x.0 (came_of c.args.input.now) (came_of c.read_next.new.input) _ _ c.taken-offset.result x.1 c.taken-offset.ensures in
+    refused_record_place c.args.records.now (record_of c.in-Record.next_record) (came_of c.read_next.new.input) (record { offset = c.taken-offset.result; kind = c.in-Err.kind }) one c.in-Err.ensures.put

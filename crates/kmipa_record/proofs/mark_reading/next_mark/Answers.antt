@@ -1,4 +1,4 @@
-use Rattle.std.proofs.Common.{sym, subst, ◌++◌, [], true, List, ℕ, refl}
+use Rattle.std.proofs.Common.{sym, subst, ◌++◌, [], true, List, ℕ, refl, arith}
 use Rattle.std.specs.Io.{appended_bytes}
 use Rattle.std.proofs.lemmas.Result.{err_from_is_err_and}
 use Rattle.kmipa_ttlv.specs.Input.{came_of, taken_of, is_failed}
@@ -7,7 +7,7 @@ use Rattle.kmipa_record.specs.Marks.{mark_of, mark_item}
 use Rattle.kmipa_record.specs.MarkReading.{AreGivenOf, FaultBehind, IsRightBehind}
 use Rattle.kmipa_record.specs.Reading.{IsReading}
 use Rattle.kmipa_record.specs.declared.fault.RecordKind.TheVariants.{Entry}
-use Rattle.kmipa_record.proofs.MarkReadingLemmas.{items_of, at, mark_fails, other_fails, mark_read, all_read}
+use Rattle.kmipa_record.proofs.MarkReadingLemmas.{items_of, at, mark_fails, other_fails, all_read}
 use Rattle.kmipa_record.proofs.NextLemmas.{takes_as}
 use Rattle.kmipa_record.proofs.mark_reading.next_mark.Goals as goal
 
@@ -33,8 +33,12 @@ returns-in-Record-clause-given g c = λ marks given after.
     let old = came_of c.args.input.now in let new = came_of c.read_next.new.input in
     let left = appended_bytes old new ++ after in
     let t = takes_as (mark_item (mark_of c.in-Record.mark)) _ _ _ _ (rw c.in-Record.is at (c.in_ok-next.ensures.ok left after refl)) in
-    mark_read (new ++ after) marks (mark_of c.in-Record.mark) left after (taken_of c.args.input.now) (taken_of c.read_next.new.input)
-    (at old new marks (taken_of c.args.input.now) c.read_next.ensures.grows given (new ++ after) after refl) t
+    rw c.taken-offset.ensures (record { left = left; reading = at old new marks (taken_of c.args.input.now) c.read_next.ensures.grows given (new ++ after) after refl; taken = t })
+
+pub returns-in-Record-clause-nearer : goal.returns-in-Record-clause-nearer
+returns-in-Record-clause-nearer g c =
+    let x = rw c.in-Record.is at (c.in_ok-next.ensures.ok _ [] refl) in
+    omega (arith, x.1.taken, x.1.spelled.all)
 
 pub returns-in-End-clause-given : goal.returns-in-End-clause-given
 returns-in-End-clause-given g c = λ marks given.

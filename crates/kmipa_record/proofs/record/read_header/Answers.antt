@@ -24,3 +24,8 @@ returns-in-End-clause-fault g c = λ left after split end.
           let x = rw e at (c.in_ok-header.ensures.ok left after split) in
           rw c.taken-offset.ensures (other_header g.H.Record.is_record x.0 (taken_of c.args.input.now) (taken_of c.read_next.new.input) left after x.1 x.2)
     ]
+
+pub returns-in_err-header-clause-place : goal.returns-in_err-header-clause-place
+returns-in_err-header-clause-place g c =
+    let p = err_from_is_err_and c.from_residual.result c.from_residual.ensures.1 in
+    rw (p.1, p.2) c.in_err-header.ensures.place

@@ -1,12 +1,13 @@
 use Rattle.std.proofs.Common.{sym, subst, ◌∙◌, ℕ, map, refl, arith, []}
 use Rattle.std.proofs.lemmas.Result.{err_from_is_err_and}
-use Rattle.kmipa_ttlv.specs.Input.{taken_of, is_failed}
+use Rattle.kmipa_ttlv.specs.Input.{came_of, taken_of, is_failed}
 use Rattle.kmipa_record.specs.Files.{Tells}
 use Rattle.kmipa_record.specs.Witnesses.{turn_of, turn_item}
 use Rattle.kmipa_record.specs.Witnesses.{WitnessFault, IsWitnessUpTo}
 use Rattle.kmipa_record.specs.declared.fault.RecordKind.TheVariants.{Entry}
 use Rattle.kmipa_record.proofs.NextLemmas.{takes_as}
 use Rattle.kmipa_record.proofs.WitnessLemmas.{read_fails, no_turn_told, refused_told, turn_taken}
+use Rattle.kmipa_record.proofs.PlaceLemmas.{whole_taken, refused_turn_place}
 use Rattle.kmipa_record.proofs.witness.read_turn.Goals as goal
 
 pub returns-in_err-next-clause-fault : goal.returns-in_err-next-clause-fault
@@ -54,3 +55,12 @@ returns-in_ok-keep_turn-in-Record-clause-nearer g c = λ _.
 
 pub keep_turn-requires : goal.keep_turn-requires
 keep_turn-requires g c = (rw c.in-Record.is at (c.in_ok-next.ensures.ok _ [] refl)).2.1
+
+pub returns-in_err-keep_turn-in-Record-clause-place : goal.returns-in_err-keep_turn-in-Record-clause-place
+returns-in_err-keep_turn-in-Record-clause-place g c =
+    let p = err_from_is_err_and c.from_residual-in_err-keep_turn-in-Record.result c.from_residual-in_err-keep_turn-in-Record.ensures.1 in
+    let x = rw c.in-Record.is at (c.in_ok-next.ensures.ok _ [] refl) in
+    let e = c.in_err-keep_turn-in-Record.ensures in
+    let f = c.in_err-keep_turn-in-Record.field-0.0 in
+    let one = whole_taken x.0 (came_of c.args.input.now) (came_of c.read_next.new.input) _ _ f.offset x.1 (e.0 ∙ c.taken-offset.ensures) in
+    rw (p.1, p.2) (refused_turn_place c.args.version (turn_of c.in-Record.turn) (came_of c.read_next.new.input) f one e.1)
