@@ -3,24 +3,26 @@ use Rattle.std.proofs.Common.{◌≡◌, ◌<◌, ◌≤◌, ◌⊎◌, inl, inr
 use Rattle.std.proofs.lemmas.List.{take-append-drop}
 use Rattle.kmipa_object.specs.Inventory.{Thing}
 use Rattle.kmipa_store.specs.Ledger.{Meaning}
+use Rattle.kmipa_store.specs.Choices.{inv}
 use Rattle.kmipa_record.specs.Declarations.{DeclarationOf}
 use Rattle.kmipa_msgs.specs.Messages.{RulesOf, AskOf, AnswerOf, ResponseOf}
 use Rattle.kmipa_ops.specs.declared.why.Why.{Why}
+use Rattle.kmipa_ops.specs.Alike.{StandAlike}
 use Rattle.kmipa_ops.specs.Chains.{ChainSome}
+use Rattle.kmipa_ops.specs.OneInventory.{StandsFor}
 use Rattle.kmipa_ops.proofs.ExplainLemmas.{chain_split}
 use Rattle.kmipa_batch.specs.Calls.{pairs_taken, RefusesMessage, CallSomeAlong}
-use Rattle.kmipa_batch.specs.Refusals.SpeaksAtAlong.{in_shape, in_item}
 use Rattle.kmipa_batch.specs.Refusals.{SpeaksAtAlong}
 use Rattle.kmipa_check.specs.Steps.{StepOf, order_of}
 use Rattle.kmipa_check.specs.Runs.{Linked, rules_declared}
-use Rattle.kmipa_check.specs.Verdicts.{IsPlacedAt, GoesUpTo, ArePossibleUpTo, RefusedPlace, late, runs_back, RefusedAt, in_place, RefusedAt.in_item as at_item, IsRefused}
+use Rattle.kmipa_check.specs.Verdicts.{IsPlacedAt, AreKnown, GoesUpTo, ArePossibleUpTo, RefusedPlace, late, runs_back, RefusedAt, in_place, RefusedAt.in_item as at_item, IsRefused}
 use Rattle.kmipa_check.specs.declared.verdict.Refused.{Refused}
 use Rattle.kmipa_check.proofs.PlaceLemmas.{apart}
 use Rattle.kmipa_check.proofs.RecordedLemmas.{taken_at}
 use Rattle.kmipa_msgs.specs.declared.response.Status.{Status}
 use Rattle.kmipa_msgs.specs.declared.response.Status.TheVariants.{Success, Failed, Undone}
 use Rattle.kmipa_batch.proofs.CompletionLemmas.{batch_of_call}
-use Rattle.kmipa_batch.proofs.RunLemmas.{shaped_fewer, one_item_is_told}
+use Rattle.kmipa_batch.proofs.RunLemmas.{shaped_fewer, one_item_is_told, one_reason_is_told}
 
 -- the inventories before and after a turn
 pub record AtTurn (rules : RulesOf) (V : List Thing) (order : List StepOf) (turn : ℕ) (c : StepOf) : Type 0 where
@@ -106,27 +108,33 @@ one_reason order turn s why other (late l is) (runs_back k m same) = absurd (k l
 one_reason order turn s why other (runs_back k l is) (late m same) = absurd (k m)
 one_reason order turn s why other (runs_back k l is) (runs_back j m same) = is ∙ sym same
 
--- an item is told from 1
-told_some : (rules : RulesOf) (known : Meaning) (s : StepOf) (count item : ℕ) (why : Why) → SpeaksAtAlong rules known s.request s.response (order_of s) count item why → item ≡ 0 → ⊥
-told_some rules known s count item why (in_shape place told judged first is) none = omega (arith, told, none)
-told_some rules known s count item why (in_item place told shaped at between placeholder ask answer e there r) none = omega (arith, told, none)
+-- ledgers that know what the same steps leave stand for the same inventories
+stands_too : (declared : DeclarationOf) (order : List StepOf) (m n : Meaning) → AreKnown declared order m → AreKnown declared order n → (V : List Thing) → StandsFor m V → StandsFor n V
+stands_too declared order m n x y V s =
+    let r = x.sound s.0 s.1 in
+    let t = y.complete r.0 (inv s.0 m.objects) r.1 r.2 in
+    (t.0, t.1, s.2 ∙ t.2)
 
-told_same : (rules : RulesOf) (m k : Meaning) (s : StepOf) (count other i j : ℕ) (why because : Why)
-    → SpeaksAtAlong rules m s.request s.response (order_of s) count i why → SpeaksAtAlong rules k s.request s.response (order_of s) other j because → count ≡ other → i ≡ j
-told_same rules m k s count other i j why because p q e =
+stand_alike : (declared : DeclarationOf) (order : List StepOf) (m n : Meaning) → AreKnown declared order m → AreKnown declared order n → StandAlike m n
+stand_alike declared order m n x y V = (stands_too declared order m n x y V, stands_too declared order n m y x V)
+
+told_same : (rules : RulesOf) (m k : Meaning) (s : StepOf) (count other i j : ℕ) (why because : Why) → StandAlike m k
+    → SpeaksAtAlong rules m s.request s.response (order_of s) count i why → SpeaksAtAlong rules k s.request s.response (order_of s) other j because → count ≡ other → (i ≡ j) × (why ≡ because)
+told_same rules m k s count other i j why because alike p q e =
     let P : ℕ → Type 0 = λ n. SpeaksAtAlong rules m s.request s.response (order_of s) n i why in
-    one_item_is_told rules m k s.request s.response (order_of s) other i j why because (subst P e p) q
+    let r = subst P e p in
+    (one_item_is_told rules m k s.request s.response (order_of s) other i j why because r q, one_reason_is_told rules m k s.request s.response (order_of s) other i j why because alike r q)
 
 module _ (declared : DeclarationOf) (order : List StepOf) where
-  one_item : (turn : ℕ) (s : StepOf) (i j : ℕ) (why other : Why) → RefusedAt declared order turn s i why → RefusedAt declared order turn s j other → (i ≡ j) × (i ≡ 0 → why ≡ other)
-  one_item turn s i j why other (in_place is p) (in_place same q) = (is ∙ sym same, λ z. one_reason order turn s why other p q)
+  one_item : (turn : ℕ) (s : StepOf) (i j : ℕ) (why other : Why) → RefusedAt declared order turn s i why → RefusedAt declared order turn s j other → (i ≡ j) × (why ≡ other)
+  one_item turn s i j why other (in_place is p) (in_place same q) = (is ∙ sym same, one_reason order turn s why other p q)
   one_item turn s i j why other (in_place is p) (at_item n q) = absurd (not_placed order turn s why q.before.here p)
   one_item turn s i j why other (at_item n p) (in_place same q) = absurd (not_placed order turn s other p.before.here q)
   one_item turn s i j why other (at_item n p) (at_item m q) = elim (apart n m) [
     | inl h ↦ absurd (p.never (possible_fewer declared order turn s m (n + 1) (omega (arith, h)) q.before))
     | inr g ↦ elim g [
       | inl h ↦ absurd (q.never (possible_fewer declared order turn s n (m + 1) (omega (arith, h)) p.before))
-      | inr e ↦ (told_same (rules_declared declared) p.known q.known s n m i j why other p.speaks q.speaks e, λ z. absurd (told_some (rules_declared declared) p.known s n i why p.speaks z))
+      | inr e ↦ told_same (rules_declared declared) p.known q.known s n m i j why other (stand_alike declared (take turn order) p.known q.known p.knows q.knows) p.speaks q.speaks e
     ]
   ]
 
@@ -157,13 +165,13 @@ module _ (declared : DeclarationOf) (order : List StepOf) where
           let P : StepOf → Type 0 = λ s. IsPlacedAt order h.turn s in
           subst P same p.1
 
-  pub one_refused : (v w : Refused) → IsRefused declared order v → IsRefused declared order w → (v.turn ≡ w.turn) × (v.call ≡ w.call) × (v.item ≡ w.item) × (v.item ≡ 0 → v.why ≡ w.why)
+  pub one_refused : (v w : Refused) → IsRefused declared order v → IsRefused declared order w → (v.turn ≡ w.turn) × (v.call ≡ w.call) × (v.item ≡ w.item) × (v.why ≡ w.why)
   one_refused v w h k = elim (apart h.turn k.turn) [
     | inl l ↦ absurd (none_ahead v w h k l)
     | inr g ↦ elim g [ inl l ↦ absurd (none_ahead w v k h l) | inr e ↦ by e ]
   ]
     where
-      by : h.turn ≡ k.turn → (v.turn ≡ w.turn) × (v.call ≡ w.call) × (v.item ≡ w.item) × (v.item ≡ 0 → v.why ≡ w.why)
+      by : h.turn ≡ k.turn → (v.turn ≡ w.turn) × (v.call ≡ w.call) × (v.item ≡ w.item) × (v.why ≡ w.why)
       by e =
           let P : ℕ → Type 0 = λ x. slice_get order x ≡ Some h.call in
           let a = subst P e h.there in

@@ -32,12 +32,12 @@ abbrev pub OneOrder : Type 0
 OneOrder = (marks : List MarkOf) (calls : List CallOf) (turns : List TurnOf) (steps others : List StepOf)
     → AreRecorded marks → AreCalls marks calls → IsOrder calls turns steps → IsOrder calls turns others → steps ≡ others
 
--- Two answers are one, or memory ran out: of two no's turn, call and item are equal, and where no item is named the reason too.
+-- two answers are one, or memory ran out: of two no's turn, call, item and reason are equal
 abbrev pub AreOne : Result Verdict CheckFault → Result Verdict CheckFault → Type 0
 AreOne (Err Memory) b = Unit {0}
 AreOne a (Err Memory) = Unit {0}
 AreOne (Ok Yes) (Ok Yes) = Unit {0}
-AreOne (Ok (No a)) (Ok (No b)) = (a.turn ≡ b.turn) × (a.call ≡ b.call) × (a.item ≡ b.item) × (a.item ≡ 0 → a.why ≡ b.why)
+AreOne (Ok (No a)) (Ok (No b)) = (a.turn ≡ b.turn) × (a.call ≡ b.call) × (a.item ≡ b.item) × (a.why ≡ b.why)
 AreOne (Err (Outside number side o)) (Err (Outside other from p)) = (number ≡ other) × (side ≡ from) × (o.item ≡ p.item) × (o.kind ≡ p.kind)
 AreOne (Err (Witness f)) (Err (Witness g)) = (f.at ≡ g.at) × (f.kind ≡ g.kind)
 AreOne a b = ⊥
