@@ -1,9 +1,6 @@
 -- What a Locate lists, as the program finds it.
 use Rattle.std.proofs.Common.{map, get_or, ◌⊎◌, ◌≡◌, ◌≤◌, ◌<◌, ◌+◌, ◌&&◌, ◌||◌, ◌==◌, ℕ, zero, suc, ℤ, Bool, true, false, not, cond, find, length, take, drop, List, [], ◌∷◌, ◌++◌, slice_get, bytes_eq, Option, Some, None, option_map, refl, ap, sym, ◌∙◌, subst, inl, inr, arith}
 use Rattle.std.specs.List.{list_any, position_from}
-use Rattle.std.specs.Ordering.{nat_cmp, is_eq}
-use Rattle.std.specs.BTreeSet.{BTreeSet, contains}
-use Rattle.std.specs.BTreeMap.{is_at}
 use Rattle.std.proofs.lemmas.Bool.Decides.{Decides-eqb, nat_tests}
 use Rattle.std.proofs.lemmas.Slice.Eq.{bytes_eq-Decides}
 use Rattle.kmipa_attrs.specs.Sets.{NameOf, name_of}
@@ -27,7 +24,8 @@ use Rattle.kmipa_ops.specs.declared.fit.Fit.TheVariants as fit
 use Rattle.kmipa_ops.proofs.LocateLemmas.{fit_tells}
 use Rattle.kmipa_ops.proofs.NameLemmas.{same_both}
 use Rattle.kmipa_ops.specs.Locate.{says_no, is_doubtful, must_fit, fits_here, is_listed, is_over, is_full, has_repeat, lists_misfit, leaves_out, locate_speaks}
-use Rattle.kmipa_ops.specs.Listing.{is_place, PlaceListed, ArePlaced, NoneMust, NextCandidate, CoveredTo, LeavesOut, IsMissing, FitsAt, may_of, must_of}
+use Rattle.kmipa_ops.specs.declared.places_listed.PlacesListed.{PlacesListed}
+use Rattle.kmipa_ops.specs.Listing.{is_among, is_place, PlaceListed, ArePlaced, NoneMust, NextCandidate, CoveredTo, LeavesOut, IsMissing, FitsAt, may_of, must_of}
 use Rattle.kmipa_ops.proofs.TestLemmas.{or_cases, or_right, same_truth, true_not, false_if}
 use Rattle.kmipa_ops.proofs.ScanLemmas.{any_same, or_mix}
 
@@ -149,19 +147,19 @@ place_is cs x p at y =
     let e : b.0 ≡ a.0 = cc in
     (bytes_eq-Decides y x).1 ((bytes_eq-Decides y b.0.id).0 b.2 ∙ ap (λ (c : Card). c.id) e ∙ sym ((bytes_eq-Decides x a.0.id).0 a.2)))
 
-same_key : (p k : ℕ) → is_eq (nat_cmp p k) ≡ (k == p)
+same_key : (p k : ℕ) → (p == k) ≡ (k == p)
 same_key p k = grind (arith, nat_tests)
 
 module _ (cs : List Card) (t : ℤ) (q : FilterOf) where
   abbrev misfit : List ℕ → Bool
   misfit id = not (fits_here q t (card_meant cs (Some id)))
 
-  pub placed_none : (places : BTreeSet ℕ) → ((p : ℕ) → contains nat_cmp places p ≡ false) → ArePlaced cs t q [] places
+  pub placed_none : (places : PlacesListed) → ((p : ℕ) → is_among places p ≡ false) → ArePlaced cs t q [] places
   placed_none places none = record { once = refl; fits = refl; has = none }
 
   -- one more that fits, at a place that is new
-  pub placed_more : (ids : List (List ℕ)) (i : ℕ) (x : List ℕ) (p : ℕ) (old new : BTreeSet ℕ) → slice_get ids i ≡ Some x → ArePlaced cs t q (take i ids) old → PlaceListed cs t q x (Some p)
-      → contains nat_cmp old p ≡ false → ((k : ℕ) → contains nat_cmp new k ≡ cond (is_at (nat_cmp p) k) true (contains nat_cmp old k)) → ArePlaced cs t q (take (i + 1) ids) new
+  pub placed_more : (ids : List (List ℕ)) (i : ℕ) (x : List ℕ) (p : ℕ) (old new : PlacesListed) → slice_get ids i ≡ Some x → ArePlaced cs t q (take i ids) old → PlaceListed cs t q x (Some p)
+      → is_among old p ≡ false → ((k : ℕ) → is_among new k ≡ cond (p == k) true (is_among old k)) → ArePlaced cs t q (take (i + 1) ids) new
   placed_more ids i x p old new at a listed absent updates =
       let xs : List (List ℕ) = take i ids in
       let none : list_any (λ (y : List ℕ). bytes_eq y x) xs ≡ false =
@@ -171,7 +169,7 @@ module _ (cs : List Card) (t : ℤ) (q : FilterOf) where
         once = repeat_push xs x ∙ ap (λ (b : Bool). b || list_any (λ (y : List ℕ). bytes_eq y x) xs) a.once ∙ none;
         fits = any_push misfit xs x ∙ ap (λ (b : Bool). b || misfit x) a.fits ∙ ap not listed.0;
         has = λ k.
-            updates k ∙ ap (λ (b : Bool). cond b true (contains nat_cmp old k)) (same_key p k) ∙ cond_or (k == p) (contains nat_cmp old k)
+            updates k ∙ ap (λ (b : Bool). cond b true (is_among old k)) (same_key p k) ∙ cond_or (k == p) (is_among old k)
             ∙ ap (λ (b : Bool). b || (k == p)) (a.has k) ∙ ap (λ (o : Option ℕ). list_any (λ (y : List ℕ). is_place k (place_of y cs)) xs || is_place k o) (sym listed.1)
             ∙ sym (any_push (λ (y : List ℕ). is_place k (place_of y cs)) xs x);
       })
@@ -180,8 +178,8 @@ module _ (cs : List Card) (t : ℤ) (q : FilterOf) where
   pub wrong_misfit : (ids : List (List ℕ)) (i : ℕ) (x : List ℕ) → slice_get ids i ≡ Some x → PlaceListed cs t q x None → (has_repeat ids || lists_misfit cs t q ids) ≡ true
   wrong_misfit ids i x at listed = or_right (has_repeat ids) (lists_misfit cs t q ids) (any_at misfit ids i x at (ap not listed))
 
-  pub wrong_repeat : (ids : List (List ℕ)) (i : ℕ) (x : List ℕ) (p : ℕ) (old : BTreeSet ℕ) → slice_get ids i ≡ Some x → ArePlaced cs t q (take i ids) old → PlaceListed cs t q x (Some p)
-      → contains nat_cmp old p ≡ true → (has_repeat ids || lists_misfit cs t q ids) ≡ true
+  pub wrong_repeat : (ids : List (List ℕ)) (i : ℕ) (x : List ℕ) (p : ℕ) (old : PlacesListed) → slice_get ids i ≡ Some x → ArePlaced cs t q (take i ids) old → PlaceListed cs t q x (Some p)
+      → is_among old p ≡ true → (has_repeat ids || lists_misfit cs t q ids) ≡ true
   wrong_repeat ids i x p old at a listed there =
       let xs : List (List ℕ) = take i ids in
       let some : list_any (λ (y : List ℕ). bytes_eq y x) xs ≡ true =
@@ -190,7 +188,7 @@ module _ (cs : List Card) (t : ℤ) (q : FilterOf) where
       let whole : has_repeat ids ≡ true = ap has_repeat (sym (split ids (i + 1))) ∙ repeat_front (take (i + 1) ids) (drop (i + 1) ids) twice in
       ap (λ (b : Bool). b || lists_misfit cs t q ids) whole
 
-  pub placed_all : (ids : List (List ℕ)) (i : ℕ) (places : BTreeSet ℕ) → length ids ≤ i → ArePlaced cs t q (take i ids) places → ArePlaced cs t q ids places
+  pub placed_all : (ids : List (List ℕ)) (i : ℕ) (places : PlacesListed) → length ids ≤ i → ArePlaced cs t q (take i ids) places → ArePlaced cs t q ids places
   placed_all ids i places h a = let P : List (List ℕ) → Type 0 = λ ys. ArePlaced cs t q ys places in subst P (all_taken ids i h) a
 
 -- WHAT IS LEFT OUT
@@ -217,7 +215,7 @@ own_at m p h sound at (Some k) e =
 own_place : (m : Meaning) (p : ℕ) (h : Held) → IsSound m → slice_get m.objects p ≡ Some h → place_of h.card.id (cards_of m.objects) ≡ Some p
 own_place m p h sound at = own_at m p h sound at (place_of h.card.id (cards_of m.objects)) refl
 
-module _ (m : Meaning) (t : ℤ) (q : FilterOf) (listed : List (List ℕ)) (places : BTreeSet ℕ) (sound : IsSound m) (a : ArePlaced (cards_of m.objects) t q listed places) where
+module _ (m : Meaning) (t : ℤ) (q : FilterOf) (listed : List (List ℕ)) (places : PlacesListed) (sound : IsSound m) (a : ArePlaced (cards_of m.objects) t q listed places) where
   abbrev cs : List Card
   cs = cards_of m.objects
 
@@ -228,7 +226,7 @@ module _ (m : Meaning) (t : ℤ) (q : FilterOf) (listed : List (List ℕ)) (plac
   card_at p h at = get-cards_of m.objects p ∙ ap (option_map (λ (g : Held). g.card)) at
 
   -- what is listed at its place, and back
-  listed_there : (p : ℕ) (h : Held) → slice_get m.objects p ≡ Some h → is_listed listed h.card.id ≡ contains nat_cmp places p
+  listed_there : (p : ℕ) (h : Held) → slice_get m.objects p ≡ Some h → is_listed listed h.card.id ≡ is_among places p
   listed_there p h at =
       let own = own_place m p h sound at in
       any_same (λ (x : List ℕ). bytes_eq x h.card.id) (λ (x : List ℕ). is_place p (place_of x cs)) (place_is cs h.card.id p own) listed ∙ sym (a.has p)
@@ -270,16 +268,16 @@ module _ (cs : List Card) (t : ℤ) (q : FilterOf) (listed : List (List ℕ)) wh
       let w : wrongly ≡ true = outer_two (has_repeat listed) (is_over q.maximum (length listed)) (lists_misfit cs t q listed) e in
       ap (λ (b : Bool). cond b (Some ListedWrongly) (cond few (Some ListedTooFew) None)) (sym w)
 
-  not_wrong : (places : BTreeSet ℕ) → is_over q.maximum (length listed) ≡ false → ArePlaced cs t q listed places → wrongly ≡ false
+  not_wrong : (places : PlacesListed) → is_over q.maximum (length listed) ≡ false → ArePlaced cs t q listed places → wrongly ≡ false
   not_wrong places e a = none_of (has_repeat listed) (is_over q.maximum (length listed)) (lists_misfit cs t q listed) a.once e a.fits
 
-  pub why_full : (places : BTreeSet ℕ) → is_over q.maximum (length listed) ≡ false → ArePlaced cs t q listed places → is_full q.maximum (length listed) ≡ true
+  pub why_full : (places : PlacesListed) → is_over q.maximum (length listed) ≡ false → ArePlaced cs t q listed places → is_full q.maximum (length listed) ≡ true
       → None ≡ find (locate_speaks cs t q (Some listed)) whys
   why_full places e a full =
       sym (ap (λ (b : Bool). cond b (Some ListedWrongly) (cond few (Some ListedTooFew) None)) (not_wrong places e a)
       ∙ ap (λ (b : Bool). cond (not b && leaves_out cs t q listed) (Some ListedTooFew) None) full)
 
-  pub why_few : (places : BTreeSet ℕ) (b : Bool) → is_over q.maximum (length listed) ≡ false → ArePlaced cs t q listed places → is_full q.maximum (length listed) ≡ false → leaves_out cs t q listed ≡ b
+  pub why_few : (places : PlacesListed) (b : Bool) → is_over q.maximum (length listed) ≡ false → ArePlaced cs t q listed places → is_full q.maximum (length listed) ≡ false → leaves_out cs t q listed ≡ b
       → cond b (Some ListedTooFew) None ≡ find (locate_speaks cs t q (Some listed)) whys
   why_few places b e a full out =
       sym (ap (λ (x : Bool). cond x (Some ListedWrongly) (cond few (Some ListedTooFew) None)) (not_wrong places e a)
@@ -358,7 +356,7 @@ lt_or_le a zero = inr (omega arith)
 lt_or_le zero (suc b) = inl (omega arith)
 lt_or_le (suc a) (suc b) = elim (lt_or_le a b) [ inl h ↦ inl (omega arith) | inr h ↦ inr (omega arith) ]
 
-module _ (hs : List Held) (t : ℤ) (q : FilterOf) (places : BTreeSet ℕ) (from : ℕ) (covered : CoveredTo hs t q places from) where
+module _ (hs : List Held) (t : ℤ) (q : FilterOf) (places : PlacesListed) (from : ℕ) (covered : CoveredTo hs t q places from) where
   pub scan_end : NextCandidate hs t q from None → LeavesOut hs t q places false
   scan_end none p h at must = elim (lt_or_le p from) [
     | inl below ↦ covered p h below at must
@@ -378,7 +376,7 @@ module _ (hs : List Held) (t : ℤ) (q : FilterOf) (places : BTreeSet ℕ) (from
       | inl before ↦ absurd (true_not (must_fit q (state h.card.dates t) h.card) must (next.1 p h high before at))
       | inr behind ↦
           let same : p ≡ place = omega arith in
-          let P : ℕ → Type 0 = λ k. contains nat_cmp places k ≡ true in
+          let P : ℕ → Type 0 = λ k. is_among places k ≡ true in
           let Q : ℕ → Type 0 = λ k. slice_get hs k ≡ Some h in
           subst P (sym same) (held h (subst Q same at) must)
     ])
@@ -394,17 +392,17 @@ named_candidate hs t q n ns from None first e = λ to. named_none q n ns first h
 named_candidate hs t q n ns from (Some p) first e = named_next q n ns first hs t from p (sym e)
 
 -- an object at a place
-pub missing_if : (hs : List Held) (t : ℤ) (q : FilterOf) (places : BTreeSet ℕ) (p : ℕ) (f : Fit) → FitsAt hs t q p f → must_of f ≡ true → contains nat_cmp places p ≡ false → IsMissing hs t q places p true
+pub missing_if : (hs : List Held) (t : ℤ) (q : FilterOf) (places : PlacesListed) (p : ℕ) (f : Fit) → FitsAt hs t q p f → must_of f ≡ true → is_among places p ≡ false → IsMissing hs t q places p true
 missing_if hs t q places p f x must out = (x.0, x.1, (fit_tells q (state x.0.card.dates t) x.0.card f x.2).1 ∙ must, out)
 
-pub missing_must : (hs : List Held) (t : ℤ) (q : FilterOf) (places : BTreeSet ℕ) (p : ℕ) (b : Bool) → FitsAt hs t q p fit.Must → b ≡ contains nat_cmp places p → IsMissing hs t q places p (not b)
+pub missing_must : (hs : List Held) (t : ℤ) (q : FilterOf) (places : PlacesListed) (p : ℕ) (b : Bool) → FitsAt hs t q p fit.Must → b ≡ is_among places p → IsMissing hs t q places p (not b)
 missing_must hs t q places p true x e = λ h at must. sym e
 missing_must hs t q places p false x e = missing_if hs t q places p fit.Must x refl (sym e)
 
 same_held : (hs : List Held) (p : ℕ) (g h : Held) → slice_get hs p ≡ Some g → slice_get hs p ≡ Some h → g ≡ h
 same_held hs p g h a b = let e : Some g ≡ Some h = sym a ∙ b in cc
 
-pub missing_not : (hs : List Held) (t : ℤ) (q : FilterOf) (places : BTreeSet ℕ) (p : ℕ) (f : Fit) → FitsAt hs t q p f → (must_of f ≡ true → contains nat_cmp places p ≡ true) → IsMissing hs t q places p false
+pub missing_not : (hs : List Held) (t : ℤ) (q : FilterOf) (places : PlacesListed) (p : ℕ) (f : Fit) → FitsAt hs t q p f → (must_of f ≡ true → is_among places p ≡ true) → IsMissing hs t q places p false
 missing_not hs t q places p f x there h at must =
     let same : x.0 ≡ h = same_held hs p x.0 h x.1 at in
     let P : Held → Type 0 = λ g. must_fit q (state g.card.dates t) g.card ≡ true in

@@ -1,8 +1,7 @@
 -- What the program finds of a list; it is not promised.
-use Rattle.std.specs.Prelude.{◌≡◌, ◌<◌, ◌≤◌, ◌||◌, ◌==◌, ℕ, ℤ, Bool, true, false, List, slice_get, Option, Some, None}
+use Rattle.std.specs.Prelude.{◌≡◌, ◌<◌, ◌≤◌, ◌||◌, ◌==◌, nat_eq, ℕ, ℤ, Bool, true, false, List, slice_get, Option, Some, None}
 use Rattle.std.specs.List.{list_any}
-use Rattle.std.specs.Ordering.{nat_cmp}
-use Rattle.std.specs.BTreeSet.{BTreeSet, contains}
+use Rattle.indexmap.specs.IndexSet.{contains}
 use Rattle.kmipa_attrs.specs.Filters.{FilterOf}
 use Rattle.kmipa_object.specs.Inventory.{Card, place_of}
 use Rattle.kmipa_object.specs.Life.{state}
@@ -10,7 +9,12 @@ use Rattle.kmipa_store.specs.Ledger.{Held}
 use Rattle.kmipa_ops.specs.Objects.{card_meant}
 use Rattle.kmipa_ops.specs.declared.fit.Fit.{Fit}
 use Rattle.kmipa_ops.specs.declared.fit.Fit.TheVariants as fit
+use Rattle.kmipa_ops.specs.declared.places_listed.PlacesListed.{PlacesListed}
 use Rattle.kmipa_ops.specs.Locate.{IsFit, must_fit, fits_here, has_repeat, lists_misfit}
+
+-- whether a place is one of these
+abbrev pub is_among : PlacesListed → ℕ → Bool
+is_among l p = contains nat_eq l.places p
 
 abbrev pub is_place : ℕ → Option ℕ → Bool
 is_place p None = false
@@ -22,13 +26,13 @@ PlaceListed cs t q id None = fits_here q t (card_meant cs (Some id)) ≡ false
 PlaceListed cs t q id (Some p) = (fits_here q t (card_meant cs (Some id)) ≡ true) × (place_of id cs ≡ Some p)
 
 -- nothing is listed twice, all fits, and these are its places
-pub record ArePlaced (cs : List Card) (t : ℤ) (q : FilterOf) (listed : List (List ℕ)) (places : BTreeSet ℕ) : Type 0 where
+pub record ArePlaced (cs : List Card) (t : ℤ) (q : FilterOf) (listed : List (List ℕ)) (places : PlacesListed) : Type 0 where
   pub once : has_repeat listed ≡ false
   pub fits : lists_misfit cs t q listed ≡ false
-  pub has : (p : ℕ) → contains nat_cmp places p ≡ list_any (λ (id : List ℕ). is_place p (place_of id cs)) listed
+  pub has : (p : ℕ) → is_among places p ≡ list_any (λ (id : List ℕ). is_place p (place_of id cs)) listed
 
 -- the places of what is listed, unless something is listed twice or doesn't fit
-abbrev pub Placed : List Card → ℤ → FilterOf → List (List ℕ) → Option (BTreeSet ℕ) → Type 0
+abbrev pub Placed : List Card → ℤ → FilterOf → List (List ℕ) → Option (PlacesListed) → Type 0
 Placed cs t q listed None = (has_repeat listed || lists_misfit cs t q listed) ≡ true
 Placed cs t q listed (Some places) = ArePlaced cs t q listed places
 
@@ -42,13 +46,13 @@ NextCandidate objects t q from None = (to : ℕ) → NoneMust objects t q from t
 NextCandidate objects t q from (Some p) = (from ≤ p) × NoneMust objects t q from p
 
 -- of the objects before a place each that must be listed is at one of these places
-abbrev pub CoveredTo : List Held → ℤ → FilterOf → BTreeSet ℕ → ℕ → Type 0
-CoveredTo objects t q places to = (p : ℕ) (h : Held) → p < to → slice_get objects p ≡ Some h → must_fit q (state h.card.dates t) h.card ≡ true → contains nat_cmp places p ≡ true
+abbrev pub CoveredTo : List Held → ℤ → FilterOf → PlacesListed → ℕ → Type 0
+CoveredTo objects t q places to = (p : ℕ) (h : Held) → p < to → slice_get objects p ≡ Some h → must_fit q (state h.card.dates t) h.card ≡ true → is_among places p ≡ true
 
 -- an object must be listed, and isn't at one of the places; or there is none
-abbrev pub LeavesOut : List Held → ℤ → FilterOf → BTreeSet ℕ → Bool → Type 0
-LeavesOut objects t q places true = (p : ℕ) × (h : Held) × (slice_get objects p ≡ Some h) × (must_fit q (state h.card.dates t) h.card ≡ true) × (contains nat_cmp places p ≡ false)
-LeavesOut objects t q places false = (p : ℕ) (h : Held) → slice_get objects p ≡ Some h → must_fit q (state h.card.dates t) h.card ≡ true → contains nat_cmp places p ≡ true
+abbrev pub LeavesOut : List Held → ℤ → FilterOf → PlacesListed → Bool → Type 0
+LeavesOut objects t q places true = (p : ℕ) × (h : Held) × (slice_get objects p ≡ Some h) × (must_fit q (state h.card.dates t) h.card ≡ true) × (is_among places p ≡ false)
+LeavesOut objects t q places false = (p : ℕ) (h : Held) → slice_get objects p ≡ Some h → must_fit q (state h.card.dates t) h.card ≡ true → is_among places p ≡ true
 
 -- what a fit says of the two tests
 abbrev pub may_of : Fit → Bool
@@ -66,6 +70,6 @@ abbrev pub FitsAt : List Held → ℤ → FilterOf → ℕ → Fit → Type 0
 FitsAt objects t q p f = (h : Held) × (slice_get objects p ≡ Some h) × IsFit q (state h.card.dates t) h.card f
 
 -- the object at a place must be listed, and the place isn't among these; or it is so
-abbrev pub IsMissing : List Held → ℤ → FilterOf → BTreeSet ℕ → ℕ → Bool → Type 0
-IsMissing objects t q places p true = (h : Held) × (slice_get objects p ≡ Some h) × (must_fit q (state h.card.dates t) h.card ≡ true) × (contains nat_cmp places p ≡ false)
-IsMissing objects t q places p false = (h : Held) → slice_get objects p ≡ Some h → must_fit q (state h.card.dates t) h.card ≡ true → contains nat_cmp places p ≡ true
+abbrev pub IsMissing : List Held → ℤ → FilterOf → PlacesListed → ℕ → Bool → Type 0
+IsMissing objects t q places p true = (h : Held) × (slice_get objects p ≡ Some h) × (must_fit q (state h.card.dates t) h.card ≡ true) × (is_among places p ≡ false)
+IsMissing objects t q places p false = (h : Held) → slice_get objects p ≡ Some h → must_fit q (state h.card.dates t) h.card ≡ true → is_among places p ≡ true

@@ -23,6 +23,7 @@ mod locate;
 mod names;
 mod objects;
 mod placeholder;
+mod places_listed;
 mod readable;
 mod register;
 mod required;

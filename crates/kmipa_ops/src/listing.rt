@@ -11,11 +11,11 @@ ghost use Rattle.kmipa_ops.specs.Locate.{is_full, is_over, locate_speaks};
 ghost use Rattle.kmipa_ops.specs.Whys.{whys};
 
 use crate::fit::{Fit, matches_in_set};
+use crate::places_listed::PlacesListed;
 use crate::why::Why;
 use kmipa_attrs::Filter;
 use kmipa_store::Ledger;
 use std::alloc::{AllocError, Global};
-use std::collections::BTreeSet;
 
 /// The lowest reason against what a Locate lists.
 pub(crate) fn why_not_listed<L: Ledger>(
@@ -70,17 +70,17 @@ fn places_listed<L: Ledger>(
     ledger: &L,
     filter: &Filter,
     listed: &[&str],
-) -> Result<Option<BTreeSet<usize>>, AllocError>
+) -> Result<Option<PlacesListed>, AllocError>
     ensures { IfOk result (λ places. Placed (cards_of (L.state ledger.now).now.objects) (L.moment ledger.now) (filter_of filter.now) (map lent listed.now) places) }
 {
-    let mut places = BTreeSet::new(alloc);
+    let mut places = PlacesListed::new(alloc);
     for id in listed {
         let rightly = place_listed(alloc, ledger, filter, id)?;
         let place = match rightly {
             Some(place) => place,
             None => return Ok(None),
         };
-        let is_new = places.insert(place)?;
+        let is_new = places.add(place)?;
         if !is_new {
             return Ok(None);
         }
@@ -113,7 +113,7 @@ fn leaves_out<L: Ledger>(
     alloc: Global,
     ledger: &L,
     filter: &Filter,
-    places: &BTreeSet<usize>,
+    places: &PlacesListed,
 ) -> Result<bool, AllocError>
     ensures { IfOk result (λ does. LeavesOut (L.state ledger.now).now.objects (L.moment ledger.now) (filter_of filter.now) places.now does) }
 {
@@ -149,7 +149,7 @@ fn is_missing<L: Ledger>(
     alloc: Global,
     ledger: &L,
     filter: &Filter,
-    places: &BTreeSet<usize>,
+    places: &PlacesListed,
     place: usize,
 ) -> Result<bool, AllocError>
     requires { place < length (L.state ledger.now).now.objects }
@@ -157,7 +157,7 @@ fn is_missing<L: Ledger>(
 {
     let fit = fit_at(alloc, ledger, filter, place)?;
     match fit {
-        Fit::Must => Ok(!places.contains(&place)),
+        Fit::Must => Ok(!places.has(place)),
         Fit::May => Ok(false),
         Fit::Not => Ok(false),
     }

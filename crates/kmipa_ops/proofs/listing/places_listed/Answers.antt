@@ -1,6 +1,5 @@
 use Rattle.std.proofs.Common.{◌∙◌, sym, map, Some, None}
-use Rattle.std.specs.BTreeSet.{contains}
-use Rattle.std.specs.Ordering.{nat_cmp}
+use Rattle.kmipa_ops.specs.Listing.{is_among}
 use Rattle.kmipa_attrs.specs.Filters.{filter_of}
 use Rattle.kmipa_store.specs.Ledger.{cards_of}
 use Rattle.kmipa_msgs.specs.Messages.{lent}
@@ -23,14 +22,14 @@ returns-then-not-is_new g c =
     let q = filter_of c.args.filter.now in
     wrong_repeat cs t q (map lent c.args.listed.now) c.loop-id.id-index _ c.in-Some.place c.loop-id.places (mapped_at lent c.args.listed.now c.loop-id.id-index _ c.loop-id-test.true) c.loop-id.invariant
     (listed_is cs t q _ c.in_ok-rightly.rightly (Some c.in-Some.place) c.in_ok-rightly.ensures c.in-Some.is)
-    (not_false (contains nat_cmp c.loop-id.places c.in-Some.place) (sym c.in_ok-is_new.ensures.added ∙ c.if-not-is_new.true))
+    (not_false (is_among c.loop-id.places c.in-Some.place) (sym c.in_ok-is_new.ensures.new ∙ c.if-not-is_new.true))
 
 pub loop-id-preserved : goal.loop-id-preserved
 loop-id-preserved g c =
     let cs = cards_of (g.L.Ledger.state c.args.ledger.now).now.objects in
     let t = g.L.Ledger.moment c.args.ledger.now in
     let q = filter_of c.args.filter.now in
-    placed_more cs t q (map lent c.args.listed.now) c.loop-id.id-index _ c.in-Some.place c.loop-id.places c.insert.new.self
+    placed_more cs t q (map lent c.args.listed.now) c.loop-id.id-index _ c.in-Some.place c.loop-id.places c.add.new.self
     (mapped_at lent c.args.listed.now c.loop-id.id-index _ c.loop-id-test.true) c.loop-id.invariant
     (listed_is cs t q _ c.in_ok-rightly.rightly (Some c.in-Some.place) c.in_ok-rightly.ensures c.in-Some.is)
-    (not_true (contains nat_cmp c.loop-id.places c.in-Some.place) (sym c.in_ok-is_new.ensures.added ∙ c.if-not-is_new.false)) c.in_ok-is_new.ensures.updates.0
+    (not_true (is_among c.loop-id.places c.in-Some.place) (sym c.in_ok-is_new.ensures.new ∙ c.if-not-is_new.false)) c.in_ok-is_new.ensures.added

@@ -1,6 +1,6 @@
 use Rattle.std.proofs.Common.{◌∙◌, ap, sym, subst, map, true, false, Option, ℕ}
 use Rattle.std.proofs.lemmas.List.{length-map}
-use Rattle.std.specs.BTreeSet.{BTreeSet}
+use Rattle.kmipa_ops.specs.declared.places_listed.PlacesListed.{PlacesListed}
 use Rattle.kmipa_attrs.specs.Filters.{filter_of}
 use Rattle.kmipa_store.specs.Ledger.{cards_of}
 use Rattle.kmipa_msgs.specs.Messages.{lent}
@@ -15,7 +15,7 @@ returns-then-is_short g c =
     let t = g.L.Ledger.moment c.args.ledger.now in
     let q = filter_of c.args.filter.now in
     let ids = map lent c.args.listed.now in
-    let placed = subst (λ (o : Option (BTreeSet ℕ)). Placed (cards_of m.objects) t q ids o) c.in-Some.is c.in_ok-found.ensures in
+    let placed = subst (λ (o : Option PlacesListed). Placed (cards_of m.objects) t q ids o) c.in-Some.is c.in_ok-found.ensures in
     why_few (cards_of m.objects) t q ids c.in-Some.places true
     (ap (is_over q.maximum) (length-map c.args.listed.now lent) ∙ sym c.is_over.ensures ∙ c.if-is_over.false) placed
     (ap (is_full q.maximum) (length-map c.args.listed.now lent) ∙ sym c.is_full.ensures ∙ c.if-is_full.false)
@@ -27,7 +27,7 @@ returns g c =
     let t = g.L.Ledger.moment c.args.ledger.now in
     let q = filter_of c.args.filter.now in
     let ids = map lent c.args.listed.now in
-    let placed = subst (λ (o : Option (BTreeSet ℕ)). Placed (cards_of m.objects) t q ids o) c.in-Some.is c.in_ok-found.ensures in
+    let placed = subst (λ (o : Option PlacesListed). Placed (cards_of m.objects) t q ids o) c.in-Some.is c.in_ok-found.ensures in
     why_few (cards_of m.objects) t q ids c.in-Some.places false
     (ap (is_over q.maximum) (length-map c.args.listed.now lent) ∙ sym c.is_over.ensures ∙ c.if-is_over.false) placed
     (ap (is_full q.maximum) (length-map c.args.listed.now lent) ∙ sym c.is_full.ensures ∙ c.if-is_full.false)
