@@ -11,6 +11,3 @@ use std::process::ExitCode;
 fn main(rt: HostRuntime) -> ExitCode {
     ExitCode::from(session::run_session(&rt).number())
 }
-
-#[cfg(test)]
-mod tests;
