@@ -19,6 +19,3 @@ pub use forced::is_forced;
 pub use found::Found;
 pub use laws::{enough_decides, forced_is_light, next_is_tested};
 pub use searching::search;
-
-#[cfg(test)]
-mod tests;
