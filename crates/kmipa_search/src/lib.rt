@@ -21,6 +21,3 @@ pub use found::Found;
 pub use laws::{enough_decides, forced_is_light, next_is_tested};
 pub use searching::{search, search_watched};
 pub use watch::{Unwatched, Watch};
-
-#[cfg(test)]
-mod tests;
