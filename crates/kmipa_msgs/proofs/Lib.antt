@@ -32,3 +32,4 @@ pub mod WrittenTypeLemmas
 pub mod WrittenMessageLemmas
 pub mod WrittenRequestLemmas
 pub mod WrittenResponseLemmas
+pub mod SayableLemmas

@@ -26,6 +26,7 @@ pub mod Asks
 pub mod Headers
 pub mod Requests
 pub mod Payloads
+pub mod Sayable
 pub mod Replies
 pub mod Responses
 pub mod Wanted

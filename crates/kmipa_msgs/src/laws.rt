@@ -7,6 +7,7 @@ ghost use Rattle.kmipa_msgs.specs.Outside.{Decided};
 ghost use Rattle.kmipa_msgs.specs.Payloads.{SaysPayload, PayloadFault};
 ghost use Rattle.kmipa_msgs.specs.Requests.{SaysRequest, RequestFault};
 ghost use Rattle.kmipa_msgs.specs.Responses.{SaysResponse, ResponseFault};
+ghost use Rattle.kmipa_msgs.specs.Sayable.{SayableIsSaid};
 
 /// An item says exactly one request, or is outside at one item with one kind.
 pub fn one_request()
@@ -21,4 +22,9 @@ pub fn one_response()
 /// An item says exactly one payload for what was asked, or is outside with one kind.
 pub fn one_payload()
     ensures { (t : Tree) (ask : AskOf) → Decided (SaysPayload t ask) (PayloadFault t ask) }
+{}
+
+/// Some item says a payload exactly where it is one of the operation asked for, and each of its fields can be said.
+pub fn sayable_is_said()
+    ensures { SayableIsSaid }
 {}

@@ -17,7 +17,7 @@ mod writing;
 pub use fault::{Outside, ReadFault};
 pub use key_block::{KeyBlock, KeyFormat};
 pub use kind::OutsideKind;
-pub use laws::{one_payload, one_request, one_response};
+pub use laws::{one_payload, one_request, one_response, sayable_is_said};
 pub use operation::Operation;
 pub use reading::{read_payload, read_request, read_response};
 pub use request::{

@@ -34,7 +34,7 @@ use Rattle.kmipa_ops.specs.After.{Changes, Leaves}
 use Rattle.kmipa_ops.proofs.GetLemmas.{meant_is, meant_at}
 use Rattle.kmipa_ops.proofs.MeantLemmas.{object_there, object_nowhere, in_state}
 use Rattle.kmipa_msgs.specs.Messages.{PayloadOf, changed}
-use Rattle.kmipa_ops.specs.Sayable.{IsSayableId}
+use Rattle.kmipa_msgs.specs.Sayable.{IsSayableId}
 use Rattle.kmipa_ops.proofs.DeedLaws.{IsDeed}
 
 -- two changes that agree on the element

@@ -26,7 +26,8 @@ use Rattle.kmipa_msgs.specs.Messages.{GotOf, PayloadOf, got}
 use Rattle.kmipa_ops.specs.declared.why.Why.{Why}
 use Rattle.kmipa_ops.specs.declared.why.Why.TheVariants.{NoSuchObject, WrongState, BytesDiffer, LengthImpossible, AttributeDiffers, EchoDiffers}
 use Rattle.kmipa_ops.specs.Objects.{meant, Echoes, Agree, is_other, clash, same_type, is_other_id}
-use Rattle.kmipa_ops.specs.Get.{Gets, shows_other, get_speaks, taught, taught_at, SaysGot, seen_got, get_leaves, get_deed}
+use Rattle.kmipa_msgs.specs.Sayable.{SaysKey}
+use Rattle.kmipa_ops.specs.Get.{Gets, shows_other, get_speaks, taught, taught_at, seen_got, get_leaves, get_deed}
 use Rattle.kmipa_ops.specs.Meant.{object_meant, secret_at, secret_meant, is_not, is_excluded}
 use Rattle.kmipa_ops.proofs.TestLemmas.{not_false, not_none, echoes_if, echoes_not, agree_if, agree_not, or_cases}
 use Rattle.kmipa_ops.proofs.StepLemmas.{Step, chose_before, still_step}
@@ -299,13 +300,13 @@ covers_get m meant_id t a w h = cc
 
 -- an answer without payload: the object's bytes complete it
 hidden_get : (m : Meaning) (before id : Option (List ℕ)) (t : ℤ) → IsSound m → ((w : Why) → get_speaks m (meant id before) t None w ≡ false)
-    → Step (λ V V' p. (a : GotOf) × SaysGot a × Gets V before id a V' p) m m before
+    → Step (λ V V' p. (a : GotOf) × SaysKey a × Gets V before id a V' p) m m before
 hidden_get m before id t sound silent =
     let about : Option (List ℕ) = meant id before in
     let f = finds m about t sound (silent NoSuchObject) (silent WrongState) in
     let r = sound.in_range.there f.1 f.2 f.3 f.4.stands f.4.secret in
     let k : Known = record { rule = rule_of f.2.card; bytes = r.0 } in
-    still_step (λ V V' p. (a : GotOf) × SaysGot a × Gets V before id a V' p) m before sound
+    still_step (λ V V' p. (a : GotOf) × SaysKey a × Gets V before id a V' p) m before sound
     (λ c ch.
     let g : GotOf = record { object_type = None; id = None; shape = f.2.card.kind; block = record { format = Raw; material = c f.3.number; algorithm = None; length = None } } in
     let kind : not (same_type f.2.card.kind f.2.card.kind) ≡ false = ap not ((same_type-Decides f.2.card.kind f.2.card.kind).1 refl) in

@@ -15,6 +15,7 @@ mod GetAttributesLemmas
 mod LookLemmas
 mod LocateLemmas
 mod RowLemmas
+mod SayableLemmas
 mod LowestLemmas
 mod FoundedLemmas
 mod ItemLemmas

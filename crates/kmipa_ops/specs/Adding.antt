@@ -9,8 +9,6 @@ use Rattle.kmipa_object.specs.declared.life.SecretNo.{SecretNo}
 use Rattle.kmipa_object.specs.declared.rule.Rule.{Rule}
 use Rattle.kmipa_store.specs.Ledger.{changed, Meaning, LedgerState}
 use Rattle.kmipa_msgs.specs.Messages.{RulesOf, RegisteredOf}
-use Rattle.std.specs.Prelude.{IsUtf8}
-use Rattle.kmipa_ops.specs.Sayable.{IsSayableNumber}
 use Rattle.kmipa_ops.specs.Objects.{Echoes, any_live_named, is_other}
 use Rattle.kmipa_ops.specs.declared.why.Why.{Why}
 use Rattle.kmipa_ops.specs.declared.why.Why.TheVariants.{IdentifierTaken, NameTaken, LengthImpossible, EchoDiffers}
@@ -59,10 +57,6 @@ MakesOwn s rule known (Ok secret) u =
     (secret.number ≡ length s.now.secrets)
     × (u ≡ changed s (record { objects = s.now.objects; secrets = s.now.secrets ++ record { rule = rule; bytes = known } ∷ [] }))
 MakesOwn s rule known (Err e) u = u.marks ≡ s.marks
-
--- a message can carry its answer
-abbrev pub SaysNew : RegisteredOf → Type 0
-SaysNew x = IsUtf8 x.id × IsSayableNumber x.object_type
 
 -- the placeholder holds its identifier
 abbrev pub names_new : Option (List ℕ) → Option RegisteredOf → Option (List ℕ)

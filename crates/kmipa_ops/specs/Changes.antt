@@ -12,7 +12,7 @@ use Rattle.kmipa_store.specs.Ledger.{Held, Meaning}
 use Rattle.kmipa_msgs.specs.Messages.{PayloadOf, changed}
 use Rattle.kmipa_ops.specs.Meant.{place_meant, object_meant, is_not, is_excluded}
 use Rattle.kmipa_ops.specs.Objects.{meant, HasObject, Echoes, is_other_id}
-use Rattle.kmipa_ops.specs.Sayable.{IsSayableId}
+use Rattle.kmipa_msgs.specs.Sayable.{IsSayableId}
 use Rattle.kmipa_ops.specs.Row.{Deed, on_object}
 use Rattle.kmipa_ops.specs.declared.change.Change.{Change}
 use Rattle.kmipa_ops.specs.declared.change.Change.TheVariants.{Activate, Revoke, Destroy}

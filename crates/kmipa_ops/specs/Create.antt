@@ -5,7 +5,8 @@ use Rattle.kmipa_attrs.specs.declared.object_type.ObjectType.TheVariants.{Symmet
 use Rattle.kmipa_object.specs.Inventory.{Card, Thing, given_of, rule_for, possible}
 use Rattle.kmipa_store.specs.Ledger.{Meaning, cards_of}
 use Rattle.kmipa_msgs.specs.Messages.{RulesOf, RegisteredOf, PayloadOf, created}
-use Rattle.kmipa_ops.specs.Adding.{SaysNew, newborn, AddsObject, adding_speaks, with_own, names_new}
+use Rattle.kmipa_msgs.specs.Sayable.{SaysNew}
+use Rattle.kmipa_ops.specs.Adding.{newborn, AddsObject, adding_speaks, with_own, names_new}
 use Rattle.kmipa_ops.specs.Row.{Deed, on_names}
 use Rattle.kmipa_ops.specs.declared.why.Why.{Why}
 

@@ -9,7 +9,7 @@ use Rattle.kmipa_store.specs.Ledger.{Held, Meaning, told}
 use Rattle.kmipa_msgs.specs.Messages.{GotOf, PayloadOf, got}
 use Rattle.kmipa_ops.specs.Meant.{object_meant, secret_at, secret_meant, is_excluded}
 use Rattle.kmipa_ops.specs.Objects.{meant, HasObject, Echoes, Agree, is_other, is_other_id, clash, same_type}
-use Rattle.kmipa_ops.specs.Sayable.{IsSayableId, IsSayableBlock}
+use Rattle.kmipa_msgs.specs.Sayable.{SaysKey}
 use Rattle.kmipa_ops.specs.Row.{Deed, on_object}
 use Rattle.kmipa_ops.specs.declared.why.Why.{Why}
 use Rattle.kmipa_ops.specs.declared.why.Why.TheVariants.{NoSuchObject, WrongState, BytesDiffer, LengthImpossible, AttributeDiffers, EchoDiffers}
@@ -62,9 +62,6 @@ abbrev pub taught : Meaning → Option Held → List ℕ → Meaning
 taught m None bytes = m
 taught m (Some h) bytes = taught_at m h.material bytes
 
-abbrev pub SaysGot : GotOf → Type 0
-SaysGot a = IsSayableId a.id × IsSayableBlock a.block
-
 abbrev pub seen_got : PayloadOf → Option GotOf
 seen_got (got a) = Some a
 seen_got payload = None
@@ -79,7 +76,7 @@ get_deed id = record {
   Shown = GotOf;
   payload = got;
   seen = seen_got;
-  says = SaysGot;
+  says = SaysKey;
   subject = on_object id act.Get false;
   brings = None;
   may_lack = true;

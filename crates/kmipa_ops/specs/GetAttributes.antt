@@ -9,7 +9,7 @@ use Rattle.kmipa_object.specs.Life.{Dates, state, state_number}
 use Rattle.kmipa_msgs.specs.Messages.{GetAttributesOf, GotAttributesOf, PayloadOf, got_attributes}
 use Rattle.kmipa_object.specs.declared.state.State.{State as StateOf}
 use Rattle.kmipa_store.specs.Ledger.{cards_of}
-use Rattle.kmipa_ops.specs.Sayable.{IsSayableId}
+use Rattle.kmipa_msgs.specs.Sayable.{IsSayableId}
 use Rattle.kmipa_ops.specs.Row.{Deed, on_object}
 use Rattle.kmipa_ops.specs.declared.judged.Judged.{Judged}
 use Rattle.kmipa_ops.specs.declared.judged.Judged.TheVariants.{Name, ObjectType, CryptographicAlgorithm, CryptographicLength, CryptographicUsageMask, State, InitialDate, ActivationDate, DeactivationDate, DestroyDate, CompromiseDate}

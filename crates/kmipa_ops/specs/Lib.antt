@@ -2,7 +2,6 @@ pub mod Whys
 pub mod Asks
 pub mod Placeholders
 pub mod Objects
-pub mod Sayable
 pub mod Row
 pub mod Meant
 pub mod Adding
@@ -21,6 +20,7 @@ pub mod Rows
 pub mod Founded
 pub mod Does
 pub mod Completes
+pub mod Sayable
 pub mod Chains
 pub mod Blame
 pub mod Explains

@@ -8,6 +8,7 @@ use Rattle.kmipa_object.specs.Inventory.{Card, live}
 use Rattle.kmipa_object.specs.Life.{state, state_number}
 use Rattle.kmipa_object.specs.declared.state.State.{State}
 use Rattle.kmipa_msgs.specs.Messages.{PayloadOf, located}
+use Rattle.kmipa_msgs.specs.Sayable.{SaysListed}
 use Rattle.kmipa_ops.specs.declared.fit.Fit.{Fit}
 use Rattle.kmipa_ops.specs.declared.fit.Fit.TheVariants as fit
 use Rattle.kmipa_ops.specs.declared.why.Why.{Why}
@@ -133,7 +134,7 @@ locate_look q = record {
   Shown = List (List ℕ);
   payload = located;
   seen = seen_located;
-  says = λ listed. All (λ (id : List ℕ). IsUtf8 id) listed;
+  says = SaysListed;
   subject = on_nothing;
   may_lack = false;
   Sees = λ cs before t listed. Lists cs t q listed;

@@ -4,7 +4,8 @@ use Rattle.kmipa_attrs.specs.Sets.{Attributes}
 use Rattle.kmipa_object.specs.Inventory.{Card, Thing, given_of, rule_for, admits}
 use Rattle.kmipa_store.specs.Ledger.{Meaning, cards_of}
 use Rattle.kmipa_msgs.specs.Messages.{RulesOf, RegisterOf, RegisteredOf, PayloadOf, registered}
-use Rattle.kmipa_ops.specs.Adding.{SaysNew, newborn, AddsObject, adding_speaks, with_own, names_new}
+use Rattle.kmipa_msgs.specs.Sayable.{SaysNew}
+use Rattle.kmipa_ops.specs.Adding.{newborn, AddsObject, adding_speaks, with_own, names_new}
 use Rattle.kmipa_ops.specs.Row.{Deed, on_names}
 use Rattle.kmipa_ops.specs.declared.why.Why.{Why}
 

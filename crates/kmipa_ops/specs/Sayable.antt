@@ -1,16 +1,15 @@
--- What a message can carry: identifiers are UTF-8, and numbers have 32 bits.
-use Rattle.std.specs.Prelude.{◌<◌, ◌^◌, ℕ, ℤ, List, All, IfSome, IsUtf8, Option, FitsSigned}
-use Rattle.std.specs.Int.{w32}
-use Rattle.kmipa_msgs.specs.Messages.{BlockOf}
+-- What a message can carry, of a payload that is put in.
+use Rattle.std.specs.Prelude.{◌↔◌, Some}
+use Rattle.kmipa_msgs.specs.Messages.{AskOf, PayloadOf, got_attributes}
+use Rattle.kmipa_msgs.specs.Sayable.{AreSayable, SomeItemSays}
+use Rattle.kmipa_ops.specs.Completes.{FillsAbsent}
 
-abbrev pub IsSayableId : Option (List ℕ) → Type 0
-IsSayableId shown = IfSome shown (λ (id : List ℕ). IsUtf8 id)
+-- the attributes that a Get Attributes shows can be said; of the other payloads each operation says what can be
+abbrev pub ShowsSayable : PayloadOf → Type 0
+ShowsSayable (got_attributes a) = AreSayable a.attributes
+ShowsSayable _ = Unit {0}
 
-abbrev pub IsSayableNumber : Option ℕ → Type 0
-IsSayableNumber shown = IfSome shown (λ (number : ℕ). number < 2 ^ 32)
-
--- a key that a message can carry: bytes, a number of 32 bits, and a length of 32 bits with a sign
-pub record IsSayableBlock (block : BlockOf) : Type 0 where
-  pub material : All (λ b. b < 256) block.material
-  pub algorithm : IfSome block.algorithm (λ (number : ℕ). number < 2 ^ 32)
-  pub length : IfSome block.length (λ (bits : ℤ). FitsSigned w32 bits)
+-- What may stand in the place of an absent payload is what some item says as a Response Payload of the kind that is asked for; of the
+-- attributes that a Get Attributes shows, where they can be said.
+abbrev pub FillsAreSaid : Type 0
+FillsAreSaid = (ask : AskOf) (p : PayloadOf) → (FillsAbsent ask.asked (Some p) × ShowsSayable p) ↔ SomeItemSays ask p

@@ -8,6 +8,7 @@ ghost use Rattle.kmipa_ops.specs.GetAttributes.{AttributesAreDecided};
 ghost use Rattle.kmipa_ops.specs.Locate.{ListsAreDecided};
 ghost use Rattle.kmipa_ops.specs.OneInventory.{StandsForOne, TakingDecides};
 ghost use Rattle.kmipa_ops.specs.Reasons.{ReasonsAreDecided};
+ghost use Rattle.kmipa_ops.specs.Sayable.{FillsAreSaid};
 
 /// A chain whose answers may be completed is a chain of some completed answers.
 pub fn chains_complete()
@@ -60,4 +61,10 @@ pub fn alike_speak_alike()
 /// Ledgers that stand for the same inventories, and were led along the same items, stand for the same inventories again.
 pub fn alike_go_alike()
     ensures { AlikeGoAlike }
+{}
+
+/// What may stand in the place of an absent payload is what some item says as a Response Payload of the kind that is asked for; of the
+/// attributes that a Get Attributes shows, where they can be said.
+pub fn fills_are_said()
+    ensures { FillsAreSaid }
 {}

@@ -34,7 +34,8 @@ mod why;
 pub use fit::{Fit, matches};
 pub use laws::{
     alike_go_alike, alike_speak_alike, attributes_are_decided, blame_is_exact, chains_complete,
-    founded_is_decided, lists_are_decided, reasons_are_decided, stands_for_one, taking_decides,
+    fills_are_said, founded_is_decided, lists_are_decided, reasons_are_decided, stands_for_one,
+    taking_decides,
 };
 pub use placeholder::Placeholder;
 pub use readable::is_readable;
