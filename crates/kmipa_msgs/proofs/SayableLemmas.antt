@@ -1,5 +1,5 @@
 -- Some item says a payload exactly where it is sayable.
-use Rattle.std.proofs.Common.{◌≡◌, ◌<◌, ◌^◌, ◌==◌, not, ℕ, ℤ, Bool, true, false, cond, List, [], ◌∷◌, map, All, IfSome, IsUtf8, Option, Some, None, option_map, refl, sym, ap, subst, arith}
+use Rattle.std.proofs.Common.{◌≡◌, ◌<◌, ◌^◌, ◌==◌, not, ℕ, ℤ, Bool, true, false, cond, List, [], ◌∷◌, map, All, IfSome, IsUtf8, Option, Some, None, option_map, refl, sym, subst, arith}
 use Rattle.std.specs.Prelude.{FitsSigned}
 use Rattle.std.specs.Int.{w32, w64}
 use Rattle.std.proofs.lemmas.List.Elements.{All-nil, All-cons, All-head, All-tail, All-filter}
@@ -11,7 +11,7 @@ use Rattle.kmipa_attrs.specs.Fields.{tag_of, first, every, as_structure, as_inte
 use Rattle.kmipa_attrs.specs.Names.{name_from, as_name, same_name, without, distinct}
 use Rattle.kmipa_attrs.specs.Readings.{Optional}
 use Rattle.kmipa_attrs.specs.Sets.{NameOf, Attributes, no_attributes}
-use Rattle.kmipa_attrs.specs.Tags.{activation_date, compromise_date, cryptographic_algorithm, cryptographic_length, cryptographic_usage_mask, deactivation_date, destroy_date, initial_date, key_block, key_format_type, key_material, key_value, name_tag, name_type, name_value, object_type_tag, state_tag, unique_identifier, attributes_tag, response_payload, secret_data, symmetric_key}
+use Rattle.kmipa_attrs.specs.Tags.{activation_date, compromise_date, cryptographic_algorithm, cryptographic_length, cryptographic_usage_mask, deactivation_date, destroy_date, initial_date, key_block, key_format_type, key_material, key_value, name_tag, name_type, name_value, object_type_tag, state_tag, unique_identifier, attributes_tag}
 use Rattle.kmipa_attrs.specs.Writing.{name_tree, with_scalar, with_scalars, enumerated, counted, dated, single_rows, written_children}
 use Rattle.kmipa_attrs.specs.declared.fields.Field.{Field}
 use Rattle.kmipa_attrs.specs.declared.fields.Field.TheVariants.{Absent, Wrong, There}
@@ -22,12 +22,11 @@ use Rattle.kmipa_attrs.proofs.WriteLemmas.{written_said, said-HasNoRepeats, once
 use Rattle.kmipa_msgs.specs.declared.key_block.KeyFormat.{KeyFormat}
 use Rattle.kmipa_msgs.specs.declared.key_block.KeyFormat.TheVariants as format
 use Rattle.kmipa_msgs.specs.declared.operation.Operation.{Operation}
-use Rattle.kmipa_msgs.specs.declared.operation.Operation.TheVariants.{Create, Register, Locate, Get, GetAttributes, Activate, Revoke, Destroy, Idle, Other}
+use Rattle.kmipa_msgs.specs.declared.operation.Operation.TheVariants.{Create, Register, Locate, Get, GetAttributes, Activate, Revoke, Destroy}
 use Rattle.kmipa_msgs.specs.AttributeFields.{SaysGiven}
-use Rattle.kmipa_msgs.specs.Gets.{SaysGot}
 use Rattle.kmipa_msgs.specs.GetsAttributes.{SaysGotAttributes, got_attributes_fields}
 use Rattle.kmipa_msgs.specs.KeyBlocks.{SaysBlock}
-use Rattle.kmipa_msgs.specs.Locates.{SaysLocated, located_fields}
+use Rattle.kmipa_msgs.specs.Locates.{located_fields}
 use Rattle.kmipa_msgs.specs.Messages.{BlockOf, RegisteredOf, GotOf, GotAttributesOf, operation_asked, PayloadOf, created, registered, located, got, got_attributes, changed}
 use Rattle.kmipa_msgs.specs.Numbers.{format_number}
 use Rattle.kmipa_msgs.specs.Objects.{is_object, object_in, block_inside}
@@ -36,7 +35,7 @@ use Rattle.kmipa_msgs.specs.Registers.{SaysRegistered}
 use Rattle.kmipa_msgs.specs.Rows.{payload_fields}
 use Rattle.kmipa_msgs.specs.Sayable.{HasSmallBytes, IsItem, AreItems, IsSayableId, IsSayableNumber, IsSayableLength, IsSayableDate, IsSayableBlock, IsSayableName, AreSayable, SaysNew, SaysListed, SaysKey, SaysOwn, IsSayable, SayableIsSaid}
 use Rattle.kmipa_msgs.specs.Written.{written_payload}
-use Rattle.kmipa_msgs.specs.WrittenFields.{with_field, with_fields, in_order, field, written_attributes}
+use Rattle.kmipa_msgs.specs.WrittenFields.{with_fields, in_order, field, written_attributes}
 use Rattle.kmipa_msgs.specs.WrittenKeys.{written_value, block_fields, written_block, object_tag, written_object}
 use Rattle.kmipa_msgs.proofs.GetLemmas.{got_written}
 use Rattle.kmipa_msgs.proofs.IdentifierLemmas.{identifier_written}

@@ -1,5 +1,5 @@
 -- What may complete an answer is what some item says.
-use Rattle.std.proofs.Common.{◌≡◌, Some, None, refl, sym, subst}
+use Rattle.std.proofs.Common.{◌≡◌, Some, refl, sym, subst}
 use Rattle.kmipa_msgs.specs.Messages.{AskedOf, operation_asked, PayloadOf, creates, registers, locates, gets, gets_attributes, activates, revokes, destroys, idles, does_other, created, registered, located, got, got_attributes, changed}
 use Rattle.kmipa_msgs.specs.declared.operation.Operation.{Operation}
 use Rattle.kmipa_msgs.specs.declared.operation.Operation.TheVariants.{Create, Register, Locate, Get, GetAttributes, Activate, Revoke, Destroy}

@@ -1,5 +1,5 @@
 -- Locate: which objects fit a filter, and what a list of them must be (KMIP 2.1, section 6.1; may and must: profile).
-use Rattle.std.specs.Prelude.{◌≡◌, ◌↔◌, ◌&&◌, ◌||◌, ◌==◌, ℕ, ℤ, pos, int_lt, Bool, true, false, not, is_some, is_none, IsSome, IsUtf8, All, bytes_eq, List, [], ◌∷◌, length, slice_get, Option, Some, None}
+use Rattle.std.specs.Prelude.{◌≡◌, ◌↔◌, ◌&&◌, ◌||◌, ◌==◌, ℕ, ℤ, pos, int_lt, Bool, true, false, not, is_some, is_none, IsSome, bytes_eq, List, [], ◌∷◌, length, slice_get, Option, Some, None}
 use Rattle.std.specs.List.{Contains, list_any}
 use Rattle.std.specs.Ordering.{int_eq}
 use Rattle.kmipa_attrs.specs.Filters.{FilterOf}
