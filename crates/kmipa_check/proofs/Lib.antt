@@ -10,6 +10,7 @@ pub mod OrderLemmas
 pub mod FillLemmas
 pub mod FillingLemmas
 pub mod PlacesLemmas
+pub mod CompletedLemmas
 pub mod WholeOrderLemmas
 pub mod DescribedLemmas
 pub mod DeclarableLemmas

@@ -6,11 +6,15 @@ use Rattle.kmipa_store.specs.Ledger.{Meaning}
 use Rattle.kmipa_store.specs.Choices.{IsSound}
 use Rattle.kmipa_record.specs.Marks.{MarkOf, AreRecorded}
 use Rattle.kmipa_record.specs.Declarations.{DeclarationOf}
-use Rattle.kmipa_record.specs.Witnesses.{TurnOf}
+use Rattle.kmipa_record.specs.Witnesses.{FillOf, TurnOf}
+use Rattle.kmipa_ttlv.specs.Written.{InRange}
+use Rattle.kmipa_msgs.specs.Messages.{RequestOf, ResponseOf}
+use Rattle.kmipa_batch.specs.Calls.{Completes}
 use Rattle.kmipa_ops.specs.declared.why.Why.{Why}
 use Rattle.kmipa_batch.specs.Refusals.{CallExplainsAlong, CallRefutedAlong}
 use Rattle.kmipa_batch.specs.Readable.{IsReadableCall}
 use Rattle.kmipa_check.specs.Calls.{CallOf, AreCalls, AreTimed, IsRecorded}
+use Rattle.kmipa_check.specs.Fills.{IsFilled}
 use Rattle.kmipa_check.specs.Steps.{StepOf, order_of, IsStep}
 use Rattle.kmipa_check.specs.Described.{Describes}
 use Rattle.kmipa_check.specs.Orders.{IsOrder}
@@ -46,6 +50,14 @@ AreOne a b = ⊥
 abbrev pub OneAnswer : Type 0
 OneAnswer = (marks : List MarkOf) (declared : DeclarationOf) (turns : List TurnOf) (a b : Result Verdict CheckFault)
     → AreRecorded marks → Checks marks declared turns a → Checks marks declared turns b → AreOne a b
+
+-- ---- fills
+
+-- Where fills are put in, whatever completes the filled response completes the one without them. The numbers that they hold are in range,
+-- and their texts are UTF-8, as of all items that bytes spell.
+abbrev pub FilledIsCompleted : Type 0
+FilledIsCompleted = (request : RequestOf) (response full fuller : ResponseOf) (fills : List FillOf) → ((fill : FillOf) → Contains fills fill → InRange fill.payload)
+    → IsFilled request response fills full → Completes request full fuller → Completes request response fuller
 
 -- ---- what a searcher stands on
 

@@ -1,7 +1,7 @@
 //! Laws of the definitions.
 
 ghost use Rattle.kmipa_check.specs.Audits.{AcceptedAuditIsYes};
-ghost use Rattle.kmipa_check.specs.Laws.{AcceptedIsExplained, CallsAreTimed, KnownIsAccepted, OneAnswer, OneListOfCalls, OneOrder, PlacedOneByOne, RefusedIsNever, StepIsReadable, TakenIsKnown};
+ghost use Rattle.kmipa_check.specs.Laws.{AcceptedIsExplained, CallsAreTimed, FilledIsCompleted, KnownIsAccepted, OneAnswer, OneListOfCalls, OneOrder, PlacedOneByOne, RefusedIsNever, StepIsReadable, TakenIsKnown};
 ghost use Rattle.kmipa_check.specs.Verdicts.{AcceptedIsYes};
 
 /// Where a witness is accepted, a check can answer nothing but yes, unless memory runs out.
@@ -47,6 +47,11 @@ pub fn taken_is_known()
 /// No run begins with steps whose last one is refused.
 pub fn refused_is_never()
     ensures { RefusedIsNever }
+{}
+
+/// Where fills are put in, whatever completes the filled response completes the one without them.
+pub fn filled_is_completed()
+    ensures { FilledIsCompleted }
 {}
 
 /// A step of a recorded call can be judged.

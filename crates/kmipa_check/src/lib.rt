@@ -27,8 +27,8 @@ pub use fault::{CheckFault, Side, StepFault, WitnessFault, WitnessKind};
 pub use filling::needs_fill;
 pub use laws::{
     accepted_audit_is_yes, accepted_is_explained, accepted_is_yes, calls_are_timed,
-    known_is_accepted, one_answer, one_list_of_calls, one_order, placed_one_by_one,
-    refused_is_never, step_is_readable, taken_is_known,
+    filled_is_completed, known_is_accepted, one_answer, one_list_of_calls, one_order,
+    placed_one_by_one, refused_is_never, step_is_readable, taken_is_known,
 };
 pub use opening::{open_ledger, rules_of_declaration};
 pub use plain_laws::{plain_call_has_one_step, plain_call_is_taken_bare};
