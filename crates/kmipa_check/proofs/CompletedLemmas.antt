@@ -15,11 +15,10 @@ use Rattle.kmipa_msgs.specs.declared.response.Status.TheVariants.{Undone}
 use Rattle.kmipa_msgs.specs.Messages.{AskedOf, creates, registers, locates, AskOf, operation_asked, RegisteredOf, PayloadOf, created, registered, located, AnswerOf}
 use Rattle.kmipa_msgs.specs.Payloads.{SaysPayloadOf}
 use Rattle.kmipa_msgs.specs.Registers.{SaysRegistered}
+use Rattle.kmipa_msgs.specs.Sayable.{SaysNew, IsSayableNumber}
 use Rattle.kmipa_msgs.specs.Locates.{SaysLocated}
 use Rattle.kmipa_msgs.specs.Wanted.{NeedsPayload, Wanted}
-use Rattle.kmipa_ops.specs.Adding.{SaysNew}
 use Rattle.kmipa_ops.specs.Completes.{FillsAbsent, Fills, CompletesAnswer}
-use Rattle.kmipa_ops.specs.Sayable.{IsSayableNumber}
 use Rattle.kmipa_record.specs.Witnesses.{FillOf}
 use Rattle.kmipa_batch.specs.Calls.{CompletesAnswers}
 use Rattle.kmipa_check.specs.Fills.{SaysFill, with_payload, IsFilledAt, stays, put_in}
