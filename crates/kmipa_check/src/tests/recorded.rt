@@ -1,4 +1,4 @@
-//! The recorded session of a real key server: its messages, read, written and read again, and its audit.
+//! Calls recorded from a real key server: their messages, read, written and read again, and their audit.
 
 mod session;
 
@@ -7,15 +7,17 @@ use kmipa_msgs::{Asked, Status, read_request, read_response, write_request, writ
 use kmipa_ops::Why;
 use kmipa_record::{Mark, Transcript, read_transcript};
 use kmipa_ttlv::{Input, Item, decode_view, encode, spelled_len};
-use session::{declaration, transcript, witness};
+use session::{
+    DECLARATION, GET, GET_ABSENT, NOT_FOUND, REGISTER, REGISTERED, SHOWN, TRANSCRIPT, TURN_1,
+    TURN_2, TURN_9, WITNESS,
+};
 use std::test::Fail;
 
-/// Where the key that call 53 shows has the byte 2A.
-const SHOWN: usize = 26_079;
+/// Where the key begins that call 2 shows.
+const SHOWN_KEY: usize = 960;
 
-/// The bytes of a text in hexadecimal.
-fn bytes_of(rt: &HostRuntime, text: &str) -> Result<Vec<u8>, Fail> {
-    let mut bytes = Vec::new(rt.alloc());
+/// Appends the bytes of a text in hexadecimal.
+fn push_digits(text: &str, bytes: &mut Vec<u8>) -> Result<(), Fail> {
     let mut high = None;
     for digit in text.chars() {
         let digit = digit.to_digit(16).ok_or("a digit")? as u8;
@@ -27,7 +29,40 @@ fn bytes_of(rt: &HostRuntime, text: &str) -> Result<Vec<u8>, Fail> {
             }
         };
     }
+    Ok(())
+}
+
+/// The bytes of records in hexadecimal, one behind the other.
+fn bytes_of(rt: &HostRuntime, records: &[&str]) -> Result<Vec<u8>, Fail> {
+    let mut bytes = Vec::new(rt.alloc());
+    for record in records {
+        push_digits(record, &mut bytes)?;
+    }
     Ok(bytes)
+}
+
+/// The three calls.
+fn calls_recorded(rt: &HostRuntime) -> Result<Vec<u8>, Fail> {
+    bytes_of(
+        rt,
+        &[
+            TRANSCRIPT, REGISTER, REGISTERED, GET, SHOWN, GET_ABSENT, NOT_FOUND,
+        ],
+    )
+}
+
+/// What is told of this transcript with a witness of these records.
+fn told_of(
+    rt: &HostRuntime,
+    transcript: &[u8],
+    witness: &[&str],
+) -> Result<Result<Verdict, AuditFault>, Fail> {
+    let declaration = bytes_of(rt, &[DECLARATION])?;
+    let witness = bytes_of(rt, witness)?;
+    let mut transcript = Input::new(transcript);
+    let mut declaration = Input::new(declaration.as_slice());
+    let mut witness = Input::new(witness.as_slice());
+    Ok(audit(rt.alloc(), &mut transcript, &mut declaration, &mut witness))
 }
 
 /// The bytes that spell an item.
@@ -83,53 +118,37 @@ fn is_response_again(rt: &HostRuntime, transcript: &Transcript, call: &Call) -> 
 
 #[test]
 fn messages_written_and_read_again(rt: HostRuntime) -> Result<(), Fail> {
-    let bytes = bytes_of(&rt, transcript())?;
+    let bytes = calls_recorded(&rt)?;
     let transcript = read_transcript(rt.alloc(), &mut Input::new(bytes.as_slice()))?;
     let calls = read_calls(rt.alloc(), &transcript)?;
-    let mut messages = 0u32;
+    assert_eq!(rt; calls.len(), 3);
     for call in &calls {
         let number = call.number;
         let request = is_request_again(&rt, &transcript, call)?;
         assert!(rt; request, "call {number}");
         let response = is_response_again(&rt, &transcript, call)?;
         assert!(rt; response, "call {number}");
-        messages = messages.saturating_add(2);
     }
-    assert_eq!(rt; messages, 172);
     Ok(())
 }
 
 #[test]
-fn register_get(rt: HostRuntime) -> Result<(), Fail> {
-    let transcript = bytes_of(&rt, transcript())?;
-    let declaration = bytes_of(&rt, declaration())?;
-    let witness = bytes_of(&rt, witness())?;
-    let mut transcript = Input::new(transcript.as_slice());
-    let mut declaration = Input::new(declaration.as_slice());
-    let mut witness = Input::new(witness.as_slice());
-    let verdict = audit(rt.alloc(), &mut transcript, &mut declaration, &mut witness);
-    assert_eq!(rt; verdict, Ok(Verdict::Yes));
-    Ok(())
-}
-
-#[test]
-fn register_get_other_byte(rt: HostRuntime) -> Result<(), Fail> {
-    let mut transcript = bytes_of(&rt, transcript())?;
-    let declaration = bytes_of(&rt, declaration())?;
-    let witness = bytes_of(&rt, witness())?;
-    assert_eq!(rt; transcript.get(SHOWN), Some(&0x2A));
-    transcript[SHOWN] = 0x3A;
-    let mut transcript = Input::new(transcript.as_slice());
-    let mut declaration = Input::new(declaration.as_slice());
-    let mut witness = Input::new(witness.as_slice());
-    let verdict = audit(rt.alloc(), &mut transcript, &mut declaration, &mut witness);
+fn shown_key_is_the_registered_one(rt: HostRuntime) -> Result<(), Fail> {
+    let turns = [WITNESS, TURN_1, TURN_2, TURN_9];
+    let mut transcript = calls_recorded(&rt)?;
+    assert_eq!(rt; told_of(&rt, &transcript, &turns)?, Ok(Verdict::Yes));
+    assert_eq!(rt; transcript.get(SHOWN_KEY), Some(&0x4D));
+    transcript[SHOWN_KEY] = 0x5D;
     let refused = Refused {
-        turn: 53,
-        call: 53,
+        turn: 2,
+        call: 2,
         item: 1,
         why: Why::BytesDiffer,
     };
-    assert_eq!(rt; verdict, Ok(Verdict::No(refused)));
+    assert_eq!(rt;
+        told_of(&rt, &transcript, &turns)?,
+        Ok(Verdict::No(refused))
+    );
     Ok(())
 }
 
@@ -147,17 +166,6 @@ const FILLED: &str = "540040010000001054000202000000040000000100000000\
     540042010000001854004302000000040000000100000000\
     42007C0100000000";
 
-/// What is told of the session with this witness.
-fn told_of(rt: &HostRuntime, witness: &str) -> Result<Result<Verdict, AuditFault>, Fail> {
-    let transcript = bytes_of(rt, transcript())?;
-    let declaration = bytes_of(rt, declaration())?;
-    let witness = bytes_of(rt, witness)?;
-    let mut transcript = Input::new(transcript.as_slice());
-    let mut declaration = Input::new(declaration.as_slice());
-    let mut witness = Input::new(witness.as_slice());
-    Ok(audit(rt.alloc(), &mut transcript, &mut declaration, &mut witness))
-}
-
 /// The fault of the first turn.
 fn first_turn(kind: WitnessKind) -> Result<Verdict, AuditFault> {
     let fault = WitnessFault { at: 1, kind };
@@ -166,12 +174,14 @@ fn first_turn(kind: WitnessKind) -> Result<Verdict, AuditFault> {
 
 #[test]
 fn turns_that_give_what_is_not_wanted(rt: HostRuntime) -> Result<(), Fail> {
-    let answered = first_turn(WitnessKind::AnswerNotWanted);
-    assert_eq!(rt; told_of(&rt, ANSWERED)?, answered);
-    let ordered = first_turn(WitnessKind::OrderNotWanted);
-    assert_eq!(rt; told_of(&rt, ORDERED)?, ordered);
-    let filled = first_turn(WitnessKind::FillNotWanted);
-    assert_eq!(rt; told_of(&rt, FILLED)?, filled);
+    let transcript = calls_recorded(&rt)?;
+    for (witness, kind) in [
+        (ANSWERED, WitnessKind::AnswerNotWanted),
+        (ORDERED, WitnessKind::OrderNotWanted),
+        (FILLED, WitnessKind::FillNotWanted),
+    ] {
+        assert_eq!(rt; told_of(&rt, &transcript, &[witness])?, first_turn(kind));
+    }
     Ok(())
 }
 
@@ -190,7 +200,7 @@ fn numbers_of_faults(rt: HostRuntime) -> Result<(), Fail> {
 
 #[test]
 fn calls_that_wait_for_nothing(rt: HostRuntime) -> Result<(), Fail> {
-    let bytes = bytes_of(&rt, transcript())?;
+    let bytes = calls_recorded(&rt)?;
     let transcript = read_transcript(rt.alloc(), &mut Input::new(bytes.as_slice()))?;
     let calls = read_calls(rt.alloc(), &transcript)?;
     let call = calls.first().ok_or("a call")?;
