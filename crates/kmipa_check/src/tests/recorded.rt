@@ -51,6 +51,19 @@ fn calls_recorded(rt: &HostRuntime) -> Result<Vec<u8>, Fail> {
     )
 }
 
+/// What is told of these three files.
+fn audited<'x>(
+    rt: &HostRuntime,
+    transcript: &'x [u8],
+    declaration: &'x [u8],
+    witness: &'x [u8],
+) -> Result<Verdict, AuditFault> {
+    let mut transcript = Input::new(transcript);
+    let mut declaration = Input::new(declaration);
+    let mut witness = Input::new(witness);
+    audit(rt.alloc(), &mut transcript, &mut declaration, &mut witness)
+}
+
 /// What is told of this transcript with a witness of these records.
 fn told_of(
     rt: &HostRuntime,
@@ -59,10 +72,7 @@ fn told_of(
 ) -> Result<Result<Verdict, AuditFault>, Fail> {
     let declaration = bytes_of(rt, &[DECLARATION])?;
     let witness = bytes_of(rt, witness)?;
-    let mut transcript = Input::new(transcript);
-    let mut declaration = Input::new(declaration.as_slice());
-    let mut witness = Input::new(witness.as_slice());
-    Ok(audit(rt.alloc(), &mut transcript, &mut declaration, &mut witness))
+    Ok(audited(rt, transcript, declaration.as_slice(), witness.as_slice()))
 }
 
 /// The bytes that spell an item.
