@@ -26,7 +26,6 @@ pub struct NumberMap<V> {
 
 impl<V: Copy> NumberMap<V> {
     /// No values.
-
     pub fn new(alloc: Global) -> NumberMap<V>
         ensures { HasNone result }
     {
