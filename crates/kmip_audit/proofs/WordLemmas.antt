@@ -110,19 +110,19 @@ write_found f hex out (Some found) n e eh eo =
       ap (first_of (codes "OUT")) (sym rows) ∙ at_row f (codes "OUT") out.now eo,
     )
 
--- what is told of an error that a parse may have
-pub told : (kinds : Kinds) (e : Error) (u : Usage) → HasKind kinds e
+-- what is reported of an error that a parse may have
+pub reported : (kinds : Kinds) (e : Error) (u : Usage) → HasKind kinds e
     → IsSilent u.status (string_bytes u.text) ⊎ ((kind_of e ≡ OutOfMemory → ⊥) × (u.status ≡ status_of (kind_of e))) → IsTold kinds u
-told kinds e u has (inl silent) = inl silent
-told kinds e u (inl memory) (inr said) = absurd (said.0 memory)
-told kinds e u (inr among) (inr said) = inr (kind_of e, among, said.1)
+reported kinds e u has (inl silent) = inl silent
+reported kinds e u (inl memory) (inr said) = absurd (said.0 memory)
+reported kinds e u (inr among) (inr said) = inr (kind_of e, among, said.1)
 
 -- what the settings make of a command
-pub settings : (about version examples : Bor (List ℕ)) (bare told versioned explained named helped : Command-F Command) → told ≡ record bare { about = Some about }
-    → versioned ≡ record told { version = Some version } → explained ≡ record versioned { after_help = Some examples }
+pub settings : (about version examples : Bor (List ℕ)) (bare reported versioned explained named helped : Command-F Command) → reported ≡ record bare { about = Some about }
+    → versioned ≡ record reported { version = Some version } → explained ≡ record versioned { after_help = Some examples }
     → named ≡ record explained { subcommand_required = true } → helped ≡ record named { arg_required_else_help = true }
     → app_of_fields helped ≡ with_settings (app_of_fields bare)
-settings about version examples bare told versioned explained named helped et ev ex en eh =
+settings about version examples bare reported versioned explained named helped et ev ex en eh =
     ap app_of_fields (eh ∙ ap (λ (f : Command-F Command). record f { arg_required_else_help = true })
     (en ∙ ap (λ (f : Command-F Command). record f { subcommand_required = true })
     (ex ∙ ap (λ (f : Command-F Command). record f { after_help = Some examples }) (ev ∙ ap (λ (f : Command-F Command). record f { version = Some version }) et))))

@@ -1,4 +1,4 @@
--- The command line: which words name which job, and what is told where they name none.
+-- The command line: which words name which job, and what is reported where they name none.
 use Rattle.std.specs.Prelude.{◌≡◌, ◌⊎◌, ℕ, List, [], ◌∷◌, codes, string_bytes, Bool, true, false, Option, Some, None}
 use Rattle.std.specs.Str.Parse.{IsNumeral, digits_value, without_leading_plus}
 use Rattle.clap.specs.Words.{App, Row, Rule, Text, Kinds, IsAmong, new_app, new_rule, with_rule, with_subcommand, first_of, one_of}
@@ -40,7 +40,7 @@ abbrev pub search_files_app : App
 search_files_app = with_rule (with_rule (with_rule (new_app (codes "search")) (file_rule (codes "TRANSCRIPT")))
     (file_rule (codes "DECLARATION"))) (file_rule (codes "OUT"))
 
--- and behind it `[--budget N] [--forced] [--quiet]`
+-- and after it `[--budget N] [--forced] [--quiet]`
 abbrev pub search_app : App
 search_app = with_rule (with_rule (with_rule search_files_app budget_rule) (flag_rule (codes "forced"))) (flag_rule (codes "quiet"))
 

@@ -16,14 +16,14 @@ const KINDS: [(&str, [u8; 3]); 3] = [
     ("witness", [0x54, 0x00, 0x40]),
 ];
 
-/// Opens a file. Why it can't be opened is told on standard error.
+/// Opens a file. Why it can't be opened is reported on standard error.
 pub fn open_input<R: Files + AllocGlobal + Eprint>(
     rt: &R,
     name: &str,
 ) -> io::Result<Input<BufReader<R::File>>>
     ensures { IfOk result (λ input. came_of input ≡ []) }
 {
-    Ok(Input::new(told(rt, name, opened(rt, name))?))
+    Ok(Input::new(reported(rt, name, opened(rt, name))?))
 }
 
 fn opened<R: Files + AllocGlobal>(rt: &R, name: &str) -> io::Result<BufReader<R::File>> {
@@ -31,7 +31,7 @@ fn opened<R: Files + AllocGlobal>(rt: &R, name: &str) -> io::Result<BufReader<R:
 }
 
 /// Tells what is wrong with a file, if anything is. Where standard error can't be written there is nothing left to say.
-fn told<R: Eprint, T>(rt: &R, name: &str, done: io::Result<T>) -> io::Result<T> {
+fn reported<R: Eprint, T>(rt: &R, name: &str, done: io::Result<T>) -> io::Result<T> {
     if let Err(error) = &done {
         rt.eprintln(format_args!("kmip_audit: {name}: {error}"))
             .ok();
@@ -47,7 +47,7 @@ pub fn replace_file<R: Files + AllocGlobal + Eprint>(
     bytes: &[u8],
 ) -> io::Result<()> {
     match fs::symlink_metadata(rt, name) {
-        Ok(metadata) if !metadata.is_file() => told(rt, name, fs::write(rt, name, bytes)),
+        Ok(metadata) if !metadata.is_file() => reported(rt, name, fs::write(rt, name, bytes)),
         _ => write_beside(rt, name, bytes),
     }
 }
@@ -58,12 +58,12 @@ fn write_beside<R: Files + AllocGlobal + Eprint>(
     bytes: &[u8],
 ) -> io::Result<()> {
     let beside = format!(in rt.alloc(); "{name}.part")?;
-    told(rt, beside.as_str(), write_new(rt, beside.as_str(), bytes))?;
+    reported(rt, beside.as_str(), write_new(rt, beside.as_str(), bytes))?;
     let renamed = fs::rename(rt, beside.as_str(), name);
     if renamed.is_err() {
         fs::remove_file(rt, beside.as_str()).ok();
     }
-    told(rt, name, renamed)
+    reported(rt, name, renamed)
 }
 
 /// Writes a file that was not there. What can't be written whole is removed.

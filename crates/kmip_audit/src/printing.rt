@@ -50,7 +50,7 @@ pub fn tell_error<R: Print + Eprint>(rt: &R, error: &io::Error) -> Status
     tell(rt, error_line(error), Status::Failed)
 }
 
-/// Want of memory is told as such, and every other error as that of a device.
+/// Want of memory is reported as such, and every other error as that of a device.
 fn error_line(error: &io::Error) -> &'static [u8]
     ensures memory { error_kind error.now ≡ ErrorKind.OutOfMemory → result.now ≡ codes "memory\n" }
     ensures device { error_kind error.now ≢ ErrorKind.OutOfMemory → result.now ≡ codes "device\n" }
@@ -68,8 +68,8 @@ pub fn tell_words<R: Print + Eprint>(rt: &R, error: &io::Error) -> Status
     if error.kind() != io::ErrorKind::InvalidData {
         return tell_error(rt, error);
     }
-    let told = rt.eprintln("error: a word of the command line is not UTF-8");
-    status_of(&told, Status::Usage)
+    let reported = rt.eprintln("error: a word of the command line is not UTF-8");
+    status_of(&reported, Status::Usage)
 }
 
 /// Help goes to standard output, and what is wrong with the words to standard error.

@@ -1,4 +1,4 @@
-//! How far a search got, told while it goes on.
+//! How far a search got, reported while it goes on.
 
 use kmipa_search::Watch;
 use std::rt::Clock;
@@ -17,35 +17,35 @@ pub struct Progress<'a, R> {
     budget: u64,
     // The most calls that were taken at once.
     deepest: usize,
-    // When a line was told last, or the search began; none where nothing is told.
-    told: Option<Instant>,
+    // When a line was reported last, or the search began; none where nothing is reported.
+    reported: Option<Instant>,
 }
 
 impl<'a, R: Clock + Eprint> Progress<'a, R> {
-    /// The progress of a search that begins now, with this budget. Where it is not wanted, nothing is told.
+    /// The progress of a search that begins now, with this budget. Where it is not wanted, nothing is reported.
     pub fn new(rt: &'a R, budget: u64, wanted: bool) -> Progress<'a, R> {
-        let told = if wanted { Instant::now(rt).ok() } else { None };
+        let reported = if wanted { Instant::now(rt).ok() } else { None };
         Progress {
             rt,
             budget,
             deepest: 0,
-            told,
+            reported,
         }
     }
 
     /// Tells how far the search got, where it is time for it. Where standard error can't be written there is nothing
     /// left to say.
     fn tell_in_time(&mut self, steps: u64, taken: usize) {
-        let Some(told) = self.told else {
+        let Some(reported) = self.reported else {
             return;
         };
         let Ok(now) = Instant::now(self.rt) else {
             return;
         };
-        if now.duration_since(told).as_secs() < PAUSE {
+        if now.duration_since(reported).as_secs() < PAUSE {
             return;
         }
-        self.told = Some(now);
+        self.reported = Some(now);
         let budget = self.budget;
         let deepest = self.deepest;
         self.rt

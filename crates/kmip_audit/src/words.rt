@@ -130,7 +130,7 @@ pub struct Usage {
 pub fn read_words<'a, S: AsStr>(alloc: Global, words: &'a [S]) -> Result<Job<'a>, Usage>
     ensures job { IfOk result (λ job. IsJob job (subcommand_of program_app (map S.text words.now))) }
     ensures fits { OnOk result (fault_of program_app (map S.text words.now) ≡ []) }
-    ensures told { IfErr result (IsTold (fault_of program_app (map S.text words.now))) }
+    ensures reported { IfErr result (IsTold (fault_of program_app (map S.text words.now))) }
 {
     let Ok(command) = command(alloc) else {
         return Err(out_of_memory(alloc));

@@ -15,7 +15,7 @@ use Rattle.kmipa_attrs.specs.declared.side.Side.TheVariants.{Client, Server}
 use Rattle.kmipa_attrs.specs.declared.attr_set.AttrSet.{AttrSet}
 use Rattle.kmipa_attrs.proofs.ReadingLemmas.{reads_both, reads_as}
 
--- what is folded behind a wrong one, and behind a second one
+-- what is folded after a wrong one, and after a second one
 after_wrong : {A : Type 0} (held : List (Option A)) → folded (Err WrongType) held ≡ Err WrongType
 after_wrong [] = refl
 after_wrong (None ∷ held) = after_wrong held
@@ -217,7 +217,7 @@ only_wrong [] f e = cc
 only_wrong (None ∷ held) f e = cc
 only_wrong (Some n ∷ held) f e = behind (all_named held) (only_wrong held f) e
   where
-    behind : (r : Result (List NameOf) AttrFault) → (map_ok distinct r ≡ Err f → f ≡ WrongType) → map_ok distinct (map_ok (λ names. n ∷ names) r) ≡ Err f → f ≡ WrongType
+    after : (r : Result (List NameOf) AttrFault) → (map_ok distinct r ≡ Err f → f ≡ WrongType) → map_ok distinct (map_ok (λ names. n ∷ names) r) ≡ Err f → f ≡ WrongType
     behind (Ok x) h g = cc
     behind (Err k) h g = h g
 

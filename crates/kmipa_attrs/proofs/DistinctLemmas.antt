@@ -10,7 +10,7 @@ use Rattle.kmipa_attrs.proofs.NameLemmas.{has, same_name-true, same_name-self}
 true_false : {b : Bool} → b ≡ true → b ≡ false → ⊥
 true_false e h = let q : true ≡ false = sym e ∙ h in cc
 
--- an element is the first, or one behind it
+-- an element is the first, or one after it
 contains_first : (x : NameOf) (xs : List NameOf) → Contains (x ∷ xs) x
 contains_first x xs = (0, omega arith, refl)
 

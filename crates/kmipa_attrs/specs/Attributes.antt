@@ -58,12 +58,12 @@ TypeFault held NotForClients = ⊥
 TypeFault held Memory = ⊥
 
 abbrev pub NamesFault : List (Option NameOf) → AttrFault → Type 0
-NamesFault held told = TypeFault held told
+NamesFault held reported = TypeFault held reported
 
 -- a child that no client may give, of whatever type
 abbrev pub ClientFault : Side → Option Tree → AttrFault → Type 0
 ClientFault Client (Some t) NotForClients = Unit {0}
-ClientFault side there told = ⊥
+ClientFault side there reported = ⊥
 
 -- THE DEFINITIONS: a row for each attribute
 pub record SaysAttributes (ts : Trees) (a : Attributes) : Type 0 where
@@ -79,23 +79,23 @@ pub record SaysAttributes (ts : Trees) (a : Attributes) : Type 0 where
   pub destroy : Single (each as_date destroy_date ts) a.destroy
   pub compromise : Single (each as_date compromise_date ts) a.compromise
 
-pub data AttributesFault (side : Side) (ts : Trees) (told : AttrFault) : Type 0 where
-  in_names : NamesFault (each as_name name_tag ts) told → AttributesFault side ts told
-  in_object_type : SingleFault (each as_enumeration object_type_tag ts) told → AttributesFault side ts told
-  in_algorithm : SingleFault (each as_enumeration cryptographic_algorithm ts) told → AttributesFault side ts told
-  in_length : SingleFault (each as_integer cryptographic_length ts) told → AttributesFault side ts told
-  in_mask : SingleFault (each as_integer cryptographic_usage_mask ts) told → AttributesFault side ts told
-  in_state : SingleFault (each as_enumeration state_tag ts) told → AttributesFault side ts told
-  in_initial : SingleFault (each as_date initial_date ts) told → AttributesFault side ts told
-  in_activation : SingleFault (each as_date activation_date ts) told → AttributesFault side ts told
-  in_deactivation : SingleFault (each as_date deactivation_date ts) told → AttributesFault side ts told
-  in_destroy : SingleFault (each as_date destroy_date ts) told → AttributesFault side ts told
-  in_compromise : SingleFault (each as_date compromise_date ts) told → AttributesFault side ts told
-  of_client_state : ClientFault side (first state_tag ts) told → AttributesFault side ts told
-  of_client_initial : ClientFault side (first initial_date ts) told → AttributesFault side ts told
-  of_client_destroy : ClientFault side (first destroy_date ts) told → AttributesFault side ts told
-  of_client_compromise : ClientFault side (first compromise_date ts) told → AttributesFault side ts told
-  of_client_identifier : ClientFault side (first unique_identifier ts) told → AttributesFault side ts told
+pub data AttributesFault (side : Side) (ts : Trees) (reported : AttrFault) : Type 0 where
+  in_names : NamesFault (each as_name name_tag ts) reported → AttributesFault side ts reported
+  in_object_type : SingleFault (each as_enumeration object_type_tag ts) reported → AttributesFault side ts reported
+  in_algorithm : SingleFault (each as_enumeration cryptographic_algorithm ts) reported → AttributesFault side ts reported
+  in_length : SingleFault (each as_integer cryptographic_length ts) reported → AttributesFault side ts reported
+  in_mask : SingleFault (each as_integer cryptographic_usage_mask ts) reported → AttributesFault side ts reported
+  in_state : SingleFault (each as_enumeration state_tag ts) reported → AttributesFault side ts reported
+  in_initial : SingleFault (each as_date initial_date ts) reported → AttributesFault side ts reported
+  in_activation : SingleFault (each as_date activation_date ts) reported → AttributesFault side ts reported
+  in_deactivation : SingleFault (each as_date deactivation_date ts) reported → AttributesFault side ts reported
+  in_destroy : SingleFault (each as_date destroy_date ts) reported → AttributesFault side ts reported
+  in_compromise : SingleFault (each as_date compromise_date ts) reported → AttributesFault side ts reported
+  of_client_state : ClientFault side (first state_tag ts) reported → AttributesFault side ts reported
+  of_client_initial : ClientFault side (first initial_date ts) reported → AttributesFault side ts reported
+  of_client_destroy : ClientFault side (first destroy_date ts) reported → AttributesFault side ts reported
+  of_client_compromise : ClientFault side (first compromise_date ts) reported → AttributesFault side ts reported
+  of_client_identifier : ClientFault side (first unique_identifier ts) reported → AttributesFault side ts reported
 
 -- an item says what its children do, whatever its tag; one that is no structure says nothing
 abbrev pub SaysSet : Tree → Attributes → Type 0
@@ -103,8 +103,8 @@ SaysSet (structure n ts) a = SaysAttributes ts a
 SaysSet (scalar n s) a = ⊥
 
 abbrev pub SetFault : Side → Tree → AttrFault → Type 0
-SetFault side (structure n ts) told = AttributesFault side ts told
-SetFault side (scalar n s) told = told ≡ WrongType
+SetFault side (structure n ts) reported = AttributesFault side ts reported
+SetFault side (scalar n s) reported = reported ≡ WrongType
 
 -- what the program reads of an item: the set that it says, else the lowest fault; where memory ran out nothing is claimed
 abbrev pub ReadsSet : Side → Tree → Result AttrSet AttrFault → Type 0

@@ -100,18 +100,18 @@ pub record SaysFilter (ts : Trees) (most : Option ℤ) (is_unknown : Bool) (q : 
   pub loose : q.is_loose ≡ is_loose ts most is_unknown
 
 -- judged attributes are of their types, also where they are no judged filters; nothing else is wrong with a filter
-pub data FilterFault (ts : Trees) (told : AttrFault) : Type 0 where
-  in_names : TypeFault (each as_name name_tag ts) told → FilterFault ts told
-  in_object_type : TypeFault (each as_enumeration object_type_tag ts) told → FilterFault ts told
-  in_state : TypeFault (each as_enumeration state_tag ts) told → FilterFault ts told
-  in_algorithm : TypeFault (each as_enumeration cryptographic_algorithm ts) told → FilterFault ts told
-  in_length : TypeFault (each as_integer cryptographic_length ts) told → FilterFault ts told
-  in_mask : TypeFault (each as_integer cryptographic_usage_mask ts) told → FilterFault ts told
-  in_initial : TypeFault (each as_date initial_date ts) told → FilterFault ts told
-  in_activation : TypeFault (each as_date activation_date ts) told → FilterFault ts told
-  in_deactivation : TypeFault (each as_date deactivation_date ts) told → FilterFault ts told
-  in_destroy : TypeFault (each as_date destroy_date ts) told → FilterFault ts told
-  in_compromise : TypeFault (each as_date compromise_date ts) told → FilterFault ts told
+pub data FilterFault (ts : Trees) (reported : AttrFault) : Type 0 where
+  in_names : TypeFault (each as_name name_tag ts) reported → FilterFault ts reported
+  in_object_type : TypeFault (each as_enumeration object_type_tag ts) reported → FilterFault ts reported
+  in_state : TypeFault (each as_enumeration state_tag ts) reported → FilterFault ts reported
+  in_algorithm : TypeFault (each as_enumeration cryptographic_algorithm ts) reported → FilterFault ts reported
+  in_length : TypeFault (each as_integer cryptographic_length ts) reported → FilterFault ts reported
+  in_mask : TypeFault (each as_integer cryptographic_usage_mask ts) reported → FilterFault ts reported
+  in_initial : TypeFault (each as_date initial_date ts) reported → FilterFault ts reported
+  in_activation : TypeFault (each as_date activation_date ts) reported → FilterFault ts reported
+  in_deactivation : TypeFault (each as_date deactivation_date ts) reported → FilterFault ts reported
+  in_destroy : TypeFault (each as_date destroy_date ts) reported → FilterFault ts reported
+  in_compromise : TypeFault (each as_date compromise_date ts) reported → FilterFault ts reported
 
 -- absent Attributes ask for nothing; an item that is no structure says nothing
 abbrev pub SaysWanted : Option Tree → Option ℤ → Bool → FilterOf → Type 0
@@ -120,9 +120,9 @@ SaysWanted (Some (structure n ts)) most is_unknown q = SaysFilter ts most is_unk
 SaysWanted (Some (scalar n s)) most is_unknown q = ⊥
 
 abbrev pub WantedFault : Option Tree → AttrFault → Type 0
-WantedFault None told = ⊥
-WantedFault (Some (structure n ts)) told = FilterFault ts told
-WantedFault (Some (scalar n s)) told = told ≡ WrongType
+WantedFault None reported = ⊥
+WantedFault (Some (structure n ts)) reported = FilterFault ts reported
+WantedFault (Some (scalar n s)) reported = reported ≡ WrongType
 
 -- what the program reads: the filter that is said, else the lowest fault; where memory ran out nothing is claimed
 abbrev pub ReadsFilter : Option Tree → Option ℤ → Bool → Result Filter AttrFault → Type 0

@@ -38,7 +38,7 @@ unfoldable pub distinct : List NameOf → List NameOf
 distinct [] = []
 distinct (n ∷ names) = n ∷ without n (distinct names)
 
--- no name stands again behind itself
+-- no name stands again after itself
 abbrev pub HasNoRepeats : List NameOf → Type 0
 HasNoRepeats [] = Unit {0}
 HasNoRepeats (n ∷ names) = (Contains names n → ⊥) × HasNoRepeats names

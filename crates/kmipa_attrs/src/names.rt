@@ -115,7 +115,7 @@ fn add_name(names: &mut SmallVec<Name, NAMES>, name: Name) -> Result<(), AllocEr
     Ok(())
 }
 
-/// Whether no name stands again behind itself.
+/// Whether no name stands again after itself.
 pub(crate) fn differ(names: &[Name]) -> bool
     ensures { IsTrue result ↔ HasNoRepeats (map name_of names.now) }
 {

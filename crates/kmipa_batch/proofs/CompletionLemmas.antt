@@ -102,7 +102,7 @@ module _ (rules : RulesOf) (t : ℤ) (asks : List AskOf) (answers : List AnswerO
     rest : (place : ℕ) → ((position : ℕ) → slice_get order position ≡ Some place → ⊥) → slice_get fulls place ≡ slice_get answers place
     chain : Chain rules t V p (along (zip asks fulls) order) W q
 
-  -- one place ahead of an order in which it doesn't stand
+  -- one place before an order in which it doesn't stand
   module _ (place : ℕ) (order : List ℕ) (apart : (position : ℕ) → slice_get order position ≡ Some place → ⊥) (ask : AskOf) (answer full : AnswerOf) (asked : slice_get asks place ≡ Some ask)
       (answered : slice_get answers place ≡ Some answer) (completes : CompletesAnswer ask answer full) where
     module _ (V : List Thing) (p : Option (List ℕ)) (W : List Thing) (q : Option (List ℕ)) (f : Filled order V p W q) where

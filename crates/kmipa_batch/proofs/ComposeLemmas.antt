@@ -20,7 +20,7 @@ module _ (rules : RulesOf) (t : ℤ) (m : Meaning) (before : Option (List ℕ)) 
       let r = e.sound sound.choice.0 sound.choice.1 in
       record { choice = sound.choice.0; chooses = r.0; things = inv sound.choice.0 n.objects; placeholder = after; chain = r.1 }
 
-  -- and with what is refused behind it it is not
+  -- and with what is refused after it it is not
   pub refused_cannot : (ask : AskOf) (answer : AnswerOf) (why : Why) → Refuted rules n after t ask answer why → CanChain rules t m before (pairs ++ (ask, answer) ∷ []) → ⊥
   refused_cannot ask answer why r p =
       let c = chain_split rules t (inv p.choice m.objects) before pairs ((ask, answer) ∷ []) p.things p.placeholder p.chain in

@@ -30,7 +30,7 @@ leaves_on option answers V M W on l = elim l [ goes_back o f w is ↦ absurd (no
 leaves_back : (option : BatchOption) (answers : List AnswerOf) (V M W : List Thing) (f : ℕ) → option ≡ Undo → IsFirstFailed answers f → Leaves option answers V M W → W ≡ V
 leaves_back option answers V M W f o w l = elim l [ goes_back p g x is ↦ is | goes_on p is ↦ absurd (none_first answers f (p o) w) ]
 
--- what is told along an order is told
+-- what is reported along an order is reported
 tells_one : (o : Option (AskOf × AnswerOf)) (xs : List (AskOf × AnswerOf)) (bytes : List ℕ) → Tells (one_of o ++ xs) bytes → ((x : AskOf × AnswerOf) × (o ≡ Some x) × Tells (x ∷ []) bytes) ⊎ Tells xs bytes
 tells_one None xs bytes h = inr h
 tells_one (Some x) xs bytes h = elim h [

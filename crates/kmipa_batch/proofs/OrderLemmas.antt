@@ -14,7 +14,7 @@ use Rattle.kmipa_batch.specs.Running.{places_of, TakesCount}
 use Rattle.kmipa_batch.proofs.ShapeLemmas.{less_or_not}
 use Rattle.kmipa_batch.proofs.PlaceLemmas.{take_past, zip_below, zip_above, zip_few}
 
--- one list of places behind another
+-- one list of places after another
 append_assoc : {A : Type 0} (xs ys zs : List A) → xs ++ (ys ++ zs) ≡ (xs ++ ys) ++ zs
 append_assoc [] ys zs = refl
 append_assoc (x ∷ xs) ys zs = ap (λ l. x ∷ l) (append_assoc xs ys zs)

@@ -90,7 +90,7 @@ module _ (rules : RulesOf) (t : ℤ) (s : LedgerState) (pairs : List (AskOf × A
           position = position;
           place = place;
           there = there;
-          told = refl;
+          reported = refl;
           between = u.now;
           placeholder = before;
           explains = l.explains;
@@ -101,7 +101,7 @@ module _ (rules : RulesOf) (t : ℤ) (s : LedgerState) (pairs : List (AskOf × A
       )
       along_stops item.Memory v after r = (tt, r.1 ∙ l.marks)
 
-    -- behind all places
+    -- after all places
     pub along_ends : length order ≤ position → AlongTaken rules t s pairs order (Ok tt) u
     along_ends h =
         let P : List ℕ → Type 0 = λ front. Explains rules t s.now None (along pairs front) u.now before in
@@ -199,8 +199,8 @@ module _ (rules : RulesOf) (s : LedgerState) (request : RequestOf) (response : R
   refused_in_order order count may shaped (Impossible item why) u a =
       let x = a.0 in
       let below : x.position < length (places_of order count) = slice_get_within (places_of order count) x.position x.place x.there in
-      let R : ℕ → Type 0 = λ told. CallRefutedAlong rules s.now request response order told why in (
-        subst R (sym x.told)
+      let R : ℕ → Type 0 = λ reported. CallRefutedAlong rules s.now request response order reported why in (
+        subst R (sym x.reported)
             (item_refuted order (places_of order count) x.position x.place (next_of request response order count x.position x.place may x.there) (shaped x.position below) x.between x.placeholder
             x.explains x.sound why x.refuted),
         a.1,
@@ -260,22 +260,22 @@ module _ (rules : RulesOf) (s : LedgerState) (request : RequestOf) (response : R
         refl,
       )
 
--- only one item is told
+-- only one item is reported
 first_once : (request : RequestOf) (response : ResponseOf) (place other : ℕ) → IsFirstUnshaped request response place → IsFirstUnshaped request response other → place ≡ other
 first_once request response place other a b = elim (less_or_not place other) [
   | inl x ↦ absurd (a.1 (b.0 place x.0))
   | inr x ↦ (elim (less_or_not other place) [ inl y ↦ absurd (b.1 (a.0 other y.0)) | inr y ↦ (let u : other ≤ place = x.0 in let v : place ≤ other = y.0 in omega arith) ])
 ]
 
-pub one_item_is_told : OneItemIsTold
-one_item_is_told rules m n request response order count item other why because (in_shape p told judged first is) (in_shape q said tested least same) =
-    told ∙ ap (λ k. k + 1) (first_once request response p q first least) ∙ sym said
-one_item_is_told rules m n request response order count item other why because (in_shape p told judged first is) (in_item q said shaped at k b x a e kept there r) = absurd (first.1 (shaped p judged))
-one_item_is_told rules m n request response order count item other why because (in_item p told shaped at k b x a e kept there r) (in_shape q said judged first is) = absurd (first.1 (shaped q judged))
-one_item_is_told rules m n request response order count item other why because (in_item p told shaped at k b x a e kept there r) (in_item q said formed stands l c y d f still here z) =
+pub one_item_is_reported : OneItemIsTold
+one_item_is_reported rules m n request response order count item other why because (in_shape p reported judged first is) (in_shape q said tested least same) =
+    reported ∙ ap (λ k. k + 1) (first_once request response p q first least) ∙ sym said
+one_item_is_reported rules m n request response order count item other why because (in_shape p reported judged first is) (in_item q said shaped at k b x a e kept there r) = absurd (first.1 (shaped p judged))
+one_item_is_reported rules m n request response order count item other why because (in_item p reported shaped at k b x a e kept there r) (in_shape q said judged first is) = absurd (first.1 (shaped q judged))
+one_item_is_reported rules m n request response order count item other why because (in_item p reported shaped at k b x a e kept there r) (in_item q said formed stands l c y d f still here z) =
     let two : Some p ≡ Some q = sym at ∙ stands in
     let one : p ≡ q = cc in
-    told ∙ ap (λ k. k + 1) one ∙ sym said
+    reported ∙ ap (λ k. k + 1) one ∙ sym said
 
 same_pair : (p q : AskOf × AnswerOf) → Some p ≡ Some q → (p.0 ≡ q.0) × (p.1 ≡ q.1)
 same_pair p q e = (ap (λ o. (of o).0) e, ap (λ o. (of o).1) e)
@@ -285,20 +285,20 @@ same_pair p q e = (ap (λ o. (of o).0) e, ap (λ o. (of o).1) e)
     of (Some x) = x
 
 -- and over ledgers that stand for the same inventories one reason
-item_told : (rules : RulesOf) (t : ℤ) (k l : Meaning) (b c : Option (List ℕ)) (x y : AskOf) (a d : AnswerOf) (why because : Why)
+item_reported : (rules : RulesOf) (t : ℤ) (k l : Meaning) (b c : Option (List ℕ)) (x y : AskOf) (a d : AnswerOf) (why because : Why)
     → IsSound k → IsSound l → StandAlike k l → b ≡ c → x ≡ y → a ≡ d → lowest rules k b t x a ≡ Some why → lowest rules l c t y d ≡ Some because → why ≡ because
-item_told rules t k l b c x y a d why because kept still alike same one two e f =
+item_reported rules t k l b c x y a d why because kept still alike same one two e f =
     let g : lowest rules k b t x a ≡ lowest rules l c t y d = (λ i. lowest rules k (same i) t (one i) (two i)) ∙ (alike_speak_alike rules k l c t y d kept still alike).1 in
     let h : Some why ≡ Some because = sym e ∙ g ∙ f in
     cc
 
-pub one_reason_is_told : OneReasonIsTold
-one_reason_is_told rules m n request response order count item other why because alike (in_shape p told judged first is) (in_shape q said tested least same) = is ∙ sym same
-one_reason_is_told rules m n request response order count item other why because alike (in_shape p told judged first is) (in_item q said shaped at k b x a e kept there r) = absurd (first.1 (shaped p judged))
-one_reason_is_told rules m n request response order count item other why because alike (in_item p told shaped at k b x a e kept there r) (in_shape q said judged first is) = absurd (first.1 (shaped q judged))
-one_reason_is_told rules m n request response order count item other why because alike (in_item p told shaped at k b x a e kept there r) (in_item q said formed stands l c y d f still here z) =
+pub one_reason_is_reported : OneReasonIsTold
+one_reason_is_reported rules m n request response order count item other why because alike (in_shape p reported judged first is) (in_shape q said tested least same) = is ∙ sym same
+one_reason_is_reported rules m n request response order count item other why because alike (in_shape p reported judged first is) (in_item q said shaped at k b x a e kept there r) = absurd (first.1 (shaped p judged))
+one_reason_is_reported rules m n request response order count item other why because alike (in_item p reported shaped at k b x a e kept there r) (in_shape q said judged first is) = absurd (first.1 (shaped q judged))
+one_reason_is_reported rules m n request response order count item other why because alike (in_item p reported shaped at k b x a e kept there r) (in_item q said formed stands l c y d f still here z) =
     let two : Some p ≡ Some q = sym at ∙ stands in
     let one : p ≡ q = cc in
     let pair = same_pair (x, a) (y, d) (sym there ∙ ap (slice_get (pairs_of request response)) one ∙ here) in
     let go = alike_go_alike rules response.stamp m n None (take count (pairs_taken request response order)) k l b c alike kept e f in
-    item_told rules response.stamp k l b c x y a d why because kept still go.0 go.1 pair.0 pair.1 r.named z.named
+    item_reported rules response.stamp k l b c x y a d why because kept still go.0 go.1 pair.0 pair.1 r.named z.named

@@ -10,7 +10,7 @@ use Rattle.kmipa_msgs.specs.declared.response.Status.TheVariants.{Success, Faile
 use Rattle.kmipa_msgs.specs.declared.response.Answer.{Answer}
 use Rattle.kmipa_msgs.specs.Messages.{RequestOf, AnswerOf, answer_of, ResponseOf}
 use Rattle.kmipa_batch.specs.Shapes.{is_failed, IsFirstFailed, NoneFailed, AnswerShape, NoAnswerShape, HasShape, IsShapedAt, IsShapedBelow, IsShaped}
-use Rattle.kmipa_batch.specs.Fits.{FailedAt, is_behind, is_undone, is_success, fits_answer, fits_none, fits, undoes}
+use Rattle.kmipa_batch.specs.Fits.{FailedAt, is_after, is_undone, is_success, fits_answer, fits_none, fits, undoes}
 
 -- statuses
 pub failed_is : (s : Status) → is_failed s ≡ true → s ≡ Failed
@@ -152,11 +152,11 @@ module _ (asks : ℕ) (answers : List AnswerOf) (place : ℕ) where
   ]
 
   -- none
-  behind_first : (failed : Option ℕ) → FailedAt answers failed → is_behind failed place ≡ true → (f : ℕ) × IsFirstFailed answers f × (f < place)
+  behind_first : (failed : Option ℕ) → FailedAt answers failed → is_after failed place ≡ true → (f : ℕ) × IsFirstFailed answers f × (f < place)
   behind_first None at e = absurd (clash e)
   behind_first (Some g) at e = (g, at, is_less g place e)
 
-  not_behind : (failed : Option ℕ) → FailedAt answers failed → is_behind failed place ≡ false → (f : ℕ) → IsFirstFailed answers f → f < place → ⊥
+  not_behind : (failed : Option ℕ) → FailedAt answers failed → is_after failed place ≡ false → (f : ℕ) → IsFirstFailed answers f → f < place → ⊥
   not_behind None at e f w h = none_first answers f at w
   not_behind (Some g) at e f w h = let u : place ≤ g = not_less g place e in let v : g ≡ f = same_first answers g f at w in omega arith
 
@@ -193,7 +193,7 @@ module _ (asks : ℕ) (answers : List AnswerOf) (place : ℕ) where
     | inr x ↦ (let u : asks ≤ place = x.0 in let v : place < asks = r.asked in omega arith)
   ]
 
--- behind all items and answers each place has its shape
+-- after all items and answers each place has its shape
 pub shaped_all : (request : RequestOf) (response : ResponseOf) (count : ℕ) → length request.items ≤ count → length response.items ≤ count → IsShapedBelow request response count → IsShaped request response
 shaped_all request response count asks answers below place = elim (less_or_not place count) [
   | inl x ↦ below place x.0
@@ -304,15 +304,15 @@ none_found answers place n h p other e =
     n.none p other (omega (arith, length-map answers answer_of)) e
 
 -- what is computed of a place is whether it has its shape
-pub shape_told : (request : RequestOf) (response : ResponseOf) (place : ℕ) (failed : Option ℕ) (status : Option Status) (told : Bool) → FailedAt response.items failed
-    → status ≡ option_map (λ (a : AnswerOf). a.status) (slice_get response.items place) → told ≡ fits request.option failed place (nat_lt place (length request.items)) status
-    → (IsTrue told → IsShapedAt request response place) × (IsShapedAt request response place → IsTrue told)
-shape_told request response place failed status true at is e =
+pub shape_reported : (request : RequestOf) (response : ResponseOf) (place : ℕ) (failed : Option ℕ) (status : Option Status) (reported : Bool) → FailedAt response.items failed
+    → status ≡ option_map (λ (a : AnswerOf). a.status) (slice_get response.items place) → reported ≡ fits request.option failed place (nat_lt place (length request.items)) status
+    → (IsTrue reported → IsShapedAt request response place) × (IsShapedAt request response place → IsTrue reported)
+shape_reported request response place failed status true at is e =
     let asks : ℕ = length request.items in (
       λ h. shape_fits asks response.items place request.option failed (slice_get response.items place) at (sym (e ∙ ap (fits request.option failed place (nat_lt place asks)) is)),
       λ r. refl,
     )
-shape_told request response place failed status false at is e =
+shape_reported request response place failed status false at is e =
     let asks : ℕ = length request.items in (
       λ h. absurd (clash h),
       λ r. absurd (shape_misfits asks response.items place request.option failed (slice_get response.items place) at (sym (e ∙ ap (fits request.option failed place (nat_lt place asks)) is)) r),

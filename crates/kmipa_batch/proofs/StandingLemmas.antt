@@ -74,11 +74,11 @@ set_long (x ∷ seen) zero = refl
 set_long (x ∷ seen) (suc k) = ap suc (set_long seen k)
 
 -- a test of two numbers
-pub told_equal : (a b : ℕ) → nat_eq a b ≡ true → a ≡ b
-told_equal a b e = grind (arith, nat_tests)
+pub reported_equal : (a b : ℕ) → nat_eq a b ≡ true → a ≡ b
+reported_equal a b e = grind (arith, nat_tests)
 
-pub equal_told : (a b : ℕ) → a ≡ b → nat_eq a b ≡ true
-equal_told a b e = grind (arith, nat_tests)
+pub equal_reported : (a b : ℕ) → a ≡ b → nat_eq a b ≡ true
+equal_reported a b e = grind (arith, nat_tests)
 
 -- numbers are equal, or they aren't
 same_or_not : (a b : ℕ) → (a ≡ b) ⊎ (a ≢ b)
@@ -182,7 +182,7 @@ module _ (places : List ℕ) (count position : ℕ) (seen : List Bool) (s : Seen
         by k is true e = seen_twice k e (there ∙ ap Some is) o
         by k is false e = x k is e
 
-  -- behind all places
+  -- after all places
   module _ (past : length places ≤ position) where
     whole : position ≡ length places
     whole = let h = s.upto in omega (arith, past, h)

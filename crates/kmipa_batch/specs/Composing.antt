@@ -1,4 +1,4 @@
--- What is taken along a list of pairs, whatever the list: how it composes, and what a refusal behind it says.
+-- What is taken along a list of pairs, whatever the list: how it composes, and what a refusal after it says.
 use Rattle.std.specs.Prelude.{◌≡◌, ◌≤◌, ◌++◌, ℕ, ℤ, List, [], ◌∷◌, length, Option, Some, None}
 use Rattle.kmipa_object.specs.Inventory.{Thing}
 use Rattle.kmipa_store.specs.Ledger.{Meaning}
@@ -45,13 +45,13 @@ abbrev pub ByPlaceIsAnOrder : Type 0
 ByPlaceIsAnOrder =
     (request : RequestOf) (response : ResponseOf) → IsShaped request response → IsTakingOrder request response (places_from 0 (length (pairs_of request response)))
 
--- whatever the ledger knows, behind so many items of an order only one item of the call is told
+-- whatever the ledger knows, after so many items of an order only one item of the call is reported
 abbrev pub OneItemIsTold : Type 0
 OneItemIsTold =
     (rules : RulesOf) (m n : Meaning) (request : RequestOf) (response : ResponseOf) (order : Option (List ℕ)) (count item other : ℕ) (why because : Why)
     → SpeaksAtAlong rules m request response order count item why → SpeaksAtAlong rules n request response order count other because → item ≡ other
 
--- and where two ledgers stand for the same inventories, however they number their secrets, it is told with one reason
+-- and where two ledgers stand for the same inventories, however they number their secrets, it is reported with one reason
 abbrev pub OneReasonIsTold : Type 0
 OneReasonIsTold =
     (rules : RulesOf) (m n : Meaning) (request : RequestOf) (response : ResponseOf) (order : Option (List ℕ)) (count item other : ℕ) (why because : Why)

@@ -12,10 +12,10 @@ abbrev pub FailedAt : List AnswerOf → Option ℕ → Type 0
 FailedAt answers None = NoneFailed answers
 FailedAt answers (Some place) = IsFirstFailed answers place
 
--- whether a place is behind the first failed answer
-abbrev pub is_behind : Option ℕ → ℕ → Bool
-is_behind None place = false
-is_behind (Some failed) place = nat_lt failed place
+-- whether a place is after the first failed answer
+abbrev pub is_after : Option ℕ → ℕ → Bool
+is_after None place = false
+is_after (Some failed) place = nat_lt failed place
 
 abbrev pub is_undone : Status → Bool
 is_undone Success = false
@@ -35,14 +35,14 @@ fits_undo (Some failed) place status = if nat_lt place failed then is_undone sta
 -- whether an answer of this status may stand at a place that the request has
 abbrev pub fits_answer : BatchOption → Option ℕ → ℕ → Status → Bool
 fits_answer Continue failed place status = not (is_undone status)
-fits_answer Stop failed place status = if is_behind failed place then false else not (is_undone status)
+fits_answer Stop failed place status = if is_after failed place then false else not (is_undone status)
 fits_answer Undo failed place status = fits_undo failed place status
 
 -- whether a place that the request has may be without an answer
 abbrev pub fits_none : BatchOption → Option ℕ → ℕ → Bool
 fits_none Continue failed place = false
-fits_none Stop failed place = is_behind failed place
-fits_none Undo failed place = is_behind failed place
+fits_none Stop failed place = is_after failed place
+fits_none Undo failed place = is_after failed place
 
 -- whether a place may have this status, or none
 abbrev pub fits : BatchOption → Option ℕ → ℕ → Bool → Option Status → Bool

@@ -1,4 +1,4 @@
--- The places of a batch in the order in which their items are taken. Places are counted from 0 here, and told and handed in from 1.
+-- The places of a batch in the order in which their items are taken. Places are counted from 0 here, and reported and handed in from 1.
 use Rattle.std.specs.Prelude.{◌≡◌, ◌≢◌, ◌≤◌, ◌<◌, All, ℕ, zero, suc, ◌-◌, Bool, not, ◌&&◌, nat_lt, List, [], ◌∷◌, ◌++◌, length, map, Option, Some, None, option_map, slice_get}
 use Rattle.kmipa_msgs.specs.declared.request.BatchOption.TheVariants.{Continue}
 use Rattle.kmipa_msgs.specs.Messages.{RequestOf, ResponseOf}
@@ -25,7 +25,7 @@ abbrev pub one_of : {A : Type 0} → Option A → List A
 one_of None = []
 one_of (Some x) = x ∷ []
 
--- what stands at these places, in their order; behind the end stands nothing
+-- what stands at these places, in their order; after the end stands nothing
 abbrev pub along : {A : Type 0} → List A → List ℕ → List A
 along xs [] = []
 along xs (place ∷ order) = one_of (slice_get xs place) ++ along xs order

@@ -22,14 +22,14 @@ pub record CallExplainsAlong (rules : RulesOf) (m : Meaning) (request : RequestO
   -- whatever the call reaches from an inventory before is an inventory afterwards, under a choice that agrees on the secrets before
   pub complete : (c : Choice) → Chooses m.secrets c → (V : List Thing) → CallSomeAlong rules (inv c m.objects) request response order V
       → (d : Choice) × Chooses n.secrets d × Agrees (length m.secrets) c d × (V ≡ inv d n.objects)
-  -- bytes are known only where they were, or where an item told them
+  -- bytes are known only where they were, or where an item reported them
   pub learns : (number : ℕ) (bytes : List ℕ) → bytes_at n.secrets number ≡ Some (Some bytes)
       → (bytes_at m.secrets number ≡ Some (Some bytes)) ⊎ Tells (pairs_of request response) bytes
   pub grows : length m.secrets ≤ length n.secrets
   pub extends : Extends m.secrets n.secrets
 
--- Whether the shape of a place is judged by the time that so many items are done. In an ordered call it is judged just ahead of the place's
--- item; in a call without order all shapes are judged ahead of the first item.
+-- Whether the shape of a place is judged by the time that so many items are done. In an ordered call it is judged just before the place's
+-- item; in a call without order all shapes are judged before the first item.
 abbrev pub IsJudgedBy : Bool → ℕ → ℕ → Type 0
 IsJudgedBy false count place = place < count
 IsJudgedBy true count place = 0 < count
@@ -47,8 +47,8 @@ pub record IsPossibleUpToAlong (rules : RulesOf) (m : Meaning) (request : Reques
   pub placeholder : Option (List ℕ)
   pub chain : ChainSome rules response.stamp (inv choice m.objects) None (take count (pairs_taken request response order)) things placeholder
 
--- What speaks behind the first `count` items of the order, and against which item, told from 1. A shape that is judged next is wrong, and
--- the lowest place without its shape is told. Or they are right, and against the next item speaks this reason, the lowest, the known bytes
+-- What speaks after the first `count` items of the order, and against which item, reported from 1. A shape that is judged next is wrong, and
+-- the lowest place without its shape is reported. Or they are right, and against the next item speaks this reason, the lowest, the known bytes
 -- being those of the ledger and of the items before.
 pub data SpeaksAtAlong (rules : RulesOf) (m : Meaning) (request : RequestOf) (response : ResponseOf) (order : Option (List ℕ)) (count item : ℕ) (why : Why) : Type 0 where
   in_shape : (place : ℕ) → item ≡ place + 1 → IsJudgedBy (is_unordered request) (count + 1) place → IsFirstUnshaped request response place → why ≡ BatchShape
@@ -59,7 +59,7 @@ pub data SpeaksAtAlong (rules : RulesOf) (m : Meaning) (request : RequestOf) (re
       → slice_get (pairs_of request response) place ≡ Some (ask, answer) → Refuted rules between placeholder response.stamp ask answer why
       → SpeaksAtAlong rules m request response order count item why
 
--- so many items are possible, with one more they are not, and this item is told with this reason
+-- so many items are possible, with one more they are not, and this item is reported with this reason
 pub record CallRefutedAlong (rules : RulesOf) (m : Meaning) (request : RequestOf) (response : ResponseOf) (order : Option (List ℕ)) (item : ℕ) (why : Why) : Type 0 where
   pub count : ℕ
   pub before : IsPossibleUpToAlong rules m request response order count

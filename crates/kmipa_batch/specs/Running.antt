@@ -31,7 +31,7 @@ PairCame rules m before t pair (Err item.Memory) n after = Unit {0}
 abbrev pub PairTaken : RulesOf → LedgerState → Option (List ℕ) → ℤ → Option (AskOf × AnswerOf) → Result (Unit {0}) Refusal → LedgerState → Option (List ℕ) → Type 0
 PairTaken rules s before t pair result u after = PairCame rules s.now before t pair result u.now after × (u.marks ≡ s.marks)
 
--- a refusal at a place, which is told from 1
+-- a refusal at a place, which is reported from 1
 abbrev pub refused_at : ℕ → Refusal → CallRefusal
 refused_at place (item.Impossible why) = Impossible (place + 1) why
 refused_at place item.Memory = Memory
@@ -52,12 +52,12 @@ pub record AlongDone (rules : RulesOf) (t : ℤ) (m : Meaning) (pairs : List (As
   pub explains : Explains rules t m None (along pairs order) n placeholder
   pub sound : IsSound n
 
--- those before a position of this order were taken, and against the pair of its place speaks this reason. The place is told from 1
+-- those before a position of this order were taken, and against the pair of its place speaks this reason. The place is reported from 1
 pub record AlongRefuted (rules : RulesOf) (t : ℤ) (m : Meaning) (pairs : List (AskOf × AnswerOf)) (order : List ℕ) (item : ℕ) (why : Why) : Type 0 where
   pub position : ℕ
   pub place : ℕ
   pub there : slice_get order position ≡ Some place
-  pub told : item ≡ place + 1
+  pub reported : item ≡ place + 1
   pub between : Meaning
   pub placeholder : Option (List ℕ)
   pub explains : Explains rules t m None (along pairs (take position order)) between placeholder

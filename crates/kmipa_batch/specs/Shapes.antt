@@ -1,5 +1,5 @@
 -- Which answers a batch may have at which places, under Stop, Continue and Undo (KMIP 2.1, Batch Error Continuation Option; the shape
--- of the answer to a failed Undo batch: profile). Places are counted from 0 here, and told from 1.
+-- of the answer to a failed Undo batch: profile). Places are counted from 0 here, and reported from 1.
 use Rattle.std.specs.Prelude.{◌≡◌, ◌≢◌, ◌≤◌, ◌<◌, ◌⊎◌, ℕ, Bool, true, false, List, length, Option, Some, None, slice_get}
 use Rattle.kmipa_msgs.specs.declared.request.BatchOption.{BatchOption}
 use Rattle.kmipa_msgs.specs.declared.request.BatchOption.TheVariants.{Continue, Undo}
@@ -27,7 +27,7 @@ NoneFailed answers = (place : ℕ) (other : AnswerOf) → slice_get answers plac
 pub record AnswerShape (option : BatchOption) (asks : ℕ) (answers : List AnswerOf) (place : ℕ) (answer : AnswerOf) : Type 0 where
   -- the request has an item there
   pub asked : place < asks
-  -- under Stop and Undo no answer stands behind the first failed one
+  -- under Stop and Undo no answer stands after the first failed one
   pub ends : option ≢ Continue → (failed : ℕ) → IsFirstFailed answers failed → place ≤ failed
   -- only Undo undoes
   pub kept : option ≢ Undo → answer.status ≢ Undone

@@ -45,7 +45,7 @@ pub(crate) fn take_along<L: Ledger>(
             place,
         );
         if let Err(refusal) = taken {
-            return Err(told_at(place, refusal));
+            return Err(reported_at(place, refusal));
         }
     }
     Ok(())
@@ -95,8 +95,8 @@ fn stamp_of(response: &Response) -> i64
     response.stamp
 }
 
-/// A refusal of the item at a place, which is told from 1.
-fn told_at(place: usize, refusal: Refusal) -> CallRefusal
+/// A refusal of the item at a place, which is reported from 1.
+fn reported_at(place: usize, refusal: Refusal) -> CallRefusal
     requires { place < usize.MAX }
     ensures { result ≡ refused_at place refusal }
 {

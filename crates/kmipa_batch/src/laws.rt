@@ -22,12 +22,12 @@ pub fn by_place_is_an_order()
     ensures { ByPlaceIsAnOrder }
 {}
 
-/// Behind so many items of an order only one item of the call is told.
-pub fn one_item_is_told()
+/// After so many items of an order only one item of the call is reported.
+pub fn one_item_is_reported()
     ensures { OneItemIsTold }
 {}
 
-/// Over ledgers that stand for the same inventories it is told with one reason.
-pub fn one_reason_is_told()
+/// Over ledgers that stand for the same inventories it is reported with one reason.
+pub fn one_reason_is_reported()
     ensures { OneReasonIsTold }
 {}

@@ -10,8 +10,8 @@ mod shape;
 mod taking;
 
 pub use laws::{
-    by_place_is_all, by_place_is_an_order, chains_compose, one_item_is_told, one_reason_is_told,
-    refusals_are_exact,
+    by_place_is_all, by_place_is_an_order, chains_compose, one_item_is_reported,
+    one_reason_is_reported, refusals_are_exact,
 };
 pub use order::{is_taking_order, is_unordered};
 pub use readable::is_readable_call;

@@ -25,7 +25,7 @@ pub fn is_taking_order(
     response: &Response,
     places: &[usize],
 ) -> Result<bool, AllocError>
-    ensures { IfOk result (λ told. IsTrue told ↔ AreTakingOrder (request_of request.now) (response_of response.now) places.now) }
+    ensures { IfOk result (λ reported. IsTrue reported ↔ AreTakingOrder (request_of request.now) (response_of response.now) places.now) }
 {
     if !stand_once(alloc, places, answered_count(request, response))? {
         return Ok(false);
@@ -45,7 +45,7 @@ fn answered_count(request: &Request, response: &Response) -> usize
 
 /// Whether each number from 1 to `count` stands there once, and no other.
 fn stand_once(alloc: Global, places: &[usize], count: usize) -> Result<bool, AllocError>
-    ensures { IfOk result (λ told. IsTrue told ↔ StandOnce places.now count) }
+    ensures { IfOk result (λ reported. IsTrue reported ↔ StandOnce places.now count) }
 {
     let mut seen = vec![in alloc; false; count]?;
     for position in 0..places.len() {

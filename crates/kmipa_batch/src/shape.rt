@@ -3,7 +3,7 @@
 ghost use Rattle.std.specs.Prelude.{◌≡◌, ◌↔◌, IsTrue, map, length, nat_lt, option_map};
 ghost use Rattle.kmipa_msgs.specs.Messages.{answer_of, response_of};
 ghost use Rattle.kmipa_batch.specs.Calls.{RefusesMessage};
-ghost use Rattle.kmipa_batch.specs.Fits.{FailedAt, fits, fits_answer, fits_none, fits_undo, is_behind, is_refusal, undoes};
+ghost use Rattle.kmipa_batch.specs.Fits.{FailedAt, fits, fits_answer, fits_none, fits_undo, is_after, is_refusal, undoes};
 
 use kmipa_msgs::{Answer, BatchOption, Response, Status};
 
@@ -89,7 +89,7 @@ fn has_answer_shape(
     match option {
         BatchOption::Continue => status != Status::Undone,
         BatchOption::Stop => {
-            if is_behind(failed, place) {
+            if is_after(failed, place) {
                 false
             } else {
                 status != Status::Undone
@@ -121,13 +121,13 @@ fn may_be_unanswered(option: BatchOption, failed: Option<usize>, place: usize) -
 {
     match option {
         BatchOption::Continue => false,
-        BatchOption::Stop | BatchOption::Undo => is_behind(failed, place),
+        BatchOption::Stop | BatchOption::Undo => is_after(failed, place),
     }
 }
 
-/// Whether a place is behind the first failed answer.
-fn is_behind(failed: Option<usize>, place: usize) -> bool
-    ensures { result ≡ is_behind failed place }
+/// Whether a place is after the first failed answer.
+fn is_after(failed: Option<usize>, place: usize) -> bool
+    ensures { result ≡ is_after failed place }
 {
     match failed {
         Some(failed) => failed < place,

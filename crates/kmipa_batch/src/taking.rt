@@ -23,8 +23,8 @@ use std::alloc::Global;
 
 /// Takes one call: its items at the Time Stamp of its response, and then what the Batch Error Continuation Option leaves of them. The items
 /// are taken by place, or else in the order of `places`, which are counted from 1. Where some inventory that the ledger stands for allows
-/// the whole response, the ledger then stands for what the call leaves, and knows what the answers told; else the first item at which none
-/// does is told with the lowest reason, and nothing is changed. In an ordered call the shape of a place is judged just ahead of its item; in
+/// the whole response, the ledger then stands for what the call leaves, and knows what the answers reported; else the first item at which none
+/// does is reported with the lowest reason, and nothing is changed. In an ordered call the shape of a place is judged just before its item; in
 /// a call without order all shapes are judged first. A message that is refused as a whole changes nothing. After want of memory the ledger
 /// is as before.
 ///
@@ -75,8 +75,8 @@ fn end<L: Ledger>(ledger: &mut L, mark: Mark, option: BatchOption, failed: Optio
     }
 }
 
-/// Takes the items of a call. Where a place hasn't its shape, the lowest such place is told: in an ordered call behind the items ahead of
-/// it, if those are possible, and in a call without order ahead of all items.
+/// Takes the items of a call. Where a place hasn't its shape, the lowest such place is reported: in an ordered call after the items before
+/// it, if those are possible, and in a call without order before all items.
 fn take_items<L: Ledger>(
     alloc: Global,
     ledger: &mut L,

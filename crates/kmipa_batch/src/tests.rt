@@ -236,7 +236,7 @@ fn two_answers<'a>(alloc: Global, first: Status) -> Result<Response<'a>, Fail> {
     Ok(response)
 }
 
-/// Under Stop nothing is answered behind the item that failed, and what came before it stays.
+/// Under Stop nothing is answered after the item that failed, and what came before it stays.
 fn stop_ends_at_failure<L: Ledger>(
     rt: &impl Abort,
     alloc: Global,
@@ -263,7 +263,7 @@ fn stop_ends_at_failure<L: Ledger>(
     Ok(())
 }
 
-/// Under Continue the items behind the one that failed are done.
+/// Under Continue the items after the one that failed are done.
 fn continue_goes_on<L: Ledger>(rt: &impl Abort, alloc: Global, ledger: &mut L) -> Result<(), Fail>
     requires { IsSound (L.state ledger.old).now }
 {
@@ -345,7 +345,7 @@ fn undone_get_teaches<L: Ledger>(rt: &impl Abort, alloc: Global, ledger: &mut L)
     Ok(())
 }
 
-/// In a batch without order a Register may come ahead of the Get of its object that stands before it.
+/// In a batch without order a Register may come before the Get of its object that stands before it.
 fn later_item_first<L: Ledger>(rt: &impl Abort, alloc: Global, ledger: &mut L) -> Result<(), Fail>
     requires { IsSound (L.state ledger.old).now }
 {

@@ -1,4 +1,4 @@
--- Where three lists of bytes are accepted, nothing but a yes can be told of them.
+-- Where three lists of bytes are accepted, nothing but a yes can be reported of them.
 use Rattle.std.proofs.Common.{◌≡◌, ◌⊎◌, inl, inr, ℕ, List, false, IsTrue, Result, Ok, Err, refl, subst}
 use Rattle.kmipa_record.specs.Kinds.{ByCause}
 use Rattle.kmipa_record.specs.Marks.{MarkOf, AreRecorded}
@@ -22,7 +22,7 @@ use Rattle.kmipa_check.specs.declared.verdict.Verdict.{Verdict}
 use Rattle.kmipa_check.specs.declared.verdict.Verdict.TheVariants.{Yes}
 use Rattle.kmipa_check.proofs.AcceptedLemmas.{accepted_is_yes_lem}
 
--- of a file without a fault, on a device that works, only want of memory is told
+-- of a file without a fault, on a device that works, only want of memory is reported
 only_memory : (k : RecordKind) (D M P : Type 0) → (D → ⊥) → (P → ⊥) → ByCause k D M P → k ≡ kind.Memory
 only_memory kind.Device D M P d p h = absurd (d h)
 only_memory kind.Memory D M P d p h = refl

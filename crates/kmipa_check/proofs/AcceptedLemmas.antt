@@ -1,4 +1,4 @@
--- Where a witness is accepted, nothing but a yes can be told of it.
+-- Where a witness is accepted, nothing but a yes can be reported of it.
 use Rattle.std.proofs.Common.{◌≡◌, ◌<◌, ◌⊎◌, inl, inr, ℕ, ◌+◌, ◌≤ℤ◌, List, map, length, get_or, Some, slice_get, Result, Ok, Err, refl, subst, arith}
 use Rattle.std.specs.Prelude.{AllPairs}
 use Rattle.std.specs.Int.Signed.{clash_ℤ}

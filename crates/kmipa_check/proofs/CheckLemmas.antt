@@ -66,10 +66,10 @@ call_faults marks declared turns (Witness f) h = absurd h
 call_faults marks declared turns Memory h = tt
 
 -- what the replay tells
-pub run_told : (marks : List MarkOf) (declared : DeclarationOf) (turns : List TurnOf) (calls : List CallOf) (steps : List StepOf) (result : Result Verdict CheckFault)
+pub run_reported : (marks : List MarkOf) (declared : DeclarationOf) (turns : List TurnOf) (calls : List CallOf) (steps : List StepOf) (result : Result Verdict CheckFault)
     → AreCalls marks calls → IsOrder calls turns steps → TellsRun declared steps result → Checks marks declared turns result
-run_told marks declared turns calls steps (Ok Yes) are o h = replayed_accepts marks declared turns calls steps h.0 are o (order_takes calls turns steps o) h.1
-run_told marks declared turns calls steps (Ok (No refused)) are o h = (calls, are, (steps, o, h))
-run_told marks declared turns calls steps (Err Memory) are o h = tt
-run_told marks declared turns calls steps (Err (Outside number side o)) are p h = absurd h
-run_told marks declared turns calls steps (Err (Witness f)) are o h = absurd h
+run_reported marks declared turns calls steps (Ok Yes) are o h = replayed_accepts marks declared turns calls steps h.0 are o (order_takes calls turns steps o) h.1
+run_reported marks declared turns calls steps (Ok (No refused)) are o h = (calls, are, (steps, o, h))
+run_reported marks declared turns calls steps (Err Memory) are o h = tt
+run_reported marks declared turns calls steps (Err (Outside number side o)) are p h = absurd h
+run_reported marks declared turns calls steps (Err (Witness f)) are o h = absurd h

@@ -116,8 +116,8 @@ numbered_all request response fills count h past = λ fill one. by fill (at_cont
 -- ---- where an item's number first stands
 
 module _ (fills : List Fill) (places : FirstPlaces) (knows : Indexes (map (λ (f : Fill). Some f.item) fills) places) where
-  told : (number : ℤ) (v : Option ℕ) → place_in places number ≡ v → StandsFirst (map (λ (f : Fill). Some f.item) fills) (length (map (λ (f : Fill). Some f.item) fills)) number v
-  told number v e =
+  reported : (number : ℤ) (v : Option ℕ) → place_in places number ≡ v → StandsFirst (map (λ (f : Fill). Some f.item) fills) (length (map (λ (f : Fill). Some f.item) fills)) number v
+  reported number v e =
       let P : Option ℕ → Type 0 = λ w. StandsFirst (map (λ (f : Fill). Some f.item) fills) (length (map (λ (f : Fill). Some f.item) fills)) number w in
       subst P e (knows number)
 
@@ -135,7 +135,7 @@ module _ (fills : List Fill) (places : FirstPlaces) (knows : Indexes (map (λ (f
       by None e noted = absurd cc
       by (Some q) e noted =
           let same_place : q ≡ at = grind (arith, nat_tests) in
-          (told number (Some q) e).1.first earlier (omega (arith, before, same_place)) (stands earlier other there ∙ ap (λ (z : ℤ). Some (Some z)) same)
+          (reported number (Some q) e).1.first earlier (omega (arith, before, same_place)) (stands earlier other there ∙ ap (λ (z : ℤ). Some (Some z)) same)
 
   pub second_item : (at : ℕ) (f : FillOf) → slice_get (map fill_of fills) at ≡ Some f → is_noted (place_in places f.item) at ≡ false
       → (earlier : ℕ) × (other : FillOf) × (earlier < at) × (slice_get (map fill_of fills) earlier ≡ Some other) × (other.item ≡ f.item)
@@ -146,9 +146,9 @@ module _ (fills : List Fill) (places : FirstPlaces) (knows : Indexes (map (λ (f
 
       by : (v : Option ℕ) → place_in places f.item ≡ v → is_noted v at ≡ false
           → (earlier : ℕ) × (other : FillOf) × (earlier < at) × (slice_get (map fill_of fills) earlier ≡ Some other) × (other.item ≡ f.item)
-      by None e noted = absurd (told f.item None e at (slice_get_within (map (λ (f : Fill). Some f.item) fills) at (Some f.item) here) here)
+      by None e noted = absurd (reported f.item None e at (slice_get_within (map (λ (f : Fill). Some f.item) fills) at (Some f.item) here) here)
       by (Some q) e noted =
-          let found = (told f.item (Some q) e).1 in
+          let found = (reported f.item (Some q) e).1 in
           let m = mapped_from (λ (f : Fill). Some f.item) fills q (Some f.item) found.there in
           let is : m.0.item ≡ f.item = cc in
           (q, fill_of m.0, under q (λ l. found.first at l here) noted, get_at fill_of fills q m.0 m.1, is)
@@ -158,7 +158,7 @@ module _ (fills : List Fill) (places : FirstPlaces) (knows : Indexes (map (λ (f
 
   pub fill_there : (number : ℤ) (q : ℕ) → place_in places number ≡ Some q → (fill : FillOf) × Contains (map fill_of fills) fill × (fill.item ≡ number)
   fill_there number q e =
-      let found = (told number (Some q) e).1 in
+      let found = (reported number (Some q) e).1 in
       let m = mapped_from (λ (f : Fill). Some f.item) fills q (Some number) found.there in
       let is : m.0.item ≡ number = cc in
       (fill_of m.0, contains_at (map fill_of fills) q (fill_of m.0) (get_at fill_of fills q m.0 m.1), is)
@@ -169,7 +169,7 @@ module _ (fills : List Fill) (places : FirstPlaces) (knows : Indexes (map (λ (f
       by : (i : ℕ) × (slice_get (map fill_of fills) i ≡ Some fill) → ⊥
       by p =
           let here = stands p.0 fill p.1 ∙ ap (λ (z : ℤ). Some (Some z)) is in
-          told number None e p.0 (slice_get_within (map (λ (f : Fill). Some f.item) fills) p.0 (Some number) here) here
+          reported number None e p.0 (slice_get_within (map (λ (f : Fill). Some f.item) fills) p.0 (Some number) here) here
 
 -- ---- places that have their fills
 
@@ -347,7 +347,7 @@ module _ (request : RequestOf) (response : ResponseOf) (fills : List FillOf) (wa
   pub form_fault : (answer : AnswerOf) → slice_get response.items place ≡ Some answer → (fault : StepFault) → FillRead fill ask (Err fault) → FormFault request response fills fault
   form_fault answer answered (Unfit kind) (wrong, is) =
       (record { fill = fill; one = contains_at fills count fill there; place = place; names = its; ask = ask; answer = answer; at = its_place answer answered; formless = wrong }, is)
-  form_fault answer answered Memory told = tt
+  form_fault answer answered Memory reported = tt
 
 -- no fills, where none is wanted
 pub filled_nothing : (request : RequestOf) (response : ResponseOf) (fills : List FillOf) → fills ≡ [] → NoneMissing request response fills → IsFilled request response fills response
@@ -360,18 +360,18 @@ filled_nothing request response (x ∷ fills) none complete = absurd cc
 -- fills that are refused refuse the turn
 pub turn_refused : (c : CallOf) (t : TurnOf) (response : ResponseOf) (places : Option (List ℕ)) (fault : StepFault) → IsAnswered c t response
     → AreTaken c.request response t.places places → FillsRefused c.request response t.fills fault → Refuses c t fault
-turn_refused c t response places (Unfit kind) answered taken told = unfilled response answered places taken.0 taken.1 told
-turn_refused c t response places Memory answered taken told = tt
+turn_refused c t response places (Unfit kind) answered taken reported = unfilled response answered places taken.0 taken.1 reported
+turn_refused c t response places Memory answered taken reported = tt
 
 -- places that are refused refuse it
 pub places_refuse : (c : CallOf) (t : TurnOf) (response : ResponseOf) (fault : StepFault) → IsAnswered c t response → PlacesRefused c.request response t.places fault → Refuses c t fault
-places_refuse c t response (Unfit kind) answered told = unfit_places response answered told
-places_refuse c t response Memory answered told = tt
+places_refuse c t response (Unfit kind) answered reported = unfit_places response answered reported
+places_refuse c t response Memory answered reported = tt
 
 -- an answer that is outside refuses the turn of an open call
 pub answer_refused : (c : CallOf) (t : TurnOf) (bytes : List ℕ) (fault : StepFault) → c.response ≡ None → t.answer ≡ Some bytes → AnswerRead c.request bytes (Err fault) → Refuses c t fault
 answer_refused c t bytes (Unfit kind) unended some (is, (item, reason, out)) = unfit_answer (formless bytes item reason unended some out is)
-answer_refused c t bytes Memory unended some told = tt
+answer_refused c t bytes Memory unended some reported = tt
 
 pub some_not : {X Y : Type 0} (f : X → Y) (o : Option X) (b : Bool) → b ≡ is_some o → b ≡ true → option_map f o ≡ None → ⊥
 some_not f None b e is none = absurd cc

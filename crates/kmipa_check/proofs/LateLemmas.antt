@@ -27,7 +27,7 @@ scanned_none order = record {
 }
 
 module _ (order : List StepOf) (k : ℕ) (c : StepOf) (at : slice_get order k ≡ Some c) where
-  -- what is at a place is at that of the step, or behind it
+  -- what is at a place is at that of the step, or after it
   at_or_behind : (turn : ℕ) (d : StepOf) → k ≤ turn → slice_get order turn ≡ Some d → (d ≡ c) ⊎ (suc k ≤ turn)
   at_or_behind turn d from there = by (from_next k turn from)
     where
@@ -134,7 +134,7 @@ module _ (order : List StepOf) (k : ℕ) (c : StepOf) (at : slice_get order k �
           late_no least h e (subst Q eq q.1)
       by turn x below there is (inr next) = l.2 turn x next below there is
 
--- one step more, ahead of the others
+-- one step more, before the others
 pub scanned_more : (steps : List Step) (k : ℕ) (s : Step) (least late : Option ℕ) (below : Bool) (l v : Option ℕ) → 0 < k → k ≤ length steps
     → s ≡ get_or steps (k - 1) s → below ≡ is_below least s.begin → v ≡ next_late late below (k - 1) → l ≡ least_of least s.end
     → ScannedFrom (map step_of steps) k least late → ScannedFrom (map step_of steps) (k - 1) l v

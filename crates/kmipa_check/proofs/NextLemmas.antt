@@ -17,7 +17,7 @@ use Rattle.kmipa_check.specs.Verdicts.{AreKnown}
 use Rattle.kmipa_check.specs.Laws.{MayBeNext, AreMade}
 use Rattle.kmipa_check.proofs.PlaceLemmas.{at_contains}
 
--- ---- one step ahead of others
+-- ---- one step before others
 
 placed_rest : (s : StepOf) (left : List StepOf) → IsPlaced (s ∷ left) → IsPlaced left
 placed_rest s left p = record {

@@ -33,7 +33,7 @@ opened_none = record {
   cards = refl;
   described = λ c h. tt;
   all = all_none;
-  told = λ number bytes known. absurd cc;
+  reported = λ number bytes known. absurd cc;
 }
   where
     all_none : (things : List Thing) → IsInventory things → AllZip IsDescribed [] things → (c : Choice) × Chooses [] c × (things ≡ [])
@@ -54,9 +54,9 @@ module _ (es : List EntryOf) (e : EntryOf) (m : Meaning) (o : Opened es m) (may 
       ∙ ap (λ (c : Card). map card_declared es ++ c ∷ []) is
       ∙ sym (map-push card_declared es e)
 
-  -- what was declared ahead of it
-  told_before : (bytes : List ℕ) → (x : EntryOf) × Contains es x × (x.bytes ≡ Some bytes) → (x : EntryOf) × Contains (es ++ e ∷ []) x × (x.bytes ≡ Some bytes)
-  told_before bytes (x, has, is) = (x, Contains-append_left es (e ∷ []) x has, is)
+  -- what was declared before it
+  reported_before : (bytes : List ℕ) → (x : EntryOf) × Contains es x × (x.bytes ≡ Some bytes) → (x : EntryOf) × Contains (es ++ e ∷ []) x × (x.bytes ≡ Some bytes)
+  reported_before bytes (x, has, is) = (x, Contains-append_left es (e ∷ []) x has, is)
 
   -- a destroyed one
   module _ (date : ℤ) (dead : e.attributes.destroy ≡ Some date) where
@@ -84,7 +84,7 @@ module _ (es : List EntryOf) (e : EntryOf) (m : Meaning) (o : Opened es m) (may 
       cards = cards_more buried refl;
       described = buried_described;
       all = buried_all;
-      told = λ number bytes known. told_before bytes (o.told number bytes known);
+      reported = λ number bytes known. reported_before bytes (o.reported number bytes known);
     }
 
   -- a live one
@@ -118,12 +118,12 @@ module _ (es : List EntryOf) (e : EntryOf) (m : Meaning) (o : Opened es m) (may 
         let before : p.0 ≡ inv d m.objects = q.2 ∙ sym (inv-same m.objects m.secrets q.0 d o.sound.in_range (override_agrees q.0 (length m.secrets) b.0)) in
         (d, Chooses-more m.secrets (known_declared e) q.0 b.0 q.1 suits, inv_more d m.objects own things p.0 p.1 p.2 before last)
 
-    own_told : (number : ℕ) (bytes : List ℕ) → bytes_at (m.secrets ++ known_declared e ∷ []) number ≡ Some (Some bytes) → (x : EntryOf) × Contains (es ++ e ∷ []) x × (x.bytes ≡ Some bytes)
-    own_told number bytes known = by (slice_get (m.secrets ++ known_declared e ∷ []) number) refl known
+    own_reported : (number : ℕ) (bytes : List ℕ) → bytes_at (m.secrets ++ known_declared e ∷ []) number ≡ Some (Some bytes) → (x : EntryOf) × Contains (es ++ e ∷ []) x × (x.bytes ≡ Some bytes)
+    own_reported number bytes known = by (slice_get (m.secrets ++ known_declared e ∷ []) number) refl known
       where
         at : (k : Known) → k.bytes ≡ Some bytes → (slice_get m.secrets number ≡ Some k) ⊎ ((number ≡ length m.secrets) × (known_declared e ≡ k))
             → (x : EntryOf) × Contains (es ++ e ∷ []) x × (x.bytes ≡ Some bytes)
-        at k is (inl there) = told_before bytes (o.told number bytes (ap (option_map (λ (x : Known). x.bytes)) there ∙ ap Some is))
+        at k is (inl there) = reported_before bytes (o.reported number bytes (ap (option_map (λ (x : Known). x.bytes)) there ∙ ap Some is))
         at k is (inr p) = (e, Contains-append_right es (e ∷ []) e (0, first, refl), ap (λ (x : Known). x.bytes) p.1 ∙ is)
           where
             first : 0 < 1
@@ -144,7 +144,7 @@ module _ (es : List EntryOf) (e : EntryOf) (m : Meaning) (o : Opened es m) (may 
           cards = cards_more own refl;
           described = own_described;
           all = own_all;
-          told = own_told;
+          reported = own_reported;
         }
 
   pub opened_more : Opened (es ++ e ∷ []) (with_declared m e)
@@ -209,5 +209,5 @@ opened_known declared n m past p =
       complete = λ start V described linked.
           let q = o.all start described.inventory described.objects in
           (q.0, q.1, linked ∙ q.2);
-      told = λ number bytes known. let e = o.told number bytes known in by_declaration e.0 e.1 e.2;
+      reported = λ number bytes known. let e = o.reported number bytes known in by_declaration e.0 e.1 e.2;
     }

@@ -115,12 +115,12 @@ module _ (calls : List Call) (turns : List Turn) (known named : FirstPlaces) (kn
       }
 
       -- the step that the turn makes with the call, or what it comes to
-      pub turn_told : is_noted (place_in named turn.call) place ≡ true → (result : Result Step StepFault)
+      pub turn_reported : is_noted (place_in named turn.call) place ≡ true → (result : Result Step StepFault)
           → (turn.call ≡ call.number → MatchResult result (λ (step : Step). IsStep (call_of call) (turn_of turn) (step_of step)) (Refuses (call_of call) (turn_of turn)))
           → MatchResult result (λ (step : Step). IsFormed (map call_of calls) (map turn_of turns) place (step_of step)) (TurnRefused (map call_of calls) (map turn_of turns) place)
-      turn_told here_first (Ok step) told = turn_formed here_first (step_of step) (told (sym its_number))
-      turn_told here_first (Err (Unfit kind)) told = turn_unfit here_first kind (told (sym its_number))
-      turn_told here_first (Err Memory) told = tt
+      turn_reported here_first (Ok step) reported = turn_formed here_first (step_of step) (reported (sym its_number))
+      turn_reported here_first (Err (Unfit kind)) reported = turn_unfit here_first kind (reported (sym its_number))
+      turn_reported here_first (Err Memory) reported = tt
 
 -- one turn more
 pub formed_none : (calls : List CallOf) (turns : List TurnOf) → AreFormed calls turns 0 []
@@ -147,12 +147,12 @@ formed_below calls turns count steps f = λ place below. at place (some_at steps
     at place s = (s.0, f.each place s.0 s.1)
 
 -- the fault of a turn is one of the order
-pub fault_told : (calls : List CallOf) (turns : List TurnOf) (place : ℕ) (fault : StepFault) → AreFormedBelow calls turns place → TurnRefused calls turns place fault
+pub fault_reported : (calls : List CallOf) (turns : List TurnOf) (place : ℕ) (fault : StepFault) → AreFormedBelow calls turns place → TurnRefused calls turns place fault
     → OrderFault calls turns (fault_at place fault)
-fault_told calls turns place (Unfit kind) below refused = in_turn place below refused refl
-fault_told calls turns place Memory below refused = tt
+fault_reported calls turns place (Unfit kind) below refused = in_turn place below refused refl
+fault_reported calls turns place Memory below refused = tt
 
--- behind the last turn all of them are formed
+-- after the last turn all of them are formed
 pub formed_whole : (calls : List CallOf) (turns : List Turn) (count : ℕ) (steps : List StepOf) → AreFormed calls (map turn_of turns) count steps → length turns ≤ count
     → AreFormed calls (map turn_of turns) (length turns) steps
 formed_whole calls turns count steps f past =

@@ -58,7 +58,7 @@ some_at (x ∷ xs) (suc i) below = some_at xs i (omega (arith, below))
 pub at_within : {X : Type 0} (xs : List X) (i : ℕ) (x : X) → slice_get xs i ≡ Some x → i < length xs
 at_within xs i x at = slice_get_within xs i x at
 
--- one place is ahead of another, or behind it, or it is the other
+-- one place is before another, or after it, or it is the other
 pub apart : (i j : ℕ) → (i < j) ⊎ ((j < i) ⊎ (i ≡ j))
 apart zero zero = inr (inr refl)
 apart zero (suc j) = inl (omega arith)

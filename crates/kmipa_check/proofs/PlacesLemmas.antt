@@ -54,9 +54,9 @@ one_places_fault request response numbers kind other (disordered some wanted non
 one_places_fault request response numbers kind other (disordered some wanted none is) (disordered any wants nothing same) = is ∙ sym same
 
 -- places that were tested, and are no order of the answered ones
-pub no_order : (request : RequestOf) (response : ResponseOf) (numbers : List ℤ) (places : List ℕ) (told : Bool) → numbers ≢ [] → WantsOrder request response → numbers ≡ place_numbers places
-    → IsTrue told ↔ AreTakingOrder request response places → told ≡ false → PlacesFault request response numbers OrderForm
-no_order request response numbers places told some wants is tests not = disordered some wants (λ others same taken. by others (one_list others places (sym same ∙ is)) taken) refl
+pub no_order : (request : RequestOf) (response : ResponseOf) (numbers : List ℤ) (places : List ℕ) (reported : Bool) → numbers ≢ [] → WantsOrder request response → numbers ≡ place_numbers places
+    → IsTrue reported ↔ AreTakingOrder request response places → reported ≡ false → PlacesFault request response numbers OrderForm
+no_order request response numbers places reported some wants is tests not = disordered some wants (λ others same taken. by others (one_list others places (sym same ∙ is)) taken) refl
   where
     by : (others : List ℕ) → others ≡ places → AreTakingOrder request response others → ⊥
     by others e taken =

@@ -49,7 +49,7 @@ begun_end (ends a b ∷ marks) zero n m at = refl
 begun_end (begins a b c ∷ marks) (suc k) n m at = ap (λ (l : List ℤ). a ∷ l) (begun_end marks k n m at)
 begun_end (ends a b ∷ marks) (suc k) n m at = begun_end marks k n m at
 
--- the next number is that of the mark behind them
+-- the next number is that of the mark after them
 begun_next : (marks : List MarkOf) (k : ℕ) (n : ℤ) (client m : List ℕ) → slice_get marks k ≡ Some (begins n client m) → slice_get (begun marks) (length (begun (take k marks))) ≡ Some n
 begun_next [] k n client m at = absurd cc
 begun_next (begins a b c ∷ marks) zero n client m at = cc
@@ -235,14 +235,14 @@ request_wrong marks place number asked r fault begin e h =
 -- the response of an end mark is outside
 pub end_wrong : (marks : List MarkOf) (end : ℕ) (number a : ℤ) (answered : List ℕ) (request : RequestOf) (r : Result (Option (ℕ × Response)) CheckFault) (fault : CheckFault)
     → HasEnd marks number end answered → a ≡ number → r ≡ Err fault → MessageFault (λ t. ResponseFault t request) Server a answered fault → EndRead marks number request r
-end_wrong marks end number a answered request r fault h same e told =
+end_wrong marks end number a answered request r fault h same e reported =
     let P : Result (Option (ℕ × Response)) CheckFault → Type 0 = λ x. EndRead marks number request x in
-    subst P (sym e) (by fault told)
+    subst P (sym e) (by fault reported)
   where
     by : (fault : CheckFault) → MessageFault (λ t. ResponseFault t request) Server a answered fault → EndRead marks number request (Err fault)
-    by (CheckFault.TheVariants.Outside n s o) told = (told.0 ∙ same, told.1, (end, answered, h, told.2))
-    by (CheckFault.TheVariants.Witness w) told = told
-    by CheckFault.TheVariants.Memory told = tt
+    by (CheckFault.TheVariants.Outside n s o) reported = (reported.0 ∙ same, reported.1, (end, answered, h, reported.2))
+    by (CheckFault.TheVariants.Witness w) reported = reported
+    by CheckFault.TheVariants.Memory reported = tt
 
 pub response_wrong : (marks : List MarkOf) (place : ℕ) (number m : ℤ) (asked : List ℕ) (request : RequestOf) (r : Result (Option Call) CheckFault) (fault : CheckFault)
     → HasBegin marks number place asked → m ≡ number → AreRequest asked request → r ≡ Err fault → EndRead marks m request (Err fault) → MarkRead marks place r
@@ -261,10 +261,10 @@ response_wrong marks place number m asked request r fault begin same said e h =
 pub call_ended : (marks : List MarkOf) (place end : ℕ) (number n m : ℤ) (asked : List ℕ) (request : RequestOf) (response : Response) → HasBegin marks number place asked → n ≡ number → m ≡ number
     → AreRequest asked request → EndRead marks m request (Ok (Some (end, response)))
     → IsRecorded marks (record { number = n; begin = place; end = Some end; request = request; response = Some (response_of response) })
-call_ended marks place end number n m asked request response begin same equal said (answered, there, told) =
+call_ended marks place end number n m asked request response begin same equal said (answered, there, reported) =
     let P : ℤ → Type 0 = λ z. HasBegin marks z place asked in
     let Q : ℤ → Type 0 = λ z. HasEnd marks z end answered in
-    record { asked = asked; carried = subst P (sym same) begin; request = said; ended = has_ended end answered (response_of response) (subst Q (equal ∙ sym same) there) told refl refl }
+    record { asked = asked; carried = subst P (sym same) begin; request = said; ended = has_ended end answered (response_of response) (subst Q (equal ∙ sym same) there) reported refl refl }
 
 pub call_open : (marks : List MarkOf) (place : ℕ) (number n m : ℤ) (asked : List ℕ) (request : RequestOf) → HasBegin marks number place asked → n ≡ number → m ≡ number
     → AreRequest asked request → EndRead marks m request (Ok None) → IsRecorded marks (record { number = n; begin = place; end = None; request = request; response = None })
@@ -287,8 +287,8 @@ nothing_said Fault side n number lent bytes found fault e same f is h =
 pub wrong_said : {X M : Type 0} (meaning : X → M) (Said : M → Type 0) (Fault : Tree → ℕ → OutsideKind → Type 0) (lent bytes : List ℕ) (found : Option View) (view : View) (fault : ReadFault) (o : Outside)
     → lent ≡ bytes → found ≡ Some view → ItemRead lent (Ok found) → fault ≡ ReadFault.TheVariants.Outside o → Tells meaning Said (Fault (view_tree view)) (Err fault)
     → AreOutside Fault bytes o.item o.kind
-wrong_said meaning Said Fault lent bytes found view fault o f is h e told =
+wrong_said meaning Said Fault lent bytes found view fault o f is h e reported =
     let P : Option View → Type 0 = λ x. ItemRead lent (Ok x) in
     let Q : List ℕ → Type 0 = λ bs. Spells (view_tree view) bs in
     let R : ReadFault → Type 0 = λ x. Tells meaning Said (Fault (view_tree view)) (Err x) in
-    outside (view_tree view) (subst Q f (subst P is h)) (subst R e told)
+    outside (view_tree view) (subst Q f (subst P is h)) (subst R e reported)

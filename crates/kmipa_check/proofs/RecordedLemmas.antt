@@ -105,15 +105,15 @@ unfolding made
 whole c = refl
 
 same_ended : (marks : List MarkOf) (c d : CallOf) → AreRecorded marks → c.number ≡ d.number → c.request ≡ d.request → IsEnded marks c → IsEnded marks d → (c.end ≡ d.end) × (c.response ≡ d.response)
-same_ended marks c d r n q (has_ended e a x h says close is) (has_ended f b y k told ended being) =
+same_ended marks c d r n q (has_ended e a x h says close is) (has_ended f b y k reported ended being) =
     let P : ℤ → Type 0 = λ z. HasEnd marks z f b in
     let m = same_end marks c.number e f a b r h (subst P (sym n) k) in
     let A : List ℕ → Type 0 = λ bytes. AreResponse d.request bytes y in
     let B : RequestOf → Type 0 = λ w. AreResponse w a y in
-    let s : x ≡ y = same_message (λ t. SaysResponse t c.request) (λ t. ResponseFault t c.request) a x y says (subst B (sym q) (subst A (sym m.1) told)) in
+    let s : x ≡ y = same_message (λ t. SaysResponse t c.request) (λ t. ResponseFault t c.request) a x y says (subst B (sym q) (subst A (sym m.1) reported)) in
     (close ∙ ap Some m.0 ∙ sym ended, is ∙ ap Some s ∙ sym being)
 same_ended marks c d r n q (has_ended e a x h says close is) (is_open none ended being) = let P : ℤ → Type 0 = λ z. HasEnd marks z e a in absurd (none e a (subst P n h))
-same_ended marks c d r n q (is_open none close is) (has_ended f b y k told ended being) = let P : ℤ → Type 0 = λ z. HasEnd marks z f b in absurd (none f b (subst P (sym n) k))
+same_ended marks c d r n q (is_open none close is) (has_ended f b y k reported ended being) = let P : ℤ → Type 0 = λ z. HasEnd marks z f b in absurd (none f b (subst P (sym n) k))
 same_ended marks c d r n q (is_open none close is) (is_open never ended being) = (close ∙ sym ended, is ∙ sym being)
 
 pub same_recorded : (marks : List MarkOf) (c d : CallOf) → AreRecorded marks → IsRecorded marks c → IsRecorded marks d → c.number ≡ d.number → c ≡ d

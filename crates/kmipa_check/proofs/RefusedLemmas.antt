@@ -22,7 +22,7 @@ use Rattle.kmipa_check.proofs.RecordedLemmas.{taken_at}
 use Rattle.kmipa_msgs.specs.declared.response.Status.{Status}
 use Rattle.kmipa_msgs.specs.declared.response.Status.TheVariants.{Success, Failed, Undone}
 use Rattle.kmipa_batch.proofs.CompletionLemmas.{batch_of_call}
-use Rattle.kmipa_batch.proofs.RunLemmas.{shaped_fewer, one_item_is_told, one_reason_is_told}
+use Rattle.kmipa_batch.proofs.RunLemmas.{shaped_fewer, one_item_is_reported, one_reason_is_reported}
 
 -- the inventories before and after a turn
 pub record AtTurn (rules : RulesOf) (V : List Thing) (order : List StepOf) (turn : ℕ) (c : StepOf) : Type 0 where
@@ -118,12 +118,12 @@ stands_too declared order m n x y V s =
 stand_alike : (declared : DeclarationOf) (order : List StepOf) (m n : Meaning) → AreKnown declared order m → AreKnown declared order n → StandAlike m n
 stand_alike declared order m n x y V = (stands_too declared order m n x y V, stands_too declared order n m y x V)
 
-told_same : (rules : RulesOf) (m k : Meaning) (s : StepOf) (count other i j : ℕ) (why because : Why) → StandAlike m k
+reported_same : (rules : RulesOf) (m k : Meaning) (s : StepOf) (count other i j : ℕ) (why because : Why) → StandAlike m k
     → SpeaksAtAlong rules m s.request s.response (order_of s) count i why → SpeaksAtAlong rules k s.request s.response (order_of s) other j because → count ≡ other → (i ≡ j) × (why ≡ because)
-told_same rules m k s count other i j why because alike p q e =
+reported_same rules m k s count other i j why because alike p q e =
     let P : ℕ → Type 0 = λ n. SpeaksAtAlong rules m s.request s.response (order_of s) n i why in
     let r = subst P e p in
-    (one_item_is_told rules m k s.request s.response (order_of s) other i j why because r q, one_reason_is_told rules m k s.request s.response (order_of s) other i j why because alike r q)
+    (one_item_is_reported rules m k s.request s.response (order_of s) other i j why because r q, one_reason_is_reported rules m k s.request s.response (order_of s) other i j why because alike r q)
 
 module _ (declared : DeclarationOf) (order : List StepOf) where
   one_item : (turn : ℕ) (s : StepOf) (i j : ℕ) (why other : Why) → RefusedAt declared order turn s i why → RefusedAt declared order turn s j other → (i ≡ j) × (why ≡ other)
@@ -134,11 +134,11 @@ module _ (declared : DeclarationOf) (order : List StepOf) where
     | inl h ↦ absurd (p.never (possible_fewer declared order turn s m (n + 1) (omega (arith, h)) q.before))
     | inr g ↦ elim g [
       | inl h ↦ absurd (q.never (possible_fewer declared order turn s n (m + 1) (omega (arith, h)) p.before))
-      | inr e ↦ told_same (rules_declared declared) p.known q.known s n m i j why other (stand_alike declared (take turn order) p.known q.known p.knows q.knows) p.speaks q.speaks e
+      | inr e ↦ reported_same (rules_declared declared) p.known q.known s n m i j why other (stand_alike declared (take turn order) p.known q.known p.knows q.knows) p.speaks q.speaks e
     ]
   ]
 
-  -- no turn ahead of one that is refused is refused itself
+  -- no turn before one that is refused is refused itself
   none_ahead : (v w : Refused) (h : IsRefused declared order v) (k : IsRefused declared order w) → h.turn < k.turn → ⊥
   none_ahead v w h k below = elim h.refused [
     | in_place is p ↦ not_placed order h.turn h.call v.why here p
@@ -180,4 +180,4 @@ module _ (declared : DeclarationOf) (order : List StepOf) where
           let Q : ℕ → Type 0 = λ x. RefusedAt declared order x h.call v.item v.why in
           let R : StepOf → Type 0 = λ s. RefusedAt declared order k.turn s v.item v.why in
           let i = one_item k.turn k.call v.item w.item v.why w.why (subst R same (subst Q e h.refused)) k.refused in
-          (h.told ∙ ap (λ (x : ℕ). x + 1) e ∙ sym k.told, sym h.number ∙ ap (λ (s : StepOf). s.number) same ∙ k.number, i.0, i.1)
+          (h.reported ∙ ap (λ (x : ℕ). x + 1) e ∙ sym k.reported, sym h.number ∙ ap (λ (s : StepOf). s.number) same ∙ k.number, i.0, i.1)

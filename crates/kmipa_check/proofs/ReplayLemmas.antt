@@ -94,23 +94,23 @@ module _ (declared : DeclarationOf) (order : List StepOf) (n : ℕ) (m : Meaning
 
   module _ (c : StepOf) (there : slice_get order n ≡ Some c) where
     refused : (item : ℕ) (why : Why) (v : Refused) → v.turn ≡ n + 1 → c.number ≡ v.call → v.item ≡ item → v.why ≡ why → RefusedAt declared order n c item why → IsRefused declared order v
-    refused item why v told number at is h =
+    refused item why v reported number at is h =
         let P : ℕ → Type 0 = λ k. RefusedAt declared order n c k why in
         let Q : Why → Type 0 = λ w. RefusedAt declared order n c v.item w in
-        record { turn = n; told = told; call = c; there = there; number = number; before = replayed_possible; refused = subst Q (sym is) (subst P (sym at) h) }
+        record { turn = n; reported = reported; call = c; there = there; number = number; before = replayed_possible; refused = subst Q (sym is) (subst P (sym at) h) }
 
     pub refused_late : (v : Refused) → v.turn ≡ n + 1 → c.number ≡ v.call → v.item ≡ 0 → v.why ≡ EarlierCallLate → IsLate order n c → IsRefused declared order v
-    refused_late v told number at is behind = refused 0 EarlierCallLate v told number at is (in_place refl (late behind refl))
+    refused_late v reported number at is behind = refused 0 EarlierCallLate v reported number at is (in_place refl (late behind refl))
 
     pub refused_back : (v : Refused) → v.turn ≡ n + 1 → c.number ≡ v.call → v.item ≡ 0 → v.why ≡ StampRunsBack → (IsLate order n c → ⊥) → RunsBack order n c → IsRefused declared order v
-    refused_back v told number at is kept back = refused 0 StampRunsBack v told number at is (in_place refl (runs_back kept back refl))
+    refused_back v reported number at is kept back = refused 0 StampRunsBack v reported number at is (in_place refl (runs_back kept back refl))
 
     pub refused_call : (v : Refused) (item : ℕ) (why : Why) (s u : LedgerState) → s.now ≡ m → v.turn ≡ n + 1 → c.number ≡ v.call → v.item ≡ item → v.why ≡ why
         → (IsLate order n c → ⊥) → (RunsBack order n c → ⊥) → CallTakenAlong (rules_declared declared) s c.request c.response (order_of c) (Err (Impossible item why)) u → IsRefused declared order v
-    refused_call v item why s u same told number at is kept stamped t =
+    refused_call v item why s u same reported number at is kept stamped t =
         let E : Meaning → Type 0 = λ x. CallRefutedAlong (rules_declared declared) x c.request c.response (order_of c) item why in
         let p = refused_item declared order n c m r (record { there = there; kept = kept; stamped = stamped }) item why (subst E same t.0) in
-        refused item why v told number at is (in_item p.0 p.1)
+        refused item why v reported number at is (in_item p.0 p.1)
 
 -- past the last turn all are replayed
 pub replayed_all : (declared : DeclarationOf) (order : List StepOf) (turn : ℕ) (m : Meaning) → length order ≤ turn → Replayed declared order turn m → Replayed declared order (length order) m

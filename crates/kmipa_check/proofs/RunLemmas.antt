@@ -16,7 +16,7 @@ use Rattle.kmipa_batch.proofs.CompletionLemmas.{batch_of_call}
 use Rattle.kmipa_check.specs.Steps.{StepOf, order_of}
 use Rattle.kmipa_check.specs.Described.{Describes}
 use Rattle.kmipa_check.specs.Runs.{Linked, rules_declared}
-use Rattle.kmipa_check.specs.Verdicts.{AreKnown, WereTold, by_declaration, by_step}
+use Rattle.kmipa_check.specs.Verdicts.{AreKnown, WereReported, by_declaration, by_step}
 
 pub linked_join : (rules : RulesOf) (V : List Thing) (xs ys : List StepOf) (M W : List Thing) → Linked rules V xs M → Linked rules M ys W → Linked rules V (xs ++ ys) W
 linked_join rules V [] ys M W l r = let P : List Thing → Type 0 = λ X. Linked rules X ys W in subst P l r
@@ -47,8 +47,8 @@ taken_is_known_lem declared steps s m n k e = record {
       let Q : List Thing → Type 0 = λ X. CallSomeAlong (rules_declared declared) p.0 s.request s.response (order_of s) X in
       let f = e.complete q.0 q.1 V (subst P q.2 (subst Q (sym p.2.2) p.2.1)) in
       (f.0, f.1, f.3);
-  told = λ number bytes known. elim (e.learns number bytes known) [
-    | inl h ↦ kept bytes (k.told number bytes h)
+  reported = λ number bytes known. elim (e.learns number bytes known) [
+    | inl h ↦ kept bytes (k.reported number bytes h)
     | inr t ↦ by_step s (Contains-append_right steps (s ∷ []) s (0, last, refl)) t
   ];
 }
@@ -56,7 +56,7 @@ taken_is_known_lem declared steps s m n k e = record {
     last : 0 < 1
     last = omega arith
 
-    kept : (bytes : List ℕ) → WereTold declared steps bytes → WereTold declared (steps ++ s ∷ []) bytes
+    kept : (bytes : List ℕ) → WereReported declared steps bytes → WereReported declared (steps ++ s ∷ []) bytes
     kept bytes (by_declaration entry has is) = by_declaration entry has is
     kept bytes (by_step x has t) = by_step x (Contains-append_left steps (s ∷ []) x has) t
 

@@ -59,17 +59,17 @@ ends_here marks place (Mark.TheVariants.End e) number answered below is at =
 
 -- ---- the messages
 
-pub response_told : (asked bytes : List ℕ) (request : RequestOf) (r : Result Response StepFault) → AreRequest asked request → AnswerRead request bytes r → ResponseSaid asked bytes r
-response_told asked bytes request (Ok response) said h = (request, said, h)
-response_told asked bytes request (Err (Unfit kind)) said (is, (item, reason, out)) = λ other response heard told.
+pub response_reported : (asked bytes : List ℕ) (request : RequestOf) (r : Result Response StepFault) → AreRequest asked request → AnswerRead request bytes r → ResponseSaid asked bytes r
+response_reported asked bytes request (Ok response) said h = (request, said, h)
+response_reported asked bytes request (Err (Unfit kind)) said (is, (item, reason, out)) = λ other response heard reported.
     let same : other ≡ request = same_message SaysRequest RequestFault asked other request heard said in
     let P : RequestOf → Type 0 = λ q. AreResponse q bytes response in
-    not_outside (λ t. SaysResponse t request) (λ t. ResponseFault t request) bytes response item reason (subst P same told) out
-response_told asked bytes request (Err Memory) said h = tt
+    not_outside (λ t. SaysResponse t request) (λ t. ResponseFault t request) bytes response item reason (subst P same reported) out
+response_reported asked bytes request (Err Memory) said h = tt
 
 pub request_unsaid : (asked : List ℕ) (number : ℤ) (fault : CheckFault) (n : ℤ) (side : Side) (o : Message.Outside) → fault ≡ Outside n side o → RequestRead number asked (Err fault)
     → (request : RequestOf) (response : ResponseOf) (bytes : List ℕ) → AreRequest asked request → AreResponse request bytes response → ⊥
-request_unsaid asked number fault n side o is h request response bytes said told =
+request_unsaid asked number fault n side o is h request response bytes said reported =
     let P : CheckFault → Type 0 = λ f. RequestRead number asked (Err f) in
     let there = subst P is h in
     not_outside SaysRequest RequestFault asked request o.item o.kind said there.2
@@ -100,7 +100,7 @@ pub answers_at : (turns : List Turn) (place : ℕ) (turn : Turn) (number : ℤ) 
     → AnswersAt (map turn_of turns) number bytes place
 answers_at turns place turn number bytes below is named answer = record { turn = turn_of turn; there = mapped_at turn_of turns place turn below is; named = named; answer = answer }
 
--- ---- where none is told
+-- ---- where none is reported
 
 none_of : (marks : List MarkOf) (turns : List TurnOf) (number : ℤ) → ((c : CallOf) (response : ResponseOf) → IsRecorded marks c → c.number ≡ number → c.response ≡ Some response → ⊥)
     → ((c : CallOf) (t : TurnOf) (bytes : List ℕ) (response : ResponseOf) → IsRecorded marks c → c.number ≡ number → c.response ≡ None → Contains turns t → t.call ≡ number → t.answer ≡ Some bytes
@@ -115,20 +115,20 @@ message_of_mark : (marks : List MarkOf) (turns : List TurnOf) (number : ℤ) (c 
 message_of_mark marks turns number c response is same had = by is.ended
   where
     by : IsEnded marks c → (bytes : List ℕ) × IsMessage marks turns number bytes × AreResponse c.request bytes response
-    by (has_ended end bytes other h says close told) =
+    by (has_ended end bytes other h says close reported) =
         let equal : other ≡ response = cc in
         let P : ResponseOf → Type 0 = λ r. AreResponse c.request bytes r in
         let Q : ℤ → Type 0 = λ n. HasEnd marks n end bytes in
         (bytes, of_mark end (subst Q same h), subst P equal says)
-    by (is_open none close told) = absurd cc
+    by (is_open none close reported) = absurd cc
 
 message_of_turn : (marks : List MarkOf) (turns : List TurnOf) (number : ℤ) (c : CallOf) (t : TurnOf) (bytes : List ℕ) → IsRecorded marks c → c.number ≡ number → c.response ≡ None → Contains turns t
     → t.call ≡ number → t.answer ≡ Some bytes → IsMessage marks turns number bytes
 message_of_turn marks turns number c t bytes is same had one named some = by is.ended (at_contains turns t one)
   where
     by : IsEnded marks c → (i : ℕ) × (slice_get turns i ≡ Some t) → IsMessage marks turns number bytes
-    by (has_ended end answered other h says close told) p = absurd cc
-    by (is_open none close told) p =
+    by (has_ended end answered other h says close reported) p = absurd cc
+    by (is_open none close reported) p =
         let Q : ℤ → Type 0 = λ n. (end : ℕ) (answered : List ℕ) → HasEnd marks n end answered → ⊥ in
         of_turn (subst Q same none) p.0 (record { turn = t; there = p.1; named = named; answer = some })
 
@@ -197,15 +197,15 @@ both_at lent lent' items taken turns n number asked bytes e e' g f b m =
     let T : ℤ → Type 0 = λ z. IsMessage (map mark_of items) (map turn_of turns) z bytes in
     record { begin = b.0; begins = subst Q f (subst P e b.1); message = subst T f (subst S g (subst R e' m)) }
 
-pub stamp_told : (items : List Mark) (turns : List Turn) (number : ℤ) (asked bytes : List ℕ) (response : Response) (stamp : ℤ) → BothAt items turns number asked bytes → ResponseSaid asked bytes (Ok response)
+pub stamp_reported : (items : List Mark) (turns : List Turn) (number : ℤ) (asked bytes : List ℕ) (response : Response) (stamp : ℤ) → BothAt items turns number asked bytes → ResponseSaid asked bytes (Ok response)
     → stamp ≡ response.stamp → IsAnsweredAt (map mark_of items) (map turn_of turns) number stamp
-stamp_told items turns number asked bytes response stamp both read e =
+stamp_reported items turns number asked bytes response stamp both read e =
     let P : ℤ → Type 0 = λ z. IsAnsweredAt (map mark_of items) (map turn_of turns) number z in
     subst P (sym e) (answered_at (map mark_of items) number asked both.begin both.begins read.0 read.1 (map turn_of turns) bytes (response_of response) both.message read.2)
 
-pub none_told : (items : List Mark) (turns : List Turn) (number : ℤ) (asked bytes : List ℕ) (fault : StepFault) (kind : WitnessKind) → BothAt items turns number asked bytes
+pub none_reported : (items : List Mark) (turns : List Turn) (number : ℤ) (asked bytes : List ℕ) (fault : StepFault) (kind : WitnessKind) → BothAt items turns number asked bytes
     → fault ≡ Unfit kind → ResponseSaid asked bytes (Err fault) → TellsStamp (map mark_of items) (map turn_of turns) number None
-none_told items turns number asked bytes fault kind both e read =
+none_reported items turns number asked bytes fault kind both e read =
     let P : StepFault → Type 0 = λ f. ResponseSaid asked bytes (Err f) in
     unsaid (map mark_of items) (map turn_of turns) number asked bytes both.begin both.begins both.message (subst P e read)
 

@@ -1,4 +1,4 @@
--- The calls of a transcript begin in their order, and end behind their begins.
+-- The calls of a transcript begin in their order, and end after their begins.
 use Rattle.std.proofs.Common.{◌≡◌, ◌<◌, ◌≤◌, inl, inr, ℕ, zero, suc, ℤ, List, [], ◌∷◌, length, take, drop, get_or, Contains, Some, slice_get, refl, ap, subst, arith}
 use Rattle.std.proofs.lemmas.Option.{slice_get-get_or}
 use Rattle.kmipa_record.specs.Marks.{MarkOf, begins, ends, begun, AreRecorded}
@@ -38,7 +38,7 @@ more_begun (m ∷ marks) (suc j) zero h = absurd (omega (arith, h))
 more_begun (begins n client asked ∷ marks) (suc j) (suc k) h = omega (arith, more_begun marks j k (omega (arith, h)))
 more_begun (ends n answered ∷ marks) (suc j) (suc k) h = more_begun marks j k (omega (arith, h))
 
-behind : {X : Type 0} (xs : List X) (i j : ℕ) (x : X) → slice_get (take j xs) i ≡ Some x → (i < j) × (slice_get xs i ≡ Some x)
+after : {X : Type 0} (xs : List X) (i j : ℕ) (x : X) → slice_get (take j xs) i ≡ Some x → (i < j) × (slice_get xs i ≡ Some x)
 behind [] i zero x at = absurd cc
 behind [] i (suc j) x at = absurd cc
 behind (y ∷ xs) i zero x at = absurd cc
@@ -89,8 +89,8 @@ module _ (marks : List MarkOf) (r : AreRecorded marks) where
         by x x.ended
       where
         by : IsRecorded marks c → IsEnded marks c → c.begin < end
-        by x (has_ended e answered response h says ended told) = let same : e ≡ end = cc in omega (arith, begins_first c x e answered h, same)
-        by x (is_open none ended told) = absurd cc
+        by x (has_ended e answered response h says ended reported) = let same : e ≡ end = cc in omega (arith, begins_first c x e answered h, same)
+        by x (is_open none ended reported) = absurd cc
 
     pub calls_are_timed_lem : AreTimed calls
     calls_are_timed_lem = record { ascend = ascend; closed = closed }

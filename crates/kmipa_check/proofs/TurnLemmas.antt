@@ -76,10 +76,10 @@ module _ (rules : RulesOf) (order : List StepOf) (turn : ℕ) (c : StepOf) (ther
     pub turn_not_taken : (u : LedgerState) (r : CallRefusal) (result : Result (Option Refused) CheckFault) → (RunsBack order turn c → ⊥)
         → ((item : ℕ) (why : Why) → r ≡ refusal.Impossible item why → result ≡ Ok (Some (record { turn = turn + 1; call = c.number; item = item; why = why })))
         → (r ≡ refusal.Memory → result ≡ Err Memory) → CallTakenAlong rules s c.request c.response (order_of c) (Err r) u → TurnTaken rules order turn s.now result u.now
-    turn_not_taken u (refusal.Impossible item why) result stamped told full t =
+    turn_not_taken u (refusal.Impossible item why) result stamped reported full t =
         let P : Result (Option Refused) CheckFault → Type 0 = λ x. TurnTaken rules order turn s.now x u.now in
-        subst P (sym (told item why refl)) (turn_refused u item why stamped t)
-    turn_not_taken u refusal.Memory result stamped told full t =
+        subst P (sym (reported item why refl)) (turn_refused u item why stamped t)
+    turn_not_taken u refusal.Memory result stamped reported full t =
         let P : Result (Option Refused) CheckFault → Type 0 = λ x. TurnTaken rules order turn s.now x u.now in
         subst P (sym (full refl)) (λ declared is r. tt)
 

@@ -78,15 +78,15 @@ missing_counted named calls number missing numbered =
     let Q : Call → Type 0 = λ c. pos 1 ≤ℤ c.number in
     subst P (ap number_of m.2 ∙ r.is) (subst Q (get_or_from_slice_get calls r.place m.0 m.0 m.1) (numbered r.place m.0 (slice_get_within calls r.place m.0 m.1)))
 
--- a number from 1 on is told as it is
-pub told_number : {E : Type 0} (r : Result ℕ E) (number : ℤ) (at : ℕ) → OkIff r (FitsUnsignedBits 64 number) (unsigned_abs number) → at ≡ result_unwrap_or r 0 → pos 1 ≤ℤ number → SFits w32 number → number ≡ pos at
-told_number (Ok x) (pos n) at told is one fits = ap pos (sym (is ∙ told.1))
-told_number (Ok x) (negsuc n) at told is one fits = absurd told.0
-told_number (Err e) (pos n) at told is one fits =
+-- a number from 1 on is reported as it is
+pub reported_number : {E : Type 0} (r : Result ℕ E) (number : ℤ) (at : ℕ) → OkIff r (FitsUnsignedBits 64 number) (unsigned_abs number) → at ≡ result_unwrap_or r 0 → pos 1 ≤ℤ number → SFits w32 number → number ≡ pos at
+reported_number (Ok x) (pos n) at reported is one fits = ap pos (sym (is ∙ reported.1))
+reported_number (Ok x) (negsuc n) at reported is one fits = absurd reported.0
+reported_number (Err e) (pos n) at reported is one fits =
     let small : n < 2147483648 = fits.sfits in
     let fitting : n < 18446744073709551616 = omega (arith, small) in
-    absurd (told fitting)
-told_number (Err e) (negsuc n) at told is one fits = absurd one.le
+    absurd (reported fitting)
+reported_number (Err e) (negsuc n) at reported is one fits = absurd one.le
 
 -- no call that has ended is without one
 placed_case : (named : FirstPlaces) (x : CallOf) (calls : List CallOf) (e v : Option ℕ) → x.end ≡ e → place_in named x.number ≡ v → missing_or e v x.number (first_missing named calls) ≡ None
@@ -133,9 +133,9 @@ module _ (turns : List Turn) (named : FirstPlaces) (names : Indexes (map (λ (t 
   not_left_out number None is some out = some refl
   not_left_out number (Some q) is some out = out (is_named number q is)
 
-  pub left_out_told : (calls : List CallOf) (steps : List StepOf) (number : ℤ) (at : ℕ) → AreFormed calls (map turn_of turns) (length turns) steps → first_missing named calls ≡ Some number
+  pub left_out_reported : (calls : List CallOf) (steps : List StepOf) (number : ℤ) (at : ℕ) → AreFormed calls (map turn_of turns) (length turns) steps → first_missing named calls ≡ Some number
       → number ≡ pos at → WitnessFaultAt calls (map turn_of turns) at LeftOut
-  left_out_told calls steps number at f missing is =
+  left_out_reported calls steps number at f missing is =
       let r = missing_is named calls number missing in
       let P : ℕ → Type 0 = λ n. AreFormedBelow calls (map turn_of turns) n in
       left_out r.place r.call (subst P (sym (length-map turns turn_of)) (formed_below calls (map turn_of turns) (length turns) steps f)) r.there
@@ -143,8 +143,8 @@ module _ (turns : List Turn) (named : FirstPlaces) (names : Indexes (map (λ (t 
       (λ other d below there out. not_left_out d.number (place_in named d.number) refl (r.earlier other d out.end below there out.ended) out.unnamed) (r.is ∙ is) refl
 
   -- where none is left out, the steps are those of the whole witness
-  pub order_told : (calls : List CallOf) (steps : List StepOf) → AreFormed calls (map turn_of turns) (length turns) steps → first_missing named calls ≡ None → IsOrder calls (map turn_of turns) steps
-  order_told calls steps f missing = record {
+  pub order_reported : (calls : List CallOf) (steps : List StepOf) → AreFormed calls (map turn_of turns) (length turns) steps → first_missing named calls ≡ None → IsOrder calls (map turn_of turns) steps
+  order_reported calls steps f missing = record {
     counted = f.counted ∙ sym (length-map turns turn_of);
     formed = f.each;
     all = λ c end one ended. by c end ended (at_contains calls c one);
@@ -204,10 +204,10 @@ one_answer : (c : CallOf) (t : TurnOf) (response other : ResponseOf) → IsAnswe
 one_answer c t response other (recorded had none) (recorded has nothing) = cc
 one_answer c t response other (recorded had none) (given bytes unended some says) = absurd cc
 one_answer c t response other (given bytes unended some says) (recorded had none) = absurd cc
-one_answer c t response other (given bytes unended some says) (given others lacks any told) =
+one_answer c t response other (given bytes unended some says) (given others lacks any reported) =
     let same : others ≡ bytes = cc in
     let P : List ℕ → Type 0 = λ bs. AreResponse c.request bs other in
-    same_message (λ u. SaysResponse u c.request) (λ u. ResponseFault u c.request) bytes response other says (subst P same told)
+    same_message (λ u. SaysResponse u c.request) (λ u. ResponseFault u c.request) bytes response other says (subst P same reported)
 
 -- an answer that says a response is not outside
 said_right : (c : CallOf) (bytes others : List ℕ) (response : ResponseOf) (item : ℕ) (reason : OutsideKind) → bytes ≡ others → AreResponse c.request bytes response

@@ -71,7 +71,7 @@ pub record AreCalls (marks : List MarkOf) (calls : List CallOf) : Type 0 where
   pub numbers : map (λ (c : CallOf). c.number) calls ≡ begun marks
   pub recorded : All (IsRecorded marks) calls
 
--- the calls begin one behind the other, and each ends behind its begin
+-- the calls begin one after the other, and each ends after its begin
 pub record AreTimed (calls : List CallOf) : Type 0 where
   pub ascend : AllPairs (λ (a b : CallOf). a.begin < b.begin) calls
   pub closed : (c : CallOf) (end : ℕ) → Contains calls c → c.end ≡ Some end → c.begin < end

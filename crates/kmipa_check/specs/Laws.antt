@@ -61,7 +61,7 @@ FilledIsCompleted = (request : RequestOf) (response full fuller : ResponseOf) (f
 
 -- ---- what a searcher stands on
 
--- the calls of a transcript begin one behind the other, and each ends behind its begin
+-- the calls of a transcript begin one after the other, and each ends after its begin
 abbrev pub CallsAreTimed : Type 0
 CallsAreTimed = (marks : List MarkOf) (calls : List CallOf) → AreRecorded marks → AreCalls marks calls → AreTimed calls
 
@@ -70,7 +70,7 @@ pub record MayBeNext (s : StepOf) (left : List StepOf) : Type 0 where
   pub first : (d : StepOf) → Contains left d → Before d s → ⊥
   pub least : (d : StepOf) → Contains left d → s.response.stamp ≤ℤ d.response.stamp
 
--- steps are placed exactly where each of them, as those ahead of it are taken, may be the next of those that are left
+-- steps are placed exactly where each of them, as those before it are taken, may be the next of those that are left
 abbrev pub PlacedOneByOne : Type 0
 PlacedOneByOne = (steps : List StepOf) → IsPlaced steps ↔ ((taken left : List StepOf) (s : StepOf) → steps ≡ taken ++ s ∷ left → MayBeNext s left)
 

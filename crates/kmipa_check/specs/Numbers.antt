@@ -35,7 +35,7 @@ abbrev pub or_else : Option ℕ → ℕ → Option ℕ
 or_else None place = Some place
 or_else (Some first) place = Some first
 
--- a number stands at a place behind the others
+-- a number stands at a place after the others
 pub record Noted (old new : FirstPlaces) (number : ℤ) (place : ℕ) : Type 0 where
   pub here : place_in new number ≡ or_else (place_in old number) place
   pub others : (other : ℤ) → other ≢ number → place_in new other ≡ place_in old other

@@ -19,7 +19,7 @@ known_declared e = record { rule = rule_of (card_declared e); bytes = e.bytes }
 abbrev pub held_declared : EntryOf → Material → Held
 held_declared e material = record { card = card_declared e; material = material }
 
--- with the object of an entry behind the others: without bytes where it has a Destroy Date, else with a secret of its own
+-- with the object of an entry after the others: without bytes where it has a Destroy Date, else with a secret of its own
 abbrev pub with_declared_at : Option ℤ → Meaning → EntryOf → Meaning
 with_declared_at (Some date) m e = record { objects = m.objects ++ held_declared e Gone ∷ []; secrets = m.secrets }
 with_declared_at None m e = record {
@@ -53,4 +53,4 @@ pub record Opened (entries : List EntryOf) (m : Meaning) : Type 0 where
   pub cards : cards_of m.objects ≡ map card_declared entries
   pub described : (c : Choice) → Chooses m.secrets c → AllZip IsDescribed entries (inv c m.objects)
   pub all : (things : List Thing) → IsInventory things → AllZip IsDescribed entries things → (c : Choice) × Chooses m.secrets c × (things ≡ inv c m.objects)
-  pub told : (number : ℕ) (bytes : List ℕ) → bytes_at m.secrets number ≡ Some (Some bytes) → (e : EntryOf) × Contains entries e × (e.bytes ≡ Some bytes)
+  pub reported : (number : ℕ) (bytes : List ℕ) → bytes_at m.secrets number ≡ Some (Some bytes) → (e : EntryOf) × Contains entries e × (e.bytes ≡ Some bytes)

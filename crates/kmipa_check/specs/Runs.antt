@@ -11,16 +11,16 @@ use Rattle.kmipa_check.specs.Steps.{StepOf, order_of, IsStep}
 use Rattle.kmipa_check.specs.Described.{Describes}
 use Rattle.kmipa_check.specs.Orders.{IsOrder}
 
--- there is an end, and it stands ahead of the place
+-- there is an end, and it stands before the place
 abbrev pub EndsAhead : Option ℕ → ℕ → Type 0
 EndsAhead None place = ⊥
 EndsAhead (Some end) place = end < place
 
--- the end mark of one call stands ahead of the begin mark of another; a call without an end is before nothing
+-- the end mark of one call stands before the begin mark of another; a call without an end is before nothing
 abbrev pub Before : StepOf → StepOf → Type 0
 Before a b = EndsAhead a.end b.begin
 
--- no step stands behind one that it is before, and stamps never fall
+-- no step stands after one that it is before, and stamps never fall
 pub record IsPlaced (steps : List StepOf) : Type 0 where
   pub kept : AllPairs (λ (a b : StepOf). ¬ (Before b a)) steps
   pub stamped : AllPairs (λ (a b : StepOf). a.response.stamp ≤ℤ b.response.stamp) steps
@@ -40,7 +40,7 @@ pub record TakeEachOnce (calls : List CallOf) (steps : List StepOf) : Type 0 whe
   pub once : AllPairs (λ (a b : StepOf). a.number ≢ b.number) steps
   pub all : (c : CallOf) (end : ℕ) → Contains calls c → c.end ≡ Some end → (s : StepOf) × Contains steps s × (s.number ≡ c.number)
 
--- a run of the calls by these steps, from this inventory: each call that has ended once, each open one at most once, none before one that it stands behind, stamps never falling
+-- a run of the calls by these steps, from this inventory: each call that has ended once, each open one at most once, none before one that it stands after, stamps never falling
 pub record IsRun (rules : RulesOf) (calls : List CallOf) (start : List Thing) (steps : List StepOf) : Type 0 where
   pub once : TakeEachOnce calls steps
   pub placed : IsPlaced steps

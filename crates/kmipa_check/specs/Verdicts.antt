@@ -69,9 +69,9 @@ pub record ArePossibleUpTo (declared : DeclarationOf) (order : List StepOf) (tur
   pub items : GoesUpTo (rules_declared declared) before c count
 
 -- the bytes were declared, or one of these steps registered or showed them
-pub data WereTold (declared : DeclarationOf) (steps : List StepOf) (bytes : List ℕ) : Type 0 where
-  by_declaration : (e : EntryOf) → Contains declared.entries e → e.bytes ≡ Some bytes → WereTold declared steps bytes
-  by_step : (s : StepOf) → Contains steps s → Tells (pairs_of s.request s.response) bytes → WereTold declared steps bytes
+pub data WereReported (declared : DeclarationOf) (steps : List StepOf) (bytes : List ℕ) : Type 0 where
+  by_declaration : (e : EntryOf) → Contains declared.entries e → e.bytes ≡ Some bytes → WereReported declared steps bytes
+  by_step : (s : StepOf) → Contains steps s → Tells (pairs_of s.request s.response) bytes → WereReported declared steps bytes
 
 -- what is known after these steps: one choice of bytes meets them all, and bytes are known that were declared, registered or shown
 pub record AreKnown (declared : DeclarationOf) (order : List StepOf) (m : Meaning) : Type 0 where
@@ -80,14 +80,14 @@ pub record AreKnown (declared : DeclarationOf) (order : List StepOf) (m : Meanin
   -- every inventory that a described one reaches is one of these
   pub complete : (start V : List Thing) → Describes declared start → Linked (rules_declared declared) start order V → (c : Choice) × Chooses m.secrets c × (V ≡ inv c m.objects)
   -- no other bytes are known
-  pub told : (number : ℕ) (bytes : List ℕ) → bytes_at m.secrets number ≡ Some (Some bytes) → WereTold declared order bytes
+  pub reported : (number : ℕ) (bytes : List ℕ) → bytes_at m.secrets number ≡ Some (Some bytes) → WereReported declared order bytes
 
 -- the turn is impossible where it stands, for the lower of two reasons
 pub data RefusedPlace (order : List StepOf) (turn : ℕ) (c : StepOf) (why : Why) : Type 0 where
   late : IsLate order turn c → why ≡ EarlierCallLate → RefusedPlace order turn c why
   runs_back : (IsLate order turn c → ⊥) → RunsBack order turn c → why ≡ StampRunsBack → RefusedPlace order turn c why
 
--- so many items are possible, with one more they are not, and this item, counted from 1, is told with the lowest reason
+-- so many items are possible, with one more they are not, and this item, counted from 1, is reported with the lowest reason
 pub record RefusedItem (declared : DeclarationOf) (order : List StepOf) (turn : ℕ) (c : StepOf) (count item : ℕ) (why : Why) : Type 0 where
   pub before : ArePossibleUpTo declared order turn c count
   pub never : ArePossibleUpTo declared order turn c (count + 1) → ⊥
@@ -103,7 +103,7 @@ pub data RefusedAt (declared : DeclarationOf) (order : List StepOf) (turn : ℕ)
 -- a no: the turns before are possible, and this one, counted from 1, of this call, is refused there
 pub record IsRefused (declared : DeclarationOf) (order : List StepOf) (r : Refused) : Type 0 where
   pub turn : ℕ
-  pub told : r.turn ≡ turn + 1
+  pub reported : r.turn ≡ turn + 1
   pub call : StepOf
   pub there : slice_get order turn ≡ Some call
   pub number : call.number ≡ r.call

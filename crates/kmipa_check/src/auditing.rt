@@ -87,7 +87,7 @@ pub fn audit<R: Read>(
     // What `audit_with` answers, but for the records.
     ensures audits { (t d w : List ℕ) → IsFileOf t transcript.new → IsFileOf d declaration.new → IsFileOf w witness.new
         → AuditsAs t d w (is_failed transcript.new) (is_failed declaration.new) (is_failed witness.new) result }
-    // So a yes is told only of accepted bytes.
+    // So a yes is reported only of accepted bytes.
     ensures accepted { IfOk result (λ verdict. verdict ≡ Verdict.Yes → AreAccepted (came_of transcript.new) (came_of declaration.new) (came_of witness.new)) }
     ensures ended { OnOk result (IsTrue (is_ended transcript.new) × IsTrue (is_ended declaration.new) × IsTrue (is_ended witness.new)) }
 {

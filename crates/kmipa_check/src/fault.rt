@@ -52,7 +52,7 @@ pub struct WitnessFault {
     pub kind: WitnessKind,
 }
 
-/// The kinds of faults of a witness. In one turn the first is told in the order 1, 2, 7, 8, 9, 10, 11, 4, 5, 6, and `LeftOut` behind all
+/// The kinds of faults of a witness. In one turn the first is reported in the order 1, 2, 7, 8, 9, 10, 11, 4, 5, 6, and `LeftOut` after all
 /// others.
 #[derive(Clone, Copy, Debug, PartialEq, Eq)]
 pub enum WitnessKind {

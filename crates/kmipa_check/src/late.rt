@@ -6,7 +6,7 @@ ghost use Rattle.kmipa_check.specs.Steps.{step_of};
 
 use crate::step::Step;
 
-/// The place of the first step that stands ahead of one whose call ended before its own began. One pass from the end: behind each place
+/// The place of the first step that stands before one whose call ended before its own began. One pass from the end: after each place
 /// the least end is known.
 pub fn first_late(steps: &[Step]) -> Option<usize>
     ensures { FirstLate (map step_of steps.now) result }
@@ -23,7 +23,7 @@ pub fn first_late(steps: &[Step]) -> Option<usize>
     late
 }
 
-/// Whether some end, if there is one, stands ahead of a begin.
+/// Whether some end, if there is one, stands before a begin.
 fn is_below(end: Option<usize>, begin: usize) -> bool
     ensures { result ≡ is_below end begin }
 {

@@ -29,17 +29,17 @@ pub fn one_answer()
     ensures { OneAnswer }
 {}
 
-/// The calls of a transcript begin one behind the other, and each ends behind its begin.
+/// The calls of a transcript begin one after the other, and each ends after its begin.
 pub fn calls_are_timed()
     ensures { CallsAreTimed }
 {}
 
-/// Steps are placed exactly where each may be taken next, when those ahead of it were taken.
+/// Steps are placed exactly where each may be taken next, when those before it were taken.
 pub fn placed_one_by_one()
     ensures { PlacedOneByOne }
 {}
 
-/// What is known stays known behind a call that is taken.
+/// What is known stays known after a call that is taken.
 pub fn taken_is_known()
     ensures { TakenIsKnown }
 {}

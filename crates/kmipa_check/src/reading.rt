@@ -139,7 +139,7 @@ pub fn answer_in<'a>(
     ensures { AnswerRead (request_of request.now) answer.now result }
 {
     let Ok(item) = whole_item(alloc, answer) else {
-        // Only want of memory is told.
+        // Only want of memory is reported.
         return Err(StepFault::Memory);
     };
     let Some(view) = item else {

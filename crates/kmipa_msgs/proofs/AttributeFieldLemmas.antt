@@ -17,7 +17,7 @@ use Rattle.kmipa_msgs.proofs.TableLemmas.{same_kind}
 reads_kind : (side : Side) (ts : Trees) (r : Result Attributes AttrFault) → Reads attr_number (SaysAttributes ts) (AttributesFault side ts) r
     → Reads kind_number (SaysAttributes ts) (GivenFault side (There ts)) (attribute_kind r)
 reads_kind side ts (Ok a) h = record { said = h.said; only = h.only; right = λ k w. h.right w.1.0 w.1.1 }
-reads_kind side ts (Err told) h = record { here = (refl, (told, h.here)); least = λ j lt w. same_kind j Attribute lt w.0 }
+reads_kind side ts (Err reported) h = record { here = (refl, (reported, h.here)); least = λ j lt w. same_kind j Attribute lt w.0 }
 
 pub reads_given : (side : Side) (f : Field Trees) → Reads kind_number (SaysGiven f) (GivenFault side f) (given_in side f)
 reads_given side Absent = record { said = refl; only = λ y e. e; right = λ k w. w }

@@ -94,8 +94,8 @@ low_part ts k f = elim f [
 abbrev Fault : Trees → OutsideKind → Type 0
 Fault ts k = PartFault ts k ⊎ ((k ≡ Disagree) × ((a : Attributes) × SaysNewKey ts a × (is_of_key a ≡ false)))
 
-told : (ts : Trees) (k : OutsideKind) → Fault ts k → CreateFault ts k
-told ts k f = elim f [
+reported : (ts : Trees) (k : OutsideKind) → Fault ts k → CreateFault ts k
+reported ts k f = elim f [
   | inl e ↦ elim e [
     | inl g ↦ elim g [
       | inl h ↦ elim h [ inl m ↦ elim m [ inl w ↦ in_object_type w | inr w ↦ in_type_number w.0 w.1 ] | inr w ↦ in_attribute_type w.0 w.1 ]
@@ -126,7 +126,7 @@ reads_create ts =
     (reads_as kind_number (λ a. SaysNewKey ts a × (is_of_key a ≡ true)) (Fault ts) (SaysCreate ts) (CreateFault ts) (λ a. a) r
     (λ a s. record { key = s.0; agrees = s.1 })
     (λ y t. (y, (t.key, t.agrees), refl))
-    (told ts) (back ts)
+    (reported ts) (back ts)
     (reads_passing kind_number (SaysNewKey ts) (PartFault ts) is_of_key Disagree (new_key_in ts) (λ k a w s. low_part ts k w) (reads_new_key ts)))
 
 -- the parts as the program has them

@@ -94,8 +94,8 @@ seen_got ts us types field id plain block rows e p t f i b u =
 
 -- AS IT IS WRITTEN
 
-got_object : (told : Option ℕ) (id : Option (List ℕ)) (s : ObjectType.ObjectType) (b : BlockOf)
-    → object_in (in_order (field Tree.enumeration object_type_tag told ∷ field Tree.text unique_identifier id ∷ Some (written_object s b) ∷ [])) ≡ Some (written_object s b)
+got_object : (reported : Option ℕ) (id : Option (List ℕ)) (s : ObjectType.ObjectType) (b : BlockOf)
+    → object_in (in_order (field Tree.enumeration object_type_tag reported ∷ field Tree.text unique_identifier id ∷ Some (written_object s b) ∷ [])) ≡ Some (written_object s b)
 unfolding object_in
 got_object None None s b = object_here s (Some (written_object s b)) None
 got_object None (Some x) s b = object_here s (Some (written_object s b)) None
@@ -114,22 +114,22 @@ no_type SecretData b = refl
 pub got_written : (g : GotOf) → SaysGot (in_order (got_fields g)) g
 unfolding as_text as_enumeration
 got_written g =
-    let told = option_map type_number g.object_type in
+    let reported = option_map type_number g.object_type in
     let object = Some (written_object g.shape g.block) ∷ [] in
-    let e = got_object told g.id g.shape g.block in
+    let e = got_object reported g.id g.shape g.block in
     record {
       object_type = maybe_type_listed (at as_enumeration object_type_tag (in_order (got_fields g))) g.object_type
-          (optional_written as_enumeration Tree.enumeration object_type_tag told (got_fields g) (field Tree.text unique_identifier g.id ∷ object)
+          (optional_written as_enumeration Tree.enumeration object_type_tag reported (got_fields g) (field Tree.text unique_identifier g.id ∷ object)
           refl (skipped Tree.text unique_identifier object_type_tag g.id object refl ∙ no_type g.shape g.block) (λ x. refl) refl);
       id =
           optional_written as_text Tree.text unique_identifier g.id (got_fields g) object
-          (skipped Tree.enumeration object_type_tag unique_identifier told (field Tree.text unique_identifier g.id ∷ object) refl) (no_other g.shape g.block) (λ x. refl) refl;
+          (skipped Tree.enumeration object_type_tag unique_identifier reported (field Tree.text unique_identifier g.id ∷ object) refl) (no_other g.shape g.block) (λ x. refl) refl;
       shape = shape_written (in_order (got_fields g)) g.shape g.block e;
       block = block_found (in_order (got_fields g)) g.shape g.block e;
     }
 
-got_filled : (told : Option ObjectType.ObjectType) (id : Option (List ℕ)) (g : GotOf)
-    → filled (Some (written_payload (got (record g { object_type = told; id = id })))) ≡ Some (written_payload (got (record g { object_type = told; id = id })))
+got_filled : (reported : Option ObjectType.ObjectType) (id : Option (List ℕ)) (g : GotOf)
+    → filled (Some (written_payload (got (record g { object_type = reported; id = id })))) ≡ Some (written_payload (got (record g { object_type = reported; id = id })))
 got_filled None None g = refl
 got_filled None (Some x) g = refl
 got_filled (Some m) None g = refl

@@ -40,10 +40,10 @@ pub reads_gated : {A B : Type 0} (b : Bool) (Said : A → Type 0) (Fault : Outsi
     → (b ≡ true → (x : A) → Said x → Told (make x)) → ((y : B) → Told y → (x : A) × (b ≡ true) × Said x × (y ≡ make x))
     → ((k : OutsideKind) → ((k ≡ NotAMessage) × (b ≡ false)) ⊎ Fault k → Flaw k) → ((k : OutsideKind) → Flaw k → ((k ≡ NotAMessage) × (b ≡ false)) ⊎ Fault k)
     → Reads kind_number Said Fault r → Reads kind_number Told Flaw (gated b (map_ok make r))
-reads_gated true Said Fault Told Flaw make r to from told back h =
-    reads_as kind_number Said Fault Told Flaw make r (to refl) (λ y t. let w = from y t in (w.0, w.2, w.3)) (λ k f. told k (inr f)) (λ k f. elim (back k f) [ inl w ↦ let e : true ≡ false = w.1 in cc | inr w ↦ w ]) h
-reads_gated false Said Fault Told Flaw make r to from told back h = record {
-  here = told NotAMessage (inl (refl, refl));
+reads_gated true Said Fault Told Flaw make r to from reported back h =
+    reads_as kind_number Said Fault Told Flaw make r (to refl) (λ y t. let w = from y t in (w.0, w.2, w.3)) (λ k f. reported k (inr f)) (λ k f. elim (back k f) [ inl w ↦ let e : true ≡ false = w.1 in cc | inr w ↦ w ]) h
+reads_gated false Said Fault Told Flaw make r to from reported back h = record {
+  here = reported NotAMessage (inl (refl, refl));
   least = λ j lt w. first_kind j lt;
 }
 

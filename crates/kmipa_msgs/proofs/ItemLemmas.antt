@@ -11,12 +11,12 @@ use Rattle.kmipa_attrs.proofs.FieldLemmas.{tag_of-view, left_at}
 use Rattle.kmipa_msgs.specs.declared.kind.OutsideKind.{OutsideKind}
 use Rattle.kmipa_msgs.specs.Outside.{before, each_in, from_one}
 
--- what is read behind other items
+-- what is read after other items
 abbrev pub prefixed : {X : Type 0} → List X → Result (List X) (ℕ × OutsideKind) → Result (List X) (ℕ × OutsideKind)
 prefixed xs (Ok ys) = Ok (xs ++ ys)
 prefixed xs (Err p) = Err (length xs + p.0, p.1)
 
--- the places behind those of a list
+-- the places after those of a list
 abbrev pub behind : {X A : Type 0} → List X → (ℕ → A) → ℕ → A
 behind [] f = f
 behind (x ∷ xs) f = behind xs (λ i. f (suc i))
@@ -47,7 +47,7 @@ every_at tag v ts b e = ap (λ (n : ℕ). cond (n == tag) (view_tree v ∷ every
 abbrev pub left_items : {X : Type 0} → (ℕ → Tree → Result X OutsideKind) → ℕ → List View → Result (List X) (ℕ × OutsideKind)
 left_items read i vs = each_in read (every batch_item (view_trees (drop i vs)))
 
--- the items so far, and those that are left behind them
+-- the items so far, and those that are left after them
 abbrev pub split_items : {X : Type 0} → (ℕ → Tree → Result X OutsideKind) → List X → ℕ → List View → Result (List X) (ℕ × OutsideKind)
 split_items read xs i vs = prefixed xs (left_items (behind xs read) i vs)
 

@@ -44,11 +44,11 @@ use denote.Bor.{Bor}
 -- THE REQUEST
 
 reads_kind : (ts us : Trees) (r : Result FilterOf AttrFault) → Reads attr_number (SaysLocate ts) (FilterFault us) r
-    → Reads kind_number (SaysLocate ts) (λ k. (k ≡ Attribute) × ((told : AttrFault) × FilterFault us told)) (filter_kind r)
+    → Reads kind_number (SaysLocate ts) (λ k. (k ≡ Attribute) × ((reported : AttrFault) × FilterFault us reported)) (filter_kind r)
 reads_kind ts us (Ok q) h = record { said = h.said; only = h.only; right = λ k w. h.right w.1.0 w.1.1 }
-reads_kind ts us (Err told) h = record { here = (refl, (told, h.here)); least = λ j lt w. same_kind j Attribute lt w.0 }
+reads_kind ts us (Err reported) h = record { here = (refl, (reported, h.here)); least = λ j lt w. same_kind j Attribute lt w.0 }
 
-reads_sought : (ts : Trees) → Reads kind_number (SaysLocate ts) (λ k. (k ≡ Attribute) × ((told : AttrFault) × FilterFault (inside attributes_tag ts) told)) (sought_in ts)
+reads_sought : (ts : Trees) → Reads kind_number (SaysLocate ts) (λ k. (k ≡ Attribute) × ((reported : AttrFault) × FilterFault (inside attributes_tag ts) reported)) (sought_in ts)
 reads_sought ts = reads_kind ts (inside attributes_tag ts) (filter_in (value_in (at as_integer maximum_items ts)) (has_unknown ts) (inside attributes_tag ts)) (reads_filter (value_in (at as_integer maximum_items ts)) (has_unknown ts) (inside attributes_tag ts))
 
 pub reads_locate : (ts : Trees) → Reads kind_number (SaysLocate ts) (LocateFault ts) (locate_in ts)
@@ -65,7 +65,7 @@ reads_locate ts =
       | in_maximum e w ↦ inl (inl (inl (e, w)))
       | in_attributes e w ↦ inl (inl (inr (e, w)))
       | in_type_number e w ↦ inl (inr (e, w))
-      | in_filter told e w ↦ inr (e, (told, w))
+      | in_filter reported e w ↦ inr (e, (reported, w))
     ])
     (reads_both kind_number _ _ _ _ _ _
     (reads_both kind_number _ _ _ _ _ _

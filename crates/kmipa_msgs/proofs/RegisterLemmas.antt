@@ -112,11 +112,11 @@ reads_register ts =
     (passing agrees Disagree (brought_in ts))
     (λ b s. record { brought = subst (SaysBrought ts) (same_shape b s.1) s.0; agrees = ap agrees (sym (same_shape b s.1)) ∙ s.1 })
     (λ y t. (brought_by y, (t.brought, t.agrees), refl))
-    told back
+    reported back
     (reads_passing kind_number (SaysBrought ts) (PartFault ts) agrees Disagree (brought_in ts) (λ k b w s. low_part ts k w) (reads_brought ts))
   where
-    told : (k : OutsideKind) → PartFault ts k ⊎ ((k ≡ Disagree) × ((b : BroughtOf) × SaysBrought ts b × (agrees b ≡ false))) → RegisterFault ts k
-    told k f = elim f [
+    reported : (k : OutsideKind) → PartFault ts k ⊎ ((k ≡ Disagree) × ((b : BroughtOf) × SaysBrought ts b × (agrees b ≡ false))) → RegisterFault ts k
+    reported k f = elim f [
       | inl g ↦ elim g [
         | inl h ↦ elim h [
           | inl m ↦ elim m [
@@ -204,13 +204,13 @@ registered_written r = record {
       (skipped Tree.enumeration object_type_tag unique_identifier r.object_type (field Tree.text unique_identifier (Some r.id) ∷ []) refl) refl;
 }
 
-with_told : (told : Option ℕ) (r : RegisteredOf)
-    → filled (Some (written_payload (registered (record r { object_type = told })))) ≡ Some (written_payload (registered (record r { object_type = told })))
-with_told None r = refl
-with_told (Some n) r = refl
+with_reported : (reported : Option ℕ) (r : RegisteredOf)
+    → filled (Some (written_payload (registered (record r { object_type = reported })))) ≡ Some (written_payload (registered (record r { object_type = reported })))
+with_reported None r = refl
+with_reported (Some n) r = refl
 
 pub registered_filled : (r : RegisteredOf) → filled (Some (written_payload (registered r))) ≡ Some (written_payload (registered r))
-registered_filled r = with_told r.object_type r
+registered_filled r = with_reported r.object_type r
 
 -- ITS ROW
 

@@ -109,7 +109,7 @@ reads_some : (operation : Operation) (t : Tree) (Said : Option PayloadOf → Typ
     → ((x : PayloadOf) → SaysPayloadOf operation t x → Said (Some x)) → ((y : Option PayloadOf) → Said y → (x : PayloadOf) × SaysPayloadOf operation t x × (y ≡ Some x))
     → ((k : OutsideKind) → PayloadOfFault operation t k → Fault k) → ((k : OutsideKind) → Fault k → PayloadOfFault operation t k)
     → Reads kind_number Said Fault (map_ok Some (payload_in operation t))
-reads_some operation t Said Fault to from told back = reads_as kind_number (SaysPayloadOf operation t) (PayloadOfFault operation t) Said Fault (λ p. Some p) (payload_in operation t) to from told back (reads_payload operation t)
+reads_some operation t Said Fault to from reported back = reads_as kind_number (SaysPayloadOf operation t) (PayloadOfFault operation t) Said Fault (λ p. Some p) (payload_in operation t) to from reported back (reads_payload operation t)
 
 reads_required : (operation : Operation) (t : Option Tree) → Reads kind_number (SaysRequired operation t) (RequiredFault operation t) (required_in operation t)
 reads_required operation None = record { here = refl; least = λ j lt w. same_kind j Missing lt w }

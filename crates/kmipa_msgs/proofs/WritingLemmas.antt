@@ -4,7 +4,7 @@ use Rattle.std.proofs.lemmas.List.{map-append}
 use Rattle.kmipa_ttlv.specs.Tree.{Tree, Trees, more, push, forest}
 use Rattle.kmipa_ttlv.proofs.StandsLemmas.{forest-push}
 
--- one item more behind a header
+-- one item more after a header
 pub one_more : {X Y : Type 0} (seen : X → Y) (made : Y → Tree) (header : Tree) (i : ℕ) (xs : List X) (x : X) (fields next : Trees) (t : Tree)
     → take (i + 1) xs ≡ take i xs ++ x ∷ [] → fields ≡ more header (forest made (map seen (take i xs))) → t ≡ made (seen x) → next ≡ push fields t
     → next ≡ more header (forest made (map seen (take (i + 1) xs)))

@@ -58,7 +58,7 @@ optional_here how kind n None rest good same e = ap (typed how) e
 optional_here {A} how kind n (Some x) rest good same e =
     ap (λ (b : Bool). typed how (cond b (Some (scalar n (kind x))) (find n rest))) same ∙ ap (λ (v : Option A). field_of (Some v)) (good x)
 
--- a field that may be absent, behind others
+-- a field that may be absent, after others
 pub optional_written : {A : Type 0} (how : Tree → Option A) (kind : A → Scalar) (n : ℕ) (o : Option A) (fields rest : List (Option Tree))
     → find n fields ≡ find n (field kind n o ∷ rest) → find n rest ≡ None → ((x : A) → how (scalar n (kind x)) ≡ Some x) → (n == n) ≡ true
     → Optional (at how n (in_order fields)) o

@@ -19,7 +19,7 @@ use Rattle.kmipa_msgs.specs.Outside.{SaysEach}
 use Rattle.kmipa_msgs.specs.Asks.{TellsOperation, SaysAsked, SaysAsk}
 use Rattle.kmipa_msgs.specs.Requests.{SaysOption, SaysOrder, SaysHeader, header_of, request_header, SaysRequest}
 use Rattle.kmipa_msgs.specs.WrittenFields.{in_order, field}
-use Rattle.kmipa_msgs.specs.Written.{told_option, told_order, written_asked, ask_fields, written_ask, request_header_fields, written_request}
+use Rattle.kmipa_msgs.specs.Written.{stated_option, stated_order, written_asked, ask_fields, written_ask, request_header_fields, written_request}
 use Rattle.kmipa_msgs.specs.Rows.{asked_fields}
 use Rattle.kmipa_msgs.specs.Writable.{IsWritableAsked, IsWritable}
 use Rattle.kmipa_msgs.proofs.WrittenFieldLemmas.{skipped, optional_written, required_written, inside_written, value_written}
@@ -58,12 +58,12 @@ ask_written t a w h =
 
 -- THE HEADER
 
-option_said : (f : Field ℕ) (o : BatchOption) → Optional f (told_option o) → SaysOption f o
+option_said : (f : Field ℕ) (o : BatchOption) → Optional f (stated_option o) → SaysOption f o
 option_said f Continue e = subst (λ (g : Field ℕ). SaysOption g Continue) (sym e) refl
 option_said f Stop e = subst (λ (g : Field ℕ). SaysOption g Stop) (sym e) refl
 option_said f Undo e = subst (λ (g : Field ℕ). SaysOption g Undo) (sym e) refl
 
-order_said : (f : Field Bool) (b : Bool) → Optional f (told_order b) → SaysOrder f b
+order_said : (f : Field Bool) (b : Bool) → Optional f (stated_order b) → SaysOrder f b
 order_said f true e = subst (λ (g : Field Bool). SaysOrder g true) (sym e) refl
 order_said f false e = subst (λ (g : Field Bool). SaysOrder g false) (sym e) refl
 
@@ -84,23 +84,23 @@ unfolding as_integer
 counted r =
     let count = field Tree.integer batch_count (Some (pos (length r.items))) ∷ [] in
     required_written as_integer batch_count (request_header_fields r) (scalar batch_count (Tree.integer (pos (length r.items)))) (pos (length r.items))
-    (skipped Tree.enumeration batch_error_continuation_option batch_count (told_option r.option) (field Tree.boolean batch_order_option (told_order r.ordered) ∷ count) refl
-    ∙ skipped Tree.boolean batch_order_option batch_count (told_order r.ordered) count refl)
+    (skipped Tree.enumeration batch_error_continuation_option batch_count (stated_option r.option) (field Tree.boolean batch_order_option (stated_order r.ordered) ∷ count) refl
+    ∙ skipped Tree.boolean batch_order_option batch_count (stated_order r.ordered) count refl)
     refl
 
-option_written : (r : RequestOf) → Optional (at as_enumeration batch_error_continuation_option (in_order (request_header_fields r))) (told_option r.option)
+option_written : (r : RequestOf) → Optional (at as_enumeration batch_error_continuation_option (in_order (request_header_fields r))) (stated_option r.option)
 unfolding as_enumeration
 option_written r =
     let count = field Tree.integer batch_count (Some (pos (length r.items))) ∷ [] in
-    optional_written as_enumeration Tree.enumeration batch_error_continuation_option (told_option r.option) (request_header_fields r) (field Tree.boolean batch_order_option (told_order r.ordered) ∷ count)
-    refl (skipped Tree.boolean batch_order_option batch_error_continuation_option (told_order r.ordered) count refl) (λ x. refl) refl
+    optional_written as_enumeration Tree.enumeration batch_error_continuation_option (stated_option r.option) (request_header_fields r) (field Tree.boolean batch_order_option (stated_order r.ordered) ∷ count)
+    refl (skipped Tree.boolean batch_order_option batch_error_continuation_option (stated_order r.ordered) count refl) (λ x. refl) refl
 
-order_written : (r : RequestOf) → Optional (at as_boolean batch_order_option (in_order (request_header_fields r))) (told_order r.ordered)
+order_written : (r : RequestOf) → Optional (at as_boolean batch_order_option (in_order (request_header_fields r))) (stated_order r.ordered)
 unfolding as_boolean
 order_written r =
     let count = field Tree.integer batch_count (Some (pos (length r.items))) ∷ [] in
-    optional_written as_boolean Tree.boolean batch_order_option (told_order r.ordered) (request_header_fields r) count
-    (skipped Tree.enumeration batch_error_continuation_option batch_order_option (told_option r.option) (field Tree.boolean batch_order_option (told_order r.ordered) ∷ count) refl) refl (λ x. refl) refl
+    optional_written as_boolean Tree.boolean batch_order_option (stated_order r.ordered) (request_header_fields r) count
+    (skipped Tree.enumeration batch_error_continuation_option batch_order_option (stated_option r.option) (field Tree.boolean batch_order_option (stated_order r.ordered) ∷ count) refl) refl (λ x. refl) refl
 
 header_written : (t : Tree) (r : RequestOf) → SaysRequest t r → SaysHeader (written_request r) (header_of r)
 header_written t r h = record {
@@ -110,9 +110,9 @@ header_written t r h = record {
       (each_length (λ place. SaysAsk) (batch t) r.items h.items) (ap length (batch_written r) ∙ length-map r.items written_ask)
       (ap (at as_integer batch_count) (header_inside r) ∙ counted r);
   option = option_said (at as_enumeration batch_error_continuation_option (request_header (written_request r))) r.option
-      (subst (λ (hs : Trees). Optional (at as_enumeration batch_error_continuation_option hs) (told_option r.option)) (sym (header_inside r)) (option_written r));
+      (subst (λ (hs : Trees). Optional (at as_enumeration batch_error_continuation_option hs) (stated_option r.option)) (sym (header_inside r)) (option_written r));
   ordered = order_said (at as_boolean batch_order_option (request_header (written_request r))) r.ordered
-      (subst (λ (hs : Trees). Optional (at as_boolean batch_order_option hs) (told_order r.ordered)) (sym (header_inside r)) (order_written r));
+      (subst (λ (hs : Trees). Optional (at as_boolean batch_order_option hs) (stated_order r.ordered)) (sym (header_inside r)) (order_written r));
 }
 
 -- THE MESSAGE

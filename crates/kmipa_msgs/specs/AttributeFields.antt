@@ -19,7 +19,7 @@ SaysGiven (There ts) a = SaysAttributes ts a
 abbrev pub GivenFault : Side → Field Trees → OutsideKind → Type 0
 GivenFault side Absent k = ⊥
 GivenFault side Wrong k = k ≡ Missing
-GivenFault side (There ts) k = (k ≡ Attribute) × ((told : AttrFault) × AttributesFault side ts told)
+GivenFault side (There ts) k = (k ≡ Attribute) × ((reported : AttrFault) × AttributesFault side ts reported)
 
 -- two values that are both there are equal
 abbrev pub agree : {A : Type 0} → (A → A → Bool) → Option A → Option A → Bool
@@ -29,7 +29,7 @@ agree equal _ _ = true
 -- the reading
 abbrev pub attribute_kind : Result Attributes AttrFault → Result Attributes OutsideKind
 attribute_kind (Ok a) = Ok a
-attribute_kind (Err told) = Err Attribute
+attribute_kind (Err reported) = Err Attribute
 
 abbrev pub given_in : Side → Field Trees → Result Attributes OutsideKind
 given_in side Absent = Ok no_attributes

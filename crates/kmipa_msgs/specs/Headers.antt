@@ -53,7 +53,7 @@ abbrev pub Opens : ℕ → ℕ → Tree → Option (Bor (List View) × Bor (List
 Opens message header t None = is_message message header t ≡ false
 Opens message header t (Some p) = (is_message message header t ≡ true) × (view_trees p.0.now ≡ children t) × (view_trees p.1.now ≡ inside header (children t))
 
--- THE READING: nothing else is told of what is no message
+-- THE READING: nothing else is reported of what is no message
 abbrev pub gated : {A : Type 0} → Bool → Result A OutsideKind → Result A OutsideKind
 gated true r = r
 gated false r = Err NotAMessage

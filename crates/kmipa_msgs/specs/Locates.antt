@@ -41,12 +41,12 @@ pub data LocateFault (ts : Trees) (k : OutsideKind) : Type 0 where
   in_maximum : k ≡ Missing → IsWrong (at as_integer maximum_items ts) → LocateFault ts k
   in_attributes : k ≡ Missing → IsWrong (at as_structure attributes_tag ts) → LocateFault ts k
   in_type_number : k ≡ ObjectType → Unlisted (at as_enumeration object_type_tag (inside attributes_tag ts)) type_of → LocateFault ts k
-  in_filter : (told : AttrFault) → k ≡ Attribute → FilterFault (inside attributes_tag ts) told → LocateFault ts k
+  in_filter : (reported : AttrFault) → k ≡ Attribute → FilterFault (inside attributes_tag ts) reported → LocateFault ts k
 
 -- the reading
 abbrev pub filter_kind : Result FilterOf AttrFault → Result FilterOf OutsideKind
 filter_kind (Ok q) = Ok q
-filter_kind (Err told) = Err Attribute
+filter_kind (Err reported) = Err Attribute
 
 abbrev pub shape_rows : Trees → Result ((Unit {0} × Unit {0}) × Unit {0}) OutsideKind
 shape_rows ts =

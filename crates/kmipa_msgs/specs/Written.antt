@@ -53,21 +53,21 @@ written_response r = structure response_message (more (written_response_header r
 -- REQUESTS
 
 -- Stop is what an absent option means
-abbrev pub told_option : BatchOption → Option ℕ
-told_option Continue = Some (option_number Continue)
-told_option Stop = None
-told_option Undo = Some (option_number Undo)
+abbrev pub stated_option : BatchOption → Option ℕ
+stated_option Continue = Some (option_number Continue)
+stated_option Stop = None
+stated_option Undo = Some (option_number Undo)
 
 -- true is what an absent order means
-abbrev pub told_order : Bool → Option Bool
-told_order true = None
-told_order false = Some false
+abbrev pub stated_order : Bool → Option Bool
+stated_order true = None
+stated_order false = Some false
 
 abbrev pub request_header_fields : RequestOf → List (Option Tree)
 request_header_fields r =
     Some written_version ∷
-    field Tree.enumeration batch_error_continuation_option (told_option r.option) ∷
-    field Tree.boolean batch_order_option (told_order r.ordered) ∷
+    field Tree.enumeration batch_error_continuation_option (stated_option r.option) ∷
+    field Tree.boolean batch_order_option (stated_order r.ordered) ∷
     field Tree.integer batch_count (Some (pos (length r.items))) ∷
     []
 

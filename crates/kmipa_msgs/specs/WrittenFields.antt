@@ -11,7 +11,7 @@ abbrev pub with_field : Trees → Option Tree → Trees
 with_field ts None = ts
 with_field ts (Some t) = push ts t
 
--- the fields that are there, in their order, behind others
+-- the fields that are there, in their order, after others
 abbrev pub with_fields : Trees → List (Option Tree) → Trees
 with_fields ts [] = ts
 with_fields ts (field ∷ fields) = with_fields (with_field ts field) fields

@@ -27,7 +27,7 @@ pub enum ReadFault {
     Memory,
 }
 
-/// A kind that is told of no item is that of the message itself.
+/// A kind that is reported of no item is that of the message itself.
 impl From<OutsideKind> for ReadFault {
     ghost from_gives = { λ kind e. e ≡ TheVariants.Outside (record { item = 0; kind = kind }) };
 

@@ -4,7 +4,7 @@ ghost use Rattle.std.specs.Prelude.{◌≡◌};
 
 use kmipa_attrs::Numbered;
 
-/// What a message has that the profile leaves out. Of several at one item the lowest number is told.
+/// What a message has that the profile leaves out. Of several at one item the lowest number is reported.
 #[derive(Clone, Copy, Debug, PartialEq, Eq)]
 pub enum OutsideKind {
     /// The bytes aren't one item, or the item isn't a message of this side with its header.

@@ -1,4 +1,4 @@
-//! Messages from views. Of several reasons to be outside at one item the lowest kind is told, in whatever order the fields are met.
+//! Messages from views. Of several reasons to be outside at one item the lowest kind is reported, in whatever order the fields are met.
 
 mod activate;
 mod answer;

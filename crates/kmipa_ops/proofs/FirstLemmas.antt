@@ -23,7 +23,7 @@ module _ {X : Type 0} where
   cond_none true x r e = let bad : ⊥ = cc in absurd bad
   cond_none false x r e = (refl, e)
 
-  -- of two lists one behind the other
+  -- of two lists one after the other
   pub find-append : (p : X → Bool) (xs ys : List X) → find p (xs ++ ys) ≡ option_or (find p xs) (find p ys)
   find-append p [] ys = refl
   find-append p (x ∷ xs) ys = ap (λ (o : Option X). cond (p x) (Some x) o) (find-append p xs ys) ∙ cond_or (p x) x (find p xs) (find p ys)

@@ -26,7 +26,7 @@ newborn t id kind a = record {
 abbrev pub name_taken : RulesOf → List Card → List NameOf → Bool
 name_taken rules cs names = rules.unique_names && any_live_named cs names
 
--- Create or Register succeeds: a new object with these bytes stands behind the others
+-- Create or Register succeeds: a new object with these bytes stands after the others
 pub record AddsObject (rules : RulesOf) (V : List Thing) (t : ℤ) (kind : ObjectType) (a : Attributes) (bytes : List ℕ) (x : RegisteredOf) (V' : List Thing) (after : Option (List ℕ)) : Type 0 where
   -- no object has the answered identifier, destroyed or not
   pub free : place_of x.id (cards V) ≡ None

@@ -106,7 +106,7 @@ no_row_left (f ∷ entries) (b ∷ before) after r e =
     let tail : map entry entries ≡ before ++ row r ∷ after = cc in
     no_row_left entries before after r tail
 
--- no entry stands ahead of a row
+-- no entry stands before a row
 none_ahead : (rows : List RowOf) (entries : List EntryOf) (before after : List RecordOf) (r : RowOf) → map row rows ++ map entry entries ≡ before ++ row r ∷ after → entries_among before ≡ []
 unfolding entries_among
 none_ahead rows entries [] after r e = refl

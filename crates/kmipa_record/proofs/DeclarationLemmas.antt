@@ -13,7 +13,7 @@ use Rattle.kmipa_record.specs.declared.fault.RecordFault.{RecordFault}
 use Rattle.kmipa_record.specs.declared.fault.RecordKind.{RecordKind}
 use Rattle.kmipa_record.specs.declared.fault.RecordKind.TheVariants.{Entry, Identifier, Memory}
 use Rattle.kmipa_record.specs.declared.records.Records.{Records}
-use Rattle.kmipa_record.proofs.FileLemmas.{goes_on, ends_here, starts, Stands, tells_read, item_told, right_here, tells_header}
+use Rattle.kmipa_record.proofs.FileLemmas.{goes_on, ends_here, starts, Stands, tells_read, item_reported, right_here, tells_header}
 
 pub objects : (unique : Bool) (records : Records) → AreKept records → AreDeclared (declared_by unique records)
 objects unique records kept = record { each = kept.each; distinct = kept.distinct }
@@ -53,38 +53,38 @@ pub read_fails : (file : List ℕ) (declared : DeclarationOf) (left : List ℕ) 
 read_fails file declared left place failed f are s h =
     tells_read AreRightInDeclaration DeclarationItemFault DeclarationEndFault file (items_of declared s.items) left place failed f (stands file declared left place are s) h
 
-record_told : (file : List ℕ) (declared : DeclarationOf) (item : Tree) (left after : List ℕ) (place place' : ℕ) (kind : RecordKind) → AreDeclared declared
+record_reported : (file : List ℕ) (declared : DeclarationOf) (item : Tree) (left after : List ℕ) (place place' : ℕ) (kind : RecordKind) → AreDeclared declared
     → IsReadSoFar file declared left place → Takes item left after place place' → RecordItemFault declared item kind → DeclarationFault file place kind
-record_told file declared item left after place place' kind are s t wrong =
-    item_told AreRightInDeclaration DeclarationItemFault DeclarationEndFault file (items_of declared s.items) item left after place place' kind (stands file declared left place are s) t
+record_reported file declared item left after place place' kind are s t wrong =
+    item_reported AreRightInDeclaration DeclarationItemFault DeclarationEndFault file (items_of declared s.items) item left after place place' kind (stands file declared left place are s) t
     (declared, say file declared left place are s, wrong)
 
-pub no_record_told : (file : List ℕ) (declared : DeclarationOf) (item : Tree) (left after : List ℕ) (place place' : ℕ) (failed : Bool) → AreDeclared declared
+pub no_record_reported : (file : List ℕ) (declared : DeclarationOf) (item : Tree) (left after : List ℕ) (place place' : ℕ) (failed : Bool) → AreDeclared declared
     → IsReadSoFar file declared left place → Takes item left after place place' → ¬ (IsRecord item)
     → Tells DeclarationFault IsDeclarationUpTo file failed (record { offset = place; kind = Entry })
-no_record_told file declared item left after place place' failed are s t none =
-    record_told file declared item left after place place' Entry are s t (no_record (λ r e. none (row r, (e, tt))) (λ e said fit. none (entry e, (said, fit))) refl)
+no_record_reported file declared item left after place place' failed are s t none =
+    record_reported file declared item left after place place' Entry are s t (no_record (λ r e. none (row r, (e, tt))) (λ e said fit. none (entry e, (said, fit))) refl)
 
-told_as : (file : List ℕ) (failed : Bool) (place : ℕ) (kind j : RecordKind) → kind ≡ j → Tells DeclarationFault IsDeclarationUpTo file failed (record { offset = place; kind = j })
+reported_as : (file : List ℕ) (failed : Bool) (place : ℕ) (kind j : RecordKind) → kind ≡ j → Tells DeclarationFault IsDeclarationUpTo file failed (record { offset = place; kind = j })
     → Tells DeclarationFault IsDeclarationUpTo file failed (record { offset = place; kind = kind })
-told_as file failed place kind j e h = subst (λ (k : RecordKind). Tells DeclarationFault IsDeclarationUpTo file failed (record { offset = place; kind = k })) (sym e) h
+reported_as file failed place kind j e h = subst (λ (k : RecordKind). Tells DeclarationFault IsDeclarationUpTo file failed (record { offset = place; kind = k })) (sym e) h
 
 -- a fault that a record has, or memory that ran out
-told_of : (file : List ℕ) (old : Records) (unique : Bool) (item : Tree) (r : RecordOf) (failed : Bool) (place : ℕ) (kind : RecordKind) → IsDeclarationUpTo file place
+reported_of : (file : List ℕ) (old : Records) (unique : Bool) (item : Tree) (r : RecordOf) (failed : Bool) (place : ℕ) (kind : RecordKind) → IsDeclarationUpTo file place
     → ((k : RecordKind) → RecordItemFault (declared_by unique old) item k → DeclarationFault file place k) → SaysFit item r → Refuses old r kind
     → Tells DeclarationFault IsDeclarationUpTo file failed (record { offset = place; kind = kind })
-told_of file old unique item (row r) failed place kind here wrong says (inl m) = told_as file failed place kind Memory m here
-told_of file old unique item (row r) failed place kind here wrong says (inr f) = told_as file failed place kind Entry f.0 (wrong Entry (late_row r says.0 f.1 refl))
-told_of file old unique item (entry e) failed place kind here wrong says (inl m) = told_as file failed place kind Memory m here
-told_of file old unique item (entry e) failed place kind here wrong says (inr f) = told_as file failed place kind Identifier f.0 (wrong Identifier (used e says.0 says.1 f.1 refl))
+reported_of file old unique item (row r) failed place kind here wrong says (inl m) = reported_as file failed place kind Memory m here
+reported_of file old unique item (row r) failed place kind here wrong says (inr f) = reported_as file failed place kind Entry f.0 (wrong Entry (late_row r says.0 f.1 refl))
+reported_of file old unique item (entry e) failed place kind here wrong says (inl m) = reported_as file failed place kind Memory m here
+reported_of file old unique item (entry e) failed place kind here wrong says (inr f) = reported_as file failed place kind Identifier f.0 (wrong Identifier (used e says.0 says.1 f.1 refl))
 
-pub refused_told : (file : List ℕ) (old : Records) (unique : Bool) (r : RecordOf) (item : Tree) (left after : List ℕ) (place place' : ℕ) (failed : Bool) (kind : RecordKind)
+pub refused_reported : (file : List ℕ) (old : Records) (unique : Bool) (r : RecordOf) (item : Tree) (left after : List ℕ) (place place' : ℕ) (failed : Bool) (kind : RecordKind)
     → AreKept old → IsReadSoFar file (declared_by unique old) left place → Takes item left after place place' → SaysFit item r → Refuses old r kind
     → Tells DeclarationFault IsDeclarationUpTo file failed (record { offset = place; kind = kind })
-refused_told file old unique r item left after place place' failed kind kept s t says refusal =
+refused_reported file old unique r item left after place place' failed kind kept s t says refusal =
     let are = objects unique old kept in
-    told_of file old unique item r failed place kind (right_here AreRightInDeclaration file (items_of (declared_by unique old) s.items) left place (stands file (declared_by unique old) left place are s))
-    (λ k wrong. record_told file (declared_by unique old) item left after place place' k are s t wrong) says refusal
+    reported_of file old unique item r failed place kind (right_here AreRightInDeclaration file (items_of (declared_by unique old) s.items) left place (stands file (declared_by unique old) left place are s))
+    (λ k wrong. record_reported file (declared_by unique old) item left after place place' k are s t wrong) says refusal
 
 -- one more record
 all_said : (items : List Tree) (rs : List RecordOf) (item : Tree) (r : RecordOf) → AllZip SaysRecord items rs → SaysRecord item r → AllZip SaysRecord (items ++ item ∷ []) (rs ++ r ∷ [])

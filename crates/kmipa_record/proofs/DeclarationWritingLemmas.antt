@@ -193,7 +193,7 @@ pub written : (declared : DeclarationOf) (old new : List ℕ) → MayStandTogeth
     → Appends (IsWrittenDeclaration declared) old new
 written declared old new together all = record {
   appended = flat_map spelling (declaration_header declared.unique_names ∷ items_of declared);
-  behind = all.behind;
+  after = all.after;
   is = record {
     padded = record { items = declaration_header declared.unique_names ∷ items_of declared; are = refl };
     is = record {
@@ -213,7 +213,7 @@ written declared old new together all = record {
 
 pub adds_joined : (xs ys : List Tree) (old mid new : List ℕ) → AddsAll xs old mid → AddsAll ys mid new → AddsAll (xs ++ ys) old new
 adds_joined xs ys old mid new a b = record {
-  behind = b.behind ∙ ap (λ (l : List ℕ). l ++ flat_map spelling ys) a.behind ∙ append_assoc old (flat_map spelling xs) (flat_map spelling ys)
+  after = b.after ∙ ap (λ (l : List ℕ). l ++ flat_map spelling ys) a.after ∙ append_assoc old (flat_map spelling xs) (flat_map spelling ys)
       ∙ ap (λ (l : List ℕ). old ++ l) (sym (flat_map-append spelling xs ys));
   spelled = All-append (λ t. Spells t (spelling t)) xs ys a.spelled b.spelled;
 }

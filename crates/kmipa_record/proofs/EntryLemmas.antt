@@ -120,7 +120,7 @@ pub count_material : (bytes : Option (List ℕ)) → count (material bytes) ≤ 
 count_material None = omega arith
 count_material (Some bytes) = omega arith
 
--- what stands behind three children
+-- what stands after three children
 pub behind_three : (vs : List View) (a b c : Tree) (rest : Trees) → view_trees vs ≡ more a (more b (more c rest)) → view_trees (take (length vs - 3) (drop 3 vs)) ≡ rest
 behind_three [] a b c rest e = absurd cc
 behind_three (x ∷ []) a b c rest e = absurd cc

@@ -36,17 +36,17 @@ module _ (AreRight : List Tree → Type 0) where
       record { items = given; rest = rest; up_to = record { right = s.right; begins = split.begins }; placed = split.placed }
 
   module _ (ItemFault : List Tree → Tree → RecordKind → Type 0) (EndFault : List ℕ → List Tree → ℕ → RecordKind → Type 0) where
-    torn_told : (file : List ℕ) (given : List Tree) (left : List ℕ) (place : ℕ) (f : RecordFault) → Stands file given left place → TellsFlawOf place left f
+    torn_reported : (file : List ℕ) (given : List Tree) (left : List ℕ) (place : ℕ) (f : RecordFault) → Stands file given left place → TellsFlawOf place left f
         → FirstFault AreRight ItemFault EndFault file f.offset f.kind
-    torn_told file given rest place f s told =
+    torn_reported file given rest place f s reported =
         let split : IsSplit file given rest place None = s.reading in
-        in_bytes given rest told.from told.flaw (record { right = s.right; begins = split.begins }) told.some told.wrong
-        (told.placed ∙ ap (λ (p : ℕ). capped (p + told.from)) split.placed) told.kind_is
+        in_bytes given rest reported.from reported.flaw (record { right = s.right; begins = split.begins }) reported.some reported.wrong
+        (reported.placed ∙ ap (λ (p : ℕ). capped (p + reported.from)) split.placed) reported.kind_is
 
     -- a fault of the item
-    pub item_told : (file : List ℕ) (given : List Tree) (item : Tree) (left after : List ℕ) (place place' : ℕ) (kind : RecordKind) → Stands file given left place → Takes item left after place place'
+    pub item_reported : (file : List ℕ) (given : List Tree) (item : Tree) (left after : List ℕ) (place place' : ℕ) (kind : RecordKind) → Stands file given left place → Takes item left after place place'
         → ItemFault given item kind → FirstFault AreRight ItemFault EndFault file place kind
-    item_told file given item rest ys place place' kind s t wrong =
+    item_reported file given item rest ys place place' kind s t wrong =
         let split : IsSplit file given rest place None = s.reading in
         let same : rest ≡ t.front ++ ys = t.consumed in
         in_item given item t.front ys (record { right = s.right; begins = subst (Begins given file) same split.begins }) t.spelled wrong
@@ -57,14 +57,14 @@ module _ (AreRight : List Tree → Type 0) where
         → ReadFails place left failed f → Tells (FirstFault AreRight ItemFault EndFault) (IsRightUpTo AreRight) file failed f
     tells_read file given left place failed f s h =
         let here : (offset : ℕ) → offset ≡ place → IsRightUpTo AreRight file offset = λ offset e. subst (IsRightUpTo AreRight file) (sym e) (right_here file given left place s) in
-        ByCause-map f.kind _ _ _ _ _ _ (λ d. (d.0, here f.offset d.1)) (λ m. here f.offset m) (λ p. torn_told file given left place f s p) h
+        ByCause-map f.kind _ _ _ _ _ _ (λ d. (d.0, here f.offset d.1)) (λ m. here f.offset m) (λ p. torn_reported file given left place f s p) h
 
-    header_told : (is_header : Tree → Type 0) → AreRight [] → ((item : Tree) (kind : RecordKind) → ¬ (is_header item) → kind ≡ Header → ItemFault [] item kind)
+    header_reported : (is_header : Tree → Type 0) → AreRight [] → ((item : Tree) (kind : RecordKind) → ¬ (is_header item) → kind ≡ Header → ItemFault [] item kind)
         → ((file : List ℕ) (offset : ℕ) (kind : RecordKind) → offset ≡ 0 → kind ≡ Header → EndFault file [] offset kind)
         → (file : List ℕ) (place : ℕ) (f : RecordFault) → place ≡ 0 → HeaderFault is_header place file f → FirstFault AreRight ItemFault EndFault file f.offset f.kind
-    header_told is_header right no_item no_end file place f zero (torn t) = torn_told file [] file place f (record { right = right; reading = starts file place zero }) t
-    header_told is_header right no_item no_end file place f zero (absent e o k) = at_end [] (record { right = right; begins = e }) (no_end file f.offset f.kind (o ∙ zero) k)
-    header_told is_header right no_item no_end file place f zero (other item front behind e spelled differs o k) =
+    header_reported is_header right no_item no_end file place f zero (torn t) = torn_reported file [] file place f (record { right = right; reading = starts file place zero }) t
+    header_reported is_header right no_item no_end file place f zero (absent e o k) = at_end [] (record { right = right; begins = e }) (no_end file f.offset f.kind (o ∙ zero) k)
+    header_reported is_header right no_item no_end file place f zero (other item front behind e spelled differs o k) =
         in_item [] item front behind (record { right = right; begins = e }) spelled (no_item item f.kind differs k)
         (omega (arith, o, zero, ap length e))
 
@@ -76,4 +76,4 @@ module _ (AreRight : List Tree → Type 0) where
     tells_header is_header right no_item no_end file place failed f zero h =
         let here : (offset : ℕ) → offset ≡ place → IsRightUpTo AreRight file offset
         = λ offset e. subst (IsRightUpTo AreRight file) (sym e) (right_here file [] file place (record { right = right; reading = starts file place zero })) in
-        ByCause-map f.kind _ _ _ _ _ _ (λ d. (d.0, here f.offset d.1)) (λ m. here f.offset m) (header_told is_header right no_item no_end file place f zero) h
+        ByCause-map f.kind _ _ _ _ _ _ (λ d. (d.0, here f.offset d.1)) (λ m. here f.offset m) (header_reported is_header right no_item no_end file place f zero) h

@@ -35,7 +35,7 @@ compare (x ∷ xs) (y ∷ ys) bytes rest rest' b c =
     let behind : b.1 ≡ c.1 = append_cancel_left b.0 b.1 c.1 (sym b.2 ∙ c.2 ∙ ap (λ (l : List ℕ). l ++ c.1) (sym one.1)) in
     cons_compared x y xs ys rest rest' one.0 (compare xs ys b.1 rest rest' b.4 (subst (λ (l : List ℕ). Begins ys l rest') (sym behind) c.4))
 
--- behind the end there is no item
+-- after the end there is no item
 pub nothing_more : (item : Tree) (more : List Tree) (rest : List ℕ) → Begins (item ∷ more) [] rest → ⊥
 nothing_more item more rest b = absurd (let long = b.3.all in omega (arith, ap length b.2, length-append b.0 b.1, long))
 

@@ -20,18 +20,18 @@ ByCause-map Identifier D D' M M' P P' d m p h = p h
 ByCause-map Entry D D' M M' P P' d m p h = p h
 ByCause-map Calls D D' M M' P P' d m p h = p h
 
--- what is told of bytes
-pub told_of_bytes : (k : FaultKind) (D M P : Type 0) → k ≢ flaw.Device → k ≢ flaw.Memory → read.ByCause k D M P → P
-told_of_bytes flaw.Device D M P d m h = absurd (d refl)
-told_of_bytes flaw.Memory D M P d m h = absurd (m refl)
-told_of_bytes flaw.Truncated D M P d m h = h
-told_of_bytes flaw.UnknownType D M P d m h = h
-told_of_bytes flaw.BadLength D M P d m h = h
-told_of_bytes flaw.BadBoolean D M P d m h = h
-told_of_bytes flaw.BadText D M P d m h = h
-told_of_bytes flaw.Overrun D M P d m h = h
-told_of_bytes flaw.TooDeep D M P d m h = h
-told_of_bytes flaw.TooLong D M P d m h = h
+-- what is reported of bytes
+pub reported_of_bytes : (k : FaultKind) (D M P : Type 0) → k ≢ flaw.Device → k ≢ flaw.Memory → read.ByCause k D M P → P
+reported_of_bytes flaw.Device D M P d m h = absurd (d refl)
+reported_of_bytes flaw.Memory D M P d m h = absurd (m refl)
+reported_of_bytes flaw.Truncated D M P d m h = h
+reported_of_bytes flaw.UnknownType D M P d m h = h
+reported_of_bytes flaw.BadLength D M P d m h = h
+reported_of_bytes flaw.BadBoolean D M P d m h = h
+reported_of_bytes flaw.BadText D M P d m h = h
+reported_of_bytes flaw.Overrun D M P d m h = h
+reported_of_bytes flaw.TooDeep D M P d m h = h
+reported_of_bytes flaw.TooLong D M P d m h = h
 
 pub IfSome-map : {A : Type 0} (o : Option A) (P Q : A → Type 0) → ((x : A) → P x → Q x) → IfSome o P → IfSome o Q
 IfSome-map None P Q f h = tt

@@ -11,7 +11,7 @@ use Rattle.kmipa_record.specs.Reading.{IsReading, Takes, ReadFails, HeaderFails}
 use Rattle.kmipa_record.specs.Transcripts.{transcript_header}
 use Rattle.kmipa_record.specs.declared.fault.RecordFault.{RecordFault}
 use Rattle.kmipa_record.specs.declared.fault.RecordKind.TheVariants.{Entry}
-use Rattle.kmipa_record.proofs.FileLemmas.{goes_on, ends_here, starts, Stands, tells_read, item_told, tells_header}
+use Rattle.kmipa_record.proofs.FileLemmas.{goes_on, ends_here, starts, Stands, tells_read, item_reported, tells_header}
 use Rattle.kmipa_record.proofs.NextLemmas.{regrouped}
 use Rattle.kmipa_record.proofs.TranscriptLemmas.{one_more}
 
@@ -50,7 +50,7 @@ mark_fails file marks left place failed f r h = tells_read (AreThese marks) IsNo
 pub other_fails : (file : List ℕ) (marks : List MarkOf) (item : Tree) (left after : List ℕ) (place place' : ℕ) (failed : Bool) → IsReading file (items_of marks) left place
     → Takes item left after place place' → ¬ ((mark : MarkOf) × (item ≡ mark_item mark)) → Tells (FaultBehind marks) (IsRightBehind marks) file failed (record { offset = place; kind = Entry })
 other_fails file marks item left after place place' failed r t none =
-    item_told (AreThese marks) IsNoMark HasNoHeader file (items_of marks) item left after place place' Entry (stands file marks left place r) t (λ mark e. none (mark, e), refl)
+    item_reported (AreThese marks) IsNoMark HasNoHeader file (items_of marks) item left after place place' Entry (stands file marks left place r) t (λ mark e. none (mark, e), refl)
 
 pub mark_read : (file : List ℕ) (marks : List MarkOf) (mark : MarkOf) (left after : List ℕ) (place place' : ℕ) → IsReading file (items_of marks) left place → Takes (mark_item mark) left after place place'
     → IsReading file (items_of (marks ++ mark ∷ [])) after place'

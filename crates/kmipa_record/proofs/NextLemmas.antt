@@ -17,20 +17,20 @@ pub read_fails : (place : ℕ) (came after left : List ℕ) (ended failed : Bool
 read_fails place came after left ended failed f e end t =
     let known = known_flaw_lem place came after ended failed f end t in
     rw e (cause_same f.kind _ _ _ (λ k. TellsFlawOf place (came ++ after) (record { offset = f.offset; kind = k }))
-    (λ device memory told. record { some = told.0; from = told.1.from; flaw = f.kind; wrong = told.1.flaw; placed = told.1.placed; kind_is = refl }) known)
+    (λ device memory reported. record { some = reported.0; from = reported.1.from; flaw = f.kind; wrong = reported.1.flaw; placed = reported.1.placed; kind_is = refl }) known)
 
 -- the flaw of the value of a whole item
 pub whole_fails : (left after bytes : List ℕ) (place : ℕ) (failed : Bool) (f : RecordFault) → left ≡ bytes ++ after → IsWhole bytes
     → WholeFails place bytes f → ReadFails place left failed f
 whole_fails left after bytes place failed f e w t =
     rw e (ByCause-map f.kind _ _ _ _ _ _ (λ none. absurd none) (λ m. m)
-    (λ told. record {
-      some = omega (arith, told.some, length-append bytes after);
-      from = told.from;
-      flaw = told.flaw;
-      wrong = whole_stays bytes after told.from told.flaw w told.wrong;
-      placed = told.placed;
-      kind_is = told.kind_is;
+    (λ reported. record {
+      some = omega (arith, reported.some, length-append bytes after);
+      from = reported.from;
+      flaw = reported.flaw;
+      wrong = whole_stays bytes after reported.from reported.flaw w reported.wrong;
+      placed = reported.placed;
+      kind_is = reported.kind_is;
     }) t)
 
 -- a file without a header

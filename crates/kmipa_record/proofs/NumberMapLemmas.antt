@@ -63,7 +63,7 @@ module _ {V : Type 0} where
     others = λ other ne. rw slots (ap (or_else (slot_at old.slots.items other)) (updates.2 other (not_at number other ne)));
   }
 
-  -- a count that is written behind a change
+  -- a count that is written after a change
   pub counted : (old mid new : NumberMap V) (number : ℤ) (value : V) → Sets old mid number value → new.slots.items ≡ mid.slots.items → new.others.entries ≡ mid.others.entries
       → count_of new ≡ count_of old + 1 → Gains old new number value
   unfolding value_at

@@ -47,14 +47,14 @@ whole_taken item old new place place' offset t o =
     let same : drop offset new ≡ t.front = ap (λ (n : ℕ). drop n new) o ∙ sym (append-nil (appended_bytes old new)) ∙ t.consumed ∙ append-nil t.front in
     inr (subst IsWhole (sym same) (spelled_whole item t.front t.spelled))
 
--- items stand ahead of what is left
+-- items stand before what is left
 pub begins_ahead : (items : List Tree) (bytes rest : List ℕ) → Begins items bytes rest → (before : List ℕ) × (bytes ≡ before ++ rest)
 begins_ahead [] bytes rest e = ([], e)
 begins_ahead (item ∷ items) bytes rest b =
     let more = begins_ahead items b.1 rest b.4 in
     (b.0 ++ more.0, b.2 ∙ ap (λ (l : List ℕ). b.0 ++ l) more.1 ∙ sym (append_assoc b.0 more.0 rest))
 
--- ---- what is told
+-- ---- what is reported
 
 stopped_by : (k : FaultKind) (o : ℕ) (old new : List ℕ) (ended failed : Bool) → ReadTells (length old) (appended_bytes old new) ended failed (record { offset = o; kind = k })
     → StopsInside k (appended_bytes old new) → TellsItem new (record { offset = o; kind = record_kind k })
@@ -77,7 +77,7 @@ stopped_inside f old new ended failed h s = stopped_by f.kind f.offset old new e
 -- a whole item was refused
 pub refused_whole : (f : RecordFault) (old new bytes : List ℕ) → new ≡ old ++ bytes → IsWhole bytes → WholeFails (length old) bytes f → TellsItem new f
 refused_whole f old new bytes e w h =
-    ByCause-map f.kind _ _ _ _ _ _ (λ none. absurd none) (λ o. one_whole old new bytes f.offset o e w) (λ told. tt) h
+    ByCause-map f.kind _ _ _ _ _ _ (λ none. absurd none) (λ o. one_whole old new bytes f.offset o e w) (λ reported. tt) h
 
 pub refused_turn_place : (version : Version) (turn : TurnOf) (came : List ℕ) (f : RecordFault) → IsOneItemAtMost (drop f.offset came) → RefusesTurn version turn f.kind → TellsItem came f
 refused_turn_place version turn came f one (no_memory e) = memory_cause f.kind _ _ _ e one

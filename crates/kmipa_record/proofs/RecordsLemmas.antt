@@ -1,4 +1,4 @@
--- Records that are put behind others.
+-- Records that are put after others.
 use Rattle.std.proofs.Common.{◌≡◌, ◌≢◌, ◌<◌, ◌||◌, ℕ, List, [], ◌∷◌, ◌++◌, length, map, get_or, Bool, true, false, not, cond, refl, sym, ap, subst, ◌∙◌, bytes_eq, string_bytes}
 use Rattle.std.specs.BTreeSet.{contains_text}
 use Rattle.std.specs.List.{list_any}

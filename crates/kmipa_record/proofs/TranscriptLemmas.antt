@@ -7,7 +7,7 @@ use Rattle.kmipa_record.specs.Calls.{HasNone}
 use Rattle.kmipa_record.specs.Calls as calls
 use Rattle.kmipa_record.specs.Files.{in_bytes, in_item, at_end, IsUpTo, Tells, TellsItem, IsOneItemAtMost}
 use Rattle.kmipa_record.specs.Marks.{MarkOf, ends, mark_of, mark_item, AreRecorded}
-use Rattle.kmipa_record.specs.MarkReading.{AreThese, IsNoMark, HasNoHeader, FaultBehind, IsRightBehind, AreGivenOf, HasGiven, GivesNext, StandsAt, input_of, told_of}
+use Rattle.kmipa_record.specs.MarkReading.{AreThese, IsNoMark, HasNoHeader, FaultBehind, IsRightBehind, AreGivenOf, HasGiven, GivesNext, StandsAt, input_of, reported_of}
 use Rattle.kmipa_record.specs.Reading.{IsReading, Takes}
 use Rattle.kmipa_record.specs.Transcripts.{transcript_header, AreRightInTranscript, TranscriptItemFault, TranscriptEndFault, MarkItemFault, no_mark, in_mark, TranscriptFault, IsTranscriptUpTo}
 use Rattle.kmipa_record.specs.TranscriptReading.{AreTaken}
@@ -18,7 +18,7 @@ use Rattle.kmipa_record.specs.declared.fault.RecordKind.TheVariants.{Memory}
 use Rattle.kmipa_record.specs.declared.marks.Marks.{Marks}
 use Rattle.kmipa_record.specs.declared.transcript.Mark.{Mark}
 use Rattle.kmipa_record.proofs.KindLemmas.{ByCause-map, memory_cause}
-use Rattle.kmipa_record.proofs.FileLemmas.{goes_on, Stands, item_told, right_here}
+use Rattle.kmipa_record.proofs.FileLemmas.{goes_on, Stands, item_reported, right_here}
 use Rattle.kmipa_record.proofs.PlaceLemmas.{one_whole, spelled_whole, begins_ahead}
 use Rattle.kmipa_record.proofs.CallLemmas.{follow_none, one_more_taken, refused_mark, refused_cause}
 
@@ -48,10 +48,10 @@ first_fault file marks offset kind r (in_item items item front rest u spelled wr
     in_item items item front rest (right_up_to file marks items _ r u) spelled (item_fault items item kind wrong) o
 first_fault file marks offset kind r (at_end items u wrong) = at_end items (right_up_to file marks items [] r u) (end_fault file items offset kind wrong)
 
--- a fault behind marks of a transcript is one of the transcript
-pub behind_told : (file : List ℕ) (marks : List MarkOf) (failed : Bool) (f : RecordFault) → AreRecorded marks → Tells (FaultBehind marks) (IsRightBehind marks) file failed f
+-- a fault after marks of a transcript is one of the transcript
+pub behind_reported : (file : List ℕ) (marks : List MarkOf) (failed : Bool) (f : RecordFault) → AreRecorded marks → Tells (FaultBehind marks) (IsRightBehind marks) file failed f
     → Tells TranscriptFault IsTranscriptUpTo file failed f
-behind_told file marks failed f r h =
+behind_reported file marks failed f r h =
     let here : IsRightBehind marks file f.offset → IsTranscriptUpTo file f.offset =
     λ u. record { items = u.items; rest = u.rest; up_to = right_up_to file marks u.items u.rest r u.up_to; placed = u.placed } in
     ByCause-map f.kind _ _ _ _ _ _ (λ d. (d.0, here d.1)) here (first_fault file marks f.offset f.kind r) h
@@ -62,10 +62,10 @@ refused_item : (marks : List MarkOf) (old : Calls) (mark : MarkOf) (kind : Recor
     → MarkItemFault (map mark_item marks) (mark_item mark) kind
 refused_item marks old mark kind follow ne r = in_mark marks mark refl refl (refused_mark marks old mark kind follow ne r)
 
-pub refused_told : (file came after : List ℕ) (marks : List MarkOf) (old : Calls) (mark : MarkOf) (place : ℕ) (failed : Bool) (f : RecordFault) → file ≡ came ++ after
+pub refused_reported : (file came after : List ℕ) (marks : List MarkOf) (old : Calls) (mark : MarkOf) (place : ℕ) (failed : Bool) (f : RecordFault) → file ≡ came ++ after
     → AreRecorded marks → calls.Follow marks old → StandsAt marks mark place came after → f.offset ≡ place → (f.kind ≡ Memory) ⊎ calls.Refuses old mark f.kind
     → Tells TranscriptFault IsTranscriptUpTo file failed f
-refused_told file came after marks old mark place failed f e recorded follow s o r =
+refused_reported file came after marks old mark place failed f e recorded follow s o r =
     let reading : IsReading file (items_of marks) s.left place = subst (λ (l : List ℕ). IsReading l (items_of marks) s.left place) (sym e) s.reading in
     let here : Stands AreRightInTranscript file (items_of marks) s.left place =
     record { right = (refl, record { marks = marks; are = refl; recorded = recorded }); reading = reading } in
@@ -74,11 +74,11 @@ refused_told file came after marks old mark place failed f e recorded follow s o
       | inl m ↦ memory_cause f.kind _ _ _ m right
       | inr q ↦ refused_cause old mark f.kind _ _ _ q right
           (λ ne. subst (λ (n : ℕ). TranscriptFault file n f.kind) (sym o)
-          (item_told AreRightInTranscript TranscriptItemFault TranscriptEndFault file (items_of marks) (mark_item mark) s.left after place (length came) f.kind here s.taken
+          (item_reported AreRightInTranscript TranscriptItemFault TranscriptEndFault file (items_of marks) (mark_item mark) s.left after place (length came) f.kind here s.taken
           (refused_item marks old mark f.kind follow ne q)))
     ]
 
--- the mark was read whole, and nothing behind it
+-- the mark was read whole, and nothing after it
 whole_mark : (came : List ℕ) (marks : List MarkOf) (mark : MarkOf) (place offset : ℕ) → StandsAt marks mark place came [] → offset ≡ place → IsOneItemAtMost (drop offset came)
 whole_mark came marks mark place offset s o =
     let front = s.taken.front in
@@ -118,12 +118,12 @@ none_recorded = record {
   answered = λ before after call message e. absurd (no_end before after call message e);
 }
 
-pub none_taken : {R : Type 0} (source : Marks R) (of : Calls) (marks : List Mark) → marks ≡ [] → HasGiven [] source → told_of source ≡ None → HasNone of → AreTaken (map mark_of marks) of source
+pub none_taken : {R : Type 0} (source : Marks R) (of : Calls) (marks : List Mark) → marks ≡ [] → HasGiven [] source → reported_of source ≡ None → HasNone of → AreTaken (map mark_of marks) of source
 none_taken source of marks e given untold none =
     subst (λ (l : List Mark). AreTaken (map mark_of l) of source) (sym e) (record { given = given; untold = untold; recorded = none_recorded; follow = follow_none of none })
 
 pub mark_taken : {R : Type 0} (source : Marks R) (marks more : List Mark) (mark : Mark) (old new : Calls) → more ≡ marks ++ mark ∷ [] → AreRecorded (map mark_of marks)
-    → calls.Follow (map mark_of marks) old → calls.Takes old new (mark_of mark) → GivesNext (map mark_of marks) source (Some mark) → told_of source ≡ None → AreTaken (map mark_of more) new source
+    → calls.Follow (map mark_of marks) old → calls.Takes old new (mark_of mark) → GivesNext (map mark_of marks) source (Some mark) → reported_of source ≡ None → AreTaken (map mark_of more) new source
 mark_taken source marks more mark old new e recorded follow takes gives untold =
     let same : map mark_of more ≡ map mark_of marks ++ mark_of mark ∷ [] = ap (map mark_of) e ∙ map-append mark_of marks (mark ∷ []) in
     let next = one_more_taken (map mark_of marks) (mark_of mark) old new takes recorded follow in

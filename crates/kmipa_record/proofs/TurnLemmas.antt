@@ -58,7 +58,7 @@ listed_once None (Some y) e = absurd cc
 listed_once (Some x) None e = absurd cc
 listed_once (Some x) (Some y) e = let same : x ≡ y = cc in ap Some same
 
--- another item ahead
+-- another item before
 other_ahead : (a b : Tree) (xs ys : List Tree) → (tag_of a ≡ tag_of b → ⊥) → a ∷ xs ≡ b ∷ ys → ⊥
 other_ahead a b xs ys ne e = ne (let same : a ≡ b = cc in ap tag_of same)
 
@@ -114,7 +114,7 @@ not_behind None views rest e first (Some x) places fills f = absurd (first refl 
 not_behind (Some a) views rest e first None places fills f = absurd (no_answer_behind places fills a rest (sym f ∙ e))
 not_behind (Some a) views rest e first (Some x) places fills f = let both : answer_item a ∷ rest ≡ answer_item x ∷ (map place_item places ++ map fill_item fills) = sym e ∙ f in cc
 
--- what is read in turn: a call, an answer, places, and what is behind them
+-- what is read in turn: a call, an answer, places, and what is after them
 pub record IsSplitTurn (views : List Tree) (call : ℤ) (answer : Option (List ℕ)) (places : List ℤ) (rest : List Tree) : Type 0 where
   pub behind_call : List Tree
   pub behind_answer : List Tree
@@ -124,7 +124,7 @@ pub record IsSplitTurn (views : List Tree) (call : ℤ) (answer : Option (List �
   pub places_are : behind_answer ≡ map place_item places ++ rest
   pub all : NotAhead place_item rest
 
--- behind them are the fills
+-- after them are the fills
 fills_behind : (views : List Tree) (call : ℤ) (answer : Option (List ℕ)) (places : List ℤ) (rest : List Tree) → IsSplitTurn views call answer places rest
     → (t : TurnOf) → views ≡ turn_fields t → rest ≡ map fill_item t.fills
 fills_behind views call answer places rest s t e =

@@ -14,7 +14,7 @@ use Rattle.kmipa_record.specs.declared.fault.RecordKind.TheVariants.{Entry}
 use Rattle.kmipa_record.specs.declared.turn.Turn.{Turn}
 use Rattle.kmipa_record.specs.declared.version.Version.{Version}
 use Rattle.kmipa_record.proofs.KindLemmas.{memory_cause, number_cause, entry_cause}
-use Rattle.kmipa_record.proofs.FileLemmas.{goes_on, starts, ends_here, Stands, tells_read, item_told, right_here, tells_header}
+use Rattle.kmipa_record.proofs.FileLemmas.{goes_on, starts, ends_here, Stands, tells_read, item_reported, right_here, tells_header}
 use Rattle.kmipa_record.proofs.TurnLemmas.{turn_item_once}
 
 abbrev items_of : Version → List TurnOf → List Tree
@@ -50,25 +50,25 @@ read_fails file version turns left place failed f s h =
 item_fault : (file : List ℕ) (version : Version) (turns : List TurnOf) (item : Tree) (left after : List ℕ) (place place' : ℕ) (kind : RecordKind)
     → IsReadSoFar file version turns left place → Takes item left after place place' → TurnItemFault version item kind → WitnessFault file place kind
 item_fault file version turns item left after place place' kind s t wrong =
-    item_told AreRightInWitness WitnessItemFault WitnessEndFault file (items_of version turns) item left after place place' kind (stands file version turns left place s) t
+    item_reported AreRightInWitness WitnessItemFault WitnessEndFault file (items_of version turns) item left after place place' kind (stands file version turns left place s) t
     (version, refl, wrong)
 
-pub no_turn_told : (file : List ℕ) (version : Version) (turns : List TurnOf) (item : Tree) (left after : List ℕ) (place place' : ℕ) (failed : Bool)
+pub no_turn_reported : (file : List ℕ) (version : Version) (turns : List TurnOf) (item : Tree) (left after : List ℕ) (place place' : ℕ) (failed : Bool)
     → IsReadSoFar file version turns left place → Takes item left after place place' → ¬ ((turn : TurnOf) × (item ≡ turn_item turn) × ArePayloads turn.fills)
     → Tells WitnessFault IsWitnessUpTo file failed (record { offset = place; kind = Entry })
-no_turn_told file version turns item left after place place' failed s t none =
+no_turn_reported file version turns item left after place place' failed s t none =
     item_fault file version turns item left after place place' Entry s t (no_turn (λ turn a e. none (turn, e, a.payloads)) refl)
 
-pub refused_told : (file : List ℕ) (version : Version) (turns : List TurnOf) (turn : TurnOf) (left after : List ℕ) (place place' : ℕ) (failed : Bool) (f : RecordFault)
+pub refused_reported : (file : List ℕ) (version : Version) (turns : List TurnOf) (turn : TurnOf) (left after : List ℕ) (place place' : ℕ) (failed : Bool) (f : RecordFault)
     → IsReadSoFar file version turns left place → Takes (turn_item turn) left after place place' → f.offset ≡ place → RefusesTurn version turn f.kind
     → Tells WitnessFault IsWitnessUpTo file failed f
-refused_told file version turns turn left after place place' failed f s t o (no_memory k) =
+refused_reported file version turns turn left after place place' failed f s t o (no_memory k) =
     memory_cause f.kind _ _ _ k (subst (IsWitnessUpTo file) (sym o) (right_here AreRightInWitness file (items_of version turns) left place (stands file version turns left place s)))
-refused_told file version turns turn left after place place' failed f s t o (foreign not k) =
+refused_reported file version turns turn left after place place' failed f s t o (foreign not k) =
     entry_cause f.kind _ _ _ k (subst (λ (n : ℕ). WitnessFault file n f.kind) (sym o)
     (item_fault file version turns (turn_item turn) left after place place' f.kind s t
     (no_turn (λ other a e. not (subst (Admits version) (sym (turn_item_once turn other e)) a)) k)))
-refused_told file version turns turn left after place place' failed f s t o (low a l k) =
+refused_reported file version turns turn left after place place' failed f s t o (low a l k) =
     number_cause f.kind _ _ _ k (subst (λ (n : ℕ). WitnessFault file n f.kind) (sym o)
     (item_fault file version turns (turn_item turn) left after place place' f.kind s t (below_one turn a refl l k)))
 

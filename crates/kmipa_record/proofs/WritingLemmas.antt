@@ -54,16 +54,16 @@ pushed_more item_of old mid new item xs i x h is e t before =
 
 pub adds_more : (items : List Tree) (item : Tree) (old mid new : List ℕ) → AddsAll items old mid → Adds item mid new → AddsAll (items ++ item ∷ []) old new
 adds_more items item old mid new all one = record {
-  behind = one.behind ∙ ap (λ (l : List ℕ). l ++ spelling item) all.behind ∙ flat_map_more spelling old items item;
+  after = one.after ∙ ap (λ (l : List ℕ). l ++ spelling item) all.after ∙ flat_map_more spelling old items item;
   spelled = All-push (λ t. Spells t (spelling t)) items item all.spelled one.spelled;
 }
 
 pub adds_none : (old : List ℕ) → AddsAll [] old old
-adds_none old = record { behind = sym (append-nil old); spelled = All-nil (λ t. Spells t (spelling t)) }
+adds_none old = record { after = sym (append-nil old); spelled = All-nil (λ t. Spells t (spelling t)) }
 
 pub adds_behind : (item : Tree) (items : List Tree) (old mid new : List ℕ) → Adds item old mid → AddsAll items mid new → AddsAll (item ∷ items) old new
 adds_behind item items old mid new one all = record {
-  behind = all.behind ∙ ap (λ (l : List ℕ). l ++ flat_map spelling items) one.behind ∙ append_assoc old (spelling item) (flat_map spelling items)
+  after = all.after ∙ ap (λ (l : List ℕ). l ++ flat_map spelling items) one.after ∙ append_assoc old (spelling item) (flat_map spelling items)
       ∙ ap (λ (l : List ℕ). old ++ l) (sym (flat_map-cons spelling item items));
   spelled = All-cons (λ t. Spells t (spelling t)) item items one.spelled all.spelled;
 }

@@ -25,11 +25,11 @@ pub not_recorded : (before after : List MarkOf) (mark : MarkOf) (old : Calls) (k
 not_recorded before after mark old kind follow ne r = λ recorded. no_mark_fault before after mark kind recorded (refused_mark before old mark kind follow ne r)
 
 -- a mark that is refused, so that marks with it are
-pub mark_refused : (marks : List Mark) (i : ℕ) (mark : Mark) (old : Calls) (kind told : RecordKind) → i < length marks → mark ≡ get_or marks i mark
-    → Follow (map mark_of (take i marks)) old → Refuses old (mark_of mark) kind → ((kind ≡ Memory) × (told ≡ Memory)) ⊎ ((kind ≢ Memory) × (told ≡ Entry))
-    → Refused (AreRecorded (map mark_of marks)) told
-mark_refused marks i mark old kind told h is follow r (inl m) = starved m.1
-mark_refused marks i mark old kind told h is follow r (inr e) =
+pub mark_refused : (marks : List Mark) (i : ℕ) (mark : Mark) (old : Calls) (kind reported : RecordKind) → i < length marks → mark ≡ get_or marks i mark
+    → Follow (map mark_of (take i marks)) old → Refuses old (mark_of mark) kind → ((kind ≡ Memory) × (reported ≡ Memory)) ⊎ ((kind ≢ Memory) × (reported ≡ Entry))
+    → Refused (AreRecorded (map mark_of marks)) reported
+mark_refused marks i mark old kind reported h is follow r (inl m) = starved m.1
+mark_refused marks i mark old kind reported h is follow r (inr e) =
     refused e.1 (λ all. not_recorded (map mark_of (take i marks)) (map mark_of (drop (suc i) marks)) (mark_of mark) old kind follow e.0 r
     (subst AreRecorded (mapped_here mark_of marks i mark h is) all))
 
@@ -58,7 +58,7 @@ unwritten marks kind (refused k n) = no_file refl k (λ bytes t. n (writable byt
 pub written : (marks : List MarkOf) (old new : List ℕ) → AddsAll (transcript_header ∷ map mark_item marks) old new → AreRecorded marks → Appends (IsWrittenTranscript marks) old new
 written marks old new all recorded = record {
   appended = flat_map spelling (transcript_header ∷ map mark_item marks);
-  behind = all.behind;
+  after = all.after;
   is = record {
     padded = record { items = transcript_header ∷ map mark_item marks; are = refl };
     is = record { spelled = begins_spelled (transcript_header ∷ map mark_item marks) all.spelled; recorded = recorded };

@@ -67,7 +67,7 @@ pub written : (turns : List TurnOf) (version : Version) (old new : List ℕ) →
     → Appends (IsWrittenWitness turns) old new
 written turns version old new all low able = record {
   appended = flat_map spelling (witness_header version ∷ map turn_item turns);
-  behind = all.behind;
+  after = all.after;
   is = record {
     padded = record { items = witness_header version ∷ map turn_item turns; are = refl };
     is = record {

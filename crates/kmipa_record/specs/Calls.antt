@@ -62,7 +62,7 @@ Refuses old (ends call message) kind = RefusesEnd old call kind
 
 -- ---- the calls that were begun by some marks
 
--- a call stands so behind these marks
+-- a call stands so after these marks
 abbrev pub StandsSo : List MarkOf → ℤ → Option Progress → Type 0
 StandsSo marks call None = ¬ (Contains (begun marks) call) × ¬ (Contains (ended marks) call)
 StandsSo marks call (Some Open) = Contains (begun marks) call × ¬ (Contains (ended marks) call)

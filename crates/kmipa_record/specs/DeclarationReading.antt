@@ -52,7 +52,7 @@ pub record AreKept (records : Records) : Type 0 where
   pub distinct : AllPairs (λ (a b : EntryOf). a.id ≢ b.id) (entries_in records)
   pub known : (id : List ℕ) → contains_text records.identifiers id ≡ list_any (λ (e : EntryOf). bytes_eq id e.id) (entries_in records)
 
--- a record is put behind the others
+-- a record is put after the others
 abbrev pub Puts : Records → Records → RecordOf → Type 0
 Puts old new (row r) = (entries_in old ≡ []) × (rows_in new ≡ rows_in old ++ r ∷ []) × (entries_in new ≡ entries_in old)
 Puts old new (entry e) = (rows_in new ≡ rows_in old) × (entries_in new ≡ entries_in old ++ e ∷ [])

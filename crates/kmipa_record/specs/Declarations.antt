@@ -67,8 +67,8 @@ abbrev pub AreRightInDeclaration : List Tree → Type 0
 AreRightInDeclaration [] = Unit {0}
 AreRightInDeclaration (header ∷ records) = (declared : DeclarationOf) × SayDeclaration header records declared
 
--- the first test that a record fails behind those that declare this: it is a row, or an entry that may be declared; no row stands
--- behind an entry; no identifier is used twice
+-- the first test that a record fails after those that declare this: it is a row, or an entry that may be declared; no row stands
+-- after an entry; no identifier is used twice
 pub data RecordItemFault (declared : DeclarationOf) (item : Tree) (kind : RecordKind) : Type 0 where
   no_record : ((r : RowOf) → item ≢ row_item r) → ((e : EntryOf) → SaysEntry item e → ¬ (IsDeclarable e)) → kind ≡ Entry → RecordItemFault declared item kind
   late_row : (r : RowOf) → item ≡ row_item r → declared.entries ≢ [] → kind ≡ Entry → RecordItemFault declared item kind

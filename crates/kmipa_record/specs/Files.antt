@@ -1,4 +1,4 @@
--- Files of items: a header and records, one behind the other.
+-- Files of items: a header and records, one after the other.
 use Rattle.std.specs.Prelude.{◌≡◌, ◌<◌, ◌⊎◌, ℕ, ◌+◌, ◌-◌, List, [], ◌++◌, length, drop, Bool, IsTrue}
 use Rattle.kmipa_ttlv.specs.Tree.{Tree}
 use Rattle.kmipa_ttlv.specs.Spelling.{Spells}
@@ -15,7 +15,7 @@ use Rattle.kmipa_record.specs.declared.fault.RecordKind.TheVariants.{Ttlv}
 abbrev pub place_of : List ℕ → List ℕ → ℕ
 place_of bytes rest = capped (length bytes - length rest)
 
--- The file begins with the spellings of these items, and the rest is behind them; by the word none of them is faulty.
+-- The file begins with the spellings of these items, and the rest is after them; by the word none of them is faulty.
 pub record IsUpTo (AreRight : List Tree → Type 0) (bytes : List ℕ) (items : List Tree) (rest : List ℕ) : Type 0 where
   pub right : AreRight items
   pub begins : Begins items bytes rest
@@ -29,7 +29,7 @@ pub record IsRightUpTo (AreRight : List Tree → Type 0) (bytes : List ℕ) (pla
 
 -- The first fault of a file: up to it no item is faulty, and there
 --   come bytes, but none that spell an item: the flaw of these bytes;
---   or comes an item that is faulty behind those before it: its first byte;
+--   or comes an item that is faulty after those before it: its first byte;
 --   or the file ends, and may not end so.
 pub data FirstFault (AreRight : List Tree → Type 0) (ItemFault : List Tree → Tree → RecordKind → Type 0) (EndFault : List ℕ → List Tree → ℕ → RecordKind → Type 0)
     (bytes : List ℕ) (offset : ℕ) (kind : RecordKind) : Type 0 where
@@ -39,7 +39,7 @@ pub data FirstFault (AreRight : List Tree → Type 0) (ItemFault : List Tree →
       → offset ≡ place_of bytes (front ++ rest) → FirstFault AreRight ItemFault EndFault bytes offset kind
   at_end : (items : List Tree) → IsUpTo AreRight bytes items [] → EndFault bytes items offset kind → FirstFault AreRight ItemFault EndFault bytes offset kind
 
--- The fault that a reader tells of a file is its first; or the input is failed, or memory ran out, behind what is right.
+-- The fault that a reader tells of a file is its first; or the input is failed, or memory ran out, after what is right.
 abbrev pub Tells : (List ℕ → ℕ → RecordKind → Type 0) → (List ℕ → ℕ → Type 0) → List ℕ → Bool → RecordFault → Type 0
 Tells Fault RightUpTo file failed f =
     ByCause f.kind (IsTrue failed × RightUpTo file f.offset) (RightUpTo file f.offset) (Fault file f.offset f.kind)
@@ -48,6 +48,6 @@ Tells Fault RightUpTo file failed f =
 abbrev pub IsOneItemAtMost : List ℕ → Type 0
 IsOneItemAtMost bytes = IsCutShort bytes ⊎ IsWhole bytes
 
--- Device and Memory are told where the item begins that was being read: from there on came the beginning of it or, where memory ran out, perhaps all of it.
+-- Device and Memory are reported where the item begins that was being read: from there on came the beginning of it or, where memory ran out, perhaps all of it.
 abbrev pub TellsItem : List ℕ → RecordFault → Type 0
 TellsItem came f = ByCause f.kind (IsCutShort (drop f.offset came)) (IsOneItemAtMost (drop f.offset came)) (Unit {0})

@@ -18,7 +18,7 @@ use Rattle.kmipa_record.specs.declared.transcript.Mark.{Mark}
 -- ---- what was given
 
 -- These marks were given of what came of an input: nothing came yet; or, once its header was read, each file that begins with what
--- came begins with the header and these marks, and what is left of it is behind what came.
+-- came begins with the header and these marks, and what is left of it is after what came.
 abbrev pub AreGivenOf : {R : Type 0} → Bool → List MarkOf → Input R → Type 0
 AreGivenOf false marks input = (marks ≡ []) × (came_of input ≡ [])
 AreGivenOf true marks input = (after : List ℕ) → IsReading (came_of input ++ after) (transcript_header ∷ map mark_item marks) after (taken_of input)
@@ -28,7 +28,7 @@ abbrev pub GivesNextOf : {R : Type 0} → List MarkOf → Input R → Option Mar
 GivesNextOf marks input (Some mark) = AreGivenOf true (marks ++ mark_of mark ∷ []) input
 GivesNextOf marks input None = Begins (transcript_header ∷ map mark_item marks) (came_of input) [] × IsTrue (is_ended input) × AreGivenOf true marks input
 
--- Of each file that begins with what came: behind the header and these marks, at this place, stands this mark, and what is left is behind it.
+-- Of each file that begins with what came: after the header and these marks, at this place, stands this mark, and what is left is after it.
 pub record StandsAt (marks : List MarkOf) (mark : MarkOf) (place : ℕ) (came after : List ℕ) : Type 0 where
   pub left : List ℕ
   pub reading : IsReading (came ++ after) (transcript_header ∷ map mark_item marks) left place
@@ -54,9 +54,9 @@ reference_of m = m.input.ghost_name
 abbrev pub place_of : {R : Type 0} → Marks R → ℕ
 place_of m = m.place
 
--- the fault that was told
-abbrev pub told_of : {R : Type 0} → Marks R → Option RecordFault
-told_of m = m.fault
+-- the fault that was reported
+abbrev pub reported_of : {R : Type 0} → Marks R → Option RecordFault
+reported_of m = m.fault
 
 abbrev pub HasGiven : {R : Type 0} → List MarkOf → Marks R → Type 0
 HasGiven marks m = AreGivenOf m.begun marks (input_of m)
@@ -79,7 +79,7 @@ abbrev pub HasNoHeader : List ℕ → List Tree → ℕ → RecordKind → Type 
 HasNoHeader bytes [] offset kind = (offset ≡ 0) × (kind ≡ Header)
 HasNoHeader bytes (header ∷ records) offset kind = ⊥
 
--- The first fault of a file of which these marks were given: behind them, or of its header.
+-- The first fault of a file of which these marks were given: after them, or of its header.
 abbrev pub FaultBehind : List MarkOf → List ℕ → ℕ → RecordKind → Type 0
 FaultBehind marks = FirstFault (AreThese marks) IsNoMark HasNoHeader
 

@@ -49,7 +49,7 @@ pub record IsCallNumber (call : ℤ) : Type 0 where
   pub greatest : call ≤ℤ pos 2_147_483_647
 
 -- The marks of a transcript: calls have numbers, each begin mark another one, there are 100,000 begin marks at most, and each
--- end mark is the first of a call that was begun ahead of it. A call that has no end mark is open.
+-- end mark is the first of a call that was begun before it. A call that has no end mark is open.
 pub record AreRecorded (marks : List MarkOf) : Type 0 where
   pub numbered : All (λ mark. IsCallNumber (call_of mark)) marks
   pub once : AllPairs (λ call other. call ≢ other) (begun marks)
@@ -57,13 +57,13 @@ pub record AreRecorded (marks : List MarkOf) : Type 0 where
   pub answered : (before after : List MarkOf) (call : ℤ) (message : List ℕ) → marks ≡ before ++ ends call message ∷ after
       → Contains (begun before) call × ¬ (Contains (ended before) call)
 
--- the first test that a begin mark fails behind these marks
+-- the first test that a begin mark fails after these marks
 pub data BeginFault (before : List MarkOf) (call : ℤ) (kind : RecordKind) : Type 0 where
   below_one : call <ℤ pos 1 → kind ≡ Number → BeginFault before call kind
   used : Contains (begun before) call → kind ≡ Number → BeginFault before call kind
   one_too_many : pos 1 ≤ℤ call → ¬ (Contains (begun before) call) → 100_000 ≤ length (begun before) → kind ≡ Calls → BeginFault before call kind
 
--- the first test that an end mark fails behind these marks
+-- the first test that an end mark fails after these marks
 pub data EndFault (before : List MarkOf) (call : ℤ) (kind : RecordKind) : Type 0 where
   end_below_one : call <ℤ pos 1 → kind ≡ Number → EndFault before call kind
   not_begun : pos 1 ≤ℤ call → ¬ (Contains (begun before) call) → kind ≡ EndWithoutBegin → EndFault before call kind

@@ -31,7 +31,7 @@ record_kind flaw.TooLong = Ttlv flaw.TooLong
 abbrev pub IsReading : List ℕ → List Tree → List ℕ → ℕ → Type 0
 IsReading file given left place = IsSplit file given left place None
 
--- the item was at the front of what was left, and the rest is left behind it
+-- the item was at the front of what was left, and the rest is left after it
 pub record Takes (item : Tree) (left after : List ℕ) (place place' : ℕ) : Type 0 where
   pub front : List ℕ
   pub spelled : Spells item front

@@ -32,7 +32,7 @@ abbrev pub AreRightInTranscript : List Tree → Type 0
 AreRightInTranscript [] = Unit {0}
 AreRightInTranscript (header ∷ records) = (header ≡ transcript_header) × AreMarks records
 
--- the first test that a record fails behind these
+-- the first test that a record fails after these
 pub data MarkItemFault (records : List Tree) (item : Tree) (kind : RecordKind) : Type 0 where
   no_mark : ((mark : MarkOf) → item ≢ mark_item mark) → kind ≡ Entry → MarkItemFault records item kind
   in_mark : (before : List MarkOf) (mark : MarkOf) → records ≡ map mark_item before → item ≡ mark_item mark → MarkFault before mark kind → MarkItemFault records item kind

@@ -18,7 +18,7 @@ pub record IsReadSoFar (file : List ℕ) (version : Version) (turns : List TurnO
 abbrev pub NotAhead : {X : Type 0} → (X → Tree) → List Tree → Type 0
 NotAhead {X} item_of items = (x : X) (rest : List Tree) → items ≢ item_of x ∷ rest
 
--- why a turn is not put behind the others
+-- why a turn is not put after the others
 pub data RefusesTurn (version : Version) (turn : TurnOf) (kind : RecordKind) : Type 0 where
   no_memory : kind ≡ Memory → RefusesTurn version turn kind
   foreign : ¬ (Admits version turn) → kind ≡ Entry → RefusesTurn version turn kind

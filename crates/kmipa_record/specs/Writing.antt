@@ -18,10 +18,10 @@ use Rattle.kmipa_record.specs.declared.version.Version.TheVariants.{First, Third
 -- these bytes were appended, and they are as the word says
 pub record Appends (Is : List ℕ → Type 0) (old new : List ℕ) : Type 0 where
   pub appended : List ℕ
-  pub behind : new ≡ old ++ appended
+  pub after : new ≡ old ++ appended
   pub is : Is appended
 
--- the spellings of some items with zeros for padding, one behind the other
+-- the spellings of some items with zeros for padding, one after the other
 pub record ArePadded (bytes : List ℕ) : Type 0 where
   pub items : List Tree
   pub are : bytes ≡ flat_map spelling items
@@ -51,12 +51,12 @@ pub data Unwritten (Is : List ℕ → Type 0) (f : RecordFault) : Type 0 where
 
 -- the item's spelling was appended
 pub record Adds (item : Tree) (old new : List ℕ) : Type 0 where
-  pub behind : new ≡ old ++ spelling item
+  pub after : new ≡ old ++ spelling item
   pub spelled : Spells item (spelling item)
 
 -- these items' spellings were appended
 pub record AddsAll (items : List Tree) (old new : List ℕ) : Type 0 where
-  pub behind : new ≡ old ++ flat_map spelling items
+  pub after : new ≡ old ++ flat_map spelling items
   pub spelled : All (λ item. Spells item (spelling item)) items
 
 -- memory ran out, or what is to be written is refused

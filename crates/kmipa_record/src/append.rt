@@ -36,7 +36,7 @@ pub trait Written {
         ensures { IfOk result (λ item. tree item ≡ item_of self.now) };
 }
 
-/// Appends the spellings of the values' items, one behind the other; `Entry` where no bytes spell one of them.
+/// Appends the spellings of the values' items, one after the other; `Entry` where no bytes spell one of them.
 pub fn append_all<W: Written>(
     alloc: Global,
     values: &[W],

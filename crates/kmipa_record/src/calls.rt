@@ -1,4 +1,4 @@
-//! The calls of some marks, one behind the other.
+//! The calls of some marks, one after the other.
 
 ghost use Rattle.std.specs.Prelude.{MatchResult};
 ghost use Rattle.kmipa_record.specs.Calls.{HasNone, BeginsCall, RefusesBegin, EndsCall, RefusesEnd, Takes, Refuses};

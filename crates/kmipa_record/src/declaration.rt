@@ -30,7 +30,7 @@ pub struct Declaration {
 
 /// Reads a declaration of whose bytes none was read.
 ///
-/// `Device` and `Memory` are told with the place of the item that was being read.
+/// `Device` and `Memory` are reported with the place of the item that was being read.
 pub fn read_declaration<R: Read>(
     alloc: Global,
     input: &mut Input<R>,
@@ -40,9 +40,9 @@ pub fn read_declaration<R: Read>(
     ensures found { IfOk result (λ declaration. IsDeclaration (came_of input.new) (declaration_of declaration) × IsTrue (is_ended input.new)) }
     // What is read may be declared.
     ensures declared { IfOk result (λ declaration. AreDeclared (declaration_of declaration)) }
-    // Else the first fault is told, whatever follows what came, and nothing where the end was seen; unless a read failed or memory ran out.
+    // Else the first fault is reported, whatever follows what came, and nothing where the end was seen; unless a read failed or memory ran out.
     ensures fault { (file : List ℕ) → IsFileOf file input.new → IfErr result (Tells DeclarationFault IsDeclarationUpTo file (is_failed input.new)) }
-    // These two are told where the item begins that was being read.
+    // These two are reported where the item begins that was being read.
     ensures place { IfErr result (TellsItem (came_of input.new)) }
     ensures sound { MatchResult result (λ _. is_failed input.new ≡ false) (λ f. f.kind ≢ RecordKind.Device → is_failed input.new ≡ false) }
     // Over a reader whose bytes are known what came is their front, and all where the end was seen.

@@ -34,7 +34,7 @@ pub enum RecordKind {
 impl RecordKind {
     ghost use Rattle.kmipa_record.specs.Kinds.{kind_number, kind_name};
 
-    /// The number of the kind. None has 6, which once told of a call without an end mark.
+    /// The number of the kind. None has 6, which once reported of a call without an end mark.
     pub fn number(self) -> u8
         ensures { result ≡ kind_number self }
     {

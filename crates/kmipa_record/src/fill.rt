@@ -67,7 +67,7 @@ fn parts_in<'a, 'b>(item: &'b View<'a>) -> Option<(i32, &'b View<'a>)>
     Some((number, &children[1]))
 }
 
-/// Puts the items that say the fills behind the others.
+/// Puts the items that say the fills after the others.
 pub fn push_fills(alloc: Global, children: &mut Vec<Item>, fills: &[Fill]) -> Result<(), AllocError>
     ensures { OnOk result (map tree children.new.items ≡ map tree children.old.items ++ map fill_item (map fill_of fills.now)) }
 {

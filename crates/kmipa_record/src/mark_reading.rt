@@ -22,7 +22,7 @@ pub struct PlacedMark {
     pub mark: Mark,
 }
 
-/// Reads the next mark, and the header ahead of it unless that was read.
+/// Reads the next mark, and the header before it unless that was read.
 pub fn read_on<R: Read>(
     alloc: Global,
     input: &mut Input<R>,
@@ -68,7 +68,7 @@ fn read_start<R: Read>(
     Ok(())
 }
 
-/// Reads the next mark behind the header.
+/// Reads the next mark after the header.
 fn next_mark<R: Read>(
     alloc: Global,
     input: &mut Input<R>,

@@ -35,13 +35,13 @@ impl<'a, R: Read> Marks<'a, R> {
     ghost use Rattle.kmipa_ttlv.specs.Input.{came_of, taken_of, is_failed, IsFileOf, StaysOver};
     ghost use Rattle.kmipa_record.specs.Files.{Tells, TellsItem};
     ghost use Rattle.kmipa_record.specs.Marks.{MarkOf, mark_of};
-    ghost use Rattle.kmipa_record.specs.MarkReading.{input_of, reference_of, place_of, told_of, HasGiven, GivesNext, StandsNext, FaultBehind, IsRightBehind};
+    ghost use Rattle.kmipa_record.specs.MarkReading.{input_of, reference_of, place_of, reported_of, HasGiven, GivesNext, StandsNext, FaultBehind, IsRightBehind};
 
     /// The marks of a transcript of whose bytes none was read.
     pub fn new(alloc: Global, input: &'a mut Input<R>) -> Marks<'a, R>
         requires { came_of input.old ≡ [] }
         ensures given { HasGiven [] result }
-        ensures told { told_of result ≡ None }
+        ensures reported { reported_of result ≡ None }
         ensures input { input_of result ≡ input.old }
         ensures same_reference { reference_of result ≡ input.entry.ghost_name }
     {
@@ -75,20 +75,20 @@ impl<'a, R: Read> Marks<'a, R> {
     pub fn next(&mut self) -> Result<Option<Mark>, RecordFault>
         // The marks that are given are those of the transcript, in order, and all of them once there is none.
         ensures given { (marks : List MarkOf) → HasGiven marks self.old → IfOk result (GivesNext marks self.new) }
-        // A mark stands behind those, at the place that is then told.
+        // A mark stands after those, at the place that is then reported.
         ensures placed { (marks : List MarkOf) → HasGiven marks self.old
             → IfOk result (λ next. IfSome next (λ mark. StandsNext marks (mark_of mark) (place_of self.new) (input_of self.new))) }
         ensures nearer { IfOk result (λ next. IfSome next (λ mark. taken_of (input_of self.old) < taken_of (input_of self.new))) }
-        // A fault is the first behind the marks that were given, whatever follows what came, unless a read failed or memory ran out.
-        ensures fault { (marks : List MarkOf) (file : List ℕ) → HasGiven marks self.old → told_of self.old ≡ None → IsFileOf file (input_of self.new)
+        // A fault is the first after the marks that were given, whatever follows what came, unless a read failed or memory ran out.
+        ensures fault { (marks : List MarkOf) (file : List ℕ) → HasGiven marks self.old → reported_of self.old ≡ None → IsFileOf file (input_of self.new)
             → IfErr result (Tells (FaultBehind marks) (IsRightBehind marks) file (is_failed (input_of self.new))) }
-        // Device and Memory are told where the item begins that was being read.
-        ensures place { told_of self.old ≡ None → IfErr result (TellsItem (came_of (input_of self.new))) }
-        ensures sound { told_of self.old ≡ None
+        // Device and Memory are reported where the item begins that was being read.
+        ensures place { reported_of self.old ≡ None → IfErr result (TellsItem (came_of (input_of self.new))) }
+        ensures sound { reported_of self.old ≡ None
             → MatchResult result (λ _. is_failed (input_of self.new) ≡ false) (λ f. f.kind ≢ RecordKind.Device → is_failed (input_of self.new) ≡ false) }
-        // It is told again.
-        ensures told { MatchResult result (λ _. told_of self.new ≡ None) (λ f. told_of self.new ≡ Some f) }
-        ensures again { (f : RecordFault) → told_of self.old ≡ Some f → (result ≡ Err f) × (input_of self.new ≡ input_of self.old) }
+        // It is reported again.
+        ensures reported { MatchResult result (λ _. reported_of self.new ≡ None) (λ f. reported_of self.new ≡ Some f) }
+        ensures again { (f : RecordFault) → reported_of self.old ≡ Some f → (result ≡ Err f) × (input_of self.new ≡ input_of self.old) }
         ensures same_reference { reference_of self.new ≡ reference_of self.old }
         // Over a reader whose bytes are known what came is their front.
         ensures over { StaysOver R.remaining (input_of self.old) (input_of self.new) }

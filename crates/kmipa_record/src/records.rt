@@ -58,7 +58,7 @@ impl Records {
         }
     }
 
-    /// Puts a record behind the others, or says what is wrong with it.
+    /// Puts a record after the others, or says what is wrong with it.
     pub fn take(&mut self, given: DeclarationRecord) -> Result<(), RecordKind>
         requires kept { AreKept self.old }
         requires fit { IsFit (record_of given) }

@@ -29,7 +29,7 @@ pub fn witness_fault(alloc: Global, parts: &[&[u8]]) -> Result<Option<RecordFaul
     Ok(read_witness(alloc, &mut Input::new(bytes.as_slice())).err())
 }
 
-pub fn told(offset: u64, kind: RecordKind) -> Option<RecordFault> {
+pub fn reported(offset: u64, kind: RecordKind) -> Option<RecordFault> {
     Some(RecordFault { offset, kind })
 }
 
@@ -72,15 +72,15 @@ fn spelled_example(rt: HostRuntime) -> Result<(), Fail> {
 fn faults_of_the_others(rt: HostRuntime) -> Result<(), Fail> {
     assert_eq!(rt;
         witness_fault(rt.alloc(), &[])?,
-        told(0, RecordKind::Header)
+        reported(0, RecordKind::Header)
     );
     assert_eq!(rt;
         witness_fault(rt.alloc(), &[&WITNESS, &turn(0)])?,
-        told(24, RecordKind::Number)
+        reported(24, RecordKind::Number)
     );
     assert_eq!(rt;
         witness_fault(rt.alloc(), &[&WITNESS, &begin(1)])?,
-        told(24, RecordKind::Entry)
+        reported(24, RecordKind::Entry)
     );
     assert_eq!(rt;
         witness_fault(rt.alloc(), &[&WITNESS, &turn(2), &turn(2)])?,
@@ -88,15 +88,15 @@ fn faults_of_the_others(rt: HostRuntime) -> Result<(), Fail> {
     );
     assert_eq!(rt;
         declaration_fault(rt.alloc(), &[])?,
-        told(0, RecordKind::Header)
+        reported(0, RecordKind::Header)
     );
     assert_eq!(rt;
         declaration_fault(rt.alloc(), &[&WITNESS])?,
-        told(0, RecordKind::Header)
+        reported(0, RecordKind::Header)
     );
     assert_eq!(rt;
         declaration_fault(rt.alloc(), &[&DECLARATION, &DECLARATION])?,
-        told(40, RecordKind::Entry)
+        reported(40, RecordKind::Entry)
     );
     Ok(())
 }
@@ -108,11 +108,11 @@ fn flaws_of_bytes(rt: HostRuntime) -> Result<(), Fail> {
         nested.extend_from_slice(&[0x54, 0, 1, 1, 0, 0, 0, (16 - level) * 8])?;
     }
     let deep = transcript_fault(rt.alloc(), &[&TRANSCRIPT, &nested])?;
-    assert_eq!(rt; deep, told(152, RecordKind::Ttlv(FaultKind::TooDeep)));
+    assert_eq!(rt; deep, reported(152, RecordKind::Ttlv(FaultKind::TooDeep)));
     let long = transcript_fault(rt.alloc(), &[&TRANSCRIPT, &TOO_LONG])?;
-    assert_eq!(rt; long, told(28, RecordKind::Ttlv(FaultKind::TooLong)));
+    assert_eq!(rt; long, reported(28, RecordKind::Ttlv(FaultKind::TooLong)));
     let first = witness_fault(rt.alloc(), &[&TOO_LONG])?;
-    assert_eq!(rt; first, told(4, RecordKind::Ttlv(FaultKind::TooLong)));
+    assert_eq!(rt; first, reported(4, RecordKind::Ttlv(FaultKind::TooLong)));
     Ok(())
 }
 

@@ -139,7 +139,7 @@ fn end_parts<'a, 'b>(children: &'b [View<'a>]) -> Option<(i32, &'a [u8])>
 
 /// Reads a transcript of whose bytes none was read.
 ///
-/// `Device` and `Memory` are told with the place of the item that was being read.
+/// `Device` and `Memory` are reported with the place of the item that was being read.
 pub fn read_transcript<R: Read>(
     alloc: Global,
     input: &mut Input<R>,
@@ -149,9 +149,9 @@ pub fn read_transcript<R: Read>(
     ensures found { IfOk result (λ transcript. IsTranscript (came_of input.new) (transcript_of transcript) × IsTrue (is_ended input.new)) }
     // Its calls begin and end as those of a transcript do; a call without an end mark is open.
     ensures recorded { IfOk result (λ transcript. AreRecorded (transcript_of transcript)) }
-    // Else the first fault is told, whatever follows what came, and nothing where the end was seen; unless a read failed or memory ran out.
+    // Else the first fault is reported, whatever follows what came, and nothing where the end was seen; unless a read failed or memory ran out.
     ensures fault { (file : List ℕ) → IsFileOf file input.new → IfErr result (Tells TranscriptFault IsTranscriptUpTo file (is_failed input.new)) }
-    // These two are told where the item begins that was being read.
+    // These two are reported where the item begins that was being read.
     ensures place { IfErr result (TellsItem (came_of input.new)) }
     ensures sound { MatchResult result (λ _. is_failed input.new ≡ false) (λ f. f.kind ≢ RecordKind.Device → is_failed input.new ≡ false) }
     // Over a reader whose bytes are known what came is their front, and all where the end was seen.
@@ -186,7 +186,7 @@ fn take_marks<R: Read>(
     Ok(())
 }
 
-/// Takes the next mark of a transcript behind those before it; `false` at the end.
+/// Takes the next mark of a transcript after those before it; `false` at the end.
 fn take_mark<R: Read>(
     source: &mut Marks<'_, R>,
     calls: &mut Calls,
@@ -211,7 +211,7 @@ fn take_mark<R: Read>(
     }
 }
 
-/// Puts a mark that stands at this place behind the others.
+/// Puts a mark that stands at this place after the others.
 fn keep_mark(
     calls: &mut Calls,
     marks: &mut Vec<Mark>,

@@ -45,11 +45,11 @@ impl Record for Turn {
         let Some(children) = children_of(item, TURN) else {
             return Ok(None);
         };
-        let Some((call, behind_call)) = integer_ahead(children, CALL) else {
+        let Some((call, behind_call)) = integer_before(children, CALL) else {
             return Ok(None);
         };
-        let (answer, behind_answer) = answer_ahead(behind_call);
-        let (places, behind_places) = places_ahead(alloc, behind_answer)?;
+        let (answer, behind_answer) = answer_before(behind_call);
+        let (places, behind_places) = places_before(alloc, behind_answer)?;
         let Some(fills) = fills_in(alloc, behind_places)? else {
             return Ok(None);
         };
@@ -62,8 +62,8 @@ impl Record for Turn {
     }
 }
 
-/// The number of an Integer with this tag that the children begin with, and the children behind it.
-fn integer_ahead<'a, 'b>(children: &'b [View<'a>], tag: u32) -> Option<(i32, &'b [View<'a>])>
+/// The number of an Integer with this tag that the children begin with, and the children after it.
+fn integer_before<'a, 'b>(children: &'b [View<'a>], tag: u32) -> Option<(i32, &'b [View<'a>])>
     ensures { MatchOption result ((number : ℤ) (rest : List Tree) → map view_tree children.now ≢ scalar tag (integer number) ∷ rest)
         (λ r. map view_tree children.now ≡ scalar tag (integer r.0) ∷ map view_tree r.1.now) }
 {
@@ -73,8 +73,8 @@ fn integer_ahead<'a, 'b>(children: &'b [View<'a>], tag: u32) -> Option<(i32, &'b
     Some((integer_of(&children[0], tag)?, &children[1..]))
 }
 
-/// The answer that the children begin with, if any, and the children behind it.
-fn answer_ahead<'a, 'b>(children: &'b [View<'a>]) -> (Option<&'a [u8]>, &'b [View<'a>])
+/// The answer that the children begin with, if any, and the children after it.
+fn answer_before<'a, 'b>(children: &'b [View<'a>]) -> (Option<&'a [u8]>, &'b [View<'a>])
     ensures split { map view_tree children.now ≡ map answer_item (listed (option_map lent result.0)) ++ map view_tree result.1.now }
     ensures first { option_map lent result.0 ≡ None → NotAhead answer_item (map view_tree children.now) }
 {
@@ -87,8 +87,8 @@ fn answer_ahead<'a, 'b>(children: &'b [View<'a>]) -> (Option<&'a [u8]>, &'b [Vie
     }
 }
 
-/// The places that the children begin with, and the children behind them.
-fn places_ahead<'a, 'b>(
+/// The places that the children begin with, and the children after them.
+fn places_before<'a, 'b>(
     alloc: Global,
     children: &'b [View<'a>],
 ) -> Result<(Vec<i32>, &'b [View<'a>]), AllocError>

@@ -25,14 +25,14 @@ pub struct Witness {
 
 /// Reads a witness of whose bytes none was read.
 ///
-/// `Device` and `Memory` are told with the place of the item that was being read.
+/// `Device` and `Memory` are reported with the place of the item that was being read.
 pub fn read_witness<R: Read>(alloc: Global, input: &mut Input<R>) -> Result<Witness, RecordFault>
     requires { came_of input.old ≡ [] }
     // What is read is what the bytes are that came, to the end that was seen.
     ensures found { IfOk result (λ witness. IsWitness (came_of input.new) (witness_of witness) × IsTrue (is_ended input.new)) }
-    // Else the first fault is told, whatever follows what came, and nothing where the end was seen; unless a read failed or memory ran out.
+    // Else the first fault is reported, whatever follows what came, and nothing where the end was seen; unless a read failed or memory ran out.
     ensures fault { (file : List ℕ) → IsFileOf file input.new → IfErr result (Tells WitnessFault IsWitnessUpTo file (is_failed input.new)) }
-    // These two are told where the item begins that was being read.
+    // These two are reported where the item begins that was being read.
     ensures place { IfErr result (TellsItem (came_of input.new)) }
     ensures sound { MatchResult result (λ _. is_failed input.new ≡ false) (λ f. f.kind ≢ RecordKind.Device → is_failed input.new ≡ false) }
     // Over a reader whose bytes are known what came is their front, and all where the end was seen.
@@ -81,7 +81,7 @@ fn read_turn<R: Read>(
     }
 }
 
-/// Puts a turn that stands at this place behind the others, where a witness of this version may have it.
+/// Puts a turn that stands at this place after the others, where a witness of this version may have it.
 fn keep_turn(
     version: Version,
     turns: &mut Vec<Turn>,

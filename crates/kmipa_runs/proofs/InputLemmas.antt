@@ -1,4 +1,4 @@
--- Items one behind the other: what is shown and written of them, and the first fault behind them.
+-- Items one after the other: what is shown and written of them, and the first fault after them.
 use Rattle.std.proofs.Common.{◌≡◌, ◌≢◌, ◌⊎◌, inl, inr, ◌≤◌, ◌<◌, ◌+◌, ◌-◌, ◌^◌, ℕ, zero, suc, Bool, false, IsTrue, List, [], ◌∷◌, ◌++◌, length, drop, Err, refl, sym, ap, subst, ◌∙◌, arith, append_assoc, length-append}
 use Rattle.std.proofs.lemmas.List.{append-nil}
 use Rattle.std.specs.Io.{StartsWith, appended_bytes}
@@ -100,9 +100,9 @@ pub all_read : (old new before text : List ℕ) → old ≡ [] → before ≡ []
 all_read old new before text eo eb e =
     e ∙ ap (λ (l : List ℕ). l ++ appended_bytes before text) eo ∙ ap (λ (l : List ℕ). appended_bytes l text) eb
 
-pub digits_told : (came text : List ℕ) (failed : Bool) (e : FromHexError) (said : Status) (lines made : List ℕ) → came ≡ text → made ≡ []
+pub digits_reported : (came text : List ℕ) (failed : Bool) (e : FromHexError) (said : Status) (lines made : List ℕ) → came ≡ text → made ≡ []
     → (e ≡ OutOfMemory) ⊎ (bytes_of text ≡ Err e)
     → IsSilent said lines ⊎ ((e ≢ OutOfMemory) × (said ≡ status.Refused) × (lines ≡ refused_line)) → Writes came failed said lines made
-digits_told came text failed e said lines made same nothing err (inl silent) = no_memory silent nothing
-digits_told came text failed e said lines made same nothing (inl memory) (inr told) = absurd (told.0 memory)
-digits_told came text failed e said lines made same nothing (inr bad) (inr told) = no_digits e (ap bytes_of same ∙ bad) told.1 told.2 nothing
+digits_reported came text failed e said lines made same nothing err (inl silent) = no_memory silent nothing
+digits_reported came text failed e said lines made same nothing (inl memory) (inr reported) = absurd (reported.0 memory)
+digits_reported came text failed e said lines made same nothing (inr bad) (inr reported) = no_digits e (ap bytes_of same ∙ bad) reported.1 reported.2 nothing

@@ -1,4 +1,4 @@
--- Items one behind the other have no fault.
+-- Items one after the other have no fault.
 use Rattle.std.proofs.Common.{◌≡◌, ◌⊎◌, inl, inr, ℕ, Bool, List, [], ◌∷◌, ◌++◌, length, refl, sym, ap, subst, arith, length-append}
 use Rattle.kmipa_ttlv.specs.Tree.{Tree}
 use Rattle.kmipa_ttlv.specs.Flaw.{OuterFlaw}
@@ -11,8 +11,8 @@ use Rattle.kmipa_ttlv.specs.declared.fault.TtlvFault.{TtlvFault}
 use Rattle.kmipa_ttlv.proofs.StreamLemmas.{all_given, one_list_lem}
 use Rattle.kmipa_runs.specs.Inputs.{TellsFirst}
 
--- the bytes behind the first of several items
-behind : (ts us : List Tree) (bytes rest : List ℕ) → Begins (ts ++ us) bytes rest → (mid : List ℕ) × Begins ts bytes mid × Begins us mid rest
+-- the bytes after the first of several items
+after : (ts us : List Tree) (bytes rest : List ℕ) → Begins (ts ++ us) bytes rest → (mid : List ℕ) × Begins ts bytes mid × Begins us mid rest
 behind [] us bytes rest b = (bytes, refl, b)
 behind (t ∷ ts) us bytes rest b =
     let tail = behind ts us b.1 rest b.4 in
@@ -51,5 +51,5 @@ pub items_have_no_fault_lem : (bytes : List ℕ) (items : List Tree) (failed : B
     → (f.kind ≡ Device) ⊎ (f.kind ≡ Memory)
 items_have_no_fault_lem bytes items failed f are t = elim (cause f.kind _ _ _ t.tells) [
   | inl other ↦ other
-  | inr told ↦ absurd (omega (arith, told.0, no_rest t.given items bytes t.rest told.1.from f.kind t.begins are told.1.flaw))
+  | inr reported ↦ absurd (omega (arith, reported.0, no_rest t.given items bytes t.rest reported.1.from f.kind t.begins are reported.1.flaw))
 ]

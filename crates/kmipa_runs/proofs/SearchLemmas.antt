@@ -63,35 +63,35 @@ unsearched_files ti di t d transcript declaration fault budget asked tf df p q s
 pub appended_witness : (old new : List ℕ) (witness : Witness) → Appends (IsWrittenWitness (witness_of witness)) old new → IsWitness (appended_bytes old new) (witness_of witness)
 appended_witness old new witness a =
     let P : List ℕ → Type 0 = λ bytes. IsWitness bytes (witness_of witness) in
-    subst P (sym (since old a.appended new a.behind)) a.is.is
+    subst P (sym (since old a.appended new a.after)) a.is.is
 
--- what is told of a witness
+-- what is reported of a witness
 abbrev pub TellsWitness : Witness → Lines → Status → List ℕ → List ℕ → List ℕ → List ℕ → Type 0
-TellsWitness witness told said lines made old new = ((said ≡ told.status) × (lines ≡ string_bytes told.text) × IsWitness made (witness_of witness))
+TellsWitness witness reported said lines made old new = ((said ≡ reported.status) × (lines ≡ string_bytes reported.text) × IsWitness made (witness_of witness))
     ⊎ (IsSilent said lines × (new ≡ old))
 
 -- of a search that found one
-pub told_witness : (searched : Searched) (told : Lines) (witness : Witness) (count : ℕ) (said : Status) (lines old new : List ℕ)
-    → searched.found ≡ Yes witness count → told.status ≡ found_status searched.found
-    → string_bytes told.text ≡ forced_text searched.forced ++ found_text searched.found
-    → TellsWitness witness told said lines (appended_bytes old new) old new
+pub reported_witness : (searched : Searched) (reported : Lines) (witness : Witness) (count : ℕ) (said : Status) (lines old new : List ℕ)
+    → searched.found ≡ Yes witness count → reported.status ≡ found_status searched.found
+    → string_bytes reported.text ≡ forced_text searched.forced ++ found_text searched.found
+    → TellsWitness witness reported said lines (appended_bytes old new) old new
     → appended_bytes old old ≡ []
     → PrintsSearch (Ok searched) said lines (appended_bytes old new) ⊎ (IsSilent said lines × (appended_bytes old new ≡ []))
-told_witness searched told witness count said lines old new is ended reads (inl p) nothing =
+reported_witness searched reported witness count said lines old new is ended reads (inl p) nothing =
     let P : Found → Type 0 = λ f. Makes f (appended_bytes old new) in
     inl (p.0 ∙ ended, p.1 ∙ reads, subst P (sym is) p.2)
-told_witness searched told witness count said lines old new is ended reads (inr p) nothing =
+reported_witness searched reported witness count said lines old new is ended reads (inr p) nothing =
     inr (p.0, ap (λ (l : List ℕ). appended_bytes old l) p.1 ∙ nothing)
 
-pub told_nothing : (searched : Searched) (told : Lines) (witness : Witness) (count : ℕ) (said : Status) (lines old new : List ℕ)
-    → searched.found ≡ Yes witness count → told.status ≡ found_status searched.found
-    → TellsWitness witness told said lines (appended_bytes old new) old new → said ≢ status.Done → new ≡ old
-told_nothing searched told witness count said lines old new is ended (inl p) other = absurd (other (p.0 ∙ ended ∙ ap found_status is))
-told_nothing searched told witness count said lines old new is ended (inr p) other = p.1
+pub reported_nothing : (searched : Searched) (reported : Lines) (witness : Witness) (count : ℕ) (said : Status) (lines old new : List ℕ)
+    → searched.found ≡ Yes witness count → reported.status ≡ found_status searched.found
+    → TellsWitness witness reported said lines (appended_bytes old new) old new → said ≢ status.Done → new ≡ old
+reported_nothing searched reported witness count said lines old new is ended (inl p) other = absurd (other (p.0 ∙ ended ∙ ap found_status is))
+reported_nothing searched reported witness count said lines old new is ended (inr p) other = p.1
 
 -- ---- status 0
 
--- status 0 is told where a witness was found, and of it alone
+-- status 0 is reported where a witness was found, and of it alone
 pub done_is_accepted : (searched : Searched) (t d : List ℕ) (budget : ℕ) (asked : Bool) (said : Status) (lines made : List ℕ) → AreSearched searched t d budget asked
     → PrintsSearch (Ok searched) said lines made ⊎ (IsSilent said lines × (made ≡ [])) → said ≡ status.Done → AreAccepted t d made
 done_is_accepted searched t d budget asked said lines made a (inr p) done = let clash : status.Failed ≡ status.Done = sym p.0.0 ∙ done in absurd cc

@@ -32,27 +32,27 @@ silent_check fault said lines is p =
     subst P is p
 
 -- what is printed of a yes, or where memory ran out
-yes_told : (outcome : Result Audited AuditFault) (said : Status) (lines : List ℕ) → IsYes outcome → PrintsOutcome outcome said lines → (said ≡ status.Done) ⊎ IsSilent said lines
-yes_told (Ok audited) said lines is prints =
+yes_reported : (outcome : Result Audited AuditFault) (said : Status) (lines : List ℕ) → IsYes outcome → PrintsOutcome outcome said lines → (said ≡ status.Done) ⊎ IsSilent said lines
+yes_reported (Ok audited) said lines is prints =
     let P : Verdict → Type 0 = λ v. PrintsVerdict (transcript_of audited.transcript) (witness_of audited.witness) v said lines in
     inl (subst P is prints).0
-yes_told (Err (audit.Transcript f)) said lines is prints = inr (silent_record (codes "transcript") f.offset f.kind said lines is prints)
-yes_told (Err (audit.Declaration f)) said lines is prints = inr (silent_record (codes "declaration") f.offset f.kind said lines is prints)
-yes_told (Err (audit.Witness f)) said lines is prints = inr (silent_record (codes "witness") f.offset f.kind said lines is prints)
-yes_told (Err (audit.Check f)) said lines is prints = inr (silent_check f said lines is prints)
+yes_reported (Err (audit.Transcript f)) said lines is prints = inr (silent_record (codes "transcript") f.offset f.kind said lines is prints)
+yes_reported (Err (audit.Declaration f)) said lines is prints = inr (silent_record (codes "declaration") f.offset f.kind said lines is prints)
+yes_reported (Err (audit.Witness f)) said lines is prints = inr (silent_record (codes "witness") f.offset f.kind said lines is prints)
+yes_reported (Err (audit.Check f)) said lines is prints = inr (silent_check f said lines is prints)
 
-pub accepted_told : (t d w : List ℕ) (failed_t failed_d failed_w : Bool) (outcome : Result Audited AuditFault) (said : Status) (lines : List ℕ)
+pub accepted_reported : (t d w : List ℕ) (failed_t failed_d failed_w : Bool) (outcome : Result Audited AuditFault) (said : Status) (lines : List ℕ)
     → Audits t d w failed_t failed_d failed_w outcome → PrintsOutcome outcome said lines ⊎ IsSilent said lines → SaysYes failed_t failed_d failed_w said lines t d w
-accepted_told t d w failed_t failed_d failed_w outcome said lines audits (inr silent) = λ a e f g. inr silent
-accepted_told t d w failed_t failed_d failed_w outcome said lines audits (inl prints) = λ a e f g.
+accepted_reported t d w failed_t failed_d failed_w outcome said lines audits (inr silent) = λ a e f g. inr silent
+accepted_reported t d w failed_t failed_d failed_w outcome said lines audits (inl prints) = λ a e f g.
     let P : Bool → Type 0 = λ x. Audits t d w x failed_d failed_w outcome in
     let Q : Bool → Type 0 = λ x. Audits t d w false x failed_w outcome in
     let R : Bool → Type 0 = λ x. Audits t d w false false x outcome in
-    yes_told outcome said lines (accepted_audit_is_yes_lem t d w a outcome (subst R g (subst Q f (subst P e audits)))) prints
+    yes_reported outcome said lines (accepted_audit_is_yes_lem t d w a outcome (subst R g (subst Q f (subst P e audits)))) prints
 
 -- what is printed of a fault
-pub fault_told : (made : Result Lines AllocError) (fault : AuditFault) (said : Status) (lines : List ℕ) → IfOk made (λ l. PrintsFault fault l.status (string_bytes l.text))
+pub fault_reported : (made : Result Lines AllocError) (fault : AuditFault) (said : Status) (lines : List ℕ) → IfOk made (λ l. PrintsFault fault l.status (string_bytes l.text))
     → IsOkAnd made (λ l. (said ≡ l.status) × (lines ≡ string_bytes l.text)) ⊎ IsSilent said lines → PrintsOutcome (Err fault) said lines ⊎ IsSilent said lines
-fault_told made fault said lines told (inr silent) = inr silent
-fault_told (Ok l) fault said lines told (inl p) = inl (p.0 ∙ told.0, p.1 ∙ told.1)
-fault_told (Err e) fault said lines told (inl p) = absurd p
+fault_reported made fault said lines reported (inr silent) = inr silent
+fault_reported (Ok l) fault said lines reported (inl p) = inl (p.0 ∙ reported.0, p.1 ∙ reported.1)
+fault_reported (Err e) fault said lines reported (inl p) = absurd p

@@ -39,14 +39,14 @@ flaw_text f = record_text (codes "input") f.offset (as_record f.kind)
 abbrev pub flaw_status : TtlvFault → Status
 flaw_status f = record_status (as_record f.kind)
 
--- The fault is that of the first bytes that are no item, behind all items before them; or the input is failed, or memory ran out, behind items.
+-- The fault is that of the first bytes that are no item, after all items before them; or the input is failed, or memory ran out, after items.
 pub record TellsFirst (bytes : List ℕ) (failed : Bool) (f : TtlvFault) : Type 0 where
   pub given : List Tree
   pub rest : List ℕ
   pub begins : Begins given bytes rest
   pub tells : TellsKnown (length bytes - length rest) rest failed f
 
--- the bytes are items one behind the other, and these are their lines, with what the options ask for
+-- the bytes are items one after the other, and these are their lines, with what the options ask for
 pub record AreShown (options : ShowOptions) (bytes lines : List ℕ) : Type 0 where
   pub items : List Tree
   pub are : AreItems items bytes
@@ -57,7 +57,7 @@ abbrev pub PrintsShown : ShowOptions → List ℕ → Bool → Status → List �
 PrintsShown options file failed said lines = ((said ≡ status.Done) × AreShown options file lines)
     ⊎ ((f : TtlvFault) × TellsFirst file failed f × (said ≡ flaw_status f) × (lines ≡ flaw_text f))
 
--- the spellings of items, one behind the other, with zeros for padding
+-- the spellings of items, one after the other, with zeros for padding
 abbrev pub joined : List Tree → List ℕ
 joined [] = []
 joined (t ∷ ts) = spelling t ++ joined ts
@@ -70,7 +70,7 @@ is_kept b = not (b == 32) && not (b == 9) && not (b == 13) && not (b == 10)
 abbrev pub bytes_of : List ℕ → Result (List ℕ) FromHexError
 bytes_of text = decode_of (filter is_kept text)
 
--- the bytes are items one behind the other, and this is their joined spelling
+-- the bytes are items one after the other, and this is their joined spelling
 pub record AreWritten (bytes made : List ℕ) : Type 0 where
   pub items : List Tree
   pub are : AreItems items bytes
@@ -85,7 +85,7 @@ abbrev pub MakesOrTells : List ℕ → Status → List ℕ → List ℕ → Type
 MakesOrTells bytes said lines made = ((said ≡ status.Done) × (lines ≡ []) × AreWritten bytes made)
     ⊎ ((made ≡ []) × (((f : TtlvFault) × TellsFirst bytes false f × (said ≡ flaw_status f) × (lines ≡ flaw_text f)) ⊎ IsSilent said lines))
 
--- What `write` makes and prints of a text at a status: what is made and printed of the bytes that its digits spell; or nothing is made, and it is told
+-- What `write` makes and prints of a text at a status: what is made and printed of the bytes that its digits spell; or nothing is made, and it is reported
 -- that they are no digits, or that the input is failed, or nothing, where memory ran out.
 pub data Writes (text : List ℕ) (failed : Bool) (said : Status) (lines made : List ℕ) : Type 0 where
   digits : (bytes : List ℕ) → bytes_of text ≡ Ok bytes → MakesOrTells bytes said lines made → Writes text failed said lines made

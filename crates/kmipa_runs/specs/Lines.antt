@@ -92,13 +92,13 @@ PrintsDate None lines = lines ≡ []
 PrintsDate (Some second) lines =
     (date : List ℕ) × (¬ (HasDate second) → date ≡ signed_decimal second) × (lines ≡ line (codes "at " ∷ date ∷ []))
 
--- what is printed of a verdict on these marks and turns: behind a no the date of its turn, which is the Time Stamp of its call's response
+-- what is printed of a verdict on these marks and turns: after a no the date of its turn, which is the Time Stamp of its call's response
 abbrev pub PrintsVerdict : List MarkOf → List TurnOf → Verdict → Status → List ℕ → Type 0
 PrintsVerdict marks turns verdict.Yes said lines = (said ≡ status.Done) × (lines ≡ yes_line)
 PrintsVerdict marks turns (verdict.No refused) said lines = (said ≡ status.No)
     × ((stamp : Option ℤ) × TellsStamp marks turns refused.call stamp × ((dated : List ℕ) × (PrintsDate stamp dated) × (lines ≡ no_line refused ++ dated)))
 
--- Behind the line of a no stands the date of its turn: the Time Stamp of the response of its call, which the transcript records,
+-- After the line of a no stands the date of its turn: the Time Stamp of the response of its call, which the transcript records,
 -- or which the witness gives.
 pub record IsDated (lines transcript declaration witness : List ℕ) : Type 0 where
   pub marks : List MarkOf

@@ -49,7 +49,7 @@ Makes (GaveUp count) made = made ≡ []
 abbrev pub IsForcedTold : List MarkOf → Bool → Option Bool → Type 0
 IsForcedTold marks true (Some forced) = TellsForced marks (Ok forced)
 IsForcedTold marks true None = ⊥
-IsForcedTold marks false told = told ≡ None
+IsForcedTold marks false reported = reported ≡ None
 
 -- a search of these records found this
 pub record AreSearched (searched : Searched) (t d : List ℕ) (budget : ℕ) (asked : Bool) : Type 0 where
@@ -71,9 +71,9 @@ abbrev pub SearchesRecords : List MarkOf → DeclarationOf → ℕ → Bool → 
 SearchesRecords marks declared budget asked (Ok searched) = IsForcedTold marks asked searched.forced × Finds marks declared budget searched.found
 SearchesRecords marks declared budget asked (Err fault) = SearchStops marks fault
 
--- and what is told first
+-- and what is reported first
 abbrev pub TellsIfForced : List MarkOf → Bool → Result (Option Bool) CheckFault → Type 0
-TellsIfForced marks asked (Ok told) = IsForcedTold marks asked told
+TellsIfForced marks asked (Ok reported) = IsForcedTold marks asked reported
 TellsIfForced marks asked (Err fault) = SearchStops marks fault
 
 -- the bytes are records with this fault

@@ -1,5 +1,5 @@
 -- What `show` prints of items: each on a line of its own, and below it the lines of its children, one level deeper. With the notes the name of an
--- Enumeration's number stands behind it, and with the messages the items of a message stand below the Byte String that is one.
+-- Enumeration's number stands after it, and with the messages the items of a message stand below the Byte String that is one.
 use Rattle.std.specs.Prelude.{◌≡◌, ◌⊎◌, ℕ, ◌+◌, ◌*◌, ◌==◌, ◌||◌, nat_lt, ℤ, Bool, true, false, if◌then◌else◌, List, [], ◌∷◌, ◌++◌, replicate, codes, Option, Some, None}
 use Rattle.std.specs.List.{flat_map}
 use Rattle.std.specs.Fmt.{decimal, signed_decimal}
@@ -25,7 +25,7 @@ abbrev pub truth_name : Bool → List ℕ
 truth_name true = codes "true"
 truth_name false = codes "false"
 
--- the number of a moment's second, and behind it its date, where the calendar has one
+-- the number of a moment's second, and after it its date, where the calendar has one
 pub record ShowsMoment (second : ℤ) (value : List ℕ) : Type 0 where
   pub dated : HasDate second → (date : List ℕ) × (value ≡ signed_decimal second ++ 32 ∷ date)
   pub undated : ¬ (HasDate second) → value ≡ signed_decimal second
@@ -80,12 +80,12 @@ kind_name (scalar tag (date_time_extended z)) = codes "DateTimeExtended"
 abbrev pub head : ℕ → ℕ → List ℕ → List ℕ
 head level tag kind = replicate (2 * level) 32 ++ encode_upper (big_bytes 3 tag) ++ 32 ∷ tag_name_of tag ++ 32 ∷ kind
 
--- a name behind a space, in parentheses
+-- a name after a space, in parentheses
 abbrev pub noted : Option (List ℕ) → List ℕ
 noted None = []
 noted (Some name) = codes " (" ++ name ++ codes ")"
 
--- what stands behind the value of an item: with the notes the name of an Enumeration's number, where the standard names it
+-- what stands after the value of an item: with the notes the name of an Enumeration's number, where the standard names it
 abbrev pub note : Bool → Tree → List ℕ
 note true (scalar tag (enumeration n)) = noted (number_name_of tag n)
 note notes t = []
@@ -104,7 +104,7 @@ abbrev mutual
   ShowsItemOver Below notes level (scalar tag s) lines =
       (line : List ℕ) × (below : List ℕ) × ShowsLine notes level (scalar tag s) line × Below level s below × (lines ≡ line ++ below)
 
-  -- the lines of items that stand one behind the other
+  -- the lines of items that stand one after the other
   pub ShowsItemsOver : (ℕ → Scalar → List ℕ → Type 0) → Bool → ℕ → Trees → List ℕ → Type 0
   ShowsItemsOver Below notes level none lines = lines ≡ []
   ShowsItemsOver Below notes level (more t ts) lines =
@@ -139,6 +139,6 @@ ShowsBelow false notes level s below = below ≡ []
 abbrev pub ShowsItem : ShowOptions → ℕ → Tree → List ℕ → Type 0
 ShowsItem options level t lines = ShowsItemOver (ShowsBelow options.messages options.notes) options.notes level t lines
 
--- the lines of items that stand one behind the other
+-- the lines of items that stand one after the other
 abbrev pub ShowsItems : ShowOptions → ℕ → Trees → List ℕ → Type 0
 ShowsItems options level ts lines = ShowsItemsOver (ShowsBelow options.messages options.notes) options.notes level ts lines

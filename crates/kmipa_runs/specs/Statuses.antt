@@ -12,6 +12,6 @@ status_number Failed = 3
 status_number GaveUp = 4
 status_number Usage = 64
 
--- nothing is told, since memory ran out
+-- nothing is reported, since memory ran out
 abbrev pub IsSilent : Status → List ℕ → Type 0
 IsSilent status text = (status ≡ Failed) × (text ≡ [])

@@ -5,7 +5,7 @@
 pub struct ShowOptions {
     /// Below a Byte String that is a whole message, the lines of that message's items.
     pub messages: bool,
-    /// Behind the number of an Enumeration, its name.
+    /// After the number of an Enumeration, its name.
     pub notes: bool,
 }
 

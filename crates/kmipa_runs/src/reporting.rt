@@ -31,8 +31,8 @@ pub fn report(
 
 /// Appends lines, all or, where memory runs out, none.
 pub fn append(lines: Result<Lines, AllocError>, out: &mut Vec<u8>) -> Status
-    ensures prints { IsOkAnd lines (λ told. (result ≡ told.status)
-        × (appended_bytes out.old.items out.new.items ≡ string_bytes told.text))
+    ensures prints { IsOkAnd lines (λ reported. (result ≡ reported.status)
+        × (appended_bytes out.old.items out.new.items ≡ string_bytes reported.text))
         ⊎ IsSilent result (appended_bytes out.old.items out.new.items) }
     ensures appends { StartsWith out.new.items out.old.items }
 {

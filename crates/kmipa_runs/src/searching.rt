@@ -25,10 +25,10 @@ use std::alloc::{AllocError, Global};
 use std::io::Read;
 
 /// `search TRANSCRIPT DECLARATION OUT`: looks for a witness with at most `budget` steps. Appends to `out` the lines of
-/// what was found, with `forced` ahead of them whether the transcript is forced, or the line of the fault that stands
+/// what was found, with `forced` before them whether the transcript is forced, or the line of the fault that stands
 /// in their place, and answers the status. A witness that was found is appended to `made`, as a file; at every other
 /// status than `Done` nothing is. Where memory runs out nothing is appended to either, and the status is `Failed`. The
-/// watcher is told of each step.
+/// watcher is reported of each step.
 pub fn search_run<R: Read, W: Watch>(
     alloc: Global,
     transcript: &mut Input<R>,
@@ -169,7 +169,7 @@ fn tell_witness(
     lines.status
 }
 
-/// The lines of what a search found, and ahead of them whether the transcript is forced, where that was asked for.
+/// The lines of what a search found, and before them whether the transcript is forced, where that was asked for.
 fn searched_lines(alloc: Global, searched: &Searched) -> Result<Lines, AllocError>
     ensures { IfOk result (λ lines. (lines.status ≡ found_status searched.now.found)
         × (string_bytes lines.text ≡ forced_text searched.now.forced ++ found_text searched.now.found)) }

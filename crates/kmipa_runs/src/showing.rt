@@ -25,7 +25,7 @@ pub fn show_run<R: Read>(
     out: &mut Vec<u8>,
 ) -> Status
     requires { came_of input.old ≡ [] }
-    // What is printed is told of whatever the input may be, or memory ran out.
+    // What is printed is reported of whatever the input may be, or memory ran out.
     ensures prints { (file : List ℕ) → IsFileOf file input.new
         → PrintsShown options file (is_failed input.new) result (appended_bytes out.old.items out.new.items) ⊎ IsSilent result (appended_bytes out.old.items out.new.items) }
     // Status 0 is answered only where the bytes that came, to the end that was seen, are the items that are shown.

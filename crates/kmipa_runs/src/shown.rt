@@ -49,7 +49,7 @@ pub fn push_item(
     }
 }
 
-/// Appends the lines of items that stand one behind the other at this level.
+/// Appends the lines of items that stand one after the other at this level.
 #[cycle(showing)]
 fn push_items(
     alloc: Global,

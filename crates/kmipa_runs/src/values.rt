@@ -77,7 +77,7 @@ pub fn push_word(text: &str, out: &mut Vec<u8>) -> Result<(), AllocError>
     push_text(text, out)
 }
 
-/// With the notes, appends the name of an Enumeration's number behind a space, in parentheses, where the standard
+/// With the notes, appends the name of an Enumeration's number after a space, in parentheses, where the standard
 /// names it.
 pub fn push_note(
     notes: bool,
@@ -97,7 +97,7 @@ pub fn push_note(
     }
 }
 
-/// Appends a name, if there is one, behind a space, in parentheses.
+/// Appends a name, if there is one, after a space, in parentheses.
 fn push_name(name: Option<&str>, out: &mut Vec<u8>) -> Result<(), AllocError>
     ensures pushes { OnOk result (out.new.items ≡ out.old.items ++ noted (option_map (λ text. text.now) name.entry)) }
     ensures appends { StartsWith out.new.items out.old.items }
@@ -148,7 +148,7 @@ fn fill_digits(table: &[u8; 16], bytes: &[u8], digits: &mut [u8])
     }
 }
 
-/// Appends the number of a moment's second, and behind a space its date, where the calendar has one.
+/// Appends the number of a moment's second, and after a space its date, where the calendar has one.
 fn push_moment(alloc: Global, second: i64, out: &mut Vec<u8>) -> Result<(), AllocError>
     ensures shows { OnOk result (ShowsMoment second (appended_bytes out.old.items out.new.items)) }
     ensures appends { StartsWith out.new.items out.old.items }

@@ -21,7 +21,7 @@ pub fn read_view<'b, R: Read>(
     input: &mut Input<R>,
     bytes: &'b mut Vec<u8>,
 ) -> Result<Option<View<'b>>, TtlvFault>
-    // What came is the item's spelling, and nothing behind it.
+    // What came is the item's spelling, and nothing after it.
     ensures item { IfOk result (λ o. IfSome o (λ view. (front : List ℕ) × Spells (view_tree view) front × (came_of input.new ≡ came_of input.old ++ front))) }
     // It is the next of those that came.
     ensures next { IfOk result (λ o. IfSome o (λ view. (given : List Tree) → AreItems given (came_of input.old) → AreItems (given ++ view_tree view ∷ []) (came_of input.new))) }
@@ -46,7 +46,7 @@ pub fn read_view<'b, R: Read>(
     }
 }
 
-/// The fault so many bytes behind this place of the input.
+/// The fault so many bytes after this place of the input.
 fn placed(place: u64, offset: u64, kind: FaultKind) -> TtlvFault
     ensures { result ≡ record { offset = capped (place + offset); kind = kind } }
 {

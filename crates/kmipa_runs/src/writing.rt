@@ -33,7 +33,7 @@ pub fn write_run<R: Read>(
     // What is made and printed is that of the bytes that came, to the end that was seen unless the input is failed, or memory ran out.
     ensures writes { Writes (came_of input.new) (is_failed input.new) result
         (appended_bytes out.old.items out.new.items) (appended_bytes made.old.items made.new.items) }
-    // Nothing else than want of memory or a failed input is told before the end was seen.
+    // Nothing else than want of memory or a failed input is reported before the end was seen.
     ensures whole { result ≢ Status.Failed → IsTrue (is_ended input.new) }
     ensures appends { StartsWith out.new.items out.old.items }
     ensures makes { StartsWith made.new.items made.old.items }

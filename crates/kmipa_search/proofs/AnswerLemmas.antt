@@ -55,9 +55,9 @@ pub forced_is_light_lem : ForcedIsLight
 forced_is_light_lem calls f = omega (arith, light f.steps f.apart, plain_long calls f.steps f.plain)
 
 -- forced, or not
-pub told_forced : (calls : List CallOf) (steps : List StepOf) (forced : Bool) → ArePlain calls steps → Decided forced (AllPairs AreApart steps) → Decided forced (IsForced calls)
-told_forced calls steps true plain apart = record { steps = steps; plain = plain; apart = apart }
-told_forced calls steps false plain never = λ f. let P : List StepOf → Type 0 = λ ss. AllPairs AreApart ss in never (subst P (same_steps calls f.steps steps f.plain plain) f.apart)
+pub reported_forced : (calls : List CallOf) (steps : List StepOf) (forced : Bool) → ArePlain calls steps → Decided forced (AllPairs AreApart steps) → Decided forced (IsForced calls)
+reported_forced calls steps true plain apart = record { steps = steps; plain = plain; apart = apart }
+reported_forced calls steps false plain never = λ f. let P : List StepOf → Type 0 = λ ss. AllPairs AreApart ss in never (subst P (same_steps calls f.steps steps f.plain plain) f.apart)
 
 module _ (marks : List MarkOf) (declared : DeclarationOf) (calls : List CallOf) (steps : List StepOf) (laws : LawsOfCheck) (r : AreRecorded marks) (are : AreCalls marks calls) (plain : ArePlain calls steps) where
   numbers_once : AllPairs (λ (x y : ℤ). x ≢ y) (map (λ (c : CallOf). c.number) calls)
@@ -170,7 +170,7 @@ module _ (marks : List MarkOf) (declared : DeclarationOf) (calls : List CallOf) 
     pub accepted : IsAccepted marks declared (turns_at steps places)
     accepted = laws.accepted marks declared calls (turns_at steps places) order can.known are (made places in_steps) taken_once can.placed can.knows can.sound
 
-    -- what is found is told
+    -- what is found is reported
     pub found : (budget count : ℕ) (witness : Witness) (result : Result Found CheckFault) → count ≤ budget → length steps ≤ count → witness_of witness ≡ turns_at steps places
         → (IsAccepted marks declared (witness_of witness) → Confirms witness count result) → Searches marks declared budget result
     found budget count witness result few paid is confirms =
@@ -200,14 +200,14 @@ pub not_refused : (marks : List MarkOf) (declared : DeclarationOf) (turns : List
 not_refused marks declared turns result laws r a c other fails = elim (laws.is_yes marks declared turns result r a c) [ inl e ↦ other e | inr e ↦ fails e ]
 
 -- no verdict on an accepted witness: memory ran out
-pub told_memory : (marks : List MarkOf) (declared : DeclarationOf) (turns : List TurnOf) (result : Result Verdict CheckFault) (f : CheckFault) (witness : Witness) (count : ℕ) (answer : Result Found CheckFault)
+pub reported_memory : (marks : List MarkOf) (declared : DeclarationOf) (turns : List TurnOf) (result : Result Verdict CheckFault) (f : CheckFault) (witness : Witness) (count : ℕ) (answer : Result Found CheckFault)
     → LawsOfCheck → AreRecorded marks → IsAccepted marks declared turns → Checks marks declared turns result → result ≡ Err f → (f ≡ fault.Memory → answer ≡ Err fault.Memory) → Confirms witness count answer
-told_memory marks declared turns result f witness count answer laws r a c is told = elim (laws.is_yes marks declared turns result r a c) [
+reported_memory marks declared turns result f witness count answer laws r a c is reported = elim (laws.is_yes marks declared turns result r a c) [
   | inl e ↦ absurd cc
   | inr e ↦
       let P : Result Found CheckFault → Type 0 = λ x. Confirms witness count x in
       let same : f ≡ fault.Memory = cc in
-      subst P (sym (told same)) tt
+      subst P (sym (reported same)) tt
 ]
 
 -- ---- a witness with guesses

@@ -22,9 +22,9 @@ candidates_ended calls p below =
     e ∙ ap (λ (o : Option ℕ). Some (end_or o)) (sym e)
 
 -- the candidates of plain calls
-pub plain_own : (calls given : List Call) (told : Option (Vec Candidate Global)) (own : Vec Candidate Global) (items : List Candidate) → given ≡ calls → told ≡ Some own → items ≡ own.items
-    → MatchOption told (AreNotPlain (map call_of given)) (λ v. ArePlain (map call_of given) (map candidate_step v.items)) → ArePlain (map call_of calls) (map candidate_step items)
-plain_own calls given told own items same is are h =
+pub plain_own : (calls given : List Call) (reported : Option (Vec Candidate Global)) (own : Vec Candidate Global) (items : List Candidate) → given ≡ calls → reported ≡ Some own → items ≡ own.items
+    → MatchOption reported (AreNotPlain (map call_of given)) (λ v. ArePlain (map call_of given) (map candidate_step v.items)) → ArePlain (map call_of calls) (map candidate_step items)
+plain_own calls given reported own items same is are h =
     let T : Option (Vec Candidate Global) → Type 0 = λ o. MatchOption o (AreNotPlain (map call_of given)) (λ v. ArePlain (map call_of given) (map candidate_step v.items)) in
     let P : List Call → Type 0 = λ cs. ArePlain (map call_of cs) (map candidate_step items) in
     let Q : List Candidate → Type 0 = λ cs. ArePlain (map call_of given) (map candidate_step cs) in

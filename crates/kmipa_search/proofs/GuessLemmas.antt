@@ -15,7 +15,7 @@ use Rattle.kmipa_search.proofs.PlaceLemmas.{one_cases, has_head}
 -- the places that are taken, their turns, the depth of the newest mark, and the steps
 pub record Guessing {T : Type 0} (count budget : ℕ) (path : List ℕ) (turns : List T) (depth steps : ℕ) (u : LedgerState) : Type 0 where
   pub sound : IsSound u.now
-  pub behind : AreSoundMarks (length path) u.marks
+  pub after : AreSoundMarks (length path) u.marks
   pub within : (p : ℕ) → Contains path p → p < count
   pub deep : 0 < length path → depth ≡ length u.marks
   pub few : steps ≤ budget
@@ -29,7 +29,7 @@ module _ {T : Type 0} (count budget : ℕ) where
       let Q : List T → Type 0 = λ ts. Guessing count budget [] ts depth 0 u in
       subst P (sym none) (subst Q (sym no_turns) (record {
         sound = sound;
-        behind = tt;
+        after = tt;
         within = λ p has. absurd (omega (arith, has.1));
         deep = λ some. absurd (omega (arith, some));
         few = omega arith;
@@ -48,7 +48,7 @@ module _ {T : Type 0} (count budget : ℕ) where
         let N : ℕ → Type 0 = λ n. AreSoundMarks n v.marks in
         subst P (sym is) (subst Q (sym are) (record {
           sound = sound;
-          behind = subst N (sym long) (subst S (sym marks) (g.sound, g.behind));
+          after = subst N (sym long) (subst S (sym marks) (g.sound, g.after));
           within = λ q has. elim (Contains-append_cases path (p ∷ []) q has) [
             | inl l ↦ g.within q l
             | inr r ↦ elim (one_cases p q [] r) [ inl e ↦ omega (arith, e, below) | inr none ↦ absurd (omega (arith, none.1)) ]
@@ -62,11 +62,11 @@ module _ {T : Type 0} (count budget : ℕ) where
     pub guessing_refused : (v : LedgerState) → steps < budget → v ≡ u → Guessing count budget path turns depth (steps + 1) v
     guessing_refused v left is =
         let P : LedgerState → Type 0 = λ s. Guessing count budget path turns depth (steps + 1) s in
-        subst P (sym is) (record { sound = g.sound; behind = g.behind; within = g.within; deep = g.deep; few = omega (arith, left); paid = omega (arith, g.paid); turned = g.turned })
+        subst P (sym is) (record { sound = g.sound; after = g.after; within = g.within; deep = g.deep; few = omega (arith, left); paid = omega (arith, g.paid); turned = g.turned })
 
     pub guessing_back : (p : ℕ) (fewer : List ℕ) (rest : List T) (v : LedgerState) → path ≡ fewer ++ p ∷ [] → length rest + 1 ≡ length turns → v ≡ gone_back u
         → Guessing count budget fewer rest (depth - 1) steps v
-    guessing_back p fewer rest v is less back = (let N : ℕ → Type 0 = λ n. AreSoundMarks n u.marks in by u.marks refl (subst N long g.behind))
+    guessing_back p fewer rest v is less back = (let N : ℕ → Type 0 = λ n. AreSoundMarks n u.marks in by u.marks refl (subst N long g.after))
       where
         long : length path ≡ suc (length fewer)
         long = ap length is ∙ omega (arith, length-append fewer (p ∷ []))
@@ -78,7 +78,7 @@ module _ {T : Type 0} (count budget : ℕ) where
             let P : LedgerState → Type 0 = λ s. Guessing count budget fewer rest (depth - 1) steps s in
             subst P (sym e) (record {
               sound = sound.0;
-              behind = sound.1;
+              after = sound.1;
               within = λ q has. let C : List ℕ → Type 0 = λ ps. Contains ps q in g.within q (subst C (sym is) (Contains-append_left fewer (p ∷ []) q has));
               deep = λ some. omega (arith, g.deep (omega (arith, long)), ap length same);
               few = g.few;

@@ -44,7 +44,7 @@ module _ (calls : List StepOf) where
     | inr t ↦ Contains-append_left (so_far calls taken) (step_at calls q ∷ []) x (call_taken taken p x t at)
   ]
 
-  -- a call taken lets each that is left stand behind it
+  -- a call taken lets each that is left stand after it
   pub lets_left : (taken : List ℕ) (place : ℕ) (c x : StepOf) → AreNext calls taken → (Contains taken place → ⊥) → slice_get calls place ≡ Some c → Contains (so_far calls taken) x
       → (x.response.stamp ≤ℤ c.response.stamp) × (Before c x → ⊥)
   lets_left [] place c x n left at h = absurd (omega (arith, h.1))
@@ -107,7 +107,7 @@ module _ (calls : List StepOf) where
     few_so_far taken n =
         omega (arith, at_most (so_far calls taken) calls (once_so_far taken n) (λ x h. let q = place_taken taken x n h in contains_at calls q.0 x q.2), length_so_far taken)
 
-    -- the first call of an order behind those taken is a next one
+    -- the first call of an order after those taken is a next one
     pub next_of_order : (taken : List ℕ) (c : StepOf) (rest : List StepOf) → AreTimed calls → AreNext calls taken
         → IsPermutation calls (so_far calls taken ++ c ∷ rest) → IsPlaced (so_far calls taken ++ c ∷ rest) → (p : ℕ) × (slice_get calls p ≡ Some c) × IsNext calls taken p
     next_of_order taken c rest timed n p placed =

@@ -6,7 +6,7 @@ use Rattle.std.proofs.lemmas.Float.{T_from_true}
 use Rattle.std.proofs.lemmas.Bool.{lt-ltb, ltb-true}
 use Rattle.kmipa_check.specs.Steps.{StepOf}
 use Rattle.kmipa_check.specs.Runs.{Before, EndsAhead}
-use Rattle.kmipa_search.specs.Next.{IsNext, is_taken, ends_ahead, lets, all_let, is_next_step, is_next}
+use Rattle.kmipa_search.specs.Next.{IsNext, is_taken, ends_before, lets, all_let, is_next_step, is_next}
 use Rattle.kmipa_search.specs.Laws.{NextIsTested}
 use Rattle.kmipa_search.proofs.PlaceLemmas.{one_cases, has_head}
 use Rattle.std.proofs.lemmas.List.Elements.{Contains-append_right}
@@ -50,19 +50,19 @@ not_taken (q ∷ taken) p h c =
       | inr t ↦ not_taken taken p n.1 t
     ]
 
-ahead_true : (end : Option ℕ) (place : ℕ) → EndsAhead end place → ends_ahead end place ≡ true
+ahead_true : (end : Option ℕ) (place : ℕ) → EndsAhead end place → ends_before end place ≡ true
 ahead_true None place h = absurd h
 ahead_true (Some end) place h = lt-ltb end place h
 
-true_ahead : (end : Option ℕ) (place : ℕ) → ends_ahead end place ≡ true → EndsAhead end place
+true_ahead : (end : Option ℕ) (place : ℕ) → ends_before end place ≡ true → EndsAhead end place
 true_ahead None place h = absurd cc
 true_ahead (Some end) place h = ltb-true end place h
 
 lets_of : (c d : StepOf) → lets c d ≡ true → (c.response.stamp ≤ℤ d.response.stamp) × (Before d c → ⊥)
 lets_of c d h =
-    let p = both_true (int_le c.response.stamp d.response.stamp) (not (ends_ahead d.end c.begin)) h in
+    let p = both_true (int_le c.response.stamp d.response.stamp) (not (ends_before d.end c.begin)) h in
     let q = p.1 in
-    (le_z_yes (T_from_true _ p.0), λ b. let e : ends_ahead d.end c.begin ≡ true = ahead_true d.end c.begin b in cc)
+    (le_z_yes (T_from_true _ p.0), λ b. let e : ends_before d.end c.begin ≡ true = ahead_true d.end c.begin b in cc)
 
 decide : (b : Bool) → (b ≡ true) ⊎ (b ≡ false)
 decide true = inl refl
@@ -74,7 +74,7 @@ true_of false t = absurd t
 
 of_lets : (c d : StepOf) → c.response.stamp ≤ℤ d.response.stamp → (Before d c → ⊥) → lets c d ≡ true
 of_lets c d s f =
-    elim (decide (ends_ahead d.end c.begin)) [
+    elim (decide (ends_before d.end c.begin)) [
       | inl t ↦ absurd (f (true_ahead d.end c.begin t))
       | inr e ↦ let u : int_le c.response.stamp d.response.stamp ≡ true = true_of (int_le c.response.stamp d.response.stamp) s.le in cc
     ]

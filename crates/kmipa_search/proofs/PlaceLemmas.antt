@@ -41,7 +41,7 @@ fresh {X = X} calls xs rest c once p has =
       ]
     ]
 
--- what holds of each two holds of one and each behind it
+-- what holds of each two holds of one and each after it
 pub pairs_behind : {X : Type 0} (R : X → X → Type 0) (xs rest : List X) (c d : X) → AllPairs R (xs ++ c ∷ rest) → Contains rest d → R c d
 pairs_behind {X = X} R [] rest c d h has =
     subst (λ (v : X). R c v) has.2 (h 0 (suc has.0) d (omega arith) (omega (arith, has.1)))

@@ -26,11 +26,11 @@ so_far_ordered calls [] = refl
 so_far_ordered calls (p ∷ taken) =
     ap (λ (xs : List StepOf). xs ++ step_at calls p ∷ []) (so_far_ordered calls taken) ∙ sym (map-append (λ q. step_at calls q) (reverse taken) (p ∷ [])) ∙ ap (ordered calls) (sym (reverse_onto taken p []))
 
--- What the loop keeps. Where the calls begin in their order, those that are not taken remain, and the tries go on behind a next call.
+-- What the loop keeps. Where the calls begin in their order, those that are not taken remain, and the tries go on after a next call.
 pub record Progress (rules : RulesOf) (calls : List StepOf) (budget : ℕ) (first : Meaning) (w : Remaining) (taken : List ℕ) (from depth steps : ℕ) (u : LedgerState) : Type 0 where
   pub searching : (declared : DeclarationOf) → Opens declared rules calls first → Searching declared calls taken from steps u.now u.marks
   pub sound : IsSound u.now
-  pub behind : AreSoundBehind taken u.marks
+  pub after : AreSoundBehind taken u.marks
   pub remaining : AreBegun calls → AreRemaining calls taken w
   pub cursor : AreBegun calls → IsCursor calls taken from
   pub within : (p : ℕ) → Contains taken p → p < length calls
@@ -42,7 +42,7 @@ module _ (rules : RulesOf) (calls : List StepOf) (budget : ℕ) (first : Meaning
   progress_begin w depth u same sound remaining = record {
     searching = λ declared o. search_starts declared rules calls u.now u.marks (let P : Meaning → Type 0 = λ m. Opens declared rules calls m in subst P (sym same) o) sound;
     sound = sound;
-    behind = tt;
+    after = tt;
     remaining = λ b. remaining;
     cursor = λ b. inl refl;
     within = λ p has. absurd (omega (arith, has.1));
@@ -78,7 +78,7 @@ module _ (rules : RulesOf) (calls : List StepOf) (budget : ℕ) (first : Meaning
               (subst Q (sym (add-one steps))
               (search_taken declared calls taken from steps u.now u.marks (t.searching declared o) p (f o.begun) o.taken v.now (subst C (sym (same o.begun)) (subst R o.rules_are e.0)) e.1));
           sound = e.1;
-          behind = let P : List Meaning → Type 0 = λ marks. AreSoundBehind (p ∷ taken) marks in subst P (sym e.2) (t.sound, t.behind);
+          after = let P : List Meaning → Type 0 = λ marks. AreSoundBehind (p ∷ taken) marks in subst P (sym e.2) (t.sound, t.after);
           remaining = remaining;
           cursor = λ b. inl refl;
           within = λ q has. elim (one_cases p q taken has) [
@@ -102,7 +102,7 @@ module _ (rules : RulesOf) (calls : List StepOf) (budget : ℕ) (first : Meaning
                   (subst F (sym (add-one p))
                   (search_refused declared calls taken from steps u.now u.marks (t.searching declared o) p (f o.begun) o.refused e.0.0 e.0.1 (subst C (sym (same o.begun)) (subst R o.rules_are e.0.2))));
               sound = t.sound;
-              behind = t.behind;
+              after = t.after;
               remaining = t.remaining;
               cursor = λ b. inr (p, add-one p, (f b).1);
               within = t.within;
@@ -128,7 +128,7 @@ module _ (rules : RulesOf) (calls : List StepOf) (budget : ℕ) (first : Meaning
       → (AreBegun calls → IsNextFrom calls (p ∷ taken) from None) → suc (length taken) < length calls → v ≡ gone_back u
       → (AreBegun calls → AreRemaining calls taken x) → (AreBegun calls → IsNext calls taken p)
       → Progress rules calls budget first x taken (p + 1) (depth - 1) steps v
-  progress_back w x p taken from depth steps u v t none few back remaining next = by u.marks refl t.behind
+  progress_back w x p taken from depth steps u v t none few back remaining next = by u.marks refl t.after
     where
       by : (marks : List Meaning) → u.marks ≡ marks → AreSoundBehind (p ∷ taken) marks → Progress rules calls budget first x taken (p + 1) (depth - 1) steps v
       by [] is sound = absurd sound
@@ -142,7 +142,7 @@ module _ (rules : RulesOf) (calls : List StepOf) (budget : ℕ) (first : Meaning
                 subst F (sym (add-one p))
                 (search_back declared rules calls first taken p from steps u.now m marks o (subst M is (t.searching declared o)) few (none o.begun));
             sound = sound.0;
-            behind = sound.1;
+            after = sound.1;
             remaining = remaining;
             cursor = λ b. inr (p, add-one p, next b);
             within = λ q has. t.within q (has.0 + 1, omega (arith, has.1), at_next q has);

@@ -80,7 +80,7 @@ module _ (count : ℕ) (rank : List ℕ) where
           subst P (sym (after_again count (LeftRank count rank taken) A B line x there)) (subst Q (sym (before_again count (LeftRank count rank taken) A B line x there)) l),
         )
 
-    -- the next rank of the line behind one
+    -- the next rank of the line after one
     module _ (taken A B : List ℕ) (line : AreLinked count (LeftRank count rank taken) A B) (i : ℕ) (stands : LeftRank count rank taken i ⊎ (i ≡ 0)) where
       after : IsAfter count (LeftRank count rank taken) i (at A i)
       after = line.afters i stands
@@ -139,7 +139,7 @@ module _ (calls : List StepOf) (taken order rank A B ends place C D : List ℕ)
       let P : StepOf → Type 0 = λ c. Before (step_at calls p) c in
       n.first p (step_at calls p) (here_at p below) left (subst P (call_of_next calls taken q n) before)
 
-  -- where a next call stands ahead of another of its stamp, so does its rank
+  -- where a next call stands before another of its stamp, so does its rank
   next_rank : (p q : ℕ) → IsNext calls taken p → IsNext calls taken q → p < q → at rank p < at rank q
   next_rank p q m n less = elim (which (at rank p) (at rank q)) [
     | inl h ↦ h
@@ -153,15 +153,15 @@ module _ (calls : List StepOf) (taken order rank A B ends place C D : List ℕ)
   ]
 
   module _ (from : ℕ) (cursor : IsCursor calls taken from) where
-    behind : LeftRank (length calls) rank taken (rank_from rank from) ⊎ (rank_from rank from ≡ 0)
-    behind = elim cursor [
+    after : LeftRank (length calls) rank taken (rank_from rank from) ⊎ (rank_from rank from ≡ 0)
+    after = elim cursor [
       | inl z ↦ inr (ap (rank_from rank) z)
       | inr q ↦
           let P : ℕ → Type 0 = λ k. LeftRank (length calls) rank taken (rank_from rank k) in
           inl (subst P (sym q.1) (q.0, below_next q.0 q.2, refl, q.2.left))
     ]
 
-    -- each next call from there on stands behind
+    -- each next call from there on stands after
     rank_behind : (q : ℕ) → from ≤ q → IsNext calls taken q → rank_from rank from < at rank q
     rank_behind q low n = elim cursor [
       | inl z ↦ let P : ℕ → Type 0 = λ k. rank_from rank k < at rank q in subst P (sym z) (by_stamp.placed q (below_next q n)).0
@@ -215,7 +215,7 @@ module _ (calls : List StepOf) (taken order rank A B ends place C D : List ℕ)
             | inr l ↦ l
           ]
 
-      -- each next call from there on is this one, or stands behind it
+      -- each next call from there on is this one, or stands after it
       at_or_behind : (q : ℕ) → from ≤ q → IsNext calls taken q → (p ≡ q) ⊎ ByStamp calls p q
       at_or_behind q low n = ranked_from (length calls) rank (ByStamp calls) order by_stamp p q here.0 (below_next q n) (omega (arith, here.1, rank_least q low n))
 
@@ -274,12 +274,12 @@ module _ (calls : List StepOf) (taken order rank A B ends place C D : List ℕ)
         | inr b ↦ next_first q s n s_here.0 s_here.2 (less_before (step_at calls s) (step_at calls q) (ended s s_here.0) (omega (arith, past, begun p q (not_less q n b) (below_next q n))))
       ]
 
-      pub next_told : AreBegun calls → (b : Bool) → allows (step_at calls p) (step_at calls h) (step_at calls s) ≡ b → IsNextFrom calls taken from (cond b (Some p) None)
-      next_told begun true is =
+      pub next_reported : AreBegun calls → (b : Bool) → allows (step_at calls p) (step_at calls h) (step_at calls s) ≡ b → IsNextFrom calls taken from (cond b (Some p) None)
+      next_reported begun true is =
           let t = both_true (int_le (step_at calls p).response.stamp (step_at calls h).response.stamp) (not (nat_lt (end_of (step_at calls s)) (step_at calls p).begin)) is in
           let n = t.1 in
           next_here (le_z_yes (T_from_true _ t.0)) (λ b. let e : nat_lt (end_of (step_at calls s)) (step_at calls p).begin ≡ true = lt-ltb (end_of (step_at calls s)) (step_at calls p).begin b in cc)
-      next_told begun false is =
+      next_reported begun false is =
           elim (one_false (int_le (step_at calls p).response.stamp (step_at calls h).response.stamp) (not (nat_lt (end_of (step_at calls s)) (step_at calls p).begin)) is) [
             | inl a ↦ not_least a
             | inr b ↦ not_open begun (ltb-true (end_of (step_at calls s)) (step_at calls p).begin (true_from_not (nat_lt (end_of (step_at calls s)) (step_at calls p).begin) b))

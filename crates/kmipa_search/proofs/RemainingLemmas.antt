@@ -11,7 +11,7 @@ use Rattle.kmipa_search.specs.declared.links.Links.{Links}
 use Rattle.kmipa_search.specs.declared.ranks.Ranks.{Ranks}
 use Rattle.kmipa_search.specs.declared.remaining.Remaining.{Remaining}
 use Rattle.kmipa_search.proofs.LinksLemmas.{links_same}
-use Rattle.kmipa_search.proofs.RankLemmas.{linked_now, linked_without, none_behind, next_told, here, h_here, s_here}
+use Rattle.kmipa_search.proofs.RankLemmas.{linked_now, linked_without, none_behind, next_reported, here, h_here, s_here}
 
 module _ (calls : List StepOf) (taken : List ℕ) (w : Remaining) (x : AreRemaining calls taken w) (ended : AreEnded calls) where
   stamps : AreLinked (length calls) (LeftRank (length calls) w.stamps.rank.items taken) w.by_stamp.after.items w.by_stamp.before.items
@@ -26,10 +26,10 @@ module _ (calls : List StepOf) (taken : List ℕ) (w : Remaining) (x : AreRemain
         none_behind calls taken w.stamps.order.items w.stamps.rank.items w.by_stamp.after.items w.by_stamp.before.items w.ends.order.items w.ends.rank.items w.by_end.after.items w.by_end.before.items
         x.stamps x.ends stamps closes ended from cursor (omega (arith, past, is))
 
-    pub remaining_told : (r p h s : ℕ) → r ≡ at w.by_stamp.after.items (rank_from w.stamps.rank.items from) → r ≤ length calls
+    pub remaining_reported : (r p h s : ℕ) → r ≡ at w.by_stamp.after.items (rank_from w.stamps.rank.items from) → r ≤ length calls
         → p ≡ at w.stamps.order.items r → h ≡ at w.stamps.order.items (at w.by_stamp.after.items 0) → s ≡ at w.ends.order.items (at w.by_end.after.items 0) → AreBegun calls
         → (b : Bool) → (p < length calls → h < length calls → s < length calls → b ≡ allows (step_at calls p) (step_at calls h) (step_at calls s)) → IsNextFrom calls taken from (cond b (Some p) None)
-    remaining_told r p h s is within p_is h_is s_is begun b told =
+    remaining_reported r p h s is within p_is h_is s_is begun b reported =
         let few : at w.by_stamp.after.items (rank_from w.stamps.rank.items from) ≤ length calls = omega (arith, is, within) in
         let O = w.stamps.order.items in
         let K = w.stamps.rank.items in
@@ -45,11 +45,11 @@ module _ (calls : List StepOf) (taken : List ℕ) (w : Remaining) (x : AreRemain
         let s_in : s < length calls = omega (arith, s_is, (s_here calls taken O K A B E F C D x.stamps x.ends stamps closes ended from cursor few).0) in
         let P : ℕ → Type 0 = λ k. IsNextFrom calls taken from (cond b (Some k) None) in
         subst P (sym p_same)
-        (next_told calls taken O K A B E F C D x.stamps x.ends stamps closes ended from cursor few begun b
+        (next_reported calls taken O K A B E F C D x.stamps x.ends stamps closes ended from cursor few begun b
         (ap (λ (k : ℕ). allows (step_at calls k) (step_at calls (at O (at A 0))) (step_at calls (at E (at C 0)))) (sym p_same)
         ∙ ap (λ (k : ℕ). allows (step_at calls p) (step_at calls k) (step_at calls (at E (at C 0)))) (sym h_is)
         ∙ ap (λ (k : ℕ). allows (step_at calls p) (step_at calls h) (step_at calls k)) (sym s_is)
-        ∙ sym (told p_in h_in s_in)))
+        ∙ sym (reported p_in h_in s_in)))
 
   -- a next call is taken
   pub remaining_taken : (p r e : ℕ) (l m : Links) → IsNext calls taken p → r ≡ at w.stamps.rank.items p → e ≡ at w.ends.rank.items p

@@ -31,7 +31,7 @@ search_starts declared rules calls m marks o sound = record {
   knows = (o.known, sound);
   nexts = tt;
   here = λ p below n. absurd (omega (arith, below));
-  behind = tt;
+  after = tt;
   paid = omega arith;
   owed = λ few. let e = owed_all calls [] few in let z : length calls - 0 ≡ length calls = omega arith in omega (arith, e, ap (λ (k : ℕ). weigh k calls []) z);
 }
@@ -72,7 +72,7 @@ module _ (declared : DeclarationOf) (calls : List StepOf) (taken : List ℕ) (fr
             let P : ℕ → Type 0 = λ k. IsDead declared calls (k ∷ taken) in
             subst P (sym is) (refused_dead declared calls law taken p f.1 now item why (knows_now declared calls taken now marks s.knows).0 e)
       ];
-      behind = s.behind;
+      after = s.after;
       paid = omega (arith, s.paid);
       owed = λ few. omega (arith, s.owed few, owed_split);
     }
@@ -86,7 +86,7 @@ module _ (declared : DeclarationOf) (calls : List StepOf) (taken : List ℕ) (fr
           ((subst P (sym (call_of_next calls taken p f.1)) (law declared (so_far calls taken) f.1.call now m (knows_now declared calls taken now marks s.knows).0 e), sound), s.knows);
       nexts = (f.1, s.nexts);
       here = λ q less n. absurd (omega (arith, less));
-      behind = (cleared_to, s.behind);
+      after = (cleared_to, s.after);
       paid = omega (arith, s.paid);
       owed = λ few. omega (arith, s.owed (omega (arith, few)), owed_split, owed_all calls (p ∷ taken) few);
     }
@@ -116,12 +116,12 @@ search_back declared rules calls first taken p from steps now m marks o s few no
   knows = s.knows.1;
   nexts = s.nexts.1;
   here = λ q less n. elim (below_suc q p less) [
-    | inl b ↦ s.behind.0 q b n
+    | inl b ↦ s.after.0 q b n
     | inr is ↦
         let P : ℕ → Type 0 = λ k. IsDead declared calls (k ∷ taken) in
         subst P (sym is) (search_ends declared calls (p ∷ taken) from steps now (m ∷ marks) s rules first o few none)
   ];
-  behind = s.behind.1;
+  after = s.after.1;
   paid = omega (arith, s.paid);
   owed = λ less. omega (arith, s.owed few);
 }

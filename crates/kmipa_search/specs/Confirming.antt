@@ -24,7 +24,7 @@ Confirms witness count (Err fault.Memory) = Unit {0}
 Confirms witness count (Err (fault.Outside number side o)) = ⊥
 Confirms witness count (Err (fault.Witness f)) = ⊥
 
--- a witness is handed out that is accepted and can be written, or nothing is told but the count
+-- a witness is handed out that is accepted and can be written, or nothing is reported but the count
 abbrev pub IsTried : List MarkOf → DeclarationOf → Witness → ℕ → Result Found CheckFault → Type 0
 IsTried marks declared witness count (Ok (Yes w n)) = (w ≡ witness) × (n ≡ count) × IsAccepted marks declared (witness_of witness) × ((bytes : List ℕ) × IsWitness bytes (witness_of witness))
 IsTried marks declared witness count (Ok (GaveUp n)) = n ≡ count

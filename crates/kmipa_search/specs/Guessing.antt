@@ -1,4 +1,4 @@
--- A search that guesses payloads: how far it may go. Not promised: that its witness is right is told by a check.
+-- A search that guesses payloads: how far it may go. Not promised: that its witness is right is reported by a check.
 use Rattle.std.specs.Prelude.{◌≡◌, ◌≤◌, ℕ, zero, suc, List, ◌∷◌, [], length, map, Contains, Option, Some, None, IfSome, Result, Ok, Err}
 use Rattle.kmipa_store.specs.Ledger.{LedgerState, Meaning}
 use Rattle.kmipa_store.specs.Choices.{IsSound}
@@ -20,7 +20,7 @@ AreRecordedCalls calls = (c : Candidate) → Contains calls c → IsRecordedCall
 abbrev pub IsBounded : ℕ → Guessed → Type 0
 IsBounded budget g = (g.steps ≤ budget) × IfSome g.turns (λ turns. length turns.items ≤ g.steps)
 
--- taken behind a new mark; or nothing is changed
+-- taken after a new mark; or nothing is changed
 abbrev pub TurnTried : LedgerState → Result (Option ℕ) CheckFault → LedgerState → Type 0
 TurnTried s (Ok (Some depth)) u = IsSound u.now × (u.marks ≡ s.now ∷ s.marks) × (depth ≡ length u.marks)
 TurnTried s (Ok None) u = u ≡ s

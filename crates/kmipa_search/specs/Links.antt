@@ -4,7 +4,7 @@ use Rattle.std.specs.Prelude.{◌≡◌, ◌<◌, ◌≤◌, ◌+◌, ◌⊎◌,
 abbrev pub at : List ℕ → ℕ → ℕ
 at xs i = slice_index_or xs i 0
 
--- the next one that is in behind a place, or the end, which is one more than the last number
+-- the next one that is in after a place, or the end, which is one more than the last number
 pub record IsAfter (count : ℕ) (left : ℕ → Type 0) (i j : ℕ) : Type 0 where
   pub onward : i < j
   pub within : j ≤ count + 1

@@ -18,15 +18,15 @@ abbrev pub is_taken : List ℕ → ℕ → Bool
 is_taken [] place = false
 is_taken (p ∷ taken) place = (p == place) || is_taken taken place
 
-abbrev pub ends_ahead : Option ℕ → ℕ → Bool
-ends_ahead None place = false
-ends_ahead (Some end) place = nat_lt end place
+abbrev pub ends_before : Option ℕ → ℕ → Bool
+ends_before None place = false
+ends_before (Some end) place = nat_lt end place
 
--- the second step need not be taken ahead of the first
+-- the second step need not be taken before the first
 abbrev pub lets : StepOf → StepOf → Bool
-lets c d = int_le c.response.stamp d.response.stamp && not (ends_ahead d.end c.begin)
+lets c d = int_le c.response.stamp d.response.stamp && not (ends_before d.end c.begin)
 
--- none of these steps, which stand from a place on, has to be taken ahead
+-- none of these steps, which stand from a place on, has to be taken before
 abbrev pub all_let : List ℕ → StepOf → ℕ → List StepOf → Bool
 all_let taken c place [] = true
 all_let taken c place (d ∷ steps) = (is_taken taken place || lets c d) && all_let taken c (suc place) steps

@@ -16,7 +16,7 @@ TellsOutcome declared calls budget (Err Memory) = Unit {0}
 TellsOutcome declared calls budget (Err (Outside number side o)) = ⊥
 TellsOutcome declared calls budget (Err (Witness f)) = ⊥
 
--- what is told of a call that was not taken
+-- what is reported of a call that was not taken
 abbrev pub not_taken : CallRefusal → Result (Option ℕ) CheckFault
 not_taken (refusal.Impossible item why) = Ok None
 not_taken refusal.Memory = Err Memory

@@ -50,7 +50,7 @@ pub record HaveRun (declared : DeclarationOf) (calls : List StepOf) : Type 0 whe
   pub order : List StepOf
   pub run : TakesAll (rules_declared declared) calls start order
 
--- an order of these steps that can be taken, and what is known behind it
+-- an order of these steps that can be taken, and what is known after it
 pub record CanBeTaken (declared : DeclarationOf) (calls order : List StepOf) : Type 0 where
   pub once : IsPermutation calls order
   pub placed : IsPlaced order
@@ -96,19 +96,19 @@ cost calls taken place = cond (is_next calls taken place) (suc (weigh (length ca
 abbrev pub owed_here : List StepOf → List ℕ → ℕ → ℕ
 owed_here calls taken from = sum_from (cost calls taken) (length calls - from) from
 
--- and at each call taken behind it
-abbrev pub owed_behind : List StepOf → List ℕ → ℕ
-owed_behind calls [] = 0
-owed_behind calls (p ∷ taken) = owed_here calls taken (suc p) + owed_behind calls taken
+-- and at each call taken after it
+abbrev pub owed_after : List StepOf → List ℕ → ℕ
+owed_after calls [] = 0
+owed_after calls (p ∷ taken) = owed_here calls taken (suc p) + owed_after calls taken
 
 -- a search that took these calls, and has tried the next ones below a place
 pub record Searching (declared : DeclarationOf) (calls : List StepOf) (taken : List ℕ) (from steps : ℕ) (now : Meaning) (marks : List Meaning) : Type 0 where
   pub knows : KnowsAll declared calls taken now marks
   pub nexts : AreNext calls taken
   pub here : ClearedHere declared calls taken from
-  pub behind : ClearedBehind declared calls taken
+  pub after : ClearedBehind declared calls taken
   pub paid : length taken ≤ steps
-  pub owed : length taken < length calls → steps + owed_here calls taken from + owed_behind calls taken ≤ weight calls
+  pub owed : length taken < length calls → steps + owed_here calls taken from + owed_after calls taken ≤ weight calls
 
 -- the next call from a place on, or that there is none
 abbrev pub IsNextFrom : List StepOf → List ℕ → ℕ → Option ℕ → Type 0
@@ -130,7 +130,7 @@ pub record Opens (declared : DeclarationOf) (rules : RulesOf) (calls : List Step
   pub taken : TakenIsKnown
   pub refused : RefusedIsNever
 
--- what trying a call comes to: taken behind a new mark, whose depth is told; or not, and nothing is changed
+-- what trying a call comes to: taken after a new mark, whose depth is reported; or not, and nothing is changed
 abbrev pub CallTried : RulesOf → LedgerState → StepOf → Result (Option ℕ) CheckFault → LedgerState → Type 0
 CallTried rules s c (Ok (Some depth)) u = CallExplainsAlong rules s.now c.request c.response (order_of c) u.now × IsSound u.now × (u.marks ≡ s.now ∷ s.marks) × (depth ≡ length u.marks)
 CallTried rules s c (Ok None) u = ((item : ℕ) × (why : Why) × CallRefutedAlong rules s.now c.request c.response (order_of c) item why) × (u ≡ s)

@@ -39,7 +39,7 @@ WereLinked count rank (p ∷ taken) after before =
     AreLinked count (LeftRank count rank (p ∷ taken)) after before
     × WereLinked count rank taken (after_with after before (at rank p)) (before_with after before (at rank p))
 
--- the rank behind which tries go on
+-- the rank after which tries go on
 abbrev pub rank_from : List ℕ → ℕ → ℕ
 rank_from rank zero = 0
 rank_from rank (suc p) = at rank p

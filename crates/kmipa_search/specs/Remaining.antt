@@ -6,7 +6,7 @@ use Rattle.kmipa_search.specs.Progress.{AreNext}
 use Rattle.kmipa_search.specs.Ranks.{IsRanked, ByStamp, ByEnd, WereLinked}
 use Rattle.kmipa_search.specs.declared.remaining.Remaining.{Remaining}
 
--- the tries begin at the first call, or behind a next one
+-- the tries begin at the first call, or after a next one
 abbrev pub IsCursor : List StepOf → List ℕ → ℕ → Type 0
 IsCursor calls taken from = (from ≡ 0) ⊎ ((p : ℕ) × (from ≡ suc p) × IsNext calls taken p)
 

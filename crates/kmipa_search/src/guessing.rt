@@ -83,14 +83,14 @@ pub fn guess_order<L: Ledger, W: Watch>(
     })
 }
 
-/// A call that was taken: the turn that took it, and the depth of the mark behind which it was.
+/// A call that was taken: the turn that took it, and the depth of the mark after which it was.
 #[derive(Drop)]
 pub struct Taken {
     pub turn: Turn,
     pub depth: usize,
 }
 
-/// Takes a call with its guesses behind a new mark; or it is impossible with them, and the ledger is as before. An object is looked for as
+/// Takes a call with its guesses after a new mark; or it is impossible with them, and the ledger is as before. An object is looked for as
 /// it is when the call begins.
 fn try_guess<L: Ledger>(
     alloc: Global,
@@ -110,7 +110,7 @@ fn try_guess<L: Ledger>(
     }
 }
 
-/// Takes a call as a turn makes its step, behind a new mark, and answers the mark's depth; or the ledger is as before.
+/// Takes a call as a turn makes its step, after a new mark, and answers the mark's depth; or the ledger is as before.
 fn take_turn<L: Ledger>(
     alloc: Global,
     ledger: &mut L,

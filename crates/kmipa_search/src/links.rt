@@ -32,8 +32,8 @@ impl Links {
         Ok(Links { after, before })
     }
 
-    /// The element behind one, or the first behind 0; past the last number behind the last.
-    pub fn behind(&self, element: usize) -> usize
+    /// The element after one, or the first after 0; past the last number after the last.
+    pub fn after(&self, element: usize) -> usize
         ensures { result ≡ at self.now.after.items element }
     {
         match self.after.get(element) {
@@ -42,7 +42,7 @@ impl Links {
         }
     }
 
-    fn ahead(&self, element: usize) -> usize
+    fn before(&self, element: usize) -> usize
         ensures { result ≡ at self.now.before.items element }
     {
         match self.before.get(element) {
@@ -56,8 +56,8 @@ impl Links {
         ensures after { self.new.after.items ≡ after_without self.old.after.items self.old.before.items element }
         ensures before { self.new.before.items ≡ before_without self.old.after.items self.old.before.items element }
     {
-        let next = self.behind(element);
-        let last = self.ahead(element);
+        let next = self.after(element);
+        let last = self.before(element);
         put(&mut self.after, last, next);
         put(&mut self.before, next, last);
     }
@@ -67,8 +67,8 @@ impl Links {
         ensures after { self.new.after.items ≡ after_with self.old.after.items self.old.before.items element }
         ensures before { self.new.before.items ≡ before_with self.old.after.items self.old.before.items element }
     {
-        let next = self.behind(element);
-        let last = self.ahead(element);
+        let next = self.after(element);
+        let last = self.before(element);
         put(&mut self.after, last, element);
         put(&mut self.before, next, element);
     }

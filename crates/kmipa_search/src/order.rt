@@ -82,7 +82,7 @@ pub fn find_order<L: Ledger, W: Watch>(
     })
 }
 
-/// Takes a call behind a new mark, and answers the mark's depth; or the call is impossible, and the ledger is as before.
+/// Takes a call after a new mark, and answers the mark's depth; or the call is impossible, and the ledger is as before.
 fn try_call<L: Ledger>(
     alloc: Global,
     ledger: &mut L,

@@ -15,7 +15,7 @@ pub fn candidates<'b, 'a>(
     alloc: Global,
     calls: &'b [Call<'a>],
 ) -> Result<Option<Vec<Candidate<'b, 'a>>>, AllocError>
-    ensures { IfOk result (λ told. MatchOption told (AreNotPlain (map call_of calls.now)) (λ own. ArePlain (map call_of calls.now) (map candidate_step own.items))) }
+    ensures { IfOk result (λ reported. MatchOption reported (AreNotPlain (map call_of calls.now)) (λ own. ArePlain (map call_of calls.now) (map candidate_step own.items))) }
 {
     let mut own = Vec::new(alloc);
     'calls: for call in calls {

@@ -90,7 +90,7 @@ impl Ranks {
         }
     }
 
-    /// The rank behind which tries go on from a place.
+    /// The rank after which tries go on from a place.
     pub fn rank_from(&self, from: usize) -> usize
         ensures { result ≡ rank_from self.now.rank.items from }
     {

@@ -6,7 +6,7 @@ use crate::ranks::Ranks;
 use std::alloc::{AllocError, Global};
 
 /// The calls that remain to be taken: linked by their stamps, and those of one stamp by their begin marks; and linked by their end marks.
-/// Where the least end stands behind a call's begin mark, no call ended before it. So the next calls stand together at the front of the
+/// Where the least end stands after a call's begin mark, no call ended before it. So the next calls stand together at the front of the
 /// first list, and each is found, taken and given back in a few reads and writes.
 #[derive(Drop)]
 pub struct Remaining {
@@ -39,20 +39,20 @@ impl Remaining {
         })
     }
 
-    /// The first next call from a place on: behind a next one, or from the first on.
+    /// The first next call from a place on: after a next one, or from the first on.
     pub fn next(&self, calls: &[Candidate], from: usize) -> Option<usize>
         ensures next { (taken : List ℕ) → AreBegun (map candidate_step calls.now) → AreRemaining (map candidate_step calls.now) taken self.now
             → IsCursor (map candidate_step calls.now) taken from → IsNextFrom (map candidate_step calls.now) taken from result }
         ensures within { IfSome result (λ p. p < length calls.now) }
     {
         let behind = self.stamps.rank_from(from);
-        let rank = self.by_stamp.behind(behind);
+        let rank = self.by_stamp.after(behind);
         if rank > calls.len() {
             return None;
         }
         let place = self.stamps.place(rank);
-        let least = self.stamps.place(self.by_stamp.behind(0));
-        let soonest = self.ends.place(self.by_end.behind(0));
+        let least = self.stamps.place(self.by_stamp.after(0));
+        let soonest = self.ends.place(self.by_end.after(0));
         if leads(calls, place, least, soonest) {
             Some(place)
         } else {
@@ -86,7 +86,7 @@ ghost use Rattle.kmipa_search.specs.Ranks.{allows};
 
 /// Whether the call at a place is a next one, where those at these places have the least stamp and the least end.
 fn leads(calls: &[Candidate], place: usize, least: usize, soonest: usize) -> bool
-    ensures told { place < length calls.now → least < length calls.now → soonest < length calls.now
+    ensures reported { place < length calls.now → least < length calls.now → soonest < length calls.now
         → result ≡ allows (step_at (map candidate_step calls.now) place) (step_at (map candidate_step calls.now) least) (step_at (map candidate_step calls.now) soonest) }
     ensures within { result ≡ true → place < length calls.now }
 {

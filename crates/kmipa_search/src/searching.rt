@@ -44,7 +44,7 @@ pub fn search(
     search_watched(alloc, transcript, declaration, budget, &mut Unwatched {})
 }
 
-/// The same as `search`, told to a watcher step by step.
+/// The same as `search`, reported to a watcher step by step.
 pub fn search_watched<W: Watch>(
     alloc: Global,
     transcript: &Transcript,

@@ -1,8 +1,8 @@
 //! Watching a search on its way.
 
-/// Who watches a search: it is told of each step, and changes nothing of what the search answers.
+/// Who watches a search: it is reported of each step, and changes nothing of what the search answers.
 pub trait Watch {
-    /// One more call is tried: so many steps were made with it, and so many calls are taken ahead of it.
+    /// One more call is tried: so many steps were made with it, and so many calls are taken before it.
     fn step(&mut self, steps: u64, taken: usize);
 }
 

@@ -76,7 +76,7 @@ own_dates due place p life g e is =
       subst Q (sym e) (λ date a. life_deactivation due place life date (ap (λ d. d.deactivation) (sym is) ∙ a)),
     )
 
--- an object behind the others
+-- an object after the others
 pub awaits_pushed : (hs : List Held) (h : Held) (due : List Due) (place : ℕ) (life : Life) → place ≡ length hs → h.card.dates ≡ dates_of life → Awaits hs due → Awaits (hs ++ h ∷ []) (noted_life due place life)
 awaits_pushed hs h due place life last is a = record {
   activation = λ p g date at e. elim (get-append_cases hs h p g at) [

@@ -218,7 +218,7 @@ free_before places hs p h a at = none_from h.card.id (take p hs) 0 (λ q g of. f
     let before = t.1 in
     absurd (omega (arith, same, before))))
 
--- what is put behind the others and taken away again
+-- what is put after the others and taken away again
 pub hashed_again : (places : List Hashed) (hs : List Held) (hash place : ℕ) → place ≡ length hs → AreHashed places hs → AreHashed (remove_key (is_at (hashed_cmp (hash, place))) (insert_key hashed_cmp places (hash, place))) hs
 hashed_again places hs hash place is a = record {
   listed = λ p g at.

@@ -14,7 +14,7 @@ use Rattle.kmipa_store.specs.declared.ledger.Mark.{Mark}
 abbrev pub is_taken : LedgerState → List ℕ → Bool
 is_taken s id = is_some (place_of id (cards_of s.now.objects))
 
--- `add`: where the identifier is not taken, the object stands behind the others
+-- `add`: where the identifier is not taken, the object stands after the others
 abbrev pub Adds : LedgerState → Held → Result ℕ StoreFault → LedgerState → Type 0
 Adds s h (Ok place) t = (is_taken s h.card.id ≡ false) × (place ≡ length s.now.objects) × (t ≡ added s h)
 Adds s h (Err IdentifierTaken) t = (is_taken s h.card.id ≡ true) × (t ≡ s)

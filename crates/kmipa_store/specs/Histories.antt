@@ -14,7 +14,7 @@ history unmade x cs [] = []
 history unmade x cs (p ∷ ps) =
     rolled unmade x (take (length cs - p) cs) ∷ history unmade (rolled unmade x (take (length cs - p) cs)) (drop (length cs - p) cs) ps
 
--- each place is within, and none is behind a newer one
+-- each place is within, and none is after a newer one
 abbrev pub fits : ℕ → List ℕ → Bool
 fits n [] = true
 fits n (p ∷ ps) = nat_le p n && fits p ps

@@ -10,7 +10,7 @@ RefusedForMemory BytesDiffer x y = ⊥
 RefusedForMemory LengthImpossible x y = ⊥
 RefusedForMemory Memory x y = y ≡ x
 
--- an element behind the others, or want of memory
+-- an element after the others, or want of memory
 abbrev pub Pushes : {X : Type 0} → List X → X → Result (Unit {0}) StoreFault → List X → Type 0
 Pushes xs x (Ok u) ys = ys ≡ xs ++ x ∷ []
 Pushes xs x (Err fault) ys = (fault ≡ Memory) × (ys ≡ xs)

@@ -115,7 +115,7 @@ impl Clock {
         self.drop_date(place, brought.activation);
     }
 
-    /// The state and the dates of an object behind the others, at this place.
+    /// The state and the dates of an object after the others, at this place.
     pub fn add(&mut self, place: usize, life: Life) -> Result<Brought, StoreFault>
         ensures { AddsLife self.old place life result self.new }
     {

@@ -71,7 +71,7 @@ impl Counted {
         self.tally.is_none(value, kind)
     }
 
-    /// Adds an object, whose identifier no other has, behind the others.
+    /// Adds an object, whose identifier no other has, after the others.
     pub fn push(&mut self, object: Object) -> Result<(), StoreFault>
         requires { place_of (string_bytes object.id) (cards_of self.old) ≡ None }
         ensures { Pushes self.old (held object) result self.new }

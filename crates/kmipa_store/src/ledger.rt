@@ -68,7 +68,7 @@ pub trait Ledger {
         requires { place < length (state self.now).now.objects }
         ensures { state_of_place (state self.now).now.objects place (moment self.now) ≡ Some result };
 
-    /// Adds an object behind the others, and answers its place. Refused with IdentifierTaken or for memory; the object is then let go.
+    /// Adds an object after the others, and answers its place. Refused with IdentifierTaken or for memory; the object is then let go.
     fn add(&mut self, object: Object) -> Result<usize, StoreFault>
         ensures meaning { Adds (state self.old) (held object) result (state self.new) }
         ensures moment { moment self.new ≡ moment self.old };

@@ -114,7 +114,7 @@ impl Present {
         self.clock.set_moment(self.objects.plain(), t);
     }
 
-    /// Adds an object, whose identifier no other has, behind the others.
+    /// Adds an object, whose identifier no other has, after the others.
     pub fn push(&mut self, object: Object) -> Result<ObjectChange, StoreFault>
         requires { place_of (string_bytes object.id) (cards_of self.old.dated.objects) ≡ None }
         ensures { Makes self.old (self.old.dated.objects ++ held object ∷ []) result self.new }

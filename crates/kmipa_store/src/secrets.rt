@@ -117,7 +117,7 @@ impl Secrets {
         self.by_number[number].lesson(bytes)
     }
 
-    /// Adds a secret of unknown bytes behind the others.
+    /// Adds a secret of unknown bytes after the others.
     pub fn push(&mut self, rule: Rule) -> Result<(), StoreFault>
         ensures { Pushes self.old (record { rule = rule; bytes = None }) result self.new }
     {

@@ -69,7 +69,7 @@ stands_within zero t bytes s = absurd s
 stands_within (suc left) (structure tag ts) bytes s = s.0.whole
 stands_within (suc left) (scalar tag v) bytes s = s.0.whole
 
--- behind a child that stands go the others
+-- after a child that stands go the others
 behind_child : (left place : ℕ) (t : Tree) (bytes : List ℕ) → Stands left t bytes → Children left (place + extent bytes) (drop (extent bytes) bytes) → Children left place bytes
 behind_child left place t bytes s (inl others) = inl (more t others.0, (s, others.1))
 behind_child left place t bytes s (inr f) =
@@ -83,17 +83,17 @@ behind_child left place t bytes s (inr f) =
         at = first.at;
         run = (s, first.run);
         some = first.some;
-        behind = omega (arith, first.behind, length-drop (extent bytes) bytes, stands_within left t bytes s);
+        after = omega (arith, first.after, length-drop (extent bytes) bytes, stands_within left t bytes s);
         flaw = first.flaw;
       },
     )
 
--- the children at this place, by what stands there and what is wrong or right behind each that does
+-- the children at this place, by what stands there and what is wrong or right after each that does
 children_from : (left place : ℕ) (bytes : List ℕ) → 0 < length bytes → Child left place bytes
     → ((t : Tree) → Stands left t bytes → Children left (place + extent bytes) (drop (extent bytes) bytes)) → Children left place bytes
 children_from left place bytes some (inl c) behind = behind_child left place c.0 bytes c.1 (behind c.0 c.1)
 children_from left place bytes some (inr f) behind =
-    inr (f.0, f.1, record { before = none; rest = bytes; at = place; run = refl; some = some; behind = refl; flaw = f.2 })
+    inr (f.0, f.1, record { before = none; rest = bytes; at = place; run = refl; some = some; after = refl; flaw = f.2 })
 
 children_or_not : (left : ℕ) → ((place : ℕ) (bytes : List ℕ) → Child left place bytes) → (fuel place : ℕ) (bytes : List ℕ) → length bytes ≤ fuel → Children left place bytes
 children_or_not left child fuel place [] enough = inl (none, refl)
@@ -166,7 +166,7 @@ stands_or_value : (left place : ℕ) (bytes : List ℕ) → child_flaw place byt
 stands_or_value left place bytes e (inl s) = inl s
 stands_or_value left place bytes e (inr f) = inr (f.0, f.1, rw e f.2)
 
--- the item behind a header that passes its tests, or what is wrong with its value
+-- the item after a header that passes its tests, or what is wrong with its value
 by_kind : (left place kind : ℕ) (bytes : List ℕ) → kind_at bytes ≡ kind → Passed bytes → ((place : ℕ) (bytes : List ℕ) → Child left place bytes) → Standing left place bytes
 by_kind left place zero bytes e p child = absurd (kind_some bytes e p)
 by_kind left place (suc zero) bytes e p child =

@@ -29,7 +29,7 @@ pub filled_more : (before came after xs ys : List ℕ) (i k n : ℕ) → i ≤ l
 filled_more before came after xs ys i k n within few e f =
     f ∙ ap (λ (l : List ℕ). l ++ take n ys) e ∙ append_assoc before (take i xs) (take n ys) ∙ ap (λ (l : List ℕ). before ++ l) (sym (filled xs ys i k n within few))
 
--- a part of a vector was written, of which the first n count, and what is behind them is cut off
+-- a part of a vector was written, of which the first n count, and what is after them is cut off
 cut : (xs ys p q : List ℕ) (i n m : ℕ) → i ≤ length xs → n ≤ length ys → i + n ≤ m → take (i + n) (take m (take i xs ++ (ys ++ p) ++ q)) ≡ take i xs ++ take n ys
 cut xs ys p q i n m within few room =
     let front = length-take-le i xs within in
@@ -45,7 +45,7 @@ front_of xs i ys = take i xs ++ (ys ++ drop (length ys) (drop i xs))
 abbrev pub written : List ℕ → ℕ → List ℕ → List ℕ
 written xs i ys = front_of xs i ys ++ drop (length (front_of xs i ys)) xs
 
--- what stands behind the bytes that were there
+-- what stands after the bytes that were there
 pub appended_filled : (old xs ys out : List ℕ) (i n m : ℕ) → i ≡ length old → take i xs ≡ old → i ≤ length xs → n ≤ length ys → i + n ≤ m
     → out ≡ take (i + n) (take m (written xs i ys)) → appended_bytes old out ≡ take n ys
 appended_filled old xs ys out i n m len same within few room e =
@@ -72,18 +72,18 @@ stops TooLong came h = tt
 
 pub stops_in_header : (kind : FaultKind) (old new : List ℕ) → CameShort old new 8 → StopsInside kind (appended_bytes old new)
 stops_in_header kind old new s =
-    stops kind (appended_bytes old new) (rw (since old new s.more s.behind) (length s.more, no_header s.more s.fewer))
+    stops kind (appended_bytes old new) (rw (since old new s.more s.after) (length s.more, no_header s.more s.fewer))
 
 pub flawed_header_stops : (kind : FaultKind) (offset : ℕ) (came bytes : List ℕ) → head_flaw bytes ≡ Some (offset, kind) → StopsInside kind came
 flawed_header_stops kind offset came bytes flaw = ByCause-own kind _ _ _ (head_flaw_own bytes offset kind flaw) tt
 
--- the header is right, and fewer bytes came behind it than it says
+-- the header is right, and fewer bytes came after it than it says
 pub stops_in_value : (kind : FaultKind) (old mid new front : List ℕ) (most : ℕ) → mid ≡ old ++ front → 8 ≡ length front → head_flaw front ≡ None → extent front ≡ 8 + most
     → CameShort mid new most → StopsInside kind (appended_bytes old new)
 stops_in_value kind old mid new front most e long right all s =
     let came = front ++ s.more in
     let at : 8 ≤ length front = omega (arith, long) in
-    let whole : new ≡ old ++ came = s.behind ∙ ap (λ (l : List ℕ). l ++ s.more) e ∙ append_assoc old front s.more in
+    let whole : new ≡ old ++ came = s.after ∙ ap (λ (l : List ℕ). l ++ s.more) e ∙ append_assoc old front s.more in
     let same : extent came ≡ extent front = ap (λ (n : ℕ). 8 + (n + 7) / 8 * 8) (len_at-append front s.more at) in
     let len = length-append front s.more in
     stops kind (appended_bytes old new) (rw (since old new came whole) (

@@ -22,14 +22,14 @@ use std::str;
 /// The item that the bytes begin with, and how many bytes spell it. Bytes may follow it.
 ///
 /// Errors: the first flaw, read from left to right, with its offset from the first byte (Truncated at the number of
-/// bytes that are there); Memory at offset 0. Device is never told.
+/// bytes that are there); Memory at offset 0. Device is never reported.
 pub fn decode(alloc: Global, bytes: &[u8]) -> Result<(Item, usize), TtlvFault>
     // What is read is spelled so.
     ensures found { IfOk result (λ x. (x.1 ≤ length bytes.now) × Spells (tree x.0) (take x.1 bytes.now)) }
     // What is spelled so is read, unless memory runs out.
     ensures only { (t : Tree) (n : ℕ) → n ≤ length bytes.now → Spells t (take n bytes.now)
         → MatchResult result (λ x. (tree x.0 ≡ t) × (x.1 ≡ n)) (λ f. f.kind ≡ FaultKind.Memory) }
-    // Else the first test that fails is told, unless memory ran out.
+    // Else the first test that fails is reported, unless memory ran out.
     ensures flaw { IfErr result (λ f. Tells f (OuterFlaw bytes.now)) }
 {
     read_copy(alloc, bytes)

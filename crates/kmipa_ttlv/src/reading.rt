@@ -21,12 +21,12 @@ use std::io::Read;
 /// How many bytes `read_all` asks for at once.
 const CHUNK: usize = 65_536;
 
-/// The next item of an input, or `None` at its end. The input is then just behind the item.
+/// The next item of an input, or `None` at its end. The input is then just after the item.
 ///
 /// Errors: the flaw of the bytes that are left (Truncated only where the input ends inside the item), with offsets
 /// from the input's first byte; Device where the input is failed and Memory, with the item's offset.
 pub fn read_item<R: Read>(alloc: Global, input: &mut Input<R>) -> Result<Option<Item>, TtlvFault>
-    // What came is the item's spelling, and nothing behind it.
+    // What came is the item's spelling, and nothing after it.
     ensures item { IfOk result (λ o. IfSome o (λ item. (front : List ℕ) × Spells (tree item) front × (came_of input.new ≡ came_of input.old ++ front))) }
     // It is the next of those that came.
     ensures next { IfOk result (λ o. IfSome o (λ item. (given : List Tree) → AreItems given (came_of input.old) → AreItems (given ++ tree item ∷ []) (came_of input.new))) }
@@ -53,7 +53,7 @@ pub fn read_item_into<R: Read>(
     bytes: &mut Vec<u8>,
 ) -> Result<Option<Item>, TtlvFault>
     ensures bounded { vec_len bytes.new ≤ 0x10_0000 }
-    // What came is the item's spelling, and nothing behind it.
+    // What came is the item's spelling, and nothing after it.
     ensures item { IfOk result (λ o. IfSome o (λ item. (front : List ℕ) × Spells (tree item) front × (came_of input.new ≡ came_of input.old ++ front))) }
     // It is the next of those that came.
     ensures next { IfOk result (λ o. IfSome o (λ item. (given : List Tree) → AreItems given (came_of input.old) → AreItems (given ++ tree item ∷ []) (came_of input.new))) }
@@ -84,7 +84,7 @@ pub fn read_item_into<R: Read>(
     }
 }
 
-/// Reads the bytes of the next item into `bytes`, in place of what is there, and no byte behind them; `false` at the
+/// Reads the bytes of the next item into `bytes`, in place of what is there, and no byte after them; `false` at the
 /// end of the input. The header alone is tested. Errors: those of `read_item` that need no more than the header.
 pub fn read_bytes<R: Read>(input: &mut Input<R>, bytes: &mut Vec<u8>) -> Result<bool, TtlvFault>
     ensures bounded { vec_len bytes.new ≤ 0x10_0000 }
@@ -125,7 +125,7 @@ pub fn read_bytes<R: Read>(input: &mut Input<R>, bytes: &mut Vec<u8>) -> Result<
     Ok(true)
 }
 
-/// The fault so many bytes behind this place of the input.
+/// The fault so many bytes after this place of the input.
 fn placed(place: u64, offset: u64, kind: FaultKind) -> TtlvFault
     ensures { result ≡ record { offset = capped (place + offset); kind = kind } }
 {
@@ -180,7 +180,7 @@ pub fn read_all<R: Read>(input: &mut Input<R>, out: &mut Vec<u8>) -> Result<(), 
 }
 
 /// Appends the next `most` bytes of the input, or fewer at its end, and answers how many. It reads no further. The
-/// faults, Device and Memory, are told with this place.
+/// faults, Device and Memory, are reported with this place.
 fn append_up_to<R: Read>(
     input: &mut Input<R>,
     place: u64,

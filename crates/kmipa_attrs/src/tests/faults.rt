@@ -1,4 +1,4 @@
-//! What is told of children of a wrong type, there twice, or not for clients.
+//! What is reported of children of a wrong type, there twice, or not for clients.
 
 use super::{OTHER, attributes, child};
 use crate::tags::*;
@@ -9,13 +9,13 @@ use std::test::*;
 // Children of Attributes by tag and type, under the name of their case.
 type Row = (&'static str, [(u32, u8); 3]);
 
-// Nothing is told of these.
+// Nothing is reported of these.
 const GOOD: [Row; 1] = [(
     "two dates",
     [(ACTIVATION_DATE, 9), (DEACTIVATION_DATE, 9), OTHER],
 )];
 
-// An item of a wrong type, which is told ahead of an attribute that is there twice.
+// An item of a wrong type, which is reported before an attribute that is there twice.
 const OF_WRONG_TYPE: [Row; 7] = [
     ("algorithm", [(CRYPTOGRAPHIC_ALGORITHM, 2), OTHER, OTHER]),
     ("length", [(CRYPTOGRAPHIC_LENGTH, 5), OTHER, OTHER]),
@@ -36,7 +36,7 @@ const OF_WRONG_TYPE: [Row; 7] = [
     ),
 ];
 
-// An attribute that is there twice, which is told ahead of one that no client gives.
+// An attribute that is there twice, which is reported before one that no client gives.
 const TWICE: [Row; 2] = [
     (
         "twice",
@@ -69,7 +69,7 @@ const OF_SERVERS: [Row; 6] = [
     ),
 ];
 
-// What is told of the item from a client, and from a server.
+// What is reported of the item from a client, and from a server.
 fn faults_of(
     rt: &HostRuntime,
     item: &Item,
@@ -85,7 +85,7 @@ fn each_fault(rt: HostRuntime) -> Result<(), Fail> {
     let wrong = Some(AttrFault::WrongType);
     let repeated = Some(AttrFault::Repeated);
     let not_for_clients = Some(AttrFault::NotForClients);
-    for (rows, told) in [
+    for (rows, reported) in [
         (GOOD.as_slice(), (None, None)),
         (OF_WRONG_TYPE.as_slice(), (wrong, wrong)),
         (TWICE.as_slice(), (repeated, repeated)),
@@ -97,7 +97,7 @@ fn each_fault(rt: HostRuntime) -> Result<(), Fail> {
                 items.push(child(&rt, *number, *kind)?)?;
             }
             let item = attributes(items)?;
-            assert_eq!(rt; faults_of(&rt, &item)?, told, "{case}");
+            assert_eq!(rt; faults_of(&rt, &item)?, reported, "{case}");
         }
     }
     let item = child(&rt, ATTRIBUTES, 7)?;

@@ -32,7 +32,7 @@ fn push_digits(text: &str, bytes: &mut Vec<u8>) -> Result<(), Fail> {
     Ok(())
 }
 
-/// The bytes of records in hexadecimal, one behind the other.
+/// The bytes of records in hexadecimal, one after the other.
 fn bytes_of(rt: &HostRuntime, records: &[&str]) -> Result<Vec<u8>, Fail> {
     let mut bytes = Vec::new(rt.alloc());
     for record in records {
@@ -51,7 +51,7 @@ fn calls_recorded(rt: &HostRuntime) -> Result<Vec<u8>, Fail> {
     )
 }
 
-/// What is told of these three files.
+/// What is reported of these three files.
 fn audited<'x>(
     rt: &HostRuntime,
     transcript: &'x [u8],
@@ -64,8 +64,8 @@ fn audited<'x>(
     audit(rt.alloc(), &mut transcript, &mut declaration, &mut witness)
 }
 
-/// What is told of this transcript with a witness of these records.
-fn told_of(
+/// What is reported of this transcript with a witness of these records.
+fn reported_of(
     rt: &HostRuntime,
     transcript: &[u8],
     witness: &[&str],
@@ -92,7 +92,7 @@ fn message_at(transcript: &Transcript, place: usize) -> Result<&[u8], Fail> {
 }
 
 /// Whether the request of a call, written, is read as the same request. The bytes are those that were recorded, save where the client of
-/// a Register put the mask ahead of the name.
+/// a Register put the mask before the name.
 fn is_request_again(rt: &HostRuntime, transcript: &Transcript, call: &Call) -> Result<bool, Fail> {
     let [ask] = call.request.items.as_slice() else {
         return Ok(false);
@@ -100,11 +100,11 @@ fn is_request_again(rt: &HostRuntime, transcript: &Transcript, call: &Call) -> R
     let bytes = spelled(rt, &write_request(rt.alloc(), &call.request)?)?;
     let (view, taken) = decode_view(rt.alloc(), &bytes)?;
     let again = read_request(rt.alloc(), &view)?;
-    let told = format!(in rt.alloc(); "{again:?}")?;
+    let reported = format!(in rt.alloc(); "{again:?}")?;
     let wanted = format!(in rt.alloc(); "{:?}", call.request)?;
     let is_recorded = bytes.as_slice() == message_at(transcript, call.begin)?;
     let is_get = matches!(&ask.asked, Asked::Get(_));
-    Ok(taken == bytes.len() && told == wanted && is_recorded == is_get)
+    Ok(taken == bytes.len() && reported == wanted && is_recorded == is_get)
 }
 
 /// Whether the response of a call, written, is read as the same response. The bytes are those that were recorded, save where a failed
@@ -119,11 +119,11 @@ fn is_response_again(rt: &HostRuntime, transcript: &Transcript, call: &Call) -> 
     let bytes = spelled(rt, &write_response(rt.alloc(), response)?)?;
     let (view, taken) = decode_view(rt.alloc(), &bytes)?;
     let again = read_response(rt.alloc(), &view, &call.request)?;
-    let told = format!(in rt.alloc(); "{again:?}")?;
+    let reported = format!(in rt.alloc(); "{again:?}")?;
     let wanted = format!(in rt.alloc(); "{response:?}")?;
     let is_recorded = bytes.as_slice() == message_at(transcript, end)?;
     let is_done = answer.status == Status::Success;
-    Ok(taken == bytes.len() && told == wanted && is_recorded == is_done)
+    Ok(taken == bytes.len() && reported == wanted && is_recorded == is_done)
 }
 
 #[test]
@@ -146,7 +146,7 @@ fn messages_written_and_read_again(rt: HostRuntime) -> Result<(), Fail> {
 fn shown_key_is_the_registered_one(rt: HostRuntime) -> Result<(), Fail> {
     let turns = [WITNESS, TURN_1, TURN_2, TURN_9];
     let mut transcript = calls_recorded(&rt)?;
-    assert_eq!(rt; told_of(&rt, &transcript, &turns)?, Ok(Verdict::Yes));
+    assert_eq!(rt; reported_of(&rt, &transcript, &turns)?, Ok(Verdict::Yes));
     assert_eq!(rt; transcript.get(SHOWN_KEY), Some(&0x4D));
     transcript[SHOWN_KEY] = 0x5D;
     let refused = Refused {
@@ -156,7 +156,7 @@ fn shown_key_is_the_registered_one(rt: HostRuntime) -> Result<(), Fail> {
         why: Why::BytesDiffer,
     };
     assert_eq!(rt;
-        told_of(&rt, &transcript, &turns)?,
+        reported_of(&rt, &transcript, &turns)?,
         Ok(Verdict::No(refused))
     );
     Ok(())
@@ -190,7 +190,10 @@ fn turns_that_give_what_is_not_wanted(rt: HostRuntime) -> Result<(), Fail> {
         (ORDERED, WitnessKind::OrderNotWanted),
         (FILLED, WitnessKind::FillNotWanted),
     ] {
-        assert_eq!(rt; told_of(&rt, &transcript, &[witness])?, first_turn(kind));
+        assert_eq!(rt;
+            reported_of(&rt, &transcript, &[witness])?,
+            first_turn(kind)
+        );
     }
     Ok(())
 }

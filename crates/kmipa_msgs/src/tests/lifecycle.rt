@@ -148,8 +148,8 @@ fn lifecycle_requests_outside(rt: HostRuntime) -> Result<(), Fail> {
     for (edits, item, kind) in &BAD_REQUESTS {
         let bytes = changed(&rt, &LIFECYCLE, edits)?;
         let (view, _) = decode_view(rt.alloc(), &bytes)?;
-        let told = place_of(read_request(rt.alloc(), &view));
-        assert_eq!(rt; told, Some((*item, kind.number())));
+        let reported = place_of(read_request(rt.alloc(), &view));
+        assert_eq!(rt; reported, Some((*item, kind.number())));
     }
     Ok(())
 }
@@ -161,8 +161,8 @@ fn lifecycle_responses_outside(rt: HostRuntime) -> Result<(), Fail> {
     for (edits, item, kind) in &BAD_RESPONSES {
         let bytes = changed(&rt, &LIFECYCLE_ANSWERED, edits)?;
         let (view, _) = decode_view(rt.alloc(), &bytes)?;
-        let told = place_of(read_response(rt.alloc(), &view, &request));
-        assert_eq!(rt; told, Some((*item, kind.number())));
+        let reported = place_of(read_response(rt.alloc(), &view, &request));
+        assert_eq!(rt; reported, Some((*item, kind.number())));
     }
     Ok(())
 }
@@ -330,8 +330,8 @@ fn a_lifecycle_is_written_back(rt: HostRuntime) -> Result<(), Fail> {
     Ok(())
 }
 
-/// What is told of an answer to a request of one item; inside it has no payload.
-fn told_of(
+/// What is reported of an answer to a request of one item; inside it has no payload.
+fn reported_of(
     rt: &HostRuntime,
     request: &[(usize, u8)],
     response: &[(usize, u8)],
@@ -356,21 +356,21 @@ fn told_of(
 fn operations_that_are_not_judged(rt: HostRuntime) -> Result<(), Fail> {
     let operation = Some((1, OutsideKind::Operation.number()));
     // Query, done, undone and failed
-    assert_eq!(rt; told_of(&rt, &[], &[])?, None);
-    assert_eq!(rt; told_of(&rt, &[], &[(123, 3)])?, None);
-    assert_eq!(rt; told_of(&rt, &[], &[(123, 1)])?, None);
+    assert_eq!(rt; reported_of(&rt, &[], &[])?, None);
+    assert_eq!(rt; reported_of(&rt, &[], &[(123, 3)])?, None);
+    assert_eq!(rt; reported_of(&rt, &[], &[(123, 1)])?, None);
     // Discover Versions, answered by its own name
-    assert_eq!(rt; told_of(&rt, &[(91, 0x1E)], &[(107, 0x1E)])?, None);
+    assert_eq!(rt; reported_of(&rt, &[(91, 0x1E)], &[(107, 0x1E)])?, None);
     // operation 7FFF: failed, done, undone, done without a name, and answered as a Query
     let unknown: [(usize, u8); 2] = [(90, 0x7F), (91, 0xFF)];
     let failed = [(106, 0x7F), (107, 0xFF), (123, 1)];
-    assert_eq!(rt; told_of(&rt, &unknown, &failed)?, None);
+    assert_eq!(rt; reported_of(&rt, &unknown, &failed)?, None);
     let done = [(106, 0x7F), (107, 0xFF)];
-    assert_eq!(rt; told_of(&rt, &unknown, &done)?, operation);
+    assert_eq!(rt; reported_of(&rt, &unknown, &done)?, operation);
     let undone = [(106, 0x7F), (107, 0xFF), (123, 3)];
-    assert_eq!(rt; told_of(&rt, &unknown, &undone)?, operation);
-    assert_eq!(rt; told_of(&rt, &unknown, &[(98, 0x5D)])?, operation);
-    assert_eq!(rt; told_of(&rt, &unknown, &[])?, None);
+    assert_eq!(rt; reported_of(&rt, &unknown, &undone)?, operation);
+    assert_eq!(rt; reported_of(&rt, &unknown, &[(98, 0x5D)])?, operation);
+    assert_eq!(rt; reported_of(&rt, &unknown, &[])?, None);
     Ok(())
 }
 
@@ -384,7 +384,7 @@ fn no_payload_answers_a_query(rt: HostRuntime) -> Result<(), Fail> {
     assert_eq!(rt; query.number(), 0x18);
     let empty = [0x42, 0, 0x7C, 1, 0, 0, 0, 0];
     let (view, _) = decode_view(rt.alloc(), &empty)?;
-    let told = place_of(read_payload(rt.alloc(), &view, query));
-    assert_eq!(rt; told, Some((0, OutsideKind::Missing.number())));
+    let reported = place_of(read_payload(rt.alloc(), &view, query));
+    assert_eq!(rt; reported, Some((0, OutsideKind::Missing.number())));
     Ok(())
 }

@@ -34,7 +34,7 @@ fn a_locate_is_asked_for(rt: HostRuntime) -> Result<(), Fail> {
 }
 
 /// Where a changed Locate is outside.
-fn told_of(rt: &HostRuntime, edits: &[(usize, u8)]) -> Result<Option<(usize, u8)>, Fail> {
+fn reported_of(rt: &HostRuntime, edits: &[(usize, u8)]) -> Result<Option<(usize, u8)>, Fail> {
     let bytes = changed(rt, &LOCATE, edits)?;
     let (view, _) = decode_view(rt.alloc(), &bytes)?;
     Ok(place_of(read_request(rt.alloc(), &view)))
@@ -59,16 +59,16 @@ fn locates_outside(rt: HostRuntime) -> Result<(), Fail> {
     let missing = Some((1, OutsideKind::Missing.number()));
     let attribute = Some((1, OutsideKind::Attribute.number()));
     // Maximum Items as an Enumeration, Attributes as a Byte String
-    assert_eq!(rt; told_of(&rt, &[(107, 5)])?, missing);
-    assert_eq!(rt; told_of(&rt, &[(123, 8)])?, missing);
+    assert_eq!(rt; reported_of(&rt, &[(107, 5)])?, missing);
+    assert_eq!(rt; reported_of(&rt, &[(123, 8)])?, missing);
     // Object Type 3, also beside a State as an Integer
     let object_type = Some((1, OutsideKind::ObjectType.number()));
-    assert_eq!(rt; told_of(&rt, &[(179, 3)])?, object_type);
-    assert_eq!(rt; told_of(&rt, &[(179, 3), (219, 2)])?, object_type);
+    assert_eq!(rt; reported_of(&rt, &[(179, 3)])?, object_type);
+    assert_eq!(rt; reported_of(&rt, &[(179, 3), (219, 2)])?, object_type);
     // a State as an Integer
-    assert_eq!(rt; told_of(&rt, &[(219, 2)])?, attribute);
+    assert_eq!(rt; reported_of(&rt, &[(219, 2)])?, attribute);
     // a second Object Type in place of the State
-    assert_eq!(rt; told_of(&rt, &[(218, 0x57)])?, None);
+    assert_eq!(rt; reported_of(&rt, &[(218, 0x57)])?, None);
     Ok(())
 }
 
@@ -122,8 +122,8 @@ fn an_identifier_of_another_type(rt: HostRuntime) -> Result<(), Fail> {
     let request = read_request(rt.alloc(), &asked)?;
     let bytes = changed(&rt, &LOCATED, &[(155, 8)])?;
     let (view, _) = decode_view(rt.alloc(), &bytes)?;
-    let told = place_of(read_response(rt.alloc(), &view, &request));
-    assert_eq!(rt; told, Some((1, OutsideKind::IdentifierForm.number())));
+    let reported = place_of(read_response(rt.alloc(), &view, &request));
+    assert_eq!(rt; reported, Some((1, OutsideKind::IdentifierForm.number())));
     Ok(())
 }
 

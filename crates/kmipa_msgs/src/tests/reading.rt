@@ -200,8 +200,8 @@ fn requests_outside(rt: HostRuntime) -> Result<(), Fail> {
     for (edits, item, kind) in &BAD_REQUESTS {
         let bytes = changed(&rt, &REGISTER_AND_GET, edits)?;
         let (view, _) = decode_view(rt.alloc(), &bytes)?;
-        let told = place_of(read_request(rt.alloc(), &view));
-        assert_eq!(rt; told, Some((*item, kind.number())));
+        let reported = place_of(read_request(rt.alloc(), &view));
+        assert_eq!(rt; reported, Some((*item, kind.number())));
     }
     Ok(())
 }
@@ -213,8 +213,8 @@ fn responses_outside(rt: HostRuntime) -> Result<(), Fail> {
     for (edits, item, kind) in &BAD_RESPONSES {
         let bytes = changed(&rt, &REGISTERED_AND_GOT, edits)?;
         let (view, _) = decode_view(rt.alloc(), &bytes)?;
-        let told = place_of(read_response(rt.alloc(), &view, &request));
-        assert_eq!(rt; told, Some((*item, kind.number())));
+        let reported = place_of(read_response(rt.alloc(), &view, &request));
+        assert_eq!(rt; reported, Some((*item, kind.number())));
     }
     Ok(())
 }
@@ -331,8 +331,8 @@ fn a_payload_alone(rt: HostRuntime) -> Result<(), Fail> {
     assert_eq!(rt; registered.id, "x1");
     let empty = [0x42, 0, 0x7C, 1, 0, 0, 0, 0];
     let (view, _) = decode_view(rt.alloc(), &empty)?;
-    let told = place_of(read_payload(rt.alloc(), &view, register));
-    assert_eq!(rt; told, Some((0, OutsideKind::Missing.number())));
+    let reported = place_of(read_payload(rt.alloc(), &view, register));
+    assert_eq!(rt; reported, Some((0, OutsideKind::Missing.number())));
     Ok(())
 }
 

@@ -6,7 +6,7 @@ ghost use Rattle.kmipa_ttlv.specs.ItemTree.{tree};
 ghost use Rattle.kmipa_msgs.specs.Messages.{ask_of, request_of};
 ghost use Rattle.kmipa_msgs.specs.Requests.{SaysRequest};
 ghost use Rattle.kmipa_msgs.specs.Writable.{IsWritable};
-ghost use Rattle.kmipa_msgs.specs.Written.{told_option, told_order, written_ask, written_request_header, written_request};
+ghost use Rattle.kmipa_msgs.specs.Written.{stated_option, stated_order, written_ask, written_request_header, written_request};
 
 use super::fields::Fields;
 use super::header::write_version;
@@ -45,15 +45,18 @@ fn write_header(alloc: Global, request: &Request) -> Result<Item, AllocError>
 {
     let mut fields = Fields::new(alloc);
     fields.item(write_version(alloc)?)?;
-    fields.enumeration(BATCH_ERROR_CONTINUATION_OPTION, told_option(request.option))?;
-    fields.boolean(BATCH_ORDER_OPTION, told_order(request.ordered))?;
+    fields.enumeration(
+        BATCH_ERROR_CONTINUATION_OPTION,
+        stated_option(request.option),
+    )?;
+    fields.boolean(BATCH_ORDER_OPTION, stated_order(request.ordered))?;
     fields.integer(BATCH_COUNT, Some(request.items.as_slice().len() as i32))?;
     Ok(fields.structure(REQUEST_HEADER))
 }
 
 /// The number of an option; an absent one means Stop.
-fn told_option(option: BatchOption) -> Option<u32>
-    ensures { result ≡ told_option option }
+fn stated_option(option: BatchOption) -> Option<u32>
+    ensures { result ≡ stated_option option }
 {
     match option {
         BatchOption::Stop => None,
@@ -62,8 +65,8 @@ fn told_option(option: BatchOption) -> Option<u32>
 }
 
 /// An absent order means true.
-fn told_order(ordered: bool) -> Option<bool>
-    ensures { result ≡ told_order ordered }
+fn stated_order(ordered: bool) -> Option<bool>
+    ensures { result ≡ stated_order ordered }
 {
     if ordered { None } else { Some(false) }
 }

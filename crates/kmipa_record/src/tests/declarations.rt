@@ -1,7 +1,7 @@
 //! Declarations: their rows and entries, and what is wrong with them.
 
 use super::vectors::*;
-use super::{declaration_fault, told};
+use super::{declaration_fault, reported};
 use crate::*;
 use kmipa_attrs::ObjectType;
 use kmipa_msgs::{Cause, Row};
@@ -9,7 +9,7 @@ use kmipa_ttlv::Input;
 use std::alloc::Global;
 use std::test::Fail;
 
-// The fault of a declaration with such an entry behind another, at 144.
+// The fault of a declaration with such an entry after another, at 144.
 fn entry_fault(
     alloc: Global,
     kind: u8,
@@ -83,7 +83,7 @@ fn objects_of_each_kind(rt: HostRuntime) -> Result<(), Fail> {
 #[test]
 fn shapes_of_entries(rt: HostRuntime) -> Result<(), Fail> {
     let alloc = rt.alloc();
-    let wanted = told(144, RecordKind::Entry);
+    let wanted = reported(144, RecordKind::Entry);
     let whole = material(alloc, &[0; 16])?;
     let twice = joined(alloc, &[&whole, &whole])?;
     let word = item(alloc, [0x42, 0, 0x43], TEXT, b"word")?;
@@ -104,7 +104,7 @@ fn shapes_of_entries(rt: HostRuntime) -> Result<(), Fail> {
 #[test]
 fn attributes_of_entries(rt: HostRuntime) -> Result<(), Fail> {
     let alloc = rt.alloc();
-    let wanted = told(144, RecordKind::Entry);
+    let wanted = reported(144, RecordKind::Entry);
     let repeated = entry_fault(alloc, 2, &[&AES, &BITS_128, &BITS_128], &[])?;
     assert_eq!(rt; repeated, wanted);
     let integer = item(alloc, [0x42, 0, 0x28], INTEGER, &[0, 0, 0, 3])?;
@@ -126,7 +126,7 @@ fn attributes_of_entries(rt: HostRuntime) -> Result<(), Fail> {
 #[test]
 fn bytes_of_entries(rt: HostRuntime) -> Result<(), Fail> {
     let alloc = rt.alloc();
-    let wanted = told(144, RecordKind::Entry);
+    let wanted = reported(144, RecordKind::Entry);
     let whole = material(alloc, &[0; 16])?;
     let fitting = entry_fault(alloc, 2, &[&AES, &BITS_128], &whole)?;
     assert_eq!(rt; fitting, None);
@@ -149,20 +149,20 @@ fn bytes_of_entries(rt: HostRuntime) -> Result<(), Fail> {
 #[test]
 fn used_identifiers(rt: HostRuntime) -> Result<(), Fail> {
     let again = declaration_fault(rt.alloc(), &[&DECLARATION, &ENTRY, &ENTRY])?;
-    assert_eq!(rt; again, told(144, RecordKind::Identifier));
-    // That of a destroyed object is used too; an entry that is none is told first.
+    assert_eq!(rt; again, reported(144, RecordKind::Identifier));
+    // That of a destroyed object is used too; an entry that is none is reported first.
     let destroyed = entry(rt.alloc(), 2, &[&DESTROYED], &[])?;
     let live = entry(rt.alloc(), 7, &[], &[])?;
     let used = declaration_fault(rt.alloc(), &[&DECLARATION, &destroyed, &ENTRY, &live])?;
-    assert_eq!(rt; used, told(208, RecordKind::Identifier));
+    assert_eq!(rt; used, reported(208, RecordKind::Identifier));
     let none = entry(rt.alloc(), 1, &[], &[])?;
     let first = declaration_fault(rt.alloc(), &[&DECLARATION, &destroyed, &none])?;
-    assert_eq!(rt; first, told(104, RecordKind::Entry));
+    assert_eq!(rt; first, reported(104, RecordKind::Entry));
     Ok(())
 }
 
 #[test]
-fn rows_stand_ahead(rt: HostRuntime) -> Result<(), Fail> {
+fn rows_stand_before(rt: HostRuntime) -> Result<(), Fail> {
     let mut unique = DECLARATION;
     unique[39] = 1;
     let first = row(rt.alloc(), 1, 1)?;
@@ -187,11 +187,11 @@ fn rows_stand_ahead(rt: HostRuntime) -> Result<(), Fail> {
     ];
     assert_eq!(rt; declaration.rows.as_slice(), wanted.as_slice());
     let late = declaration_fault(rt.alloc(), &[&DECLARATION, &first, &ENTRY, &second])?;
-    assert_eq!(rt; late, told(184, RecordKind::Entry));
+    assert_eq!(rt; late, reported(184, RecordKind::Entry));
     for cause in [0, 4] {
         let unknown = row(rt.alloc(), 1, cause)?;
         let fault = declaration_fault(rt.alloc(), &[&DECLARATION, &first, &unknown])?;
-        assert_eq!(rt; fault, told(80, RecordKind::Entry));
+        assert_eq!(rt; fault, reported(80, RecordKind::Entry));
     }
     Ok(())
 }

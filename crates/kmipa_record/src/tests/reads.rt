@@ -1,6 +1,6 @@
 //! Readers that fail.
 
-use super::told;
+use super::reported;
 use super::vectors::*;
 use crate::*;
 use kmipa_ttlv::{FaultKind, Input};
@@ -43,7 +43,7 @@ fn each_read_fails(rt: HostRuntime) -> Result<(), Fail> {
             reads,
         });
         let fault = read_transcript(rt.alloc(), &mut input).err();
-        assert_eq!(rt; fault, told(offset, RecordKind::Device));
+        assert_eq!(rt; fault, reported(offset, RecordKind::Device));
         assert!(rt; input.failed());
     }
     let mut input = Input::new(FailsAfter {
@@ -55,20 +55,20 @@ fn each_read_fails(rt: HostRuntime) -> Result<(), Fail> {
 }
 
 #[test]
-fn bytes_ahead_are_judged_first(rt: HostRuntime) -> Result<(), Fail> {
+fn bytes_before_are_judged_first(rt: HostRuntime) -> Result<(), Fail> {
     let bytes = joined(rt.alloc(), &[&TRANSCRIPT, &end(1), &begin(1)])?;
     let mut input = Input::new(FailsAfter {
         bytes: &bytes,
         reads: 4,
     });
     let fault = read_transcript(rt.alloc(), &mut input).err();
-    assert_eq!(rt; fault, told(24, RecordKind::EndWithoutBegin));
+    assert_eq!(rt; fault, reported(24, RecordKind::EndWithoutBegin));
     let bytes = joined(rt.alloc(), &[&TRANSCRIPT, &TOO_LONG])?;
     let mut input = Input::new(FailsAfter {
         bytes: &bytes,
         reads: 3,
     });
     let fault = read_transcript(rt.alloc(), &mut input).err();
-    assert_eq!(rt; fault, told(28, RecordKind::Ttlv(FaultKind::TooLong)));
+    assert_eq!(rt; fault, reported(28, RecordKind::Ttlv(FaultKind::TooLong)));
     Ok(())
 }

@@ -1,7 +1,7 @@
 //! Transcripts: their marks, and what is wrong with them.
 
 use super::vectors::*;
-use super::{told, transcript_fault};
+use super::{reported, transcript_fault};
 use crate::*;
 use kmipa_ttlv::{FaultKind, Input};
 use std::test::Fail;
@@ -12,9 +12,9 @@ fn cut_anywhere(rt: HostRuntime) -> Result<(), Fail> {
     for n in 0..bytes.len() {
         let fault = transcript_fault(rt.alloc(), &[&bytes[..n]])?;
         let expected = match n {
-            0 => told(0, RecordKind::Header),
+            0 => reported(0, RecordKind::Header),
             24 | 192 => None,
-            _ => told(n as u64, RecordKind::Ttlv(FaultKind::Truncated)),
+            _ => reported(n as u64, RecordKind::Ttlv(FaultKind::Truncated)),
         };
         assert_eq!(rt; fault, expected, "cut at {n}");
     }
@@ -24,29 +24,29 @@ fn cut_anywhere(rt: HostRuntime) -> Result<(), Fail> {
 #[test]
 fn faults_of_transcripts(rt: HostRuntime) -> Result<(), Fail> {
     let fault = transcript_fault(rt.alloc(), &[&WITNESS])?;
-    assert_eq!(rt; fault, told(0, RecordKind::Header));
+    assert_eq!(rt; fault, reported(0, RecordKind::Header));
     let fault = transcript_fault(rt.alloc(), &[&begin(1)])?;
-    assert_eq!(rt; fault, told(0, RecordKind::Header));
+    assert_eq!(rt; fault, reported(0, RecordKind::Header));
     let fault = transcript_fault(rt.alloc(), &[&TRANSCRIPT, &TRANSCRIPT])?;
-    assert_eq!(rt; fault, told(24, RecordKind::Entry));
+    assert_eq!(rt; fault, reported(24, RecordKind::Entry));
     let fault = transcript_fault(rt.alloc(), &[&TRANSCRIPT, &turn(1)])?;
-    assert_eq!(rt; fault, told(24, RecordKind::Entry));
+    assert_eq!(rt; fault, reported(24, RecordKind::Entry));
     let fault = transcript_fault(rt.alloc(), &[&TRANSCRIPT, &begin(0)])?;
-    assert_eq!(rt; fault, told(24, RecordKind::Number));
+    assert_eq!(rt; fault, reported(24, RecordKind::Number));
     let fault = transcript_fault(rt.alloc(), &[&TRANSCRIPT, &end(0)])?;
-    assert_eq!(rt; fault, told(24, RecordKind::Number));
+    assert_eq!(rt; fault, reported(24, RecordKind::Number));
     let fault = transcript_fault(rt.alloc(), &[&TRANSCRIPT, &end(u32::MAX)])?;
-    assert_eq!(rt; fault, told(24, RecordKind::Number));
+    assert_eq!(rt; fault, reported(24, RecordKind::Number));
     let fault = transcript_fault(rt.alloc(), &[&TRANSCRIPT, &begin(1), &end(1), &begin(1)])?;
-    assert_eq!(rt; fault, told(96, RecordKind::Number));
+    assert_eq!(rt; fault, reported(96, RecordKind::Number));
     let fault = transcript_fault(rt.alloc(), &[&TRANSCRIPT, &begin(1), &begin(1)])?;
-    assert_eq!(rt; fault, told(64, RecordKind::Number));
+    assert_eq!(rt; fault, reported(64, RecordKind::Number));
     let fault = transcript_fault(rt.alloc(), &[&TRANSCRIPT, &end(1), &begin(1)])?;
-    assert_eq!(rt; fault, told(24, RecordKind::EndWithoutBegin));
+    assert_eq!(rt; fault, reported(24, RecordKind::EndWithoutBegin));
     let fault = transcript_fault(rt.alloc(), &[&TRANSCRIPT, &begin(1), &end(2), &[0; 5]])?;
-    assert_eq!(rt; fault, told(64, RecordKind::EndWithoutBegin));
+    assert_eq!(rt; fault, reported(64, RecordKind::EndWithoutBegin));
     let fault = transcript_fault(rt.alloc(), &[&TRANSCRIPT, &begin(1), &end(1), &end(1)])?;
-    assert_eq!(rt; fault, told(96, RecordKind::SecondEnd));
+    assert_eq!(rt; fault, reported(96, RecordKind::SecondEnd));
     Ok(())
 }
 
@@ -78,9 +78,9 @@ fn calls_overlap(rt: HostRuntime) -> Result<(), Fail> {
 #[test]
 fn shapes_are_exact(rt: HostRuntime) -> Result<(), Fail> {
     let more = transcript_fault(rt.alloc(), &[&TRANSCRIPT, &MORE])?;
-    assert_eq!(rt; more, told(24, RecordKind::Entry));
+    assert_eq!(rt; more, reported(24, RecordKind::Entry));
     let less = transcript_fault(rt.alloc(), &[&TRANSCRIPT, &begin(1), &LESS])?;
-    assert_eq!(rt; less, told(64, RecordKind::Entry));
+    assert_eq!(rt; less, reported(64, RecordKind::Entry));
     Ok(())
 }
 
@@ -95,9 +95,9 @@ fn most_calls(rt: HostRuntime) -> Result<(), Fail> {
     let whole = read_transcript(rt.alloc(), &mut Input::new(bytes.as_slice()))?;
     assert_eq!(rt; whole.marks.len(), 200_000);
     let used = transcript_fault(rt.alloc(), &[&bytes, &begin(1)])?;
-    assert_eq!(rt; used, told(7_200_024, RecordKind::Number));
+    assert_eq!(rt; used, reported(7_200_024, RecordKind::Number));
     let more = transcript_fault(rt.alloc(), &[&bytes, &begin(100_001)])?;
-    assert_eq!(rt; more, told(7_200_024, RecordKind::Calls));
+    assert_eq!(rt; more, reported(7_200_024, RecordKind::Calls));
     Ok(())
 }
 

@@ -39,7 +39,7 @@ pub const ANSWER: [u8; 264] = [
     128, 0, 0, 0, 0,
 ];
 
-// What stands ahead of the messages in the begin mark of call 1 by client `a`, and in its end mark.
+// What stands before the messages in the begin mark of call 1 by client `a`, and in its end mark.
 pub const BEGIN_FRONT: [u8; 48] = [
     0x54, 0, 0x10, 1, 0, 0, 0, 0xA0, 0x54, 0, 0x11, 2, 0, 0, 0, 4, 0, 0, 0, 1, 0, 0, 0, 0, 0x54, 0,
     0x12, 7, 0, 0, 0, 1, 0x61, 0, 0, 0, 0, 0, 0, 0, 0x54, 0, 0x13, 8, 0, 0, 0, 0x78,
@@ -155,7 +155,7 @@ pub fn material(alloc: Global, value: &[u8]) -> Result<Vec<u8>, Fail> {
     item(alloc, [0x42, 0, 0x43], BYTES, value)
 }
 
-// The entry of an object `k` of this type with these attributes, and what is behind them.
+// The entry of an object `k` of this type with these attributes, and what is after them.
 pub fn entry(
     alloc: Global,
     kind: u8,

@@ -1,7 +1,7 @@
 //! Witnesses of each version: their turns, and what is wrong with them.
 
 use super::vectors::*;
-use super::{told, witness_fault};
+use super::{reported, witness_fault};
 use crate::*;
 use kmipa_ttlv::{Input, Value};
 use std::alloc::Global;
@@ -100,7 +100,7 @@ fn versions(rt: HostRuntime) -> Result<(), Fail> {
     let plain = turn_of(alloc, &[c, f, f])?;
     let answered = turn_of(alloc, &[c, a, f])?;
     let ordered = turn_of(alloc, &[c, p, f])?;
-    let foreign = told(24, RecordKind::Entry);
+    let foreign = reported(24, RecordKind::Entry);
     for (version, expected) in [(1, None), (2, None), (3, None)] {
         let fault = version_fault(alloc, version, &plain)?;
         assert_eq!(rt; fault, expected, "version {version}");
@@ -115,7 +115,7 @@ fn versions(rt: HostRuntime) -> Result<(), Fail> {
     }
     for version in [0, 4] {
         let fault = version_fault(alloc, version, &plain)?;
-        assert_eq!(rt; fault, told(0, RecordKind::Header));
+        assert_eq!(rt; fault, reported(0, RecordKind::Header));
     }
     Ok(())
 }
@@ -142,13 +142,13 @@ fn shapes_of_turns(rt: HostRuntime) -> Result<(), Fail> {
         turn_of(alloc, &[c, other])?,
     ] {
         let fault = version_fault(alloc, 3, &turn)?;
-        assert_eq!(rt; fault, told(24, RecordKind::Entry));
+        assert_eq!(rt; fault, reported(24, RecordKind::Entry));
     }
-    // A number below 1 is told of a turn that the version may have.
+    // A number below 1 is reported of a turn that the version may have.
     let turn = turn_of(alloc, &[zero, a])?;
     let foreign = version_fault(alloc, 1, &turn)?;
-    assert_eq!(rt; foreign, told(24, RecordKind::Entry));
+    assert_eq!(rt; foreign, reported(24, RecordKind::Entry));
     let low = version_fault(alloc, 2, &turn)?;
-    assert_eq!(rt; low, told(24, RecordKind::Number));
+    assert_eq!(rt; low, reported(24, RecordKind::Number));
     Ok(())
 }

@@ -1,6 +1,6 @@
 //! Files that are written: what was read is written again, and what no bytes are is refused.
 
-use super::told;
+use super::reported;
 use super::vectors::*;
 use crate::*;
 use kmipa_ttlv::{Input, Item, Tag};
@@ -113,7 +113,7 @@ fn lowest_version_is_written(rt: HostRuntime) -> Result<(), Fail> {
 #[test]
 fn no_witness_is_refused(rt: HostRuntime) -> Result<(), Fail> {
     let alloc = rt.alloc();
-    let foreign = told(0, RecordKind::Entry);
+    let foreign = reported(0, RecordKind::Entry);
     let low = refused(alloc, turn_with(alloc, 0))?;
     assert_eq!(rt; low, foreign);
     let mut long = turn_with(alloc, 1);

@@ -10,7 +10,7 @@ use std::alloc::Global;
 use std::test::Fail;
 
 /// What stands in a row: `#` and its name, the transcript, the declaration and the witness in hexadecimal, and the
-/// lines that are expected, with a `|` ahead of each but the name.
+/// lines that are expected, with a `|` before each but the name.
 #[derive(Drop)]
 struct Row<'a> {
     name: &'a str,

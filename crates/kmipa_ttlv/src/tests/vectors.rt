@@ -167,7 +167,7 @@ fn padding_is_not_looked_at(rt: HostRuntime) -> Result<(), Fail> {
     Ok(())
 }
 
-// Whether each item of a file of items comes back as it was, with nothing behind the last.
+// Whether each item of a file of items comes back as it was, with nothing after the last.
 fn comes_back(alloc: Global, bytes: &[u8], count: usize) -> Result<(), Fail> {
     let mut input = Input::new(bytes);
     let mut written = Vec::new(alloc);

@@ -1,15 +1,15 @@
 use Rattle.std.proofs.Common.{map}
 use Rattle.clap.specs.Words.{app_of, fault_of}
 use Rattle.kmip_audit.specs.Words.{program_app}
-use Rattle.kmip_audit.proofs.WordLemmas.{fits, told, has_kind}
+use Rattle.kmip_audit.proofs.WordLemmas.{fits, reported, has_kind}
 use Rattle.kmip_audit.proofs.words.read_words.Goals as goal
 
-pub returns-in-Err-clause-told :
-    goal.returns-in-Err-clause-told
-returns-in-Err-clause-told g c =
+pub returns-in-Err-clause-reported :
+    goal.returns-in-Err-clause-reported
+returns-in-Err-clause-reported g c =
     let words = map g.S.AsStr.text c.args.words.now in
     let error = c.in-Err.error in
-    told (fault_of program_app words) error c.usage_of.result
+    reported (fault_of program_app words) error c.usage_of.result
     (has_kind (app_of c.in-Ok.command) words error c.in-Ok.ensures c.in-Err.ensures.kinds)
     c.usage_of.ensures
 

@@ -17,7 +17,7 @@ returns-in-Err g c =
     let pairs = pairs_of (request_of c.args.request.now) (response_of c.args.response.now) in
     let order = places_of (order_given (maybe_lent c.args.places)) c.args.count in
     let P : CallRefusal → Type 0 = λ r. AlongTaken (rules_of c.args.rules.now) c.args.response.now.stamp s pairs order (Err r) v in
-    subst P (sym c.told_at.ensures)
+    subst P (sym c.reported_at.ensures)
     (along_stops (rules_of c.args.rules.now) c.args.response.now.stamp s pairs order
     c.loop-position.position (g.L.Ledger.state c.loop-position.ledger) (placeholder_of c.loop-position.placeholder) c.loop-position.invariant
     c.place_at-place.result (order_at (maybe_lent c.args.places) c.args.count c.loop-position.position c.place_at-place.result c.loop-position-test.true c.place_at-place.ensures.there)

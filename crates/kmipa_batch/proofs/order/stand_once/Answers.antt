@@ -2,7 +2,7 @@ use Rattle.std.proofs.Common.{◌≡◌, ℕ, Bool, List, Some, length, slice_ge
 use Rattle.std.proofs.lemmas.Option.{slice_get-get_or}
 use Rattle.kmipa_batch.specs.Standing.{Sees}
 use Rattle.kmipa_batch.proofs.ShapeLemmas.{clash}
-use Rattle.kmipa_batch.proofs.StandingLemmas.{told_equal, equal_told, seen_none, seen_more, seen_stops, seen_all, seen_many}
+use Rattle.kmipa_batch.proofs.StandingLemmas.{reported_equal, equal_reported, seen_none, seen_more, seen_stops, seen_all, seen_many}
 use Rattle.kmipa_batch.proofs.order.stand_once.Goals as goal
 
 pub loop-position-init : goal.loop-position-init
@@ -32,6 +32,6 @@ pub returns : goal.returns
 returns c =
     let places : List ℕ = c.args.places.now in
     let position : ℕ = c.loop-position.position in (
-      λ h. seen_all places c.args.count position c.loop-position.seen.items c.loop-position.invariant c.loop-position-test.false (told_equal (length places) c.args.count h),
-      λ o. equal_told (length places) c.args.count (seen_many places c.args.count position c.loop-position.seen.items c.loop-position.invariant c.loop-position-test.false o),
+      λ h. seen_all places c.args.count position c.loop-position.seen.items c.loop-position.invariant c.loop-position-test.false (reported_equal (length places) c.args.count h),
+      λ o. equal_reported (length places) c.args.count (seen_many places c.args.count position c.loop-position.seen.items c.loop-position.invariant c.loop-position-test.false o),
     )

@@ -9,15 +9,15 @@ use Rattle.kmipa_check.specs.declared.step.Step.{Step}
 use Rattle.kmipa_check.specs.Calls.{call_of}
 use Rattle.kmipa_check.specs.Steps.{StepOf, step_of}
 use Rattle.kmipa_check.specs.Ordering.{AreFormed, OrderFault}
-use Rattle.kmipa_check.proofs.OrderLemmas.{fault_told, formed_more, formed_below, formed_whole, pushed_steps}
-use Rattle.kmipa_check.proofs.WholeOrderLemmas.{left_out_told, missing_counted, told_number, order_told}
+use Rattle.kmipa_check.proofs.OrderLemmas.{fault_reported, formed_more, formed_below, formed_whole, pushed_steps}
+use Rattle.kmipa_check.proofs.WholeOrderLemmas.{left_out_reported, missing_counted, reported_number, order_reported}
 use Rattle.kmipa_check.proofs.order.steps_of.Goals as goal
 
 pub returns-in-Err-clause-ordered : goal.returns-in-Err-clause-ordered
 returns-in-Err-clause-ordered c = λ numbered once.
     let P : CheckFault → Type 0 = λ f. OrderFault (map call_of c.args.calls.now) (map turn_of c.args.turns.now) f in
     subst P (sym c.fault_at.ensures)
-    (fault_told (map call_of c.args.calls.now) (map turn_of c.args.turns.now) c.turns.place c.in-Err.fault
+    (fault_reported (map call_of c.args.calls.now) (map turn_of c.args.turns.now) c.turns.place c.in-Err.fault
     (formed_below (map call_of c.args.calls.now) (map turn_of c.args.turns.now) c.turns.place (map step_of c.turns.steps.items) c.turns.invariant) c.in-Err.ensures)
 
 pub turns-preserved : goal.turns-preserved
@@ -31,17 +31,17 @@ returns-in-Some-clause-ordered c = λ numbered once.
     let missing = sym c.left_out.ensures ∙ c.in-Some.is in
     let fits : SFits w32 c.in-Some.number = search rules in
     let P : ℤ → Type 0 = λ z. OkIff c.try_from.result (FitsUnsignedBits 64 z) (unsigned_abs z) in
-    let told = subst P (to_z-of_z w32 c.in-Some.number fits) c.try_from.ensures in
-    left_out_told c.args.turns.now c.in_ok-named.named c.in_ok-named.ensures (map call_of c.args.calls.now) (map step_of c.turns.steps.items) c.in-Some.number c.unwrap_or.result
+    let reported = subst P (to_z-of_z w32 c.in-Some.number fits) c.try_from.ensures in
+    left_out_reported c.args.turns.now c.in_ok-named.named c.in_ok-named.ensures (map call_of c.args.calls.now) (map step_of c.turns.steps.items) c.in-Some.number c.unwrap_or.result
     (formed_whole (map call_of c.args.calls.now) c.args.turns.now c.turns.place (map step_of c.turns.steps.items) c.turns.invariant (omega (arith, c.turns-test.false)))
     missing
-    (told_number c.try_from.result c.in-Some.number c.unwrap_or.result told c.unwrap_or.ensures (missing_counted c.in_ok-named.named c.args.calls.now c.in-Some.number missing numbered) fits)
+    (reported_number c.try_from.result c.in-Some.number c.unwrap_or.result reported c.unwrap_or.ensures (missing_counted c.in_ok-named.named c.args.calls.now c.in-Some.number missing numbered) fits)
 
 pub returns-clause-formed : goal.returns-clause-formed
 returns-clause-formed c = formed_whole (map call_of c.args.calls.now) c.args.turns.now c.turns.place (map step_of c.turns.steps.items) c.turns.invariant (omega (arith, c.turns-test.false))
 
 pub returns-clause-ordered : goal.returns-clause-ordered
 returns-clause-ordered c = λ numbered once.
-    order_told c.args.turns.now c.in_ok-named.named c.in_ok-named.ensures (map call_of c.args.calls.now) (map step_of c.turns.steps.items)
+    order_reported c.args.turns.now c.in_ok-named.named c.in_ok-named.ensures (map call_of c.args.calls.now) (map step_of c.turns.steps.items)
     (formed_whole (map call_of c.args.calls.now) c.args.turns.now c.turns.place (map step_of c.turns.steps.items) c.turns.invariant (omega (arith, c.turns-test.false)))
     (sym c.left_out.ensures ∙ c.in-None.is)

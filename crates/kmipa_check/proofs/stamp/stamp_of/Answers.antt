@@ -2,7 +2,7 @@ use Rattle.std.proofs.Common.{rules}
 use Rattle.std.proofs.lemmas.Int.{to_z-of_z}
 use mir.Val.{SFits}
 use mir.Syntax.{w32, w64}
-use Rattle.kmipa_check.proofs.StampLemmas.{both_at, none_answered, none_begun, none_told, stamp_told}
+use Rattle.kmipa_check.proofs.StampLemmas.{both_at, none_answered, none_begun, none_reported, stamp_reported}
 use Rattle.kmipa_check.proofs.stamp.stamp_of.Goals as goal
 
 pub returns-in_default : goal.returns-in_default
@@ -20,7 +20,7 @@ pub returns-in-Ok : goal.returns-in-Ok
 returns-in-Ok c =
     let fits : SFits w32 c.args.call = search rules in
     let long : SFits w64 c.in-Ok.response.stamp = search rules in
-    stamp_told c.args.transcript.now.marks.items c.args.witness.now.turns.items c.args.call c.in-Some.begin.now.message.items c.in-Some-message_of.message.now c.in-Ok.response _
+    stamp_reported c.args.transcript.now.marks.items c.args.witness.now.turns.items c.args.call c.in-Some.begin.now.message.items c.in-Some-message_of.message.now c.in-Ok.response _
     (both_at c.deref.result.now c.deref-2.result.now c.args.transcript.now.marks.items c.deref-3.result.now c.args.witness.now.turns.items _ c.args.call c.in-Some.begin.now.message.items
     c.in-Some-message_of.message.now c.deref.ensures.value c.deref-2.ensures.value c.deref-3.ensures.value (to_z-of_z w32 c.args.call fits) c.in-Some.ensures c.in-Some-message_of.ensures)
     c.in-Ok.ensures (to_z-of_z w64 c.in-Ok.response.stamp long)
@@ -28,7 +28,7 @@ returns-in-Ok c =
 pub returns-in-Err-Unfit : goal.returns-in-Err-Unfit
 returns-in-Err-Unfit c =
     let fits : SFits w32 c.args.call = search rules in
-    none_told c.args.transcript.now.marks.items c.args.witness.now.turns.items c.args.call c.in-Some.begin.now.message.items c.in-Some-message_of.message.now c.in-Err-Unfit.field-0 c.in-Err-Unfit.field-0-0
+    none_reported c.args.transcript.now.marks.items c.args.witness.now.turns.items c.args.call c.in-Some.begin.now.message.items c.in-Some-message_of.message.now c.in-Err-Unfit.field-0 c.in-Err-Unfit.field-0-0
     (both_at c.deref.result.now c.deref-2.result.now c.args.transcript.now.marks.items c.deref-3.result.now c.args.witness.now.turns.items _ c.args.call c.in-Some.begin.now.message.items
     c.in-Some-message_of.message.now c.deref.ensures.value c.deref-2.ensures.value c.deref-3.ensures.value (to_z-of_z w32 c.args.call fits) c.in-Some.ensures c.in-Some-message_of.ensures)
     c.in-Err-Unfit.field-0-is c.in-Err-Unfit.ensures

@@ -5,7 +5,7 @@ use Rattle.kmipa_record.specs.DeclarationReading.{record_of, declared_by}
 use Rattle.kmipa_record.specs.Declarations.{DeclarationFault, IsDeclarationUpTo}
 use Rattle.kmipa_record.specs.Files.{Tells}
 use Rattle.kmipa_record.specs.declared.fault.RecordKind.TheVariants.{Entry}
-use Rattle.kmipa_record.proofs.DeclarationLemmas.{objects, read_fails, no_record_told, refused_told, record_taken}
+use Rattle.kmipa_record.proofs.DeclarationLemmas.{objects, read_fails, no_record_reported, refused_reported, record_taken}
 use Rattle.kmipa_record.proofs.PlaceLemmas.{whole_taken, refused_record_place}
 use Rattle.kmipa_record.proofs.declaration.read_record.Goals as goal
 
@@ -19,7 +19,7 @@ pub returns-in-Other-clause-fault : goal.returns-in-Other-clause-fault
 returns-in-Other-clause-fault g c = λ file left after unique split end s.
     let x = rw c.in-Other.is at (c.in_ok-next.ensures.ok left after split) in
     subst (λ (o : ℕ). Tells DeclarationFault IsDeclarationUpTo file (is_failed c.read_next.new.input) (record { offset = o; kind = Entry })) (sym c.taken-offset.ensures)
-    (no_record_told file (declared_by unique c.args.records.now) x.0 left after
+    (no_record_reported file (declared_by unique c.args.records.now) x.0 left after
     (taken_of c.args.input.now) (taken_of c.read_next.new.input) (is_failed c.read_next.new.input) (objects unique c.args.records.now c.requires) s x.1 x.2)
 
 pub returns-in-Ok-clause-read : goal.returns-in-Ok-clause-read
@@ -32,7 +32,7 @@ pub returns-in-Err-clause-fault : goal.returns-in-Err-clause-fault
 returns-in-Err-clause-fault g c = λ file left after unique split end s.
     let x = rw c.in-Record.is at (c.in_ok-next.ensures.ok left after split) in
     subst (λ (o : ℕ). Tells DeclarationFault IsDeclarationUpTo file (is_failed c.read_next.new.input) (record { offset = o; kind = c.in-Err.kind })) (sym c.taken-offset.ensures)
-    (refused_told file c.args.records.now unique (record_of c.in-Record.next_record) x.0 left after
+    (refused_reported file c.args.records.now unique (record_of c.in-Record.next_record) x.0 left after
     (taken_of c.args.input.now) (taken_of c.read_next.new.input) (is_failed c.read_next.new.input) c.in-Err.kind c.requires s x.1 x.2 c.in-Err.ensures.put)
 
 pub returns-in-End-clause-read : goal.returns-in-End-clause-read

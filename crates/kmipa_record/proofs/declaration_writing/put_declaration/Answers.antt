@@ -16,7 +16,7 @@ use Rattle.kmipa_record.proofs.declaration_writing.put_declaration.Goals as goal
 
 pub returns-in_err-append_all-clause-grows : goal.returns-in_err-append_all-clause-grows
 returns-in_err-append_all-clause-grows c =
-    starts_on c.args.out.now.items c.append.new.out.items c.append_all.new.out.items (behind_starts c.args.out.now.items c.append.new.out.items _ c.in_ok-append.ensures.ok.behind) c.append_all.ensures.grows
+    starts_on c.args.out.now.items c.append.new.out.items c.append_all.new.out.items (behind_starts c.args.out.now.items c.append.new.out.items _ c.in_ok-append.ensures.ok.after) c.append_all.ensures.grows
 
 pub returns-clause-put : goal.returns-clause-put
 returns-clause-put c =
@@ -47,4 +47,4 @@ returns-clause-refused c =
 pub returns-clause-grows : goal.returns-clause-grows
 returns-clause-grows c =
     let old = c.args.out.now.items in let first = c.append.new.out.items in let mid = c.append_all.new.out.items in
-    starts_on old mid c.append_all-2.new.out.items (starts_on old first mid (behind_starts old first _ c.in_ok-append.ensures.ok.behind) c.append_all.ensures.grows) c.append_all-2.ensures.grows
+    starts_on old mid c.append_all-2.new.out.items (starts_on old first mid (behind_starts old first _ c.in_ok-append.ensures.ok.after) c.append_all.ensures.grows) c.append_all-2.ensures.grows

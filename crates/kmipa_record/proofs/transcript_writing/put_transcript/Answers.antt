@@ -28,4 +28,4 @@ pub returns-clause-refused : goal.returns-clause-refused
 returns-clause-refused c = IfErr-weaker c.append_all.result _ _ (λ kind r. refused_map kind (λ able. legal_all c.args.marks.now able) r) c.append_all.ensures.refused
 
 pub returns-clause-grows : goal.returns-clause-grows
-returns-clause-grows c = starts_on c.args.out.now.items c.append.new.out.items c.append_all.new.out.items (behind_starts c.args.out.now.items c.append.new.out.items _ c.in_ok-append.ensures.ok.behind) c.append_all.ensures.grows
+returns-clause-grows c = starts_on c.args.out.now.items c.append.new.out.items c.append_all.new.out.items (behind_starts c.args.out.now.items c.append.new.out.items _ c.in_ok-append.ensures.ok.after) c.append_all.ensures.grows

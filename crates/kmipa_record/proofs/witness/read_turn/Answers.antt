@@ -6,7 +6,7 @@ use Rattle.kmipa_record.specs.Witnesses.{turn_of, turn_item}
 use Rattle.kmipa_record.specs.Witnesses.{WitnessFault, IsWitnessUpTo}
 use Rattle.kmipa_record.specs.declared.fault.RecordKind.TheVariants.{Entry}
 use Rattle.kmipa_record.proofs.NextLemmas.{takes_as}
-use Rattle.kmipa_record.proofs.WitnessLemmas.{read_fails, no_turn_told, refused_told, turn_taken}
+use Rattle.kmipa_record.proofs.WitnessLemmas.{read_fails, no_turn_reported, refused_reported, turn_taken}
 use Rattle.kmipa_record.proofs.PlaceLemmas.{whole_taken, refused_turn_place}
 use Rattle.kmipa_record.proofs.witness.read_turn.Goals as goal
 
@@ -20,7 +20,7 @@ pub returns-in-Other-clause-fault : goal.returns-in-Other-clause-fault
 returns-in-Other-clause-fault g c = λ file left after split end s.
     let x = rw c.in-Other.is at (c.in_ok-next.ensures.ok left after split) in
     subst (λ (o : ℕ). Tells WitnessFault IsWitnessUpTo file (is_failed c.read_next.new.input) (record { offset = o; kind = Entry })) (sym c.taken-offset.ensures)
-    (no_turn_told file c.args.version (map turn_of c.args.turns.now.items) x.0 left after
+    (no_turn_reported file c.args.version (map turn_of c.args.turns.now.items) x.0 left after
     (taken_of c.args.input.now) (taken_of c.read_next.new.input) (is_failed c.read_next.new.input) s x.1 x.2)
 
 pub returns-in_err-keep_turn-in-Record-clause-fault : goal.returns-in_err-keep_turn-in-Record-clause-fault
@@ -29,7 +29,7 @@ returns-in_err-keep_turn-in-Record-clause-fault g c = λ file left after split e
     let x = rw c.in-Record.is at (c.in_ok-next.ensures.ok left after split) in
     let t = takes_as (turn_item (turn_of c.in-Record.turn)) _ _ _ _ (x.0, x.1, x.2.0) in
     let e = c.in_err-keep_turn-in-Record.ensures in
-    rw (p.1, p.2) (refused_told file c.args.version (map turn_of c.args.turns.now.items) (turn_of c.in-Record.turn) left after
+    rw (p.1, p.2) (refused_reported file c.args.version (map turn_of c.args.turns.now.items) (turn_of c.in-Record.turn) left after
     (taken_of c.args.input.now) (taken_of c.read_next.new.input) (is_failed c.read_next.new.input) c.in_err-keep_turn-in-Record.field-0.0 s t (e.0 ∙ c.taken-offset.ensures) e.1)
 
 pub returns-in_ok-keep_turn-in-Record-clause-read : goal.returns-in_ok-keep_turn-in-Record-clause-read

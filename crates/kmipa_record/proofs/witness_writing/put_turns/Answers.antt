@@ -22,7 +22,7 @@ returns-in_err-append_turn-clause-refused c =
 pub returns-in_err-append_turn-clause-grows : goal.returns-in_err-append_turn-clause-grows
 returns-in_err-append_turn-clause-grows c =
     let old = c.args.out.now.items in
-    subst (λ (l : List ℕ). StartsWith l old) (sym c.in_err-append_turn.ensures.same) (behind_starts old c.loop-turn.out.items _ c.loop-turn.invariant.0.behind)
+    subst (λ (l : List ℕ). StartsWith l old) (sym c.in_err-append_turn.ensures.same) (behind_starts old c.loop-turn.out.items _ c.loop-turn.invariant.0.after)
 
 pub loop-turn-preserved : goal.loop-turn-preserved
 loop-turn-preserved c =
@@ -41,4 +41,4 @@ returns-clause-put c =
     (take_all c.loop-turn.turn-index c.args.turns.now c.loop-turn-test.false) c.loop-turn.invariant
 
 pub returns-clause-grows : goal.returns-clause-grows
-returns-clause-grows c = behind_starts c.args.out.now.items c.loop-turn.out.items _ c.loop-turn.invariant.0.behind
+returns-clause-grows c = behind_starts c.args.out.now.items c.loop-turn.out.items _ c.loop-turn.invariant.0.after

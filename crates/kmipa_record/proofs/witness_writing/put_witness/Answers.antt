@@ -21,4 +21,4 @@ returns-clause-put c =
     on_ok_map c.put_turns.result _ _ (λ s. (version, adds_behind (witness_header version) (map turn_item (map turn_of c.args.turns.now)) old mid new header s.0, c.lowest-version.ensures, s.1)) c.put_turns.ensures.put
 
 pub returns-clause-grows : goal.returns-clause-grows
-returns-clause-grows c = starts_on c.args.out.now.items c.append.new.out.items c.put_turns.new.out.items (behind_starts c.args.out.now.items c.append.new.out.items _ c.in_ok-append.ensures.ok.behind) c.put_turns.ensures.grows
+returns-clause-grows c = starts_on c.args.out.now.items c.append.new.out.items c.put_turns.new.out.items (behind_starts c.args.out.now.items c.append.new.out.items _ c.in_ok-append.ensures.ok.after) c.put_turns.ensures.grows

@@ -6,7 +6,7 @@ use Rattle.kmipa_record.specs.Witnesses.{witness_of}
 use Rattle.kmipa_record.specs.Transcripts.{transcript_of}
 use Rattle.kmipa_check.proofs.AuditLemmas.{yes_accepted}
 use Rattle.kmipa_runs.proofs.LineLemmas.{verdict_dated, done_is_yes}
-use Rattle.kmipa_runs.proofs.YesLemmas.{accepted_told, fault_told}
+use Rattle.kmipa_runs.proofs.YesLemmas.{accepted_reported, fault_reported}
 use Rattle.kmipa_runs.proofs.runs.check_run.Goals as goal
 
 pub returns-in-Ok-clause-dated : goal.returns-in-Ok-clause-dated
@@ -19,14 +19,14 @@ returns-in-Ok-clause-dated g c =
 
 pub returns-in-Ok-clause-accepted : goal.returns-in-Ok-clause-accepted
 returns-in-Ok-clause-accepted g c = λ t d w tf df wf.
-    accepted_told t d w _ _ _
+    accepted_reported t d w _ _ _
     (Ok c.in-Ok.audited) c.report.result (appended_bytes c.args.out.now.items c.report.new.out.items) (c.in-Ok.ensures.audits t d w tf df wf) c.report.ensures.prints
 
 pub returns-in-Err-clause-accepted : goal.returns-in-Err-clause-accepted
 returns-in-Err-clause-accepted g c = λ t d w tf df wf.
-    accepted_told t d w _ _ _
+    accepted_reported t d w _ _ _
     (Err c.in-Err.fault) c.append.result (appended_bytes c.args.out.now.items c.append.new.out.items) (c.in-Err.ensures.audits t d w tf df wf)
-    (fault_told c.fault_lines.result c.in-Err.fault c.append.result (appended_bytes c.args.out.now.items c.append.new.out.items) c.fault_lines.ensures c.append.ensures.prints)
+    (fault_reported c.fault_lines.result c.in-Err.fault c.append.result (appended_bytes c.args.out.now.items c.append.new.out.items) c.fault_lines.ensures c.append.ensures.prints)
 
 pub returns-in-Ok-clause-accepts : goal.returns-in-Ok-clause-accepts
 returns-in-Ok-clause-accepts g c = λ done.

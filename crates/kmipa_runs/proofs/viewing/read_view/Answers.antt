@@ -5,7 +5,7 @@ use Rattle.kmipa_ttlv.specs.ViewTree.{view_tree}
 use Rattle.kmipa_ttlv.specs.Flaw.{OuterFlaw, Tells}
 use Rattle.kmipa_ttlv.specs.Reading.{IsWhole}
 use Rattle.kmipa_ttlv.proofs.StreamLemmas.{item_read}
-use Rattle.kmipa_ttlv.proofs.ReadLemmas.{told_value, since, whole_spelled}
+use Rattle.kmipa_ttlv.proofs.ReadLemmas.{reported_value, since, whole_spelled}
 use Rattle.kmipa_runs.proofs.viewing.read_view.Goals as goal
 
 pub returns-in-Ok-clause-item : goal.returns-in-Ok-clause-item
@@ -26,7 +26,7 @@ returns-in_default-clause-fault g c =
     let bytes = c.read_bytes.new.bytes.items in
     let whole : IsWhole bytes = c.in_ok-read_bytes.ensures.whole (search rules) in
     let tells : Tells c.in-Err.fault (OuterFlaw bytes) = subst (λ (l : List ℕ). Tells c.in-Err.fault (OuterFlaw l)) c.deref.ensures.value c.in-Err.ensures.flaw in
-    told_value _ bytes (taken_of c.args.input.now) (is_ended c.read_bytes.new.input) (is_failed c.read_bytes.new.input) c.in-Err.fault c.placed.result
+    reported_value _ bytes (taken_of c.args.input.now) (is_ended c.read_bytes.new.input) (is_failed c.read_bytes.new.input) c.in-Err.fault c.placed.result
     c.in_default.not-Memory (c.placed.ensures ∙ rw c.taken-place.ensures refl) (since before after bytes c.in_ok-read_bytes.ensures.came) whole tells
 
 pub returns-in-Ok-clause-next : goal.returns-in-Ok-clause-next

@@ -19,9 +19,9 @@ returns-then-not-is_apart c = λ begun closed.
     let within : c.ranks.rank < length calls = omega (arith, c.ranks-test.true, long) in
     let a = (placed calls O K r.0 r.1 c.ranks.rank c.ranks.invariant.some (omega (arith, within))).0 in
     let b = (placed calls O K r.0 r.1 (c.ranks.rank + 1) (omega arith) (omega (arith, within))).0 in
-    let told = c.is_apart.ensures (omega (arith, c.place.ensures, a, long)) (omega (arith, c.place-in-ranks.ensures, b, long)) in
+    let reported = c.is_apart.ensures (omega (arith, c.place.ensures, a, long)) (omega (arith, c.place-in-ranks.ensures, b, long)) in
     not_apart calls O K r.0 r.1 begun closed (candidates_ended c.args.calls.now) c.ranks.rank c.ranks.invariant.some within
-    (sym (told ∙ ap (λ (p : ℕ). parts (step_at calls p) (step_at calls c.place-in-ranks.result)) c.place.ensures ∙ ap (λ (q : ℕ). parts (step_at calls (at O c.ranks.rank)) (step_at calls q)) c.place-in-ranks.ensures) ∙ c.if-not-is_apart.true)
+    (sym (reported ∙ ap (λ (p : ℕ). parts (step_at calls p) (step_at calls c.place-in-ranks.result)) c.place.ensures ∙ ap (λ (q : ℕ). parts (step_at calls (at O c.ranks.rank)) (step_at calls q)) c.place-in-ranks.ensures) ∙ c.if-not-is_apart.true)
 
 pub ranks-preserved : goal.ranks-preserved
 ranks-preserved c =
@@ -34,11 +34,11 @@ ranks-preserved c =
     let within : c.ranks.rank < length calls = omega (arith, c.ranks-test.true, long) in
     let a = (placed calls O K r.0 r.1 c.ranks.rank c.ranks.invariant.some (omega (arith, within))).0 in
     let b = (placed calls O K r.0 r.1 (c.ranks.rank + 1) (omega arith) (omega (arith, within))).0 in
-    let told = c.is_apart.ensures (omega (arith, c.place.ensures, a, long)) (omega (arith, c.place-in-ranks.ensures, b, long)) in
+    let reported = c.is_apart.ensures (omega (arith, c.place.ensures, a, long)) (omega (arith, c.place-in-ranks.ensures, b, long)) in
     record {
       some = omega arith;
       apart = more_parts calls O c.ranks.rank c.ranks.invariant.apart
-          (sym (told ∙ ap (λ (p : ℕ). parts (step_at calls p) (step_at calls c.place-in-ranks.result)) c.place.ensures ∙ ap (λ (q : ℕ). parts (step_at calls (at O c.ranks.rank)) (step_at calls q)) c.place-in-ranks.ensures) ∙ c.if-not-is_apart.false);
+          (sym (reported ∙ ap (λ (p : ℕ). parts (step_at calls p) (step_at calls c.place-in-ranks.result)) c.place.ensures ∙ ap (λ (q : ℕ). parts (step_at calls (at O c.ranks.rank)) (step_at calls q)) c.place-in-ranks.ensures) ∙ c.if-not-is_apart.false);
     }
 
 pub returns : goal.returns

@@ -2,7 +2,7 @@ use Rattle.std.proofs.Common.{map}
 use Rattle.kmipa_check.specs.Calls.{call_of}
 use Rattle.kmipa_search.specs.Candidates.{candidate_step}
 use Rattle.kmipa_search.specs.Plain.{ArePlain}
-use Rattle.kmipa_search.proofs.AnswerLemmas.{told_forced}
+use Rattle.kmipa_search.proofs.AnswerLemmas.{reported_forced}
 use Rattle.kmipa_search.proofs.CandidateLemmas.{plain_own}
 use Rattle.kmipa_search.proofs.PlainLemmas.{plain_begun, plain_closed}
 use Rattle.kmipa_search.proofs.forced.is_forced.Goals as goal
@@ -15,5 +15,5 @@ returns-in-Some c = λ r.
     let timed = c.in_ok-calls.ensures.timed r in (
       calls,
       c.in_ok-calls.ensures.read r,
-      told_forced calls steps c.in_ok-are_apart-in-Some.field-0 plain (c.in_ok-are_apart-in-Some.ensures (plain_begun calls steps plain timed) (plain_closed calls steps plain timed)),
+      reported_forced calls steps c.in_ok-are_apart-in-Some.field-0 plain (c.in_ok-are_apart-in-Some.ensures (plain_begun calls steps plain timed) (plain_closed calls steps plain timed)),
     )

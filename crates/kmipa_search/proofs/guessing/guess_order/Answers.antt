@@ -47,7 +47,7 @@ pub overflow_sub-depth : goal.overflow_sub-depth
 overflow_sub-depth g c =
     let marks = (g.L.Ledger.state c.tries.ledger).marks in
     let some : 0 < length c.tries.path.items = omega (arith, ap length c.in-Some-pop.ensures.items, length-append c.pop.new.self.items (c.in-Some-pop.place ∷ [])) in
-    omega (arith, c.tries.invariant.deep some, some_marks (length c.tries.path.items) marks some c.tries.invariant.behind)
+    omega (arith, c.tries.invariant.deep some, some_marks (length c.tries.path.items) marks some c.tries.invariant.after)
 
 pub tries-preserved : goal.tries-preserved
 tries-preserved g c =

@@ -13,7 +13,7 @@ pub read_child-returns-in_err-head : goal.read_child-returns-in_err-head
 read_child-returns-in_err-head t c =
     let p = err_from_is_err_and c.from_residual.result c.from_residual.ensures.1 in
     let f = c.in_err-head.field-0.0 in
-    rw (p.1, p.2) (Tells-weaker f (λ offset told. child_flaw c.args.place c.args.bytes.now ≡ Some (offset, told)) (Flaw c.args.left c.args.place c.args.bytes.now)
+    rw (p.1, p.2) (Tells-weaker f (λ offset reported. child_flaw c.args.place c.args.bytes.now ≡ Some (offset, reported)) (Flaw c.args.left c.args.place c.args.bytes.now)
     (flaw_of_head c.args.left c.args.place c.args.bytes.now f.offset f.kind c.if-left-eq0.false) c.in_err-head.ensures)
 
 pub read_child-returns-in_err-view : goal.read_child-returns-in_err-view
@@ -45,7 +45,7 @@ read_children-loop-rest-preserved t c =
     record {
       run = rw (c.in_ok-push.ensures.items, view_trees-push c.loop-rest.children.items c.in_ok-child.child, c.split_at.ensures.back, s.1)
           (Run-push c.args.left (view_trees c.loop-rest.children.items) (view_tree c.in_ok-child.child) c.args.bytes.now c.loop-rest.rest.now c.loop-rest.invariant.run s.0);
-      behind = omega (arith, c.split_at.ensures.back_len, c.loop-rest.invariant.behind);
+      after = omega (arith, c.split_at.ensures.back_len, c.loop-rest.invariant.after);
     }
 
 pub read_value-returns-in_ok-children-in-Structure : goal.read_value-returns-in_ok-children-in-Structure
@@ -59,5 +59,5 @@ read_children-returns-in_err-child t c =
     let f = c.in_err-child.field-0.0 in
     let left = c.args.left in
     rw (p.1, p.2) (Tells-weaker f (Flaw left c.loop-rest.at c.loop-rest.rest.now) (FirstFlawed (Flaw left) left c.args.place c.args.bytes.now)
-    (λ h. record { before = view_trees c.loop-rest.children.items; rest = c.loop-rest.rest.now; at = c.loop-rest.at; run = c.loop-rest.invariant.run; some = search rules; behind = c.loop-rest.invariant.behind; flaw = h })
+    (λ h. record { before = view_trees c.loop-rest.children.items; rest = c.loop-rest.rest.now; at = c.loop-rest.at; run = c.loop-rest.invariant.run; some = search rules; after = c.loop-rest.invariant.after; flaw = h })
     c.in_err-child.ensures)

@@ -15,7 +15,7 @@ decreases-read_value l = 3 * l.left + 2
 abbrev pub invariant-read_children-loop-rest : goal.invariant-read_children-loop-rest
 invariant-read_children-loop-rest l = record {
   run : Run l.left (view_trees l.children.items) l.bytes l.rest;
-  behind : l.at + length l.rest ≡ l.place + length l.bytes;
+  after : l.at + length l.rest ≡ l.place + length l.bytes;
 }
 
 abbrev pub decreases-read_children-loop-rest : goal.decreases-read_children-loop-rest

@@ -10,5 +10,5 @@ returns-in_err-head c =
     let f = c.in_err-head.field-0.0 in
     let place = c.args.place in
     let bytes = c.args.bytes.now in
-    rw (p.1, p.2) (Tells-lasting f (λ offset told. child_flaw place bytes ≡ Some (offset, told)) c.in_err-head.ensures.1
+    rw (p.1, p.2) (Tells-lasting f (λ offset reported. child_flaw place bytes ≡ Some (offset, reported)) c.in_err-head.ensures.1
     (child_fails place bytes f.offset f.kind (omega arith) c.in_err-head.ensures.0))

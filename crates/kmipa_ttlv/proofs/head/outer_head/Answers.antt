@@ -12,7 +12,7 @@ returns-in_err-head c =
     let p = err_from_is_err_and c.from_residual.result c.from_residual.ensures.1 in
     let f = c.in_err-head.field-0.0 in
     let bytes = c.args.bytes.now in
-    rw (p.1, p.2) (Tells-lasting f (λ offset told. outer_flaw bytes ≡ Some (offset, told)) c.in_err-head.ensures.1
+    rw (p.1, p.2) (Tells-lasting f (λ offset reported. outer_flaw bytes ≡ Some (offset, reported)) c.in_err-head.ensures.1
     (outer_fails bytes f.offset f.kind (omega arith) c.in_err-head.ensures.0))
 
 pub returns-then-bytes-extent : goal.returns-then-bytes-extent

@@ -2,7 +2,7 @@ use Rattle.std.proofs.Common.{rules, ◌≡◌, ◌≤◌, ◌<◌, ◌+◌, ◌
 use Rattle.kmipa_ttlv.specs.Input.{came_of, taken_of, is_ended, is_failed}
 use Rattle.kmipa_ttlv.specs.Spelling.{extent}
 use Rattle.kmipa_ttlv.specs.Flaw.{head_flaw}
-use Rattle.kmipa_ttlv.proofs.ReadLemmas.{told_short, told_head, since, fresh, joined_reads, same_head, whole_read, no_header, head_short}
+use Rattle.kmipa_ttlv.proofs.ReadLemmas.{reported_short, reported_head, since, fresh, joined_reads, same_head, whole_read, no_header, head_short}
 use Rattle.std.proofs.lemmas.Result.{err_from_is_err_and}
 use Rattle.kmipa_ttlv.proofs.FillLemmas.{stops_in_header, flawed_header_stops, stops_in_value}
 use Rattle.kmipa_ttlv.proofs.reading.read_bytes.Goals as goal
@@ -16,7 +16,7 @@ returns-then-got-lt-HEADER-clause-fault g c =
     let len : got ≡ length bytes = search rules in
     let some : 0 < got = search rules in
     let h = since before after bytes (fresh before after c.clear.new.self.items bytes c.clear.ensures.items c.in_ok-got.ensures.came) in
-    told_short _ bytes (taken_of c.args.input.now) got (is_ended c.append_up_to.new.input) (is_failed c.append_up_to.new.input) c.placed.result
+    reported_short _ bytes (taken_of c.args.input.now) got (is_ended c.append_up_to.new.input) (is_failed c.append_up_to.new.input) c.placed.result
     (c.placed.ensures ∙ rw c.taken-place.ensures refl) len some h (c.in_ok-got.ensures.end c.if-got-lt-HEADER.true) (no_header bytes (omega (arith, len, c.if-got-lt-HEADER.true)))
 
 pub returns-in-Err-clause-fault : goal.returns-in-Err-clause-fault
@@ -25,7 +25,7 @@ returns-in-Err-clause-fault g c =
     let after = came_of c.append_up_to.new.input in
     let bytes = c.append_up_to.new.out.items in
     let h = since before after bytes (fresh before after c.clear.new.self.items bytes c.clear.ensures.items c.in_ok-got.ensures.came) in
-    told_head _ bytes (taken_of c.args.input.now) (is_ended c.append_up_to.new.input) (is_failed c.append_up_to.new.input) c.in-Err.fault c.placed-in-Err.result
+    reported_head _ bytes (taken_of c.args.input.now) (is_ended c.append_up_to.new.input) (is_failed c.append_up_to.new.input) c.in-Err.fault c.placed-in-Err.result
     (c.placed-in-Err.ensures ∙ rw c.taken-place.ensures refl) h (search rules) (subst (λ (l : List ℕ). head_flaw l ≡ Some (c.in-Err.fault.offset, c.in-Err.fault.kind)) c.deref.ensures.value c.in-Err.ensures.0)
 
 pub returns-then-more-all-clause-fault : goal.returns-then-more-all-clause-fault
@@ -43,7 +43,7 @@ returns-then-more-all-clause-fault g c =
     let right : head_flaw front ≡ None = subst (λ (l : List ℕ). head_flaw l ≡ None) c.deref.ensures.value c.in-Ok.ensures.0 in
     let all : c.in-Ok.all ≡ extent front = subst (λ (l : List ℕ). c.in-Ok.all ≡ extent l) c.deref.ensures.value c.in-Ok.ensures.1 in
     let same = same_head front bytes c.append_up_to-2.ensures.appends long in
-    told_short _ bytes (taken_of c.args.input.now) (8 + more) (is_ended c.append_up_to-2.new.input) (is_failed c.append_up_to-2.new.input) c.placed-then-more-all.result
+    reported_short _ bytes (taken_of c.args.input.now) (8 + more) (is_ended c.append_up_to-2.new.input) (is_failed c.append_up_to-2.new.input) c.placed-then-more-all.result
     (c.placed-then-more-all.ensures ∙ rw c.taken-place.ensures refl) len (omega arith) both (c.in_ok-more.ensures.end c.if-more-all.true) (head_short bytes (omega (arith, len)) (same.0 ∙ right) (omega (arith, len, same.1, all, c.if-more-all.true)))
 
 pub returns-clause-whole : goal.returns-clause-whole

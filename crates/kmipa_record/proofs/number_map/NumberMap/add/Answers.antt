@@ -14,8 +14,8 @@ put_other-requires g c =
 
 pub returns-in_err-put_slot-in-Some-fitting-clause-same : goal.returns-in_err-put_slot-in-Some-fitting-clause-same
 returns-in_err-put_slot-in-Some-fitting-clause-same g c =
-    let told = c.in_err-put_slot-in-Some-fitting.ensures in
-    on_err c.from_residual.result _ (same_in c.args.self.now c.put_slot.new.self told.same (ap (λ m. m.entries) told.tree) told.count)
+    let reported = c.in_err-put_slot-in-Some-fitting.ensures in
+    on_err c.from_residual.result _ (same_in c.args.self.now c.put_slot.new.self reported.same (ap (λ m. m.entries) reported.tree) reported.count)
 
 pub returns-clause-added : goal.returns-clause-added
 returns-clause-added g c =
@@ -27,13 +27,13 @@ returns-clause-added g c =
     let one_more = c.in-Some.ensures in
     elim c.match-fitting.branch [
       | in-Some-fitting+in_ok-put_slot-in-Some-fitting w ↦
-          let told = w.in_ok-put_slot-in-Some-fitting.ensures in
-          let put = slot_set old w.put_slot.new.self w.in-Some-fitting.place value told.put (ap (λ m. m.entries) told.tree) in
+          let reported = w.in_ok-put_slot-in-Some-fitting.ensures in
+          let put = slot_set old w.put_slot.new.self w.in-Some-fitting.place value reported.put (ap (λ m. m.entries) reported.tree) in
           let put_here = subst (λ z. Sets old w.put_slot.new.self z value) (sym w.in-Some-fitting.ensures.0) put in
           counted old w.put_slot.new.self new number value (subst (λ z. Sets old w.put_slot.new.self z value) same put_here)
           (ap (λ m. m.slots.items) w.self-is) (ap (λ m. m.others.entries) w.self-is) one_more.1
       | in-None+in_ok-put_other-in-None w ↦
-          let told = w.in_ok-put_other-in-None.ensures in
-          counted old w.put_other.new.self new number value (subst (λ z. Sets old w.put_other.new.self z value) same told.put)
+          let reported = w.in_ok-put_other-in-None.ensures in
+          counted old w.put_other.new.self new number value (subst (λ z. Sets old w.put_other.new.self z value) same reported.put)
           (ap (λ m. m.slots.items) w.self-is) (ap (λ m. m.others.entries) w.self-is) one_more.1
     ]

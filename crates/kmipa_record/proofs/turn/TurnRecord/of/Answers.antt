@@ -9,42 +9,42 @@ use Rattle.kmipa_record.specs.Witnesses.{TurnOf, fill_of, turn_item}
 use Rattle.kmipa_record.proofs.TurnLemmas.{IsSplitTurn, turn_with, no_call, no_fills, turn_read}
 use Rattle.kmipa_record.proofs.turn.TurnRecord.of.Goals as goal
 
-pub returns-in_default-integer_ahead : goal.returns-in_default-integer_ahead
-returns-in_default-integer_ahead c = λ t. no_call (view_tree c.args.item.now) c.in-Some.children.now c.in-Some.ensures c.in_default-integer_ahead.ensures t.0 t.1
+pub returns-in_default-integer_before : goal.returns-in_default-integer_before
+returns-in_default-integer_before c = λ t. no_call (view_tree c.args.item.now) c.in-Some.children.now c.in-Some.ensures c.in_default-integer_before.ensures t.0 t.1
 
 pub returns-in_default-2 : goal.returns-in_default-2
 returns-in_default-2 c = λ t.
-    let split : IsSplitTurn (map view_tree c.in-Some.children.now) c.in-Some-integer_ahead.call (option_map lent c.answer_ahead.result.0) c.in_ok-places.places.items (map view_tree c.in_ok-places.behind_places.now)
+    let split : IsSplitTurn (map view_tree c.in-Some.children.now) c.in-Some-integer_before.call (option_map lent c.answer_before.result.0) c.in_ok-places.places.items (map view_tree c.in_ok-places.behind_places.now)
     = record {
-      behind_call = map view_tree c.in-Some-integer_ahead.behind_call.now;
-      behind_answer = map view_tree c.answer_ahead.result.1.now;
-      call_is = c.in-Some-integer_ahead.ensures;
-      answer_is = c.answer_ahead.ensures.split;
-      first = c.answer_ahead.ensures.first;
+      behind_call = map view_tree c.in-Some-integer_before.behind_call.now;
+      behind_answer = map view_tree c.answer_before.result.1.now;
+      call_is = c.in-Some-integer_before.ensures;
+      answer_is = c.answer_before.ensures.split;
+      first = c.answer_before.ensures.first;
       places_are = c.in_ok-places.ensures.0;
       all = c.in_ok-places.ensures.1;
     } in
-    no_fills (view_tree c.args.item.now) c.in-Some.children.now c.in-Some-integer_ahead.call (option_map lent c.answer_ahead.result.0) c.in_ok-places.places.items
+    no_fills (view_tree c.args.item.now) c.in-Some.children.now c.in-Some-integer_before.call (option_map lent c.answer_before.result.0) c.in_ok-places.places.items
     (map view_tree c.in_ok-places.behind_places.now) c.in-Some.ensures split (rw c.in_default-2.is at c.in_ok-fills.ensures) t.0 t.2 t.1
 
 pub returns : goal.returns
 returns c =
-    let split : IsSplitTurn (map view_tree c.in-Some.children.now) c.in-Some-integer_ahead.call (option_map lent c.answer_ahead.result.0) c.in_ok-places.places.items (map view_tree c.in_ok-places.behind_places.now)
+    let split : IsSplitTurn (map view_tree c.in-Some.children.now) c.in-Some-integer_before.call (option_map lent c.answer_before.result.0) c.in_ok-places.places.items (map view_tree c.in_ok-places.behind_places.now)
     = record {
-      behind_call = map view_tree c.in-Some-integer_ahead.behind_call.now;
-      behind_answer = map view_tree c.answer_ahead.result.1.now;
-      call_is = c.in-Some-integer_ahead.ensures;
-      answer_is = c.answer_ahead.ensures.split;
-      first = c.answer_ahead.ensures.first;
+      behind_call = map view_tree c.in-Some-integer_before.behind_call.now;
+      behind_answer = map view_tree c.answer_before.result.1.now;
+      call_is = c.in-Some-integer_before.ensures;
+      answer_is = c.answer_before.ensures.split;
+      first = c.answer_before.ensures.first;
       places_are = c.in_ok-places.ensures.0;
       all = c.in_ok-places.ensures.1;
     } in
     let fills = rw c.in-Some-2.is at c.in_ok-fills.ensures in
-    let read = turn_read (view_tree c.args.item.now) c.in-Some.children.now c.in-Some-integer_ahead.call (option_map lent c.answer_ahead.result.0) c.in_ok-places.places.items
+    let read = turn_read (view_tree c.args.item.now) c.in-Some.children.now c.in-Some-integer_before.call (option_map lent c.answer_before.result.0) c.in_ok-places.places.items
     (map fill_of c.in-Some-2.fills.items) (map view_tree c.in_ok-places.behind_places.now) c.in-Some.ensures split fills.0 in
-    let fits : SFits w32 c.in-Some-integer_ahead.call = search rules in
-    let same = to_z-of_z w32 c.in-Some-integer_ahead.call fits in
+    let fits : SFits w32 c.in-Some-integer_before.call = search rules in
+    let same = to_z-of_z w32 c.in-Some-integer_before.call fits in
     let made : ℤ → Option (List ℕ) → TurnOf = λ call answer. turn_with call answer c.in_ok-places.places.items (map fill_of c.in-Some-2.fills.items) in
-    let answered : view_tree c.args.item.now ≡ turn_item (made c.in-Some-integer_ahead.call (option_map items_of c.in_ok-copied.field-0))
-    = subst (λ (o : Option (List ℕ)). view_tree c.args.item.now ≡ turn_item (made c.in-Some-integer_ahead.call o)) (sym c.in_ok-copied.ensures.same) read in
+    let answered : view_tree c.args.item.now ≡ turn_item (made c.in-Some-integer_before.call (option_map items_of c.in_ok-copied.field-0))
+    = subst (λ (o : Option (List ℕ)). view_tree c.args.item.now ≡ turn_item (made c.in-Some-integer_before.call o)) (sym c.in_ok-copied.ensures.same) read in
     (subst (λ (z : ℤ). view_tree c.args.item.now ≡ turn_item (made z (option_map items_of c.in_ok-copied.field-0))) (sym same) answered, fills.1)

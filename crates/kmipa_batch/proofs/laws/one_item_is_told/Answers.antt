@@ -1,5 +1,0 @@
-use Rattle.kmipa_batch.proofs.RunLemmas.{one_item_is_told}
-use Rattle.kmipa_batch.proofs.laws.one_item_is_told.Goals as goal
-
-pub returns : goal.returns
-returns c = one_item_is_told
