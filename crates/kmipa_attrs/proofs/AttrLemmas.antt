@@ -217,7 +217,7 @@ only_wrong [] f e = cc
 only_wrong (None ∷ held) f e = cc
 only_wrong (Some n ∷ held) f e = behind (all_named held) (only_wrong held f) e
   where
-    after : (r : Result (List NameOf) AttrFault) → (map_ok distinct r ≡ Err f → f ≡ WrongType) → map_ok distinct (map_ok (λ names. n ∷ names) r) ≡ Err f → f ≡ WrongType
+    behind : (r : Result (List NameOf) AttrFault) → (map_ok distinct r ≡ Err f → f ≡ WrongType) → map_ok distinct (map_ok (λ names. n ∷ names) r) ≡ Err f → f ≡ WrongType
     behind (Ok x) h g = cc
     behind (Err k) h g = h g
 

@@ -38,7 +38,7 @@ more_begun (m ∷ marks) (suc j) zero h = absurd (omega (arith, h))
 more_begun (begins n client asked ∷ marks) (suc j) (suc k) h = omega (arith, more_begun marks j k (omega (arith, h)))
 more_begun (ends n answered ∷ marks) (suc j) (suc k) h = more_begun marks j k (omega (arith, h))
 
-after : {X : Type 0} (xs : List X) (i j : ℕ) (x : X) → slice_get (take j xs) i ≡ Some x → (i < j) × (slice_get xs i ≡ Some x)
+behind : {X : Type 0} (xs : List X) (i j : ℕ) (x : X) → slice_get (take j xs) i ≡ Some x → (i < j) × (slice_get xs i ≡ Some x)
 behind [] i zero x at = absurd cc
 behind [] i (suc j) x at = absurd cc
 behind (y ∷ xs) i zero x at = absurd cc

@@ -288,7 +288,7 @@ module _ (cs : List Card) (t : ℤ) (q : FilterOf) (listed : List (List ℕ)) wh
 
 -- the first place from one on whose element passes a test
 module _ {X : Type 0} (p : X → Bool) where
-  after : (i : ℕ) (y : X) (ys : List X) (o : Option ℕ) → (p y ≡ true → ⊥) → position_from p i (y ∷ ys) ≡ o → position_from p (i + 1) ys ≡ o
+  behind : (i : ℕ) (y : X) (ys : List X) (o : Option ℕ) → (p y ≡ true → ⊥) → position_from p i (y ∷ ys) ≡ o → position_from p (i + 1) ys ≡ o
   behind i y ys o not_here e = ap (λ (b : Bool). cond b (Some i) (position_from p (i + 1) ys)) (sym (false_if (p y) not_here)) ∙ e
 
   later : (y : X) (ys : List X) (i n : ℕ) → p y ≡ false → ((j : ℕ) (z : X) → i + 1 + j < n → slice_get ys j ≡ Some z → p z ≡ false) → (k : ℕ) (x : X) → i + k < n → slice_get (y ∷ ys) k ≡ Some x → p x ≡ false

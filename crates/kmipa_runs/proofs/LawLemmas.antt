@@ -12,7 +12,7 @@ use Rattle.kmipa_ttlv.proofs.StreamLemmas.{all_given, one_list_lem}
 use Rattle.kmipa_runs.specs.Inputs.{TellsFirst}
 
 -- the bytes after the first of several items
-after : (ts us : List Tree) (bytes rest : List ℕ) → Begins (ts ++ us) bytes rest → (mid : List ℕ) × Begins ts bytes mid × Begins us mid rest
+behind : (ts us : List Tree) (bytes rest : List ℕ) → Begins (ts ++ us) bytes rest → (mid : List ℕ) × Begins ts bytes mid × Begins us mid rest
 behind [] us bytes rest b = (bytes, refl, b)
 behind (t ∷ ts) us bytes rest b =
     let tail = behind ts us b.1 rest b.4 in
