@@ -5,7 +5,7 @@ ghost use Rattle.kmipa_ttlv.specs.ItemTree.{value_tree, tree, trees};
 ghost use Rattle.kmipa_ttlv.specs.ViewTree.{view_value_tree, view_tree, view_trees};
 
 use crate::item::{Item, Value};
-use crate::view::{View, ViewValue};
+use crate::view::{Children, View, ViewValue};
 use std::alloc::{AllocError, Global};
 
 /// The view's tree, with copies of its texts and bytes.
@@ -24,7 +24,7 @@ fn copy_value(alloc: Global, value: &ViewValue) -> Result<Value, AllocError>
     ensures { IfOk result (λ v. (tag : ℕ) → value_tree tag v ≡ view_value_tree tag value.now) }
 {
     match value {
-        ViewValue::Structure(children) => Ok(Value::Structure(copy_all(alloc, children)?)),
+        ViewValue::Structure(children) => Ok(Value::Structure(copy_all(alloc, *children)?)),
         ViewValue::Integer(n) => Ok(Value::Integer(*n)),
         ViewValue::LongInteger(n) => Ok(Value::LongInteger(*n)),
         ViewValue::BigInteger(bytes) => Ok(Value::BigInteger(Vec::from_slice(alloc, bytes)?)),
@@ -39,12 +39,13 @@ fn copy_value(alloc: Global, value: &ViewValue) -> Result<Value, AllocError>
 }
 
 #[cycle(copying)]
-fn copy_all(alloc: Global, views: &[View]) -> Result<Vec<Item>, AllocError>
-    ensures { IfOk result (λ v. trees v.items ≡ view_trees views.now) }
+fn copy_all(alloc: Global, children: Children) -> Result<Vec<Item>, AllocError>
+    ensures { IfOk result (λ v. trees v.items ≡ view_trees children.entry) }
 {
     let mut items = Vec::new(alloc);
-    for view in views {
-        items.push(copy_item(alloc, view)?)?;
+    let mut left = children;
+    'children: while let Some(child) = left.next() {
+        items.push(copy_item(alloc, &child)?)?;
     }
     Ok(items)
 }

@@ -5,6 +5,7 @@
 #![tactic(auto)]
 
 mod came;
+mod children;
 mod copying;
 mod decoding;
 mod encoding;
@@ -16,6 +17,7 @@ mod item;
 mod laws;
 mod lending;
 mod reading;
+mod spelled;
 mod splitting;
 mod tag;
 mod view;
@@ -35,7 +37,7 @@ pub use lending::lend;
 pub use reading::{read_all, read_bytes, read_item, read_item_into};
 pub use splitting::split_stream;
 pub use tag::Tag;
-pub use view::{View, ViewValue};
+pub use view::{Children, View, ViewValue};
 
 #[cfg(test)]
 mod tests;

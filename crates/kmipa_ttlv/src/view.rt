@@ -1,21 +1,20 @@
 //! Views: items whose texts and bytes are lent from what they were read from.
 
+use crate::item::Item;
 use crate::tag::Tag;
 
 /// One TTLV item: the same tree as an `Item`, with texts and bytes lent.
-#[derive(Debug, Drop)]
-#[cycle(view)]
+#[derive(Clone, Copy, Debug)]
 pub struct View<'a> {
     pub tag: Tag,
     pub value: ViewValue<'a>,
 }
 
 /// The value of a view, by its kind.
-#[derive(Debug, Drop)]
-#[cycle(view)]
+#[derive(Clone, Copy, Debug)]
 pub enum ViewValue<'a> {
     /// The children, in order.
-    Structure(Vec<View<'a>>),
+    Structure(Children<'a>),
     Integer(i32),
     LongInteger(i64),
     /// The bytes of a number in two's complement, the highest first; a positive multiple of 8.
@@ -30,4 +29,18 @@ pub enum ViewValue<'a> {
     Interval(u32),
     /// Microseconds since 1970-01-01T00:00:00Z.
     DateTimeExtended(i64),
+}
+
+/// The children of a structure that are left, in order: each is lent where it is asked for, and none is kept.
+#[derive(Clone, Copy, Debug)]
+pub struct Children<'a> {
+    pub(crate) source: Source<'a>,
+}
+
+/// What children are lent from.
+#[derive(Clone, Copy, Debug)]
+pub(crate) enum Source<'a> {
+    /// Bytes that spell them, which were tested.
+    Spelled(&'a [u8]),
+    Lent(&'a [Item]),
 }

@@ -49,15 +49,18 @@ const TURN: [u8; 24] = [
 
 // What `decode` and `decode_view` both answer. An item's tree is that of the view.
 fn both(alloc: Global, bytes: &[u8]) -> Result<Result<usize, TtlvFault>, Fail> {
-    let viewed = decode_view(alloc, bytes);
+    let viewed = decode_view(bytes);
     match decode(alloc, bytes) {
         Ok((item, len)) => {
             let (view, view_len) = viewed?;
             check(view_len == len, "another length")?;
-            let lent = lend(alloc, &item)?;
-            let text = format!(in alloc; "{view:?}")?;
-            let lent_text = format!(in alloc; "{lent:?}")?;
-            check(text.as_str() == lent_text.as_str(), "another tree")?;
+            let text = format!(in alloc; "{item:?}")?;
+            let viewed_item = copy_item(alloc, &view)?;
+            let viewed_text = format!(in alloc; "{viewed_item:?}")?;
+            check(viewed_text.as_str() == text.as_str(), "another tree")?;
+            let lent_item = copy_item(alloc, &lend(&item))?;
+            let lent_text = format!(in alloc; "{lent_item:?}")?;
+            check(lent_text.as_str() == text.as_str(), "another tree is lent")?;
             Ok(Ok(len))
         }
         Err(fault) => {

@@ -1,0 +1,86 @@
+//! The children of a structure, one after the other.
+
+ghost use Rattle.std.specs.Prelude.{◌≡◌, ◌≤◌, ◌∷◌, [], length, MatchOption, IfSome};
+ghost use Rattle.kmipa_ttlv.specs.Tree.{none, more, every};
+ghost use Rattle.kmipa_ttlv.specs.ItemTree.{trees};
+ghost use Rattle.kmipa_ttlv.specs.Spelled.{items_at};
+ghost use Rattle.kmipa_ttlv.specs.ViewTree.{view_tree, view_trees, from_tag};
+
+use crate::item::Item;
+use crate::lending::lend;
+use crate::spelled::{front_view, spelled_from};
+use crate::view::{Children, Source, View};
+
+impl<'a> Children<'a> {
+    /// No children.
+    pub fn none() -> Children<'a>
+        ensures { view_trees result ≡ none }
+    {
+        Children {
+            source: Source::Spelled(&[]),
+        }
+    }
+
+    /// The next child, after which the others are left.
+    pub fn next(&mut self) -> Option<View<'a>>
+        ensures { MatchOption result (view_trees self.old ≡ none) (λ v. view_trees self.old ≡ more (view_tree v) (view_trees self.new)) }
+    {
+        match self.source {
+            Source::Spelled(bytes) => {
+                let (view, rest) = front_view(bytes)?;
+                self.source = Source::Spelled(rest);
+                Some(view)
+            }
+            Source::Lent(items) => {
+                let (item, rest) = items.split_first()?;
+                self.source = Source::Lent(rest);
+                Some(lend(item))
+            }
+        }
+    }
+
+    /// The next child with this tag, after which those behind it are left.
+    pub fn next_of(&mut self, tag: u32) -> Option<View<'a>>
+        ensures next { MatchOption result (every tag (view_trees self.old) ≡ []) (λ v. every tag (view_trees self.old) ≡ view_tree v ∷ every tag (view_trees self.new)) }
+        ensures tag { IfSome result (λ v. v.tag.number ≡ tag) }
+    {
+        self.pass_to(tag);
+        self.next()
+    }
+
+    /// How many children with this tag are left.
+    pub fn count_of(self, tag: u32) -> usize
+        ensures { result ≡ length (every tag (view_trees self.entry)) }
+    {
+        let mut left = self;
+        let mut count = 0;
+        'children: while left.next_of(tag).is_some() {
+            count += 1;
+        }
+        count
+    }
+
+    /// Leaves the first child with this tag and those behind it.
+    fn pass_to(&mut self, tag: u32)
+        ensures { view_trees self.new ≡ from_tag tag (view_trees self.old) }
+    {
+        self.source = match self.source {
+            Source::Spelled(bytes) => Source::Spelled(spelled_from(bytes, tag)),
+            Source::Lent(items) => Source::Lent(lent_from(items, tag)),
+        };
+    }
+}
+
+/// The items from the first with this tag on.
+fn lent_from(items: &[Item], tag: u32) -> &[Item]
+    ensures { trees result.now ≡ from_tag tag (trees items.now) }
+{
+    let mut rest = items;
+    'items: while let Some((item, others)) = rest.split_first() {
+        if item.tag.number == tag {
+            return rest;
+        }
+        rest = others;
+    }
+    rest
+}

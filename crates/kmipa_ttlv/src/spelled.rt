@@ -1,0 +1,69 @@
+//! Items read in place, out of bytes that were tested before.
+
+ghost use Rattle.std.specs.Prelude.{◌≡◌, ℕ, length, IsTrue, MatchOption};
+ghost use Rattle.kmipa_ttlv.specs.Head.{number_of_kind};
+ghost use Rattle.kmipa_ttlv.specs.Flaw.{allows};
+ghost use Rattle.kmipa_ttlv.specs.Spelled.{item_at, items_at};
+ghost use Rattle.kmipa_ttlv.specs.Tree.{none, more};
+ghost use Rattle.kmipa_ttlv.specs.ViewTree.{view_tree, view_value_tree, from_tag};
+
+use crate::head::{Head, Kind, value_of, whole_head};
+use crate::view::{Children, Source, View, ViewValue};
+use byteorder::{BigEndian, ByteOrder};
+
+/// The item at the front and the bytes behind it, or `None` where no whole one is there.
+pub fn front_view(bytes: &[u8]) -> Option<(View<'_>, &[u8])>
+    ensures { MatchOption result (items_at bytes.now ≡ none) (λ x. items_at bytes.now ≡ more (view_tree x.0) (items_at x.1.now)) }
+{
+    let head = whole_head(bytes)?;
+    let view = view_of(head, value_of(bytes, head.len));
+    let (_, rest) = bytes.split_at(head.extent());
+    Some((view, rest))
+}
+
+/// The bytes from the first item with this tag on.
+pub fn spelled_from(bytes: &[u8], tag: u32) -> &[u8]
+    ensures { items_at result.now ≡ from_tag tag (items_at bytes.now) }
+{
+    let mut rest = bytes;
+    'items: while let Some(head) = whole_head(rest) {
+        if head.tag.number == tag {
+            return rest;
+        }
+        let (_, others) = rest.split_at(head.extent());
+        rest = others;
+    }
+    rest
+}
+
+/// The item that this header and value say.
+pub fn view_of(head: Head, value: &[u8]) -> View<'_>
+    requires { IsTrue (allows (number_of_kind head.kind) (length value.now)) }
+    ensures { view_tree result ≡ item_at items_at head.tag.number (number_of_kind head.kind) value.now }
+{
+    View {
+        tag: head.tag,
+        value: value_view(head.kind, value),
+    }
+}
+
+fn value_view(kind: Kind, value: &[u8]) -> ViewValue<'_>
+    requires { IsTrue (allows (number_of_kind kind) (length value.now)) }
+    ensures { (tag : ℕ) → view_value_tree tag result ≡ item_at items_at tag (number_of_kind kind) value.now }
+{
+    match kind {
+        Kind::Structure => ViewValue::Structure(Children {
+            source: Source::Spelled(value),
+        }),
+        Kind::Integer => ViewValue::Integer(BigEndian::read_i32(value)),
+        Kind::LongInteger => ViewValue::LongInteger(BigEndian::read_i64(value)),
+        Kind::BigInteger => ViewValue::BigInteger(value),
+        Kind::Enumeration => ViewValue::Enumeration(BigEndian::read_u32(value)),
+        Kind::Boolean => ViewValue::Boolean(BigEndian::read_u64(value) == 1),
+        Kind::Text => ViewValue::Text(str::from_utf8(value).unwrap_or("")),
+        Kind::Bytes => ViewValue::Bytes(value),
+        Kind::DateTime => ViewValue::DateTime(BigEndian::read_i64(value)),
+        Kind::Interval => ViewValue::Interval(BigEndian::read_u32(value)),
+        Kind::DateTimeExtended => ViewValue::DateTimeExtended(BigEndian::read_i64(value)),
+    }
+}
