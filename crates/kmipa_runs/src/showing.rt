@@ -78,7 +78,7 @@ fn show_next<R: Read>(
     ensures appends { StartsWith out.new.items out.old.items }
 {
     let offset = input.taken();
-    let Some(view) = read_view(alloc, input, bytes)? else {
+    let Some(view) = read_view(input, bytes)? else {
         return Ok(false);
     };
     match push_item(alloc, &view, options, 0, out) {

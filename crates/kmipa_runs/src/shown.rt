@@ -12,7 +12,7 @@ use crate::options::ShowOptions;
 use crate::values::{UPPER, kind_name, push_digits, push_note, push_text, push_value, push_word};
 use byteorder::{BigEndian, ByteOrder};
 use kmipa_attrs::tag_name;
-use kmipa_ttlv::{Tag, View, ViewValue};
+use kmipa_ttlv::{Children, Tag, View, ViewValue};
 use std::alloc::{AllocError, Global};
 
 /// Two spaces for each level that an item may have above it: 15 in a file, and 16 more in a message below one of its
@@ -39,7 +39,7 @@ pub fn push_item(
         ViewValue::Structure(children) => {
             push_head(item.tag, "Structure", level, out)?;
             push_text("\n", out)?;
-            push_items(alloc, children, options, level + 1, out)
+            push_items(alloc, *children, options, level + 1, out)
         }
         ViewValue::Bytes(bytes) => {
             push_line(alloc, item, options.notes, level, out)?;
@@ -53,18 +53,19 @@ pub fn push_item(
 #[cycle(showing)]
 fn push_items(
     alloc: Global,
-    items: &[View],
+    items: Children,
     options: ShowOptions,
     level: usize,
     out: &mut Vec<u8>,
 ) -> Result<(), AllocError>
-    requires level { level + depths (view_trees items.now) ≤ 32 }
-    requires room { IsTrue options.messages → level + depths (view_trees items.now) ≤ 16 }
-    ensures shows { OnOk result (ShowsItems options level (view_trees items.now) (appended_bytes out.old.items out.new.items)) }
+    requires level { level + depths (view_trees items) ≤ 32 }
+    requires room { IsTrue options.messages → level + depths (view_trees items) ≤ 16 }
+    ensures shows { OnOk result (ShowsItems options level (view_trees items.entry) (appended_bytes out.old.items out.new.items)) }
     ensures appends { StartsWith out.new.items out.old.items }
 {
-    for item in items {
-        push_item(alloc, item, options, level, out)?;
+    let mut left = items;
+    'items: while let Some(item) = left.next() {
+        push_item(alloc, &item, options, level, out)?;
     }
     Ok(())
 }
@@ -85,7 +86,7 @@ fn push_below(
     if !options.messages {
         return Ok(());
     }
-    let Some(message) = message_of(alloc, bytes)? else {
+    let Some(message) = message_of(bytes)? else {
         return Ok(());
     };
     let within = ShowOptions {

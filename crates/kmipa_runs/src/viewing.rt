@@ -11,13 +11,11 @@ ghost use Rattle.kmipa_ttlv.specs.Tree.{Tree};
 ghost use Rattle.kmipa_ttlv.specs.ViewTree.{view_tree};
 
 use kmipa_ttlv::{FaultKind, Input, TtlvFault, View, decode_view, read_bytes};
-use std::alloc::Global;
 use std::io::Read;
 
 /// The next item of an input, or `None` at its end. Its bytes are read into `bytes`, in place of what is there, and
 /// its texts and bytes are lent from there. Errors: those of `read_item`.
 pub fn read_view<'b, R: Read>(
-    alloc: Global,
     input: &mut Input<R>,
     bytes: &'b mut Vec<u8>,
 ) -> Result<Option<View<'b>>, TtlvFault>
@@ -34,7 +32,7 @@ pub fn read_view<'b, R: Read>(
     if !read_bytes(input, bytes)? {
         return Ok(None);
     }
-    match decode_view(alloc, bytes) {
+    match decode_view(bytes) {
         Ok((view, _)) => Ok(Some(view)),
         Err(fault) => match fault.kind {
             FaultKind::Memory => Err(TtlvFault {
