@@ -1,9 +1,11 @@
 -- The lines of items, from what is appended.
-use Rattle.std.proofs.Common.{◌≡◌, ℕ, Bool, true, false, ◌+◌, ◌/◌, ◌%◌, ◌<◌, List, [], ◌∷◌, ◌++◌, length, get_or, drop, suc, refl, sym, ap, ◌∙◌, append_assoc, add-one, drop-cons}
+use Rattle.std.proofs.Common.{◌≡◌, ℕ, Bool, true, false, ◌+◌, ◌*◌, replicate, ◌/◌, ◌%◌, ◌<◌, List, [], ◌∷◌, ◌++◌, length, get_or, drop, suc, refl, sym, ap, ◌∙◌, append_assoc, add-one, drop-cons}
 use denote.Bor.{Bor}
 use Rattle.std.specs.Prelude.{codes}
 use Rattle.std.proofs.lemmas.List.{append-nil}
-use Rattle.hex.specs.Hex.{encode_with}
+use Rattle.byteorder.specs.Endian.{big_bytes}
+use Rattle.hex.specs.Hex.{encode_upper, encode_with}
+use Rattle.kmipa_attrs.specs.Tags.{tag_name_of}
 use Rattle.kmipa_ttlv.specs.ViewTree.{view_value_tree}
 use Rattle.kmipa_ttlv.specs.declared.view.ViewValue.{ViewValue}
 use Rattle.kmipa_ttlv.specs.declared.view.ViewValue.TheVariants.{Structure, Integer, LongInteger, BigInteger, Enumeration, Boolean, Text, Bytes, DateTime, Interval, DateTimeExtended}
@@ -59,8 +61,16 @@ unfolding encode_with
 no_digits table = refl
 
 -- one append after the other
-pub five : (a b d e f g : List ℕ) → ((((a ++ b) ++ d) ++ e) ++ f) ++ g ≡ a ++ (b ++ d ++ e ++ f ++ g)
+pub five : (a b d e f g : List ℕ) → (((a ++ (b ++ d)) ++ e) ++ f) ++ g ≡ a ++ (b ++ d ++ e ++ f ++ g)
 five a b d e f g = simp append_assoc
 
-pub four : (a b d e f : List ℕ) → (((a ++ b) ++ d) ++ e) ++ f ≡ a ++ (b ++ d ++ e ++ f)
+pub four : (a b d e f : List ℕ) → (((a ++ b) ++ (d ++ 32 ∷ [])) ++ e) ++ f ≡ a ++ (b ++ d ++ 32 ∷ e ++ f)
 four a b d e f = simp append_assoc
+
+heads : (a b d e f : List ℕ) → a ++ b ++ 32 ∷ d ++ (32 ∷ e ++ f) ≡ (a ++ b ++ 32 ∷ d ++ 32 ∷ e) ++ f
+heads a b d e f = simp append_assoc
+
+-- the words of a type end the head of a line
+pub head_of : (level tag : ℕ) (kind rest : List ℕ)
+    → replicate (2 * level) 32 ++ encode_upper (big_bytes 3 tag) ++ 32 ∷ tag_name_of tag ++ (32 ∷ kind ++ rest) ≡ head level tag kind ++ rest
+head_of level tag kind rest = heads (replicate (2 * level) 32) (encode_upper (big_bytes 3 tag)) (tag_name_of tag) kind rest

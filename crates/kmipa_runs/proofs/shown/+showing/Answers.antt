@@ -9,7 +9,7 @@ use Rattle.kmipa_ttlv.specs.Written.{depth, depths}
 use Rattle.kmipa_runs.specs.Shown.{head, ShowsItem, ShowsItems, ShowsLine}
 use Rattle.kmipa_runs.proofs.AppendLemmas.{split, onto, starts_on}
 use Rattle.kmipa_runs.proofs.InputLemmas.{levels}
-use Rattle.kmipa_runs.proofs.ShownLemmas.{line_alone}
+use Rattle.kmipa_runs.proofs.ShownLemmas.{line_alone, head_of}
 use Rattle.kmipa_runs.proofs.shown.+showing.Goals as goal
 
 pub push_item-push_items-requires : goal.push_item-push_items-requires
@@ -20,17 +20,16 @@ push_item-push_items-requires t c =
       (omega (arith, c.requires.level, ap depth e), λ asked. let fits = c.requires.room asked in omega (arith, fits, ap depth e)),
     )
 
-pub push_item-returns-in_ok-push_text-in-Structure-clause-shows : goal.push_item-returns-in_ok-push_text-in-Structure-clause-shows
-push_item-returns-in_ok-push_text-in-Structure-clause-shows t c =
+pub push_item-returns-in_ok-push_head-in-Structure-clause-shows : goal.push_item-returns-in_ok-push_head-in-Structure-clause-shows
+push_item-returns-in_ok-push_head-in-Structure-clause-shows t c =
     let tag = c.args.item.now.tag.number in
     let old = c.args.out.now.items in
-    let headed = c.push_head.new.out.items in
-    let lined = c.push_text.new.out.items in
+    let lined = c.push_head.new.out.items in
     let new = c.push_items.new.out.items in
     let first = head c.args.level tag (codes "Structure") in
     let e : view_tree c.args.item.now ≡ structure tag (view_trees c.in-Structure.children) = ap (view_value_tree tag) c.in-Structure.is in
     let line : lined ≡ old ++ (first ++ codes "\n")
-    = c.in_ok-push_text-in-Structure.ensures.pushes ∙ ap (λ (l : List ℕ). l ++ codes "\n") c.in_ok-push_head-in-Structure.ensures.pushes ∙ append_assoc old first (codes "\n") in
+    = c.in_ok-push_head-in-Structure.ensures.pushes ∙ ap (λ (l : List ℕ). old ++ l) (head_of c.args.level tag (codes "Structure") (codes "\n")) in
     let whole = onto old lined new (first ++ codes "\n") line c.push_items.ensures.appends in
     let P : Tree → Type 0 = λ tr. ShowsItem c.args.options c.args.level tr (appended_bytes old new) in
     on_ok_weaker c.push_items.result (λ below. subst P (sym e) (appended_bytes lined new, below, whole)) c.push_items.ensures.shows
