@@ -17,7 +17,6 @@ mod showing;
 mod shown;
 mod status;
 mod values;
-mod viewing;
 mod writing;
 
 pub use laws::items_have_no_fault;

@@ -11,8 +11,7 @@ use crate::flaws::tell_flaw;
 use crate::options::ShowOptions;
 use crate::shown::push_item;
 use crate::status::Status;
-use crate::viewing::read_view;
-use kmipa_ttlv::{FaultKind, Input, TtlvFault};
+use kmipa_ttlv::{FaultKind, Input, TtlvFault, read_view};
 use std::alloc::Global;
 use std::io::Read;
 

@@ -34,7 +34,7 @@ pub use laws::{
     one_list, one_spelling, own_kinds, read_in_place, settled,
 };
 pub use lending::lend;
-pub use reading::{read_all, read_bytes, read_item, read_item_into};
+pub use reading::{read_all, read_bytes, read_item, read_view};
 pub use splitting::split_stream;
 pub use tag::Tag;
 pub use view::{Children, View, ViewValue};
