@@ -9,6 +9,7 @@ use Rattle.kmipa_ttlv.specs.declared.item.Item.{Item}
 use Rattle.kmipa_ttlv.specs.ViewTree.{view_tree, view_trees}
 use Rattle.kmipa_ttlv.specs.declared.view.View.{View}
 use Rattle.kmipa_attrs.specs.Fields.{tag_of}
+use Rattle.kmipa_record.specs.Tags.{turn_tag}
 use Rattle.kmipa_record.specs.Witnesses.{FillOf, TurnOf, fill_of, call_item, answer_item, place_item, fill_item, listed, turn_fields, turn_item, IsPayload, ArePayloads}
 use Rattle.kmipa_record.specs.declared.fill.Fill.{Fill}
 use Rattle.kmipa_record.specs.WitnessReading.{NotAhead}
@@ -96,13 +97,13 @@ forest_views [] = refl
 forest_views (v ∷ views) = ap (more (view_tree v)) (forest_views views)
 
 -- the children of a turn's item
-children_are : (item : Tree) (views : List View) (t : TurnOf) → item ≡ structure 0x54_0041 (view_trees views) → item ≡ turn_item t → map view_tree views ≡ turn_fields t
+children_are : (item : Tree) (views : List View) (t : TurnOf) → item ≡ structure turn_tag (view_trees views) → item ≡ turn_item t → map view_tree views ≡ turn_fields t
 children_are item views t e f =
-    let both : structure 0x54_0041 (view_trees views) ≡ turn_item t = sym e ∙ f in
+    let both : structure turn_tag (view_trees views) ≡ turn_item t = sym e ∙ f in
     let same : view_trees views ≡ forest (λ (u : Tree). u) (turn_fields t) = cc in
     forest_once (map view_tree views) (turn_fields t) (sym (forest_views views) ∙ same)
 
-pub no_call : (item : Tree) (views : List View) → item ≡ structure 0x54_0041 (view_trees views) → ((call : ℤ) (rest : List Tree) → map view_tree views ≡ call_item call ∷ rest → ⊥)
+pub no_call : (item : Tree) (views : List View) → item ≡ structure turn_tag (view_trees views) → ((call : ℤ) (rest : List Tree) → map view_tree views ≡ call_item call ∷ rest → ⊥)
     → (t : TurnOf) → item ≡ turn_item t → ⊥
 no_call item views e isnt t f = isnt t.call (map answer_item (listed t.answer) ++ (map place_item t.places ++ map fill_item t.fills)) (children_are item views t e f)
 
@@ -133,18 +134,18 @@ fills_behind views call answer places rest s t e =
     let unanswered = not_behind answer s.behind_call s.behind_answer s.answer_is s.first t.answer t.places t.fills behind in
     (front_once place_item place_once places t.places rest (map fill_item t.fills) s.all (no_place_in_fills t.fills) (sym s.places_are ∙ unanswered)).1
 
-pub no_fills : (item : Tree) (views : List View) (call : ℤ) (answer : Option (List ℕ)) (places : List ℤ) (rest : List Tree) → item ≡ structure 0x54_0041 (view_trees views)
+pub no_fills : (item : Tree) (views : List View) (call : ℤ) (answer : Option (List ℕ)) (places : List ℤ) (rest : List Tree) → item ≡ structure turn_tag (view_trees views)
     → IsSplitTurn (map view_tree views) call answer places rest → ((fills : List FillOf) → ArePayloads fills → rest ≡ map fill_item fills → ⊥)
     → (t : TurnOf) → ArePayloads t.fills → item ≡ turn_item t → ⊥
 no_fills item views call answer places rest e s isnt t payloads f = isnt t.fills payloads (fills_behind (map view_tree views) call answer places rest s t (children_are item views t e f))
 
-pub turn_read : (item : Tree) (views : List View) (call : ℤ) (answer : Option (List ℕ)) (places : List ℤ) (fills : List FillOf) (rest : List Tree) → item ≡ structure 0x54_0041 (view_trees views)
+pub turn_read : (item : Tree) (views : List View) (call : ℤ) (answer : Option (List ℕ)) (places : List ℤ) (fills : List FillOf) (rest : List Tree) → item ≡ structure turn_tag (view_trees views)
     → IsSplitTurn (map view_tree views) call answer places rest → rest ≡ map fill_item fills → item ≡ turn_item (turn_with call answer places fills)
 turn_read item views call answer places fills rest e s f =
     let behind : s.behind_call ≡ map answer_item (listed answer) ++ (map place_item places ++ map fill_item fills)
     = s.answer_is ∙ ap (λ (l : List Tree). map answer_item (listed answer) ++ l) (s.places_are ∙ ap (λ (l : List Tree). map place_item places ++ l) f) in
     let fields : map view_tree views ≡ turn_fields (turn_with call answer places fills) = s.call_is ∙ ap (λ (l : List Tree). call_item call ∷ l) behind in
-    e ∙ ap (structure 0x54_0041) (forest_views views ∙ ap (forest (λ (t : Tree). t)) fields)
+    e ∙ ap (structure turn_tag) (forest_views views ∙ ap (forest (λ (t : Tree). t)) fields)
 
 -- ---- fills
 
@@ -185,7 +186,7 @@ forest_items : (items : List Item) → trees items ≡ forest (λ (t : Tree). t)
 forest_items [] = refl
 forest_items (i ∷ items) = ap (more (tree i)) (forest_items items)
 
-pub turn_written : (item : Tree) (t : TurnOf) (first second third children : List Item) → item ≡ structure 0x54_0041 (trees children) → map tree first ≡ call_item t.call ∷ []
+pub turn_written : (item : Tree) (t : TurnOf) (first second third children : List Item) → item ≡ structure turn_tag (trees children) → map tree first ≡ call_item t.call ∷ []
     → map tree second ≡ map tree first ++ map answer_item (listed t.answer) → map tree third ≡ map tree second ++ map place_item t.places → map tree children ≡ map tree third ++ map fill_item t.fills
     → item ≡ turn_item t
 turn_written item t first second third children e a b c d =
@@ -195,4 +196,4 @@ turn_written item t first second third children e a b c d =
     let fields : map tree children ≡ turn_fields t
     = d ∙ ap (λ (l : List Tree). l ++ fills) (c ∙ ap (λ (l : List Tree). l ++ places) (b ∙ ap (λ (l : List Tree). l ++ answers) a))
     ∙ ap (λ (l : List Tree). call_item t.call ∷ l) (append_assoc answers places fills) in
-    e ∙ ap (structure 0x54_0041) (forest_items children ∙ ap (forest (λ (u : Tree). u)) fields)
+    e ∙ ap (structure turn_tag) (forest_items children ∙ ap (forest (λ (u : Tree). u)) fields)

@@ -11,25 +11,27 @@ ghost use Rattle.kmipa_record.specs.DeclarationReading.{are_whole_bytes};
 ghost use Rattle.kmipa_record.specs.Entries.{EntryOf, entry_of, items_of, entry_item, material, AreBytes, SaysEntry, AreListed, key_bits, IsDeclarable};
 
 use crate::shape::{bytes_of, children_of, copied, enumeration_of, text_of};
+use crate::tags::ENTRY;
+use kmipa_attrs::tags::{
+    ACTIVATION_DATE, ATTRIBUTES, COMPROMISE_DATE, CRYPTOGRAPHIC_ALGORITHM, CRYPTOGRAPHIC_LENGTH,
+    CRYPTOGRAPHIC_USAGE_MASK, DEACTIVATION_DATE, DESTROY_DATE, INITIAL_DATE, KEY_MATERIAL, NAME,
+    OBJECT_TYPE, UNIQUE_IDENTIFIER,
+};
 use kmipa_attrs::{AttrFault, AttrSet, ObjectType, Side, read_children};
 use kmipa_ttlv::View;
 use std::alloc::{AllocError, Global};
 
-pub const ENTRY: u32 = 0x54_0034;
-
-pub const UNIQUE_IDENTIFIER: u32 = 0x42_0094;
-
-pub const OBJECT_TYPE: u32 = 0x42_0057;
-
-const ATTRIBUTES: u32 = 0x42_0125;
-
-pub const KEY_MATERIAL: u32 = 0x42_0043;
-
-/// The attributes that an entry may have: Name, Cryptographic Algorithm, Cryptographic Length, Cryptographic Usage Mask, and Initial,
-/// Activation, Deactivation, Destroy and Compromise Date.
+/// The attributes that an entry may have.
 const LISTED: [u32; 9] = [
-    0x42_0053, 0x42_0028, 0x42_002A, 0x42_002C, 0x42_0039, 0x42_0001, 0x42_002F, 0x42_0033,
-    0x42_0020,
+    NAME,
+    CRYPTOGRAPHIC_ALGORITHM,
+    CRYPTOGRAPHIC_LENGTH,
+    CRYPTOGRAPHIC_USAGE_MASK,
+    INITIAL_DATE,
+    ACTIVATION_DATE,
+    DEACTIVATION_DATE,
+    DESTROY_DATE,
+    COMPROMISE_DATE,
 ];
 
 /// Cryptographic Algorithm AES (KMIP 2.1, section 11).

@@ -6,14 +6,10 @@ ghost use Rattle.kmipa_ttlv.specs.ViewTree.{view_tree};
 ghost use Rattle.kmipa_record.specs.Witnesses.{FillOf, fill_of, fill_item, IsPayload, ArePayloads};
 
 use crate::shape::{children_of, integer_of};
+use crate::tags::{FILL, FILLED_ITEM};
+use kmipa_attrs::tags::RESPONSE_PAYLOAD;
 use kmipa_ttlv::{Item, Tag, Value, View, copy_item, lend};
 use std::alloc::{AllocError, Global};
-
-const FILL: u32 = 0x54_0042;
-
-const FILLED_ITEM: u32 = 0x54_0043;
-
-const RESPONSE_PAYLOAD: u32 = 0x42_007C;
 
 /// A payload that a response leaves out.
 #[derive(Debug, Drop)]

@@ -9,19 +9,10 @@ ghost use Rattle.kmipa_record.specs.declared.version.Version.{Version};
 
 use crate::record::Record;
 use crate::shape::{boolean_of, children_of, integer_of};
+use crate::tags::{DECLARATION_HEADER, TRANSCRIPT_HEADER, UNIQUE_NAMES, VERSION, WITNESS_HEADER};
 use crate::version::{Version, version_of};
 use kmipa_ttlv::{Item, Tag, View};
 use std::alloc::{AllocError, Global};
-
-const TRANSCRIPT: u32 = 0x54_0001;
-
-const VERSION: u32 = 0x54_0002;
-
-const DECLARATION: u32 = 0x54_0030;
-
-const UNIQUE_NAMES: u32 = 0x54_0031;
-
-const WITNESS: u32 = 0x54_0040;
 
 /// The header of a transcript.
 #[derive(Drop)]
@@ -33,7 +24,7 @@ impl Record for TranscriptHeader {
     ghost is_record = { λ item. item ≡ transcript_header };
 
     fn of(_alloc: Global, item: &View) -> Result<Option<TranscriptHeader>, AllocError> {
-        let Some(children) = children_of(item, TRANSCRIPT) else {
+        let Some(children) = children_of(item, TRANSCRIPT_HEADER) else {
             return Ok(None);
         };
         let [version] = children else {
@@ -59,7 +50,7 @@ impl Record for DeclarationHeader {
     ghost is_record = { λ item. (unique : Bool) × (item ≡ declaration_header unique) };
 
     fn of(_alloc: Global, item: &View) -> Result<Option<DeclarationHeader>, AllocError> {
-        let Some(children) = children_of(item, DECLARATION) else {
+        let Some(children) = children_of(item, DECLARATION_HEADER) else {
             return Ok(None);
         };
         let [version, unique_names] = children else {
@@ -87,7 +78,7 @@ impl Record for WitnessHeader {
     ghost is_record = { λ item. (version : Version) × (item ≡ witness_header version) };
 
     fn of(_alloc: Global, item: &View) -> Result<Option<WitnessHeader>, AllocError> {
-        let Some(children) = children_of(item, WITNESS) else {
+        let Some(children) = children_of(item, WITNESS_HEADER) else {
             return Ok(None);
         };
         let [version] = children else {
@@ -109,7 +100,12 @@ pub fn write_witness_header(alloc: Global, version: Version) -> Result<Item, All
 {
     let mut children = Vec::with_capacity(alloc, 1)?;
     children.push(Item::integer(Tag { number: VERSION }, version.number()))?;
-    Ok(Item::structure(Tag { number: WITNESS }, children))
+    Ok(Item::structure(
+        Tag {
+            number: WITNESS_HEADER,
+        },
+        children,
+    ))
 }
 
 /// The header of a transcript.
@@ -118,7 +114,12 @@ pub fn write_transcript_header(alloc: Global) -> Result<Item, AllocError>
 {
     let mut children = Vec::with_capacity(alloc, 1)?;
     children.push(Item::integer(Tag { number: VERSION }, 1))?;
-    Ok(Item::structure(Tag { number: TRANSCRIPT }, children))
+    Ok(Item::structure(
+        Tag {
+            number: TRANSCRIPT_HEADER,
+        },
+        children,
+    ))
 }
 
 /// The header of a declaration.
@@ -135,7 +136,7 @@ pub fn write_declaration_header(alloc: Global, unique_names: bool) -> Result<Ite
     ))?;
     Ok(Item::structure(
         Tag {
-            number: DECLARATION,
+            number: DECLARATION_HEADER,
         },
         children,
     ))

@@ -6,14 +6,10 @@ ghost use Rattle.kmipa_msgs.specs.Messages.{RowOf, row_of};
 ghost use Rattle.kmipa_record.specs.Declarations.{row_item};
 
 use crate::shape::{children_of, enumeration_of};
+use crate::tags::{CAUSE, ROW};
+use kmipa_attrs::tags::RESULT_REASON;
 use kmipa_msgs::{Cause, Row};
 use kmipa_ttlv::View;
-
-pub const ROW: u32 = 0x54_0032;
-
-pub const RESULT_REASON: u32 = 0x42_007E;
-
-pub const CAUSE: u32 = 0x54_0033;
 
 /// The row that an item says.
 pub fn row_in(item: &View) -> Option<Row>

@@ -17,19 +17,10 @@ use crate::fault::{RecordFault, RecordKind};
 use crate::marks::Marks;
 use crate::record::Record;
 use crate::shape::{bytes_of, children_of, integer_of, text_of};
+use crate::tags::{BEGIN_MARK, CALL, CLIENT, END_MARK, MESSAGE};
 use kmipa_ttlv::{Input, View};
 use std::alloc::{AllocError, Global};
 use std::io::Read;
-
-pub const BEGIN: u32 = 0x54_0010;
-
-pub const CALL: u32 = 0x54_0011;
-
-pub const CLIENT: u32 = 0x54_0012;
-
-pub const MESSAGE: u32 = 0x54_0013;
-
-pub const END: u32 = 0x54_0020;
 
 /// What a laboratory saw of the calls to a server: marks in the order in which it saw them.
 #[derive(Debug, Drop)]
@@ -65,13 +56,13 @@ impl Record for Mark {
     ghost is_record = { λ item. (mark : MarkOf) × (item ≡ mark_item mark) };
 
     fn of(alloc: Global, item: &View) -> Result<Option<Mark>, AllocError> {
-        if let Some(children) = children_of(item, BEGIN) {
+        if let Some(children) = children_of(item, BEGIN_MARK) {
             return match begin_in(alloc, children)? {
                 Some(begin) => Ok(Some(Mark::Begin(begin))),
                 None => Ok(None),
             };
         }
-        if let Some(children) = children_of(item, END) {
+        if let Some(children) = children_of(item, END_MARK) {
             return match end_in(alloc, children)? {
                 Some(end) => Ok(Some(Mark::End(end))),
                 None => Ok(None),

@@ -12,16 +12,9 @@ ghost use Rattle.kmipa_record.specs.WitnessReading.{NotAhead};
 use crate::fill::{Fill, fills_in, push_fills};
 use crate::record::Record;
 use crate::shape::{bytes_of, children_of, copied, integer_of};
+use crate::tags::{ANSWER, CALL, PLACE, TURN};
 use kmipa_ttlv::{Item, Tag, View};
 use std::alloc::{AllocError, Global};
-
-const TURN: u32 = 0x54_0041;
-
-const CALL: u32 = 0x54_0011;
-
-const ANSWER: u32 = 0x54_0044;
-
-const PLACE: u32 = 0x54_0045;
 
 /// The turn of one call.
 #[derive(Debug, Drop)]
