@@ -18,7 +18,7 @@ use crate::tags::{
     CRYPTOGRAPHIC_USAGE_MASK, DEACTIVATION_DATE, DESTROY_DATE, INITIAL_DATE, NAME, OBJECT_TYPE,
     STATE,
 };
-use kmipa_ttlv::View;
+use kmipa_ttlv::{Children, View};
 use std::alloc::Global;
 
 /// What a Locate's Attributes and Maximum Items ask for, and whether its payload has an item that no Locate has; without
@@ -36,7 +36,7 @@ pub fn read_filter(
 {
     match attributes {
         Some(item) => read_filter_item(alloc, item, maximum, is_unknown),
-        None => read_filter_children(alloc, &[], maximum, is_unknown),
+        None => read_filter_children(alloc, Children::none(), maximum, is_unknown),
     }
 }
 
@@ -57,11 +57,11 @@ fn read_filter_item(
 /// The same of the children of Attributes.
 pub fn read_filter_children(
     alloc: Global,
-    children: &[View],
+    children: Children,
     maximum: Option<i32>,
     is_unknown: bool,
 ) -> Result<Filter, AttrFault>
-    ensures { GivesFilter result (filter_in maximum is_unknown (view_trees children.now)) }
+    ensures { GivesFilter result (filter_in maximum is_unknown (view_trees children.entry)) }
 {
     let names = read_names(alloc, children)?;
     let rest = both(judged(children), types(children));
@@ -84,8 +84,8 @@ type First<T> = (Option<T>, bool);
 /// Object Type and State, algorithm and length.
 type Judged = ((First<u32>, First<u32>), (First<u32>, First<i32>));
 
-fn judged(children: &[View]) -> Result<Judged, AttrFault>
-    ensures { result ≡ judged_in (view_trees children.now) }
+fn judged(children: Children) -> Result<Judged, AttrFault>
+    ensures { result ≡ judged_in (view_trees children.entry) }
 {
     both(
         both(
@@ -102,8 +102,8 @@ fn judged(children: &[View]) -> Result<Judged, AttrFault>
 /// Nothing of mask, Initial, Activation, Deactivation, Destroy and Compromise Date but their types.
 type Types = (((), ()), (((), ()), ((), ())));
 
-fn types(children: &[View]) -> Result<Types, AttrFault>
-    ensures { result ≡ types_in (view_trees children.now) }
+fn types(children: Children) -> Result<Types, AttrFault>
+    ensures { result ≡ types_in (view_trees children.entry) }
 {
     both(
         both(
@@ -124,8 +124,8 @@ fn types(children: &[View]) -> Result<Types, AttrFault>
 }
 
 #[tactic(auto, unfolding(crate::specs::Filters::first_of))]
-fn first_of<T: Held>(children: &[View], tag: u32) -> Result<First<T>, AttrFault>
-    ensures { result ≡ first_of T.how tag (view_trees children.now) }
+fn first_of<T: Held>(children: Children, tag: u32) -> Result<First<T>, AttrFault>
+    ensures { result ≡ first_of T.how tag (view_trees children.entry) }
 {
     match single::<T>(children, tag) {
         Ok(value) => Ok((value, false)),
@@ -135,34 +135,34 @@ fn first_of<T: Held>(children: &[View], tag: u32) -> Result<First<T>, AttrFault>
 }
 
 /// The value of the first child with the tag.
-fn first_value<T: Held>(children: &[View], tag: u32) -> Option<T>
-    ensures { result ≡ value_in (at T.how tag (view_trees children.now)) }
+fn first_value<T: Held>(children: Children, tag: u32) -> Option<T>
+    ensures { result ≡ value_in (at T.how tag (view_trees children.entry)) }
 {
     match first(children, tag) {
-        Some(child) => T::of(child),
+        Some(child) => T::of(&child),
         None => None,
     }
 }
 
 /// The types alone of the children with the tag.
 #[tactic(auto, unfolding(crate::specs::Filters::types_of))]
-fn types_of<T: Held>(children: &[View], tag: u32) -> Result<(), AttrFault>
-    ensures { result ≡ types_of T.how tag (view_trees children.now) }
+fn types_of<T: Held>(children: Children, tag: u32) -> Result<(), AttrFault>
+    ensures { result ≡ types_of T.how tag (view_trees children.entry) }
 {
     let _first = first_of::<T>(children, tag)?;
     Ok(())
 }
 
 /// Whether not all that is asked is judged.
-fn is_loose(children: &[View], maximum: Option<i32>, is_unknown: bool, found: Judged) -> bool
-    ensures { result ≡ (is_loosened maximum is_unknown (view_trees children.now) || some_second found) }
+fn is_loose(children: Children, maximum: Option<i32>, is_unknown: bool, found: Judged) -> bool
+    ensures { result ≡ (is_loosened maximum is_unknown (view_trees children.entry) || some_second found) }
 {
     is_loosened(children, maximum, is_unknown) || some_second(found)
 }
 
 /// Whether there is an unknown item, a Maximum Items below 1 or a filter of another kind.
-fn is_loosened(children: &[View], maximum: Option<i32>, is_unknown: bool) -> bool
-    ensures { result ≡ is_loosened maximum is_unknown (view_trees children.now) }
+fn is_loosened(children: Children, maximum: Option<i32>, is_unknown: bool) -> bool
+    ensures { result ≡ is_loosened maximum is_unknown (view_trees children.entry) }
 {
     is_unknown || is_below_one(maximum) || has_other(children)
 }
@@ -176,10 +176,11 @@ fn some_second(found: Judged) -> bool
 }
 
 /// Whether there is a filter of a kind that isn't judged.
-fn has_other(children: &[View]) -> bool
-    ensures { result ≡ has_other (view_trees children.now) }
+fn has_other(children: Children) -> bool
+    ensures { result ≡ has_other (view_trees children.entry) }
 {
-    for child in children {
+    let mut left = children;
+    'children: while let Some(child) = left.next() {
         if is_other(child.tag.number) {
             return true;
         }

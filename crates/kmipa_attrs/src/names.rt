@@ -11,12 +11,12 @@ use crate::fault::AttrFault;
 use crate::fields::{Field, as_structure, enumeration_at, text_at};
 use crate::name::Name;
 use crate::tags::{NAME, NAME_TYPE, NAME_VALUE};
-use kmipa_ttlv::View;
+use kmipa_ttlv::{Children, View};
 use smallvec::SmallVec;
 use std::alloc::{AllocError, Global};
 use std::collections::BTreeSet;
 
-/// With at most so many children, each name is compared with those before it, and no set is built.
+/// With at most so many names, each is compared with those before it, and no set is built.
 const FEW: usize = 16;
 
 /// A name whose value is lent from what it was read from.
@@ -29,11 +29,11 @@ struct LentName<'a> {
 /// The names that children say, in the order of first appearance.
 pub(crate) fn read_names(
     alloc: Global,
-    children: &[View],
+    children: Children,
 ) -> Result<SmallVec<Name, NAMES>, AttrFault>
-    ensures { Gives names_of result (names_in (view_trees children.now)) }
+    ensures { Gives names_of result (names_in (view_trees children.entry)) }
 {
-    if children.len() <= FEW {
+    if children.count_of(NAME) <= FEW {
         read_few(alloc, children)
     } else {
         read_many(alloc, children)
@@ -41,31 +41,29 @@ pub(crate) fn read_names(
 }
 
 /// The same, where each name is compared with those before it.
-fn read_few(alloc: Global, children: &[View]) -> Result<SmallVec<Name, NAMES>, AttrFault>
-    ensures { Gives names_of result (names_in (view_trees children.now)) }
+fn read_few(alloc: Global, children: Children) -> Result<SmallVec<Name, NAMES>, AttrFault>
+    ensures { Gives names_of result (names_in (view_trees children.entry)) }
 {
     let mut names = SmallVec::new(alloc);
-    for child in children {
-        if child.tag.number == NAME {
-            let name = read_name(alloc, child)?;
-            add_name(&mut names, name)?;
-        }
+    let mut left = children;
+    'children: while let Some(child) = left.next_of(NAME) {
+        let name = read_name(alloc, &child)?;
+        add_name(&mut names, name)?;
     }
     Ok(names)
 }
 
 /// The same, where each name is looked up among those before it.
-fn read_many(alloc: Global, children: &[View]) -> Result<SmallVec<Name, NAMES>, AttrFault>
-    ensures { Gives names_of result (names_in (view_trees children.now)) }
+fn read_many(alloc: Global, children: Children) -> Result<SmallVec<Name, NAMES>, AttrFault>
+    ensures { Gives names_of result (names_in (view_trees children.entry)) }
 {
     let mut names = SmallVec::new(alloc);
     let mut seen = BTreeSet::new(alloc);
-    for child in children {
-        if child.tag.number == NAME {
-            let name = lent_name(child)?;
-            if seen.insert(name)? {
-                names.push(name.copy(alloc)?)?;
-            }
+    let mut left = children;
+    'children: while let Some(child) = left.next_of(NAME) {
+        let name = lent_name(&child)?;
+        if seen.insert(name)? {
+            names.push(name.copy(alloc)?)?;
         }
     }
     Ok(names)

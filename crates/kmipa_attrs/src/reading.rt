@@ -16,7 +16,7 @@ use crate::tags::{
     CRYPTOGRAPHIC_USAGE_MASK, DEACTIVATION_DATE, DESTROY_DATE, INITIAL_DATE, OBJECT_TYPE, STATE,
     UNIQUE_IDENTIFIER,
 };
-use kmipa_ttlv::View;
+use kmipa_ttlv::{Children, View};
 use std::alloc::Global;
 
 /// The set that an Attributes item says, else its lowest fault. Attributes that aren't judged are read over.
@@ -30,8 +30,8 @@ pub fn read_attrs(alloc: Global, item: &View, side: Side) -> Result<AttrSet, Att
 }
 
 /// The set that the children of an Attributes item say, else their lowest fault.
-pub fn read_children(alloc: Global, children: &[View], side: Side) -> Result<AttrSet, AttrFault>
-    ensures { GivesAttributes result (attributes_in side (view_trees children.now)) }
+pub fn read_children(alloc: Global, children: Children, side: Side) -> Result<AttrSet, AttrFault>
+    ensures { GivesAttributes result (attributes_in side (view_trees children.entry)) }
 {
     let names = read_names(alloc, children)?;
     let rest = both(
@@ -60,8 +60,8 @@ pub fn read_children(alloc: Global, children: &[View], side: Side) -> Result<Att
 /// Object Type and algorithm, length and mask.
 type Description = ((Option<u32>, Option<u32>), (Option<i32>, Option<i32>));
 
-fn description(children: &[View]) -> Result<Description, AttrFault>
-    ensures { result ≡ description_in (view_trees children.now) }
+fn description(children: Children) -> Result<Description, AttrFault>
+    ensures { result ≡ description_in (view_trees children.entry) }
 {
     both(
         both(
@@ -78,8 +78,8 @@ fn description(children: &[View]) -> Result<Description, AttrFault>
 /// State and Initial Date, Activation and Deactivation Date.
 type Stages = ((Option<u32>, Option<i64>), (Option<i64>, Option<i64>));
 
-fn stages(children: &[View], side: Side) -> Result<Stages, AttrFault>
-    ensures { result ≡ stages_in side (view_trees children.now) }
+fn stages(children: Children, side: Side) -> Result<Stages, AttrFault>
+    ensures { result ≡ stages_in side (view_trees children.entry) }
 {
     both(
         both(
@@ -96,8 +96,8 @@ fn stages(children: &[View], side: Side) -> Result<Stages, AttrFault>
 /// Destroy and Compromise Date, beside a Unique Identifier that no client may give.
 type Ends = ((Option<i64>, Option<i64>), ());
 
-fn ends(children: &[View], side: Side) -> Result<Ends, AttrFault>
-    ensures { result ≡ ends_in side (view_trees children.now) }
+fn ends(children: Children, side: Side) -> Result<Ends, AttrFault>
+    ensures { result ≡ ends_in side (view_trees children.entry) }
 {
     both(
         both(

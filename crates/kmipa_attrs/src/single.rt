@@ -10,17 +10,16 @@ use crate::fields::first;
 use crate::held::Held;
 use crate::readings::both;
 use crate::side::Side;
-use kmipa_ttlv::View;
+use kmipa_ttlv::{Children, View};
 
 /// The value of an attribute that is there at most once.
-pub(crate) fn single<T: Held>(children: &[View], tag: u32) -> Result<Option<T>, AttrFault>
-    ensures { result ≡ single T.how tag (view_trees children.now) }
+pub(crate) fn single<T: Held>(children: Children, tag: u32) -> Result<Option<T>, AttrFault>
+    ensures { result ≡ single T.how tag (view_trees children.entry) }
 {
     let mut found = Ok(None);
-    for child in children {
-        if child.tag.number == tag {
-            found = step(found, T::of(child));
-        }
+    let mut left = children;
+    'children: while let Some(child) = left.next_of(tag) {
+        found = step(found, T::of(&child));
     }
     found
 }
@@ -43,11 +42,11 @@ fn step<T: Copy>(
 
 /// The value of such an attribute that no client may give.
 pub(crate) fn server_single<T: Held>(
-    children: &[View],
+    children: Children,
     tag: u32,
     side: Side,
 ) -> Result<Option<T>, AttrFault>
-    ensures { result ≡ server_single T.how tag side (view_trees children.now) }
+    ensures { result ≡ server_single T.how tag side (view_trees children.entry) }
 {
     let (value, ()) = both(
         single::<T>(children, tag),
@@ -57,8 +56,8 @@ pub(crate) fn server_single<T: Held>(
 }
 
 /// Whether a child may be there.
-pub(crate) fn server_only(side: Side, there: Option<&View>) -> Result<(), AttrFault>
-    ensures { result ≡ server_only side (option_map (λ v. view_tree v.now) there.entry) }
+pub(crate) fn server_only(side: Side, there: Option<View>) -> Result<(), AttrFault>
+    ensures { result ≡ server_only side (option_map view_tree there.entry) }
 {
     match (side, there) {
         (Side::Client, Some(_)) => Err(AttrFault::NotForClients),

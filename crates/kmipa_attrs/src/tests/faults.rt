@@ -74,7 +74,7 @@ fn faults_of(
     rt: &HostRuntime,
     item: &Item,
 ) -> Result<(Option<AttrFault>, Option<AttrFault>), Fail> {
-    let view = lend(rt.alloc(), item)?;
+    let view = lend(item);
     let of_client = read_attrs(rt.alloc(), &view, Side::Client).err();
     let of_server = read_attrs(rt.alloc(), &view, Side::Server).err();
     Ok((of_client, of_server))

@@ -19,7 +19,7 @@ fn first_of_each(rt: HostRuntime) -> Result<(), Fail> {
         items.push(Item::enumeration(tag(STATE)?, state))?;
     }
     let item = attributes(items)?;
-    let view = lend(rt.alloc(), &item)?;
+    let view = lend(&item);
     let filter = read_filter(rt.alloc(), Some(&view), None, false)?;
     let copy = filter.copy(rt.alloc())?;
     for read in [&filter, &copy] {

@@ -25,7 +25,7 @@ fn are_same(a: &AttrSet, b: &AttrSet) -> bool {
 
 #[test]
 fn spelled_attributes(rt: HostRuntime) -> Result<(), Fail> {
-    let (view, used) = decode_view(rt.alloc(), &AES_128)?;
+    let (view, used) = decode_view(&AES_128)?;
     assert_eq!(rt; used, 40);
     let set = read_attrs(rt.alloc(), &view, Side::Client)?;
     let mut wanted = AttrSet::new(rt.alloc());
@@ -49,7 +49,7 @@ fn names_once(rt: HostRuntime) -> Result<(), Fail> {
     items.push(name_item(&rt, "b", Some(1))?)?;
     items.push(name_item(&rt, "a", Some(1))?)?;
     let item = attributes(items)?;
-    let view = lend(rt.alloc(), &item)?;
+    let view = lend(&item);
     let set = read_attrs(rt.alloc(), &view, Side::Client)?;
     assert_eq!(rt; set.object_type, Some(3));
     assert_eq!(rt; set.names.len(), 3);
@@ -71,7 +71,7 @@ fn many_names_once(rt: HostRuntime) -> Result<(), Fail> {
         }
     }
     let item = attributes(items)?;
-    let view = lend(rt.alloc(), &item)?;
+    let view = lend(&item);
     let set = read_attrs(rt.alloc(), &view, Side::Client)?;
     assert_eq!(rt; set.names.len(), 20);
     for (place, name) in set.names.as_slice().iter().enumerate() {
@@ -102,7 +102,7 @@ fn written_and_copied(rt: HostRuntime) -> Result<(), Fail> {
     set.compromise = Some(-5);
     assert!(rt; are_same(&set.copy(rt.alloc())?, &set));
     let item = write_attrs(rt.alloc(), &set)?;
-    let view = lend(rt.alloc(), &item)?;
+    let view = lend(&item);
     let again = read_attrs(rt.alloc(), &view, Side::Server)?;
     assert!(rt; are_same(&again, &set));
     Ok(())
