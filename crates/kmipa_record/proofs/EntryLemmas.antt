@@ -7,7 +7,7 @@ use Rattle.kmipa_ttlv.specs.Tree.{Tree, Trees, structure, scalar, none, more}
 use Rattle.kmipa_ttlv.specs.ViewTree.{view_tree, view_trees}
 use Rattle.kmipa_ttlv.specs.declared.view.View.{View}
 use Rattle.kmipa_attrs.proofs.AttrLemmas.{reads_attributes}
-use Rattle.kmipa_attrs.proofs.FieldLemmas.{left_at, tag_of-view}
+use Rattle.kmipa_attrs.proofs.FieldLemmas.{tag_of-view}
 use Rattle.kmipa_attrs.specs.Attributes.{attr_number, Single, SaysNames, SomeWrong, SingleFault, NamesFault, SaysAttributes, AttributesFault, GivesAttributes, attributes_in, in_names, in_object_type, in_algorithm, in_length, in_mask, in_state, in_initial, in_activation, in_deactivation, in_destroy, in_compromise, of_client_state, of_client_initial, of_client_destroy, of_client_compromise, of_client_identifier}
 use Rattle.kmipa_attrs.specs.ObjectTypes.{type_number}
 use Rattle.kmipa_attrs.specs.Readings.{Reads}
@@ -20,7 +20,6 @@ use Rattle.kmipa_attrs.specs.declared.object_type.ObjectType.TheVariants.{Symmet
 use Rattle.kmipa_attrs.specs.declared.side.Side.TheVariants.{Server}
 use Rattle.kmipa_record.specs.DeclarationReading.{are_whole_bytes}
 use Rattle.kmipa_record.specs.Entries.{EntryOf, listed_tags, is_listed, AreListed, material, entry_item, SaysEntry, key_bits, AreWholeBytes, IsDeclarable}
-use Rattle.kmipa_record.proofs.ShapeLemmas.{count}
 
 -- ---- attributes say one set
 
@@ -92,43 +91,20 @@ fault_unsaid ts Memory (inl e) g = absurd cc
 fault_unsaid ts Memory (inr (inl e)) g = absurd cc
 fault_unsaid ts Memory (inr (inr e)) g = absurd cc
 
-listed_step : (i : ℕ) (vs : List View) (v : View) → i < length vs → v ≡ get_or vs i v
-    → AreListed (view_trees (drop i vs)) ↔ (IsTrue (is_listed (view_tree v)) × AreListed (view_trees (drop (i + 1) vs)))
-listed_step i vs v lt is =
-    subst (λ (ts : Trees). AreListed ts ↔ (IsTrue (is_listed (view_tree v)) × AreListed (view_trees (drop (i + 1) vs)))) (sym (left_at i vs v lt is)) (λ h. h, λ h. h)
-
 listed_here : (v : View) (r : Bool) → r ≡ list_any (λ tag. tag == v.tag.number) listed_tags → r ≡ is_listed (view_tree v)
 listed_here v r e = e ∙ ap (λ (n : ℕ). list_any (λ tag. tag == n) listed_tags) (sym (tag_of-view v.tag.number v.value))
 
-pub listed_passed : (i : ℕ) (vs : List View) (v : View) (r : Bool) → i < length vs → v ≡ get_or vs i v → r ≡ list_any (λ tag. tag == v.tag.number) listed_tags → r ≡ true
-    → AreListed (view_trees (drop i vs)) ↔ AreListed (view_trees (drop (i + 1) vs))
-listed_passed i vs v r lt is e t =
-    let step = listed_step i vs v lt is in
-    (λ h. (step.0 h).1, λ h. step.1 (sym (listed_here v r e) ∙ t, h))
+pub listed_passed : (v : View) (ts rest : Trees) (r : Bool) → ts ≡ more (view_tree v) rest → r ≡ list_any (λ tag. tag == v.tag.number) listed_tags → r ≡ true → AreListed ts ↔ AreListed rest
+listed_passed v ts rest r next is t =
+    subst (λ (us : Trees). AreListed us ↔ AreListed rest) (sym next) (λ h. h.1, λ h. (sym (listed_here v r is) ∙ t, h))
 
-pub listed_stopped : (i : ℕ) (vs : List View) (v : View) (r : Bool) → i < length vs → v ≡ get_or vs i v → r ≡ list_any (λ tag. tag == v.tag.number) listed_tags → r ≡ false
-    → AreListed (view_trees (drop i vs)) → ⊥
-listed_stopped i vs v r lt is e f h =
-    let step = listed_step i vs v lt is in
-    let here = listed_here v r e in
-    let there : is_listed (view_tree v) ≡ true = (step.0 h).0 in
-    absurd (let clash : false ≡ true = sym f ∙ here ∙ there in cc)
+pub listed_stopped : (v : View) (ts rest : Trees) (r : Bool) → ts ≡ more (view_tree v) rest → r ≡ list_any (λ tag. tag == v.tag.number) listed_tags → r ≡ false → AreListed ts → ⊥
+listed_stopped v ts rest r next is f h =
+    let both : AreListed (more (view_tree v) rest) = subst AreListed next h in
+    let there : is_listed (view_tree v) ≡ true = both.0 in
+    absurd (let clash : false ≡ true = sym f ∙ listed_here v r is ∙ there in cc)
 
 -- ---- the parts of an entry's item
-
-pub count_material : (bytes : Option (List ℕ)) → count (material bytes) ≤ 1
-count_material None = omega arith
-count_material (Some bytes) = omega arith
-
--- what stands after three children
-pub behind_three : (vs : List View) (a b c : Tree) (rest : Trees) → view_trees vs ≡ more a (more b (more c rest)) → view_trees (take (length vs - 3) (drop 3 vs)) ≡ rest
-behind_three [] a b c rest e = absurd cc
-behind_three (x ∷ []) a b c rest e = absurd cc
-behind_three (x ∷ y ∷ []) a b c rest e = absurd cc
-behind_three (x ∷ y ∷ z ∷ vs) a b c rest e =
-    let behind : view_trees vs ≡ rest = cc in
-    let left : length (x ∷ y ∷ z ∷ vs) - 3 ≡ length vs = omega arith in
-    ap view_trees (ap (λ (n : ℕ). take n vs) left ∙ take-length vs) ∙ behind
 
 inner : Tree → Trees
 inner (structure tag ts) = ts

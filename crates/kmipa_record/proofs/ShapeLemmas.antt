@@ -53,19 +53,3 @@ bytes_shape tag _ e = λ bs h. absurd cc
 abbrev pub count : Trees → ℕ
 count none = 0
 count (more t ts) = 1 + count ts
-
-count-views : (views : List View) → count (view_trees views) ≡ length views
-count-views [] = refl
-count-views (v ∷ vs) = omega (arith, count-views vs)
-
-inner : Tree → Trees
-inner (structure tag ts) = ts
-inner (scalar tag s) = none
-
--- as many children as the item has
-pub same_count : (t : Tree) (tag : ℕ) (views : List View) (ts : Trees) → t ≡ structure tag (view_trees views) → t ≡ structure tag ts → length views ≡ count ts
-unfolding inner
-same_count t tag views ts e f = sym (count-views views) ∙ ap (λ (u : Tree). count (inner u)) (sym e ∙ f)
-
-pub fields_count : (views : List View) (ts : Trees) → view_trees views ≡ ts → length views ≡ count ts
-fields_count views ts e = sym (count-views views) ∙ ap count e
