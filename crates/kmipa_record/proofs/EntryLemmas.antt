@@ -7,7 +7,7 @@ use Rattle.kmipa_ttlv.specs.Tree.{Tree, Trees, structure, scalar, none, more}
 use Rattle.kmipa_ttlv.specs.ViewTree.{view_tree, view_trees}
 use Rattle.kmipa_ttlv.specs.declared.view.View.{View}
 use Rattle.kmipa_attrs.proofs.AttrLemmas.{reads_attributes}
-use Rattle.kmipa_attrs.proofs.FieldLemmas.{tag_of-view}
+use Rattle.kmipa_ttlv.proofs.ViewTreeLemmas.{tag_of-view}
 use Rattle.kmipa_attrs.specs.Attributes.{attr_number, Single, SaysNames, SomeWrong, SingleFault, NamesFault, SaysAttributes, AttributesFault, GivesAttributes, attributes_in, in_names, in_object_type, in_algorithm, in_length, in_mask, in_state, in_initial, in_activation, in_deactivation, in_destroy, in_compromise, of_client_state, of_client_initial, of_client_destroy, of_client_compromise, of_client_identifier}
 use Rattle.kmipa_attrs.specs.ObjectTypes.{type_number}
 use Rattle.kmipa_attrs.specs.Readings.{Reads}

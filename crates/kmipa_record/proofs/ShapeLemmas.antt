@@ -5,7 +5,7 @@ use Rattle.kmipa_ttlv.specs.Tree.{Tree, Trees, structure, scalar, none, more, in
 use Rattle.kmipa_ttlv.specs.ViewTree.{view_tree, view_trees}
 use Rattle.kmipa_ttlv.specs.declared.view.View.{View}
 use Rattle.kmipa_attrs.specs.Fields.{tag_of, as_structure, as_integer, as_enumeration, as_boolean, as_text, as_bytes}
-use Rattle.kmipa_attrs.proofs.FieldLemmas.{tag_of-view}
+use Rattle.kmipa_ttlv.proofs.ViewTreeLemmas.{tag_of-view}
 
 -- an item with another tag
 pub other_tag : (item : View) (tag : ℕ) (t : Tree) → (item.tag.number ≡ tag → ⊥) → tag_of t ≡ tag → view_tree item ≡ t → ⊥

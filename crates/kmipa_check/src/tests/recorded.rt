@@ -98,7 +98,7 @@ fn is_request_again(rt: &HostRuntime, transcript: &Transcript, call: &Call) -> R
         return Ok(false);
     };
     let bytes = spelled(rt, &write_request(rt.alloc(), &call.request)?)?;
-    let (view, taken) = decode_view(rt.alloc(), &bytes)?;
+    let (view, taken) = decode_view(&bytes)?;
     let again = read_request(rt.alloc(), &view)?;
     let reported = format!(in rt.alloc(); "{again:?}")?;
     let wanted = format!(in rt.alloc(); "{:?}", call.request)?;
@@ -117,7 +117,7 @@ fn is_response_again(rt: &HostRuntime, transcript: &Transcript, call: &Call) -> 
         return Ok(false);
     };
     let bytes = spelled(rt, &write_response(rt.alloc(), response)?)?;
-    let (view, taken) = decode_view(rt.alloc(), &bytes)?;
+    let (view, taken) = decode_view(&bytes)?;
     let again = read_response(rt.alloc(), &view, &call.request)?;
     let reported = format!(in rt.alloc(); "{again:?}")?;
     let wanted = format!(in rt.alloc(); "{response:?}")?;
