@@ -1,13 +1,8 @@
 -- Entries: what their items say, and what may be declared of them.
-use Rattle.std.proofs.Common.{◌≡◌, ◌≤◌, ◌<◌, ◌*◌, ◌+◌, ◌%◌, ◌==◌, ◌↔◌, ℕ, ℤ, pos, negsuc, ◌/◌, is_some, List, [], ◌∷◌, length, get_or, take, drop, map, ◌-◌, Bool, true, false, Option, None, Some, Result, Ok, Err, IfSome, IsSome, IsTrue, ◌⊎◌, inl, inr, refl, sym, ap, subst, ◌∙◌, arith}
-use Rattle.std.proofs.Math.Seq.{take-length}
-use Rattle.std.specs.List.{list_any}
+use Rattle.std.proofs.Common.{◌≡◌, ◌<◌, ◌*◌, ◌%◌, ℕ, ℤ, pos, negsuc, ◌/◌, is_some, List, [], ◌∷◌, length, map, true, false, Option, None, Some, Result, Ok, Err, IfSome, IsSome, ◌⊎◌, inl, inr, refl, sym, ap, subst, ◌∙◌, arith}
 use Rattle.std.specs.Prelude.{All}
-use Rattle.kmipa_ttlv.specs.Tree.{Tree, Trees, structure, scalar, none, more}
-use Rattle.kmipa_ttlv.specs.ViewTree.{view_tree, view_trees}
-use Rattle.kmipa_ttlv.specs.declared.view.View.{View}
+use Rattle.kmipa_ttlv.specs.Tree.{Tree, Trees}
 use Rattle.kmipa_attrs.proofs.AttrLemmas.{reads_attributes}
-use Rattle.kmipa_ttlv.proofs.ViewTreeLemmas.{tag_of-view}
 use Rattle.kmipa_attrs.specs.Attributes.{attr_number, Single, SaysNames, SomeWrong, SingleFault, NamesFault, SaysAttributes, AttributesFault, GivesAttributes, attributes_in, in_names, in_object_type, in_algorithm, in_length, in_mask, in_state, in_initial, in_activation, in_deactivation, in_destroy, in_compromise, of_client_state, of_client_initial, of_client_destroy, of_client_compromise, of_client_identifier}
 use Rattle.kmipa_attrs.specs.ObjectTypes.{type_number}
 use Rattle.kmipa_attrs.specs.Readings.{Reads}
@@ -19,7 +14,7 @@ use Rattle.kmipa_attrs.specs.declared.object_type.ObjectType.{ObjectType}
 use Rattle.kmipa_attrs.specs.declared.object_type.ObjectType.TheVariants.{SymmetricKey, SecretData}
 use Rattle.kmipa_attrs.specs.declared.side.Side.TheVariants.{Server}
 use Rattle.kmipa_record.specs.DeclarationReading.{are_whole_bytes}
-use Rattle.kmipa_record.specs.Entries.{EntryOf, listed_tags, is_listed, AreListed, material, entry_item, SaysEntry, key_bits, AreWholeBytes, IsDeclarable}
+use Rattle.kmipa_record.specs.Entries.{EntryOf, AreListed, material, entry_item, SaysEntry, key_bits, AreWholeBytes, IsDeclarable}
 
 -- ---- attributes say one set
 
@@ -91,28 +86,7 @@ fault_unsaid ts Memory (inl e) g = absurd cc
 fault_unsaid ts Memory (inr (inl e)) g = absurd cc
 fault_unsaid ts Memory (inr (inr e)) g = absurd cc
 
-listed_here : (v : View) (r : Bool) → r ≡ list_any (λ tag. tag == v.tag.number) listed_tags → r ≡ is_listed (view_tree v)
-listed_here v r e = e ∙ ap (λ (n : ℕ). list_any (λ tag. tag == n) listed_tags) (sym (tag_of-view v.tag.number v.value))
-
-pub listed_passed : (v : View) (ts rest : Trees) (r : Bool) → ts ≡ more (view_tree v) rest → r ≡ list_any (λ tag. tag == v.tag.number) listed_tags → r ≡ true → AreListed ts ↔ AreListed rest
-listed_passed v ts rest r next is t =
-    subst (λ (us : Trees). AreListed us ↔ AreListed rest) (sym next) (λ h. h.1, λ h. (sym (listed_here v r is) ∙ t, h))
-
-pub listed_stopped : (v : View) (ts rest : Trees) (r : Bool) → ts ≡ more (view_tree v) rest → r ≡ list_any (λ tag. tag == v.tag.number) listed_tags → r ≡ false → AreListed ts → ⊥
-listed_stopped v ts rest r next is f h =
-    let both : AreListed (more (view_tree v) rest) = subst AreListed next h in
-    let there : is_listed (view_tree v) ≡ true = both.0 in
-    absurd (let clash : false ≡ true = sym f ∙ listed_here v r is ∙ there in cc)
-
 -- ---- the parts of an entry's item
-
-inner : Tree → Trees
-inner (structure tag ts) = ts
-inner (scalar tag s) = none
-
-pub children_once : (tag : ℕ) (ts us : Trees) → structure tag ts ≡ structure tag us → ts ≡ us
-unfolding inner
-children_once tag ts us e = ap inner e
 
 type_once : (a b : ObjectType) → type_number a ≡ type_number b → a ≡ b
 type_once SymmetricKey SymmetricKey e = refl

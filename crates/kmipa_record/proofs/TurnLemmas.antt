@@ -1,17 +1,14 @@
 -- Turns and their items.
-use Rattle.std.proofs.Common.{◌≡◌, ℕ, ℤ, List, [], ◌∷◌, ◌++◌, map, Option, None, Some, refl, sym, ap, subst, ◌∙◌, arith, ◌<◌, ◌+◌, suc, length, take, drop, get_or, append_assoc}
-use Rattle.std.proofs.lemmas.List.Elements.{Contains-append_right, All-contains, All-push}
-use Rattle.std.proofs.lemmas.List.{map-append, take_more, take-append-drop}
+use Rattle.std.proofs.Common.{◌≡◌, ℕ, ℤ, List, [], ◌∷◌, ◌++◌, map, Option, None, Some, refl, sym, ap, subst, ◌∙◌, arith, ◌<◌, suc, length, take, drop, get_or, append_assoc}
+use Rattle.std.proofs.lemmas.List.Elements.{Contains-append_right, All-contains}
+use Rattle.std.proofs.lemmas.List.{take-append-drop}
 use Rattle.std.proofs.Math.Seq.{drop-cons}
 use Rattle.kmipa_ttlv.specs.Tree.{Tree, Trees, structure, none, more, forest}
 use Rattle.kmipa_ttlv.specs.ItemTree.{tree, trees}
 use Rattle.kmipa_ttlv.specs.declared.item.Item.{Item}
-use Rattle.kmipa_ttlv.specs.ViewTree.{view_tree, view_trees}
-use Rattle.kmipa_ttlv.specs.declared.view.View.{View}
 use Rattle.kmipa_attrs.specs.Fields.{tag_of}
 use Rattle.kmipa_record.specs.Tags.{turn_tag}
-use Rattle.kmipa_record.specs.Witnesses.{FillOf, TurnOf, fill_of, call_item, answer_item, place_item, fill_item, listed, turn_fields, turn_item, IsPayload, ArePayloads}
-use Rattle.kmipa_record.specs.declared.fill.Fill.{Fill}
+use Rattle.kmipa_record.specs.Witnesses.{FillOf, TurnOf, call_item, answer_item, place_item, fill_item, listed, turn_fields, turn_item, IsPayload, ArePayloads}
 use Rattle.kmipa_record.specs.WitnessReading.{NotAhead, list_of}
 use Rattle.kmipa_record.proofs.FirstFaultLemmas.{values_once, cut_values}
 
@@ -171,26 +168,6 @@ pub fills_stopped : (items left rest : Trees) (t : Tree) (taken : List FillOf) �
     → ((fill : FillOf) → IsPayload fill.payload → t ≡ fill_item fill → ⊥) → (fills : List FillOf) → ArePayloads fills → list_of items ≡ map fill_item fills → ⊥
 fills_stopped items left rest t taken before next isnt fills payloads e =
     other_item (map fill_item taken) (list_of rest) t fills isnt payloads (ap (λ (l : List Tree). map fill_item taken ++ l) (sym (ap list_of next)) ∙ sym before.are ∙ e)
-
-pub fills_more : (items left rest : Trees) (t : Tree) (fills longer : List Fill) (fill : Fill) → AreTaken items left (map fill_of fills) → left ≡ more t rest
-    → (t ≡ fill_item (fill_of fill)) × IsPayload (fill_of fill).payload → longer ≡ fills ++ fill ∷ [] → AreTaken items rest (map fill_of longer)
-fills_more items left rest t fills longer fill before next said e =
-    let one : map fill_of longer ≡ map fill_of fills ++ fill_of fill ∷ [] = ap (map fill_of) e ∙ map-append fill_of fills (fill ∷ []) in
-    let more_of : map fill_item (map fill_of longer) ≡ map fill_item (map fill_of fills) ++ fill_item (fill_of fill) ∷ []
-    = ap (map fill_item) one ∙ map-append fill_item (map fill_of fills) (fill_of fill ∷ []) in
-    let here : list_of left ≡ fill_item (fill_of fill) ∷ list_of rest = ap list_of next ∙ ap (λ (u : Tree). u ∷ list_of rest) said.0 in
-    record {
-      are = before.are ∙ ap (λ (l : List Tree). map fill_item (map fill_of fills) ++ l) here ∙ sym (append_assoc (map fill_item (map fill_of fills)) (fill_item (fill_of fill) ∷ []) (list_of rest))
-          ∙ ap (λ (l : List Tree). l ++ list_of rest) (sym more_of);
-      payloads = subst ArePayloads (sym one) (All-push (λ (f : FillOf). IsPayload f.payload) (map fill_of fills) (fill_of fill) before.payloads said.1);
-    }
-
--- one place more before what is left
-pub place_more : (items left rest : List Tree) (places longer : List ℤ) (place : ℤ) → items ≡ map place_item places ++ left → left ≡ place_item place ∷ rest → longer ≡ places ++ place ∷ []
-    → items ≡ map place_item longer ++ rest
-place_more items left rest places longer place before next e =
-    before ∙ ap (λ (l : List Tree). map place_item places ++ l) next ∙ sym (append_assoc (map place_item places) (place_item place ∷ []) rest)
-    ∙ ap (λ (l : List Tree). l ++ rest) (sym (ap (map place_item) e ∙ map-append place_item places (place ∷ [])))
 
 -- ---- a turn that is written child by child
 
