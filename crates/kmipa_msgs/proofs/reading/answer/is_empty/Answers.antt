@@ -4,7 +4,7 @@ use Rattle.kmipa_msgs.proofs.ReplyLemmas.{bare, not_bare}
 use Rattle.kmipa_msgs.proofs.reading.answer.is_empty.Goals as goal
 
 pub returns-in-Some : goal.returns-in-Some
-returns-in-Some c = c.is_empty.ensures ∙ sym (bare (view_tree c.args.view.now) c.in-Some.children.now c.in-Some.ensures)
+returns-in-Some c = c.is_empty.ensures ∙ sym (bare (view_tree c.args.view.now) c.in-Some.children c.in-Some.ensures)
 
 pub returns-in-None : goal.returns-in-None
 returns-in-None c = sym (not_bare (view_tree c.args.view.now) c.in-None.ensures)

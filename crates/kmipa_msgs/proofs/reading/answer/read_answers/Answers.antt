@@ -24,15 +24,15 @@ pub returns-in-Err : goal.returns-in-Err
 returns-in-Err c =
     let t = view_tree c.child-item.result in
     let asks = c.args.asks.now in
-    let whole = from_one (each_in (read asks) (every batch_item (view_trees c.args.children.now))) in
+    let whole = from_one (each_in (read asks) (every batch_item (view_trees c.args.children))) in
     rw c.at.ensures (gives_unread answers_of answer_of (c.loop-child.place + 1) c.in-Err.unread (answer_in (option_map (λ a. ask_of a.now) c.get.result) t) whole c.in-Err.ensures
     (λ k e. ap from_one c.loop-child.invariant.0
-    ∙ items_faulty (read asks) (answers_of c.loop-child.answers) c.loop-child.place k c.loop-child.child-index c.args.children.now c.child-item.result c.loop-child-test.true c.child-item.is c.if-child-eq-BATCH_ITEM.true
+    ∙ items_faulty (read asks) (answers_of c.loop-child.answers) c.loop-child.place k c.loop-child.child-index c.args.children c.child-item.result c.loop-child-test.true c.child-item.is c.if-child-eq-BATCH_ITEM.true
     (e ∙ ap (λ a. answer_in a t) (asked_at asks c.loop-child.place c.get.result c.get.ensures.lookup) ∙ ap (λ n. read asks n t) c.loop-child.invariant.1) c.loop-child.invariant.1))
 
 pub loop-child-preserved : goal.loop-child-preserved
 loop-child-preserved c =
-    let vs = c.args.children.now in
+    let vs = c.args.children in
     let asks = c.args.asks.now in
     let t = view_tree c.child-item.result in
     let i = c.loop-child.child-index in
@@ -56,4 +56,4 @@ loop-child-preserved c =
     ]
 
 pub returns : goal.returns
-returns c = ap from_one c.loop-child.invariant.0 ∙ items_done (read c.args.asks.now) (answers_of c.loop-child.answers) c.loop-child.child-index c.args.children.now c.loop-child-test.false
+returns c = ap from_one c.loop-child.invariant.0 ∙ items_done (read c.args.asks.now) (answers_of c.loop-child.answers) c.loop-child.child-index c.args.children c.loop-child-test.false

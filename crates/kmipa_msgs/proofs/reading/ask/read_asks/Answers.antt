@@ -19,15 +19,15 @@ read unordered place = item_in unordered
 pub returns-in-Err : goal.returns-in-Err
 returns-in-Err c =
     let t = view_tree c.child-item.result in
-    let whole = from_one (each_in (read c.args.unordered) (every batch_item (view_trees c.args.children.now))) in
+    let whole = from_one (each_in (read c.args.unordered) (every batch_item (view_trees c.args.children))) in
     rw c.at.ensures (gives_unread asks_of ask_of (c.loop-child.place + 1) c.in-Err.unread (item_in c.args.unordered t) whole c.in-Err.ensures
     (λ k e. ap from_one c.loop-child.invariant.0
-    ∙ items_faulty (read c.args.unordered) (asks_of c.loop-child.asks) c.loop-child.place k c.loop-child.child-index c.args.children.now c.child-item.result c.loop-child-test.true c.child-item.is c.if-child-eq-BATCH_ITEM.true
+    ∙ items_faulty (read c.args.unordered) (asks_of c.loop-child.asks) c.loop-child.place k c.loop-child.child-index c.args.children c.child-item.result c.loop-child-test.true c.child-item.is c.if-child-eq-BATCH_ITEM.true
     e c.loop-child.invariant.1))
 
 pub loop-child-preserved : goal.loop-child-preserved
 loop-child-preserved c =
-    let vs = c.args.children.now in
+    let vs = c.args.children in
     let i = c.loop-child.child-index in
     let xs = asks_of c.loop-child.asks in
     elim c.if-child-eq-BATCH_ITEM.branch [
@@ -49,4 +49,4 @@ loop-child-preserved c =
     ]
 
 pub returns : goal.returns
-returns c = ap from_one c.loop-child.invariant.0 ∙ items_done (read c.args.unordered) (asks_of c.loop-child.asks) c.loop-child.child-index c.args.children.now c.loop-child-test.false
+returns c = ap from_one c.loop-child.invariant.0 ∙ items_done (read c.args.unordered) (asks_of c.loop-child.asks) c.loop-child.child-index c.args.children c.loop-child-test.false

@@ -7,7 +7,7 @@ use Rattle.kmipa_msgs.proofs.reading.get_attributes.read_references.Goals.{in-So
 
 pub loop-child-preserved : goal.loop-child-preserved
 loop-child-preserved c =
-    let vs = c.args.payload.now in
+    let vs = c.args.payload in
     let i = c.loop-child.child-index in
     let tags = c.loop-child.tags.items in
     let rest = references (view_trees (drop (i + 1) vs)) in
@@ -21,4 +21,4 @@ loop-child-preserved c =
     ]
 
 pub returns : goal.returns
-returns c = sym (c.loop-child.invariant ∙ references_done c.loop-child.tags.items c.loop-child.child-index c.args.payload.now c.loop-child-test.false)
+returns c = sym (c.loop-child.invariant ∙ references_done c.loop-child.tags.items c.loop-child.child-index c.args.payload c.loop-child-test.false)

@@ -10,11 +10,11 @@ use denote.Bor.{Bor}
 
 pub returns-in_default : goal.returns-in_default
 returns-in_default c =
-    sym (c.loop-child.invariant ∙ located_wrong (map lent c.loop-child.ids.items) c.loop-child.child-index c.args.payload.now c.child-item.result c.loop-child-test.true c.child-item.is c.if-child-eq-UNIQUE_IDENTIFIER.true c.in_default.ensures)
+    sym (c.loop-child.invariant ∙ located_wrong (map lent c.loop-child.ids.items) c.loop-child.child-index c.args.payload c.child-item.result c.loop-child-test.true c.child-item.is c.if-child-eq-UNIQUE_IDENTIFIER.true c.in_default.ensures)
 
 pub loop-child-preserved : goal.loop-child-preserved
 loop-child-preserved c =
-    let vs = c.args.payload.now in
+    let vs = c.args.payload in
     let i = c.loop-child.child-index in
     let ids = c.loop-child.ids.items in
     let rest = located_in (view_trees (drop (i + 1) vs)) in
@@ -28,4 +28,4 @@ loop-child-preserved c =
     ]
 
 pub returns : goal.returns
-returns c = sym (c.loop-child.invariant ∙ located_done (map lent c.loop-child.ids.items) c.loop-child.child-index c.args.payload.now c.loop-child-test.false)
+returns c = sym (c.loop-child.invariant ∙ located_done (map lent c.loop-child.ids.items) c.loop-child.child-index c.args.payload c.loop-child-test.false)
