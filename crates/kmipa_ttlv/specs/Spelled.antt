@@ -1,12 +1,12 @@
 -- The items that bytes spell, read from the front, as they are lent out of bytes that were tested before. Of such bytes it says what
 -- `Run` says (the law `read_in_place`); of others it says something too, on which nothing is built. Not promised.
-use Rattle.std.specs.Prelude.{◌≡◌, ℕ, zero, suc, ◌==◌, Bool, cond, is_none, List, [], length, drop, if◌then◌else◌}
-use Rattle.core.specs.Str.{is_utf8}
+use Rattle.std.specs.Prelude.{◌≡◌, ℕ, zero, suc, ◌==◌, nat_le, ◌&&◌, Bool, cond, List, [], length, drop, if◌then◌else◌}
+use Rattle.std.specs.Str.{is_utf8}
 use Rattle.std.specs.Int.{w32, w64, cast_signed}
 use Rattle.byteorder.specs.Endian.{big_number}
 use Rattle.kmipa_ttlv.specs.Tree.{Tree, Trees, Scalar, structure, scalar, none, more, integer, long_integer, big_integer, enumeration, boolean, text, byte_string, date_time, interval, date_time_extended}
-use Rattle.kmipa_ttlv.specs.Spelling.{tag_at, kind_at, value_at, extent, kind_of, Means}
-use Rattle.kmipa_ttlv.specs.Flaw.{child_flaw}
+use Rattle.kmipa_ttlv.specs.Spelling.{tag_at, kind_at, len_at, value_at, extent, kind_of, Means}
+use Rattle.kmipa_ttlv.specs.Flaw.{is_kind, allows}
 
 -- the value that these bytes are, of an item of this kind; of a text that is none the empty one
 unfoldable pub scalar_at : ℕ → List ℕ → Scalar
@@ -32,7 +32,7 @@ item_at children tag kind value = cond (kind == 1) (structure tag (children valu
 
 -- a whole item is at the front, as far as its header tells
 unfoldable pub is_whole : List ℕ → Bool
-is_whole bytes = is_none (child_flaw 0 bytes)
+is_whole bytes = nat_le 8 (length bytes) && is_kind (kind_at bytes) && allows (kind_at bytes) (len_at bytes) && nat_le (extent bytes) (length bytes)
 
 -- the items at the front, where so many bytes are looked at
 abbrev pub items_within : ℕ → List ℕ → Trees

@@ -1,6 +1,6 @@
 //! The children of a structure, one after the other.
 
-ghost use Rattle.std.specs.Prelude.{◌≡◌, ◌≤◌, ◌∷◌, [], length, MatchOption, IfSome};
+ghost use Rattle.std.specs.Prelude.{◌≡◌, ◌≤◌, ◌∷◌, ℕ, [], length, MatchOption, IfSome};
 ghost use Rattle.kmipa_ttlv.specs.Tree.{none, more, every};
 ghost use Rattle.kmipa_ttlv.specs.ItemTree.{trees};
 ghost use Rattle.kmipa_ttlv.specs.Spelled.{items_at};
@@ -27,12 +27,16 @@ impl<'a> Children<'a> {
     {
         match self.source {
             Source::Spelled(bytes) => {
-                let (view, rest) = front_view(bytes)?;
+                let Some((view, rest)) = front_view(bytes) else {
+                    return None;
+                };
                 self.source = Source::Spelled(rest);
                 Some(view)
             }
             Source::Lent(items) => {
-                let (item, rest) = items.split_first()?;
+                let Some((item, rest)) = items.split_first() else {
+                    return None;
+                };
                 self.source = Source::Lent(rest);
                 Some(lend(item))
             }
@@ -52,12 +56,23 @@ impl<'a> Children<'a> {
     pub fn count_of(self, tag: u32) -> usize
         ensures { result ≡ length (every tag (view_trees self.entry)) }
     {
+        let most = self.most();
         let mut left = self;
         let mut count = 0;
         'children: while left.next_of(tag).is_some() {
             count += 1;
         }
         count
+    }
+
+    /// No more children than this are left.
+    fn most(&self) -> usize
+        ensures { (tag : ℕ) → length (every tag (view_trees self.now)) ≤ result }
+    {
+        match self.source {
+            Source::Spelled(bytes) => bytes.len(),
+            Source::Lent(items) => items.len(),
+        }
     }
 
     /// Leaves the first child with this tag and those behind it.

@@ -92,7 +92,7 @@ fn test_value(left: usize, place: usize, head: Head, value: &[u8]) -> Result<(),
 {
     match head.kind {
         Kind::Structure => test_children(left, place + HEADER, value),
-        _ => test_scalar(place, head, value),
+        _ => test_scalar(place, head.kind, value),
     }
 }
 
@@ -114,19 +114,25 @@ fn test_children(left: usize, place: usize, bytes: &[u8]) -> Result<(), TtlvFaul
     Ok(())
 }
 
-/// Tests the value of an item with this header, at this place; its kind has no children.
-fn test_scalar(place: usize, head: Head, value: &[u8]) -> Result<(), TtlvFault>
-    requires plain { head.kind ≢ Kind.Structure }
-    requires allowed { IsTrue (allows (number_of_kind head.kind) (length value.now)) }
+/// Tests the value of an item of this kind, which has no children, at this place.
+fn test_scalar(place: usize, kind: Kind, value: &[u8]) -> Result<(), TtlvFault>
+    requires plain { kind ≢ Kind.Structure }
+    requires allowed { IsTrue (allows (number_of_kind kind) (length value.now)) }
     requires room { place + 8 + length value.now ≤ 0x10_0000 }
-    ensures { MatchResult result (λ _. IsScalarAt (number_of_kind head.kind) value.now)
-        (λ f. Tells f (ScalarFlaw place (number_of_kind head.kind) value.now)) }
+    ensures { MatchResult result (λ _. IsScalarAt (number_of_kind kind) value.now)
+        (λ f. Tells f (ScalarFlaw place (number_of_kind kind) value.now)) }
 {
-    match head.kind {
-        Kind::Boolean if BigEndian::read_u64(value) > 1 => {
-            Err(fault(place + 8, FaultKind::BadBoolean))
+    match kind {
+        Kind::Boolean => {
+            if BigEndian::read_u64(value) > 1 {
+                return Err(fault(place + 8, FaultKind::BadBoolean));
+            }
+            Ok(())
         }
-        Kind::Text if str::from_utf8(value).is_err() => Err(fault(place + 8, FaultKind::BadText)),
+        Kind::Text => match str::from_utf8(value) {
+            Ok(_) => Ok(()),
+            Err(_) => Err(fault(place + 8, FaultKind::BadText)),
+        },
         _ => Ok(()),
     }
 }

@@ -1,6 +1,7 @@
 //! Items read in place, out of bytes that were tested before.
 
-ghost use Rattle.std.specs.Prelude.{◌≡◌, ℕ, length, IsTrue, MatchOption};
+ghost use Rattle.std.specs.Str.{is_utf8};
+ghost use Rattle.std.specs.Prelude.{◌≡◌, ℕ, cond, [], length, IsTrue, MatchOption};
 ghost use Rattle.kmipa_ttlv.specs.Head.{number_of_kind};
 ghost use Rattle.kmipa_ttlv.specs.Flaw.{allows};
 ghost use Rattle.kmipa_ttlv.specs.Spelled.{item_at, items_at};
@@ -15,7 +16,9 @@ use byteorder::{BigEndian, ByteOrder};
 pub fn front_view(bytes: &[u8]) -> Option<(View<'_>, &[u8])>
     ensures { MatchOption result (items_at bytes.now ≡ none) (λ x. items_at bytes.now ≡ more (view_tree x.0) (items_at x.1.now)) }
 {
-    let head = whole_head(bytes)?;
+    let Some(head) = whole_head(bytes) else {
+        return None;
+    };
     let view = view_of(head, value_of(bytes, head.len));
     let (_, rest) = bytes.split_at(head.extent());
     Some((view, rest))
@@ -47,6 +50,7 @@ pub fn view_of(head: Head, value: &[u8]) -> View<'_>
     }
 }
 
+#[tactic(auto, unfolding(crate::specs::Spelled::scalar_at))]
 fn value_view(kind: Kind, value: &[u8]) -> ViewValue<'_>
     requires { IsTrue (allows (number_of_kind kind) (length value.now)) }
     ensures { (tag : ℕ) → view_value_tree tag result ≡ item_at items_at tag (number_of_kind kind) value.now }
@@ -60,10 +64,20 @@ fn value_view(kind: Kind, value: &[u8]) -> ViewValue<'_>
         Kind::BigInteger => ViewValue::BigInteger(value),
         Kind::Enumeration => ViewValue::Enumeration(BigEndian::read_u32(value)),
         Kind::Boolean => ViewValue::Boolean(BigEndian::read_u64(value) == 1),
-        Kind::Text => ViewValue::Text(str::from_utf8(value).unwrap_or("")),
+        Kind::Text => ViewValue::Text(text_of(value)),
         Kind::Bytes => ViewValue::Bytes(value),
         Kind::DateTime => ViewValue::DateTime(BigEndian::read_i64(value)),
         Kind::Interval => ViewValue::Interval(BigEndian::read_u32(value)),
         Kind::DateTimeExtended => ViewValue::DateTimeExtended(BigEndian::read_i64(value)),
+    }
+}
+
+/// The text, or the empty one where it is none.
+fn text_of(value: &[u8]) -> &str
+    ensures { result.now ≡ cond (is_utf8 value.now) value.now [] }
+{
+    match str::from_utf8(value) {
+        Ok(text) => text,
+        Err(_) => "",
     }
 }

@@ -1,0 +1,225 @@
+-- The items that bytes spell, read in place, are those that stand there.
+use Rattle.std.proofs.Common.{◌≡◌, ◌≤◌, ◌<◌, ◌+◌, ◌-◌, ℕ, zero, suc, Bool, true, false, cond, ◌==◌, List, [], length, drop, refl, sym, ap, subst, ◌∙◌, arith, IsTrue}
+use Rattle.std.specs.Prelude.{nat_le, ◌&&◌}
+use Rattle.std.specs.Prelude.{nat_lt, ◌%◌, ◌≢◌, IsUtf8}
+use Rattle.std.specs.Str.{is_utf8}
+use Rattle.std.proofs.lemmas.Str.{is_utf8-from_IsUtf8, IsUtf8-from_is_utf8}
+use Rattle.byteorder.specs.Endian.{big_number}
+use Rattle.std.proofs.lemmas.Bool.{eq-eqb, eqb-true, ne_eqb, leb-true, le-leb, ltb-true}
+use Rattle.std.proofs.lemmas.List.{length-drop}
+use Rattle.kmipa_ttlv.specs.Tree.{Tree, Trees, Scalar, structure, scalar, none, more, every, tag_of}
+use Rattle.kmipa_ttlv.specs.Spelling.{tag_at, kind_at, len_at, value_at, extent, Stands, Run, kind_of, Means, Framed, Holds, number_of_bool}
+use Rattle.kmipa_ttlv.specs.Flaw.{is_kind, allows}
+use Rattle.kmipa_ttlv.specs.Spelled.{scalar_at, IsScalarAt, item_at, is_whole, items_within, items_at}
+use Rattle.kmipa_ttlv.specs.Head.{number_of_kind}
+use Rattle.kmipa_ttlv.specs.declared.head.Kind.{Kind}
+use Rattle.kmipa_ttlv.specs.declared.head.Kind
+use Rattle.kmipa_ttlv.specs.declared.head.Kind.TheVariants.{Structure, Integer, LongInteger, BigInteger, Enumeration, Boolean, Text, Bytes, DateTime, Interval, DateTimeExtended}
+use Rattle.kmipa_ttlv.proofs.ViewTreeLemmas.{every_none, every_more}
+use Rattle.kmipa_ttlv.proofs.FrontLemmas.{length-value_at}
+use Rattle.kmipa_ttlv.proofs.ExactLemmas.{scalar_is, two_le_kind, stands_some}
+use Rattle.kmipa_ttlv.proofs.FlawLemmas.{known_scalar, allowed_scalar, run_eights}
+
+whole_tests : (a b c d : Bool) → a && b && c && d ≡ true → (a ≡ true) × (d ≡ true)
+whole_tests true true true true e = (refl, refl)
+whole_tests false b c d e = absurd cc
+whole_tests true false c d e = absurd cc
+whole_tests true true false d e = absurd cc
+whole_tests true true true false e = absurd cc
+
+pub whole_fits : (bytes : List ℕ) → is_whole bytes ≡ true → (8 ≤ length bytes) × (extent bytes ≤ length bytes)
+unfolding is_whole
+whole_fits bytes e =
+    let t = whole_tests (nat_le 8 (length bytes)) (is_kind (kind_at bytes)) (allows (kind_at bytes) (len_at bytes)) (nat_le (extent bytes) (length bytes)) e in
+    (leb-true 8 (length bytes) t.0, leb-true (extent bytes) (length bytes) t.1)
+
+-- a step looks at the header first
+stopped : (n : ℕ) (bytes : List ℕ) → is_whole bytes ≡ false → items_within (suc n) bytes ≡ none
+stopped n bytes e =
+    ap (λ (k : Bool). cond k (more (item_at (items_within n) (tag_at bytes) (kind_at bytes) (value_at bytes)) (items_within n (drop (extent bytes) bytes))) none) e
+
+stepped : (n : ℕ) (bytes : List ℕ) → is_whole bytes ≡ true
+    → items_within (suc n) bytes ≡ more (item_at (items_within n) (tag_at bytes) (kind_at bytes) (value_at bytes)) (items_within n (drop (extent bytes) bytes))
+stepped n bytes e =
+    ap (λ (k : Bool). cond k (more (item_at (items_within n) (tag_at bytes) (kind_at bytes) (value_at bytes)) (items_within n (drop (extent bytes) bytes))) none) e
+
+same_item : (f g : List ℕ → Trees) (tag kind : ℕ) (value : List ℕ) → f value ≡ g value → item_at f tag kind value ≡ item_at g tag kind value
+same_item f g tag kind value e = ap (λ (ts : Trees). cond (kind == 1) (structure tag ts) (scalar tag (scalar_at kind value))) e
+
+no_header : (bytes : List ℕ) → length bytes ≤ 0 → is_whole bytes ≡ true → ⊥
+no_header bytes less e = omega (arith, less, (whole_fits bytes e).0)
+
+-- looking at more bytes than there are changes nothing
+enough_at : (n m : ℕ) (bytes : List ℕ) (b : Bool) → is_whole bytes ≡ b → length bytes ≤ n → length bytes ≤ m → items_within n bytes ≡ items_within m bytes
+enough_at zero zero bytes b e p q = refl
+enough_at zero (suc m) bytes false e p q = sym (stopped m bytes e)
+enough_at zero (suc m) bytes true e p q = absurd (no_header bytes p e)
+enough_at (suc n) zero bytes false e p q = stopped n bytes e
+enough_at (suc n) zero bytes true e p q = absurd (no_header bytes q e)
+enough_at (suc n) (suc m) bytes false e p q = stopped n bytes e ∙ sym (stopped m bytes e)
+enough_at (suc n) (suc m) bytes true e p q =
+    let w = whole_fits bytes e in
+    let v = length-value_at bytes w.1 in
+    let d = length-drop (extent bytes) bytes in
+    let inner : items_within n (value_at bytes) ≡ items_within m (value_at bytes) = enough_at n m (value_at bytes) (is_whole (value_at bytes)) refl (omega (arith, w.1, v, p)) (omega (arith, w.1, v, q)) in
+    let others : items_within n (drop (extent bytes) bytes) ≡ items_within m (drop (extent bytes) bytes) = enough_at n m (drop (extent bytes) bytes) (is_whole (drop (extent bytes) bytes)) refl (omega (arith, w.0, d, p)) (omega (arith, w.0, d, q)) in
+    let item = same_item (items_within n) (items_within m) (tag_at bytes) (kind_at bytes) (value_at bytes) inner in
+    stepped n bytes e ∙ ap (λ (t : Tree). more t (items_within n (drop (extent bytes) bytes))) item
+    ∙ ap (more (item_at (items_within m) (tag_at bytes) (kind_at bytes) (value_at bytes))) others ∙ sym (stepped m bytes e)
+
+enough : (n m : ℕ) (bytes : List ℕ) → length bytes ≤ n → length bytes ≤ m → items_within n bytes ≡ items_within m bytes
+enough n m bytes p q = enough_at n m bytes (is_whole bytes) refl p q
+
+none_within : (n : ℕ) (bytes : List ℕ) → is_whole bytes ≡ false → items_within n bytes ≡ none
+none_within zero bytes e = refl
+none_within (suc n) bytes e = stopped n bytes e
+
+pub items_none : (bytes : List ℕ) → is_whole bytes ≡ false → items_at bytes ≡ none
+unfolding items_at
+items_none bytes e = none_within (length bytes) bytes e
+
+more_within : (n : ℕ) (bytes : List ℕ) → length bytes ≤ n → is_whole bytes ≡ true
+    → items_within n bytes ≡ more (item_at items_at (tag_at bytes) (kind_at bytes) (value_at bytes)) (items_at (drop (extent bytes) bytes))
+unfolding items_at
+more_within zero bytes p e = absurd (no_header bytes p e)
+more_within (suc n) bytes p e =
+    let w = whole_fits bytes e in
+    let v = length-value_at bytes w.1 in
+    let d = length-drop (extent bytes) bytes in
+    let inner : items_within n (value_at bytes) ≡ items_at (value_at bytes) = enough n (length (value_at bytes)) (value_at bytes) (omega (arith, w.1, v, p)) (omega arith) in
+    let others : items_within n (drop (extent bytes) bytes) ≡ items_at (drop (extent bytes) bytes)
+    = enough n (length (drop (extent bytes) bytes)) (drop (extent bytes) bytes) (omega (arith, w.0, d, p)) (omega arith) in
+    stepped n bytes e ∙ ap (λ (t : Tree). more t (items_within n (drop (extent bytes) bytes))) (same_item (items_within n) items_at (tag_at bytes) (kind_at bytes) (value_at bytes) inner)
+    ∙ ap (more (item_at items_at (tag_at bytes) (kind_at bytes) (value_at bytes))) others
+
+pub items_more : (bytes : List ℕ) → is_whole bytes ≡ true
+    → items_at bytes ≡ more (item_at items_at (tag_at bytes) (kind_at bytes) (value_at bytes)) (items_at (drop (extent bytes) bytes))
+unfolding items_at
+items_more bytes e = more_within (length bytes) bytes (omega arith) e
+
+-- ---- what stands is read
+
+nothing_whole : is_whole [] ≡ false
+unfolding is_whole
+nothing_whole = refl
+
+all_tests : (a b c d : Bool) → a ≡ true → b ≡ true → c ≡ true → d ≡ true → a && b && c && d ≡ true
+all_tests a b c d p q r s = rw (p, q, r, s) refl
+
+whole_of : (tag kind : ℕ) (bytes : List ℕ) → Framed tag kind bytes → IsTrue (is_kind kind) → IsTrue (allows kind (len_at bytes)) → is_whole bytes ≡ true
+unfolding is_whole
+whole_of tag kind bytes f known allowed =
+    all_tests (nat_le 8 (length bytes)) (is_kind (kind_at bytes)) (allows (kind_at bytes) (len_at bytes)) (nat_le (extent bytes) (length bytes))
+    (le-leb 8 (length bytes) f.header) (subst (λ (k : ℕ). is_kind k ≡ true) (sym f.kind_is) known) (subst (λ (k : ℕ). allows k (len_at bytes) ≡ true) (sym f.kind_is) allowed) (le-leb (extent bytes) (length bytes) f.whole)
+
+scalar_item : (children : List ℕ → Trees) (tag kind : ℕ) (s : Scalar) (value : List ℕ) → kind ≡ kind_of s → Means s value → item_at children tag kind value ≡ scalar tag s
+scalar_item children tag kind s value e h =
+    ap (λ (b : Bool). cond b (structure tag (children value)) (scalar tag (scalar_at kind value))) (ne_eqb kind 1 (λ one. omega (arith, one, e, two_le_kind s)))
+    ∙ ap (scalar tag) (ap (λ (k : ℕ). scalar_at k value) e ∙ scalar_is s value h)
+
+structure_item : (children : List ℕ → Trees) (tag kind : ℕ) (ts : Trees) (value : List ℕ) → kind ≡ 1 → children value ≡ ts → item_at children tag kind value ≡ structure tag ts
+structure_item children tag kind ts value e h =
+    ap (λ (b : Bool). cond b (structure tag (children value)) (scalar tag (scalar_at kind value))) (eq-eqb kind 1 e) ∙ ap (structure tag) h
+
+mutual
+  pub run_items : (left : ℕ) (ts : Trees) (bytes : List ℕ) → Run left ts bytes [] → items_at bytes ≡ ts
+  run_items left none bytes r = items_none bytes (subst (λ (b : List ℕ). is_whole b ≡ false) (sym r) nothing_whole)
+  run_items left (more t ts) bytes r =
+      let s = stands_item left t bytes r.0 in
+      items_more bytes s.0 ∙ ap (λ (u : Tree). more u (items_at (drop (extent bytes) bytes))) s.1 ∙ ap (more t) (run_items left ts (drop (extent bytes) bytes) r.1)
+
+  stands_item : (left : ℕ) (t : Tree) (bytes : List ℕ) → Stands left t bytes → (is_whole bytes ≡ true) × (item_at items_at (tag_at bytes) (kind_at bytes) (value_at bytes) ≡ t)
+  stands_item zero t bytes s = absurd s
+  stands_item (suc left) (structure tag ts) bytes s =
+      let eights = eq-eqb _ _ (omega (arith, run_eights left ts (value_at bytes) s.1, length-value_at bytes s.0.whole)) in (
+        whole_of tag 1 bytes s.0 refl eights,
+        structure_item items_at (tag_at bytes) (kind_at bytes) ts (value_at bytes) s.0.kind_is (run_items left ts (value_at bytes) s.1) ∙ ap (λ (n : ℕ). structure n ts) s.0.tag_is,
+      )
+  stands_item (suc left) (scalar tag u) bytes s =
+      let allowed = subst (λ (n : ℕ). IsTrue (allows (kind_of u) n)) (length-value_at bytes s.0.whole) (allowed_scalar u (value_at bytes) s.1) in (
+        whole_of tag (kind_of u) bytes s.0 (known_scalar u) allowed,
+        scalar_item items_at (tag_at bytes) (kind_at bytes) u (value_at bytes) s.0.kind_is s.1 ∙ ap (λ (n : ℕ). scalar n u) s.0.tag_is,
+      )
+
+pub holds_item : (left tag kind : ℕ) (t : Tree) (value : List ℕ) → Holds left tag kind t value → item_at items_at tag kind value ≡ t
+holds_item left tag kind (structure n ts) value h = structure_item items_at tag kind ts value h.1 (run_items left ts value h.2) ∙ ap (λ (m : ℕ). structure m ts) (sym h.0)
+holds_item left tag kind (scalar n s) value h = scalar_item items_at tag kind s value h.1 h.2 ∙ ap (λ (m : ℕ). scalar m s) (sym h.0)
+
+pub items_nothing : items_at [] ≡ none
+items_nothing = items_none [] nothing_whole
+
+few_at : (tag n : ℕ) (bytes : List ℕ) → ((rest : List ℕ) → length (every tag (items_within n rest)) ≤ n) → (b : Bool) → is_whole bytes ≡ b → length (every tag (items_within (suc n) bytes)) ≤ suc n
+few_at tag n bytes below false e = omega (arith, ap (λ (ts : Trees). length (every tag ts)) (stopped n bytes e), ap length (every_none tag))
+few_at tag n bytes below true e =
+    omega (
+      arith,
+      ap (λ (ts : Trees). length (every tag ts)) (stepped n bytes e),
+      below (drop (extent bytes) bytes),
+      every_more tag (item_at (items_within n) (tag_at bytes) (kind_at bytes) (value_at bytes)) (items_within n (drop (extent bytes) bytes)),
+    )
+
+few : (tag n : ℕ) (bytes : List ℕ) → length (every tag (items_within n bytes)) ≤ n
+few tag zero bytes = omega (arith, ap length (every_none tag))
+few tag (suc n) bytes = few_at tag n bytes (few tag n) (is_whole bytes) refl
+
+-- bytes spell no more items than they are
+pub few_items : (tag : ℕ) (bytes : List ℕ) → length (every tag (items_at bytes)) ≤ length bytes
+unfolding items_at
+few_items tag bytes = few tag (length bytes) bytes
+
+-- ---- values
+
+pub same_header : (tag n kind m : ℕ) (value bytes : List ℕ) → tag ≡ n → kind ≡ m → value ≡ bytes → item_at items_at tag kind value ≡ item_at items_at n m bytes
+same_header tag n kind m value bytes p q r = rw (p, q, r) refl
+
+item_tag_at : (children : List ℕ → Trees) (tag kind : ℕ) (value : List ℕ) (b : Bool) → tag_of (cond b (structure tag (children value)) (scalar tag (scalar_at kind value))) ≡ tag
+item_tag_at children tag kind value true = refl
+item_tag_at children tag kind value false = refl
+
+pub item_tag : (children : List ℕ → Trees) (tag kind : ℕ) (value : List ℕ) → tag_of (item_at children tag kind value) ≡ tag
+item_tag children tag kind value = item_tag_at children tag kind value (kind == 1)
+
+truth_of : (n : ℕ) → n ≤ 1 → n ≡ number_of_bool (n == 1)
+truth_of zero h = refl
+truth_of (suc zero) h = refl
+truth_of (suc (suc n)) h = absurd (omega (arith, h))
+
+pub boolean_right : (k : Kind) (value : List ℕ) → k ≡ Kind.TheVariants.Boolean → IsTrue (allows (number_of_kind k) (length value)) → big_number 8 value ≤ 1 → IsScalarAt (number_of_kind k) value
+unfolding scalar_at
+boolean_right k value is allowed small =
+    let long : length value ≡ 8 = eqb-true (length value) 8 (subst (λ (j : Kind). IsTrue (allows (number_of_kind j) (length value))) is allowed) in
+    subst (λ (j : Kind). IsScalarAt (number_of_kind j) value) (sym is) (record { kind_is = refl; means = record { long = long; number = truth_of (big_number 8 value) small } })
+
+pub text_right : (k : Kind) (value : List ℕ) → k ≡ Kind.TheVariants.Text → IsUtf8 value → IsScalarAt (number_of_kind k) value
+unfolding scalar_at
+text_right k value is utf8 =
+    subst (λ (j : Kind). IsScalarAt (number_of_kind j) value) (sym is)
+    (record { kind_is = refl; means = record { same = ap (λ (b : Bool). cond b value []) (sym (is_utf8-from_IsUtf8 value utf8)); text = utf8 } })
+
+both_true : (a b : Bool) → a && b ≡ true → (a ≡ true) × (b ≡ true)
+both_true true true e = (refl, refl)
+both_true false b e = absurd cc
+both_true true false e = absurd cc
+
+pub other_right : (k : Kind) (value : List ℕ) → k ≢ Kind.TheVariants.Structure → k ≢ Kind.TheVariants.Boolean → k ≢ Kind.TheVariants.Text → IsTrue (allows (number_of_kind k) (length value)) → IsScalarAt (number_of_kind k) value
+unfolding scalar_at
+other_right Structure value s b t a = absurd (s refl)
+other_right Integer value s b t a = record { kind_is = refl; means = record { long = eqb-true (length value) 4 a; number = refl } }
+other_right LongInteger value s b t a = record { kind_is = refl; means = record { long = eqb-true (length value) 8 a; number = refl } }
+other_right BigInteger value s b t a =
+    let p = both_true (nat_lt 0 (length value)) (length value % 8 == 0) a in
+    record { kind_is = refl; means = record { same = refl; some = ltb-true 0 (length value) p.0; eights = eqb-true (length value % 8) 0 p.1 } }
+other_right Enumeration value s b t a = record { kind_is = refl; means = record { long = eqb-true (length value) 4 a; number = refl } }
+other_right Boolean value s b t a = absurd (b refl)
+other_right Text value s b t a = absurd (t refl)
+other_right Bytes value s b t a = record { kind_is = refl; means = refl }
+other_right DateTime value s b t a = record { kind_is = refl; means = record { long = eqb-true (length value) 8 a; number = refl } }
+other_right Interval value s b t a = record { kind_is = refl; means = record { long = eqb-true (length value) 4 a; number = refl } }
+other_right DateTimeExtended value s b t a = record { kind_is = refl; means = record { long = eqb-true (length value) 8 a; number = refl } }
+
+no_text_at : (value : List ℕ) → ¬ (IsUtf8 value) → (b : Bool) → is_utf8 value ≡ b → is_utf8 value ≡ false
+no_text_at value wrong false e = e
+no_text_at value wrong true e = absurd (wrong (IsUtf8-from_is_utf8 value e))
+
+pub no_text : (value : List ℕ) → ¬ (IsUtf8 value) → is_utf8 value ≡ false
+no_text value wrong = no_text_at value wrong (is_utf8 value) refl
