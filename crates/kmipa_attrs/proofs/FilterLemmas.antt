@@ -1,9 +1,11 @@
 -- What is read of a filter is what is said, or the lowest fault.
-use Rattle.std.proofs.Common.{◌≡◌, ◌<◌, ◌≤◌, ◌+◌, ℕ, ℤ, Bool, true, false, nat_lt, ◌==◌, ◌||◌, cond, slice_get, drop, get_or, List, [], ◌∷◌, map, length, Some, None, Option, Result, Ok, Err, refl, sym, ap, ◌∙◌, subst, arith, inl, inr}
+use Rattle.std.proofs.Common.{◌≡◌, ◌<◌, ◌≤◌, ℕ, ℤ, Bool, true, false, nat_lt, ◌==◌, ◌||◌, cond, slice_get, List, [], ◌∷◌, map, length, Some, None, Option, Result, Ok, Err, refl, sym, ap, ◌∙◌, subst, arith, inl, inr}
 use Rattle.std.proofs.lemmas.Bool.{lt-ltb}
-use Rattle.std.proofs.lemmas.List.{length-map, drop_all}
+use Rattle.std.proofs.lemmas.List.{length-map}
 use Rattle.kmipa_ttlv.specs.Tree.{Tree, Trees, structure, scalar, none, more}
-use Rattle.kmipa_ttlv.specs.ViewTree.{view_tree, view_trees}
+use Rattle.kmipa_ttlv.specs.ViewTree.{view_tree}
+use Rattle.kmipa_ttlv.specs.Written.{sizes}
+use Rattle.kmipa_ttlv.proofs.ViewTreeLemmas.{tag_of-view}
 use Rattle.kmipa_ttlv.specs.declared.view.View.{View}
 use Rattle.kmipa_attrs.specs.Tags.{activation_date, compromise_date, cryptographic_algorithm, cryptographic_length, cryptographic_usage_mask, deactivation_date, destroy_date, initial_date, object_type_tag, state_tag}
 use Rattle.kmipa_attrs.specs.Sets.{NameOf}
@@ -15,7 +17,6 @@ use Rattle.kmipa_attrs.specs.Filters.FilterFault.{in_names, in_object_type, in_s
 use Rattle.kmipa_attrs.specs.declared.fault.AttrFault.{AttrFault}
 use Rattle.kmipa_attrs.specs.declared.fault.AttrFault.TheVariants.{WrongType, Repeated, NotForClients, Memory}
 use Rattle.kmipa_attrs.specs.declared.filter.Filter.{Filter}
-use Rattle.kmipa_attrs.proofs.FieldLemmas.{tag_of-view, left_at}
 use Rattle.kmipa_attrs.proofs.ReadingLemmas.{reads_both, reads_as}
 use Rattle.kmipa_attrs.proofs.AttrLemmas.{below_wrong, reads_single, reads_names, wrong_first, with_first}
 
@@ -247,16 +248,15 @@ filter_seen most is_unknown ts names rest found types maximum loose e is was max
     ∙ (λ i. Ok (record { names = names; object_type = found.0.0.0; state = found.0.1.0; algorithm = found.1.0.0; length = found.1.1.0; maximum = sym max i; is_loose = sym lo i }))
 
 -- the search for other filters
-other_at : (v : View) (ts : Trees) (b : Bool) → is_other v.tag.number ≡ b → has_other (more (view_tree v) ts) ≡ (b || has_other ts)
+pub other_next : (ts us : Trees) (v : View) (b : Bool) → ts ≡ more (view_tree v) us → is_other v.tag.number ≡ b → has_other ts ≡ (b || has_other us)
 unfolding has_other
-other_at v ts b e = ap (λ (n : ℕ). is_other n || has_other ts) (tag_of-view v.tag.number v.value) ∙ ap (λ (k : Bool). k || has_other ts) e
+other_next ts us v b e is = ap has_other e ∙ ap (λ (n : ℕ). is_other n || has_other us) (tag_of-view v.tag.number v.value) ∙ ap (λ (k : Bool). k || has_other us) is
 
-pub other_found : (i : ℕ) (vs : List View) (v : View) → i < length vs → v ≡ get_or vs i v → is_other v.tag.number ≡ true → has_other (view_trees (drop i vs)) ≡ true
-other_found i vs v h is e = ap has_other (left_at i vs v h is) ∙ other_at v _ true e
-
-pub other_passed : (i : ℕ) (vs : List View) (v : View) → i < length vs → v ≡ get_or vs i v → is_other v.tag.number ≡ false → has_other (view_trees (drop i vs)) ≡ has_other (view_trees (drop (i + 1) vs))
-other_passed i vs v h is e = ap has_other (left_at i vs v h is) ∙ other_at v _ false e
-
-pub other_none : (i : ℕ) (vs : List View) → length vs ≤ i → has_other (view_trees (drop i vs)) ≡ false
+pub other_none : (ts : Trees) → ts ≡ none → has_other ts ≡ false
 unfolding has_other
-other_none i vs h = ap (λ (us : List View). has_other (view_trees us)) (drop_all i vs h)
+other_none ts e = ap has_other e
+
+-- each child has bytes of its own
+pub smaller_left : (ts us : Trees) (t : Tree) → ts ≡ more t us → sizes us < sizes ts
+smaller_left ts us (structure n children) e = omega (arith, ap sizes e)
+smaller_left ts us (scalar n s) e = omega (arith, ap sizes e)

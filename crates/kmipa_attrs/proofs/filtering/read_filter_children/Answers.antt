@@ -11,11 +11,11 @@ use Rattle.kmipa_attrs.proofs.filtering.read_filter_children.Goals as goal
 pub returns-in_err-names : goal.returns-in_err-names
 returns-in_err-names c =
     let e : c.from_residual.result ≡ Err c.in_err-names.field-0.0 = search rules in
-    rw e (wrong_filter_names c.args.maximum c.args.is_unknown (view_trees c.args.children.now) names_of c.in_err-names.field-0.0 c.in_err-names.ensures)
+    rw e (wrong_filter_names c.args.maximum c.args.is_unknown (view_trees c.args.children) names_of c.in_err-names.field-0.0 c.in_err-names.ensures)
 
 pub returns-in_err-found : goal.returns-in_err-found
 returns-in_err-found c =
-    let ts = view_trees c.args.children.now in
+    let ts = view_trees c.args.children in
     let most = c.args.maximum in
     let is_unknown = c.args.is_unknown in
     let e : c.from_residual-in_err-found.result ≡ Err c.in_err-found.field-0.0 = search rules in
@@ -25,7 +25,7 @@ returns-in_err-found c =
 
 pub returns : goal.returns
 returns c =
-    let ts = view_trees c.args.children.now in
+    let ts = view_trees c.args.children in
     let rest : c.both-rest.result ≡ both attr_number (judged_in ts) (types_in ts) = cc in
     filter_seen c.args.maximum c.args.is_unknown ts (names_of c.in_ok-names.names) c.both-rest.result c.in_ok-found.found c.in_ok-found.field-0-1 c.maximum_of.result c.is_loose.result
     c.in_ok-names.ensures rest c.in_ok-found.was c.maximum_of.ensures c.is_loose.ensures

@@ -13,19 +13,19 @@ returns-in_default c = ap named (as_name-none (view_tree c.args.view.now) (c.in_
 
 pub returns-in_default-text_at : goal.returns-in_default-text_at
 returns-in_default-text_at c =
-    let ts = view_trees c.in-Some.children.now in
+    let ts = view_trees c.in-Some.children in
     ap named (as_name-some (view_tree c.args.view.now) ts (c.in-Some.ensures)
     ∙ no_value c.text_at.result (at as_text name_value ts) (at as_enumeration name_type ts) c.in_default-text_at.not-There c.text_at.ensures)
 
 pub returns-in-Wrong : goal.returns-in-Wrong
 returns-in-Wrong c =
-    let ts = view_trees c.in-Some.children.now in
+    let ts = view_trees c.in-Some.children in
     ap named (as_name-some (view_tree c.args.view.now) ts (c.in-Some.ensures)
     ∙ sym (λ i. name_from (c.in-There.ensures i) (c.in-Wrong.ensures i)))
 
 pub returns : goal.returns
 returns c =
-    let ts = view_trees c.in-Some.children.now in
+    let ts = view_trees c.in-Some.children in
     ap named (as_name-some (view_tree c.args.view.now) ts (c.in-Some.ensures))
     ∙ elim c.match-enumeration_at.branch [
       | in-There-enumeration_at w ↦

@@ -9,12 +9,12 @@ use Rattle.kmipa_attrs.proofs.reading.read_children.Goals as goal
 pub returns-in_err-names : goal.returns-in_err-names
 returns-in_err-names c =
     let e : c.from_residual.result ≡ Err c.in_err-names.field-0.0 = search rules in
-    let whole = attributes_in c.args.side (view_trees c.args.children.now) in
-    rw e (wrong_names c.args.side (view_trees c.args.children.now) names_of c.in_err-names.field-0.0 c.in_err-names.ensures)
+    let whole = attributes_in c.args.side (view_trees c.args.children) in
+    rw e (wrong_names c.args.side (view_trees c.args.children) names_of c.in_err-names.field-0.0 c.in_err-names.ensures)
 
 pub returns-in_err-object_type : goal.returns-in_err-object_type
 returns-in_err-object_type c =
-    let ts = view_trees c.args.children.now in
+    let ts = view_trees c.args.children in
     let e : c.from_residual-in_err-object_type.result ≡ Err c.in_err-object_type.field-0.0 = search rules in
     let rest : c.both-rest.result ≡ both attr_number (description_in ts) (both attr_number (stages_in c.args.side ts) (ends_in c.args.side ts)) = cc in
     let read : attributes_in c.args.side ts ≡ Err c.in_err-object_type.field-0.0 = with_rest c.args.side ts (names_of c.in_ok-names.names) c.both-rest.result c.in_ok-names.ensures rest ∙ ap (map_ok (λ r. set_at (names_of c.in_ok-names.names, r))) c.in_err-object_type.was in
@@ -22,6 +22,6 @@ returns-in_err-object_type c =
 
 pub returns : goal.returns
 returns c =
-    let ts = view_trees c.args.children.now in
+    let ts = view_trees c.args.children in
     let rest : c.both-rest.result ≡ both attr_number (description_in ts) (both attr_number (stages_in c.args.side ts) (ends_in c.args.side ts)) = cc in
     with_rest c.args.side ts (names_of c.in_ok-names.names) c.both-rest.result c.in_ok-names.ensures rest ∙ ap (map_ok (λ r. set_at (names_of c.in_ok-names.names, r))) c.in_ok-object_type.was
