@@ -6,7 +6,6 @@ use Rattle.kmipa_ttlv.specs.Tree.{Tree}
 use Rattle.kmipa_ttlv.specs.ViewTree.{view_tree, view_trees}
 use Rattle.kmipa_attrs.specs.Fields.{every}
 use Rattle.kmipa_attrs.specs.Tags.{batch_item}
-use Rattle.kmipa_attrs.proofs.FieldLemmas.{fewer_left}
 use Rattle.kmipa_msgs.specs.declared.kind.OutsideKind.{OutsideKind}
 use Rattle.kmipa_msgs.specs.declared.request.Ask.{Ask}
 use Rattle.kmipa_msgs.specs.Messages.{AnswerOf, ask_of, answer_of, answers_of}
@@ -25,7 +24,7 @@ returns-in-Err c =
     let t = view_tree c.in-Some.child in
     let asks = c.args.asks.now in
     let place = c.len-place.result in
-    let here = c.len-place.ensures ∙ sym (length-map answer_of c.children.answers.items) in
+    let here = c.len-place.ensures ∙ sym (length-map c.children.answers.items answer_of) in
     let ts = every batch_item (view_trees c.children.left) in
     let us = every batch_item (view_trees c.next_of.new.self) in
     let whole = from_one (each_in (read asks) (every batch_item (view_trees c.args.children))) in
@@ -39,16 +38,13 @@ children-preserved c =
     let asks = c.args.asks.now in
     let t = view_tree c.in-Some.child in
     let place = c.len-place.result in
-    let here = c.len-place.ensures ∙ sym (length-map answer_of c.children.answers.items) in
+    let here = c.len-place.ensures ∙ sym (length-map c.children.answers.items answer_of) in
     let ts = every batch_item (view_trees c.children.left) in
     let us = every batch_item (view_trees c.next_of.new.self) in
     let more = meaning_more answer_of c.children.answers.items c.push.new.self.items c.in-Ok.answer c.in_ok-push-in-Ok.ensures.items in
     c.children.invariant
     ∙ items_found (read asks) (answers_of c.children.answers) (answers_of c.push.new.self) (answer_of c.in-Ok.answer) ts us t c.in-Some.ensures.next
     (c.in-Ok.ensures ∙ ap (λ a. answer_in a t) (asked_at asks place c.get.result c.get.ensures.lookup) ∙ ap (λ n. read asks n t) here) more
-
-pub children-decreases : goal.children-decreases
-children-decreases c = fewer_left batch_item (view_trees c.children.left) (view_trees c.next_of.new.self) (view_tree c.in-Some.child) c.in-Some.ensures.next
 
 pub returns : goal.returns
 returns c = ap from_one c.children.invariant ∙ items_done (read c.args.asks.now) (answers_of c.children.answers) (every batch_item (view_trees c.children.left)) c.in_default.ensures.next

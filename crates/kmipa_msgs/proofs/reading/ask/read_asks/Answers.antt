@@ -4,7 +4,6 @@ use Rattle.kmipa_ttlv.specs.Tree.{Tree}
 use Rattle.kmipa_ttlv.specs.ViewTree.{view_tree, view_trees}
 use Rattle.kmipa_attrs.specs.Fields.{every}
 use Rattle.kmipa_attrs.specs.Tags.{batch_item}
-use Rattle.kmipa_attrs.proofs.FieldLemmas.{fewer_left}
 use Rattle.kmipa_msgs.specs.declared.kind.OutsideKind.{OutsideKind}
 use Rattle.kmipa_msgs.specs.Messages.{AskOf, ask_of, asks_of}
 use Rattle.kmipa_msgs.specs.Asks.{item_in}
@@ -24,7 +23,7 @@ returns-in-Err c =
     let whole = from_one (each_in (read c.args.unordered) (every batch_item (view_trees c.args.children))) in
     rw c.at.ensures (gives_unread asks_of ask_of (c.len.result + 1) c.in-Err.unread (item_in c.args.unordered t) whole c.in-Err.ensures
     (λ k e. ap from_one c.children.invariant
-    ∙ items_faulty (read c.args.unordered) (asks_of c.children.asks) c.len.result k ts us t c.in-Some.ensures.next e (c.len.ensures ∙ sym (length-map ask_of c.children.asks.items))))
+    ∙ items_faulty (read c.args.unordered) (asks_of c.children.asks) c.len.result k ts us t c.in-Some.ensures.next e (c.len.ensures ∙ sym (length-map c.children.asks.items ask_of))))
 
 pub children-preserved : goal.children-preserved
 children-preserved c =
@@ -33,9 +32,6 @@ children-preserved c =
     let more = meaning_more ask_of c.children.asks.items c.push.new.self.items c.in-Ok.ask c.in_ok-push-in-Ok.ensures.items in
     c.children.invariant
     ∙ items_found (read c.args.unordered) (asks_of c.children.asks) (asks_of c.push.new.self) (ask_of c.in-Ok.ask) ts us (view_tree c.in-Some.child) c.in-Some.ensures.next c.in-Ok.ensures more
-
-pub children-decreases : goal.children-decreases
-children-decreases c = fewer_left batch_item (view_trees c.children.left) (view_trees c.next_of.new.self) (view_tree c.in-Some.child) c.in-Some.ensures.next
 
 pub returns : goal.returns
 returns c = ap from_one c.children.invariant ∙ items_done (read c.args.unordered) (asks_of c.children.asks) (every batch_item (view_trees c.children.left)) c.in_default.ensures.next

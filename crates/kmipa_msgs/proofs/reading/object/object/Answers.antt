@@ -1,6 +1,5 @@
 use Rattle.std.proofs.Common.{◌∙◌, sym}
 use Rattle.kmipa_ttlv.specs.ViewTree.{view_tree, view_trees}
-use Rattle.kmipa_attrs.proofs.FilterLemmas.{smaller_left}
 use Rattle.kmipa_msgs.proofs.ObjectLemmas.{object_found, object_passed, object_none}
 use Rattle.kmipa_msgs.proofs.reading.object.object.Goals as goal
 
@@ -9,9 +8,6 @@ returns-then-is_object c = sym (c.children.invariant ∙ object_found (view_tree
 
 pub children-preserved : goal.children-preserved
 children-preserved c = c.children.invariant ∙ object_passed (view_trees c.children.left) (view_trees c.next.new.self) c.in-Some.child c.in-Some.ensures (sym c.if-is_object.ensures)
-
-pub children-decreases : goal.children-decreases
-children-decreases c = smaller_left (view_trees c.children.left) (view_trees c.next.new.self) (view_tree c.in-Some.child) c.in-Some.ensures
 
 pub returns : goal.returns
 returns c = sym (c.children.invariant ∙ object_none (view_trees c.children.left) c.in_default.ensures)
