@@ -1,5 +1,5 @@
 -- Views and the trees that they are, field by field.
-use Rattle.std.proofs.Common.{◌≡◌, ◌<◌, ℕ, ℤ, Bool, true, false, ◌==◌, cond, List, [], ◌∷◌, length, Option, Some, None, MatchOption, refl, sym, ap, ◌∙◌, arith}
+use Rattle.std.proofs.Common.{◌≡◌, ℕ, ℤ, Bool, true, false, ◌==◌, cond, List, [], ◌∷◌, Option, Some, None, MatchOption, refl, sym, ap, ◌∙◌}
 use Rattle.std.specs.Option.{option_map}
 use Rattle.kmipa_ttlv.specs.Tree.{Tree, Trees, none, more}
 use Rattle.kmipa_ttlv.specs.ViewTree.{view_value_tree, view_tree}
@@ -26,10 +26,6 @@ first_every tag (more t ts) = by (tag_of t == tag) (first_every tag ts)
 pub first_next : (tag : ℕ) (ts us : Trees) (next : Option View) → MatchOption next (every tag ts ≡ []) (λ v. every tag ts ≡ view_tree v ∷ every tag us) → option_map view_tree next ≡ first tag ts
 first_next tag ts us None e = sym (first_every tag ts ∙ ap first_in e)
 first_next tag ts us (Some v) e = sym (first_every tag ts ∙ ap first_in e)
-
--- of those with the tag fewer are left
-pub fewer_left : (tag : ℕ) (ts us : Trees) (t : Tree) → every tag ts ≡ t ∷ every tag us → length (every tag us) < length (every tag ts)
-fewer_left tag ts us t e = omega (arith, ap length e)
 
 pub no_integer : (n : ℕ) (v : ViewValue) → ((x : ℤ) → v ≡ Integer x → ⊥) → as_integer (view_value_tree n v) ≡ None
 unfolding as_integer

@@ -1,10 +1,9 @@
 -- What is read of a filter is what is said, or the lowest fault.
-use Rattle.std.proofs.Common.{◌≡◌, ◌<◌, ◌≤◌, ℕ, ℤ, Bool, true, false, nat_lt, ◌==◌, ◌||◌, cond, slice_get, List, [], ◌∷◌, map, length, Some, None, Option, Result, Ok, Err, refl, sym, ap, ◌∙◌, subst, arith, inl, inr}
+use Rattle.std.proofs.Common.{◌≡◌, ◌≤◌, ℕ, ℤ, Bool, true, false, nat_lt, ◌==◌, ◌||◌, cond, slice_get, List, [], ◌∷◌, map, length, Some, None, Option, Result, Ok, Err, refl, sym, ap, ◌∙◌, subst, arith, inl, inr}
 use Rattle.std.proofs.lemmas.Bool.{lt-ltb}
 use Rattle.std.proofs.lemmas.List.{length-map}
 use Rattle.kmipa_ttlv.specs.Tree.{Tree, Trees, structure, scalar, none, more}
 use Rattle.kmipa_ttlv.specs.ViewTree.{view_tree}
-use Rattle.kmipa_ttlv.specs.Written.{sizes}
 use Rattle.kmipa_ttlv.proofs.ViewTreeLemmas.{tag_of-view}
 use Rattle.kmipa_ttlv.specs.declared.view.View.{View}
 use Rattle.kmipa_attrs.specs.Tags.{activation_date, compromise_date, cryptographic_algorithm, cryptographic_length, cryptographic_usage_mask, deactivation_date, destroy_date, initial_date, object_type_tag, state_tag}
@@ -255,8 +254,3 @@ other_next ts us v b e is = ap has_other e ∙ ap (λ (n : ℕ). is_other n || h
 pub other_none : (ts : Trees) → ts ≡ none → has_other ts ≡ false
 unfolding has_other
 other_none ts e = ap has_other e
-
--- each child has bytes of its own
-pub smaller_left : (ts us : Trees) (t : Tree) → ts ≡ more t us → sizes us < sizes ts
-smaller_left ts us (structure n children) e = omega (arith, ap sizes e)
-smaller_left ts us (scalar n s) e = omega (arith, ap sizes e)

@@ -1,5 +1,5 @@
 -- What children hold under a tag, one after the other.
-use Rattle.std.proofs.Common.{◌≡◌, ℕ, List, [], ◌∷◌, map, Option, Result, sym, ap, ◌∙◌}
+use Rattle.std.proofs.Common.{◌≡◌, ℕ, [], ◌∷◌, map, Option, Result, sym, ap, ◌∙◌}
 use Rattle.kmipa_ttlv.specs.Tree.{Tree, Trees}
 use Rattle.kmipa_attrs.specs.Fields.{every}
 use Rattle.kmipa_attrs.specs.Attributes.{each, folded, single_step}

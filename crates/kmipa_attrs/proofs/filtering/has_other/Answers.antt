@@ -1,6 +1,6 @@
 use Rattle.std.proofs.Common.{◌∙◌, sym, true, false}
-use Rattle.kmipa_ttlv.specs.ViewTree.{view_tree, view_trees}
-use Rattle.kmipa_attrs.proofs.FilterLemmas.{other_next, other_none, smaller_left}
+use Rattle.kmipa_ttlv.specs.ViewTree.{view_trees}
+use Rattle.kmipa_attrs.proofs.FilterLemmas.{other_next, other_none}
 use Rattle.kmipa_attrs.proofs.filtering.has_other.Goals as goal
 
 pub returns-then-is_other : goal.returns-then-is_other
@@ -8,9 +8,6 @@ returns-then-is_other c = sym (c.children.invariant ∙ other_next (view_trees c
 
 pub children-preserved : goal.children-preserved
 children-preserved c = c.children.invariant ∙ other_next (view_trees c.children.left) (view_trees c.next.new.self) c.in-Some.child false c.in-Some.ensures (sym c.if-is_other.ensures)
-
-pub children-decreases : goal.children-decreases
-children-decreases c = smaller_left (view_trees c.children.left) (view_trees c.next.new.self) (view_tree c.in-Some.child) c.in-Some.ensures
 
 pub returns : goal.returns
 returns c = sym (c.children.invariant ∙ other_none (view_trees c.children.left) c.in_default.ensures)

@@ -1,11 +1,10 @@
-use Rattle.std.proofs.Common.{◌≡◌, ◌∙◌, sym, ap, map, Err, rules}
+use Rattle.std.proofs.Common.{◌≡◌, ◌∙◌, ap, map, Err, rules}
 use Rattle.kmipa_ttlv.specs.ViewTree.{view_tree, view_trees}
 use Rattle.kmipa_attrs.specs.Tags.{name_tag}
 use Rattle.kmipa_attrs.specs.Sets.{name_of, names_of}
 use Rattle.kmipa_attrs.specs.Names.{as_name, with_names}
 use Rattle.kmipa_attrs.specs.Readings.{map_ok}
 use Rattle.kmipa_attrs.specs.Attributes.{each, all_named, names_in}
-use Rattle.kmipa_attrs.proofs.FieldLemmas.{fewer_left}
 use Rattle.kmipa_attrs.proofs.ViewLemmas.{each_next, each_none}
 use Rattle.kmipa_attrs.proofs.NameLemmas.{named_some, names_begin, names_more, names_wrong}
 use Rattle.kmipa_attrs.proofs.names.read_few.Goals as goal
@@ -33,9 +32,6 @@ children-preserved c =
     ∙ ap (λ held. map_ok (with_names seen) (all_named held)) (each_next as_name name_tag ts us t c.in-Some.ensures.next)
     ∙ names_more seen (names_of c.add_name.new.names) (as_name t) (name_of c.in_ok-name.name) (each as_name name_tag us)
     (named_some (as_name t) (name_of c.in_ok-name.name) c.in_ok-name.ensures) c.in_ok-add_name.ensures
-
-pub children-decreases : goal.children-decreases
-children-decreases c = fewer_left name_tag (view_trees c.children.left) (view_trees c.next_of.new.self) (view_tree c.in-Some.child) c.in-Some.ensures.next
 
 pub returns : goal.returns
 returns c = c.children.invariant ∙ ap (λ held. map_ok (with_names (names_of c.children.names)) (all_named held)) (each_none as_name name_tag (view_trees c.children.left) c.in_default.ensures.next)
