@@ -60,6 +60,7 @@ def attributes(
     activation: int | None = None,
     deactivation: int | None = None,
     destroyed: int | None = None,
+    compromised: int | None = None,
 ) -> bytes:
     """Attributes of an AES key of so many bits, with a usage mask, names and dates."""
     children = [name_attribute(name) for name in names]
@@ -67,7 +68,8 @@ def attributes(
         children += [enumeration(0x420028, AES), integer(0x42002A, bits)]
     if mask is not None:
         children.append(integer(0x42002C, mask))
-    children += [date(tag, second) for tag, second in ((0x420001, activation), (0x42002F, deactivation), (0x420033, destroyed)) if second is not None]
+    dates = ((0x420001, activation), (0x42002F, deactivation), (0x420033, destroyed), (0x420020, compromised))
+    children += [date(tag, second) for tag, second in dates if second is not None]
     return structure(0x420125, *children)
 
 
