@@ -13,13 +13,15 @@ use Rattle.kmipa_msgs.specs.declared.kind.OutsideKind.TheVariants.{Missing, Unor
 use Rattle.kmipa_msgs.specs.declared.operation.Operation.{Operation}
 use Rattle.kmipa_msgs.specs.Kinds.{kind_number}
 use Rattle.kmipa_msgs.specs.Operations.{operation_of, is_judged}
-use Rattle.kmipa_msgs.specs.Messages.{AskedOf, AskOf}
+use Rattle.kmipa_msgs.specs.declared.request.Asked.{Asked}
+use Rattle.kmipa_msgs.specs.Messages.{AskedOf, AskOf, asked_of}
 use Rattle.kmipa_msgs.specs.Tables.{unless_wrong, children}
 use Rattle.kmipa_msgs.specs.Asks.{TellsOperation, SaysAsked, AskedFault, SaysAsk, AskFault, asked_in, form_in, payload_asked, operation_in, ask_at, ask_in, means_placeholder, ItemFault, may_stand, item_in}
 use Rattle.kmipa_msgs.specs.Asks.AskFault.{in_operation, in_payload, in_asked}
 use Rattle.kmipa_msgs.specs.Asks.ItemFault.{in_ask, in_order}
 use Rattle.kmipa_msgs.proofs.TableLemmas.{same_kind}
 use Rattle.kmipa_msgs.proofs.RowLemmas.{is_row}
+use Rattle.kmipa_msgs.proofs.ViewLemmas.{seen, right_seen}
 
 reads_form : {A : Type 0} (b : Bool) (f : Field A) (k : OutsideKind) → Reads kind_number (λ (u : Unit {0}). Unit {0}) (λ j. (b ≡ true) × (j ≡ k) × IsWrong f) (cond b (unless_wrong f k) (Ok tt))
 reads_form false f k = record { said = tt; only = λ y h. refl; right = λ j h. let e : false ≡ true = h.0 in cc }
@@ -119,6 +121,18 @@ item_at unordered t (Ok x) h = by unordered (means_placeholder x.asked) refl
 
 pub reads_item : (unordered : Bool) (t : Tree) → Reads kind_number (SaysAsk t) (ItemFault unordered t) (item_in unordered t)
 reads_item unordered t = item_at unordered t (ask_in t) (reads_ask t)
+
+-- what a payload asks for, as the program has it
+abbrev pub asked_view : Unit {0} × Asked → AskedOf
+asked_view p = asked_of p.1
+
+pub seen_asked : (operation : Operation) (ts us : Trees) (shape : Result (Unit {0}) OutsideKind) (asked : Result Asked OutsideKind) (rows : Result (Unit {0} × Asked) OutsideKind)
+    → rows ≡ both kind_number shape asked → shape ≡ form_in operation (at as_structure request_payload ts) → us ≡ inside request_payload ts → map_ok asked_of asked ≡ asked_in operation us
+    → map_ok asked_view rows ≡ payload_asked operation ts
+seen_asked operation ts us shape asked rows e s u g =
+    let form = form_in operation (at as_structure request_payload ts) in
+    seen (λ q. q.1) (λ q. (q.0, asked_of q.1)) rows (both kind_number form (asked_in operation (inside request_payload ts)))
+    (right_seen kind_number asked_of shape asked rows form (asked_in operation (inside request_payload ts)) e s (g ∙ ap (asked_in operation) u))
 
 -- an item as the program has it: no structure, no operation, and one
 whole : Trees → Result AskOf OutsideKind

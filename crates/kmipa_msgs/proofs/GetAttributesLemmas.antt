@@ -1,9 +1,9 @@
 -- Get Attributes and its answers are read.
-use Rattle.std.proofs.Common.{◌≡◌, ◌≤◌, ◌<◌, ◌+◌, ◌++◌, ℕ, Bool, true, false, ◌==◌, ◌&&◌, ◌||◌, not, nat_lt, cond, is_some, is_none, filter_map, List, [], ◌∷◌, length, drop, get_or, Option, Some, None, Result, refl, sym, ap, ◌∙◌, inl, inr, append_assoc, count_by, eq-eqb, take, eqb-true}
+use Rattle.std.proofs.Common.{◌≡◌, ◌≤◌, ◌<◌, ◌+◌, ◌++◌, ℕ, Bool, true, false, ◌==◌, ◌&&◌, ◌||◌, not, nat_lt, cond, is_some, is_none, filter_map, List, [], ◌∷◌, length, drop, get_or, Option, Some, None, Result, refl, sym, ap, ◌∙◌, inl, inr, append_assoc, eq-eqb, take, eqb-true}
 use Rattle.std.proofs.lemmas.Bool.{ne_eqb}
-use Rattle.std.proofs.lemmas.List.{drop_all, map-append}
+use Rattle.std.proofs.lemmas.List.{append-nil, map-append}
 use Rattle.kmipa_ttlv.specs.Tree.{Tree, Trees, more, scalar, none}
-use Rattle.kmipa_ttlv.specs.ViewTree.{view_tree, view_trees}
+use Rattle.kmipa_ttlv.specs.ViewTree.{view_tree}
 use Rattle.kmipa_ttlv.specs.declared.view.View.{View}
 use Rattle.kmipa_attrs.specs.Fields.{tag_of, every, at, inside, as_structure, as_enumeration, first, as_text}
 use Rattle.kmipa_attrs.specs.ObjectTypes.{type_of}
@@ -12,7 +12,7 @@ use Rattle.kmipa_attrs.specs.Sets.{attributes_of}
 use Rattle.kmipa_attrs.specs.Tags.{object_type_tag, unique_identifier, attributes_tag, attribute_reference}
 use Rattle.kmipa_attrs.specs.declared.attr_set.AttrSet.{AttrSet}
 use Rattle.kmipa_attrs.specs.declared.side.Side.TheVariants.{Server}
-use Rattle.kmipa_attrs.proofs.FieldLemmas.{tag_of-view, left_at}
+use Rattle.kmipa_ttlv.proofs.ViewTreeLemmas.{tag_of-view}
 use Rattle.kmipa_attrs.proofs.ReadingLemmas.{reads_both, reads_as}
 use Rattle.kmipa_msgs.specs.declared.kind.OutsideKind.{OutsideKind}
 use Rattle.kmipa_msgs.specs.declared.kind.OutsideKind.TheVariants.{ObjectType}
@@ -24,7 +24,6 @@ use Rattle.kmipa_msgs.specs.Identifiers.{identifier_in}
 use Rattle.kmipa_msgs.specs.AttributeFields.{given_in}
 use Rattle.kmipa_msgs.specs.GetsAttributes.{references, is_selective, as_reference, is_other, some_other, has_others, SaysGetAttributes, GetAttributesFault, get_attributes_at, get_attributes_in, SaysGotAttributes, GotAttributesFault, got_attributes_rows, got_attributes_at, got_attributes_in, reference_fields, get_attributes_fields, got_attributes_fields, AsksGetAttributes, AnswersGetAttributes, get_attributes_row}
 use Rattle.kmipa_msgs.specs.GetsAttributes.GotAttributesFault.{in_identifier, in_attributes, in_attribute_type}
-use Rattle.kmipa_msgs.proofs.HeaderLemmas.{counted}
 use Rattle.kmipa_msgs.proofs.TableLemmas.{reads_unless_unlisted}
 use Rattle.kmipa_msgs.proofs.IdentifierLemmas.{reads_identifier}
 use Rattle.kmipa_msgs.proofs.AttributeFieldLemmas.{reads_given}
@@ -80,26 +79,29 @@ seen_got_attributes ts us known id plain given rows e p k u i g =
     (right_seen kind_number maybe_lent known id plain judged (identifier_in ts) p (k ∙ ap (λ vs. unless_unlisted (at as_enumeration object_type_tag vs) type_of ObjectType) u) i)
     g)
 
--- THE REFERENCES OF VIEWS
+-- THE REFERENCES THAT ARE LEFT
 
 abbrev with_reference : Option ℕ → List ℕ → List ℕ
 with_reference None tags = tags
 with_reference (Some tag) tags = tag ∷ tags
 
-references_more : (t : Tree) (ts : Trees) → references (more t ts) ≡ with_reference (as_reference t) (references ts)
-unfolding references every
-references_more t ts = by (tag_of t == attribute_reference)
-  where
-    rest : List Tree
-    rest = every attribute_reference ts
+references_next : (ts us : Trees) (t : Tree) (o : Option ℕ) → every attribute_reference ts ≡ t ∷ every attribute_reference us → as_enumeration t ≡ o → references ts ≡ with_reference o (references us)
+unfolding references
+references_next ts us t None is e = ap (λ (vs : List Tree). filter_map as_enumeration vs) is ∙ rw e refl
+references_next ts us t (Some tag) is e = ap (λ (vs : List Tree). filter_map as_enumeration vs) is ∙ rw e refl
 
-    held : (o : Option ℕ) → as_enumeration t ≡ o → filter_map as_enumeration (t ∷ rest) ≡ with_reference o (filter_map as_enumeration rest)
-    held None e = rw e refl
-    held (Some tag) e = rw e refl
+pub references_met : (tags : List ℕ) (ts us : Trees) (t : Tree) (tag : ℕ) → every attribute_reference ts ≡ t ∷ every attribute_reference us → Some tag ≡ as_enumeration t
+    → tags ++ references ts ≡ (tags ++ tag ∷ []) ++ references us
+references_met tags ts us t tag is e = ap (λ ns. tags ++ ns) (references_next ts us t (Some tag) is (sym e)) ∙ sym (append_assoc tags (tag ∷ []) (references us))
 
-    by : (b : Bool) → filter_map as_enumeration (cond b (t ∷ rest) rest) ≡ with_reference (cond b (as_enumeration t) None) (filter_map as_enumeration rest)
-    by true = held (as_enumeration t) refl ∙ refl
-    by false = refl
+pub references_passed : (tags : List ℕ) (ts us : Trees) (t : Tree) → every attribute_reference ts ≡ t ∷ every attribute_reference us → None ≡ as_enumeration t → tags ++ references ts ≡ tags ++ references us
+references_passed tags ts us t is e = ap (λ ns. tags ++ ns) (references_next ts us t None is (sym e))
+
+pub references_done : (tags : List ℕ) (ts : Trees) → every attribute_reference ts ≡ [] → tags ++ references ts ≡ tags
+unfolding references
+references_done tags ts is = ap (λ (vs : List Tree). tags ++ filter_map as_enumeration vs) is ∙ append-nil tags
+
+-- THE OTHER ITEMS
 
 pub reference_at : (v : View) → v.tag.number ≡ attribute_reference → as_enumeration (view_tree v) ≡ as_reference (view_tree v)
 reference_at v e =
@@ -110,30 +112,6 @@ pub no_reference : (v : View) → (v.tag.number ≡ attribute_reference → ⊥)
 no_reference v e =
     let held = as_enumeration (view_tree v) in
     sym (ap (λ (n : ℕ). cond (n == attribute_reference) held None) (tag_of-view v.tag.number v.value) ∙ ap (λ (b : Bool). cond b held None) (ne_eqb v.tag.number attribute_reference e))
-
-pub references_met : (tags : List ℕ) (i : ℕ) (vs : List View) (v : View) (tag : ℕ) → i < length vs → v ≡ get_or vs i v → Some tag ≡ as_reference (view_tree v)
-    → tags ++ references (view_trees (drop i vs)) ≡ (tags ++ tag ∷ []) ++ references (view_trees (drop (i + 1) vs))
-references_met tags i vs v tag h is e =
-    let rest = references (view_trees (drop (i + 1) vs)) in
-    ap (λ ts. tags ++ references ts) (left_at i vs v h is)
-    ∙ ap (λ us. tags ++ us) (references_more (view_tree v) (view_trees (drop (i + 1) vs)) ∙ ap (λ (o : Option ℕ). with_reference o rest) (sym e))
-    ∙ sym (append_assoc tags (tag ∷ []) rest)
-
-pub references_passed : (tags : List ℕ) (i : ℕ) (vs : List View) (v : View) → i < length vs → v ≡ get_or vs i v → None ≡ as_reference (view_tree v)
-    → tags ++ references (view_trees (drop i vs)) ≡ tags ++ references (view_trees (drop (i + 1) vs))
-references_passed tags i vs v h is e =
-    ap (λ ts. tags ++ references ts) (left_at i vs v h is)
-    ∙ ap (λ us. tags ++ us) (references_more (view_tree v) (view_trees (drop (i + 1) vs)) ∙ ap (λ (o : Option ℕ). with_reference o (references (view_trees (drop (i + 1) vs)))) (sym e))
-
-pub references_done : (tags : List ℕ) (i : ℕ) (vs : List View) → length vs ≤ i → tags ++ references (view_trees (drop i vs)) ≡ tags
-unfolding references every
-references_done tags i vs h = ap (λ (us : List View). tags ++ references (view_trees us)) (drop_all i vs h) ∙ append_nil tags
-  where
-    append_nil : (us : List ℕ) → us ++ [] ≡ us
-    append_nil [] = refl
-    append_nil (u ∷ us) = ap (λ (ws : List ℕ). u ∷ ws) (append_nil us)
-
--- THE OTHER ITEMS OF VIEWS
 
 -- an identifier is none of them, and any other item is, where it is no reference
 pub no_other : (v : View) → v.tag.number ≡ unique_identifier → not (v.tag.number == unique_identifier) ≡ is_other (view_tree v)
@@ -153,22 +131,22 @@ other_bare v b e h =
     turned (is_some (as_reference (view_tree v))) b h ∙ sym (ap (λ (n : ℕ). not (n == unique_identifier) && bare) (tag_of-view v.tag.number v.value) ∙ ap (λ (k : Bool). not k && bare) (ne_eqb v.tag.number unique_identifier e))
 
 -- with identifiers that are counted
-pub others_counted : (vs : List View) (n : ℕ) → n ≡ count_by (λ v. v.tag.number == unique_identifier) vs → false ≡ some_other (view_trees vs) → nat_lt 1 n ≡ has_others (view_trees vs)
-others_counted vs n e h = ap (nat_lt 1) (e ∙ counted unique_identifier vs) ∙ ap (λ (b : Bool). b || nat_lt 1 (length (every unique_identifier (view_trees vs)))) h
+pub others_counted : (ts : Trees) (n : ℕ) → n ≡ length (every unique_identifier ts) → false ≡ some_other ts → nat_lt 1 n ≡ has_others ts
+others_counted ts n e h = ap (nat_lt 1) e ∙ ap (λ (b : Bool). b || nat_lt 1 (length (every unique_identifier ts))) h
 
-pub other_none : (i : ℕ) (vs : List View) → length vs ≤ i → some_other (view_trees (drop i vs)) ≡ false
+pub other_none : (ts : Trees) → ts ≡ none → some_other ts ≡ false
 unfolding some_other
-other_none i vs h = ap (λ (us : List View). some_other (view_trees us)) (drop_all i vs h)
+other_none ts is = ap some_other is
 
-other_at : (v : View) (ts : Trees) (b : Bool) → is_other (view_tree v) ≡ b → some_other (more (view_tree v) ts) ≡ (b || some_other ts)
+other_at : (ts us : Trees) (t : Tree) (b : Bool) → ts ≡ more t us → is_other t ≡ b → some_other ts ≡ (b || some_other us)
 unfolding some_other
-other_at v ts b e = ap (λ (k : Bool). k || some_other ts) e
+other_at ts us t b is e = ap some_other is ∙ ap (λ (k : Bool). k || some_other us) e
 
-pub other_found : (i : ℕ) (vs : List View) (v : View) → i < length vs → v ≡ get_or vs i v → is_other (view_tree v) ≡ true → some_other (view_trees (drop i vs)) ≡ true
-other_found i vs v h is e = ap some_other (left_at i vs v h is) ∙ other_at v _ true e
+pub other_found : (ts us : Trees) (t : Tree) → ts ≡ more t us → is_other t ≡ true → some_other ts ≡ true
+other_found ts us t is e = other_at ts us t true is e
 
-pub other_passed : (i : ℕ) (vs : List View) (v : View) → i < length vs → v ≡ get_or vs i v → is_other (view_tree v) ≡ false → some_other (view_trees (drop i vs)) ≡ some_other (view_trees (drop (i + 1) vs))
-other_passed i vs v h is e = ap some_other (left_at i vs v h is) ∙ other_at v _ false e
+pub other_passed : (ts us : Trees) (t : Tree) → ts ≡ more t us → is_other t ≡ false → some_other ts ≡ some_other us
+other_passed ts us t is e = other_at ts us t false is e
 
 -- AS THEY ARE WRITTEN
 

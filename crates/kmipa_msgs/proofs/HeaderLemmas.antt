@@ -1,15 +1,14 @@
 -- What the headers of requests and responses share is read.
-use Rattle.std.proofs.Common.{◌≡◌, ◌<◌, ◌+◌, ℕ, zero, suc, ℤ, pos, negsuc, nat_abs, Bool, true, false, ◌==◌, ◌&&◌, nat_lt, eqb, cond, List, ◌∷◌, length, count_by, Option, Some, None, Result, refl, sym, ap, ◌∙◌, inl, inr, ◌⊎◌, arith, eqb-true, ltb-true, lt-ltb, eq-eqb}
+use Rattle.std.proofs.Common.{◌≡◌, ◌<◌, ◌+◌, ℕ, zero, suc, ℤ, pos, negsuc, nat_abs, Bool, true, false, ◌==◌, ◌&&◌, nat_lt, eqb, Option, Some, None, Result, refl, sym, ap, ◌∙◌, inl, inr, ◌⊎◌, arith, eqb-true, ltb-true, lt-ltb, eq-eqb}
 use Rattle.std.proofs.lemmas.Bool.{ne_eqb}
-use Rattle.std.proofs.lemmas.List.Recursion.{is_count_by}
 use lib.Signed.{lt_z}
 use Rattle.kmipa_ttlv.specs.Tree.{Tree, Trees}
-use Rattle.kmipa_ttlv.specs.ViewTree.{view_tree, view_trees}
+use Rattle.kmipa_ttlv.specs.ViewTree.{view_tree}
 use Rattle.kmipa_ttlv.specs.declared.view.View.{View}
-use Rattle.kmipa_attrs.specs.Fields.{tag_of, first, every, at, inside, in_field, or_none, as_structure}
+use Rattle.kmipa_attrs.specs.Fields.{tag_of, first, at, inside, in_field, or_none, as_structure}
 use Rattle.kmipa_attrs.specs.Readings.{Reads, map_ok}
 use Rattle.kmipa_attrs.proofs.ReadingLemmas.{reads_as}
-use Rattle.kmipa_attrs.proofs.FieldLemmas.{tag_of-view}
+use Rattle.kmipa_ttlv.proofs.ViewTreeLemmas.{tag_of-view}
 use Rattle.kmipa_msgs.specs.declared.kind.OutsideKind.{OutsideKind}
 use Rattle.kmipa_msgs.specs.declared.kind.OutsideKind.TheVariants.{NotAMessage, Version, Count, Operation, ObjectType, IdentifierForm, Wrapped, Format, Missing, Attribute, Pending, Disagree, Unordered}
 use Rattle.kmipa_msgs.specs.Kinds.{kind_number}
@@ -17,7 +16,6 @@ use Rattle.kmipa_attrs.specs.declared.fields.Field.{Field}
 use Rattle.kmipa_attrs.specs.declared.fields.Field.TheVariants.{There}
 use Rattle.kmipa_msgs.specs.Tables.{children}
 use Rattle.kmipa_msgs.specs.Headers.{is_structure, is_message, counts, gated}
-use Rattle.kmipa_msgs.proofs.ItemLemmas.{every_at}
 
 -- no kind is below the first
 first_kind : (k : OutsideKind) → kind_number k < 1 → ⊥
@@ -46,18 +44,6 @@ reads_gated false Said Fault Told Flaw make r to from reported back h = record {
   here = reported NotAMessage (inl (refl, refl));
   least = λ j lt w. first_kind j lt;
 }
-
--- the items are counted
-pub counted : (tag : ℕ) (vs : List View) → count_by (λ v. v.tag.number == tag) vs ≡ length (every tag (view_trees vs))
-unfolding every
-counted tag vs = sym (is_count_by (λ us. length (every tag (view_trees us))) (λ v. v.tag.number == tag) refl step vs)
-  where
-    by : (v : View) (us : List View) (b : Bool) → length (cond b (view_tree v ∷ every tag (view_trees us)) (every tag (view_trees us))) ≡ cond b (1 + length (every tag (view_trees us))) (length (every tag (view_trees us)))
-    by v us true = omega arith
-    by v us false = refl
-
-    step : (v : View) (us : List View) → length (every tag (view_trees (v ∷ us))) ≡ cond (v.tag.number == tag) (1 + length (every tag (view_trees us))) (length (every tag (view_trees us)))
-    step v us = ap length (every_at tag v (view_trees us) (v.tag.number == tag) refl) ∙ by v us (v.tag.number == tag)
 
 and_false : (b : Bool) → (b && false) ≡ false
 and_false true = refl

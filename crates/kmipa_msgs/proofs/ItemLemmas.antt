@@ -1,13 +1,6 @@
--- Items of views, one after the other.
-use Rattle.std.proofs.Common.{◌≡◌, ◌≤◌, ◌<◌, ◌+◌, ℕ, suc, Bool, true, false, ◌==◌, cond, List, [], ◌∷◌, ◌++◌, map, length, drop, get_or, Result, Ok, Err, refl, sym, ap, ◌∙◌, arith, append_assoc, eq-eqb, length-append}
-use Rattle.std.proofs.lemmas.Bool.{ne_eqb}
-use Rattle.std.proofs.lemmas.List.{drop_all}
-use Rattle.kmipa_ttlv.specs.Tree.{Tree, Trees, more}
-use Rattle.kmipa_ttlv.specs.ViewTree.{view_tree, view_trees}
-use Rattle.kmipa_ttlv.specs.declared.view.View.{View}
-use Rattle.kmipa_attrs.specs.Fields.{every}
-use Rattle.kmipa_attrs.specs.Tags.{batch_item}
-use Rattle.kmipa_attrs.proofs.FieldLemmas.{tag_of-view, left_at}
+-- Items, one after the other.
+use Rattle.std.proofs.Common.{◌≡◌, ◌+◌, ℕ, suc, List, [], ◌∷◌, ◌++◌, map, length, Result, Ok, Err, refl, sym, ap, ◌∙◌, arith, append_assoc, length-append}
+use Rattle.kmipa_ttlv.specs.Tree.{Tree}
 use Rattle.kmipa_msgs.specs.declared.kind.OutsideKind.{OutsideKind}
 use Rattle.kmipa_msgs.specs.Outside.{before, each_in, from_one}
 
@@ -39,51 +32,38 @@ prefixed_before {X} xs x (Err p) = ap (λ (n : ℕ). err n) (omega (arith, lengt
     err : ℕ → Result (List X) (ℕ × OutsideKind)
     err n = Err (n, p.1)
 
-pub every_at : (tag : ℕ) (v : View) (ts : Trees) (b : Bool) → (v.tag.number == tag) ≡ b → every tag (more (view_tree v) ts) ≡ cond b (view_tree v ∷ every tag ts) (every tag ts)
-unfolding every
-every_at tag v ts b e = ap (λ (n : ℕ). cond (n == tag) (view_tree v ∷ every tag ts) (every tag ts)) (tag_of-view v.tag.number v.value) ∙ ap (λ (k : Bool). cond k (view_tree v ∷ every tag ts) (every tag ts)) e
-
--- the items of what is left
-abbrev pub left_items : {X : Type 0} → (ℕ → Tree → Result X OutsideKind) → ℕ → List View → Result (List X) (ℕ × OutsideKind)
-left_items read i vs = each_in read (every batch_item (view_trees (drop i vs)))
-
 -- the items so far, and those that are left after them
-abbrev pub split_items : {X : Type 0} → (ℕ → Tree → Result X OutsideKind) → List X → ℕ → List View → Result (List X) (ℕ × OutsideKind)
-split_items read xs i vs = prefixed xs (left_items (behind xs read) i vs)
-
-pub items_passed : {X : Type 0} (read : ℕ → Tree → Result X OutsideKind) (xs : List X) (i : ℕ) (vs : List View) (v : View) → i < length vs → v ≡ get_or vs i v → (v.tag.number ≡ batch_item → ⊥)
-    → split_items read xs i vs ≡ split_items read xs (i + 1) vs
-items_passed read xs i vs v h is e = ap (λ (ts : List Tree). prefixed xs (each_in (behind xs read) ts)) (ap (every batch_item) (left_at i vs v h is) ∙ every_at batch_item v _ false (ne_eqb v.tag.number batch_item e))
+abbrev pub split_items : {X : Type 0} → (ℕ → Tree → Result X OutsideKind) → List X → List Tree → Result (List X) (ℕ × OutsideKind)
+split_items read xs ts = prefixed xs (each_in (behind xs read) ts)
 
 -- an item that is met
-items_met : {X : Type 0} (read : ℕ → Tree → Result X OutsideKind) (xs : List X) (r : Result X OutsideKind) (i : ℕ) (vs : List View) (v : View) → i < length vs → v ≡ get_or vs i v → v.tag.number ≡ batch_item
-    → r ≡ read (length xs) (view_tree v) → split_items read xs i vs ≡ prefixed xs (before r (left_items (λ j. behind xs read (suc j)) (i + 1) vs))
-items_met {X} read xs r i vs v h is e re =
-    let rest = left_items (λ j. behind xs read (suc j)) (i + 1) vs in
-    ap (λ (ts : List Tree). prefixed xs (each_in (behind xs read) ts)) (ap (every batch_item) (left_at i vs v h is) ∙ every_at batch_item v _ true (eq-eqb v.tag.number batch_item e))
-    ∙ ap (λ (f : Tree → Result X OutsideKind). prefixed xs (before (f (view_tree v)) rest)) (behind_first xs read 0)
-    ∙ ap (λ (n : ℕ). prefixed xs (before (read n (view_tree v)) rest)) (omega arith)
+items_met : {X : Type 0} (read : ℕ → Tree → Result X OutsideKind) (xs : List X) (r : Result X OutsideKind) (ts us : List Tree) (t : Tree) → ts ≡ t ∷ us
+    → r ≡ read (length xs) t → split_items read xs ts ≡ prefixed xs (before r (each_in (λ j. behind xs read (suc j)) us))
+items_met {X} read xs r ts us t is re =
+    let rest = each_in (λ j. behind xs read (suc j)) us in
+    ap (λ (vs : List Tree). split_items read xs vs) is
+    ∙ ap (λ (f : Tree → Result X OutsideKind). prefixed xs (before (f t) rest)) (behind_first xs read 0)
+    ∙ ap (λ (n : ℕ). prefixed xs (before (read n t) rest)) (omega arith)
     ∙ ap (λ (q : Result X OutsideKind). prefixed xs (before q rest)) (sym re)
 
-pub items_found : {X : Type 0} (read : ℕ → Tree → Result X OutsideKind) (xs ys : List X) (x : X) (i : ℕ) (vs : List View) (v : View) → i < length vs → v ≡ get_or vs i v → v.tag.number ≡ batch_item
-    → Ok x ≡ read (length xs) (view_tree v) → ys ≡ xs ++ x ∷ [] → split_items read xs i vs ≡ split_items read ys (i + 1) vs
-items_found {X} read xs ys x i vs v h is e xe ye =
-    items_met read xs (Ok x) i vs v h is e xe
-    ∙ prefixed_before xs x (left_items (λ j. behind xs read (suc j)) (i + 1) vs)
-    ∙ ap (λ (f : ℕ → Tree → Result X OutsideKind). prefixed (xs ++ x ∷ []) (left_items f (i + 1) vs)) (sym (behind_more xs x read))
-    ∙ ap (λ (zs : List X). split_items read zs (i + 1) vs) (sym ye)
+pub items_found : {X : Type 0} (read : ℕ → Tree → Result X OutsideKind) (xs ys : List X) (x : X) (ts us : List Tree) (t : Tree) → ts ≡ t ∷ us
+    → Ok x ≡ read (length xs) t → ys ≡ xs ++ x ∷ [] → split_items read xs ts ≡ split_items read ys us
+items_found {X} read xs ys x ts us t is xe ye =
+    items_met read xs (Ok x) ts us t is xe
+    ∙ prefixed_before xs x (each_in (λ j. behind xs read (suc j)) us)
+    ∙ ap (λ (f : ℕ → Tree → Result X OutsideKind). prefixed (xs ++ x ∷ []) (each_in f us)) (sym (behind_more xs x read))
+    ∙ ap (λ (zs : List X). split_items read zs us) (sym ye)
 
-pub items_faulty : {X : Type 0} (read : ℕ → Tree → Result X OutsideKind) (xs : List X) (n : ℕ) (k : OutsideKind) (i : ℕ) (vs : List View) (v : View) → i < length vs → v ≡ get_or vs i v → v.tag.number ≡ batch_item
-    → Err k ≡ read (length xs) (view_tree v) → n ≡ length xs → from_one (split_items read xs i vs) ≡ Err (n + 1, k)
-items_faulty {X} read xs n k i vs v h is e ke ne =
-    ap (λ (r : Result (List X) (ℕ × OutsideKind)). from_one r) (items_met read xs (Err k) i vs v h is e ke) ∙ ap (λ (m : ℕ). err m) (omega (arith, ne))
+pub items_faulty : {X : Type 0} (read : ℕ → Tree → Result X OutsideKind) (xs : List X) (n : ℕ) (k : OutsideKind) (ts us : List Tree) (t : Tree) → ts ≡ t ∷ us
+    → Err k ≡ read (length xs) t → n ≡ length xs → from_one (split_items read xs ts) ≡ Err (n + 1, k)
+items_faulty {X} read xs n k ts us t is ke ne =
+    ap (λ (r : Result (List X) (ℕ × OutsideKind)). from_one r) (items_met read xs (Err k) ts us t is ke) ∙ ap (λ (m : ℕ). err m) (omega (arith, ne))
   where
     err : ℕ → Result (List X) (ℕ × OutsideKind)
     err m = Err (m, k)
 
-pub items_done : {X : Type 0} (read : ℕ → Tree → Result X OutsideKind) (xs : List X) (i : ℕ) (vs : List View) → length vs ≤ i → from_one (split_items read xs i vs) ≡ Ok xs
-unfolding every
-items_done {X} read xs i vs h = ap (λ (us : List View). from_one (prefixed xs (each_in (behind xs read) (every batch_item (view_trees us))))) (drop_all i vs h) ∙ ap (λ (zs : List X). ok zs) (append_nil xs)
+pub items_done : {X : Type 0} (read : ℕ → Tree → Result X OutsideKind) (xs : List X) (ts : List Tree) → ts ≡ [] → from_one (split_items read xs ts) ≡ Ok xs
+items_done {X} read xs ts is = ap (λ (us : List Tree). from_one (split_items read xs us)) is ∙ ap (λ (zs : List X). ok zs) (append_nil xs)
   where
     ok : List X → Result (List X) (ℕ × OutsideKind)
     ok zs = Ok zs

@@ -1,11 +1,9 @@
 -- Locates and their answers are read, and written.
 use Rattle.std.proofs.Common.{◌≡◌, ◌<◌, ◌≤◌, ◌+◌, ◌++◌, ◌==◌, ◌||◌, nat_lt, ℕ, ℤ, pos, int_lt, Bool, true, false, cond, List, [], ◌∷◌, map, take, drop, get_or, length, Option, Some, None, Result, Ok, Err, refl, sym, ap, ◌∙◌, subst, inl, inr, append_assoc, eq-eqb}
-use Rattle.std.specs.List.{list_any}
-use Rattle.std.proofs.lemmas.Bool.{ne_eqb}
-use Rattle.std.proofs.lemmas.List.{append-nil, drop_all, map-append}
+use Rattle.std.proofs.lemmas.List.{append-nil, map-append}
 use Rattle.kmipa_ttlv.specs.Tree.{Tree, Trees, Scalar, structure, scalar, none, more, push, forest}
 use Rattle.kmipa_ttlv.specs.Tree
-use Rattle.kmipa_ttlv.specs.ViewTree.{view_tree, view_trees}
+use Rattle.kmipa_ttlv.specs.ViewTree.{view_tree}
 use Rattle.kmipa_ttlv.specs.declared.view.View.{View}
 use Rattle.kmipa_attrs.specs.Attributes.{attr_number, each, Single, SomeWrong, SaysAttributes}
 use Rattle.kmipa_attrs.specs.Fields.{tag_of, every, at, inside, value_in, as_structure, as_text, as_integer, as_enumeration}
@@ -20,7 +18,7 @@ use Rattle.kmipa_attrs.proofs.DistinctLemmas.{distinct-HasNoRepeats}
 use Rattle.kmipa_attrs.proofs.WriteLemmas.{written_said, once-same}
 use Rattle.kmipa_attrs.specs.declared.fault.AttrFault.{AttrFault}
 use Rattle.kmipa_attrs.specs.declared.filter.Filter.{Filter}
-use Rattle.kmipa_attrs.proofs.FieldLemmas.{tag_of-view, left_at}
+use Rattle.kmipa_ttlv.proofs.ViewTreeLemmas.{tag_of-view}
 use Rattle.kmipa_attrs.proofs.FilterLemmas.{reads_filter}
 use Rattle.kmipa_attrs.proofs.ReadingLemmas.{reads_both, reads_as}
 use Rattle.kmipa_msgs.specs.declared.kind.OutsideKind.{OutsideKind}
@@ -91,10 +89,19 @@ seen_locate ts us maximum unknown shape filter rows e s u m n f =
     (f ∙ (λ i. filter_kind (filter_in (m i) (n i) (u i)))))
 
 -- the items that no Locate has
-pub unknown_among : (vs : List View) → list_any (λ (v : View). is_unknown v.tag.number) vs ≡ some_unknown (view_trees vs)
+pub unknown_none : (ts : Trees) → ts ≡ none → some_unknown ts ≡ false
 unfolding some_unknown
-unknown_among [] = refl
-unknown_among (v ∷ vs) = λ i. is_unknown (sym (tag_of-view v.tag.number v.value) i) || unknown_among vs i
+unknown_none ts is = ap some_unknown is
+
+unknown_at : (ts us : Trees) (v : View) (b : Bool) → ts ≡ more (view_tree v) us → is_unknown v.tag.number ≡ b → some_unknown ts ≡ (b || some_unknown us)
+unfolding some_unknown
+unknown_at ts us v b is e = ap some_unknown is ∙ ap (λ (n : ℕ). is_unknown n || some_unknown us) (tag_of-view v.tag.number v.value) ∙ ap (λ (k : Bool). k || some_unknown us) e
+
+pub unknown_found : (ts us : Trees) (v : View) → ts ≡ more (view_tree v) us → is_unknown v.tag.number ≡ true → some_unknown ts ≡ true
+unknown_found ts us v is e = unknown_at ts us v true is e
+
+pub unknown_passed : (ts us : Trees) (v : View) → ts ≡ more (view_tree v) us → is_unknown v.tag.number ≡ false → some_unknown ts ≡ some_unknown us
+unknown_passed ts us v is e = unknown_at ts us v false is e
 
 -- THE ANSWER
 
@@ -128,41 +135,27 @@ behind_one : (ids : List (List ℕ)) (id : List ℕ) (r : Result (List (List ℕ
 behind_one ids id (Ok xs) = ap (λ (ys : List (List ℕ)). Ok ys) (sym (append_assoc ids (id ∷ []) xs))
 behind_one ids id (Err k) = refl
 
-located_at : (t : Tree) (ts : Trees) (b : Bool) (o : Option (List ℕ)) → (tag_of t == unique_identifier) ≡ b → o ≡ as_text t
-    → located_in (more t ts) ≡ cond b (all_held IdentifierForm (o ∷ each as_text unique_identifier ts)) (located_in ts)
-unfolding located_in each every
-located_at t ts true o e h =
-    ap (λ (b : Bool). all_held IdentifierForm (map as_text (cond b (t ∷ every unique_identifier ts) (every unique_identifier ts)))) e
-    ∙ ap (λ (u : Option (List ℕ)). all_held IdentifierForm (u ∷ map as_text (every unique_identifier ts))) (sym h)
-located_at t ts false o e h = ap (λ (b : Bool). all_held IdentifierForm (map as_text (cond b (t ∷ every unique_identifier ts) (every unique_identifier ts)))) e
+-- the next of those that are left
+located_next : (ts us : Trees) (t : Tree) (o : Option (List ℕ)) → every unique_identifier ts ≡ t ∷ every unique_identifier us → o ≡ as_text t
+    → located_in ts ≡ all_held IdentifierForm (o ∷ each as_text unique_identifier us)
+unfolding located_in each
+located_next ts us t o is e =
+    ap (λ (vs : List Tree). all_held IdentifierForm (map as_text vs)) is ∙ ap (λ (u : Option (List ℕ)). all_held IdentifierForm (u ∷ map as_text (every unique_identifier us))) (sym e)
 
 held_rest : (ts : Trees) (id : List ℕ) → all_held IdentifierForm (Some id ∷ each as_text unique_identifier ts) ≡ map_ok (λ xs. id ∷ xs) (located_in ts)
 unfolding located_in
 held_rest ts id = refl
 
-pub located_met : (ids : List (List ℕ)) (i : ℕ) (vs : List View) (v : View) (id : List ℕ) → i < length vs → v ≡ get_or vs i v → v.tag.number ≡ unique_identifier → Some id ≡ as_text (view_tree v)
-    → behind ids (located_in (view_trees (drop i vs))) ≡ behind (ids ++ id ∷ []) (located_in (view_trees (drop (i + 1) vs)))
-located_met ids i vs v id h is e t =
-    let rest = view_trees (drop (i + 1) vs) in
-    ap (λ ts. behind ids (located_in ts)) (left_at i vs v h is)
-    ∙ ap (behind ids) (located_at (view_tree v) rest true (Some id) (ap (λ (n : ℕ). n == unique_identifier) (tag_of-view v.tag.number v.value) ∙ eq-eqb v.tag.number unique_identifier e) t ∙ held_rest rest id)
-    ∙ behind_one ids id (located_in rest)
+pub located_met : (ids : List (List ℕ)) (ts us : Trees) (t : Tree) (id : List ℕ) → every unique_identifier ts ≡ t ∷ every unique_identifier us → Some id ≡ as_text t
+    → behind ids (located_in ts) ≡ behind (ids ++ id ∷ []) (located_in us)
+located_met ids ts us t id is e = ap (behind ids) (located_next ts us t (Some id) is e ∙ held_rest us id) ∙ behind_one ids id (located_in us)
 
-pub located_wrong : (ids : List (List ℕ)) (i : ℕ) (vs : List View) (v : View) → i < length vs → v ≡ get_or vs i v → v.tag.number ≡ unique_identifier → None ≡ as_text (view_tree v)
-    → behind ids (located_in (view_trees (drop i vs))) ≡ Err IdentifierForm
-located_wrong ids i vs v h is e t =
-    ap (λ ts. behind ids (located_in ts)) (left_at i vs v h is)
-    ∙ ap (behind ids) (located_at (view_tree v) (view_trees (drop (i + 1) vs)) true None (ap (λ (n : ℕ). n == unique_identifier) (tag_of-view v.tag.number v.value) ∙ eq-eqb v.tag.number unique_identifier e) t)
+pub located_wrong : (ids : List (List ℕ)) (ts us : Trees) (t : Tree) → every unique_identifier ts ≡ t ∷ every unique_identifier us → None ≡ as_text t → behind ids (located_in ts) ≡ Err IdentifierForm
+located_wrong ids ts us t is e = ap (behind ids) (located_next ts us t None is e)
 
-pub located_passed : (ids : List (List ℕ)) (i : ℕ) (vs : List View) (v : View) → i < length vs → v ≡ get_or vs i v → (v.tag.number ≡ unique_identifier → ⊥)
-    → behind ids (located_in (view_trees (drop i vs))) ≡ behind ids (located_in (view_trees (drop (i + 1) vs)))
-located_passed ids i vs v h is e =
-    ap (λ ts. behind ids (located_in ts)) (left_at i vs v h is)
-    ∙ ap (behind ids) (located_at (view_tree v) (view_trees (drop (i + 1) vs)) false (as_text (view_tree v)) (ap (λ (n : ℕ). n == unique_identifier) (tag_of-view v.tag.number v.value) ∙ ne_eqb v.tag.number unique_identifier e) refl)
-
-pub located_done : (ids : List (List ℕ)) (i : ℕ) (vs : List View) → length vs ≤ i → behind ids (located_in (view_trees (drop i vs))) ≡ Ok ids
-unfolding located_in each every
-located_done ids i vs h = ap (λ (us : List View). behind ids (located_in (view_trees us))) (drop_all i vs h) ∙ ap (λ (xs : List (List ℕ)). Ok xs) (append-nil ids)
+pub located_done : (ids : List (List ℕ)) (ts : Trees) → every unique_identifier ts ≡ [] → behind ids (located_in ts) ≡ Ok ids
+unfolding located_in each
+located_done ids ts is = ap (λ (vs : List Tree). behind ids (all_held IdentifierForm (map as_text vs))) is ∙ ap (λ (xs : List (List ℕ)). Ok xs) (append-nil ids)
 
 -- AS THEY ARE WRITTEN
 

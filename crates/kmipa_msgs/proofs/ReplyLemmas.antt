@@ -1,5 +1,5 @@
 -- The items of responses are read.
-use Rattle.std.proofs.Common.{◌≡◌, ◌<◌, ℕ, zero, suc, false, ◌==◌, List, [], ◌∷◌, length, map, Option, Some, None, Result, Ok, Err, refl, sym, ap, ◌∙◌, subst, inl, inr, arith}
+use Rattle.std.proofs.Common.{◌≡◌, ◌<◌, ℕ, zero, suc, Bool, true, false, not, is_some, MatchOption, ◌==◌, List, length, map, Option, Some, None, Result, Ok, Err, refl, sym, ap, ◌∙◌, subst, inl, inr, arith}
 use Rattle.std.proofs.lemmas.Bool.{ne_eqb}
 use Rattle.std.specs.Option.{option_map}
 use Rattle.std.specs.List.{slice_get}
@@ -7,8 +7,9 @@ use Rattle.std.specs.Slice.{IsItemAt}
 use Rattle.std.proofs.lemmas.Option.{slice_get-map, slice_get_past, slice_get_read}
 use denote.Bor.{Bor}
 use Rattle.kmipa_ttlv.specs.Tree.{Tree, Trees, structure, scalar, none, more}
-use Rattle.kmipa_ttlv.specs.ViewTree.{view_trees}
+use Rattle.kmipa_ttlv.specs.ViewTree.{view_tree, view_trees}
 use Rattle.kmipa_ttlv.specs.declared.view.View.{View}
+use Rattle.kmipa_ttlv.specs.declared.view.Children.{Children}
 use Rattle.kmipa_attrs.specs.Fields.{first, at, value_in, or_none, as_structure, as_enumeration, as_bytes}
 use Rattle.kmipa_attrs.specs.Readings.{Reads, optional, both, map_ok}
 use Rattle.kmipa_attrs.specs.Tags.{operation_tag, response_payload, result_reason, result_status, unique_batch_item_id}
@@ -231,14 +232,25 @@ seen_answer a t ts b plain outcome rows te be e p o =
     (right_seen kind_number outcome_of plain outcome rows (both kind_number (optional (at as_enumeration operation_tag ts) Missing) (optional (at as_enumeration result_reason ts) Missing)) (outcome_in (own a (at as_enumeration operation_tag ts)) ts) e p o)
     ∙ ap (λ (u : Option Trees). whole a (or_none u)) te
 
--- a structure without children
-pub bare : (t : Tree) (vs : List View) → Some (view_trees vs) ≡ as_structure t → is_bare t ≡ (length vs == 0)
+-- a structure without children, and one with some
+pub bare : (t : Tree) (ts : Trees) → Some ts ≡ as_structure t → ts ≡ none → is_bare t ≡ true
 unfolding as_structure
-bare (structure n none) [] e = refl
-bare (structure n none) (v ∷ vs) e = cc
-bare (structure n (more u us)) [] e = cc
-bare (structure n (more u us)) (v ∷ vs) e = sym (ne_eqb (length (v ∷ vs)) 0 (λ h. omega (arith, h)))
-bare (scalar n s) vs e = cc
+bare (structure n none) ts e is = refl
+bare (structure n (more u us)) ts e is = let h : Some ts ≡ Some (more u us) = e in cc
+bare (scalar n s) ts e is = cc
+
+pub filled_in : (t u : Tree) (ts us : Trees) → Some ts ≡ as_structure t → ts ≡ more u us → is_bare t ≡ false
+unfolding as_structure
+filled_in (structure n none) u ts us e is = let h : Some ts ≡ Some none = e in cc
+filled_in (structure n (more w ws)) u ts us e is = refl
+filled_in (scalar n s) u ts us e is = cc
+
+pub empty_is_bare : (t : Tree) (left rest : Children) (next : Option View) (b : Bool) → Some (view_trees left) ≡ as_structure t
+    → MatchOption next (view_trees left ≡ none) (λ v. view_trees left ≡ more (view_tree v) (view_trees rest)) → is_some next ≡ not b → b ≡ is_bare t
+empty_is_bare t left rest None true e is h = sym (bare t (view_trees left) e is)
+empty_is_bare t left rest (Some v) false e is h = sym (filled_in t (view_tree v) (view_trees left) (view_trees rest) e is)
+empty_is_bare t left rest None false e is h = absurd cc
+empty_is_bare t left rest (Some v) true e is h = absurd cc
 
 pub not_bare : (t : Tree) → None ≡ as_structure t → is_bare t ≡ false
 unfolding as_structure

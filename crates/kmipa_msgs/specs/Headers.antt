@@ -3,7 +3,7 @@ use Rattle.std.specs.Prelude.{◌≡◌, ℕ, ℤ, pos, negsuc, Bool, true, fals
 use Rattle.std.specs.Ordering.{int_eq}
 use Rattle.kmipa_ttlv.specs.Tree.{Tree, Trees}
 use Rattle.kmipa_ttlv.specs.ViewTree.{view_trees}
-use Rattle.kmipa_ttlv.specs.declared.view.View.{View}
+use Rattle.kmipa_ttlv.specs.declared.view.Children.{Children}
 use Rattle.kmipa_attrs.specs.Fields.{tag_of, every, at, inside, as_structure, as_integer}
 use Rattle.kmipa_attrs.specs.Tags.{batch_count, batch_item, protocol_version, protocol_version_major, protocol_version_minor}
 use Rattle.kmipa_attrs.specs.declared.fields.Field.{Field}
@@ -11,7 +11,6 @@ use Rattle.kmipa_attrs.specs.declared.fields.Field.TheVariants.{Absent, Wrong, T
 use Rattle.kmipa_msgs.specs.declared.kind.OutsideKind.{OutsideKind}
 use Rattle.kmipa_msgs.specs.declared.kind.OutsideKind.TheVariants.{NotAMessage}
 use Rattle.kmipa_msgs.specs.Tables.{children}
-use denote.Bor.{Bor}
 
 abbrev pub is_structure : Field Trees → Bool
 is_structure Absent = false
@@ -49,9 +48,9 @@ abbrev pub batch : Tree → List Tree
 batch t = every batch_item (children t)
 
 -- the children of the message and of its header, where the item is the message
-abbrev pub Opens : ℕ → ℕ → Tree → Option (Bor (List View) × Bor (List View)) → Type 0
+abbrev pub Opens : ℕ → ℕ → Tree → Option (Children × Children) → Type 0
 Opens message header t None = is_message message header t ≡ false
-Opens message header t (Some p) = (is_message message header t ≡ true) × (view_trees p.0.now ≡ children t) × (view_trees p.1.now ≡ inside header (children t))
+Opens message header t (Some p) = (is_message message header t ≡ true) × (view_trees p.0 ≡ children t) × (view_trees p.1 ≡ inside header (children t))
 
 -- THE READING: nothing else is reported of what is no message
 abbrev pub gated : {A : Type 0} → Bool → Result A OutsideKind → Result A OutsideKind

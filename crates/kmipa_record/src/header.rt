@@ -1,7 +1,8 @@
 //! The headers of the three files.
 
-ghost use Rattle.std.specs.Prelude.{◌≡◌, Bool, IfOk};
+ghost use Rattle.std.specs.Prelude.{◌≡◌, ◌≢◌, Bool, IfOk, MatchOption};
 ghost use Rattle.kmipa_ttlv.specs.ItemTree.{tree};
+ghost use Rattle.kmipa_ttlv.specs.ViewTree.{view_tree};
 ghost use Rattle.kmipa_record.specs.Transcripts.{transcript_header};
 ghost use Rattle.kmipa_record.specs.Declarations.{declaration_header};
 ghost use Rattle.kmipa_record.specs.Witnesses.{witness_header};
@@ -24,18 +25,19 @@ impl Record for TranscriptHeader {
     ghost is_record = { λ item. item ≡ transcript_header };
 
     fn of(_alloc: Global, item: &View) -> Result<Option<TranscriptHeader>, AllocError> {
-        let Some(children) = children_of(item, TRANSCRIPT_HEADER) else {
-            return Ok(None);
-        };
-        let [version] = children else {
-            return Ok(None);
-        };
-        let header = match integer_of(version, VERSION) {
-            Some(1) => Some(TranscriptHeader),
-            _ => None,
-        };
-        Ok(header)
+        Ok(transcript_header_in(item))
     }
+}
+
+fn transcript_header_in(item: &View) -> Option<TranscriptHeader>
+    ensures { MatchOption result (view_tree item.now ≢ transcript_header) (λ _. view_tree item.now ≡ transcript_header) }
+{
+    let mut children = children_of(item, TRANSCRIPT_HEADER)?;
+    let version = integer_of(&children.next()?, VERSION)?;
+    if version != 1 || children.next().is_some() {
+        return None;
+    }
+    Some(TranscriptHeader)
 }
 
 /// The header of a declaration.
@@ -50,20 +52,21 @@ impl Record for DeclarationHeader {
     ghost is_record = { λ item. (unique : Bool) × (item ≡ declaration_header unique) };
 
     fn of(_alloc: Global, item: &View) -> Result<Option<DeclarationHeader>, AllocError> {
-        let Some(children) = children_of(item, DECLARATION_HEADER) else {
-            return Ok(None);
-        };
-        let [version, unique_names] = children else {
-            return Ok(None);
-        };
-        let Some(1) = integer_of(version, VERSION) else {
-            return Ok(None);
-        };
-        let Some(unique_names) = boolean_of(unique_names, UNIQUE_NAMES) else {
-            return Ok(None);
-        };
-        Ok(Some(DeclarationHeader { unique_names }))
+        Ok(declaration_header_in(item))
     }
+}
+
+fn declaration_header_in(item: &View) -> Option<DeclarationHeader>
+    ensures { MatchOption result (¬ ((unique : Bool) × (view_tree item.now ≡ declaration_header unique)))
+        (λ h. view_tree item.now ≡ declaration_header h.unique_names) }
+{
+    let mut children = children_of(item, DECLARATION_HEADER)?;
+    let version = integer_of(&children.next()?, VERSION)?;
+    let unique_names = boolean_of(&children.next()?, UNIQUE_NAMES)?;
+    if version != 1 || children.next().is_some() {
+        return None;
+    }
+    Some(DeclarationHeader { unique_names })
 }
 
 /// The header of a witness.
@@ -78,20 +81,20 @@ impl Record for WitnessHeader {
     ghost is_record = { λ item. (version : Version) × (item ≡ witness_header version) };
 
     fn of(_alloc: Global, item: &View) -> Result<Option<WitnessHeader>, AllocError> {
-        let Some(children) = children_of(item, WITNESS_HEADER) else {
-            return Ok(None);
-        };
-        let [version] = children else {
-            return Ok(None);
-        };
-        let Some(number) = integer_of(version, VERSION) else {
-            return Ok(None);
-        };
-        match version_of(number) {
-            Some(version) => Ok(Some(WitnessHeader { version })),
-            None => Ok(None),
-        }
+        Ok(witness_header_in(item))
     }
+}
+
+fn witness_header_in(item: &View) -> Option<WitnessHeader>
+    ensures { MatchOption result (¬ ((version : Version) × (view_tree item.now ≡ witness_header version)))
+        (λ h. view_tree item.now ≡ witness_header h.version) }
+{
+    let mut children = children_of(item, WITNESS_HEADER)?;
+    let version = version_of(integer_of(&children.next()?, VERSION)?)?;
+    if children.next().is_some() {
+        return None;
+    }
+    Some(WitnessHeader { version })
 }
 
 /// The header of a witness of this version.

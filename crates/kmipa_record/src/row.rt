@@ -15,11 +15,11 @@ use kmipa_ttlv::View;
 pub fn row_in(item: &View) -> Option<Row>
     ensures { MatchOption result ((r : RowOf) → view_tree item.now ≢ row_item r) (λ row. view_tree item.now ≡ row_item (row_of row)) }
 {
-    let children = children_of(item, ROW)?;
-    if children.len() != 2 {
+    let mut children = children_of(item, ROW)?;
+    let reason = enumeration_of(&children.next()?, RESULT_REASON)?;
+    let cause = Cause::of(enumeration_of(&children.next()?, CAUSE)?)?;
+    if children.next().is_some() {
         return None;
     }
-    let reason = enumeration_of(&children[0], RESULT_REASON)?;
-    let cause = Cause::of(enumeration_of(&children[1], CAUSE)?)?;
     Some(Row { reason, cause })
 }

@@ -29,6 +29,3 @@ pub use searching::search_run;
 pub use showing::show_run;
 pub use status::Status;
 pub use writing::write_run;
-
-#[cfg(test)]
-mod tests;

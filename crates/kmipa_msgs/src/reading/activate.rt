@@ -9,11 +9,11 @@ ghost use Rattle.kmipa_msgs.specs.Identifiers.{identifier_in};
 use crate::kind::OutsideKind;
 use crate::reading::identifier::read_identifier;
 use crate::request::Activate;
-use kmipa_ttlv::View;
+use kmipa_ttlv::Children;
 
 /// What the children of an Activate's Request Payload ask for.
-pub fn read_activate<'a>(payload: &[View<'a>]) -> Result<Activate<'a>, OutsideKind>
-    ensures { map_ok activate_of result ≡ identifier_in (view_trees payload.now) }
+pub fn read_activate<'a>(payload: Children<'a>) -> Result<Activate<'a>, OutsideKind>
+    ensures { map_ok activate_of result ≡ identifier_in (view_trees payload.entry) }
 {
     Ok(Activate {
         id: read_identifier(payload)?,

@@ -27,7 +27,7 @@ use kmipa_attrs::tags::{
     BATCH_ITEM, OPERATION, RESPONSE_PAYLOAD, RESULT_REASON, RESULT_STATUS, UNIQUE_BATCH_ITEM_ID,
 };
 use kmipa_attrs::{Field, both};
-use kmipa_ttlv::View;
+use kmipa_ttlv::{Children, View};
 use std::alloc::Global;
 
 /// Result Status of an answer that is still to come.
@@ -36,20 +36,18 @@ const PENDING: u32 = 2;
 /// The items of a message with these children, each beside the request's item at its place, up to the first that is outside.
 pub fn read_answers<'a>(
     alloc: Global,
-    children: &[View<'a>],
+    children: Children<'a>,
     asks: &[Ask],
 ) -> Result<Vec<Answer<'a>>, ReadFault>
-    ensures { Gives answers_of result (from_one (each_in (λ place. answer_in (slice_get (map ask_of asks.now) place)) (every batch_item (view_trees children.now)))) }
+    ensures { Gives answers_of result (from_one (each_in (λ place. answer_in (slice_get (map ask_of asks.now) place)) (every batch_item (view_trees children.entry)))) }
 {
     let mut answers = Vec::with_capacity(alloc, item_count(children))?;
-    let mut place = 0;
-    for child in children {
-        if child.tag.number == BATCH_ITEM {
-            match read_answer(alloc, asks.get(place), child) {
-                Ok(answer) => answers.push(answer)?,
-                Err(unread) => return Err(unread.at(place + 1)),
-            }
-            place += 1;
+    let mut left = children;
+    'children: while let Some(child) = left.next_of(BATCH_ITEM) {
+        let place = answers.len();
+        match read_answer(alloc, asks.get(place), &child) {
+            Ok(answer) => answers.push(answer)?,
+            Err(unread) => return Err(unread.at(place + 1)),
         }
     }
     Ok(answers)
@@ -90,9 +88,9 @@ fn own_operation(ask: Option<&Ask>, field: Field<u32>) -> Option<Operation>
 fn read_outcome<'a>(
     alloc: Global,
     own: Option<Operation>,
-    children: &[View<'a>],
+    children: Children<'a>,
 ) -> Result<(Status, Option<Payload<'a>>), Unread>
-    ensures { Yields outcome_of result (outcome_in own (view_trees children.now)) }
+    ensures { Yields outcome_of result (outcome_in own (view_trees children.entry)) }
 {
     let status = status(enumeration_at(children, RESULT_STATUS))?;
     let payload = shown(alloc, own, status, children)?;
@@ -114,9 +112,9 @@ fn shown<'a>(
     alloc: Global,
     own: Option<Operation>,
     status: Status,
-    children: &[View<'a>],
+    children: Children<'a>,
 ) -> Result<Option<Payload<'a>>, Unread>
-    ensures { Yields (option_map payload_of) result (shown_in own status (first response_payload (view_trees children.now))) }
+    ensures { Yields (option_map payload_of) result (shown_in own status (first response_payload (view_trees children.entry))) }
 {
     let Some(operation) = own else {
         return Ok(None);
@@ -142,31 +140,27 @@ fn judged<'a>(
     alloc: Global,
     operation: Operation,
     status: Status,
-    children: &[View<'a>],
+    children: Children<'a>,
 ) -> Result<Option<Payload<'a>>, Unread>
-    ensures { Yields (option_map payload_of) result (judged_in operation status (first response_payload (view_trees children.now))) }
+    ensures { Yields (option_map payload_of) result (judged_in operation status (first response_payload (view_trees children.entry))) }
 {
     match (status, first(children, RESPONSE_PAYLOAD)) {
         (Status::Failed, _) => Ok(None),
-        (Status::Success, None) => absent(alloc, operation, children),
+        (Status::Success, None) => absent(alloc, operation),
         (Status::Undone, None) => Ok(None),
-        (Status::Undone, Some(view)) if is_empty(view) => Ok(None),
-        (_, Some(view)) => Ok(Some(read_payload_of(alloc, operation, view)?)),
+        (Status::Undone, Some(view)) if is_empty(&view) => Ok(None),
+        (_, Some(view)) => Ok(Some(read_payload_of(alloc, operation, &view)?)),
     }
 }
 
 /// What an absent payload shows of what was done: where one may be absent, as much as an empty one.
-fn absent<'a>(
-    alloc: Global,
-    operation: Operation,
-    children: &[View<'a>],
-) -> Result<Option<Payload<'a>>, Unread>
+fn absent<'a>(alloc: Global, operation: Operation) -> Result<Option<Payload<'a>>, Unread>
     ensures { Yields (option_map payload_of) result (required_in operation (or_empty operation None)) }
 {
     if !operation.may_be_bare() {
         return Err(Unread::Outside(OutsideKind::Missing));
     }
-    Ok(Some(read_done(alloc, operation, &children[..0])?))
+    Ok(Some(read_done(alloc, operation, Children::none())?))
 }
 
 /// Whether an item is a structure without children.
@@ -174,7 +168,7 @@ fn is_empty(view: &View) -> bool
     ensures { result ≡ is_bare (view_tree view.now) }
 {
     match as_structure(view) {
-        Some(children) => children.is_empty(),
+        Some(mut children) => children.next().is_none(),
         None => false,
     }
 }

@@ -20,26 +20,23 @@ use crate::request::{Ask, Asked};
 use kmipa_attrs::Field;
 use kmipa_attrs::fields::{as_structure, bytes_at, enumeration_at, inside, structure_at};
 use kmipa_attrs::tags::{BATCH_ITEM, OPERATION, REQUEST_PAYLOAD, UNIQUE_BATCH_ITEM_ID};
-use kmipa_ttlv::View;
+use kmipa_ttlv::{Children, View};
 use std::alloc::Global;
 
 /// The items of a message with these children, up to the first that is outside.
 pub fn read_asks<'a>(
     alloc: Global,
     unordered: bool,
-    children: &[View<'a>],
+    children: Children<'a>,
 ) -> Result<Vec<Ask<'a>>, ReadFault>
-    ensures { Gives asks_of result (from_one (each_in (λ place. item_in unordered) (every batch_item (view_trees children.now)))) }
+    ensures { Gives asks_of result (from_one (each_in (λ place. item_in unordered) (every batch_item (view_trees children.entry)))) }
 {
     let mut asks = Vec::with_capacity(alloc, item_count(children))?;
-    let mut place = 0;
-    for child in children {
-        if child.tag.number == BATCH_ITEM {
-            match read_item(alloc, unordered, child) {
-                Ok(ask) => asks.push(ask)?,
-                Err(unread) => return Err(unread.at(place + 1)),
-            }
-            place += 1;
+    let mut left = children;
+    'children: while let Some(child) = left.next_of(BATCH_ITEM) {
+        match read_item(alloc, unordered, &child) {
+            Ok(ask) => asks.push(ask)?,
+            Err(unread) => return Err(unread.at(asks.len() + 1)),
         }
     }
     Ok(asks)
@@ -83,8 +80,8 @@ fn read_ask<'a>(alloc: Global, view: &View<'a>) -> Result<Ask<'a>, Unread>
     })
 }
 
-fn operation(children: &[View]) -> Result<Operation, OutsideKind>
-    ensures { result ≡ operation_in (view_trees children.now) }
+fn operation(children: Children) -> Result<Operation, OutsideKind>
+    ensures { result ≡ operation_in (view_trees children.entry) }
 {
     match enumeration_at(children, OPERATION) {
         Field::There(number) => Ok(Operation::of(number)),
@@ -96,9 +93,9 @@ fn operation(children: &[View]) -> Result<Operation, OutsideKind>
 fn read_request_payload<'a>(
     alloc: Global,
     operation: Operation,
-    children: &[View<'a>],
+    children: Children<'a>,
 ) -> Result<Asked<'a>, Unread>
-    ensures { Yields asked_of result (payload_asked operation (view_trees children.now)) }
+    ensures { Yields asked_of result (payload_asked operation (view_trees children.entry)) }
 {
     let shape = payload_shape(operation, children);
     let asked = read_asked(alloc, operation, inside(children, REQUEST_PAYLOAD));
@@ -107,8 +104,8 @@ fn read_request_payload<'a>(
 }
 
 /// That a Request Payload is a structure, where it is read.
-fn payload_shape(operation: Operation, children: &[View]) -> Result<(), OutsideKind>
-    ensures { result ≡ form_in operation (at as_structure request_payload (view_trees children.now)) }
+fn payload_shape(operation: Operation, children: Children) -> Result<(), OutsideKind>
+    ensures { result ≡ form_in operation (at as_structure request_payload (view_trees children.entry)) }
 {
     if !operation.is_judged() {
         return Ok(());

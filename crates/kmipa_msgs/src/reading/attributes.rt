@@ -15,12 +15,12 @@ use crate::reading::unread::Unread;
 use kmipa_attrs::fields::{enumeration_at, structure_at};
 use kmipa_attrs::tags::{ATTRIBUTES, OBJECT_TYPE};
 use kmipa_attrs::{AttrSet, Field, ObjectType, Side, read_children};
-use kmipa_ttlv::View;
+use kmipa_ttlv::Children;
 use std::alloc::Global;
 
 /// The attributes that a side gives in a payload; without Attributes there are none.
-pub fn read_attributes(alloc: Global, payload: &[View], side: Side) -> Result<AttrSet, Unread>
-    ensures { Yields attributes_of result (given_in side (at as_structure attributes_tag (view_trees payload.now))) }
+pub fn read_attributes(alloc: Global, payload: Children, side: Side) -> Result<AttrSet, Unread>
+    ensures { Yields attributes_of result (given_in side (at as_structure attributes_tag (view_trees payload.entry))) }
 {
     match structure_at(payload, ATTRIBUTES) {
         Field::There(children) => Ok(read_children(alloc, children, side)?),
@@ -30,8 +30,8 @@ pub fn read_attributes(alloc: Global, payload: &[View], side: Side) -> Result<At
 }
 
 /// That an Object Type attribute has a number of a judged type.
-pub fn type_known(attributes: &[View]) -> Result<(), OutsideKind>
-    ensures { result ≡ unless_unlisted (at as_enumeration object_type_tag (view_trees attributes.now)) type_of OutsideKind.ObjectType }
+pub fn type_known(attributes: Children) -> Result<(), OutsideKind>
+    ensures { result ≡ unless_unlisted (at as_enumeration object_type_tag (view_trees attributes.entry)) type_of OutsideKind.ObjectType }
 {
     match enumeration_at(attributes, OBJECT_TYPE) {
         Field::There(number) if ObjectType::of(number).is_none() => Err(OutsideKind::ObjectType),

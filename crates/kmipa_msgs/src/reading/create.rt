@@ -20,13 +20,13 @@ use kmipa_attrs::tags::{
     OBJECT_TYPE,
 };
 use kmipa_attrs::{AttrSet, Field, ObjectType, Side, both};
-use kmipa_ttlv::View;
+use kmipa_ttlv::Children;
 use std::alloc::Global;
 
 /// What the children of a Create's Request Payload ask for.
 #[tactic(auto, unfolding(crate::specs::Creates::create_in))]
-pub fn read_create(alloc: Global, payload: &[View]) -> Result<Create, Unread>
-    ensures { Yields (λ c. attributes_of c.attributes) result (create_in (view_trees payload.now)) }
+pub fn read_create(alloc: Global, payload: Children) -> Result<Create, Unread>
+    ensures { Yields (λ c. attributes_of c.attributes) result (create_in (view_trees payload.entry)) }
 {
     let attributes = read_new_key(alloc, payload)?;
     if !is_of_key(&attributes) {
@@ -36,8 +36,8 @@ pub fn read_create(alloc: Global, payload: &[View]) -> Result<Create, Unread>
 }
 
 /// The attributes of the new key, before its type is compared.
-fn read_new_key(alloc: Global, payload: &[View]) -> Result<AttrSet, Unread>
-    ensures { Yields attributes_of result (new_key_in (view_trees payload.now)) }
+fn read_new_key(alloc: Global, payload: Children) -> Result<AttrSet, Unread>
+    ensures { Yields attributes_of result (new_key_in (view_trees payload.entry)) }
 {
     let given = inside(payload, ATTRIBUTES);
     let types = both(type_created(payload), type_known(given));
@@ -47,8 +47,8 @@ fn read_new_key(alloc: Global, payload: &[View]) -> Result<AttrSet, Unread>
 }
 
 /// The Object Type of what is created: a Symmetric Key.
-fn type_created(payload: &[View]) -> Result<ObjectType, OutsideKind>
-    ensures { result ≡ listed (at as_enumeration object_type_tag (view_trees payload.now)) created_of OutsideKind.Missing OutsideKind.ObjectType }
+fn type_created(payload: Children) -> Result<ObjectType, OutsideKind>
+    ensures { result ≡ listed (at as_enumeration object_type_tag (view_trees payload.entry)) created_of OutsideKind.Missing OutsideKind.ObjectType }
 {
     match enumeration_at(payload, OBJECT_TYPE) {
         Field::There(number) if number == ObjectType::SymmetricKey.number() => {
@@ -60,8 +60,8 @@ fn type_created(payload: &[View]) -> Result<ObjectType, OutsideKind>
 }
 
 /// That there are an algorithm, a length and a usage mask.
-fn described(attributes: &[View]) -> Result<(((), ()), ()), OutsideKind>
-    ensures { result ≡ described_rows (view_trees attributes.now) }
+fn described(attributes: Children) -> Result<(((), ()), ()), OutsideKind>
+    ensures { result ≡ described_rows (view_trees attributes.entry) }
 {
     let algorithm = unless_absent(attributes, CRYPTOGRAPHIC_ALGORITHM, OutsideKind::Missing);
     let length = unless_absent(attributes, CRYPTOGRAPHIC_LENGTH, OutsideKind::Missing);

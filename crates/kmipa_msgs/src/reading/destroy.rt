@@ -9,11 +9,11 @@ ghost use Rattle.kmipa_msgs.specs.Identifiers.{identifier_in};
 use crate::kind::OutsideKind;
 use crate::reading::identifier::read_identifier;
 use crate::request::Destroy;
-use kmipa_ttlv::View;
+use kmipa_ttlv::Children;
 
 /// What the children of a Destroy's Request Payload ask for.
-pub fn read_destroy<'a>(payload: &[View<'a>]) -> Result<Destroy<'a>, OutsideKind>
-    ensures { map_ok destroy_of result ≡ identifier_in (view_trees payload.now) }
+pub fn read_destroy<'a>(payload: Children<'a>) -> Result<Destroy<'a>, OutsideKind>
+    ensures { map_ok destroy_of result ≡ identifier_in (view_trees payload.entry) }
 {
     Ok(Destroy {
         id: read_identifier(payload)?,

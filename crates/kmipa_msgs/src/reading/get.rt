@@ -19,12 +19,12 @@ use crate::response::Got;
 use kmipa_attrs::fields::{enumeration_at, text_at};
 use kmipa_attrs::tags::{KEY_WRAPPING_SPECIFICATION, OBJECT_TYPE, UNIQUE_IDENTIFIER};
 use kmipa_attrs::{Field, ObjectType, both};
-use kmipa_ttlv::View;
+use kmipa_ttlv::Children;
 
 /// What the children of a Get's Request Payload ask for.
 #[tactic(auto, unfolding(crate::specs::Gets::get_in))]
-pub fn read_get<'a>(payload: &[View<'a>]) -> Result<Get<'a>, OutsideKind>
-    ensures { map_ok id_of result ≡ get_in (view_trees payload.now) }
+pub fn read_get<'a>(payload: Children<'a>) -> Result<Get<'a>, OutsideKind>
+    ensures { map_ok id_of result ≡ get_in (view_trees payload.entry) }
 {
     let unwrapped = unless_there(payload, KEY_WRAPPING_SPECIFICATION, OutsideKind::Wrapped);
     let id = text_at(payload, UNIQUE_IDENTIFIER).optional(OutsideKind::IdentifierForm);
@@ -33,8 +33,8 @@ pub fn read_get<'a>(payload: &[View<'a>]) -> Result<Get<'a>, OutsideKind>
 }
 
 /// What the children of a Get's Response Payload show.
-pub fn read_got<'a>(payload: &[View<'a>]) -> Result<Got<'a>, OutsideKind>
-    ensures { map_ok got_of result ≡ got_in (view_trees payload.now) }
+pub fn read_got<'a>(payload: Children<'a>) -> Result<Got<'a>, OutsideKind>
+    ensures { map_ok got_of result ≡ got_in (view_trees payload.entry) }
 {
     let id = text_at(payload, UNIQUE_IDENTIFIER).optional(OutsideKind::IdentifierForm);
     let types = both(type_shown(payload), read_shape(payload));
@@ -48,8 +48,8 @@ pub fn read_got<'a>(payload: &[View<'a>]) -> Result<Got<'a>, OutsideKind>
     })
 }
 
-fn type_shown(payload: &[View]) -> Result<Option<ObjectType>, OutsideKind>
-    ensures { result ≡ maybe_listed (at as_enumeration object_type_tag (view_trees payload.now)) type_of OutsideKind.Missing OutsideKind.ObjectType }
+fn type_shown(payload: Children) -> Result<Option<ObjectType>, OutsideKind>
+    ensures { result ≡ maybe_listed (at as_enumeration object_type_tag (view_trees payload.entry)) type_of OutsideKind.Missing OutsideKind.ObjectType }
 {
     match enumeration_at(payload, OBJECT_TYPE) {
         Field::There(number) => {

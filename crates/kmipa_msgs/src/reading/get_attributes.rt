@@ -8,23 +8,23 @@ ghost use Rattle.kmipa_msgs.specs.Yields.{Yields};
 
 use crate::reading::attributes::{read_attributes, type_known};
 use crate::reading::identifier::read_identifier;
-use crate::reading::rows::{both_read, count};
+use crate::reading::rows::both_read;
 use crate::reading::unread::Unread;
 use crate::request::GetAttributes;
 use crate::response::GotAttributes;
 use kmipa_attrs::fields::{as_enumeration, first, inside};
 use kmipa_attrs::tags::{ATTRIBUTE_REFERENCE, ATTRIBUTES, UNIQUE_IDENTIFIER};
 use kmipa_attrs::{Side, both};
-use kmipa_ttlv::View;
+use kmipa_ttlv::{Children, View};
 use std::alloc::{AllocError, Global};
 
 /// What the children of a Get Attributes's Request Payload ask for.
 #[tactic(auto, unfolding(crate::specs::GetsAttributes::get_attributes_in))]
 pub fn read_get_attributes<'a>(
     alloc: Global,
-    payload: &[View<'a>],
+    payload: Children<'a>,
 ) -> Result<GetAttributes<'a>, Unread>
-    ensures { Yields get_attributes_of result (get_attributes_in (view_trees payload.now)) }
+    ensures { Yields get_attributes_of result (get_attributes_in (view_trees payload.entry)) }
 {
     Ok(GetAttributes {
         id: read_identifier(payload)?,
@@ -35,12 +35,13 @@ pub fn read_get_attributes<'a>(
 }
 
 /// The tags that Attribute References name as Enumerations.
-fn read_references(alloc: Global, payload: &[View]) -> Result<Vec<u32>, AllocError>
-    ensures { IfOk result (λ tags. tags.items ≡ references (view_trees payload.now)) }
+fn read_references(alloc: Global, payload: Children) -> Result<Vec<u32>, AllocError>
+    ensures { IfOk result (λ tags. tags.items ≡ references (view_trees payload.entry)) }
 {
-    let mut tags = Vec::with_capacity(alloc, count(payload, ATTRIBUTE_REFERENCE))?;
-    for child in payload {
-        if let Some(tag) = reference(child) {
+    let mut tags = Vec::with_capacity(alloc, payload.count_of(ATTRIBUTE_REFERENCE))?;
+    let mut left = payload;
+    'children: while let Some(child) = left.next_of(ATTRIBUTE_REFERENCE) {
+        if let Some(tag) = as_enumeration(&child) {
             tags.push(tag)?;
         }
     }
@@ -59,24 +60,25 @@ fn reference(view: &View) -> Option<u32>
 }
 
 /// Whether there is an Attribute Reference of any type.
-fn is_selective(payload: &[View]) -> bool
-    ensures { result ≡ is_selective (view_trees payload.now) }
+fn is_selective(payload: Children) -> bool
+    ensures { result ≡ is_selective (view_trees payload.entry) }
 {
     first(payload, ATTRIBUTE_REFERENCE).is_some()
 }
 
 /// Whether there is an item beside the identifier and Attribute References as Enumerations.
-fn has_others(payload: &[View]) -> bool
-    ensures { result ≡ has_others (view_trees payload.now) }
+fn has_others(payload: Children) -> bool
+    ensures { result ≡ has_others (view_trees payload.entry) }
 {
-    some_other(payload) || count(payload, UNIQUE_IDENTIFIER) > 1
+    some_other(payload) || payload.count_of(UNIQUE_IDENTIFIER) > 1
 }
 
-fn some_other(payload: &[View]) -> bool
-    ensures { result ≡ some_other (view_trees payload.now) }
+fn some_other(payload: Children) -> bool
+    ensures { result ≡ some_other (view_trees payload.entry) }
 {
-    for child in payload {
-        if is_other(child) {
+    let mut left = payload;
+    'children: while let Some(child) = left.next() {
+        if is_other(&child) {
             return true;
         }
     }
@@ -94,9 +96,9 @@ fn is_other(view: &View) -> bool
 #[tactic(auto, unfolding(crate::specs::GetsAttributes::got_attributes_in))]
 pub fn read_got_attributes<'a>(
     alloc: Global,
-    payload: &[View<'a>],
+    payload: Children<'a>,
 ) -> Result<GotAttributes<'a>, Unread>
-    ensures { Yields got_attributes_of result (got_attributes_in (view_trees payload.now)) }
+    ensures { Yields got_attributes_of result (got_attributes_in (view_trees payload.entry)) }
 {
     let type_known = type_known(inside(payload, ATTRIBUTES));
     let id = read_identifier(payload);

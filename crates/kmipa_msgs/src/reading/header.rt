@@ -1,24 +1,24 @@
 //! What the headers of requests and responses share.
 
-ghost use Rattle.std.specs.Prelude.{◌≡◌, ◌==◌, count_by};
+ghost use Rattle.std.specs.Prelude.{◌≡◌, length};
 ghost use Rattle.kmipa_ttlv.specs.ViewTree.{view_tree, view_trees};
+ghost use Rattle.kmipa_attrs.specs.Fields.{every};
 ghost use Rattle.kmipa_attrs.specs.Tags.{batch_item};
 ghost use Rattle.kmipa_msgs.specs.Headers.{is_number, is_version, counts, is_count, Opens};
 
-use crate::reading::rows::count;
 use kmipa_attrs::Field;
 use kmipa_attrs::fields::{as_structure, inside, integer_at, structure_at};
 use kmipa_attrs::tags::{
     BATCH_COUNT, BATCH_ITEM, PROTOCOL_VERSION, PROTOCOL_VERSION_MAJOR, PROTOCOL_VERSION_MINOR,
 };
-use kmipa_ttlv::View;
+use kmipa_ttlv::{Children, View};
 
 /// The children of a message and those of its header, where the item is the message with this tag.
-pub fn message_parts<'a, 'b>(
-    message: &'b View<'a>,
+pub fn message_parts<'a>(
+    message: &View<'a>,
     tag: u32,
     header: u32,
-) -> Option<(&'b [View<'a>], &'b [View<'a>])>
+) -> Option<(Children<'a>, Children<'a>)>
     ensures { Opens tag header (view_tree message.now) result }
 {
     if message.tag.number != tag {
@@ -34,15 +34,15 @@ pub fn message_parts<'a, 'b>(
 }
 
 /// How many Batch Items there are.
-pub fn item_count(children: &[View]) -> usize
-    ensures { result ≡ count_by (λ v. v.tag.number == batch_item) children.now }
+pub fn item_count(children: Children) -> usize
+    ensures { result ≡ length (every batch_item (view_trees children.entry)) }
 {
-    count(children, BATCH_ITEM)
+    children.count_of(BATCH_ITEM)
 }
 
 /// Whether the Protocol Version in a header is 2.1.
-pub fn is_version(header: &[View]) -> bool
-    ensures { result ≡ is_version (view_trees header.now) }
+pub fn is_version(header: Children) -> bool
+    ensures { result ≡ is_version (view_trees header.entry) }
 {
     let version = inside(header, PROTOCOL_VERSION);
     is_number(integer_at(version, PROTOCOL_VERSION_MAJOR), 2)
@@ -50,8 +50,8 @@ pub fn is_version(header: &[View]) -> bool
 }
 
 /// Whether the Batch Count in a header is the number of items, and there are some.
-pub fn is_count(header: &[View], items: usize) -> bool
-    ensures { result ≡ is_count (view_trees header.now) items }
+pub fn is_count(header: Children, items: usize) -> bool
+    ensures { result ≡ is_count (view_trees header.entry) items }
 {
     match integer_at(header, BATCH_COUNT) {
         Field::There(count) => counts(count, items),

@@ -19,12 +19,12 @@ use kmipa_attrs::tags::{
     KEY_WRAPPING_DATA,
 };
 use kmipa_attrs::{Field, both};
-use kmipa_ttlv::View;
+use kmipa_ttlv::Children;
 
 /// The key that the children of a Key Block say.
 #[tactic(auto, unfolding(crate::specs::KeyBlocks::block_in))]
-pub fn read_key_block<'a>(block: &[View<'a>]) -> Result<KeyBlock<'a>, OutsideKind>
-    ensures { map_ok block_of result ≡ block_in (view_trees block.now) }
+pub fn read_key_block<'a>(block: Children<'a>) -> Result<KeyBlock<'a>, OutsideKind>
+    ensures { map_ok block_of result ≡ block_in (view_trees block.entry) }
 {
     let algorithm = enumeration_at(block, CRYPTOGRAPHIC_ALGORITHM).optional(OutsideKind::Missing);
     let length = integer_at(block, CRYPTOGRAPHIC_LENGTH).optional(OutsideKind::Missing);
@@ -49,8 +49,8 @@ pub fn read_key_block<'a>(block: &[View<'a>]) -> Result<KeyBlock<'a>, OutsideKin
     })
 }
 
-fn format(block: &[View]) -> Result<KeyFormat, OutsideKind>
-    ensures { result ≡ listed (at as_enumeration key_format_type (view_trees block.now)) format_of OutsideKind.Missing OutsideKind.Format }
+fn format(block: Children) -> Result<KeyFormat, OutsideKind>
+    ensures { result ≡ listed (at as_enumeration key_format_type (view_trees block.entry)) format_of OutsideKind.Missing OutsideKind.Format }
 {
     match enumeration_at(block, KEY_FORMAT_TYPE) {
         Field::There(number) => KeyFormat::of(number).ok_or(OutsideKind::Format),
@@ -59,8 +59,8 @@ fn format(block: &[View]) -> Result<KeyFormat, OutsideKind>
 }
 
 /// That there is a Key Value.
-fn value_there(block: &[View]) -> Result<(), OutsideKind>
-    ensures { result ≡ there (at as_structure key_value (view_trees block.now)) OutsideKind.Missing OutsideKind.Format }
+fn value_there(block: Children) -> Result<(), OutsideKind>
+    ensures { result ≡ there (at as_structure key_value (view_trees block.entry)) OutsideKind.Missing OutsideKind.Format }
 {
     match structure_at(block, KEY_VALUE) {
         Field::There(_) => Ok(()),

@@ -1,7 +1,6 @@
 //! Locate and its answer.
 
 ghost use Rattle.std.specs.Prelude.{◌≡◌};
-ghost use Rattle.std.specs.List.{list_any};
 ghost use Rattle.kmipa_ttlv.specs.ViewTree.{view_trees};
 ghost use Rattle.kmipa_attrs.specs.Fields.{at, as_structure};
 ghost use Rattle.kmipa_attrs.specs.Filters.{filter_of, filter_in, is_repeated};
@@ -13,19 +12,19 @@ ghost use Rattle.kmipa_msgs.specs.Yields.{Yields};
 
 use crate::kind::OutsideKind;
 use crate::reading::attributes::type_known;
-use crate::reading::rows::{both_read, count, unless_wrong};
+use crate::reading::rows::{both_read, unless_wrong};
 use crate::reading::unread::Unread;
 use crate::request::Locate;
 use crate::response::Located;
 use kmipa_attrs::fields::{as_text, inside, integer_at, structure_at};
 use kmipa_attrs::tags::{ATTRIBUTES, MAXIMUM_ITEMS, UNIQUE_IDENTIFIER};
 use kmipa_attrs::{Field, Filter, both, read_filter_children};
-use kmipa_ttlv::View;
+use kmipa_ttlv::Children;
 use std::alloc::Global;
 
 /// What the children of a Locate's Request Payload ask for.
-pub fn read_locate(alloc: Global, payload: &[View]) -> Result<Locate, Unread>
-    ensures { Yields locate_of result (locate_in (view_trees payload.now)) }
+pub fn read_locate(alloc: Global, payload: Children) -> Result<Locate, Unread>
+    ensures { Yields locate_of result (locate_in (view_trees payload.entry)) }
 {
     let given = inside(payload, ATTRIBUTES);
     let maximum = integer_at(payload, MAXIMUM_ITEMS);
@@ -38,8 +37,8 @@ pub fn read_locate(alloc: Global, payload: &[View]) -> Result<Locate, Unread>
 }
 
 /// That Attributes are a structure, where they are there.
-fn attributes_shape(payload: &[View]) -> Result<(), OutsideKind>
-    ensures { result ≡ unless_wrong (at as_structure attributes_tag (view_trees payload.now)) OutsideKind.Missing }
+fn attributes_shape(payload: Children) -> Result<(), OutsideKind>
+    ensures { result ≡ unless_wrong (at as_structure attributes_tag (view_trees payload.entry)) OutsideKind.Missing }
 {
     match structure_at(payload, ATTRIBUTES) {
         Field::Wrong => Err(OutsideKind::Missing),
@@ -50,41 +49,41 @@ fn attributes_shape(payload: &[View]) -> Result<(), OutsideKind>
 /// The filter that the children of Attributes say beside a Maximum Items and whether there is an unknown item.
 fn sought(
     alloc: Global,
-    attributes: &[View],
+    attributes: Children,
     maximum: Option<i32>,
     is_unknown: bool,
 ) -> Result<Filter, Unread>
-    ensures { Yields filter_of result (filter_kind (filter_in maximum is_unknown (view_trees attributes.now))) }
+    ensures { Yields filter_of result (filter_kind (filter_in maximum is_unknown (view_trees attributes.entry))) }
 {
     Ok(read_filter_children(alloc, attributes, maximum, is_unknown)?)
 }
 
 /// Whether there is an item beside one Maximum Items and one Attributes.
-fn has_unknown(payload: &[View]) -> bool
-    ensures { result ≡ has_unknown (view_trees payload.now) }
+fn has_unknown(payload: Children) -> bool
+    ensures { result ≡ has_unknown (view_trees payload.entry) }
 {
     some_unknown(payload)
         || (is_repeated(payload, MAXIMUM_ITEMS) || is_repeated(payload, ATTRIBUTES))
 }
 
 /// Whether a second child has the tag.
-fn is_repeated(payload: &[View], tag: u32) -> bool
-    ensures { result ≡ is_repeated tag (view_trees payload.now) }
+fn is_repeated(payload: Children, tag: u32) -> bool
+    ensures { result ≡ is_repeated tag (view_trees payload.entry) }
 {
-    count(payload, tag) > 1
+    payload.count_of(tag) > 1
 }
 
 /// Whether some item is neither Maximum Items nor Attributes.
-fn some_unknown(payload: &[View]) -> bool
-    ensures { result ≡ some_unknown (view_trees payload.now) }
+fn some_unknown(payload: Children) -> bool
+    ensures { result ≡ some_unknown (view_trees payload.entry) }
 {
-    any_unknown(payload)
-}
-
-fn any_unknown(payload: &[View]) -> bool
-    ensures { result ≡ list_any (λ v. is_unknown v.tag.number) payload.now }
-{
-    payload.iter().any(|child| is_unknown(child.tag.number))
+    let mut left = payload;
+    'children: while let Some(child) = left.next() {
+        if is_unknown(child.tag.number) {
+            return true;
+        }
+    }
+    false
 }
 
 fn is_unknown(tag: u32) -> bool
@@ -94,17 +93,16 @@ fn is_unknown(tag: u32) -> bool
 }
 
 /// The identifiers that the children of a Locate's Response Payload list.
-pub fn read_located<'a>(alloc: Global, payload: &[View<'a>]) -> Result<Located<'a>, Unread>
-    ensures { Yields located_of result (located_in (view_trees payload.now)) }
+pub fn read_located<'a>(alloc: Global, payload: Children<'a>) -> Result<Located<'a>, Unread>
+    ensures { Yields located_of result (located_in (view_trees payload.entry)) }
 {
-    let mut ids = Vec::with_capacity(alloc, count(payload, UNIQUE_IDENTIFIER))?;
-    for child in payload {
-        if child.tag.number == UNIQUE_IDENTIFIER {
-            let Some(id) = as_text(child) else {
-                return Err(Unread::Outside(OutsideKind::IdentifierForm));
-            };
-            ids.push(id)?;
-        }
+    let mut ids = Vec::with_capacity(alloc, payload.count_of(UNIQUE_IDENTIFIER))?;
+    let mut left = payload;
+    'children: while let Some(child) = left.next_of(UNIQUE_IDENTIFIER) {
+        let Some(id) = as_text(&child) else {
+            return Err(Unread::Outside(OutsideKind::IdentifierForm));
+        };
+        ids.push(id)?;
     }
     Ok(Located { ids })
 }

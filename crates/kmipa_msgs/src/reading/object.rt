@@ -10,34 +10,35 @@ use crate::kind::OutsideKind;
 use kmipa_attrs::ObjectType;
 use kmipa_attrs::fields::{as_structure, inside};
 use kmipa_attrs::tags::{KEY_BLOCK, SECRET_DATA, SYMMETRIC_KEY};
-use kmipa_ttlv::View;
+use kmipa_ttlv::{Children, View};
 
 /// The type that the object's tag tells.
-pub fn read_shape(payload: &[View]) -> Result<ObjectType, OutsideKind>
-    ensures { result ≡ needed (shape_in (view_trees payload.now)) OutsideKind.Missing OutsideKind.Missing }
+pub fn read_shape(payload: Children) -> Result<ObjectType, OutsideKind>
+    ensures { result ≡ needed (shape_in (view_trees payload.entry)) OutsideKind.Missing OutsideKind.Missing }
 {
     let view = object(payload).ok_or(OutsideKind::Missing)?;
     Ok(shape_of(view.tag.number))
 }
 
 /// The children of the object's Key Block.
-pub fn block_inside<'a, 'b>(payload: &'b [View<'a>]) -> &'b [View<'a>]
-    ensures { view_trees result.now ≡ block_inside (view_trees payload.now) }
+pub fn block_inside<'a>(payload: Children<'a>) -> Children<'a>
+    ensures { view_trees result ≡ block_inside (view_trees payload.entry) }
 {
     let Some(view) = object(payload) else {
-        return inside(&payload[..0], KEY_BLOCK);
+        return Children::none();
     };
-    let Some(children) = as_structure(view) else {
-        return inside(&payload[..0], KEY_BLOCK);
+    let Some(children) = as_structure(&view) else {
+        return Children::none();
     };
     inside(children, KEY_BLOCK)
 }
 
 /// The first child with either of the two tags.
-fn object<'a, 'b>(payload: &'b [View<'a>]) -> Option<&'b View<'a>>
-    ensures { option_map (λ v. view_tree v.now) result ≡ object_in (view_trees payload.now) }
+fn object<'a>(payload: Children<'a>) -> Option<View<'a>>
+    ensures { option_map view_tree result ≡ object_in (view_trees payload.entry) }
 {
-    for child in payload {
+    let mut left = payload;
+    'children: while let Some(child) = left.next() {
         if is_object(child.tag.number) {
             return Some(child);
         }

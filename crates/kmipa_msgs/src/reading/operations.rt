@@ -20,16 +20,16 @@ use crate::reading::revoke::read_revoke;
 use crate::reading::unread::Unread;
 use crate::request::Asked;
 use crate::response::Payload;
-use kmipa_ttlv::View;
+use kmipa_ttlv::Children;
 use std::alloc::Global;
 
 /// What the children of a Request Payload ask for.
 pub fn read_asked<'a>(
     alloc: Global,
     operation: Operation,
-    payload: &[View<'a>],
+    payload: Children<'a>,
 ) -> Result<Asked<'a>, Unread>
-    ensures { Yields asked_of result (asked_in operation (view_trees payload.now)) }
+    ensures { Yields asked_of result (asked_in operation (view_trees payload.entry)) }
 {
     match operation {
         Operation::Create => Ok(Asked::Create(read_create(alloc, payload)?)),
@@ -49,9 +49,9 @@ pub fn read_asked<'a>(
 pub fn read_done<'a>(
     alloc: Global,
     operation: Operation,
-    payload: &[View<'a>],
+    payload: Children<'a>,
 ) -> Result<Payload<'a>, Unread>
-    ensures { Yields payload_of result (done_in operation (view_trees payload.now)) }
+    ensures { Yields payload_of result (done_in operation (view_trees payload.entry)) }
 {
     match operation {
         Operation::Create => Ok(Payload::Create(read_registered(payload)?)),

@@ -24,13 +24,13 @@ use crate::response::Registered;
 use kmipa_attrs::fields::{enumeration_at, inside, text_at};
 use kmipa_attrs::tags::{ATTRIBUTES, OBJECT_TYPE, UNIQUE_IDENTIFIER};
 use kmipa_attrs::{Field, ObjectType, Side, both};
-use kmipa_ttlv::View;
+use kmipa_ttlv::Children;
 use std::alloc::Global;
 
 /// What the children of a Register's Request Payload bring.
 #[tactic(auto, unfolding(crate::specs::Registers::register_in))]
-pub fn read_register<'a>(alloc: Global, payload: &[View<'a>]) -> Result<Register<'a>, Unread>
-    ensures { Yields register_of result (register_in (view_trees payload.now)) }
+pub fn read_register<'a>(alloc: Global, payload: Children<'a>) -> Result<Register<'a>, Unread>
+    ensures { Yields register_of result (register_in (view_trees payload.entry)) }
 {
     let brought = read_brought(alloc, payload)?;
     if !brought.agrees() {
@@ -43,8 +43,8 @@ pub fn read_register<'a>(alloc: Global, payload: &[View<'a>]) -> Result<Register
     })
 }
 
-fn read_brought<'a>(alloc: Global, payload: &[View<'a>]) -> Result<Brought<'a>, Unread>
-    ensures { Yields brought_of result (brought_in (view_trees payload.now)) }
+fn read_brought<'a>(alloc: Global, payload: Children<'a>) -> Result<Brought<'a>, Unread>
+    ensures { Yields brought_of result (brought_in (view_trees payload.entry)) }
 {
     let types = both(type_brought(payload), read_shape(payload));
     let type_known = type_known(inside(payload, ATTRIBUTES));
@@ -60,8 +60,8 @@ fn read_brought<'a>(alloc: Global, payload: &[View<'a>]) -> Result<Brought<'a>, 
     })
 }
 
-fn type_brought(payload: &[View]) -> Result<ObjectType, OutsideKind>
-    ensures { result ≡ listed (at as_enumeration object_type_tag (view_trees payload.now)) type_of OutsideKind.Missing OutsideKind.ObjectType }
+fn type_brought(payload: Children) -> Result<ObjectType, OutsideKind>
+    ensures { result ≡ listed (at as_enumeration object_type_tag (view_trees payload.entry)) type_of OutsideKind.Missing OutsideKind.ObjectType }
 {
     match enumeration_at(payload, OBJECT_TYPE) {
         Field::There(number) => ObjectType::of(number).ok_or(OutsideKind::ObjectType),
@@ -71,8 +71,8 @@ fn type_brought(payload: &[View]) -> Result<ObjectType, OutsideKind>
 
 /// What the children of the Response Payload of a Create or a Register say.
 #[tactic(auto, unfolding(crate::specs::Registers::registered_in))]
-pub fn read_registered<'a>(payload: &[View<'a>]) -> Result<Registered<'a>, OutsideKind>
-    ensures { map_ok registered_of result ≡ registered_in (view_trees payload.now) }
+pub fn read_registered<'a>(payload: Children<'a>) -> Result<Registered<'a>, OutsideKind>
+    ensures { map_ok registered_of result ≡ registered_in (view_trees payload.entry) }
 {
     let object_type = enumeration_at(payload, OBJECT_TYPE).optional(OutsideKind::Missing);
     let id = text_at(payload, UNIQUE_IDENTIFIER).needed(

@@ -18,7 +18,7 @@ use kmipa_attrs::tags::{
     BATCH_ERROR_CONTINUATION_OPTION, BATCH_ORDER_OPTION, REQUEST_HEADER, REQUEST_MESSAGE,
 };
 use kmipa_attrs::{Field, both, passing};
-use kmipa_ttlv::View;
+use kmipa_ttlv::{Children, View};
 use std::alloc::Global;
 
 /// The request that an item says, else where and why it is outside the profile.
@@ -48,8 +48,8 @@ fn request<'a>(alloc: Global, message: &View<'a>) -> Result<Request<'a>, ReadFau
 
 /// What a header says before so many items: the option, and whether they are to be done in order.
 #[tactic(auto, unfolding(crate::specs::Requests::order_said))]
-fn request_header(header: &[View], items: usize) -> Result<(BatchOption, bool), OutsideKind>
-    ensures { result ≡ order_said (view_trees header.now) items }
+fn request_header(header: Children, items: usize) -> Result<(BatchOption, bool), OutsideKind>
+    ensures { result ≡ order_said (view_trees header.entry) items }
 {
     let version = passing(is_version(header), (), OutsideKind::Version);
     let count = passing(is_count(header, items), (), OutsideKind::Count);
@@ -60,8 +60,8 @@ fn request_header(header: &[View], items: usize) -> Result<(BatchOption, bool), 
 }
 
 /// Stop where no option is there.
-fn batch_option(header: &[View]) -> Result<BatchOption, OutsideKind>
-    ensures { result ≡ option_in (at as_enumeration batch_error_continuation_option (view_trees header.now)) }
+fn batch_option(header: Children) -> Result<BatchOption, OutsideKind>
+    ensures { result ≡ option_in (at as_enumeration batch_error_continuation_option (view_trees header.entry)) }
 {
     match enumeration_at(header, BATCH_ERROR_CONTINUATION_OPTION) {
         Field::There(number) => BatchOption::of(number).ok_or(OutsideKind::Missing),
@@ -71,8 +71,8 @@ fn batch_option(header: &[View]) -> Result<BatchOption, OutsideKind>
 }
 
 /// True where no option is there.
-fn ordered(header: &[View]) -> Result<bool, OutsideKind>
-    ensures { result ≡ order_in (at as_boolean batch_order_option (view_trees header.now)) }
+fn ordered(header: Children) -> Result<bool, OutsideKind>
+    ensures { result ≡ order_in (at as_boolean batch_order_option (view_trees header.entry)) }
 {
     match boolean_at(header, BATCH_ORDER_OPTION) {
         Field::There(ordered) => Ok(ordered),
@@ -82,8 +82,8 @@ fn ordered(header: &[View]) -> Result<bool, OutsideKind>
 }
 
 /// Whether there are several items in no order.
-fn is_loose(header: &[View], items: usize) -> bool
-    ensures { result ≡ is_loose (at as_boolean batch_order_option (view_trees header.now)) items }
+fn is_loose(header: Children, items: usize) -> bool
+    ensures { result ≡ is_loose (at as_boolean batch_order_option (view_trees header.entry)) items }
 {
     match boolean_at(header, BATCH_ORDER_OPTION) {
         Field::There(false) => items > 1,

@@ -15,7 +15,7 @@ use crate::response::Response;
 use kmipa_attrs::fields::date_at;
 use kmipa_attrs::tags::{RESPONSE_HEADER, RESPONSE_MESSAGE, TIME_STAMP};
 use kmipa_attrs::{both, passing};
-use kmipa_ttlv::View;
+use kmipa_ttlv::{Children, View};
 use std::alloc::Global;
 
 /// The response to a request that an item says, else where and why it is outside the profile.
@@ -47,8 +47,8 @@ fn response<'a>(
 
 /// The Time Stamp of a header before so many items.
 #[tactic(auto, unfolding(crate::specs::Responses::stamp_said))]
-fn response_header(header: &[View], items: usize) -> Result<i64, OutsideKind>
-    ensures { result ≡ stamp_said (view_trees header.now) items }
+fn response_header(header: Children, items: usize) -> Result<i64, OutsideKind>
+    ensures { result ≡ stamp_said (view_trees header.entry) items }
 {
     let version = passing(is_version(header), (), OutsideKind::Version);
     let count = passing(is_count(header, items), (), OutsideKind::Count);

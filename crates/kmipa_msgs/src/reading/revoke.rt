@@ -12,12 +12,12 @@ use crate::request::Revoke;
 use kmipa_attrs::both;
 use kmipa_attrs::fields::{enumeration_at, inside};
 use kmipa_attrs::tags::{REVOCATION_REASON, REVOCATION_REASON_CODE};
-use kmipa_ttlv::View;
+use kmipa_ttlv::Children;
 
 /// What the children of a Revoke's Request Payload ask for.
 #[tactic(auto, unfolding(crate::specs::Revokes::revoke_in))]
-pub fn read_revoke<'a>(payload: &[View<'a>]) -> Result<Revoke<'a>, OutsideKind>
-    ensures { map_ok revoke_of result ≡ revoke_in (view_trees payload.now) }
+pub fn read_revoke<'a>(payload: Children<'a>) -> Result<Revoke<'a>, OutsideKind>
+    ensures { map_ok revoke_of result ≡ revoke_in (view_trees payload.entry) }
 {
     let reason = inside(payload, REVOCATION_REASON);
     let code = enumeration_at(reason, REVOCATION_REASON_CODE).needed(

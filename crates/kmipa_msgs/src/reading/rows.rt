@@ -1,6 +1,6 @@
 //! Rows that several structures share.
 
-ghost use Rattle.std.specs.Prelude.{◌≡◌, ◌==◌, count_by};
+ghost use Rattle.std.specs.Prelude.{◌≡◌};
 ghost use Rattle.kmipa_ttlv.specs.ViewTree.{view_trees};
 ghost use Rattle.kmipa_attrs.specs.Fields.{first};
 ghost use Rattle.kmipa_msgs.specs.Tables.{unless_there, unless_absent, unless_wrong};
@@ -10,21 +10,11 @@ use crate::kind::OutsideKind;
 use crate::reading::unread::Unread;
 use kmipa_attrs::fields::first;
 use kmipa_attrs::{Field, both};
-use kmipa_ttlv::View;
-
-/// How many children have the tag.
-pub fn count(children: &[View], tag: u32) -> usize
-    ensures { result ≡ count_by (λ v. v.tag.number == tag) children.now }
-{
-    children
-        .iter()
-        .filter(|child| child.tag.number == tag)
-        .count()
-}
+use kmipa_ttlv::Children;
 
 /// That no child has the tag.
-pub fn unless_there(children: &[View], tag: u32, kind: OutsideKind) -> Result<(), OutsideKind>
-    ensures { result ≡ unless_there (first tag (view_trees children.now)) kind }
+pub fn unless_there(children: Children, tag: u32, kind: OutsideKind) -> Result<(), OutsideKind>
+    ensures { result ≡ unless_there (first tag (view_trees children.entry)) kind }
 {
     if first(children, tag).is_some() {
         return Err(kind);
@@ -33,8 +23,8 @@ pub fn unless_there(children: &[View], tag: u32, kind: OutsideKind) -> Result<()
 }
 
 /// That some child has the tag.
-pub fn unless_absent(children: &[View], tag: u32, kind: OutsideKind) -> Result<(), OutsideKind>
-    ensures { result ≡ unless_absent (first tag (view_trees children.now)) kind }
+pub fn unless_absent(children: Children, tag: u32, kind: OutsideKind) -> Result<(), OutsideKind>
+    ensures { result ≡ unless_absent (first tag (view_trees children.entry)) kind }
 {
     if first(children, tag).is_none() {
         return Err(kind);

@@ -147,7 +147,7 @@ const GOOD_RESPONSES: [&[(usize, u8)]; 9] = [
 fn lifecycle_requests_outside(rt: HostRuntime) -> Result<(), Fail> {
     for (edits, item, kind) in &BAD_REQUESTS {
         let bytes = changed(&rt, &LIFECYCLE, edits)?;
-        let (view, _) = decode_view(rt.alloc(), &bytes)?;
+        let (view, _) = decode_view(&bytes)?;
         let reported = place_of(read_request(rt.alloc(), &view));
         assert_eq!(rt; reported, Some((*item, kind.number())));
     }
@@ -156,11 +156,11 @@ fn lifecycle_requests_outside(rt: HostRuntime) -> Result<(), Fail> {
 
 #[test]
 fn lifecycle_responses_outside(rt: HostRuntime) -> Result<(), Fail> {
-    let (asked, _) = decode_view(rt.alloc(), &LIFECYCLE)?;
+    let (asked, _) = decode_view(&LIFECYCLE)?;
     let request = read_request(rt.alloc(), &asked)?;
     for (edits, item, kind) in &BAD_RESPONSES {
         let bytes = changed(&rt, &LIFECYCLE_ANSWERED, edits)?;
-        let (view, _) = decode_view(rt.alloc(), &bytes)?;
+        let (view, _) = decode_view(&bytes)?;
         let reported = place_of(read_response(rt.alloc(), &view, &request));
         assert_eq!(rt; reported, Some((*item, kind.number())));
     }
@@ -171,15 +171,15 @@ fn lifecycle_responses_outside(rt: HostRuntime) -> Result<(), Fail> {
 fn lifecycle_messages_inside(rt: HostRuntime) -> Result<(), Fail> {
     for edits in &GOOD_REQUESTS {
         let bytes = changed(&rt, &LIFECYCLE, edits)?;
-        let (view, _) = decode_view(rt.alloc(), &bytes)?;
+        let (view, _) = decode_view(&bytes)?;
         let request = read_request(rt.alloc(), &view)?;
         assert_eq!(rt; request.items.len(), 5);
     }
-    let (asked, _) = decode_view(rt.alloc(), &LIFECYCLE)?;
+    let (asked, _) = decode_view(&LIFECYCLE)?;
     let request = read_request(rt.alloc(), &asked)?;
     for edits in &GOOD_RESPONSES {
         let bytes = changed(&rt, &LIFECYCLE_ANSWERED, edits)?;
-        let (view, _) = decode_view(rt.alloc(), &bytes)?;
+        let (view, _) = decode_view(&bytes)?;
         let response = read_response(rt.alloc(), &view, &request)?;
         assert_eq!(rt; response.items.len(), 5);
     }
@@ -188,7 +188,7 @@ fn lifecycle_messages_inside(rt: HostRuntime) -> Result<(), Fail> {
 
 #[test]
 fn a_lifecycle_is_asked_for(rt: HostRuntime) -> Result<(), Fail> {
-    let (asked, _) = decode_view(rt.alloc(), &LIFECYCLE)?;
+    let (asked, _) = decode_view(&LIFECYCLE)?;
     let request = read_request(rt.alloc(), &asked)?;
     let [create, get, activate, revoke, destroy] = request.items.as_slice() else {
         return Err(Fail::from("five items"));
@@ -228,7 +228,7 @@ type Shape = (usize, bool, bool);
 
 fn shape_of(rt: &HostRuntime, edits: &[(usize, u8)]) -> Result<Shape, Fail> {
     let bytes = changed(rt, &LIFECYCLE, edits)?;
-    let (view, _) = decode_view(rt.alloc(), &bytes)?;
+    let (view, _) = decode_view(&bytes)?;
     let request = read_request(rt.alloc(), &view)?;
     let Some(ask) = request.items.as_slice().get(1) else {
         return Err(Fail::from("a second item"));
@@ -259,9 +259,9 @@ fn references_and_other_items(rt: HostRuntime) -> Result<(), Fail> {
 
 #[test]
 fn lifecycle_answers(rt: HostRuntime) -> Result<(), Fail> {
-    let (asked, _) = decode_view(rt.alloc(), &LIFECYCLE)?;
+    let (asked, _) = decode_view(&LIFECYCLE)?;
     let request = read_request(rt.alloc(), &asked)?;
-    let (answered, _) = decode_view(rt.alloc(), &LIFECYCLE_ANSWERED)?;
+    let (answered, _) = decode_view(&LIFECYCLE_ANSWERED)?;
     let response = read_response(rt.alloc(), &answered, &request)?;
     let [created, got, activated, _, _] = response.items.as_slice() else {
         return Err(Fail::from("five answers"));
@@ -288,10 +288,10 @@ fn lifecycle_answers(rt: HostRuntime) -> Result<(), Fail> {
 
 /// The payload of the Activate's answer: that there is none, or its identifier.
 fn activated(rt: &HostRuntime, edits: &[(usize, u8)]) -> Result<Option<bool>, Fail> {
-    let (asked, _) = decode_view(rt.alloc(), &LIFECYCLE)?;
+    let (asked, _) = decode_view(&LIFECYCLE)?;
     let request = read_request(rt.alloc(), &asked)?;
     let bytes = changed(rt, &LIFECYCLE_ANSWERED, edits)?;
-    let (view, _) = decode_view(rt.alloc(), &bytes)?;
+    let (view, _) = decode_view(&bytes)?;
     let response = read_response(rt.alloc(), &view, &request)?;
     match response.items.as_slice().get(2) {
         Some(answer) => match &answer.payload {
@@ -313,12 +313,12 @@ fn absent_payloads(rt: HostRuntime) -> Result<(), Fail> {
 
 #[test]
 fn a_lifecycle_is_written_back(rt: HostRuntime) -> Result<(), Fail> {
-    let (asked, _) = decode_view(rt.alloc(), &LIFECYCLE)?;
+    let (asked, _) = decode_view(&LIFECYCLE)?;
     let request = read_request(rt.alloc(), &asked)?;
     assert_eq!(rt; request.items.len(), 5);
     let bytes = bytes_of(&rt, &write_request(rt.alloc(), &request)?)?;
     assert_eq!(rt; bytes.as_slice(), LIFECYCLE.as_slice());
-    let (answered, _) = decode_view(rt.alloc(), &LIFECYCLE_ANSWERED)?;
+    let (answered, _) = decode_view(&LIFECYCLE_ANSWERED)?;
     let response = read_response(rt.alloc(), &answered, &request)?;
     assert_eq!(rt; response.items.len(), 5);
     let bytes = bytes_of(&rt, &write_response(rt.alloc(), &response)?)?;
@@ -337,10 +337,10 @@ fn reported_of(
     response: &[(usize, u8)],
 ) -> Result<Option<(usize, u8)>, Fail> {
     let bytes = changed(rt, &QUERY, request)?;
-    let (view, _) = decode_view(rt.alloc(), &bytes)?;
+    let (view, _) = decode_view(&bytes)?;
     let request = read_request(rt.alloc(), &view)?;
     let bytes = changed(rt, &ANSWERED_QUERY, response)?;
-    let (view, _) = decode_view(rt.alloc(), &bytes)?;
+    let (view, _) = decode_view(&bytes)?;
     let read = read_response(rt.alloc(), &view, &request);
     if let Ok(response) = &read {
         for answer in &response.items {
@@ -376,14 +376,14 @@ fn operations_that_are_not_judged(rt: HostRuntime) -> Result<(), Fail> {
 
 #[test]
 fn no_payload_answers_a_query(rt: HostRuntime) -> Result<(), Fail> {
-    let (view, _) = decode_view(rt.alloc(), &QUERY)?;
+    let (view, _) = decode_view(&QUERY)?;
     let request = read_request(rt.alloc(), &view)?;
     let Some(query) = request.items.as_slice().first() else {
         return Err(Fail::from("an item"));
     };
     assert_eq!(rt; query.number(), 0x18);
     let empty = [0x42, 0, 0x7C, 1, 0, 0, 0, 0];
-    let (view, _) = decode_view(rt.alloc(), &empty)?;
+    let (view, _) = decode_view(&empty)?;
     let reported = place_of(read_payload(rt.alloc(), &view, query));
     assert_eq!(rt; reported, Some((0, OutsideKind::Missing.number())));
     Ok(())

@@ -11,7 +11,7 @@ use std::test::*;
 
 #[test]
 fn a_locate_is_asked_for(rt: HostRuntime) -> Result<(), Fail> {
-    let (view, _) = decode_view(rt.alloc(), &LOCATE)?;
+    let (view, _) = decode_view(&LOCATE)?;
     let request = read_request(rt.alloc(), &view)?;
     let Some(ask) = request.items.as_slice().first() else {
         return Err(Fail::from("an item"));
@@ -36,14 +36,14 @@ fn a_locate_is_asked_for(rt: HostRuntime) -> Result<(), Fail> {
 /// Where a changed Locate is outside.
 fn reported_of(rt: &HostRuntime, edits: &[(usize, u8)]) -> Result<Option<(usize, u8)>, Fail> {
     let bytes = changed(rt, &LOCATE, edits)?;
-    let (view, _) = decode_view(rt.alloc(), &bytes)?;
+    let (view, _) = decode_view(&bytes)?;
     Ok(place_of(read_request(rt.alloc(), &view)))
 }
 
 /// Whether a changed Locate has something that isn't judged.
 fn is_loose(rt: &HostRuntime, edits: &[(usize, u8)]) -> Result<bool, Fail> {
     let bytes = changed(rt, &LOCATE, edits)?;
-    let (view, _) = decode_view(rt.alloc(), &bytes)?;
+    let (view, _) = decode_view(&bytes)?;
     let request = read_request(rt.alloc(), &view)?;
     match request.items.as_slice().first() {
         Some(ask) => match &ask.asked {
@@ -86,10 +86,10 @@ fn what_loosens_a_locate(rt: HostRuntime) -> Result<(), Fail> {
 
 /// How many identifiers a changed answer lists, and whether a witness has to give its payload.
 fn listed(rt: &HostRuntime, edits: &[(usize, u8)]) -> Result<(Option<usize>, bool), Fail> {
-    let (asked, _) = decode_view(rt.alloc(), &LOCATE)?;
+    let (asked, _) = decode_view(&LOCATE)?;
     let request = read_request(rt.alloc(), &asked)?;
     let bytes = changed(rt, &LOCATED, edits)?;
-    let (view, _) = decode_view(rt.alloc(), &bytes)?;
+    let (view, _) = decode_view(&bytes)?;
     let response = read_response(rt.alloc(), &view, &request)?;
     let (Some(ask), Some(answer)) = (
         request.items.as_slice().first(),
@@ -118,10 +118,10 @@ fn located_identifiers(rt: HostRuntime) -> Result<(), Fail> {
 
 #[test]
 fn an_identifier_of_another_type(rt: HostRuntime) -> Result<(), Fail> {
-    let (asked, _) = decode_view(rt.alloc(), &LOCATE)?;
+    let (asked, _) = decode_view(&LOCATE)?;
     let request = read_request(rt.alloc(), &asked)?;
     let bytes = changed(&rt, &LOCATED, &[(155, 8)])?;
-    let (view, _) = decode_view(rt.alloc(), &bytes)?;
+    let (view, _) = decode_view(&bytes)?;
     let reported = place_of(read_response(rt.alloc(), &view, &request));
     assert_eq!(rt; reported, Some((1, OutsideKind::IdentifierForm.number())));
     Ok(())
@@ -129,13 +129,13 @@ fn an_identifier_of_another_type(rt: HostRuntime) -> Result<(), Fail> {
 
 #[test]
 fn an_empty_fill_lists_nothing(rt: HostRuntime) -> Result<(), Fail> {
-    let (asked, _) = decode_view(rt.alloc(), &LOCATE)?;
+    let (asked, _) = decode_view(&LOCATE)?;
     let request = read_request(rt.alloc(), &asked)?;
     let Some(ask) = request.items.as_slice().first() else {
         return Err(Fail::from("an item"));
     };
     let empty = [0x42, 0, 0x7C, 1, 0, 0, 0, 0];
-    let (view, _) = decode_view(rt.alloc(), &empty)?;
+    let (view, _) = decode_view(&empty)?;
     let Payload::Locate(located) = read_payload(rt.alloc(), &view, ask)? else {
         return Err(Fail::from("the answer of a Locate"));
     };
@@ -145,9 +145,9 @@ fn an_empty_fill_lists_nothing(rt: HostRuntime) -> Result<(), Fail> {
 
 #[test]
 fn an_answered_locate_is_written_back(rt: HostRuntime) -> Result<(), Fail> {
-    let (asked, _) = decode_view(rt.alloc(), &LOCATE)?;
+    let (asked, _) = decode_view(&LOCATE)?;
     let request = read_request(rt.alloc(), &asked)?;
-    let (answered, _) = decode_view(rt.alloc(), &LOCATED)?;
+    let (answered, _) = decode_view(&LOCATED)?;
     let response = read_response(rt.alloc(), &answered, &request)?.copy(rt.alloc())?;
     assert_eq!(rt; response.items.len(), 1);
     let bytes = bytes_of(&rt, &write_response(rt.alloc(), &response)?)?;

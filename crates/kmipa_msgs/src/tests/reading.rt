@@ -199,7 +199,7 @@ const GOOD_RESPONSES: [&[(usize, u8)]; 6] = [
 fn requests_outside(rt: HostRuntime) -> Result<(), Fail> {
     for (edits, item, kind) in &BAD_REQUESTS {
         let bytes = changed(&rt, &REGISTER_AND_GET, edits)?;
-        let (view, _) = decode_view(rt.alloc(), &bytes)?;
+        let (view, _) = decode_view(&bytes)?;
         let reported = place_of(read_request(rt.alloc(), &view));
         assert_eq!(rt; reported, Some((*item, kind.number())));
     }
@@ -208,11 +208,11 @@ fn requests_outside(rt: HostRuntime) -> Result<(), Fail> {
 
 #[test]
 fn responses_outside(rt: HostRuntime) -> Result<(), Fail> {
-    let (asked, _) = decode_view(rt.alloc(), &REGISTER_AND_GET)?;
+    let (asked, _) = decode_view(&REGISTER_AND_GET)?;
     let request = read_request(rt.alloc(), &asked)?;
     for (edits, item, kind) in &BAD_RESPONSES {
         let bytes = changed(&rt, &REGISTERED_AND_GOT, edits)?;
-        let (view, _) = decode_view(rt.alloc(), &bytes)?;
+        let (view, _) = decode_view(&bytes)?;
         let reported = place_of(read_response(rt.alloc(), &view, &request));
         assert_eq!(rt; reported, Some((*item, kind.number())));
     }
@@ -223,7 +223,7 @@ fn responses_outside(rt: HostRuntime) -> Result<(), Fail> {
 fn requests_inside(rt: HostRuntime) -> Result<(), Fail> {
     for edits in &GOOD_REQUESTS {
         let bytes = changed(&rt, &REGISTER_AND_GET, edits)?;
-        let (view, _) = decode_view(rt.alloc(), &bytes)?;
+        let (view, _) = decode_view(&bytes)?;
         let request = read_request(rt.alloc(), &view)?;
         assert_eq!(rt; request.items.len(), 2);
     }
@@ -232,11 +232,11 @@ fn requests_inside(rt: HostRuntime) -> Result<(), Fail> {
 
 #[test]
 fn responses_inside(rt: HostRuntime) -> Result<(), Fail> {
-    let (asked, _) = decode_view(rt.alloc(), &REGISTER_AND_GET)?;
+    let (asked, _) = decode_view(&REGISTER_AND_GET)?;
     let request = read_request(rt.alloc(), &asked)?;
     for edits in &GOOD_RESPONSES {
         let bytes = changed(&rt, &REGISTERED_AND_GOT, edits)?;
-        let (view, _) = decode_view(rt.alloc(), &bytes)?;
+        let (view, _) = decode_view(&bytes)?;
         let response = read_response(rt.alloc(), &view, &request)?;
         assert_eq!(rt; response.items.len(), 2);
     }
@@ -245,7 +245,7 @@ fn responses_inside(rt: HostRuntime) -> Result<(), Fail> {
 
 #[test]
 fn spelled_example(rt: HostRuntime) -> Result<(), Fail> {
-    let (asked, _) = decode_view(rt.alloc(), &GET_K1)?;
+    let (asked, _) = decode_view(&GET_K1)?;
     let request = read_request(rt.alloc(), &asked)?;
     assert_eq!(rt; request.option, BatchOption::Stop);
     assert!(rt; request.ordered);
@@ -258,7 +258,7 @@ fn spelled_example(rt: HostRuntime) -> Result<(), Fail> {
         return Err(Fail::from("a Get"));
     };
     assert_eq!(rt; get.id, Some("k1"));
-    let (answered, _) = decode_view(rt.alloc(), &GOT_K1)?;
+    let (answered, _) = decode_view(&GOT_K1)?;
     let response = read_response(rt.alloc(), &answered, &request)?;
     assert_eq!(rt; response.stamp, 1_700_000_000);
     let [answer] = response.items.as_slice() else {
@@ -286,7 +286,7 @@ fn spelled_example(rt: HostRuntime) -> Result<(), Fail> {
 
 #[test]
 fn a_register_is_read(rt: HostRuntime) -> Result<(), Fail> {
-    let (asked, _) = decode_view(rt.alloc(), &REGISTER_AND_GET)?;
+    let (asked, _) = decode_view(&REGISTER_AND_GET)?;
     let request = read_request(rt.alloc(), &asked)?;
     assert_eq!(rt; request.option, BatchOption::Undo);
     let [first, second] = request.items.as_slice() else {
@@ -303,7 +303,7 @@ fn a_register_is_read(rt: HostRuntime) -> Result<(), Fail> {
     assert_eq!(rt; register.attributes.names.len(), 1);
     assert_eq!(rt; register.block.length, Some(128));
     let undone = changed(&rt, &REGISTERED_AND_GOT, &[(139, 3), (146, 0x79), (235, 3)])?;
-    let (answered, _) = decode_view(rt.alloc(), &undone)?;
+    let (answered, _) = decode_view(&undone)?;
     let response = read_response(rt.alloc(), &answered, &request)?;
     let [registered, got] = response.items.as_slice() else {
         return Err(Fail::from("two answers"));
@@ -315,7 +315,7 @@ fn a_register_is_read(rt: HostRuntime) -> Result<(), Fail> {
 
 #[test]
 fn a_payload_alone(rt: HostRuntime) -> Result<(), Fail> {
-    let (asked, _) = decode_view(rt.alloc(), &REGISTER_AND_GET)?;
+    let (asked, _) = decode_view(&REGISTER_AND_GET)?;
     let request = read_request(rt.alloc(), &asked)?;
     let Some(register) = request.items.as_slice().first() else {
         return Err(Fail::from("an item"));
@@ -324,13 +324,13 @@ fn a_payload_alone(rt: HostRuntime) -> Result<(), Fail> {
     let fill = [
         0x42, 0, 0x7C, 1, 0, 0, 0, 0x10, 0x42, 0, 0x94, 7, 0, 0, 0, 2, 0x78, 0x31, 0, 0, 0, 0, 0, 0,
     ];
-    let (view, _) = decode_view(rt.alloc(), &fill)?;
+    let (view, _) = decode_view(&fill)?;
     let Payload::Register(registered) = read_payload(rt.alloc(), &view, register)? else {
         return Err(Fail::from("the answer of a Register"));
     };
     assert_eq!(rt; registered.id, "x1");
     let empty = [0x42, 0, 0x7C, 1, 0, 0, 0, 0];
-    let (view, _) = decode_view(rt.alloc(), &empty)?;
+    let (view, _) = decode_view(&empty)?;
     let reported = place_of(read_payload(rt.alloc(), &view, register));
     assert_eq!(rt; reported, Some((0, OutsideKind::Missing.number())));
     Ok(())

@@ -159,12 +159,12 @@ fn optional_fields_of_responses(rt: HostRuntime) -> Result<(), Fail> {
 
 #[test]
 fn read_and_written_back(rt: HostRuntime) -> Result<(), Fail> {
-    let (message, _) = decode_view(rt.alloc(), &GET_K1)?;
+    let (message, _) = decode_view(&GET_K1)?;
     let request = read_request(rt.alloc(), &message)?;
     assert_eq!(rt; request.items.len(), 1);
     let bytes = bytes_of(&rt, &write_request(rt.alloc(), &request)?)?;
     assert_eq!(rt; bytes.as_slice(), GET_K1.as_slice());
-    let (message, _) = decode_view(rt.alloc(), &GOT_K1)?;
+    let (message, _) = decode_view(&GOT_K1)?;
     let response = read_response(rt.alloc(), &message, &request)?;
     assert_eq!(rt; response.items.len(), 1);
     let bytes = bytes_of(&rt, &write_response(rt.alloc(), &response)?)?;

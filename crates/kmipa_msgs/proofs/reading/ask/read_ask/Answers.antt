@@ -10,7 +10,7 @@ use Rattle.kmipa_msgs.proofs.reading.ask.read_ask.Goals as goal
 pub returns-in_err-children : goal.returns-in_err-children
 returns-in_err-children c =
     let t = view_tree c.args.view.now in
-    let none = sym (ap (option_map (λ vs. view_trees vs.now)) c.in_err-children.ensures.ok_part) ∙ c.as_structure.ensures in
+    let none = sym (ap (option_map view_trees) c.in_err-children.ensures.ok_part) ∙ c.as_structure.ensures in
     let kind = kind_left c.as_structure.result Missing c.in_err-children.field-0.0 c.in_err-children.ensures.value in
     let p = err_from_is_err_and c.from_residual.result c.from_residual.ensures.1 in
     rw (p.1, p.2, kind) (no_ask t none)

@@ -17,8 +17,8 @@ use Rattle.kmipa_msgs.proofs.reading.create.read_new_key.Goals as goal
 
 pub returns-in_err-attributes : goal.returns-in_err-attributes
 returns-in_err-attributes c =
-    let ts = view_trees c.args.payload.now in
-    let us = view_trees c.inside-given.result.now in
+    let ts = view_trees c.args.payload in
+    let us = view_trees c.inside-given.result in
     let known = c.type_known.ensures ∙ ap (λ vs. unless_unlisted (at as_enumeration object_type_tag vs) type_of ObjectType) c.inside-given.ensures in
     let types = joined kind_number _ _ c.both-types.result _ _ c.both-types.ensures c.type_created.ensures known in
     let plain = joined kind_number _ _ c.both-plain.result _ _ c.both-plain.ensures types c.described.ensures in
@@ -29,8 +29,8 @@ returns-in_err-attributes c =
 
 pub returns : goal.returns
 returns c =
-    let ts = view_trees c.args.payload.now in
-    let us = view_trees c.inside-given.result.now in
+    let ts = view_trees c.args.payload in
+    let us = view_trees c.inside-given.result in
     let known = c.type_known.ensures ∙ ap (λ vs. unless_unlisted (at as_enumeration object_type_tag vs) type_of ObjectType) c.inside-given.ensures in
     let types = joined kind_number _ _ c.both-types.result _ _ c.both-types.ensures c.type_created.ensures known in
     let plain = joined kind_number _ _ c.both-plain.result _ _ c.both-plain.ensures types c.described.ensures in

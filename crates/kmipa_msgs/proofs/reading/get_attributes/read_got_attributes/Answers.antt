@@ -13,8 +13,8 @@ use Rattle.kmipa_msgs.proofs.reading.get_attributes.read_got_attributes.Goals as
 
 pub returns-in_err-id : goal.returns-in_err-id
 returns-in_err-id c =
-    let ts = view_trees c.args.payload.now in
+    let ts = view_trees c.args.payload in
     let read =
     yields_both attributes_of got_attributes_view c.both.result c.read_attributes-attributes.result c.both_read.result (given_in Server (at as_structure attributes_tag ts)) (got_attributes_in ts) c.both_read.ensures c.read_attributes-attributes.ensures
-    (λ given g rows e. seen_got_attributes ts (view_trees c.inside.result.now) c.type_known-type_known.result c.read_identifier-id.result c.both.result given rows e c.both.ensures c.type_known-type_known.ensures c.inside.ensures c.read_identifier-id.ensures g) in
+    (λ given g rows e. seen_got_attributes ts (view_trees c.inside.result) c.type_known-type_known.result c.read_identifier-id.result c.both.result given rows e c.both.ensures c.type_known-type_known.ensures c.inside.ensures c.read_identifier-id.ensures g) in
     yields_err got_attributes_view got_attributes_of c.both_read.result c.in_err-id.field-0.0 c.from_residual.result (got_attributes_in ts) read c.in_err-id.was (search rules)

@@ -9,4 +9,4 @@ pub returns-in_default : goal.returns-in_default
 returns-in_default c = no_children c.args.tag c.args.header (view_tree c.args.message.now) c.in_default.ensures
 
 pub returns-in-There : goal.returns-in-There
-returns-in-There c = opens c.args.tag c.args.header c.args.message.now (view_trees c.in-Some.children.now) (view_trees c.in-There.inner.now) c.if-message-tag.false c.in-Some.ensures c.in-There.ensures
+returns-in-There c = opens c.args.tag c.args.header c.args.message.now (view_trees c.in-Some.children) (view_trees c.in-There.inner) c.if-message-tag.false c.in-Some.ensures c.in-There.ensures

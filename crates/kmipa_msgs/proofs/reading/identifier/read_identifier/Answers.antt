@@ -7,4 +7,4 @@ use Rattle.kmipa_msgs.proofs.ViewLemmas.{optional_seen}
 use Rattle.kmipa_msgs.proofs.reading.identifier.read_identifier.Goals as goal
 
 pub returns : goal.returns
-returns c = optional_seen lent c.text_at.result (at as_text unique_identifier (view_trees c.args.payload.now)) IdentifierForm c.optional.result c.optional.ensures c.text_at.ensures
+returns c = optional_seen lent c.text_at.result (at as_text unique_identifier (view_trees c.args.payload)) IdentifierForm c.optional.result c.optional.ensures c.text_at.ensures

@@ -11,7 +11,7 @@ use Rattle.kmipa_msgs.proofs.reading.key_block.read_key_block.Goals as goal
 
 pub returns-in_err-format : goal.returns-in_err-format
 returns-in_err-format c =
-    let ts = view_trees c.args.block.now in
+    let ts = view_trees c.args.block in
     let algorithm = optional_row c.enumeration_at.result (at as_enumeration cryptographic_algorithm ts) Missing c.optional-algorithm.result c.optional-algorithm.ensures c.enumeration_at.ensures in
     let bits = optional_row c.integer_at.result (at as_integer cryptographic_length ts) Missing c.optional-length.result c.optional-length.ensures c.integer_at.ensures in
     let described = joined kind_number _ _ c.both-2.result _ _ c.both-2.ensures (joined kind_number _ _ c.both.result _ _ c.both.ensures c.format.ensures algorithm) bits in
@@ -20,5 +20,5 @@ returns-in_err-format c =
     let e : c.from_residual.result ≡ Err c.in_err-format.field-0.0 = search rules in
     rw e (
     ap (map_ok block_view) (sym c.in_err-format.was)
-    ∙ seen_block ts (view_trees c.inside.result.now) c.both-4.result c.bytes_at.result c.needed-material.result c.both-rows.result c.both-rows.ensures plain c.inside.ensures c.bytes_at.ensures c.needed-material.ensures
+    ∙ seen_block ts (view_trees c.inside.result) c.both-4.result c.bytes_at.result c.needed-material.result c.both-rows.result c.both-rows.ensures plain c.inside.ensures c.bytes_at.ensures c.needed-material.ensures
     )

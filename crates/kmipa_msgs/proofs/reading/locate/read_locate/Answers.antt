@@ -16,12 +16,12 @@ use Rattle.kmipa_msgs.proofs.reading.locate.read_locate.Goals as goal
 
 pub returns-in_err-filter : goal.returns-in_err-filter
 returns-in_err-filter c =
-    let ts = view_trees c.args.payload.now in
+    let ts = view_trees c.args.payload in
     let count = c.unless_wrong-count.ensures ∙ ap (λ f. unless_wrong f Missing) c.integer_at-maximum.ensures in
     let shape = joined kind_number _ _ c.both-shape.result _ _ c.both-shape.ensures count c.attributes_shape.ensures in
     let known = c.type_known.ensures ∙ ap (λ us. unless_unlisted (at as_enumeration object_type_tag us) type_of ObjectType) c.inside-given.ensures in
     let plain = joined kind_number _ _ c.both-plain.result _ _ c.both-plain.ensures shape known in
-    let us = view_trees c.inside-given.result.now in
+    let us = view_trees c.inside-given.result in
     let read =
     yields_both filter_of locate_view c.both-plain.result c.sought-filter.result c.both_read.result (filter_kind (filter_in c.value.result c.has_unknown.result us)) (locate_in ts) c.both_read.ensures c.sought-filter.ensures
     (λ filter g rows e. seen_locate ts us c.value.result c.has_unknown.result c.both-plain.result filter rows e plain c.inside-given.ensures (c.value.ensures ∙ ap value_in c.integer_at-maximum.ensures) c.has_unknown.ensures g) in
@@ -29,12 +29,12 @@ returns-in_err-filter c =
 
 pub returns : goal.returns
 returns c =
-    let ts = view_trees c.args.payload.now in
+    let ts = view_trees c.args.payload in
     let count = c.unless_wrong-count.ensures ∙ ap (λ f. unless_wrong f Missing) c.integer_at-maximum.ensures in
     let shape = joined kind_number _ _ c.both-shape.result _ _ c.both-shape.ensures count c.attributes_shape.ensures in
     let known = c.type_known.ensures ∙ ap (λ us. unless_unlisted (at as_enumeration object_type_tag us) type_of ObjectType) c.inside-given.ensures in
     let plain = joined kind_number _ _ c.both-plain.result _ _ c.both-plain.ensures shape known in
-    let us = view_trees c.inside-given.result.now in
+    let us = view_trees c.inside-given.result in
     let read =
     yields_both filter_of locate_view c.both-plain.result c.sought-filter.result c.both_read.result (filter_kind (filter_in c.value.result c.has_unknown.result us)) (locate_in ts) c.both_read.ensures c.sought-filter.ensures
     (λ filter g rows e. seen_locate ts us c.value.result c.has_unknown.result c.both-plain.result filter rows e plain c.inside-given.ensures (c.value.ensures ∙ ap value_in c.integer_at-maximum.ensures) c.has_unknown.ensures g) in

@@ -1,12 +1,13 @@
 use Rattle.std.proofs.Common.{◌∙◌, sym}
+use Rattle.kmipa_ttlv.specs.ViewTree.{view_tree, view_trees}
 use Rattle.kmipa_msgs.proofs.ObjectLemmas.{object_found, object_passed, object_none}
 use Rattle.kmipa_msgs.proofs.reading.object.object.Goals as goal
 
 pub returns-then-is_object : goal.returns-then-is_object
-returns-then-is_object c = sym (c.loop-child.invariant ∙ object_found c.loop-child.child-index c.args.payload.now c.child-item.result c.loop-child-test.true c.child-item.is (sym c.if-is_object.ensures))
+returns-then-is_object c = sym (c.children.invariant ∙ object_found (view_trees c.children.left) (view_trees c.next.new.self) c.in-Some.child c.in-Some.ensures (sym c.if-is_object.ensures))
 
-pub loop-child-preserved : goal.loop-child-preserved
-loop-child-preserved c = c.loop-child.invariant ∙ object_passed c.loop-child.child-index c.args.payload.now c.child-item.result c.loop-child-test.true c.child-item.is (sym c.if-is_object.ensures)
+pub children-preserved : goal.children-preserved
+children-preserved c = c.children.invariant ∙ object_passed (view_trees c.children.left) (view_trees c.next.new.self) c.in-Some.child c.in-Some.ensures (sym c.if-is_object.ensures)
 
 pub returns : goal.returns
-returns c = sym (c.loop-child.invariant ∙ object_none c.loop-child.child-index c.args.payload.now c.loop-child-test.false)
+returns c = sym (c.children.invariant ∙ object_none (view_trees c.children.left) c.in_default.ensures)

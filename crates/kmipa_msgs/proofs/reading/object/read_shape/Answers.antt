@@ -5,4 +5,4 @@ use Rattle.kmipa_msgs.proofs.ObjectLemmas.{shape_at}
 use Rattle.kmipa_msgs.proofs.reading.object.read_shape.Goals as goal
 
 pub returns : goal.returns
-returns c = shape_at (view_trees c.args.payload.now) c.in_ok-view.view.now c.shape_of.result (sym (ap (option_map (λ v. view_tree v.now)) c.in_ok-view.ensures.ok_part) ∙ c.object.ensures) c.shape_of.ensures
+returns c = shape_at (view_trees c.args.payload) c.in_ok-view.view c.shape_of.result (sym (ap (option_map view_tree) c.in_ok-view.ensures.ok_part) ∙ c.object.ensures) c.shape_of.ensures

@@ -10,7 +10,7 @@ use Rattle.kmipa_msgs.proofs.reading.request.request_header.Goals as goal
 
 pub returns-in_err-said : goal.returns-in_err-said
 returns-in_err-said c =
-    let hs = view_trees c.args.header.now in
+    let hs = view_trees c.args.header in
     let version = test_row c.is_version.result (is_version hs) Version c.passing-version.result c.passing-version.ensures c.is_version.ensures in
     let count = test_row c.is_count.result (is_count hs c.args.items) Count c.passing-count.result c.passing-count.ensures c.is_count.ensures in
     let plain = joined kind_number _ _ c.both-plain.result _ _ c.both-plain.ensures version count in
