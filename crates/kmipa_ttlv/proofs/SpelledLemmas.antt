@@ -1,5 +1,5 @@
 -- The items that bytes spell, read in place, are those that stand there.
-use Rattle.std.proofs.Common.{◌≡◌, ◌≤◌, ◌<◌, ◌+◌, ◌-◌, ℕ, zero, suc, Bool, true, false, cond, ◌==◌, List, [], length, drop, refl, sym, ap, subst, ◌∙◌, arith, IsTrue}
+use Rattle.std.proofs.Common.{◌⊎◌, inl, inr, ◌≡◌, ◌≤◌, ◌<◌, ◌+◌, ◌-◌, ℕ, zero, suc, Bool, true, false, cond, ◌==◌, List, [], length, drop, refl, sym, ap, subst, ◌∙◌, arith, IsTrue}
 use Rattle.std.specs.Prelude.{nat_le, ◌&&◌}
 use Rattle.std.specs.Prelude.{nat_lt, ◌%◌, ◌≢◌, IsUtf8}
 use Rattle.std.specs.Str.{is_utf8}
@@ -7,10 +7,10 @@ use Rattle.std.proofs.lemmas.Str.{is_utf8-from_IsUtf8, IsUtf8-from_is_utf8}
 use Rattle.byteorder.specs.Endian.{big_number}
 use Rattle.std.proofs.lemmas.Bool.{eq-eqb, eqb-true, ne_eqb, leb-true, le-leb, ltb-true}
 use Rattle.std.proofs.lemmas.List.{length-drop}
-use Rattle.kmipa_ttlv.specs.Tree.{Tree, Trees, Scalar, structure, scalar, none, more, every, tag_of}
+use Rattle.kmipa_ttlv.specs.Tree.{Tree, Trees, Scalar, structure, scalar, none, more, every, tag_of, byte_string}
 use Rattle.kmipa_ttlv.specs.Spelling.{tag_at, kind_at, len_at, value_at, extent, Stands, Run, kind_of, Means, Framed, Holds, number_of_bool}
 use Rattle.kmipa_ttlv.specs.Flaw.{is_kind, allows}
-use Rattle.kmipa_ttlv.specs.Spelled.{scalar_at, IsScalarAt, item_at, is_whole, items_within, items_at}
+use Rattle.kmipa_ttlv.specs.Spelled.{scalar_at, IsScalarAt, held_at, item_at, is_whole, items_within, items_at}
 use Rattle.kmipa_ttlv.specs.Head.{number_of_kind}
 use Rattle.kmipa_ttlv.specs.declared.head.Kind.{Kind}
 use Rattle.kmipa_ttlv.specs.declared.head.Kind
@@ -20,18 +20,36 @@ use Rattle.kmipa_ttlv.proofs.FrontLemmas.{length-value_at}
 use Rattle.kmipa_ttlv.proofs.ExactLemmas.{scalar_is, two_le_kind, stands_some}
 use Rattle.kmipa_ttlv.proofs.FlawLemmas.{known_scalar, allowed_scalar, run_eights}
 
-whole_tests : (a b c d : Bool) → a && b && c && d ≡ true → (a ≡ true) × (d ≡ true)
-whole_tests true true true true e = (refl, refl)
-whole_tests false b c d e = absurd cc
-whole_tests true false c d e = absurd cc
-whole_tests true true false d e = absurd cc
-whole_tests true true true false e = absurd cc
+both_true : (a b : Bool) → a && b ≡ true → (a ≡ true) × (b ≡ true)
+both_true true true e = (refl, refl)
+both_true false b e = absurd cc
+both_true true false e = absurd cc
+
+both_hold : (a b : Bool) → a ≡ true → b ≡ true → a && b ≡ true
+both_hold a b p q = rw (p, q) refl
 
 pub whole_fits : (bytes : List ℕ) → is_whole bytes ≡ true → (8 ≤ length bytes) × (extent bytes ≤ length bytes)
 unfolding is_whole
 whole_fits bytes e =
-    let t = whole_tests (nat_le 8 (length bytes)) (is_kind (kind_at bytes)) (allows (kind_at bytes) (len_at bytes)) (nat_le (extent bytes) (length bytes)) e in
+    let t = both_true (nat_le 8 (length bytes)) (nat_le (extent bytes) (length bytes)) e in
     (leb-true 8 (length bytes) t.0, leb-true (extent bytes) (length bytes) t.1)
+
+-- a kind with its lengths holds its value; without them, a byte string
+false_is_true : false ≡ true → ⊥
+false_is_true e = absurd cc
+
+held_is : (kind : ℕ) (value : List ℕ) → is_kind kind ≡ true → allows kind (length value) ≡ true → held_at kind value ≡ scalar_at kind value
+unfolding held_at
+held_is kind value p q = ap (λ (b : Bool). cond b (scalar_at kind value) (byte_string value)) (both_hold (is_kind kind) (allows kind (length value)) p q)
+
+not_both : (a b : Bool) → (a ≡ false) ⊎ (b ≡ false) → a && b ≡ false
+not_both false b h = refl
+not_both true b (inl e) = absurd cc
+not_both true b (inr e) = e
+
+held_not : (kind : ℕ) (value : List ℕ) → (is_kind kind ≡ false) ⊎ (allows kind (length value) ≡ false) → held_at kind value ≡ byte_string value
+unfolding held_at
+held_not kind value h = ap (λ (b : Bool). cond b (scalar_at kind value) (byte_string value)) (not_both (is_kind kind) (allows kind (length value)) h)
 
 -- a step looks at the header first
 stopped : (n : ℕ) (bytes : List ℕ) → is_whole bytes ≡ false → items_within (suc n) bytes ≡ none
@@ -44,7 +62,7 @@ stepped n bytes e =
     ap (λ (k : Bool). cond k (more (item_at (items_within n) (tag_at bytes) (kind_at bytes) (value_at bytes)) (items_within n (drop (extent bytes) bytes))) none) e
 
 same_item : (f g : List ℕ → Trees) (tag kind : ℕ) (value : List ℕ) → f value ≡ g value → item_at f tag kind value ≡ item_at g tag kind value
-same_item f g tag kind value e = ap (λ (ts : Trees). cond (kind == 1) (structure tag ts) (scalar tag (scalar_at kind value))) e
+same_item f g tag kind value e = ap (λ (ts : Trees). cond (kind == 1) (structure tag ts) (scalar tag (held_at kind value))) e
 
 no_header : (bytes : List ℕ) → length bytes ≤ 0 → is_whole bytes ≡ true → ⊥
 no_header bytes less e = omega (arith, less, (whole_fits bytes e).0)
@@ -103,23 +121,19 @@ nothing_whole : is_whole [] ≡ false
 unfolding is_whole
 nothing_whole = refl
 
-all_tests : (a b c d : Bool) → a ≡ true → b ≡ true → c ≡ true → d ≡ true → a && b && c && d ≡ true
-all_tests a b c d p q r s = rw (p, q, r, s) refl
-
-whole_of : (tag kind : ℕ) (bytes : List ℕ) → Framed tag kind bytes → IsTrue (is_kind kind) → IsTrue (allows kind (len_at bytes)) → is_whole bytes ≡ true
+whole_of : (tag kind : ℕ) (bytes : List ℕ) → Framed tag kind bytes → is_whole bytes ≡ true
 unfolding is_whole
-whole_of tag kind bytes f known allowed =
-    all_tests (nat_le 8 (length bytes)) (is_kind (kind_at bytes)) (allows (kind_at bytes) (len_at bytes)) (nat_le (extent bytes) (length bytes))
-    (le-leb 8 (length bytes) f.header) (subst (λ (k : ℕ). is_kind k ≡ true) (sym f.kind_is) known) (subst (λ (k : ℕ). allows k (len_at bytes) ≡ true) (sym f.kind_is) allowed) (le-leb (extent bytes) (length bytes) f.whole)
+whole_of tag kind bytes f =
+    both_hold (nat_le 8 (length bytes)) (nat_le (extent bytes) (length bytes)) (le-leb 8 (length bytes) f.header) (le-leb (extent bytes) (length bytes) f.whole)
 
 scalar_item : (children : List ℕ → Trees) (tag kind : ℕ) (s : Scalar) (value : List ℕ) → kind ≡ kind_of s → Means s value → item_at children tag kind value ≡ scalar tag s
 scalar_item children tag kind s value e h =
-    ap (λ (b : Bool). cond b (structure tag (children value)) (scalar tag (scalar_at kind value))) (ne_eqb kind 1 (λ one. omega (arith, one, e, two_le_kind s)))
-    ∙ ap (scalar tag) (ap (λ (k : ℕ). scalar_at k value) e ∙ scalar_is s value h)
+    ap (λ (b : Bool). cond b (structure tag (children value)) (scalar tag (held_at kind value))) (ne_eqb kind 1 (λ one. omega (arith, one, e, two_le_kind s)))
+    ∙ ap (scalar tag) (ap (λ (k : ℕ). held_at k value) e ∙ held_is (kind_of s) value (known_scalar s) (allowed_scalar s value h) ∙ scalar_is s value h)
 
 structure_item : (children : List ℕ → Trees) (tag kind : ℕ) (ts : Trees) (value : List ℕ) → kind ≡ 1 → children value ≡ ts → item_at children tag kind value ≡ structure tag ts
 structure_item children tag kind ts value e h =
-    ap (λ (b : Bool). cond b (structure tag (children value)) (scalar tag (scalar_at kind value))) (eq-eqb kind 1 e) ∙ ap (structure tag) h
+    ap (λ (b : Bool). cond b (structure tag (children value)) (scalar tag (held_at kind value))) (eq-eqb kind 1 e) ∙ ap (structure tag) h
 
 mutual
   pub run_items : (left : ℕ) (ts : Trees) (bytes : List ℕ) → Run left ts bytes [] → items_at bytes ≡ ts
@@ -130,16 +144,14 @@ mutual
 
   stands_item : (left : ℕ) (t : Tree) (bytes : List ℕ) → Stands left t bytes → (is_whole bytes ≡ true) × (item_at items_at (tag_at bytes) (kind_at bytes) (value_at bytes) ≡ t)
   stands_item zero t bytes s = absurd s
-  stands_item (suc left) (structure tag ts) bytes s =
-      let eights = eq-eqb _ _ (omega (arith, run_eights left ts (value_at bytes) s.1, length-value_at bytes s.0.whole)) in (
-        whole_of tag 1 bytes s.0 refl eights,
-        structure_item items_at (tag_at bytes) (kind_at bytes) ts (value_at bytes) s.0.kind_is (run_items left ts (value_at bytes) s.1) ∙ ap (λ (n : ℕ). structure n ts) s.0.tag_is,
-      )
-  stands_item (suc left) (scalar tag u) bytes s =
-      let allowed = subst (λ (n : ℕ). IsTrue (allows (kind_of u) n)) (length-value_at bytes s.0.whole) (allowed_scalar u (value_at bytes) s.1) in (
-        whole_of tag (kind_of u) bytes s.0 (known_scalar u) allowed,
-        scalar_item items_at (tag_at bytes) (kind_at bytes) u (value_at bytes) s.0.kind_is s.1 ∙ ap (λ (n : ℕ). scalar n u) s.0.tag_is,
-      )
+  stands_item (suc left) (structure tag ts) bytes s = (
+    whole_of tag 1 bytes s.0,
+    structure_item items_at (tag_at bytes) (kind_at bytes) ts (value_at bytes) s.0.kind_is (run_items left ts (value_at bytes) s.1) ∙ ap (λ (n : ℕ). structure n ts) s.0.tag_is,
+  )
+  stands_item (suc left) (scalar tag u) bytes s = (
+    whole_of tag (kind_of u) bytes s.0,
+    scalar_item items_at (tag_at bytes) (kind_at bytes) u (value_at bytes) s.0.kind_is s.1 ∙ ap (λ (n : ℕ). scalar n u) s.0.tag_is,
+  )
 
 pub holds_item : (left tag kind : ℕ) (t : Tree) (value : List ℕ) → Holds left tag kind t value → item_at items_at tag kind value ≡ t
 holds_item left tag kind (structure n ts) value h = structure_item items_at tag kind ts value h.1 (run_items left ts value h.2) ∙ ap (λ (m : ℕ). structure m ts) (sym h.0)
@@ -172,7 +184,7 @@ few_items tag bytes = few tag (length bytes) bytes
 pub same_header : (tag n kind m : ℕ) (value bytes : List ℕ) → tag ≡ n → kind ≡ m → value ≡ bytes → item_at items_at tag kind value ≡ item_at items_at n m bytes
 same_header tag n kind m value bytes p q r = rw (p, q, r) refl
 
-item_tag_at : (children : List ℕ → Trees) (tag kind : ℕ) (value : List ℕ) (b : Bool) → tag_of (cond b (structure tag (children value)) (scalar tag (scalar_at kind value))) ≡ tag
+item_tag_at : (children : List ℕ → Trees) (tag kind : ℕ) (value : List ℕ) (b : Bool) → tag_of (cond b (structure tag (children value)) (scalar tag (held_at kind value))) ≡ tag
 item_tag_at children tag kind value true = refl
 item_tag_at children tag kind value false = refl
 
@@ -196,11 +208,6 @@ text_right k value is utf8 =
     subst (λ (j : Kind). IsScalarAt (number_of_kind j) value) (sym is)
     (record { kind_is = refl; means = record { same = ap (λ (b : Bool). cond b value []) (sym (is_utf8-from_IsUtf8 value utf8)); text = utf8 } })
 
-both_true : (a b : Bool) → a && b ≡ true → (a ≡ true) × (b ≡ true)
-both_true true true e = (refl, refl)
-both_true false b e = absurd cc
-both_true true false e = absurd cc
-
 pub other_right : (k : Kind) (value : List ℕ) → k ≢ Kind.TheVariants.Structure → k ≢ Kind.TheVariants.Boolean → k ≢ Kind.TheVariants.Text → IsTrue (allows (number_of_kind k) (length value)) → IsScalarAt (number_of_kind k) value
 unfolding scalar_at
 other_right Structure value s b t a = absurd (s refl)
@@ -223,3 +230,47 @@ no_text_at value wrong true e = absurd (wrong (IsUtf8-from_is_utf8 value e))
 
 pub no_text : (value : List ℕ) → ¬ (IsUtf8 value) → is_utf8 value ≡ false
 no_text value wrong = no_text_at value wrong (is_utf8 value) refl
+
+-- ---- items of a kind, with a length of it or without
+
+abbrev pub plain_at : ℕ → ℕ → List ℕ → Tree
+plain_at tag kind value = cond (kind == 1) (structure tag (items_at value)) (scalar tag (scalar_at kind value))
+
+pub allowed_item : (k : Kind) (tag : ℕ) (value : List ℕ) → (k ≢ Kind.TheVariants.Structure → IsTrue (allows (number_of_kind k) (length value))) → plain_at tag (number_of_kind k) value ≡ item_at items_at tag (number_of_kind k) value
+allowed_item Structure tag value h = refl
+allowed_item Integer tag value h = ap (scalar tag) (sym (held_is 2 value refl (h (λ e. absurd cc))))
+allowed_item LongInteger tag value h = ap (scalar tag) (sym (held_is 3 value refl (h (λ e. absurd cc))))
+allowed_item BigInteger tag value h = ap (scalar tag) (sym (held_is 4 value refl (h (λ e. absurd cc))))
+allowed_item Enumeration tag value h = ap (scalar tag) (sym (held_is 5 value refl (h (λ e. absurd cc))))
+allowed_item Boolean tag value h = ap (scalar tag) (sym (held_is 6 value refl (h (λ e. absurd cc))))
+allowed_item Text tag value h = ap (scalar tag) (sym (held_is 7 value refl (h (λ e. absurd cc))))
+allowed_item Bytes tag value h = ap (scalar tag) (sym (held_is 8 value refl (h (λ e. absurd cc))))
+allowed_item DateTime tag value h = ap (scalar tag) (sym (held_is 9 value refl (h (λ e. absurd cc))))
+allowed_item Interval tag value h = ap (scalar tag) (sym (held_is 10 value refl (h (λ e. absurd cc))))
+allowed_item DateTimeExtended tag value h = ap (scalar tag) (sym (held_is 11 value refl (h (λ e. absurd cc))))
+
+not_one : (k : Kind) → k ≢ Kind.TheVariants.Structure → number_of_kind k ≡ 1 → ⊥
+not_one Structure s e = s refl
+not_one Integer s e = omega (arith, e)
+not_one LongInteger s e = omega (arith, e)
+not_one BigInteger s e = omega (arith, e)
+not_one Enumeration s e = omega (arith, e)
+not_one Boolean s e = omega (arith, e)
+not_one Text s e = omega (arith, e)
+not_one Bytes s e = omega (arith, e)
+not_one DateTime s e = omega (arith, e)
+not_one Interval s e = omega (arith, e)
+not_one DateTimeExtended s e = omega (arith, e)
+
+scalar_only : (tag kind : ℕ) (value : List ℕ) → (kind ≡ 1 → ⊥) → held_at kind value ≡ byte_string value → scalar tag (byte_string value) ≡ item_at items_at tag kind value
+scalar_only tag kind value other h =
+    sym (ap (λ (b : Bool). cond b (structure tag (items_at value)) (scalar tag (held_at kind value))) (ne_eqb kind 1 other) ∙ ap (scalar tag) h)
+
+pub refused_item : (k : Kind) (tag : ℕ) (value : List ℕ) → k ≢ Kind.TheVariants.Structure → allows (number_of_kind k) (length value) ≡ false → scalar tag (byte_string value) ≡ item_at items_at tag (number_of_kind k) value
+refused_item k tag value s h = scalar_only tag (number_of_kind k) value (not_one k s) (held_not (number_of_kind k) value (inr h))
+
+unknown_other : (kind : ℕ) → is_kind kind ≡ false → kind ≡ 1 → ⊥
+unknown_other kind h e = false_is_true (sym h ∙ ap is_kind e)
+
+pub unknown_item : (tag kind : ℕ) (value : List ℕ) → is_kind kind ≡ false → scalar tag (byte_string value) ≡ item_at items_at tag kind value
+unknown_item tag kind value h = scalar_only tag kind value (unknown_other kind h) (held_not kind value (inl h))

@@ -5,7 +5,7 @@ use Rattle.std.specs.Str.{is_utf8}
 use Rattle.std.specs.Int.{w32, w64, cast_signed}
 use Rattle.byteorder.specs.Endian.{big_number}
 use Rattle.kmipa_ttlv.specs.Tree.{Tree, Trees, Scalar, structure, scalar, none, more, integer, long_integer, big_integer, enumeration, boolean, text, byte_string, date_time, interval, date_time_extended}
-use Rattle.kmipa_ttlv.specs.Spelling.{tag_at, kind_at, len_at, value_at, extent, kind_of, Means}
+use Rattle.kmipa_ttlv.specs.Spelling.{tag_at, kind_at, value_at, extent, kind_of, Means}
 use Rattle.kmipa_ttlv.specs.Flaw.{is_kind, allows}
 
 -- the value that these bytes are, of an item of this kind; of a text that is none the empty one
@@ -26,13 +26,17 @@ pub record IsScalarAt (kind : ℕ) (value : List ℕ) : Type 0 where
   pub kind_is : kind ≡ kind_of (scalar_at kind value)
   pub means : Means (scalar_at kind value) value
 
+-- the same of any kind and length: where there is no such kind, or it has not this length, a byte string
+unfoldable pub held_at : ℕ → List ℕ → Scalar
+held_at kind value = cond (is_kind kind && allows kind (length value)) (scalar_at kind value) (byte_string value)
+
 -- an item with a header of this tag and kind, and with this value
 abbrev pub item_at : (List ℕ → Trees) → ℕ → ℕ → List ℕ → Tree
-item_at children tag kind value = cond (kind == 1) (structure tag (children value)) (scalar tag (scalar_at kind value))
+item_at children tag kind value = cond (kind == 1) (structure tag (children value)) (scalar tag (held_at kind value))
 
--- a whole item is at the front, as far as its header tells
+-- an item is at the front as a whole: its header, and as many bytes as that tells
 unfoldable pub is_whole : List ℕ → Bool
-is_whole bytes = nat_le 8 (length bytes) && is_kind (kind_at bytes) && allows (kind_at bytes) (len_at bytes) && nat_le (extent bytes) (length bytes)
+is_whole bytes = nat_le 8 (length bytes) && nat_le (extent bytes) (length bytes)
 
 -- the items at the front, where so many bytes are looked at
 abbrev pub items_within : ℕ → List ℕ → Trees

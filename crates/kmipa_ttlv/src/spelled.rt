@@ -1,14 +1,15 @@
 //! Items read in place, out of bytes that were tested before.
 
 ghost use Rattle.std.specs.Str.{is_utf8};
-ghost use Rattle.std.specs.Prelude.{◌≡◌, ℕ, cond, [], length, IsTrue, MatchOption};
+ghost use Rattle.std.specs.Prelude.{◌≡◌, ◌≢◌, ◌≤◌, ◌==◌, ℕ, cond, [], length, IsTrue, MatchOption};
 ghost use Rattle.kmipa_ttlv.specs.Head.{number_of_kind};
 ghost use Rattle.kmipa_ttlv.specs.Flaw.{allows};
-ghost use Rattle.kmipa_ttlv.specs.Spelled.{item_at, items_at};
-ghost use Rattle.kmipa_ttlv.specs.Tree.{none, more};
+ghost use Rattle.kmipa_ttlv.specs.Spelling.{kind_at, value_at, extent};
+ghost use Rattle.kmipa_ttlv.specs.Spelled.{scalar_at, item_at, items_at};
+ghost use Rattle.kmipa_ttlv.specs.Tree.{none, more, structure, scalar};
 ghost use Rattle.kmipa_ttlv.specs.ViewTree.{view_tree, view_value_tree, from_tag};
 
-use crate::head::{Head, Kind, value_of, whole_head};
+use crate::head::{Head, Kind, kind_of, len_of, value_of, whole_front};
 use crate::view::{Children, Source, View, ViewValue};
 use byteorder::{BigEndian, ByteOrder};
 
@@ -16,12 +17,25 @@ use byteorder::{BigEndian, ByteOrder};
 pub fn front_view(bytes: &[u8]) -> Option<(View<'_>, &[u8])>
     ensures { MatchOption result (items_at bytes.now ≡ none) (λ x. items_at bytes.now ≡ more (view_tree x.0) (items_at x.1.now)) }
 {
-    let Some(head) = whole_head(bytes) else {
+    let Some((tag, extent)) = whole_front(bytes) else {
         return None;
     };
-    let view = view_of(head, value_of(bytes, head.len));
-    let (_, rest) = bytes.split_at(head.extent());
-    Some((view, rest))
+    let value = front_value(bytes);
+    let (_, rest) = bytes.split_at(extent);
+    Some((View { tag, value }, rest))
+}
+
+/// The value of the item at the front.
+fn front_value(bytes: &[u8]) -> ViewValue<'_>
+    requires header { 8 ≤ length bytes.now }
+    requires whole { extent bytes.now ≤ length bytes.now }
+    ensures { (tag : ℕ) → view_value_tree tag result ≡ item_at items_at tag (kind_at bytes.now) (value_at bytes.now) }
+{
+    let value = value_of(bytes, len_of(bytes));
+    match kind_of(bytes) {
+        Some(kind) => value_view(kind, value),
+        None => ViewValue::Bytes(value),
+    }
 }
 
 /// The bytes from the first item with this tag on.
@@ -29,11 +43,11 @@ pub fn spelled_from(bytes: &[u8], tag: u32) -> &[u8]
     ensures { items_at result.now ≡ from_tag tag (items_at bytes.now) }
 {
     let mut rest = bytes;
-    'items: while let Some(head) = whole_head(rest) {
-        if head.tag.number == tag {
+    'items: while let Some((front, extent)) = whole_front(rest) {
+        if front.number == tag {
             return rest;
         }
-        let (_, others) = rest.split_at(head.extent());
+        let (_, others) = rest.split_at(extent);
         rest = others;
     }
     rest
@@ -41,7 +55,6 @@ pub fn spelled_from(bytes: &[u8], tag: u32) -> &[u8]
 
 /// The item that this header and value say.
 pub fn view_of(head: Head, value: &[u8]) -> View<'_>
-    requires { IsTrue (allows (number_of_kind head.kind) (length value.now)) }
     ensures { view_tree result ≡ item_at items_at head.tag.number (number_of_kind head.kind) value.now }
 {
     View {
@@ -50,10 +63,21 @@ pub fn view_of(head: Head, value: &[u8]) -> View<'_>
     }
 }
 
-#[tactic(auto, unfolding(crate::specs::Spelled::scalar_at))]
+/// The value of an item of this kind, of whatever length.
 fn value_view(kind: Kind, value: &[u8]) -> ViewValue<'_>
-    requires { IsTrue (allows (number_of_kind kind) (length value.now)) }
     ensures { (tag : ℕ) → view_value_tree tag result ≡ item_at items_at tag (number_of_kind kind) value.now }
+{
+    if kind != Kind::Structure && !kind.allows(value.len()) {
+        return ViewValue::Bytes(value);
+    }
+    allowed_view(kind, value)
+}
+
+#[tactic(auto, unfolding(crate::specs::Spelled::scalar_at))]
+fn allowed_view(kind: Kind, value: &[u8]) -> ViewValue<'_>
+    requires { kind ≢ Kind.Structure → IsTrue (allows (number_of_kind kind) (length value.now)) }
+    ensures { (tag : ℕ) → view_value_tree tag result
+        ≡ cond (number_of_kind kind == 1) (structure tag (items_at value.now)) (scalar tag (scalar_at (number_of_kind kind) value.now)) }
 {
     match kind {
         Kind::Structure => ViewValue::Structure(Children {

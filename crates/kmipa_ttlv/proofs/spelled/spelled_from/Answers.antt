@@ -1,34 +1,30 @@
-use Rattle.std.proofs.Common.{rules, ◌≡◌, ◌+◌, ℕ, List, sym, ap, subst, ◌∙◌, arith}
+use Rattle.std.proofs.Common.{rules, ◌≡◌, ℕ, List, sym, ap, ◌∙◌}
 use Rattle.std.specs.Prelude.{drop}
 use Rattle.kmipa_ttlv.specs.Tree.{Tree, more}
-use Rattle.kmipa_ttlv.specs.Spelling.{tag_at, kind_at, value_at, extent, padded}
+use Rattle.kmipa_ttlv.specs.Spelling.{tag_at, kind_at, value_at, extent}
 use Rattle.kmipa_ttlv.specs.Spelled.{item_at, items_at}
 use Rattle.kmipa_ttlv.specs.ViewTree.{from_tag}
 use Rattle.kmipa_ttlv.proofs.SpelledLemmas.{items_more, items_none, item_tag}
 use Rattle.kmipa_ttlv.proofs.ViewTreeLemmas.{from_there, from_after, from_none}
 use Rattle.kmipa_ttlv.proofs.spelled.spelled_from.Goals as goal
 
-pub returns-then-head-tag : goal.returns-then-head-tag
-returns-then-head-tag c =
+pub returns-then-front-tag : goal.returns-then-front-tag
+returns-then-front-tag c =
     let bytes = c.items.rest.now in
     let is = items_more bytes c.in-Some.ensures.0 in
     let item = item_at items_at (tag_at bytes) (kind_at bytes) (value_at bytes) in
-    let tag = item_tag items_at (tag_at bytes) (kind_at bytes) (value_at bytes) ∙ c.in-Some.ensures.1.tag ∙ c.if-head-tag.true in
+    let tag = item_tag items_at (tag_at bytes) (kind_at bytes) (value_at bytes) ∙ sym c.in-Some.ensures.1 ∙ c.if-front-tag.true in
     is ∙ sym (from_there c.args.tag item (items_at (drop (extent bytes) bytes)) tag) ∙ ap (from_tag c.args.tag) (sym is) ∙ c.items.invariant
-
-pub extent-requires : goal.extent-requires
-extent-requires c = c.in-Some.ensures.2
 
 pub items-preserved : goal.items-preserved
 items-preserved c =
     let bytes = c.items.rest.now in
     let is = items_more bytes c.in-Some.ensures.0 in
     let item = item_at items_at (tag_at bytes) (kind_at bytes) (value_at bytes) in
-    let tag = item_tag items_at (tag_at bytes) (kind_at bytes) (value_at bytes) ∙ c.in-Some.ensures.1.tag in
-    let taken : c.extent.result ≡ extent bytes = c.extent.ensures ∙ ap (λ (n : ℕ). 8 + padded n) (sym c.in-Some.ensures.1.len) in
-    let rest : c.split_at.result.1.now ≡ drop (extent bytes) bytes = c.split_at.ensures.back ∙ ap (λ (n : ℕ). drop n bytes) taken in
+    let tag = item_tag items_at (tag_at bytes) (kind_at bytes) (value_at bytes) ∙ sym c.in-Some.ensures.1 in
+    let rest : c.split_at.result.1.now ≡ drop (extent bytes) bytes = c.split_at.ensures.back ∙ ap (λ (n : ℕ). drop n bytes) c.in-Some.ensures.2 in
     ap (λ (b : List ℕ). from_tag c.args.tag (items_at b)) rest
-    ∙ sym (from_after c.args.tag item (items_at (drop (extent bytes) bytes)) (λ e. c.if-head-tag.false (sym tag ∙ e))) ∙ ap (from_tag c.args.tag) (sym is) ∙ c.items.invariant
+    ∙ sym (from_after c.args.tag item (items_at (drop (extent bytes) bytes)) (λ e. c.if-front-tag.false (sym tag ∙ e))) ∙ ap (from_tag c.args.tag) (sym is) ∙ c.items.invariant
 
 pub returns : goal.returns
 returns c =
