@@ -4,9 +4,11 @@ from dataclasses import dataclass, field
 STRUCTURE, INTEGER, ENUMERATION, BOOLEAN, TEXT, BYTES, DATE_TIME = 1, 2, 5, 6, 7, 8, 9
 
 CREATE, REGISTER, LOCATE, GET, GET_ATTRIBUTES, ACTIVATE, REVOKE, DESTROY = 1, 3, 8, 0x0A, 0x0B, 0x12, 0x13, 0x14
+QUERY = 0x18
 SUCCESS, FAILED, UNDONE = 0, 1, 3
 CONTINUE, STOP, UNDO = 1, 2, 3
-SYMMETRIC_KEY = 2
+SYMMETRIC_KEY, SECRET_DATA = 2, 7
+PRE_ACTIVE, ACTIVE, DEACTIVATED = 1, 2, 3
 AES = 3
 
 
@@ -25,6 +27,10 @@ def integer(tag: int, number: int) -> bytes:
 
 def enumeration(tag: int, number: int) -> bytes:
     return item(tag, ENUMERATION, number.to_bytes(4, "big"))
+
+
+def boolean(tag: int, holds: bool) -> bytes:
+    return item(tag, BOOLEAN, int(holds).to_bytes(8, "big"))
 
 
 def text(tag: int, characters: str) -> bytes:
@@ -46,20 +52,32 @@ def name_attribute(value: str) -> bytes:
     return structure(0x420053, text(0x420055, value), enumeration(0x420054, 1))
 
 
-def attributes(*, bits: int | None = None, mask: int | None = None, names: tuple[str, ...] = ()) -> bytes:
-    """Attributes of an AES key of so many bits, with a usage mask and names."""
+def attributes(
+    *,
+    bits: int | None = None,
+    mask: int | None = None,
+    names: tuple[str, ...] = (),
+    activation: int | None = None,
+    deactivation: int | None = None,
+    destroyed: int | None = None,
+    compromised: int | None = None,
+) -> bytes:
+    """Attributes of an AES key of so many bits, with a usage mask, names and dates."""
     children = [name_attribute(name) for name in names]
     if bits is not None:
         children += [enumeration(0x420028, AES), integer(0x42002A, bits)]
     if mask is not None:
         children.append(integer(0x42002C, mask))
+    dates = ((0x420001, activation), (0x42002F, deactivation), (0x420033, destroyed), (0x420020, compromised))
+    children += [date(tag, second) for tag, second in dates if second is not None]
     return structure(0x420125, *children)
 
 
-def symmetric_key(material: bytes) -> bytes:
-    """A raw AES key."""
+def symmetric_key(material: bytes, bits: int | None = None) -> bytes:
+    """A raw AES key, which says that it has so many bits."""
     value = structure(0x420045, item(0x420043, BYTES, material))
-    return structure(0x42008F, structure(0x420040, enumeration(0x420042, 1), value, enumeration(0x420028, AES), integer(0x42002A, 8 * len(material))))
+    length = 8 * len(material) if bits is None else bits
+    return structure(0x42008F, structure(0x420040, enumeration(0x420042, 1), value, enumeration(0x420028, AES), integer(0x42002A, length)))
 
 
 def ask(operation: int, *payload: bytes) -> bytes:
@@ -77,10 +95,22 @@ def answer(operation: int, *payload: bytes, status: int = SUCCESS, reason: int |
     return structure(0x42000F, *parts)
 
 
-def request(*asks: bytes, option: int | None = None) -> bytes:
+def undone(operation: int) -> bytes:
+    """An answer that is Undone, without its payload."""
+    return structure(0x42000F, enumeration(0x42005C, operation), enumeration(0x42007F, UNDONE))
+
+
+def refused(reason: int) -> bytes:
+    """The answer that refuses a whole message."""
+    return structure(0x42000F, enumeration(0x42007F, FAILED), enumeration(0x42007E, reason))
+
+
+def request(*asks: bytes, option: int | None = None, ordered: bool | None = None) -> bytes:
     header = [VERSION]
     if option is not None:
         header.append(enumeration(0x42000E, option))
+    if ordered is not None:
+        header.append(boolean(0x420010, ordered))
     return structure(0x420078, structure(0x420077, *header, integer(0x42000D, len(asks))), *asks)
 
 
@@ -96,45 +126,64 @@ def end_mark(call: int, message: bytes) -> bytes:
     return structure(0x540020, integer(0x540011, call), item(0x540013, BYTES, message))
 
 
+def witness_header(version: int) -> bytes:
+    return structure(0x540040, integer(0x540002, version))
+
+
 TRANSCRIPT_HEADER = structure(0x540001, integer(0x540002, 1))
-WITNESS_HEADER = structure(0x540040, integer(0x540002, 1))
+WITNESS_HEADER = witness_header(1)
 
 
 def declaration_header(unique_names: bool = False) -> bytes:
-    return structure(0x540030, integer(0x540002, 1), item(0x540031, BOOLEAN, int(unique_names).to_bytes(8, "big")))
+    return structure(0x540030, integer(0x540002, 1), boolean(0x540031, unique_names))
 
 
 def row(reason: int, cause: int) -> bytes:
     return structure(0x540032, enumeration(0x42007E, reason), enumeration(0x540033, cause))
 
 
-def entry(name: str, bits: int = 128, names: tuple[str, ...] = (), material: bytes | None = None) -> bytes:
+def entry(name: str, bits: int = 128, names: tuple[str, ...] = (), material: bytes | None = None, **dates: int | None) -> bytes:
     """A declared AES key."""
-    parts = [identifier(name), enumeration(0x420057, SYMMETRIC_KEY), attributes(bits=bits, names=names)]
+    parts = [identifier(name), enumeration(0x420057, SYMMETRIC_KEY), attributes(bits=bits, names=names, **dates)]
     if material is not None:
         parts.append(item(0x420043, BYTES, material))
     return structure(0x540034, *parts)
 
 
-def turn(call: int) -> bytes:
-    return structure(0x540041, integer(0x540011, call))
+def turn(call: int, *parts: bytes) -> bytes:
+    return structure(0x540041, integer(0x540011, call), *parts)
+
+
+def given_answer(message: bytes) -> bytes:
+    """The answer that a turn gives to an open call."""
+    return item(0x540044, BYTES, message)
+
+
+def place(number: int) -> bytes:
+    """The place of an item, in the order in which a turn takes those of a call without order."""
+    return integer(0x540045, number)
+
+
+def fill(number: int, *payload: bytes) -> bytes:
+    """The payload that a turn gives to an item."""
+    return structure(0x540042, integer(0x540043, number), structure(0x42007C, *payload))
 
 
 @dataclass
 class Session:
-    """A session whose calls are taken in the order in which they are added."""
+    """A session whose calls are taken in the order in which they are added. A call that is not answered stays open."""
 
     declared: list[bytes] = field(default_factory=lambda: [declaration_header()])
-    calls: list[tuple[bytes, bytes]] = field(default_factory=list)
+    calls: list[tuple[bytes, bytes | None]] = field(default_factory=list)
     overlapping: bool = False
 
-    def call(self, asked: bytes, answered: bytes) -> None:
+    def call(self, asked: bytes, answered: bytes | None) -> None:
         self.calls.append((asked, answered))
 
     def transcript(self) -> bytes:
         """Its marks: each call by itself, or all begun before the first ends."""
         begins = [begin_mark(number, "a", asked) for number, (asked, _) in enumerate(self.calls, 1)]
-        ends = [end_mark(number, answered) for number, (_, answered) in enumerate(self.calls, 1)]
+        ends = [b"" if answered is None else end_mark(number, answered) for number, (_, answered) in enumerate(self.calls, 1)]
         if self.overlapping:
             return TRANSCRIPT_HEADER + b"".join(begins) + b"".join(ends)
         return TRANSCRIPT_HEADER + b"".join(mark for pair in zip(begins, ends) for mark in pair)

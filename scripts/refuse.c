@@ -1,7 +1,9 @@
-/* Preloaded into the program by check-refusals: refuses one call of the system, and counts all of its kind.
+/* Preloaded into the program by check-refusals: refuses calls of the system, and counts all of their kind.
  *
  * REFUSE_GROWTH=N  the Nth allocation (malloc, calloc or realloc) answers no memory
+ * REFUSE_FROM=N    the Nth allocation and each one after it answers no memory
  * REFUSE_READ=N    the Nth read from a file that the program opened fails
+ * REFUSE_MOST=N    a read from such a file gives at most N bytes
  * REFUSE_COUNT=F   at the end the numbers of allocations and reads are written to the file F */
 #define _GNU_SOURCE
 #include <dlfcn.h>
@@ -10,7 +12,7 @@
 #include <stdlib.h>
 #include <unistd.h>
 
-static long growths, reads, growth_refused, read_refused;
+static long growths, reads, growth_refused, refused_from, read_refused, most;
 
 static long number(const char *name)
 {
@@ -21,6 +23,8 @@ static long number(const char *name)
 __attribute__((constructor)) static void begin(void)
 {
     growth_refused = number("REFUSE_GROWTH");
+    refused_from = number("REFUSE_FROM");
+    most = number("REFUSE_MOST");
     read_refused = number("REFUSE_READ");
     growths = 0;
     reads = 0;
@@ -29,9 +33,11 @@ __attribute__((constructor)) static void begin(void)
 __attribute__((destructor)) static void end(void)
 {
     const char *name = getenv("REFUSE_COUNT");
+    long seen = growths;
+    growth_refused = refused_from = 0;
     FILE *file = name ? fopen(name, "w") : NULL;
     if (file) {
-        fprintf(file, "%ld %ld\n", growths, reads);
+        fprintf(file, "%ld %ld\n", seen, reads);
         fclose(file);
     }
 }
@@ -39,7 +45,7 @@ __attribute__((destructor)) static void end(void)
 static int refused(void)
 {
     growths++;
-    if (growths != growth_refused)
+    if (growths != growth_refused && (!refused_from || growths < refused_from))
         return 0;
     errno = ENOMEM;
     return 1;
@@ -72,6 +78,8 @@ ssize_t read(int file, void *into, size_t size)
             errno = EIO;
             return -1;
         }
+        if (most && size > (size_t)most)
+            size = most;
     }
     return next(file, into, size);
 }

@@ -14,6 +14,3 @@ fn main(rt: HostRuntime) -> ExitCode {
     let watched = rt.stderr().is_terminal();
     ExitCode::from(session::run_session(&rt, watched).number())
 }
-
-#[cfg(test)]
-mod tests;

@@ -63,7 +63,7 @@ NamesFault held reported = TypeFault held reported
 -- a child that no client may give, of whatever type
 abbrev pub ClientFault : Side → Option Tree → AttrFault → Type 0
 ClientFault Client (Some t) NotForClients = Unit {0}
-ClientFault side there reported = ⊥
+ClientFault side there fault = ⊥
 
 -- THE DEFINITIONS: a row for each attribute
 pub record SaysAttributes (ts : Trees) (a : Attributes) : Type 0 where

@@ -120,9 +120,9 @@ SaysWanted (Some (structure n ts)) most is_unknown q = SaysFilter ts most is_unk
 SaysWanted (Some (scalar n s)) most is_unknown q = ⊥
 
 abbrev pub WantedFault : Option Tree → AttrFault → Type 0
-WantedFault None reported = ⊥
-WantedFault (Some (structure n ts)) reported = FilterFault ts reported
-WantedFault (Some (scalar n s)) reported = reported ≡ WrongType
+WantedFault None fault = ⊥
+WantedFault (Some (structure n ts)) fault = FilterFault ts fault
+WantedFault (Some (scalar n s)) fault = fault ≡ WrongType
 
 -- what the program reads: the filter that is said, else the lowest fault; where memory ran out nothing is claimed
 abbrev pub ReadsFilter : Option Tree → Option ℤ → Bool → Result Filter AttrFault → Type 0

@@ -18,6 +18,3 @@ pub use readable::is_readable_call;
 pub use refusal::CallRefusal;
 pub use shape::is_refused_message;
 pub use taking::take_call;
-
-#[cfg(test)]
-mod tests;

@@ -6,7 +6,7 @@ use Rattle.kmipa_object.specs.declared.life.SecretNo.{SecretNo}
 use Rattle.kmipa_object.specs.declared.rule.Rule.{Rule}
 use Rattle.kmipa_store.specs.Calls.{MakesSecret, Learns}
 use Rattle.kmipa_store.specs.Ledger.{Known, LedgerState, changed, learned, with_secret}
-use Rattle.kmipa_store.proofs.ChoiceLemmas.{reported-last}
+use Rattle.kmipa_store.proofs.ChoiceLemmas.{told-last}
 use Rattle.kmipa_record.specs.Entries.{EntryOf}
 use Rattle.kmipa_check.specs.Described.{card_declared}
 use Rattle.kmipa_check.specs.Opening.{PlacedAt, Places}
@@ -27,7 +27,7 @@ placed_known s t u e rule secret bytes alive is own made learns =
       learns.2
           ∙ ap (λ (x : LedgerState). learned x secret.number bytes) made.2
           ∙ ap (λ (n : ℕ). learned (with_secret s rule) n bytes) made.1
-          ∙ ap (λ (ks : List Known). changed s (record { objects = s.now.objects; secrets = ks })) (reported-last s.now.secrets (record { rule = rule; bytes = None }) bytes)
+          ∙ ap (λ (ks : List Known). changed s (record { objects = s.now.objects; secrets = ks })) (told-last s.now.secrets (record { rule = rule; bytes = None }) bytes)
           ∙ ap (λ (r : Rule). with_known r (Some bytes)) rule_is
           ∙ ap (with_known (rule_of (card_declared e))) (sym own),
     )

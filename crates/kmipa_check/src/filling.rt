@@ -151,10 +151,7 @@ pub fn filled<'a>(
 fn read_fill<'a>(alloc: Global, fill: &'a Fill, ask: &Ask) -> Result<Payload<'a>, StepFault>
     ensures { FillRead (fill_of fill.now) (ask_of ask.now) result }
 {
-    let Ok(view) = lend(alloc, &fill.payload) else {
-        // Only want of memory refuses to lend.
-        return Err(StepFault::Memory);
-    };
+    let view = lend(&fill.payload);
     match read_payload(alloc, &view, ask) {
         Ok(payload) => Ok(payload),
         Err(ReadFault::Outside(_)) => Err(StepFault::Unfit(WitnessKind::FillForm)),

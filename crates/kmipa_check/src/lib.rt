@@ -37,6 +37,3 @@ pub use stamp::stamp_of;
 pub use step::{Given, Step};
 pub use turn::step_of_turn;
 pub use verdict::{Refused, Verdict};
-
-#[cfg(test)]
-mod tests;

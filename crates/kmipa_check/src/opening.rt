@@ -110,6 +110,3 @@ fn rows_of(alloc: Global, rows: &[Row]) -> Result<Vec<Row>, AllocError>
     }
     Vec::from_slice(alloc, rows)
 }
-
-#[cfg(test)]
-mod tests;

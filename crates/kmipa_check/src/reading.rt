@@ -98,7 +98,7 @@ fn read_end<'a>(
 pub fn request_in<'a>(alloc: Global, begin: &'a Begin) -> Result<Request<'a>, CheckFault>
     ensures { RequestRead begin.now.call begin.now.message.items result }
 {
-    let Some(view) = whole_item(alloc, &begin.message)? else {
+    let Some(view) = whole_item(&begin.message)? else {
         return Err(not_a_message(begin.call, Side::Client));
     };
     match read_request(alloc, &view) {
@@ -118,7 +118,7 @@ pub fn response_in<'a>(
 ) -> Result<Response<'a>, CheckFault>
     ensures { ResponseRead end.now.call (request_of request.now) end.now.message.items result }
 {
-    let Some(view) = whole_item(alloc, &end.message)? else {
+    let Some(view) = whole_item(&end.message)? else {
         return Err(not_a_message(end.call, Side::Server));
     };
     match read_response(alloc, &view, request) {
@@ -138,7 +138,7 @@ pub fn answer_in<'a>(
 ) -> Result<Response<'a>, StepFault>
     ensures { AnswerRead (request_of request.now) answer.now result }
 {
-    let Ok(item) = whole_item(alloc, answer) else {
+    let Ok(item) = whole_item(answer) else {
         // Only want of memory is reported.
         return Err(StepFault::Memory);
     };
@@ -153,10 +153,10 @@ pub fn answer_in<'a>(
 }
 
 /// The item that the bytes spell, all of them; `None` where they spell none.
-fn whole_item<'a>(alloc: Global, bytes: &'a [u8]) -> Result<Option<View<'a>>, CheckFault>
+fn whole_item(bytes: &[u8]) -> Result<Option<View<'_>>, CheckFault>
     ensures { ItemRead bytes.now result }
 {
-    match decode_view(alloc, bytes) {
+    match decode_view(bytes) {
         Ok((view, taken)) => {
             if taken == bytes.len() {
                 Ok(Some(view))

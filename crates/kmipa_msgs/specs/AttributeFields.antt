@@ -29,7 +29,7 @@ agree equal _ _ = true
 -- the reading
 abbrev pub attribute_kind : Result Attributes AttrFault → Result Attributes OutsideKind
 attribute_kind (Ok a) = Ok a
-attribute_kind (Err reported) = Err Attribute
+attribute_kind (Err fault) = Err Attribute
 
 abbrev pub given_in : Side → Field Trees → Result Attributes OutsideKind
 given_in side Absent = Ok no_attributes

@@ -46,7 +46,7 @@ pub data LocateFault (ts : Trees) (k : OutsideKind) : Type 0 where
 -- the reading
 abbrev pub filter_kind : Result FilterOf AttrFault → Result FilterOf OutsideKind
 filter_kind (Ok q) = Ok q
-filter_kind (Err reported) = Err Attribute
+filter_kind (Err fault) = Err Attribute
 
 abbrev pub shape_rows : Trees → Result ((Unit {0} × Unit {0}) × Unit {0}) OutsideKind
 shape_rows ts =

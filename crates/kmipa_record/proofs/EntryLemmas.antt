@@ -1,13 +1,8 @@
 -- Entries: what their items say, and what may be declared of them.
-use Rattle.std.proofs.Common.{◌≡◌, ◌≤◌, ◌<◌, ◌*◌, ◌+◌, ◌%◌, ◌==◌, ◌↔◌, ℕ, ℤ, pos, negsuc, ◌/◌, is_some, List, [], ◌∷◌, length, get_or, take, drop, map, ◌-◌, Bool, true, false, Option, None, Some, Result, Ok, Err, IfSome, IsSome, IsTrue, ◌⊎◌, inl, inr, refl, sym, ap, subst, ◌∙◌, arith}
-use Rattle.std.proofs.Math.Seq.{take-length}
-use Rattle.std.specs.List.{list_any}
+use Rattle.std.proofs.Common.{◌≡◌, ◌<◌, ◌*◌, ◌%◌, ℕ, ℤ, pos, negsuc, ◌/◌, is_some, List, [], ◌∷◌, length, map, true, false, Option, None, Some, Result, Ok, Err, IfSome, IsSome, ◌⊎◌, inl, inr, refl, sym, ap, subst, ◌∙◌, arith}
 use Rattle.std.specs.Prelude.{All}
-use Rattle.kmipa_ttlv.specs.Tree.{Tree, Trees, structure, scalar, none, more}
-use Rattle.kmipa_ttlv.specs.ViewTree.{view_tree, view_trees}
-use Rattle.kmipa_ttlv.specs.declared.view.View.{View}
+use Rattle.kmipa_ttlv.specs.Tree.{Tree, Trees}
 use Rattle.kmipa_attrs.proofs.AttrLemmas.{reads_attributes}
-use Rattle.kmipa_attrs.proofs.FieldLemmas.{left_at, tag_of-view}
 use Rattle.kmipa_attrs.specs.Attributes.{attr_number, Single, SaysNames, SomeWrong, SingleFault, NamesFault, SaysAttributes, AttributesFault, GivesAttributes, attributes_in, in_names, in_object_type, in_algorithm, in_length, in_mask, in_state, in_initial, in_activation, in_deactivation, in_destroy, in_compromise, of_client_state, of_client_initial, of_client_destroy, of_client_compromise, of_client_identifier}
 use Rattle.kmipa_attrs.specs.ObjectTypes.{type_number}
 use Rattle.kmipa_attrs.specs.Readings.{Reads}
@@ -19,8 +14,7 @@ use Rattle.kmipa_attrs.specs.declared.object_type.ObjectType.{ObjectType}
 use Rattle.kmipa_attrs.specs.declared.object_type.ObjectType.TheVariants.{SymmetricKey, SecretData}
 use Rattle.kmipa_attrs.specs.declared.side.Side.TheVariants.{Server}
 use Rattle.kmipa_record.specs.DeclarationReading.{are_whole_bytes}
-use Rattle.kmipa_record.specs.Entries.{EntryOf, listed_tags, is_listed, AreListed, material, entry_item, SaysEntry, key_bits, AreWholeBytes, IsDeclarable}
-use Rattle.kmipa_record.proofs.ShapeLemmas.{count}
+use Rattle.kmipa_record.specs.Entries.{EntryOf, AreListed, material, entry_item, SaysEntry, key_bits, AreWholeBytes, IsDeclarable}
 
 -- ---- attributes say one set
 
@@ -92,51 +86,7 @@ fault_unsaid ts Memory (inl e) g = absurd cc
 fault_unsaid ts Memory (inr (inl e)) g = absurd cc
 fault_unsaid ts Memory (inr (inr e)) g = absurd cc
 
-listed_step : (i : ℕ) (vs : List View) (v : View) → i < length vs → v ≡ get_or vs i v
-    → AreListed (view_trees (drop i vs)) ↔ (IsTrue (is_listed (view_tree v)) × AreListed (view_trees (drop (i + 1) vs)))
-listed_step i vs v lt is =
-    subst (λ (ts : Trees). AreListed ts ↔ (IsTrue (is_listed (view_tree v)) × AreListed (view_trees (drop (i + 1) vs)))) (sym (left_at i vs v lt is)) (λ h. h, λ h. h)
-
-listed_here : (v : View) (r : Bool) → r ≡ list_any (λ tag. tag == v.tag.number) listed_tags → r ≡ is_listed (view_tree v)
-listed_here v r e = e ∙ ap (λ (n : ℕ). list_any (λ tag. tag == n) listed_tags) (sym (tag_of-view v.tag.number v.value))
-
-pub listed_passed : (i : ℕ) (vs : List View) (v : View) (r : Bool) → i < length vs → v ≡ get_or vs i v → r ≡ list_any (λ tag. tag == v.tag.number) listed_tags → r ≡ true
-    → AreListed (view_trees (drop i vs)) ↔ AreListed (view_trees (drop (i + 1) vs))
-listed_passed i vs v r lt is e t =
-    let step = listed_step i vs v lt is in
-    (λ h. (step.0 h).1, λ h. step.1 (sym (listed_here v r e) ∙ t, h))
-
-pub listed_stopped : (i : ℕ) (vs : List View) (v : View) (r : Bool) → i < length vs → v ≡ get_or vs i v → r ≡ list_any (λ tag. tag == v.tag.number) listed_tags → r ≡ false
-    → AreListed (view_trees (drop i vs)) → ⊥
-listed_stopped i vs v r lt is e f h =
-    let step = listed_step i vs v lt is in
-    let here = listed_here v r e in
-    let there : is_listed (view_tree v) ≡ true = (step.0 h).0 in
-    absurd (let clash : false ≡ true = sym f ∙ here ∙ there in cc)
-
 -- ---- the parts of an entry's item
-
-pub count_material : (bytes : Option (List ℕ)) → count (material bytes) ≤ 1
-count_material None = omega arith
-count_material (Some bytes) = omega arith
-
--- what stands after three children
-pub behind_three : (vs : List View) (a b c : Tree) (rest : Trees) → view_trees vs ≡ more a (more b (more c rest)) → view_trees (take (length vs - 3) (drop 3 vs)) ≡ rest
-behind_three [] a b c rest e = absurd cc
-behind_three (x ∷ []) a b c rest e = absurd cc
-behind_three (x ∷ y ∷ []) a b c rest e = absurd cc
-behind_three (x ∷ y ∷ z ∷ vs) a b c rest e =
-    let behind : view_trees vs ≡ rest = cc in
-    let left : length (x ∷ y ∷ z ∷ vs) - 3 ≡ length vs = omega arith in
-    ap view_trees (ap (λ (n : ℕ). take n vs) left ∙ take-length vs) ∙ behind
-
-inner : Tree → Trees
-inner (structure tag ts) = ts
-inner (scalar tag s) = none
-
-pub children_once : (tag : ℕ) (ts us : Trees) → structure tag ts ≡ structure tag us → ts ≡ us
-unfolding inner
-children_once tag ts us e = ap inner e
 
 type_once : (a b : ObjectType) → type_number a ≡ type_number b → a ≡ b
 type_once SymmetricKey SymmetricKey e = refl

@@ -1,11 +1,11 @@
 -- The shapes of items.
-use Rattle.std.proofs.Common.{◌≡◌, ◌≢◌, ℕ, ◌+◌, ℤ, Bool, List, [], ◌∷◌, length, Option, None, Some, MatchOption, refl, sym, ap, ◌∙◌, arith}
+use Rattle.std.proofs.Common.{◌≡◌, ◌≢◌, ℕ, ◌+◌, ℤ, Bool, List, Option, None, Some, MatchOption, sym, ap, ◌∙◌}
 use Rattle.std.specs.Option.{option_map}
 use Rattle.kmipa_ttlv.specs.Tree.{Tree, Trees, structure, scalar, none, more, integer, enumeration, boolean, text, byte_string}
-use Rattle.kmipa_ttlv.specs.ViewTree.{view_tree, view_trees}
+use Rattle.kmipa_ttlv.specs.ViewTree.{view_tree}
 use Rattle.kmipa_ttlv.specs.declared.view.View.{View}
 use Rattle.kmipa_attrs.specs.Fields.{tag_of, as_structure, as_integer, as_enumeration, as_boolean, as_text, as_bytes}
-use Rattle.kmipa_attrs.proofs.FieldLemmas.{tag_of-view}
+use Rattle.kmipa_ttlv.proofs.ViewTreeLemmas.{tag_of-view}
 
 -- an item with another tag
 pub other_tag : (item : View) (tag : ℕ) (t : Tree) → (item.tag.number ≡ tag → ⊥) → tag_of t ≡ tag → view_tree item ≡ t → ⊥
@@ -53,19 +53,3 @@ bytes_shape tag _ e = λ bs h. absurd cc
 abbrev pub count : Trees → ℕ
 count none = 0
 count (more t ts) = 1 + count ts
-
-count-views : (views : List View) → count (view_trees views) ≡ length views
-count-views [] = refl
-count-views (v ∷ vs) = omega (arith, count-views vs)
-
-inner : Tree → Trees
-inner (structure tag ts) = ts
-inner (scalar tag s) = none
-
--- as many children as the item has
-pub same_count : (t : Tree) (tag : ℕ) (views : List View) (ts : Trees) → t ≡ structure tag (view_trees views) → t ≡ structure tag ts → length views ≡ count ts
-unfolding inner
-same_count t tag views ts e f = sym (count-views views) ∙ ap (λ (u : Tree). count (inner u)) (sym e ∙ f)
-
-pub fields_count : (views : List View) (ts : Trees) → view_trees views ≡ ts → length views ≡ count ts
-fields_count views ts e = sym (count-views views) ∙ ap count e

@@ -1,17 +1,15 @@
 -- Turns and their items.
-use Rattle.std.proofs.Common.{◌≡◌, ℕ, ℤ, List, [], ◌∷◌, ◌++◌, map, Option, None, Some, refl, sym, ap, subst, ◌∙◌, arith, ◌<◌, ◌+◌, suc, length, take, drop, get_or, append_assoc}
-use Rattle.std.proofs.lemmas.List.Elements.{Contains-append_right, All-contains, All-push}
-use Rattle.std.proofs.lemmas.List.{map-append, take_more, take-append-drop}
+use Rattle.std.proofs.Common.{◌≡◌, ℕ, ℤ, List, [], ◌∷◌, ◌++◌, map, Option, None, Some, refl, sym, ap, subst, ◌∙◌, arith, ◌<◌, suc, length, take, drop, get_or, append_assoc}
+use Rattle.std.proofs.lemmas.List.Elements.{Contains-append_right, All-contains}
+use Rattle.std.proofs.lemmas.List.{take-append-drop}
 use Rattle.std.proofs.Math.Seq.{drop-cons}
-use Rattle.kmipa_ttlv.specs.Tree.{Tree, structure, more, forest}
+use Rattle.kmipa_ttlv.specs.Tree.{Tree, Trees, structure, none, more, forest}
 use Rattle.kmipa_ttlv.specs.ItemTree.{tree, trees}
 use Rattle.kmipa_ttlv.specs.declared.item.Item.{Item}
-use Rattle.kmipa_ttlv.specs.ViewTree.{view_tree, view_trees}
-use Rattle.kmipa_ttlv.specs.declared.view.View.{View}
 use Rattle.kmipa_attrs.specs.Fields.{tag_of}
-use Rattle.kmipa_record.specs.Witnesses.{FillOf, TurnOf, fill_of, call_item, answer_item, place_item, fill_item, listed, turn_fields, turn_item, IsPayload, ArePayloads}
-use Rattle.kmipa_record.specs.declared.fill.Fill.{Fill}
-use Rattle.kmipa_record.specs.WitnessReading.{NotAhead}
+use Rattle.kmipa_record.specs.Tags.{turn_tag}
+use Rattle.kmipa_record.specs.Witnesses.{FillOf, TurnOf, call_item, answer_item, place_item, fill_item, listed, turn_fields, turn_item, IsPayload, ArePayloads}
+use Rattle.kmipa_record.specs.WitnessReading.{NotAhead, list_of}
 use Rattle.kmipa_record.proofs.FirstFaultLemmas.{values_once, cut_values}
 
 -- ---- lists that begin with the items of values
@@ -91,60 +89,60 @@ turn_item_once a b e =
 
 -- ---- a turn that is read child by child
 
-forest_views : (views : List View) → view_trees views ≡ forest (λ (t : Tree). t) (map view_tree views)
-forest_views [] = refl
-forest_views (v ∷ views) = ap (more (view_tree v)) (forest_views views)
+forest_list : (ts : Trees) → ts ≡ forest (λ (t : Tree). t) (list_of ts)
+forest_list none = refl
+forest_list (more t ts) = ap (more t) (forest_list ts)
 
 -- the children of a turn's item
-children_are : (item : Tree) (views : List View) (t : TurnOf) → item ≡ structure 0x54_0041 (view_trees views) → item ≡ turn_item t → map view_tree views ≡ turn_fields t
-children_are item views t e f =
-    let both : structure 0x54_0041 (view_trees views) ≡ turn_item t = sym e ∙ f in
-    let same : view_trees views ≡ forest (λ (u : Tree). u) (turn_fields t) = cc in
-    forest_once (map view_tree views) (turn_fields t) (sym (forest_views views) ∙ same)
+children_are : (item : Tree) (children : Trees) (t : TurnOf) → item ≡ structure turn_tag children → item ≡ turn_item t → list_of children ≡ turn_fields t
+children_are item children t e f =
+    let both : structure turn_tag children ≡ turn_item t = sym e ∙ f in
+    let same : children ≡ forest (λ (u : Tree). u) (turn_fields t) = cc in
+    forest_once (list_of children) (turn_fields t) (sym (forest_list children) ∙ same)
 
-pub no_call : (item : Tree) (views : List View) → item ≡ structure 0x54_0041 (view_trees views) → ((call : ℤ) (rest : List Tree) → map view_tree views ≡ call_item call ∷ rest → ⊥)
+pub no_call : (item : Tree) (children : Trees) → item ≡ structure turn_tag children → ((call : ℤ) (rest : List Tree) → list_of children ≡ call_item call ∷ rest → ⊥)
     → (t : TurnOf) → item ≡ turn_item t → ⊥
-no_call item views e isnt t f = isnt t.call (map answer_item (listed t.answer) ++ (map place_item t.places ++ map fill_item t.fills)) (children_are item views t e f)
+no_call item children e isnt t f = isnt t.call (map answer_item (listed t.answer) ++ (map place_item t.places ++ map fill_item t.fills)) (children_are item children t e f)
 
-not_behind : (answer : Option (List ℕ)) (views : List Tree) (rest : List Tree) → views ≡ map answer_item (listed answer) ++ rest → (answer ≡ None → NotAhead answer_item views)
-    → (o : Option (List ℕ)) (places : List ℤ) (fills : List FillOf) → views ≡ map answer_item (listed o) ++ (map place_item places ++ map fill_item fills)
+not_behind : (answer : Option (List ℕ)) (given : List Tree) (rest : List Tree) → given ≡ map answer_item (listed answer) ++ rest → (answer ≡ None → NotAhead answer_item given)
+    → (o : Option (List ℕ)) (places : List ℤ) (fills : List FillOf) → given ≡ map answer_item (listed o) ++ (map place_item places ++ map fill_item fills)
     → rest ≡ map place_item places ++ map fill_item fills
-not_behind None views rest e first None places fills f = sym e ∙ f
-not_behind None views rest e first (Some x) places fills f = absurd (first refl x (map place_item places ++ map fill_item fills) f)
-not_behind (Some a) views rest e first None places fills f = absurd (no_answer_behind places fills a rest (sym f ∙ e))
-not_behind (Some a) views rest e first (Some x) places fills f = let both : answer_item a ∷ rest ≡ answer_item x ∷ (map place_item places ++ map fill_item fills) = sym e ∙ f in cc
+not_behind None given rest e first None places fills f = sym e ∙ f
+not_behind None given rest e first (Some x) places fills f = absurd (first refl x (map place_item places ++ map fill_item fills) f)
+not_behind (Some a) given rest e first None places fills f = absurd (no_answer_behind places fills a rest (sym f ∙ e))
+not_behind (Some a) given rest e first (Some x) places fills f = let both : answer_item a ∷ rest ≡ answer_item x ∷ (map place_item places ++ map fill_item fills) = sym e ∙ f in cc
 
 -- what is read in turn: a call, an answer, places, and what is after them
-pub record IsSplitTurn (views : List Tree) (call : ℤ) (answer : Option (List ℕ)) (places : List ℤ) (rest : List Tree) : Type 0 where
+pub record IsSplitTurn (fields : List Tree) (call : ℤ) (answer : Option (List ℕ)) (places : List ℤ) (rest : List Tree) : Type 0 where
   pub behind_call : List Tree
   pub behind_answer : List Tree
-  pub call_is : views ≡ call_item call ∷ behind_call
+  pub call_is : fields ≡ call_item call ∷ behind_call
   pub answer_is : behind_call ≡ map answer_item (listed answer) ++ behind_answer
   pub first : answer ≡ None → NotAhead answer_item behind_call
   pub places_are : behind_answer ≡ map place_item places ++ rest
   pub all : NotAhead place_item rest
 
 -- after them are the fills
-fills_behind : (views : List Tree) (call : ℤ) (answer : Option (List ℕ)) (places : List ℤ) (rest : List Tree) → IsSplitTurn views call answer places rest
-    → (t : TurnOf) → views ≡ turn_fields t → rest ≡ map fill_item t.fills
-fills_behind views call answer places rest s t e =
+fills_behind : (fields : List Tree) (call : ℤ) (answer : Option (List ℕ)) (places : List ℤ) (rest : List Tree) → IsSplitTurn fields call answer places rest
+    → (t : TurnOf) → fields ≡ turn_fields t → rest ≡ map fill_item t.fills
+fills_behind fields call answer places rest s t e =
     let both : call_item call ∷ s.behind_call ≡ turn_fields t = sym s.call_is ∙ e in
     let behind : s.behind_call ≡ map answer_item (listed t.answer) ++ (map place_item t.places ++ map fill_item t.fills) = cc in
     let unanswered = not_behind answer s.behind_call s.behind_answer s.answer_is s.first t.answer t.places t.fills behind in
     (front_once place_item place_once places t.places rest (map fill_item t.fills) s.all (no_place_in_fills t.fills) (sym s.places_are ∙ unanswered)).1
 
-pub no_fills : (item : Tree) (views : List View) (call : ℤ) (answer : Option (List ℕ)) (places : List ℤ) (rest : List Tree) → item ≡ structure 0x54_0041 (view_trees views)
-    → IsSplitTurn (map view_tree views) call answer places rest → ((fills : List FillOf) → ArePayloads fills → rest ≡ map fill_item fills → ⊥)
+pub no_fills : (item : Tree) (children : Trees) (call : ℤ) (answer : Option (List ℕ)) (places : List ℤ) (rest : List Tree) → item ≡ structure turn_tag children
+    → IsSplitTurn (list_of children) call answer places rest → ((fills : List FillOf) → ArePayloads fills → rest ≡ map fill_item fills → ⊥)
     → (t : TurnOf) → ArePayloads t.fills → item ≡ turn_item t → ⊥
-no_fills item views call answer places rest e s isnt t payloads f = isnt t.fills payloads (fills_behind (map view_tree views) call answer places rest s t (children_are item views t e f))
+no_fills item children call answer places rest e s isnt t payloads f = isnt t.fills payloads (fills_behind (list_of children) call answer places rest s t (children_are item children t e f))
 
-pub turn_read : (item : Tree) (views : List View) (call : ℤ) (answer : Option (List ℕ)) (places : List ℤ) (fills : List FillOf) (rest : List Tree) → item ≡ structure 0x54_0041 (view_trees views)
-    → IsSplitTurn (map view_tree views) call answer places rest → rest ≡ map fill_item fills → item ≡ turn_item (turn_with call answer places fills)
-turn_read item views call answer places fills rest e s f =
+pub turn_read : (item : Tree) (children : Trees) (call : ℤ) (answer : Option (List ℕ)) (places : List ℤ) (fills : List FillOf) (rest : List Tree) → item ≡ structure turn_tag children
+    → IsSplitTurn (list_of children) call answer places rest → rest ≡ map fill_item fills → item ≡ turn_item (turn_with call answer places fills)
+turn_read item children call answer places fills rest e s f =
     let behind : s.behind_call ≡ map answer_item (listed answer) ++ (map place_item places ++ map fill_item fills)
     = s.answer_is ∙ ap (λ (l : List Tree). map answer_item (listed answer) ++ l) (s.places_are ∙ ap (λ (l : List Tree). map place_item places ++ l) f) in
-    let fields : map view_tree views ≡ turn_fields (turn_with call answer places fills) = s.call_is ∙ ap (λ (l : List Tree). call_item call ∷ l) behind in
-    e ∙ ap (structure 0x54_0041) (forest_views views ∙ ap (forest (λ (t : Tree). t)) fields)
+    let fields : list_of children ≡ turn_fields (turn_with call answer places fills) = s.call_is ∙ ap (λ (l : List Tree). call_item call ∷ l) behind in
+    e ∙ ap (structure turn_tag) (forest_list children ∙ ap (forest (λ (t : Tree). t)) fields)
 
 -- ---- fills
 
@@ -161,23 +159,15 @@ pub cut_here : {X : Type 0} (xs : List X) (i : ℕ) (x : X) → i < length xs �
 cut_here xs i x h is =
     sym (take-append-drop i xs) ∙ ap (λ (l : List _). take i xs ++ l) (drop-cons xs i x h ∙ ap (λ (y : _). y ∷ drop (suc i) xs) (sym is))
 
-pub fills_stopped : (views : List View) (i : ℕ) (v : View) (fills : List FillOf) → i < length views → v ≡ get_or views i v
-    → ((fill : FillOf) → IsPayload fill.payload → view_tree v ≡ fill_item fill → ⊥) → ArePayloads fills → map view_tree views ≡ map fill_item fills → ⊥
-fills_stopped views i v fills h is isnt payloads e =
-    other_item (map view_tree (take i views)) (map view_tree (drop (suc i) views)) (view_tree v) fills isnt payloads
-    (sym (map-append view_tree (take i views) (v ∷ drop (suc i) views)) ∙ ap (map view_tree) (sym (cut_here views i v h is)) ∙ e)
+-- the fills that were taken of some items, and the items that are left
+pub record AreTaken (items left : Trees) (fills : List FillOf) : Type 0 where
+  pub are : list_of items ≡ map fill_item fills ++ list_of left
+  pub payloads : ArePayloads fills
 
-pub fills_more : (views : List View) (i : ℕ) (v : View) (fills longer : List Fill) (fill : Fill) → i < length views → v ≡ get_or views i v → longer ≡ fills ++ fill ∷ []
-    → (view_tree v ≡ fill_item (fill_of fill)) × IsPayload (fill_of fill).payload
-    → (map view_tree (take i views) ≡ map fill_item (map fill_of fills)) × ArePayloads (map fill_of fills)
-    → (map view_tree (take (i + 1) views) ≡ map fill_item (map fill_of longer)) × ArePayloads (map fill_of longer)
-fills_more views i v fills longer fill h is e said before =
-    let one : map fill_of longer ≡ map fill_of fills ++ fill_of fill ∷ [] = ap (map fill_of) e ∙ map-append fill_of fills (fill ∷ []) in (
-      ap (map view_tree) (take_more views i v h ∙ ap (λ (x : View). take i views ++ x ∷ []) (sym is)) ∙ map-append view_tree (take i views) (v ∷ [])
-          ∙ ap (λ (l : List Tree). l ++ view_tree v ∷ []) before.0 ∙ ap (λ (t : Tree). map fill_item (map fill_of fills) ++ t ∷ []) said.0
-          ∙ sym (map-append fill_item (map fill_of fills) (fill_of fill ∷ [])) ∙ ap (map fill_item) (sym one),
-      subst ArePayloads (sym one) (All-push (λ (f : FillOf). IsPayload f.payload) (map fill_of fills) (fill_of fill) before.1 said.1),
-    )
+pub fills_stopped : (items left rest : Trees) (t : Tree) (taken : List FillOf) → AreTaken items left taken → left ≡ more t rest
+    → ((fill : FillOf) → IsPayload fill.payload → t ≡ fill_item fill → ⊥) → (fills : List FillOf) → ArePayloads fills → list_of items ≡ map fill_item fills → ⊥
+fills_stopped items left rest t taken before next isnt fills payloads e =
+    other_item (map fill_item taken) (list_of rest) t fills isnt payloads (ap (λ (l : List Tree). map fill_item taken ++ l) (sym (ap list_of next)) ∙ sym before.are ∙ e)
 
 -- ---- a turn that is written child by child
 
@@ -185,7 +175,7 @@ forest_items : (items : List Item) → trees items ≡ forest (λ (t : Tree). t)
 forest_items [] = refl
 forest_items (i ∷ items) = ap (more (tree i)) (forest_items items)
 
-pub turn_written : (item : Tree) (t : TurnOf) (first second third children : List Item) → item ≡ structure 0x54_0041 (trees children) → map tree first ≡ call_item t.call ∷ []
+pub turn_written : (item : Tree) (t : TurnOf) (first second third children : List Item) → item ≡ structure turn_tag (trees children) → map tree first ≡ call_item t.call ∷ []
     → map tree second ≡ map tree first ++ map answer_item (listed t.answer) → map tree third ≡ map tree second ++ map place_item t.places → map tree children ≡ map tree third ++ map fill_item t.fills
     → item ≡ turn_item t
 turn_written item t first second third children e a b c d =
@@ -195,4 +185,4 @@ turn_written item t first second third children e a b c d =
     let fields : map tree children ≡ turn_fields t
     = d ∙ ap (λ (l : List Tree). l ++ fills) (c ∙ ap (λ (l : List Tree). l ++ places) (b ∙ ap (λ (l : List Tree). l ++ answers) a))
     ∙ ap (λ (l : List Tree). call_item t.call ∷ l) (append_assoc answers places fills) in
-    e ∙ ap (structure 0x54_0041) (forest_items children ∙ ap (forest (λ (u : Tree). u)) fields)
+    e ∙ ap (structure turn_tag) (forest_items children ∙ ap (forest (λ (u : Tree). u)) fields)

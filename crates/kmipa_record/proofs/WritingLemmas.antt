@@ -17,6 +17,7 @@ use Rattle.kmipa_ttlv.proofs.SpellLemmas.{spells_legal}
 use Rattle.kmipa_ttlv.specs.declared.item.Item.{Item}
 use Rattle.kmipa_ttlv.specs.declared.item.Value.{Value, Structure'}
 use Rattle.kmipa_attrs.specs.Fields.{tag_of}
+use Rattle.kmipa_attrs.specs.Tags.{response_payload}
 use Rattle.kmipa_record.specs.Witnesses.{IsPayload}
 use Rattle.kmipa_record.specs.Writing.{Adds, AddsAll, Refused, starved, refused}
 use Rattle.kmipa_record.specs.declared.fault.RecordKind.{RecordKind}
@@ -92,7 +93,7 @@ tag_of-item : (n : ℕ) (v : Value) → tag_of (value_tree n v) ≡ n
 tag_of-item n (Structure' shape row) = refl
 tag_of-item n _ = refl
 
-pub other_payload : (item : Item) → (item.tag.number ≡ 0x42_007C → ⊥) → IsPayload (tree item) → ⊥
+pub other_payload : (item : Item) → (item.tag.number ≡ response_payload → ⊥) → IsPayload (tree item) → ⊥
 other_payload item ne p = ne (sym (tag_of-item item.tag.number item.value) ∙ ap tag_of p.is)
 
 -- ---- refusals

@@ -3,10 +3,12 @@ use Rattle.std.specs.Prelude.{◌≡◌, ◌≢◌, ℕ, pos, Bool, List, [], �
 use Rattle.std.specs.List.{AllZip}
 use Rattle.kmipa_ttlv.specs.Tree.{Tree, structure, scalar, none, more, integer, enumeration, boolean}
 use Rattle.kmipa_ttlv.specs.Stream.{Begins}
+use Rattle.kmipa_attrs.specs.Tags.{result_reason}
 use Rattle.kmipa_msgs.specs.Messages.{RowOf, row_of}
 use Rattle.kmipa_msgs.specs.Numbers.{cause_number}
 use Rattle.kmipa_record.specs.Entries.{EntryOf, entry_of, SaysEntry, IsDeclarable}
 use Rattle.kmipa_record.specs.Files.{FirstFault, IsRightUpTo}
+use Rattle.kmipa_record.specs.Tags.{version_tag, declaration_header_tag, unique_names_tag, row_tag, cause_tag}
 use Rattle.kmipa_record.specs.declared.declaration.Declaration.{Declaration}
 use Rattle.kmipa_record.specs.declared.fault.RecordKind.{RecordKind}
 use Rattle.kmipa_record.specs.declared.fault.RecordKind.TheVariants.{Header, Entry, Identifier}
@@ -28,11 +30,11 @@ pub record AreDeclared (declared : DeclarationOf) : Type 0 where
 -- ---- the items
 
 abbrev pub declaration_header : Bool → Tree
-declaration_header unique = structure 0x54_0030 (more (scalar 0x54_0002 (integer (pos 1))) (more (scalar 0x54_0031 (boolean unique)) none))
+declaration_header unique = structure declaration_header_tag (more (scalar version_tag (integer (pos 1))) (more (scalar unique_names_tag (boolean unique)) none))
 
 -- the item that is the row's record: exactly these children, in this order
 abbrev pub row_item : RowOf → Tree
-row_item r = structure 0x54_0032 (more (scalar 0x42_007E (enumeration r.reason)) (more (scalar 0x54_0033 (enumeration (cause_number r.cause))) none))
+row_item r = structure row_tag (more (scalar result_reason (enumeration r.reason)) (more (scalar cause_tag (enumeration (cause_number r.cause))) none))
 
 -- what a record of a declaration declares
 pub data RecordOf : Type 0 where

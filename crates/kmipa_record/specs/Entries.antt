@@ -8,8 +8,10 @@ use Rattle.kmipa_attrs.specs.Attributes.{SaysAttributes}
 use Rattle.kmipa_attrs.specs.Fields.{tag_of}
 use Rattle.kmipa_attrs.specs.ObjectTypes.{type_number}
 use Rattle.kmipa_attrs.specs.Sets.{Attributes, attributes_of}
+use Rattle.kmipa_attrs.specs.Tags.{name_tag, cryptographic_algorithm, cryptographic_length, cryptographic_usage_mask, initial_date, activation_date, deactivation_date, destroy_date, compromise_date, unique_identifier, object_type_tag, attributes_tag, key_material}
 use Rattle.kmipa_attrs.specs.declared.object_type.ObjectType.{ObjectType}
 use Rattle.kmipa_attrs.specs.declared.object_type.ObjectType.TheVariants.{SymmetricKey, SecretData}
+use Rattle.kmipa_record.specs.Tags.{entry_tag}
 use Rattle.kmipa_record.specs.declared.entry.Entry.{Entry}
 
 -- an object: its identifier, its type, its attributes, and its bytes where they are declared
@@ -28,9 +30,19 @@ entry_of e = record { id = string_bytes e.id; kind = e.kind; attributes = attrib
 
 -- ---- its record
 
--- the attributes that an entry may have, by their tags: Name, algorithm, length, mask and the five dates
+-- the attributes that an entry may have, by their tags
 abbrev pub listed_tags : List ℕ
-listed_tags = 0x42_0053 ∷ 0x42_0028 ∷ 0x42_002A ∷ 0x42_002C ∷ 0x42_0039 ∷ 0x42_0001 ∷ 0x42_002F ∷ 0x42_0033 ∷ 0x42_0020 ∷ []
+listed_tags =
+    name_tag ∷
+    cryptographic_algorithm ∷
+    cryptographic_length ∷
+    cryptographic_usage_mask ∷
+    initial_date ∷
+    activation_date ∷
+    deactivation_date ∷
+    destroy_date ∷
+    compromise_date ∷
+    []
 
 abbrev pub is_listed : Tree → Bool
 is_listed t = list_any (λ tag. tag == tag_of t) listed_tags
@@ -41,12 +53,12 @@ AreListed (more t ts) = IsTrue (is_listed t) × AreListed ts
 
 abbrev pub material : Option (List ℕ) → Trees
 material None = none
-material (Some bytes) = more (scalar 0x42_0043 (byte_string bytes)) none
+material (Some bytes) = more (scalar key_material (byte_string bytes)) none
 
 -- a record of an entry with these attributes: exactly these children, in this order
 abbrev pub entry_item : List ℕ → ObjectType → Trees → Option (List ℕ) → Tree
 entry_item id kind attributes bytes =
-    structure 0x54_0034 (more (scalar 0x42_0094 (text id)) (more (scalar 0x42_0057 (enumeration (type_number kind))) (more (structure 0x42_0125 attributes) (material bytes))))
+    structure entry_tag (more (scalar unique_identifier (text id)) (more (scalar object_type_tag (enumeration (type_number kind))) (more (structure attributes_tag attributes) (material bytes))))
 
 -- The item is a record of this entry; its attributes stand in any order, and are only those that an entry may have.
 pub record SaysEntry (item : Tree) (e : EntryOf) : Type 0 where

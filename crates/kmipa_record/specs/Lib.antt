@@ -1,3 +1,4 @@
+pub mod Tags
 pub mod Kinds
 pub mod Files
 pub mod Marks

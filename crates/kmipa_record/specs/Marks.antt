@@ -1,6 +1,7 @@
 -- The marks of a transcript: calls begin and end.
 use Rattle.std.specs.Prelude.{◌≡◌, ◌≢◌, ◌≤◌, ℕ, ℤ, pos, ◌≤ℤ◌, ◌<ℤ◌, List, [], ◌∷◌, ◌++◌, length, All, AllPairs, Contains}
 use Rattle.kmipa_ttlv.specs.Tree.{Tree, Trees, structure, scalar, none, more, integer, text, byte_string}
+use Rattle.kmipa_record.specs.Tags.{begin_mark_tag, call_tag, client_tag, message_tag, end_mark_tag}
 use Rattle.kmipa_record.specs.declared.fault.RecordKind.{RecordKind}
 use Rattle.kmipa_record.specs.declared.fault.RecordKind.TheVariants.{Number, EndWithoutBegin, SecondEnd, Calls}
 use Rattle.kmipa_record.specs.declared.transcript.Mark.{Mark}
@@ -17,15 +18,15 @@ mark_of (Begin b) = begins b.call (string_bytes b.client) b.message.items
 mark_of (End e) = ends e.call e.message.items
 
 abbrev pub begin_fields : ℤ → List ℕ → List ℕ → Trees
-begin_fields call client message = more (scalar 0x54_0011 (integer call)) (more (scalar 0x54_0012 (text client)) (more (scalar 0x54_0013 (byte_string message)) none))
+begin_fields call client message = more (scalar call_tag (integer call)) (more (scalar client_tag (text client)) (more (scalar message_tag (byte_string message)) none))
 
 abbrev pub end_fields : ℤ → List ℕ → Trees
-end_fields call message = more (scalar 0x54_0011 (integer call)) (more (scalar 0x54_0013 (byte_string message)) none)
+end_fields call message = more (scalar call_tag (integer call)) (more (scalar message_tag (byte_string message)) none)
 
 -- the item that is the mark's record: exactly these children, in this order
 abbrev pub mark_item : MarkOf → Tree
-mark_item (begins call client message) = structure 0x54_0010 (begin_fields call client message)
-mark_item (ends call message) = structure 0x54_0020 (end_fields call message)
+mark_item (begins call client message) = structure begin_mark_tag (begin_fields call client message)
+mark_item (ends call message) = structure end_mark_tag (end_fields call message)
 
 abbrev pub call_of : MarkOf → ℤ
 call_of (begins call client message) = call

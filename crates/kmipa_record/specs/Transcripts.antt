@@ -4,6 +4,7 @@ use Rattle.kmipa_ttlv.specs.Tree.{Tree, structure, scalar, none, more, integer}
 use Rattle.kmipa_ttlv.specs.Stream.{Begins}
 use Rattle.kmipa_record.specs.Files.{FirstFault, IsRightUpTo}
 use Rattle.kmipa_record.specs.Marks.{MarkOf, mark_of, mark_item, AreRecorded, MarkFault}
+use Rattle.kmipa_record.specs.Tags.{transcript_header_tag, version_tag}
 use Rattle.kmipa_record.specs.declared.fault.RecordKind.{RecordKind}
 use Rattle.kmipa_record.specs.declared.fault.RecordKind.TheVariants.{Header, Entry}
 use Rattle.kmipa_record.specs.declared.transcript.Transcript.{Transcript}
@@ -13,7 +14,7 @@ abbrev pub transcript_of : Transcript → List MarkOf
 transcript_of t = map mark_of t.marks.items
 
 abbrev pub transcript_header : Tree
-transcript_header = structure 0x54_0001 (more (scalar 0x54_0002 (integer (pos 1))) none)
+transcript_header = structure transcript_header_tag (more (scalar version_tag (integer (pos 1))) none)
 
 -- The bytes are a transcript of these marks.
 pub record IsTranscript (bytes : List ℕ) (marks : List MarkOf) : Type 0 where

@@ -1,6 +1,6 @@
 -- How a witness is read turn by turn, and a turn child by child. Not promised.
-use Rattle.std.specs.Prelude.{◌≡◌, ◌≢◌, ℕ, pos, ◌<ℤ◌, List, ◌∷◌, map, All}
-use Rattle.kmipa_ttlv.specs.Tree.{Tree}
+use Rattle.std.specs.Prelude.{◌≡◌, ◌≢◌, ℕ, pos, ◌<ℤ◌, List, [], ◌∷◌, map, All}
+use Rattle.kmipa_ttlv.specs.Tree.{Tree, Trees, none, more}
 use Rattle.kmipa_record.specs.Marks.{IsCallNumber}
 use Rattle.kmipa_record.specs.Reading.{IsReading}
 use Rattle.kmipa_record.specs.declared.fault.RecordKind.{RecordKind}
@@ -13,6 +13,11 @@ pub record IsReadSoFar (file : List ℕ) (version : Version) (turns : List TurnO
   pub reading : IsReading file (witness_header version ∷ map turn_item turns) left place
   pub admitted : All (Admits version) turns
   pub numbered : All (λ turn. IsCallNumber turn.call) turns
+
+-- the trees, as a list
+abbrev pub list_of : Trees → List Tree
+list_of none = []
+list_of (more t ts) = t ∷ list_of ts
 
 -- the list does not begin with the item of a value
 abbrev pub NotAhead : {X : Type 0} → (X → Tree) → List Tree → Type 0

@@ -3,9 +3,11 @@ use Rattle.std.specs.Prelude.{◌≡◌, ◌≢◌, ℕ, ℤ, pos, ◌<ℤ◌, L
 use Rattle.kmipa_ttlv.specs.Tree.{Tree, Trees, structure, scalar, none, more, forest, integer, byte_string}
 use Rattle.kmipa_ttlv.specs.ItemTree.{tree}
 use Rattle.kmipa_ttlv.specs.Stream.{Begins}
+use Rattle.kmipa_attrs.specs.Tags.{response_payload}
 use Rattle.kmipa_record.specs.Entries.{items_of}
 use Rattle.kmipa_record.specs.Files.{FirstFault, IsRightUpTo}
 use Rattle.kmipa_record.specs.Marks.{IsCallNumber}
+use Rattle.kmipa_record.specs.Tags.{version_tag, call_tag, witness_header_tag, turn_tag, fill_tag, filled_item_tag, answer_tag, place_tag}
 use Rattle.kmipa_record.specs.declared.fault.RecordKind.{RecordKind}
 use Rattle.kmipa_record.specs.declared.fault.RecordKind.TheVariants.{Header, Number, Entry}
 use Rattle.kmipa_record.specs.declared.fill.Fill.{Fill}
@@ -44,19 +46,19 @@ version_number Second = 2
 version_number Third = 3
 
 abbrev pub witness_header : Version → Tree
-witness_header version = structure 0x54_0040 (more (scalar 0x54_0002 (integer (pos (version_number version)))) none)
+witness_header version = structure witness_header_tag (more (scalar version_tag (integer (pos (version_number version)))) none)
 
 abbrev pub call_item : ℤ → Tree
-call_item call = scalar 0x54_0011 (integer call)
+call_item call = scalar call_tag (integer call)
 
 abbrev pub answer_item : List ℕ → Tree
-answer_item answer = scalar 0x54_0044 (byte_string answer)
+answer_item answer = scalar answer_tag (byte_string answer)
 
 abbrev pub place_item : ℤ → Tree
-place_item place = scalar 0x54_0045 (integer place)
+place_item place = scalar place_tag (integer place)
 
 abbrev pub fill_item : FillOf → Tree
-fill_item f = structure 0x54_0042 (more (scalar 0x54_0043 (integer f.item)) (more f.payload none))
+fill_item f = structure fill_tag (more (scalar filled_item_tag (integer f.item)) (more f.payload none))
 
 -- what is there, as a list
 abbrev pub listed : {A : Type 0} → Option A → List A
@@ -69,14 +71,14 @@ turn_fields t = call_item t.call ∷ (map answer_item (listed t.answer) ++ (map 
 
 -- the item that is the turn's record
 abbrev pub turn_item : TurnOf → Tree
-turn_item t = structure 0x54_0041 (forest (λ (field : Tree). field) (turn_fields t))
+turn_item t = structure turn_tag (forest (λ (field : Tree). field) (turn_fields t))
 
 -- ---- versions
 
 -- a Response Payload: a Structure with this tag
 pub record IsPayload (payload : Tree) : Type 0 where
   pub children : Trees
-  pub is : payload ≡ structure 0x42_007C children
+  pub is : payload ≡ structure response_payload children
 
 abbrev pub ArePayloads : List FillOf → Type 0
 ArePayloads = All (λ fill. IsPayload fill.payload)

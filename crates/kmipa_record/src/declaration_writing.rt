@@ -12,11 +12,12 @@ ghost use Rattle.kmipa_record.specs.Writing.{Appends, IsWrittenDeclaration, Unwr
 
 use crate::append::{Written, append, append_all};
 use crate::declaration::Declaration;
-use crate::entry::{ENTRY, Entry, KEY_MATERIAL, OBJECT_TYPE, UNIQUE_IDENTIFIER, is_declarable};
+use crate::entry::{Entry, is_declarable};
 use crate::fault::{RecordFault, RecordKind};
 use crate::header::write_declaration_header;
-use crate::row::{CAUSE, RESULT_REASON, ROW};
 use crate::shape::are_bytes;
+use crate::tags::{CAUSE, ENTRY, ROW};
+use kmipa_attrs::tags::{KEY_MATERIAL, OBJECT_TYPE, RESULT_REASON, UNIQUE_IDENTIFIER};
 use kmipa_attrs::{AttrSet, write_short_attrs};
 use kmipa_msgs::Row;
 use kmipa_ttlv::{Item, Tag};

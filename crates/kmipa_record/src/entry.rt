@@ -11,25 +11,27 @@ ghost use Rattle.kmipa_record.specs.DeclarationReading.{are_whole_bytes};
 ghost use Rattle.kmipa_record.specs.Entries.{EntryOf, entry_of, items_of, entry_item, material, AreBytes, SaysEntry, AreListed, key_bits, IsDeclarable};
 
 use crate::shape::{bytes_of, children_of, copied, enumeration_of, text_of};
+use crate::tags::ENTRY;
+use kmipa_attrs::tags::{
+    ACTIVATION_DATE, ATTRIBUTES, COMPROMISE_DATE, CRYPTOGRAPHIC_ALGORITHM, CRYPTOGRAPHIC_LENGTH,
+    CRYPTOGRAPHIC_USAGE_MASK, DEACTIVATION_DATE, DESTROY_DATE, INITIAL_DATE, KEY_MATERIAL, NAME,
+    OBJECT_TYPE, UNIQUE_IDENTIFIER,
+};
 use kmipa_attrs::{AttrFault, AttrSet, ObjectType, Side, read_children};
-use kmipa_ttlv::View;
+use kmipa_ttlv::{Children, View};
 use std::alloc::{AllocError, Global};
 
-pub const ENTRY: u32 = 0x54_0034;
-
-pub const UNIQUE_IDENTIFIER: u32 = 0x42_0094;
-
-pub const OBJECT_TYPE: u32 = 0x42_0057;
-
-const ATTRIBUTES: u32 = 0x42_0125;
-
-pub const KEY_MATERIAL: u32 = 0x42_0043;
-
-/// The attributes that an entry may have: Name, Cryptographic Algorithm, Cryptographic Length, Cryptographic Usage Mask, and Initial,
-/// Activation, Deactivation, Destroy and Compromise Date.
+/// The attributes that an entry may have.
 const LISTED: [u32; 9] = [
-    0x42_0053, 0x42_0028, 0x42_002A, 0x42_002C, 0x42_0039, 0x42_0001, 0x42_002F, 0x42_0033,
-    0x42_0020,
+    NAME,
+    CRYPTOGRAPHIC_ALGORITHM,
+    CRYPTOGRAPHIC_LENGTH,
+    CRYPTOGRAPHIC_USAGE_MASK,
+    INITIAL_DATE,
+    ACTIVATION_DATE,
+    DEACTIVATION_DATE,
+    DESTROY_DATE,
+    COMPROMISE_DATE,
 ];
 
 /// Cryptographic Algorithm AES (KMIP 2.1, section 11).
@@ -74,27 +76,24 @@ pub fn entry_in(alloc: Global, item: &View) -> Result<Option<Entry>, AllocError>
 
 /// What stands in the record of an entry.
 #[derive(Clone, Copy)]
-struct Parts<'a, 'b> {
+struct Parts<'a> {
     id: &'a str,
     kind: ObjectType,
-    attributes: &'b [View<'a>],
+    attributes: Children<'a>,
     bytes: Option<&'a [u8]>,
 }
 
 /// The parts of an entry's record.
-fn parts_in<'a, 'b>(item: &'b View<'a>) -> Option<Parts<'a, 'b>>
+fn parts_in<'a>(item: &View<'a>) -> Option<Parts<'a>>
     ensures { MatchOption result
         ((id : List ℕ) (kind : ObjectType) (attributes : Trees) (bytes : Option (List ℕ)) → view_tree item.now ≢ entry_item id kind attributes bytes)
-        (λ p. view_tree item.now ≡ entry_item p.id.now p.kind (view_trees p.attributes.now) (option_map lent p.bytes)) }
+        (λ p. view_tree item.now ≡ entry_item p.id.now p.kind (view_trees p.attributes) (option_map lent p.bytes)) }
 {
-    let children = children_of(item, ENTRY)?;
-    if children.len() < 3 {
-        return None;
-    }
-    let id = text_of(&children[0], UNIQUE_IDENTIFIER)?;
-    let kind = ObjectType::of(enumeration_of(&children[1], OBJECT_TYPE)?)?;
-    let attributes = children_of(&children[2], ATTRIBUTES)?;
-    let bytes = material_in(&children[3..])?;
+    let mut children = children_of(item, ENTRY)?;
+    let id = text_of(&children.next()?, UNIQUE_IDENTIFIER)?;
+    let kind = ObjectType::of(enumeration_of(&children.next()?, OBJECT_TYPE)?)?;
+    let attributes = children_of(&children.next()?, ATTRIBUTES)?;
+    let bytes = material_in(children)?;
     Some(Parts {
         id,
         kind,
@@ -104,21 +103,25 @@ fn parts_in<'a, 'b>(item: &'b View<'a>) -> Option<Parts<'a, 'b>>
 }
 
 /// The bytes that the last children of an entry's record declare, if any.
-fn material_in<'a, 'b>(children: &'b [View<'a>]) -> Option<Option<&'a [u8]>>
-    ensures { MatchOption result ((bytes : Option (List ℕ)) → view_trees children.now ≢ material bytes)
-        (λ o. view_trees children.now ≡ material (option_map lent o)) }
+fn material_in<'a>(children: Children<'a>) -> Option<Option<&'a [u8]>>
+    ensures { MatchOption result ((bytes : Option (List ℕ)) → view_trees children.entry ≢ material bytes)
+        (λ o. view_trees children.entry ≡ material (option_map lent o)) }
 {
-    match children {
-        [] => Some(None),
-        [child] => Some(Some(bytes_of(child, KEY_MATERIAL)?)),
-        _ => None,
+    let mut children = children;
+    let Some(child) = children.next() else {
+        return Some(None);
+    };
+    let bytes = bytes_of(&child, KEY_MATERIAL)?;
+    if children.next().is_some() {
+        return None;
     }
+    Some(Some(bytes))
 }
 
 /// The set that the attributes of an entry say, where each is one that an entry may have.
-fn listed_in(alloc: Global, children: &[View]) -> Result<Option<AttrSet>, AllocError>
-    ensures { IfOk result (λ o. MatchOption o ((a : Attributes) → AreListed (view_trees children.now) → ¬ (SaysAttributes (view_trees children.now) a))
-        (λ set. AreListed (view_trees children.now) × SaysAttributes (view_trees children.now) (attributes_of set))) }
+fn listed_in(alloc: Global, children: Children) -> Result<Option<AttrSet>, AllocError>
+    ensures { IfOk result (λ o. MatchOption o ((a : Attributes) → AreListed (view_trees children.entry) → ¬ (SaysAttributes (view_trees children.entry) a))
+        (λ set. AreListed (view_trees children.entry) × SaysAttributes (view_trees children.entry) (attributes_of set))) }
 {
     if !are_listed(children) {
         return Ok(None);
@@ -132,10 +135,11 @@ fn listed_in(alloc: Global, children: &[View]) -> Result<Option<AttrSet>, AllocE
     }
 }
 
-fn are_listed(children: &[View]) -> bool
-    ensures { IsTrue result ↔ AreListed (view_trees children.now) }
+fn are_listed(children: Children) -> bool
+    ensures { IsTrue result ↔ AreListed (view_trees children.entry) }
 {
-    for child in children {
+    let mut left = children;
+    'children: while let Some(child) = left.next() {
         if !LISTED.contains(&child.tag.number) {
             return false;
         }

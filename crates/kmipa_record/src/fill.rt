@@ -2,18 +2,15 @@
 
 ghost use Rattle.std.specs.Prelude.{◌≡◌, ◌≢◌, ◌↔◌, ◌++◌, List, map, IsTrue, IfOk, OnOk, MatchOption};
 ghost use Rattle.kmipa_ttlv.specs.ItemTree.{tree};
-ghost use Rattle.kmipa_ttlv.specs.ViewTree.{view_tree};
+ghost use Rattle.kmipa_ttlv.specs.ViewTree.{view_tree, view_trees};
 ghost use Rattle.kmipa_record.specs.Witnesses.{FillOf, fill_of, fill_item, IsPayload, ArePayloads};
+ghost use Rattle.kmipa_record.specs.WitnessReading.{list_of};
 
 use crate::shape::{children_of, integer_of};
-use kmipa_ttlv::{Item, Tag, Value, View, copy_item, lend};
+use crate::tags::{FILL, FILLED_ITEM};
+use kmipa_attrs::tags::RESPONSE_PAYLOAD;
+use kmipa_ttlv::{Children, Item, Tag, Value, View, copy_item, lend};
 use std::alloc::{AllocError, Global};
-
-const FILL: u32 = 0x54_0042;
-
-const FILLED_ITEM: u32 = 0x54_0043;
-
-const RESPONSE_PAYLOAD: u32 = 0x42_007C;
 
 /// A payload that a response leaves out.
 #[derive(Debug, Drop)]
@@ -25,13 +22,14 @@ pub struct Fill {
 }
 
 /// The fills that items are, each of them one.
-pub fn fills_in(alloc: Global, items: &[View]) -> Result<Option<Vec<Fill>>, AllocError>
-    ensures { IfOk result (λ o. MatchOption o ((fills : List FillOf) → ArePayloads fills → map view_tree items.now ≢ map fill_item fills)
-        (λ fills. (map view_tree items.now ≡ map fill_item (map fill_of fills.items)) × ArePayloads (map fill_of fills.items))) }
+pub fn fills_in(alloc: Global, items: Children) -> Result<Option<Vec<Fill>>, AllocError>
+    ensures { IfOk result (λ o. MatchOption o ((fills : List FillOf) → ArePayloads fills → list_of (view_trees items.entry) ≢ map fill_item fills)
+        (λ fills. (list_of (view_trees items.entry) ≡ map fill_item (map fill_of fills.items)) × ArePayloads (map fill_of fills.items))) }
 {
     let mut fills = Vec::new(alloc);
-    for item in items {
-        match fill_in(alloc, item)? {
+    let mut left = items;
+    'items: while let Some(item) = left.next() {
+        match fill_in(alloc, &item)? {
             Some(fill) => fills.push(fill)?,
             None => return Ok(None),
         }
@@ -47,24 +45,25 @@ fn fill_in(alloc: Global, item: &View) -> Result<Option<Fill>, AllocError>
     match parts_in(item) {
         Some((number, payload)) => Ok(Some(Fill {
             item: number,
-            payload: copy_item(alloc, payload)?,
+            payload: copy_item(alloc, &payload)?,
         })),
         None => Ok(None),
     }
 }
 
 /// The item and the payload of a fill.
-fn parts_in<'a, 'b>(item: &'b View<'a>) -> Option<(i32, &'b View<'a>)>
+fn parts_in<'a>(item: &View<'a>) -> Option<(i32, View<'a>)>
     ensures { MatchOption result ((fill : FillOf) → IsPayload fill.payload → view_tree item.now ≢ fill_item fill)
-        (λ parts. (view_tree item.now ≡ fill_item (record { item = parts.0; payload = view_tree parts.1.now })) × IsPayload (view_tree parts.1.now)) }
+        (λ parts. (view_tree item.now ≡ fill_item (record { item = parts.0; payload = view_tree parts.1 })) × IsPayload (view_tree parts.1)) }
 {
-    let children = children_of(item, FILL)?;
-    if children.len() != 2 {
+    let mut children = children_of(item, FILL)?;
+    let number = integer_of(&children.next()?, FILLED_ITEM)?;
+    let payload = children.next()?;
+    children_of(&payload, RESPONSE_PAYLOAD)?;
+    if children.next().is_some() {
         return None;
     }
-    let number = integer_of(&children[0], FILLED_ITEM)?;
-    children_of(&children[1], RESPONSE_PAYLOAD)?;
-    Some((number, &children[1]))
+    Some((number, payload))
 }
 
 /// Puts the items that say the fills after the others.
@@ -86,21 +85,11 @@ fn write_fill(alloc: Global, fill: &Fill) -> Result<Item, AllocError>
         },
         fill.item,
     );
-    let payload = copy_of(alloc, &fill.payload)?;
+    let payload = copy_item(alloc, &lend(&fill.payload))?;
     let mut parts = Vec::with_capacity(alloc, 2)?;
     parts.push(number)?;
     parts.push(payload)?;
     Ok(Item::structure(Tag { number: FILL }, parts))
-}
-
-/// An equal item.
-fn copy_of(alloc: Global, item: &Item) -> Result<Item, AllocError>
-    ensures { IfOk result (λ copy. tree copy ≡ tree item.now) }
-{
-    match lend(alloc, item) {
-        Ok(view) => copy_item(alloc, &view),
-        Err(_) => Err(AllocError),
-    }
 }
 
 /// Whether each payload is a Response Payload.

@@ -1,7 +1,8 @@
 //! The headers of the three files.
 
-ghost use Rattle.std.specs.Prelude.{◌≡◌, Bool, IfOk};
+ghost use Rattle.std.specs.Prelude.{◌≡◌, ◌≢◌, Bool, IfOk, MatchOption};
 ghost use Rattle.kmipa_ttlv.specs.ItemTree.{tree};
+ghost use Rattle.kmipa_ttlv.specs.ViewTree.{view_tree};
 ghost use Rattle.kmipa_record.specs.Transcripts.{transcript_header};
 ghost use Rattle.kmipa_record.specs.Declarations.{declaration_header};
 ghost use Rattle.kmipa_record.specs.Witnesses.{witness_header};
@@ -9,19 +10,10 @@ ghost use Rattle.kmipa_record.specs.declared.version.Version.{Version};
 
 use crate::record::Record;
 use crate::shape::{boolean_of, children_of, integer_of};
+use crate::tags::{DECLARATION_HEADER, TRANSCRIPT_HEADER, UNIQUE_NAMES, VERSION, WITNESS_HEADER};
 use crate::version::{Version, version_of};
 use kmipa_ttlv::{Item, Tag, View};
 use std::alloc::{AllocError, Global};
-
-const TRANSCRIPT: u32 = 0x54_0001;
-
-const VERSION: u32 = 0x54_0002;
-
-const DECLARATION: u32 = 0x54_0030;
-
-const UNIQUE_NAMES: u32 = 0x54_0031;
-
-const WITNESS: u32 = 0x54_0040;
 
 /// The header of a transcript.
 #[derive(Drop)]
@@ -33,18 +25,19 @@ impl Record for TranscriptHeader {
     ghost is_record = { λ item. item ≡ transcript_header };
 
     fn of(_alloc: Global, item: &View) -> Result<Option<TranscriptHeader>, AllocError> {
-        let Some(children) = children_of(item, TRANSCRIPT) else {
-            return Ok(None);
-        };
-        let [version] = children else {
-            return Ok(None);
-        };
-        let header = match integer_of(version, VERSION) {
-            Some(1) => Some(TranscriptHeader),
-            _ => None,
-        };
-        Ok(header)
+        Ok(transcript_header_in(item))
     }
+}
+
+fn transcript_header_in(item: &View) -> Option<TranscriptHeader>
+    ensures { MatchOption result (view_tree item.now ≢ transcript_header) (λ _. view_tree item.now ≡ transcript_header) }
+{
+    let mut children = children_of(item, TRANSCRIPT_HEADER)?;
+    let version = integer_of(&children.next()?, VERSION)?;
+    if version != 1 || children.next().is_some() {
+        return None;
+    }
+    Some(TranscriptHeader)
 }
 
 /// The header of a declaration.
@@ -59,20 +52,21 @@ impl Record for DeclarationHeader {
     ghost is_record = { λ item. (unique : Bool) × (item ≡ declaration_header unique) };
 
     fn of(_alloc: Global, item: &View) -> Result<Option<DeclarationHeader>, AllocError> {
-        let Some(children) = children_of(item, DECLARATION) else {
-            return Ok(None);
-        };
-        let [version, unique_names] = children else {
-            return Ok(None);
-        };
-        let Some(1) = integer_of(version, VERSION) else {
-            return Ok(None);
-        };
-        let Some(unique_names) = boolean_of(unique_names, UNIQUE_NAMES) else {
-            return Ok(None);
-        };
-        Ok(Some(DeclarationHeader { unique_names }))
+        Ok(declaration_header_in(item))
     }
+}
+
+fn declaration_header_in(item: &View) -> Option<DeclarationHeader>
+    ensures { MatchOption result (¬ ((unique : Bool) × (view_tree item.now ≡ declaration_header unique)))
+        (λ h. view_tree item.now ≡ declaration_header h.unique_names) }
+{
+    let mut children = children_of(item, DECLARATION_HEADER)?;
+    let version = integer_of(&children.next()?, VERSION)?;
+    let unique_names = boolean_of(&children.next()?, UNIQUE_NAMES)?;
+    if version != 1 || children.next().is_some() {
+        return None;
+    }
+    Some(DeclarationHeader { unique_names })
 }
 
 /// The header of a witness.
@@ -87,20 +81,20 @@ impl Record for WitnessHeader {
     ghost is_record = { λ item. (version : Version) × (item ≡ witness_header version) };
 
     fn of(_alloc: Global, item: &View) -> Result<Option<WitnessHeader>, AllocError> {
-        let Some(children) = children_of(item, WITNESS) else {
-            return Ok(None);
-        };
-        let [version] = children else {
-            return Ok(None);
-        };
-        let Some(number) = integer_of(version, VERSION) else {
-            return Ok(None);
-        };
-        match version_of(number) {
-            Some(version) => Ok(Some(WitnessHeader { version })),
-            None => Ok(None),
-        }
+        Ok(witness_header_in(item))
     }
+}
+
+fn witness_header_in(item: &View) -> Option<WitnessHeader>
+    ensures { MatchOption result (¬ ((version : Version) × (view_tree item.now ≡ witness_header version)))
+        (λ h. view_tree item.now ≡ witness_header h.version) }
+{
+    let mut children = children_of(item, WITNESS_HEADER)?;
+    let version = version_of(integer_of(&children.next()?, VERSION)?)?;
+    if children.next().is_some() {
+        return None;
+    }
+    Some(WitnessHeader { version })
 }
 
 /// The header of a witness of this version.
@@ -109,7 +103,12 @@ pub fn write_witness_header(alloc: Global, version: Version) -> Result<Item, All
 {
     let mut children = Vec::with_capacity(alloc, 1)?;
     children.push(Item::integer(Tag { number: VERSION }, version.number()))?;
-    Ok(Item::structure(Tag { number: WITNESS }, children))
+    Ok(Item::structure(
+        Tag {
+            number: WITNESS_HEADER,
+        },
+        children,
+    ))
 }
 
 /// The header of a transcript.
@@ -118,7 +117,12 @@ pub fn write_transcript_header(alloc: Global) -> Result<Item, AllocError>
 {
     let mut children = Vec::with_capacity(alloc, 1)?;
     children.push(Item::integer(Tag { number: VERSION }, 1))?;
-    Ok(Item::structure(Tag { number: TRANSCRIPT }, children))
+    Ok(Item::structure(
+        Tag {
+            number: TRANSCRIPT_HEADER,
+        },
+        children,
+    ))
 }
 
 /// The header of a declaration.
@@ -135,7 +139,7 @@ pub fn write_declaration_header(alloc: Global, unique_names: bool) -> Result<Ite
     ))?;
     Ok(Item::structure(
         Tag {
-            number: DECLARATION,
+            number: DECLARATION_HEADER,
         },
         children,
     ))

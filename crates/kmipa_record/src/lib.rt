@@ -21,6 +21,7 @@ mod record;
 mod records;
 mod row;
 mod shape;
+mod tags;
 mod transcript;
 mod transcript_writing;
 mod turn;

@@ -85,7 +85,7 @@ pub fn read_next<R: Read, T: Record + Drop>(
         Ok(false) => return Ok(Next::End),
         Err(fault) => return Err(fault_of(fault)),
     }
-    let view = match view_of(alloc, offset, bytes) {
+    let view = match view_of(offset, bytes) {
         Ok(view) => view,
         Err(fault) => return Err(fault),
     };
@@ -115,11 +115,11 @@ fn fault_of(fault: TtlvFault) -> RecordFault
 }
 
 /// The item that whole bytes at this place spell.
-fn view_of(alloc: Global, place: u64, bytes: &[u8]) -> Result<View<'_>, RecordFault>
+fn view_of(place: u64, bytes: &[u8]) -> Result<View<'_>, RecordFault>
     requires { IsWhole bytes.now }
     ensures { MatchResult result (λ view. Spells (view_tree view) bytes.now) (WholeFails place bytes.now) }
 {
-    match decode_view(alloc, bytes) {
+    match decode_view(bytes) {
         Ok((view, _)) => Ok(view),
         Err(fault) => match fault.kind {
             FaultKind::Memory => Err(RecordFault {

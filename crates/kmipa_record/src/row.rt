@@ -6,24 +6,20 @@ ghost use Rattle.kmipa_msgs.specs.Messages.{RowOf, row_of};
 ghost use Rattle.kmipa_record.specs.Declarations.{row_item};
 
 use crate::shape::{children_of, enumeration_of};
+use crate::tags::{CAUSE, ROW};
+use kmipa_attrs::tags::RESULT_REASON;
 use kmipa_msgs::{Cause, Row};
 use kmipa_ttlv::View;
-
-pub const ROW: u32 = 0x54_0032;
-
-pub const RESULT_REASON: u32 = 0x42_007E;
-
-pub const CAUSE: u32 = 0x54_0033;
 
 /// The row that an item says.
 pub fn row_in(item: &View) -> Option<Row>
     ensures { MatchOption result ((r : RowOf) → view_tree item.now ≢ row_item r) (λ row. view_tree item.now ≡ row_item (row_of row)) }
 {
-    let children = children_of(item, ROW)?;
-    if children.len() != 2 {
+    let mut children = children_of(item, ROW)?;
+    let reason = enumeration_of(&children.next()?, RESULT_REASON)?;
+    let cause = Cause::of(enumeration_of(&children.next()?, CAUSE)?)?;
+    if children.next().is_some() {
         return None;
     }
-    let reason = enumeration_of(&children[0], RESULT_REASON)?;
-    let cause = Cause::of(enumeration_of(&children[1], CAUSE)?)?;
     Some(Row { reason, cause })
 }

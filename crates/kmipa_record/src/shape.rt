@@ -9,13 +9,13 @@ ghost use Rattle.kmipa_record.specs.Entries.{items_of, AreBytes};
 use kmipa_attrs::fields::{
     as_boolean, as_bytes, as_enumeration, as_integer, as_structure, as_text,
 };
-use kmipa_ttlv::View;
+use kmipa_ttlv::{Children, View};
 use std::alloc::{AllocError, Global};
 
 /// The children of a Structure with this tag.
-pub fn children_of<'a, 'b>(item: &'b View<'a>, tag: u32) -> Option<&'b [View<'a>]>
+pub fn children_of<'a>(item: &View<'a>, tag: u32) -> Option<Children<'a>>
     ensures { MatchOption result ((children : Trees) → view_tree item.now ≢ structure tag children)
-        (λ children. view_tree item.now ≡ structure tag (view_trees children.now)) }
+        (λ children. view_tree item.now ≡ structure tag (view_trees children)) }
 {
     if item.tag.number != tag {
         return None;
@@ -57,7 +57,7 @@ pub fn boolean_of(item: &View, tag: u32) -> Option<bool>
 }
 
 /// The text of a Text String with this tag.
-pub fn text_of<'a, 'b>(item: &'b View<'a>, tag: u32) -> Option<&'a str>
+pub fn text_of<'a>(item: &View<'a>, tag: u32) -> Option<&'a str>
     ensures { MatchOption result ((bytes : List ℕ) → view_tree item.now ≢ scalar tag (text bytes))
         (λ bytes. view_tree item.now ≡ scalar tag (text bytes.now)) }
 {
@@ -68,7 +68,7 @@ pub fn text_of<'a, 'b>(item: &'b View<'a>, tag: u32) -> Option<&'a str>
 }
 
 /// The bytes of a Byte String with this tag.
-pub fn bytes_of<'a, 'b>(item: &'b View<'a>, tag: u32) -> Option<&'a [u8]>
+pub fn bytes_of<'a>(item: &View<'a>, tag: u32) -> Option<&'a [u8]>
     ensures { MatchOption result ((bytes : List ℕ) → view_tree item.now ≢ scalar tag (byte_string bytes))
         (λ bytes. view_tree item.now ≡ scalar tag (byte_string bytes.now)) }
 {

@@ -17,19 +17,10 @@ use crate::fault::{RecordFault, RecordKind};
 use crate::marks::Marks;
 use crate::record::Record;
 use crate::shape::{bytes_of, children_of, integer_of, text_of};
-use kmipa_ttlv::{Input, View};
+use crate::tags::{BEGIN_MARK, CALL, CLIENT, END_MARK, MESSAGE};
+use kmipa_ttlv::{Children, Input, View};
 use std::alloc::{AllocError, Global};
 use std::io::Read;
-
-pub const BEGIN: u32 = 0x54_0010;
-
-pub const CALL: u32 = 0x54_0011;
-
-pub const CLIENT: u32 = 0x54_0012;
-
-pub const MESSAGE: u32 = 0x54_0013;
-
-pub const END: u32 = 0x54_0020;
 
 /// What a laboratory saw of the calls to a server: marks in the order in which it saw them.
 #[derive(Debug, Drop)]
@@ -65,13 +56,13 @@ impl Record for Mark {
     ghost is_record = { λ item. (mark : MarkOf) × (item ≡ mark_item mark) };
 
     fn of(alloc: Global, item: &View) -> Result<Option<Mark>, AllocError> {
-        if let Some(children) = children_of(item, BEGIN) {
+        if let Some(children) = children_of(item, BEGIN_MARK) {
             return match begin_in(alloc, children)? {
                 Some(begin) => Ok(Some(Mark::Begin(begin))),
                 None => Ok(None),
             };
         }
-        if let Some(children) = children_of(item, END) {
+        if let Some(children) = children_of(item, END_MARK) {
             return match end_in(alloc, children)? {
                 Some(end) => Ok(Some(Mark::End(end))),
                 None => Ok(None),
@@ -82,9 +73,9 @@ impl Record for Mark {
 }
 
 /// What the children of a begin mark say.
-fn begin_in(alloc: Global, children: &[View]) -> Result<Option<Begin>, AllocError>
-    ensures { IfOk result (λ o. MatchOption o ((call : ℤ) (client message : List ℕ) → view_trees children.now ≢ begin_fields call client message)
-        (λ begin. view_trees children.now ≡ begin_fields begin.call (string_bytes begin.client) begin.message.items)) }
+fn begin_in(alloc: Global, children: Children) -> Result<Option<Begin>, AllocError>
+    ensures { IfOk result (λ o. MatchOption o ((call : ℤ) (client message : List ℕ) → view_trees children.entry ≢ begin_fields call client message)
+        (λ begin. view_trees children.entry ≡ begin_fields begin.call (string_bytes begin.client) begin.message.items)) }
 {
     match begin_parts(children) {
         Some((call, client, message)) => Ok(Some(Begin {
@@ -97,23 +88,24 @@ fn begin_in(alloc: Global, children: &[View]) -> Result<Option<Begin>, AllocErro
 }
 
 /// The number, the client and the message of a begin mark with these children.
-fn begin_parts<'a, 'b>(children: &'b [View<'a>]) -> Option<(i32, &'a str, &'a [u8])>
-    ensures { MatchOption result ((call : ℤ) (client message : List ℕ) → view_trees children.now ≢ begin_fields call client message)
-        (λ parts. view_trees children.now ≡ begin_fields parts.0 parts.1.now parts.2.now) }
+fn begin_parts<'a>(children: Children<'a>) -> Option<(i32, &'a str, &'a [u8])>
+    ensures { MatchOption result ((call : ℤ) (client message : List ℕ) → view_trees children.entry ≢ begin_fields call client message)
+        (λ parts. view_trees children.entry ≡ begin_fields parts.0 parts.1.now parts.2.now) }
 {
-    if children.len() != 3 {
+    let mut children = children;
+    let call = integer_of(&children.next()?, CALL)?;
+    let client = text_of(&children.next()?, CLIENT)?;
+    let message = bytes_of(&children.next()?, MESSAGE)?;
+    if children.next().is_some() {
         return None;
     }
-    let call = integer_of(&children[0], CALL)?;
-    let client = text_of(&children[1], CLIENT)?;
-    let message = bytes_of(&children[2], MESSAGE)?;
     Some((call, client, message))
 }
 
 /// What the children of an end mark say.
-fn end_in(alloc: Global, children: &[View]) -> Result<Option<End>, AllocError>
-    ensures { IfOk result (λ o. MatchOption o ((call : ℤ) (message : List ℕ) → view_trees children.now ≢ end_fields call message)
-        (λ end. view_trees children.now ≡ end_fields end.call end.message.items)) }
+fn end_in(alloc: Global, children: Children) -> Result<Option<End>, AllocError>
+    ensures { IfOk result (λ o. MatchOption o ((call : ℤ) (message : List ℕ) → view_trees children.entry ≢ end_fields call message)
+        (λ end. view_trees children.entry ≡ end_fields end.call end.message.items)) }
 {
     match end_parts(children) {
         Some((call, message)) => Ok(Some(End {
@@ -125,15 +117,16 @@ fn end_in(alloc: Global, children: &[View]) -> Result<Option<End>, AllocError>
 }
 
 /// The number and the message of an end mark with these children.
-fn end_parts<'a, 'b>(children: &'b [View<'a>]) -> Option<(i32, &'a [u8])>
-    ensures { MatchOption result ((call : ℤ) (message : List ℕ) → view_trees children.now ≢ end_fields call message)
-        (λ parts. view_trees children.now ≡ end_fields parts.0 parts.1.now) }
+fn end_parts<'a>(children: Children<'a>) -> Option<(i32, &'a [u8])>
+    ensures { MatchOption result ((call : ℤ) (message : List ℕ) → view_trees children.entry ≢ end_fields call message)
+        (λ parts. view_trees children.entry ≡ end_fields parts.0 parts.1.now) }
 {
-    if children.len() != 2 {
+    let mut children = children;
+    let call = integer_of(&children.next()?, CALL)?;
+    let message = bytes_of(&children.next()?, MESSAGE)?;
+    if children.next().is_some() {
         return None;
     }
-    let call = integer_of(&children[0], CALL)?;
-    let message = bytes_of(&children[1], MESSAGE)?;
     Some((call, message))
 }
 

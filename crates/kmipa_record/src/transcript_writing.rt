@@ -12,7 +12,8 @@ use crate::append::{Written, append, append_all};
 use crate::calls::Calls;
 use crate::fault::{RecordFault, RecordKind};
 use crate::header::write_transcript_header;
-use crate::transcript::{BEGIN, Begin, CALL, CLIENT, END, End, MESSAGE, Mark, Transcript};
+use crate::tags::{BEGIN_MARK, CALL, CLIENT, END_MARK, MESSAGE};
+use crate::transcript::{Begin, End, Mark, Transcript};
 use kmipa_ttlv::{Item, Tag};
 use std::alloc::{AllocError, Global};
 
@@ -97,7 +98,7 @@ fn write_begin(alloc: Global, begin: &Begin) -> Result<Item, AllocError>
     children.push(call)?;
     children.push(client)?;
     children.push(message)?;
-    Ok(Item::structure(Tag { number: BEGIN }, children))
+    Ok(Item::structure(Tag { number: BEGIN_MARK }, children))
 }
 
 fn write_end(alloc: Global, end: &End) -> Result<Item, AllocError>
@@ -108,5 +109,5 @@ fn write_end(alloc: Global, end: &End) -> Result<Item, AllocError>
     let mut children = Vec::with_capacity(alloc, 2)?;
     children.push(call)?;
     children.push(message)?;
-    Ok(Item::structure(Tag { number: END }, children))
+    Ok(Item::structure(Tag { number: END_MARK }, children))
 }

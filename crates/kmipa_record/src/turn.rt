@@ -3,25 +3,18 @@
 ghost use Rattle.std.specs.Prelude.{◌≡◌, ◌≢◌, ◌∷◌, ◌++◌, ℤ, List, None, map, option_map, IfOk, OnOk, MatchOption};
 ghost use Rattle.kmipa_ttlv.specs.Tree.{Tree, scalar, integer};
 ghost use Rattle.kmipa_ttlv.specs.ItemTree.{tree};
-ghost use Rattle.kmipa_ttlv.specs.ViewTree.{view_tree};
+ghost use Rattle.kmipa_ttlv.specs.ViewTree.{view_tree, view_trees};
 ghost use Rattle.kmipa_msgs.specs.Messages.{lent};
 ghost use Rattle.kmipa_record.specs.Entries.{items_of};
 ghost use Rattle.kmipa_record.specs.Witnesses.{TurnOf, turn_of, turn_item, answer_item, place_item, listed, ArePayloads};
-ghost use Rattle.kmipa_record.specs.WitnessReading.{NotAhead};
+ghost use Rattle.kmipa_record.specs.WitnessReading.{NotAhead, list_of};
 
 use crate::fill::{Fill, fills_in, push_fills};
 use crate::record::Record;
 use crate::shape::{bytes_of, children_of, copied, integer_of};
-use kmipa_ttlv::{Item, Tag, View};
+use crate::tags::{ANSWER, CALL, PLACE, TURN};
+use kmipa_ttlv::{Children, Item, Tag, View};
 use std::alloc::{AllocError, Global};
-
-const TURN: u32 = 0x54_0041;
-
-const CALL: u32 = 0x54_0011;
-
-const ANSWER: u32 = 0x54_0044;
-
-const PLACE: u32 = 0x54_0045;
 
 /// The turn of one call.
 #[derive(Debug, Drop)]
@@ -63,45 +56,44 @@ impl Record for Turn {
 }
 
 /// The number of an Integer with this tag that the children begin with, and the children after it.
-fn integer_before<'a, 'b>(children: &'b [View<'a>], tag: u32) -> Option<(i32, &'b [View<'a>])>
-    ensures { MatchOption result ((number : ℤ) (rest : List Tree) → map view_tree children.now ≢ scalar tag (integer number) ∷ rest)
-        (λ r. map view_tree children.now ≡ scalar tag (integer r.0) ∷ map view_tree r.1.now) }
+fn integer_before<'a>(children: Children<'a>, tag: u32) -> Option<(i32, Children<'a>)>
+    ensures { MatchOption result ((number : ℤ) (rest : List Tree) → list_of (view_trees children.entry) ≢ scalar tag (integer number) ∷ rest)
+        (λ r. list_of (view_trees children.entry) ≡ scalar tag (integer r.0) ∷ list_of (view_trees r.1)) }
 {
-    if children.is_empty() {
-        return None;
-    }
-    Some((integer_of(&children[0], tag)?, &children[1..]))
+    let mut rest = children;
+    let number = integer_of(&rest.next()?, tag)?;
+    Some((number, rest))
 }
 
 /// The answer that the children begin with, if any, and the children after it.
-fn answer_before<'a, 'b>(children: &'b [View<'a>]) -> (Option<&'a [u8]>, &'b [View<'a>])
-    ensures split { map view_tree children.now ≡ map answer_item (listed (option_map lent result.0)) ++ map view_tree result.1.now }
-    ensures first { option_map lent result.0 ≡ None → NotAhead answer_item (map view_tree children.now) }
+fn answer_before<'a>(children: Children<'a>) -> (Option<&'a [u8]>, Children<'a>)
+    ensures split { list_of (view_trees children.entry) ≡ map answer_item (listed (option_map lent result.0)) ++ list_of (view_trees result.1) }
+    ensures first { option_map lent result.0 ≡ None → NotAhead answer_item (list_of (view_trees children.entry)) }
 {
-    if children.is_empty() {
+    let mut rest = children;
+    let Some(child) = rest.next() else {
         return (None, children);
-    }
-    match bytes_of(&children[0], ANSWER) {
-        Some(answer) => (Some(answer), &children[1..]),
+    };
+    match bytes_of(&child, ANSWER) {
+        Some(answer) => (Some(answer), rest),
         None => (None, children),
     }
 }
 
 /// The places that the children begin with, and the children after them.
-fn places_before<'a, 'b>(
+fn places_before<'a>(
     alloc: Global,
-    children: &'b [View<'a>],
-) -> Result<(Vec<i32>, &'b [View<'a>]), AllocError>
-    ensures { IfOk result (λ r. (map view_tree children.now ≡ map place_item r.0.items ++ map view_tree r.1.now) × NotAhead place_item (map view_tree r.1.now)) }
+    children: Children<'a>,
+) -> Result<(Vec<i32>, Children<'a>), AllocError>
+    ensures { IfOk result (λ r. (list_of (view_trees children.entry) ≡ map place_item r.0.items ++ list_of (view_trees r.1)) × NotAhead place_item (list_of (view_trees r.1))) }
 {
     let mut places = Vec::new(alloc);
-    for (n, child) in children.iter().enumerate() {
-        match integer_of(child, PLACE) {
-            Some(place) => places.push(place)?,
-            None => return Ok((places, &children[n..])),
-        }
+    let mut left = children;
+    'places: while let Some((place, rest)) = integer_before(left, PLACE) {
+        places.push(place)?;
+        left = rest;
     }
-    Ok((places, &children[children.len()..]))
+    Ok((places, left))
 }
 
 /// The item that says the turn.

@@ -1,19 +1,20 @@
 -- The lines of items, from what is appended.
-use Rattle.std.proofs.Common.{◌≡◌, ℕ, Bool, true, false, ◌+◌, ◌/◌, ◌%◌, ◌<◌, List, [], ◌∷◌, ◌++◌, length, get_or, drop, suc, refl, sym, ap, ◌∙◌, append_assoc, add-one, drop-cons}
+use Rattle.std.proofs.Common.{◌≡◌, ℕ, Bool, true, false, ◌+◌, ◌*◌, replicate, ◌/◌, ◌%◌, ◌<◌, List, [], ◌∷◌, ◌++◌, length, get_or, drop, suc, refl, sym, ap, ◌∙◌, append_assoc, add-one, drop-cons}
 use denote.Bor.{Bor}
 use Rattle.std.specs.Prelude.{codes}
 use Rattle.std.proofs.lemmas.List.{append-nil}
-use Rattle.hex.specs.Hex.{encode_with}
-use Rattle.kmipa_ttlv.specs.Tree.{more}
-use Rattle.kmipa_ttlv.specs.ViewTree.{view_tree, view_trees, view_value_tree}
-use Rattle.kmipa_ttlv.specs.declared.view.View.{View}
-use Rattle.kmipa_ttlv.specs.declared.view.ViewValue.{ViewValue, Structure', Integer, LongInteger, BigInteger, Enumeration, Boolean, Text, Bytes, DateTime, Interval, DateTimeExtended}
+use Rattle.byteorder.specs.Endian.{big_bytes}
+use Rattle.hex.specs.Hex.{encode_upper, encode_with}
+use Rattle.kmipa_attrs.specs.Tags.{tag_name_of}
+use Rattle.kmipa_ttlv.specs.ViewTree.{view_value_tree}
+use Rattle.kmipa_ttlv.specs.declared.view.ViewValue.{ViewValue}
+use Rattle.kmipa_ttlv.specs.declared.view.ViewValue.TheVariants.{Structure, Integer, LongInteger, BigInteger, Enumeration, Boolean, Text, Bytes, DateTime, Interval, DateTimeExtended}
 use Rattle.kmipa_runs.specs.Shown.{head, kind_name, note, IsPlain, ShowsBelow, ShowsItemOver, ShowsLine, ShowsValue}
 
 -- the line of an item without children
 pub plain_line : (notes : Bool) (level tag : ℕ) (v : ViewValue) (value line : List ℕ) → IsPlain v → ShowsValue (view_value_tree tag v) value
     → line ≡ head level tag (kind_name (view_value_tree tag v)) ++ codes " " ++ value ++ note notes (view_value_tree tag v) ++ codes "\n" → ShowsLine notes level (view_value_tree tag v) line
-plain_line notes level tag (Structure' shape row) value line plain shows e = absurd plain
+plain_line notes level tag (Structure children) value line plain shows e = absurd plain
 plain_line notes level tag (Integer z) value line plain shows e = (value, shows, e)
 plain_line notes level tag (LongInteger z) value line plain shows e = (value, shows, e)
 plain_line notes level tag (BigInteger bs) value line plain shows e = (value, shows, e)
@@ -28,7 +29,7 @@ plain_line notes level tag (DateTimeExtended z) value line plain shows e = (valu
 -- nothing stands below the line of an item that is no Structure and no Byte String
 pub line_alone : (messages notes : Bool) (level tag : ℕ) (v : ViewValue) (line : List ℕ) → ((x : Bor (List ℕ)) → v ≡ Bytes x → ⊥) → ShowsLine notes level (view_value_tree tag v) line
     → ShowsItemOver (ShowsBelow messages notes) notes level (view_value_tree tag v) line
-line_alone messages notes level tag (Structure' shape row) line other shows = absurd shows
+line_alone messages notes level tag (Structure children) line other shows = absurd shows
 line_alone messages notes level tag (Bytes bs) line other shows = absurd (other bs refl)
 line_alone true notes level tag (Integer z) line other shows = (line, [], shows, refl, sym (append-nil line))
 line_alone false notes level tag (Integer z) line other shows = (line, [], shows, refl, sym (append-nil line))
@@ -49,13 +50,6 @@ line_alone false notes level tag (Interval x) line other shows = (line, [], show
 line_alone true notes level tag (DateTimeExtended z) line other shows = (line, [], shows, refl, sym (append-nil line))
 line_alone false notes level tag (DateTimeExtended z) line other shows = (line, [], shows, refl, sym (append-nil line))
 
-dropped : (is : List View) (i : ℕ) (x : View) → i < length is → x ≡ get_or is i x → drop i is ≡ x ∷ drop (i + 1) is
-dropped is i x lt e = rw add-one (drop-cons is i x lt ∙ ap (λ (y : View). y ∷ drop (suc i) is) (sym e))
-
--- the next of the items that are left
-pub next_item : (is : List View) (i : ℕ) (x : View) → i < length is → x ≡ get_or is i x → view_trees (drop i is) ≡ more (view_tree x) (view_trees (drop (i + 1) is))
-next_item is i x lt e = ap view_trees (dropped is i x lt e)
-
 -- the digits of the next of the bytes that are left
 pub next_digits : (table bytes : List ℕ) (i : ℕ) → i < length bytes
     → encode_with table (drop i bytes) ≡ get_or table (get_or bytes i 0 / 16) 0 ∷ get_or table (get_or bytes i 0 % 16) 0 ∷ encode_with table (drop (i + 1) bytes)
@@ -67,8 +61,16 @@ unfolding encode_with
 no_digits table = refl
 
 -- one append after the other
-pub five : (a b d e f g : List ℕ) → ((((a ++ b) ++ d) ++ e) ++ f) ++ g ≡ a ++ (b ++ d ++ e ++ f ++ g)
+pub five : (a b d e f g : List ℕ) → (((a ++ (b ++ d)) ++ e) ++ f) ++ g ≡ a ++ (b ++ d ++ e ++ f ++ g)
 five a b d e f g = simp append_assoc
 
-pub four : (a b d e f : List ℕ) → (((a ++ b) ++ d) ++ e) ++ f ≡ a ++ (b ++ d ++ e ++ f)
+pub four : (a b d e f : List ℕ) → (((a ++ b) ++ (d ++ 32 ∷ [])) ++ e) ++ f ≡ a ++ (b ++ d ++ 32 ∷ e ++ f)
 four a b d e f = simp append_assoc
+
+heads : (a b d e f : List ℕ) → a ++ b ++ 32 ∷ d ++ (32 ∷ e ++ f) ≡ (a ++ b ++ 32 ∷ d ++ 32 ∷ e) ++ f
+heads a b d e f = simp append_assoc
+
+-- the words of a type end the head of a line
+pub head_of : (level tag : ℕ) (kind rest : List ℕ)
+    → replicate (2 * level) 32 ++ encode_upper (big_bytes 3 tag) ++ 32 ∷ tag_name_of tag ++ (32 ∷ kind ++ rest) ≡ head level tag kind ++ rest
+head_of level tag kind rest = heads (replicate (2 * level) 32) (encode_upper (big_bytes 3 tag)) (tag_name_of tag) kind rest

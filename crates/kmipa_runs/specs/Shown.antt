@@ -7,7 +7,8 @@ use Rattle.byteorder.specs.Endian.{big_bytes}
 use Rattle.hex.specs.Hex.{encode_lower, encode_upper}
 use Rattle.kmipa_ttlv.specs.Tree.{Tree, Trees, Scalar, structure, scalar, none, more, integer, long_integer, big_integer, enumeration, boolean, text, byte_string, date_time, interval, date_time_extended}
 use Rattle.kmipa_ttlv.specs.Spelling.{Spells}
-use Rattle.kmipa_ttlv.specs.declared.view.ViewValue.{ViewValue, Structure', Integer, LongInteger, BigInteger, Enumeration, Boolean, Text, Bytes, DateTime, Interval, DateTimeExtended}
+use Rattle.kmipa_ttlv.specs.declared.view.ViewValue.{ViewValue}
+use Rattle.kmipa_ttlv.specs.declared.view.ViewValue.TheVariants.{Structure, Integer, LongInteger, BigInteger, Enumeration, Boolean, Text, Bytes, DateTime, Interval, DateTimeExtended}
 use Rattle.kmipa_attrs.specs.Tags.{request_message, response_message, tag_name_of}
 use Rattle.kmipa_runs.specs.Dates.{HasDate}
 use Rattle.kmipa_runs.specs.Notes.{number_name_of}
@@ -50,7 +51,7 @@ ShowsValue (scalar tag s) value = ShowsScalar s value
 
 -- a value that has no children
 abbrev pub IsPlain : ViewValue → Type 0
-IsPlain (Structure' shape row) = ⊥
+IsPlain (Structure children) = ⊥
 IsPlain (Integer z) = Unit {0}
 IsPlain (LongInteger z) = Unit {0}
 IsPlain (BigInteger bs) = Unit {0}

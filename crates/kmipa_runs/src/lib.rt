@@ -17,7 +17,6 @@ mod showing;
 mod shown;
 mod status;
 mod values;
-mod viewing;
 mod writing;
 
 pub use laws::items_have_no_fault;
@@ -30,6 +29,3 @@ pub use searching::search_run;
 pub use showing::show_run;
 pub use status::Status;
 pub use writing::write_run;
-
-#[cfg(test)]
-mod tests;

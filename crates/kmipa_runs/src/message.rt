@@ -7,13 +7,13 @@ ghost use Rattle.kmipa_runs.specs.Shown.{AreMessage, IsMessage};
 
 use kmipa_attrs::tags;
 use kmipa_ttlv::{FaultKind, View, ViewValue, decode_view};
-use std::alloc::{AllocError, Global};
+use std::alloc::AllocError;
 
 /// The Request Message or Response Message that these bytes are, or `None` where they are no whole one.
-pub fn message_of(alloc: Global, bytes: &[u8]) -> Result<Option<View<'_>>, AllocError>
+pub fn message_of(bytes: &[u8]) -> Result<Option<View<'_>>, AllocError>
     ensures { IfOk result (λ found. MatchOption found ((m : Tree) → AreMessage m bytes.now → ⊥) (λ view. AreMessage (view_tree view) bytes.now)) }
 {
-    match decode_view(alloc, bytes) {
+    match decode_view(bytes) {
         Ok((view, taken)) => {
             if taken == bytes.len() && is_message(&view) {
                 Ok(Some(view))

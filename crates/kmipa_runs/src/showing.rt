@@ -11,8 +11,7 @@ use crate::flaws::tell_flaw;
 use crate::options::ShowOptions;
 use crate::shown::push_item;
 use crate::status::Status;
-use crate::viewing::read_view;
-use kmipa_ttlv::{FaultKind, Input, TtlvFault};
+use kmipa_ttlv::{FaultKind, Input, TtlvFault, read_view};
 use std::alloc::Global;
 use std::io::Read;
 
@@ -78,7 +77,7 @@ fn show_next<R: Read>(
     ensures appends { StartsWith out.new.items out.old.items }
 {
     let offset = input.taken();
-    let Some(view) = read_view(alloc, input, bytes)? else {
+    let Some(view) = read_view(input, bytes)? else {
         return Ok(false);
     };
     match push_item(alloc, &view, options, 0, out) {

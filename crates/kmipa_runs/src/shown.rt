@@ -1,18 +1,21 @@
 //! The lines that show an item.
 
-ghost use Rattle.std.specs.Prelude.{◌≡◌, ◌≤◌, ◌+◌, ◌*◌, ◌++◌, replicate, IsTrue, OnOk};
+ghost use Rattle.std.specs.Prelude.{◌≡◌, ◌≤◌, ◌+◌, ◌*◌, ◌∷◌, [], ◌++◌, replicate, IsTrue, OnOk};
 ghost use Rattle.std.specs.Io.{StartsWith, appended_bytes};
+ghost use Rattle.byteorder.specs.Endian.{big_bytes};
+ghost use Rattle.hex.specs.Hex.{encode_upper};
+ghost use Rattle.kmipa_attrs.specs.Tags.{tag_name_of};
 ghost use Rattle.kmipa_ttlv.specs.ViewTree.{view_tree, view_trees};
 ghost use Rattle.kmipa_ttlv.specs.Tree.{byte_string};
 ghost use Rattle.kmipa_ttlv.specs.Written.{depth, depths};
-ghost use Rattle.kmipa_runs.specs.Shown.{head, IsPlain, ShowsBelow, ShowsItem, ShowsItems, ShowsLine};
+ghost use Rattle.kmipa_runs.specs.Shown.{IsPlain, ShowsBelow, ShowsItem, ShowsItems, ShowsLine};
 
 use crate::message::message_of;
 use crate::options::ShowOptions;
-use crate::values::{UPPER, kind_name, push_digits, push_note, push_text, push_value, push_word};
+use crate::values::{UPPER, fill_digits, kind_word, push_note, push_text, push_value};
 use byteorder::{BigEndian, ByteOrder};
 use kmipa_attrs::tag_name;
-use kmipa_ttlv::{Tag, View, ViewValue};
+use kmipa_ttlv::{Children, Tag, View, ViewValue};
 use std::alloc::{AllocError, Global};
 
 /// Two spaces for each level that an item may have above it: 15 in a file, and 16 more in a message below one of its
@@ -37,9 +40,8 @@ pub fn push_item(
 {
     match &item.value {
         ViewValue::Structure(children) => {
-            push_head(item.tag, "Structure", level, out)?;
-            push_text("\n", out)?;
-            push_items(alloc, children, options, level + 1, out)
+            push_head(item.tag, " Structure\n", level, out)?;
+            push_items(alloc, *children, options, level + 1, out)
         }
         ViewValue::Bytes(bytes) => {
             push_line(alloc, item, options.notes, level, out)?;
@@ -53,18 +55,19 @@ pub fn push_item(
 #[cycle(showing)]
 fn push_items(
     alloc: Global,
-    items: &[View],
+    items: Children,
     options: ShowOptions,
     level: usize,
     out: &mut Vec<u8>,
 ) -> Result<(), AllocError>
-    requires level { level + depths (view_trees items.now) ≤ 32 }
-    requires room { IsTrue options.messages → level + depths (view_trees items.now) ≤ 16 }
-    ensures shows { OnOk result (ShowsItems options level (view_trees items.now) (appended_bytes out.old.items out.new.items)) }
+    requires level { level + depths (view_trees items) ≤ 32 }
+    requires room { IsTrue options.messages → level + depths (view_trees items) ≤ 16 }
+    ensures shows { OnOk result (ShowsItems options level (view_trees items.entry) (appended_bytes out.old.items out.new.items)) }
     ensures appends { StartsWith out.new.items out.old.items }
 {
-    for item in items {
-        push_item(alloc, item, options, level, out)?;
+    let mut left = items;
+    'items: while let Some(item) = left.next() {
+        push_item(alloc, &item, options, level, out)?;
     }
     Ok(())
 }
@@ -85,7 +88,7 @@ fn push_below(
     if !options.messages {
         return Ok(());
     }
-    let Some(message) = message_of(alloc, bytes)? else {
+    let Some(message) = message_of(bytes)? else {
         return Ok(());
     };
     let within = ShowOptions {
@@ -108,32 +111,44 @@ fn push_line(
     ensures shows { OnOk result (ShowsLine notes level (view_tree item.now) (appended_bytes out.old.items out.new.items)) }
     ensures appends { StartsWith out.new.items out.old.items }
 {
-    push_head(item.tag, kind_name(&item.value), level, out)?;
-    push_text(" ", out)?;
+    push_head(item.tag, kind_word(&item.value), level, out)?;
     push_value(alloc, &item.value, out)?;
     push_note(notes, item.tag, &item.value, out)?;
     push_text("\n", out)
 }
 
-/// Appends the margin, the tag, its name and the type.
+/// Appends the margin, the tag, its name and these words of the type, which begin with a space.
 fn push_head(tag: Tag, kind: &str, level: usize, out: &mut Vec<u8>) -> Result<(), AllocError>
     requires { level ≤ 31 }
-    ensures pushes { OnOk result (out.new.items ≡ out.old.items ++ head level tag.number kind.now) }
+    ensures pushes { OnOk result (out.new.items ≡ out.old.items
+        ++ (replicate (2 * level) 32 ++ encode_upper (big_bytes 3 tag.number) ++ 32 ∷ tag_name_of tag.number ++ kind.now)) }
     ensures appends { StartsWith out.new.items out.old.items }
+{
+    push_margin(level, out)?;
+    out.extend_from_slice(&tag_digits(tag))?;
+    push_text(tag_name(tag), out)?;
+    push_text(kind, out)
+}
+
+/// The digits of a tag, and a space.
+fn tag_digits(tag: Tag) -> [u8; 7]
+    ensures { result ≡ encode_upper (big_bytes 3 tag.number) ++ 32 ∷ [] }
 {
     let mut bytes = [0u8; 3];
     BigEndian::write_u24(&mut bytes, tag.number);
-    push_margin(level, out)?;
-    push_digits(UPPER, &bytes, out)?;
-    push_word(tag_name(tag), out)?;
-    push_word(kind, out)
+    let mut digits = [b' '; 7];
+    fill_digits(UPPER, &bytes, &mut digits[..6]);
+    digits
 }
 
-/// Appends two spaces a level.
+/// Appends two spaces a level. The spaces of all levels are copied, which is one step, and those too many are let go.
 fn push_margin(level: usize, out: &mut Vec<u8>) -> Result<(), AllocError>
     requires { level ≤ 31 }
     ensures pushes { OnOk result (out.new.items ≡ out.old.items ++ replicate (2 * level) 32) }
     ensures appends { StartsWith out.new.items out.old.items }
 {
-    out.extend_from_slice(&MARGIN[..2 * level])
+    let kept = out.len();
+    out.extend_from_slice(&MARGIN)?;
+    out.truncate(kept + 2 * level);
+    Ok(())
 }

@@ -6,7 +6,7 @@ ghost use Rattle.std.specs.Fmt.{signed_decimal};
 ghost use Rattle.std.specs.Io.{StartsWith, appended_bytes};
 ghost use Rattle.hex.specs.Hex.{encode_lower, encode_with};
 ghost use Rattle.kmipa_ttlv.specs.ViewTree.{view_value_tree};
-ghost use Rattle.kmipa_runs.specs.Shown.{escaped, quoted, kind_name as name_of, note, noted, ShowsMoment, ShowsValue};
+ghost use Rattle.kmipa_runs.specs.Shown.{escaped, quoted, kind_name, note, noted, ShowsMoment, ShowsValue};
 
 use crate::dates::calendar_date;
 use crate::notes::number_name;
@@ -20,22 +20,22 @@ pub const UPPER: &[u8; 16] = b"0123456789ABCDEF";
 /// The digits of bytes.
 const LOWER: &[u8; 16] = b"0123456789abcdef";
 
-/// The name of a value's type.
-pub fn kind_name(value: &ViewValue) -> &'static str
-    ensures { (tag : ℕ) → result.now ≡ name_of (view_value_tree tag value.now) }
+/// The name of a value's type, between spaces.
+pub fn kind_word(value: &ViewValue) -> &'static str
+    ensures { (tag : ℕ) → result.now ≡ 32 ∷ kind_name (view_value_tree tag value.now) ++ codes " " }
 {
     match value {
-        ViewValue::Structure(_) => "Structure",
-        ViewValue::Integer(_) => "Integer",
-        ViewValue::LongInteger(_) => "LongInteger",
-        ViewValue::BigInteger(_) => "BigInteger",
-        ViewValue::Enumeration(_) => "Enumeration",
-        ViewValue::Boolean(_) => "Boolean",
-        ViewValue::Text(_) => "Text",
-        ViewValue::Bytes(_) => "Bytes",
-        ViewValue::DateTime(_) => "DateTime",
-        ViewValue::Interval(_) => "Interval",
-        ViewValue::DateTimeExtended(_) => "DateTimeExtended",
+        ViewValue::Structure(_) => " Structure ",
+        ViewValue::Integer(_) => " Integer ",
+        ViewValue::LongInteger(_) => " LongInteger ",
+        ViewValue::BigInteger(_) => " BigInteger ",
+        ViewValue::Enumeration(_) => " Enumeration ",
+        ViewValue::Boolean(_) => " Boolean ",
+        ViewValue::Text(_) => " Text ",
+        ViewValue::Bytes(_) => " Bytes ",
+        ViewValue::DateTime(_) => " DateTime ",
+        ViewValue::Interval(_) => " Interval ",
+        ViewValue::DateTimeExtended(_) => " DateTimeExtended ",
     }
 }
 
@@ -69,7 +69,7 @@ pub fn push_text(text: &str, out: &mut Vec<u8>) -> Result<(), AllocError>
 }
 
 /// Appends a space and a text.
-pub fn push_word(text: &str, out: &mut Vec<u8>) -> Result<(), AllocError>
+fn push_word(text: &str, out: &mut Vec<u8>) -> Result<(), AllocError>
     ensures pushes { OnOk result (out.new.items ≡ out.old.items ++ 32 ∷ text.now) }
     ensures appends { StartsWith out.new.items out.old.items }
 {
@@ -119,7 +119,7 @@ fn push_number(number: i64, out: &mut Vec<u8>) -> Result<(), AllocError>
 }
 
 /// Appends bytes as hexadecimal digits of this table.
-pub fn push_digits(table: &[u8; 16], bytes: &[u8], out: &mut Vec<u8>) -> Result<(), AllocError>
+fn push_digits(table: &[u8; 16], bytes: &[u8], out: &mut Vec<u8>) -> Result<(), AllocError>
     ensures pushes { OnOk result (out.new.items ≡ out.old.items ++ encode_with table.now bytes.now) }
     ensures appends { StartsWith out.new.items out.old.items }
 {
@@ -137,7 +137,7 @@ pub fn push_digits(table: &[u8; 16], bytes: &[u8], out: &mut Vec<u8>) -> Result<
 }
 
 /// Writes bytes as hexadecimal digits of this table.
-fn fill_digits(table: &[u8; 16], bytes: &[u8], digits: &mut [u8])
+pub fn fill_digits(table: &[u8; 16], bytes: &[u8], digits: &mut [u8])
     requires { length digits.old ≡ 2 * length bytes.now }
     ensures { digits.new ≡ encode_with table.now bytes.now }
 {

@@ -153,8 +153,8 @@ module _ (calls : List StepOf) (taken order rank A B ends place C D : List ℕ)
   ]
 
   module _ (from : ℕ) (cursor : IsCursor calls taken from) where
-    after : LeftRank (length calls) rank taken (rank_from rank from) ⊎ (rank_from rank from ≡ 0)
-    after = elim cursor [
+    behind : LeftRank (length calls) rank taken (rank_from rank from) ⊎ (rank_from rank from ≡ 0)
+    behind = elim cursor [
       | inl z ↦ inr (ap (rank_from rank) z)
       | inr q ↦
           let P : ℕ → Type 0 = λ k. LeftRank (length calls) rank taken (rank_from rank k) in

@@ -10,6 +10,7 @@ use Rattle.kmipa_ttlv.specs.Tree.{Tree, structure, scalar, none, more, integer}
 use Rattle.kmipa_ttlv.specs.Spelling.{tag_at, kind_at, len_at, value_at, padded, Framed, Signed32, Stands, Run, Spells}
 use Rattle.kmipa_ttlv.specs.Stream.{Begins}
 use Rattle.kmipa_record.specs.Marks.{MarkOf, begins, call_of, IsCallNumber, AreRecorded}
+use Rattle.kmipa_record.specs.Tags.{version_tag, call_tag, witness_header_tag, turn_tag}
 use Rattle.kmipa_record.specs.Witnesses.{TurnOf, turn_item, Admits, IsWitness}
 use Rattle.kmipa_record.specs.declared.version.Version.TheVariants.{First}
 use Rattle.kmipa_check.specs.Calls.{CallOf, IsRecorded}
@@ -18,17 +19,20 @@ use Rattle.kmipa_search.proofs.ElementLemmas.{contains_at, mapped_from}
 
 -- a structure with one number in it
 abbrev tree : ℕ → ℕ → ℤ → Tree
-tree a b z = structure (0x54_0000 + a) (more (scalar (0x54_0000 + b) (integer z)) none)
+tree a b z = structure a (more (scalar b (integer z)) none)
+
+abbrev tag_digits : ℕ → List ℕ
+tag_digits tag = tag / 65_536 % 256 ∷ tag / 256 % 256 ∷ tag % 256 ∷ []
 
 abbrev digits : ℕ → List ℕ
 digits n = n / 16_777_216 % 256 ∷ n / 65_536 % 256 ∷ n / 256 % 256 ∷ n % 256 ∷ []
 
 -- the number's item
 abbrev child : ℕ → ℤ → List ℕ
-child b z = 0x54 ∷ 0 ∷ b ∷ 2 ∷ 0 ∷ 0 ∷ 0 ∷ 4 ∷ digits (cast_unsigned w32 z) ++ 0 ∷ 0 ∷ 0 ∷ 0 ∷ []
+child b z = tag_digits b ++ 2 ∷ 0 ∷ 0 ∷ 0 ∷ 4 ∷ digits (cast_unsigned w32 z) ++ 0 ∷ 0 ∷ 0 ∷ 0 ∷ []
 
 abbrev whole : ℕ → ℕ → ℤ → List ℕ
-whole a b z = 0x54 ∷ 0 ∷ a ∷ 1 ∷ 0 ∷ 0 ∷ 0 ∷ 16 ∷ child b z
+whole a b z = tag_digits a ++ 1 ∷ 0 ∷ 0 ∷ 0 ∷ 16 ∷ child b z
 
 unsigned : (z : ℤ) → FitsSigned w32 z → cast_unsigned w32 z < 2 ^ 32
 unsigned (pos n) h = omega (arith, h)
@@ -40,7 +44,7 @@ signed z m fits is = ap (cast_signed w32) is ∙ to_z-of_z w32 z fits
 digits_number : (z : ℤ) → FitsSigned w32 z → Signed32 z (digits (cast_unsigned w32 z))
 digits_number z fits = record { long = refl; number = signed z _ fits (omega (arith, unsigned z fits)) }
 
-child_frame : (b : ℕ) (z : ℤ) → b < 256 → Framed (0x54_0000 + b) 2 (child b z)
+child_frame : (b : ℕ) (z : ℤ) → b < 2 ^ 24 → Framed b 2 (child b z)
 unfolding tag_at kind_at len_at
 child_frame b z lt = record { header = omega arith; tag_is = omega (arith, lt); kind_is = refl; whole = omega arith }
 
@@ -52,7 +56,7 @@ child_len : (b : ℕ) (z : ℤ) → len_at (child b z) ≡ 4
 unfolding len_at
 child_len b z = refl
 
-whole_frame : (a b : ℕ) (z : ℤ) → a < 256 → Framed (0x54_0000 + a) 1 (whole a b z)
+whole_frame : (a b : ℕ) (z : ℤ) → a < 2 ^ 24 → Framed a 1 (whole a b z)
 unfolding tag_at kind_at len_at
 whole_frame a b z lt = record { header = omega arith; tag_is = omega (arith, lt); kind_is = refl; whole = omega arith }
 
@@ -64,17 +68,17 @@ whole_len : (a b : ℕ) (z : ℤ) → len_at (whole a b z) ≡ 16
 unfolding len_at
 whole_len a b z = refl
 
-child_stands : (b : ℕ) (z : ℤ) → b < 256 → FitsSigned w32 z → Stands 15 (scalar (0x54_0000 + b) (integer z)) (child b z)
+child_stands : (b : ℕ) (z : ℤ) → b < 2 ^ 24 → FitsSigned w32 z → Stands 15 (scalar b (integer z)) (child b z)
 child_stands b z lt fits = (child_frame b z lt, let P : List ℕ → Type 0 = λ v. Signed32 z v in subst P (sym (child_value b z)) (digits_number z fits))
 
-child_runs : (b : ℕ) (z : ℤ) → b < 256 → FitsSigned w32 z → Run 15 (more (scalar (0x54_0000 + b) (integer z)) none) (child b z) []
+child_runs : (b : ℕ) (z : ℤ) → b < 2 ^ 24 → FitsSigned w32 z → Run 15 (more (scalar b (integer z)) none) (child b z) []
 child_runs b z lt fits =
     let P : ℕ → Type 0 = λ n. drop (8 + padded n) (child b z) ≡ [] in
     (child_stands b z lt fits, subst P (sym (child_len b z)) refl)
 
-spelled : (a b : ℕ) (z : ℤ) → a < 256 → b < 256 → FitsSigned w32 z → Spells (tree a b z) (whole a b z)
+spelled : (a b : ℕ) (z : ℤ) → a < 2 ^ 24 → b < 2 ^ 24 → FitsSigned w32 z → Spells (tree a b z) (whole a b z)
 spelled a b z p q fits =
-    let P : List ℕ → Type 0 = λ v. Run 15 (more (scalar (0x54_0000 + b) (integer z)) none) v [] in
+    let P : List ℕ → Type 0 = λ v. Run 15 (more (scalar b (integer z)) none) v [] in
     let E : ℕ → Type 0 = λ n. 24 ≡ 8 + padded n in
     record {
       stands = (whole_frame a b z p, subst P (sym (whole_value a b z)) (child_runs b z q fits));
@@ -92,8 +96,8 @@ turns_begin : (numbers : List ℤ) → ((z : ℤ) → Contains numbers z → IsC
 turns_begin [] numbered = ([], refl)
 turns_begin (z ∷ numbers) numbered =
     let rest = turns_begin numbers (λ x has. numbered x (suc has.0, omega (arith, has.1), has.2)) in
-    let front = whole 0x41 0x11 z in
-    (front ++ rest.0, (front, rest.0, refl, spelled 0x41 0x11 z (omega arith) (omega arith) (number_fits z (numbered z (0, omega arith, refl))), rest.1))
+    let front = whole turn_tag call_tag z in
+    (front ++ rest.0, (front, rest.0, refl, spelled turn_tag call_tag z (omega arith) (omega arith) (number_fits z (numbered z (0, omega arith, refl))), rest.1))
 
 turns_admitted : (numbers : List ℤ) → All (Admits First) (map bare_turn numbers)
 turns_admitted numbers i d below =
@@ -110,11 +114,11 @@ turns_numbered numbers numbered i d below =
 pub bare_written : (numbers : List ℤ) → ((z : ℤ) → Contains numbers z → IsCallNumber z) → (bytes : List ℕ) × IsWitness bytes (map bare_turn numbers)
 bare_written numbers numbered =
     let rest = turns_begin numbers numbered in
-    let front = whole 0x40 0x02 (pos 1) in (
+    let front = whole witness_header_tag version_tag (pos 1) in (
       front ++ rest.0,
       record {
         version = First;
-        spelled = (front, rest.0, refl, spelled 0x40 0x02 (pos 1) (omega arith) (omega arith) (omega arith), rest.1);
+        spelled = (front, rest.0, refl, spelled witness_header_tag version_tag (pos 1) (omega arith) (omega arith) (omega arith), rest.1);
         admitted = turns_admitted numbers;
         numbered = turns_numbered numbers numbered;
       },

@@ -1,5 +1,5 @@
 -- The items that bytes spell, read from the front, as they are lent out of bytes that were tested before. Of such bytes it says what
--- `Run` says (the law `read_in_place`); of others it says something too, on which nothing is built. Not promised.
+-- `Run` says: the law `read_in_place`. Of other bytes it says something too, on which nothing is built.
 use Rattle.std.specs.Prelude.{◌≡◌, ℕ, zero, suc, ◌==◌, nat_le, ◌&&◌, Bool, cond, List, [], length, drop, if◌then◌else◌}
 use Rattle.std.specs.Str.{is_utf8}
 use Rattle.std.specs.Int.{w32, w64, cast_signed}

@@ -68,6 +68,7 @@ fn read_outermost(bytes: &[u8]) -> Result<(View<'_>, usize), TtlvFault>
 /// Tests the item at this place, where so many levels are left, and the bytes go up to the structure's end. It answers
 /// how many bytes the item takes.
 #[cycle(testing)]
+#[inline(always)]
 fn test_child(left: usize, place: usize, bytes: &[u8]) -> Result<usize, TtlvFault>
     requires { place + length bytes.now ≤ 0x10_0000 }
     ensures { MatchResult result
@@ -84,6 +85,7 @@ fn test_child(left: usize, place: usize, bytes: &[u8]) -> Result<usize, TtlvFaul
 
 /// Tests the value of an item with this header, at this place, where so many levels are left below it.
 #[cycle(testing)]
+#[inline(always)]
 fn test_value(left: usize, place: usize, head: Head, value: &[u8]) -> Result<(), TtlvFault>
     requires allowed { IsTrue (allows (number_of_kind head.kind) (length value.now)) }
     requires room { place + 8 + length value.now ≤ 0x10_0000 }

@@ -31,10 +31,10 @@ pub use input::Input;
 pub use item::{Item, Value};
 pub use laws::{
     begins_or_flawed, cut_short, decoded_again, joined, known_flaw, no_flaw, no_others, one_flaw,
-    one_list, one_spelling, own_kinds, settled,
+    one_list, one_spelling, own_kinds, read_in_place, settled,
 };
 pub use lending::lend;
-pub use reading::{read_all, read_bytes, read_item, read_item_into};
+pub use reading::{read_all, read_bytes, read_item, read_view};
 pub use splitting::split_stream;
 pub use tag::Tag;
 pub use view::{Children, View, ViewValue};

@@ -9,12 +9,15 @@ ghost use Rattle.kmipa_ttlv.specs.Reading.{IsWhole, ReadTells, CameShort, StopsI
 ghost use Rattle.kmipa_ttlv.specs.Spelling.{Spells};
 ghost use Rattle.kmipa_ttlv.specs.Stream.{capped};
 ghost use Rattle.kmipa_ttlv.specs.Tree.{Tree};
+ghost use Rattle.kmipa_ttlv.specs.ViewTree.{view_tree};
 
-use crate::decoding::decode;
+use crate::copying::copy_item;
+use crate::decoding::decode_view;
 use crate::fault::{FaultKind, TtlvFault};
 use crate::head::{HEADER, outer_extent};
 use crate::input::Input;
 use crate::item::Item;
+use crate::view::View;
 use std::alloc::Global;
 use std::io::Read;
 
@@ -41,22 +44,30 @@ pub fn read_item<R: Read>(alloc: Global, input: &mut Input<R>) -> Result<Option<
     ensures failed { IsTrue (is_failed input.old) → result ≡ Err (record { offset = taken_of input.old; kind = FaultKind.Device }) }
     ensures stays { IsTrue (is_failed input.old) → IsTrue (is_failed input.new) }
 {
+    let place = input.taken();
     let mut bytes = Vec::new(alloc);
-    read_item_into(alloc, input, &mut bytes)
+    let Some(view) = read_view(input, &mut bytes)? else {
+        return Ok(None);
+    };
+    match copy_item(alloc, &view) {
+        Ok(item) => Ok(Some(item)),
+        Err(_) => Err(TtlvFault {
+            offset: place,
+            kind: FaultKind::Memory,
+        }),
+    }
 }
 
-/// The same as `read_item`. The item's bytes are read into `bytes`, in place of what is there, so that calls in turn
-/// share one buffer.
-pub fn read_item_into<R: Read>(
-    alloc: Global,
+/// The same as `read_item`, with texts and bytes lent. The item's bytes are read into `bytes`, in place of what is there,
+/// so that calls in turn share one buffer.
+pub fn read_view<'b, R: Read>(
     input: &mut Input<R>,
-    bytes: &mut Vec<u8>,
-) -> Result<Option<Item>, TtlvFault>
-    ensures bounded { vec_len bytes.new ≤ 0x10_0000 }
+    bytes: &'b mut Vec<u8>,
+) -> Result<Option<View<'b>>, TtlvFault>
     // What came is the item's spelling, and nothing after it.
-    ensures item { IfOk result (λ o. IfSome o (λ item. (front : List ℕ) × Spells (tree item) front × (came_of input.new ≡ came_of input.old ++ front))) }
+    ensures item { IfOk result (λ o. IfSome o (λ view. (front : List ℕ) × Spells (view_tree view) front × (came_of input.new ≡ came_of input.old ++ front))) }
     // It is the next of those that came.
-    ensures next { IfOk result (λ o. IfSome o (λ item. (given : List Tree) → AreItems given (came_of input.old) → AreItems (given ++ tree item ∷ []) (came_of input.new))) }
+    ensures next { IfOk result (λ o. IfSome o (λ view. (given : List Tree) → AreItems given (came_of input.old) → AreItems (given ++ view_tree view ∷ []) (came_of input.new))) }
     // At the end nothing came.
     ensures end { IfOk result (λ o. IfNone o (IsTrue (is_ended input.new) × (came_of input.new ≡ came_of input.old))) }
     ensures fault { IfErr result (λ f. ReadTells (taken_of input.old) (appended_bytes (came_of input.old) (came_of input.new)) (is_ended input.new) (is_failed input.new) f) }
@@ -72,8 +83,8 @@ pub fn read_item_into<R: Read>(
     if !read_bytes(input, bytes)? {
         return Ok(None);
     }
-    match decode(alloc, bytes) {
-        Ok((item, _)) => Ok(Some(item)),
+    match decode_view(bytes) {
+        Ok((view, _)) => Ok(Some(view)),
         Err(fault) => match fault.kind {
             FaultKind::Memory => Err(TtlvFault {
                 offset: place,

@@ -128,8 +128,7 @@ fn the_last_byte_is_missing(rt: HostRuntime) -> Result<(), Fail> {
     assert!(rt; !input.failed());
     let mut input = Input::new(REQUEST.as_slice());
     let mut bytes = Vec::new(alloc);
-    let item = read_item_into(alloc, &mut input, &mut bytes)?;
-    assert!(rt; item.is_some());
+    assert!(rt; read_view(&mut input, &mut bytes)?.is_some());
     assert_eq!(rt; bytes.as_slice(), REQUEST.as_slice());
     let more = read_bytes(&mut input, &mut bytes)?;
     assert!(rt; !more);

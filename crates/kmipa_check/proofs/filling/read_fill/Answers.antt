@@ -7,14 +7,14 @@ use Rattle.kmipa_msgs.specs.Outside.{Inside, OutsideAt, Tells}
 use Rattle.kmipa_msgs.specs.Payloads.{SaysPayload, PayloadFault}
 use Rattle.kmipa_check.proofs.filling.read_fill.Goals as goal
 
-pub returns-in-Ok-read_payload : goal.returns-in-Ok-read_payload
-returns-in-Ok-read_payload c =
-    let P : Tree → Type 0 = λ t. Inside (SaysPayload t (ask_of c.args.ask.now)) (PayloadFault t (ask_of c.args.ask.now)) (payload_of c.in-Ok-read_payload.payload) in
-    subst P c.in-Ok.ensures.same c.in-Ok-read_payload.ensures
+pub returns-in-Ok : goal.returns-in-Ok
+returns-in-Ok c =
+    let P : Tree → Type 0 = λ t. Inside (SaysPayload t (ask_of c.args.ask.now)) (PayloadFault t (ask_of c.args.ask.now)) (payload_of c.in-Ok.payload) in
+    subst P c.lend-view.ensures c.in-Ok.ensures
 
 pub returns-in-Err-Outside : goal.returns-in-Err-Outside
 returns-in-Err-Outside c =
     let P : Tree → Type 0 = λ t. OutsideAt (PayloadFault t (ask_of c.args.ask.now)) c.in-Err-Outside.field-0-0.item c.in-Err-Outside.field-0-0.kind in
-    let t = view_tree c.in-Ok.view in
+    let t = view_tree c.lend-view.result in
     let R : ReadFault → Type 0 = λ x. Tells payload_of (SaysPayload t (ask_of c.args.ask.now)) (PayloadFault t (ask_of c.args.ask.now)) (Err x) in
-    ((c.in-Err-Outside.field-0-0.item, c.in-Err-Outside.field-0-0.kind, subst P c.in-Ok.ensures.same (subst R c.in-Err-Outside.field-0-is c.in-Err-Outside.ensures)), refl)
+    ((c.in-Err-Outside.field-0-0.item, c.in-Err-Outside.field-0-0.kind, subst P c.lend-view.ensures (subst R c.in-Err-Outside.field-0-is c.in-Err-Outside.ensures)), refl)

@@ -13,5 +13,5 @@ returns-else-is_declarable c = λ e s d.
     let here : EntryOf = entry_of (record { id = c.in_ok-from_str.field-0; kind = c.in-Some.parts.kind; attrs = c.in-Some-2.attrs; bytes = c.in_ok-copied.field-0 }) in
     let set = rw c.in-Some-2.is at c.in_ok-attrs.ensures in
     let said : SaysEntry (view_tree c.args.item.now) here
-    = record { attributes = view_trees c.in-Some.parts.attributes.now; is = rw (c.in_ok-from_str.ensures.ok, c.in_ok-copied.ensures.same) c.in-Some.ensures; listed = set.0; said = set.1 } in
+    = record { attributes = view_trees c.in-Some.parts.attributes; is = rw (c.in_ok-from_str.ensures.ok, c.in_ok-copied.ensures.same) c.in-Some.ensures; listed = set.0; said = set.1 } in
     absurd (let no = c.if-is_declarable.ensures.1 (subst IsDeclarable (one_entry (view_tree c.args.item.now) e here s said) d) in cc)

@@ -11,4 +11,4 @@ pub returns : goal.returns
 returns c =
     let t = view_tree c.args.item.now in
     let shape = structure_shape c.args.tag t (tag_is c.args.item.now c.args.tag c.if-item-tag.false) in
-    match_map (λ vs. view_trees vs.now) c.as_structure.result ((ts : Trees) → t ≢ structure c.args.tag ts) (λ ts. t ≡ structure c.args.tag ts) (subst (λ (o : Option Trees). MatchOption o ((ts : Trees) → t ≢ structure c.args.tag ts) (λ ts. t ≡ structure c.args.tag ts)) (sym c.as_structure.ensures) shape)
+    match_map view_trees c.as_structure.result ((ts : Trees) → t ≢ structure c.args.tag ts) (λ ts. t ≡ structure c.args.tag ts) (subst (λ (o : Option Trees). MatchOption o ((ts : Trees) → t ≢ structure c.args.tag ts) (λ ts. t ≡ structure c.args.tag ts)) (sym c.as_structure.ensures) shape)

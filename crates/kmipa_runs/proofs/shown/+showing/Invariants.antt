@@ -1,7 +1,7 @@
-use Rattle.std.proofs.Common.{◌≤◌, ◌+◌, ◌-◌, ◌*◌, ◌++◌, ℕ, List, drop, IsTrue}
+use Rattle.std.proofs.Common.{◌≤◌, ◌+◌, ◌-◌, ◌*◌, ◌++◌, ℕ, List, IsTrue}
 use Rattle.std.specs.Io.{StartsWith, appended_bytes}
 use Rattle.kmipa_ttlv.specs.ViewTree.{view_trees}
-use Rattle.kmipa_ttlv.specs.Written.{depths}
+use Rattle.kmipa_ttlv.specs.Written.{depths, sizes}
 use Rattle.kmipa_runs.specs.Shown.{ShowsItems}
 use Rattle.kmipa_runs.proofs.shown.+showing.Given as goal
 
@@ -14,11 +14,14 @@ decreases-push_items l = 2 * (32 - l.level) + 1
 abbrev pub decreases-push_below : goal.decreases-push_below
 decreases-push_below l = 2 * (32 - l.level) - 1
 
-abbrev pub invariant-push_items-loop-item : goal.invariant-push_items-loop-item
-invariant-push_items-loop-item l = record {
-  levels : l.level + depths (view_trees (drop l.item-index l.items)) ≤ 32;
-  room : IsTrue l.options.messages → l.level + depths (view_trees (drop l.item-index l.items)) ≤ 16;
-  shown : (others : List ℕ) → ShowsItems l.options l.level (view_trees (drop l.item-index l.items)) others
+abbrev pub decreases-push_items-items : goal.decreases-push_items-items
+decreases-push_items-items l = sizes (view_trees l.left)
+
+abbrev pub invariant-push_items-items : goal.invariant-push_items-items
+invariant-push_items-items l = record {
+  levels : l.level + depths (view_trees l.left) ≤ 32;
+  room : IsTrue l.options.messages → l.level + depths (view_trees l.left) ≤ 16;
+  shown : (others : List ℕ) → ShowsItems l.options l.level (view_trees l.left) others
       → ShowsItems l.options l.level (view_trees l.items) (appended_bytes l.initial.out.items l.out.items ++ others);
   appends : StartsWith l.out.items l.initial.out.items;
 }

@@ -1,4 +1,4 @@
-use Rattle.std.proofs.Common.{◌≡◌, ◌∙◌, ◌+◌, sym, ap, map, length, vec_len, ℕ, Result, List, rules}
+use Rattle.std.proofs.Common.{◌≡◌, length, arith, ◌∙◌, ◌+◌, sym, ap, map, ℕ, Result, List}
 use Rattle.std.proofs.lemmas.List.{length-map}
 use Rattle.std.specs.List.{slice_get}
 use Rattle.std.specs.Option.{option_map}
@@ -24,8 +24,7 @@ returns-in-Err c =
     let t = view_tree c.in-Some.child in
     let asks = c.args.asks.now in
     let place = c.len-place.result in
-    let counted : vec_len c.children.answers ≡ length c.children.answers.items = search rules in
-    let here = c.len-place.ensures ∙ counted ∙ sym (length-map c.children.answers.items answer_of) in
+    let here : c.len-place.result ≡ length (answers_of c.children.answers) = omega (arith, c.len-place.ensures, c.children.answers.ok, length-map c.children.answers.items answer_of) in
     let ts = every batch_item (view_trees c.children.left) in
     let us = every batch_item (view_trees c.next_of.new.self) in
     let whole = from_one (each_in (read asks) (every batch_item (view_trees c.args.children))) in
@@ -39,8 +38,7 @@ children-preserved c =
     let asks = c.args.asks.now in
     let t = view_tree c.in-Some.child in
     let place = c.len-place.result in
-    let counted : vec_len c.children.answers ≡ length c.children.answers.items = search rules in
-    let here = c.len-place.ensures ∙ counted ∙ sym (length-map c.children.answers.items answer_of) in
+    let here : c.len-place.result ≡ length (answers_of c.children.answers) = omega (arith, c.len-place.ensures, c.children.answers.ok, length-map c.children.answers.items answer_of) in
     let ts = every batch_item (view_trees c.children.left) in
     let us = every batch_item (view_trees c.next_of.new.self) in
     let more = meaning_more answer_of c.children.answers.items c.push.new.self.items c.in-Ok.answer c.in_ok-push-in-Ok.ensures.items in

@@ -1,4 +1,4 @@
-use Rattle.std.proofs.Common.{◌≡◌, ◌∙◌, ◌+◌, sym, ap, length, vec_len, ℕ, Bool, Result, rules}
+use Rattle.std.proofs.Common.{arith, ◌∙◌, ◌+◌, sym, ap, ℕ, Bool, Result}
 use Rattle.std.proofs.lemmas.List.{length-map}
 use Rattle.kmipa_ttlv.specs.Tree.{Tree}
 use Rattle.kmipa_ttlv.specs.ViewTree.{view_tree, view_trees}
@@ -20,11 +20,10 @@ returns-in-Err c =
     let t = view_tree c.in-Some.child in
     let ts = every batch_item (view_trees c.children.left) in
     let us = every batch_item (view_trees c.next_of.new.self) in
-    let counted : vec_len c.children.asks ≡ length c.children.asks.items = search rules in
     let whole = from_one (each_in (read c.args.unordered) (every batch_item (view_trees c.args.children))) in
     rw c.at.ensures (gives_unread asks_of ask_of (c.len.result + 1) c.in-Err.unread (item_in c.args.unordered t) whole c.in-Err.ensures
     (λ k e. ap from_one c.children.invariant
-    ∙ items_faulty (read c.args.unordered) (asks_of c.children.asks) c.len.result k ts us t c.in-Some.ensures.next e (c.len.ensures ∙ counted ∙ sym (length-map c.children.asks.items ask_of))))
+    ∙ items_faulty (read c.args.unordered) (asks_of c.children.asks) c.len.result k ts us t c.in-Some.ensures.next e (omega (arith, c.len.ensures, c.children.asks.ok, length-map c.children.asks.items ask_of))))
 
 pub children-preserved : goal.children-preserved
 children-preserved c =

@@ -1,3 +1,0 @@
-//! What no clause says: which words are understood.
-
-mod words;
