@@ -1,5 +1,5 @@
 -- Get Attributes and its answers are read.
-use Rattle.std.proofs.Common.{◌≡◌, ◌≤◌, ◌<◌, ◌+◌, ◌++◌, ℕ, Bool, true, false, ◌==◌, ◌&&◌, ◌||◌, not, nat_lt, cond, is_some, is_none, filter_map, List, [], ◌∷◌, length, drop, get_or, Option, Some, None, Result, refl, sym, ap, ◌∙◌, inl, inr, append_assoc, eq-eqb, take, eqb-true}
+use Rattle.std.proofs.Common.{◌≡◌, ◌+◌, ◌++◌, ℕ, Bool, true, false, ◌==◌, ◌&&◌, ◌||◌, not, nat_lt, cond, is_some, is_none, filter_map, List, [], ◌∷◌, length, Option, Some, None, Result, refl, sym, ap, ◌∙◌, inl, inr, append_assoc, eq-eqb, take, eqb-true}
 use Rattle.std.proofs.lemmas.Bool.{ne_eqb}
 use Rattle.std.proofs.lemmas.List.{append-nil, map-append}
 use Rattle.kmipa_ttlv.specs.Tree.{Tree, Trees, more, scalar, none}

@@ -1,5 +1,5 @@
 -- What the headers of requests and responses share is read.
-use Rattle.std.proofs.Common.{◌≡◌, ◌<◌, ◌+◌, ℕ, zero, suc, ℤ, pos, negsuc, nat_abs, Bool, true, false, ◌==◌, ◌&&◌, nat_lt, eqb, Option, Some, None, Result, refl, sym, ap, ◌∙◌, inl, inr, ◌⊎◌, arith, eqb-true, ltb-true, lt-ltb, eq-eqb}
+use Rattle.std.proofs.Common.{◌≡◌, ◌<◌, ℕ, zero, suc, ℤ, pos, negsuc, nat_abs, Bool, true, false, ◌==◌, ◌&&◌, nat_lt, eqb, Option, Some, None, Result, refl, sym, ap, ◌∙◌, inl, inr, ◌⊎◌, arith, eqb-true, ltb-true, lt-ltb, eq-eqb}
 use Rattle.std.proofs.lemmas.Bool.{ne_eqb}
 use lib.Signed.{lt_z}
 use Rattle.kmipa_ttlv.specs.Tree.{Tree, Trees}

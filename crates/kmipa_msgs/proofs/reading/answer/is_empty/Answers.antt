@@ -1,5 +1,5 @@
 use Rattle.kmipa_ttlv.specs.ViewTree.{view_tree}
-use Rattle.std.proofs.Common.{◌∙◌, sym}
+use Rattle.std.proofs.Common.{sym}
 use Rattle.kmipa_msgs.proofs.ReplyLemmas.{empty_is_bare, not_bare}
 use Rattle.kmipa_msgs.proofs.reading.answer.is_empty.Goals as goal
 

@@ -1,4 +1,4 @@
-use Rattle.std.proofs.Common.{◌≡◌, length, arith, ◌∙◌, ◌+◌, sym, ap, map, ℕ, Result, List}
+use Rattle.std.proofs.Common.{◌≡◌, length, arith, ◌∙◌, ◌+◌, ap, map, ℕ, Result, List}
 use Rattle.std.proofs.lemmas.List.{length-map}
 use Rattle.std.specs.List.{slice_get}
 use Rattle.std.specs.Option.{option_map}

@@ -1,4 +1,4 @@
-use Rattle.std.proofs.Common.{arith, ◌∙◌, ◌+◌, sym, ap, ℕ, Bool, Result}
+use Rattle.std.proofs.Common.{arith, ◌∙◌, ◌+◌, ap, ℕ, Bool, Result}
 use Rattle.std.proofs.lemmas.List.{length-map}
 use Rattle.kmipa_ttlv.specs.Tree.{Tree}
 use Rattle.kmipa_ttlv.specs.ViewTree.{view_tree, view_trees}

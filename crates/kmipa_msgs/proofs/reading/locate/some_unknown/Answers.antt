@@ -1,5 +1,5 @@
 use Rattle.std.proofs.Common.{◌∙◌, sym}
-use Rattle.kmipa_ttlv.specs.ViewTree.{view_tree, view_trees}
+use Rattle.kmipa_ttlv.specs.ViewTree.{view_trees}
 use Rattle.kmipa_msgs.proofs.LocateLemmas.{unknown_found, unknown_passed, unknown_none}
 use Rattle.kmipa_msgs.proofs.reading.locate.some_unknown.Goals as goal
 

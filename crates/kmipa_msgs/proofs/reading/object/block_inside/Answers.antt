@@ -1,5 +1,3 @@
-use Rattle.std.proofs.Common.{◌∙◌, sym, ap}
-use Rattle.std.specs.Option.{option_map}
 use Rattle.kmipa_ttlv.specs.ViewTree.{view_tree, view_trees}
 use Rattle.kmipa_msgs.proofs.ObjectLemmas.{no_object, no_block}
 use Rattle.kmipa_msgs.proofs.reading.object.block_inside.Goals as goal

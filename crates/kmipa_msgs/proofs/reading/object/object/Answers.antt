@@ -1,5 +1,5 @@
 use Rattle.std.proofs.Common.{◌∙◌, sym}
-use Rattle.kmipa_ttlv.specs.ViewTree.{view_tree, view_trees}
+use Rattle.kmipa_ttlv.specs.ViewTree.{view_trees}
 use Rattle.kmipa_msgs.proofs.ObjectLemmas.{object_found, object_passed, object_none}
 use Rattle.kmipa_msgs.proofs.reading.object.object.Goals as goal
 
