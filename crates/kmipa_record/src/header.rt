@@ -29,6 +29,7 @@ impl Record for TranscriptHeader {
     }
 }
 
+/// The header of a transcript, where the item is one.
 fn transcript_header_in(item: &View) -> Option<TranscriptHeader>
     ensures { MatchOption result (view_tree item.now ≢ transcript_header) (λ _. view_tree item.now ≡ transcript_header) }
 {
@@ -56,6 +57,7 @@ impl Record for DeclarationHeader {
     }
 }
 
+/// The header of a declaration, where the item is one.
 fn declaration_header_in(item: &View) -> Option<DeclarationHeader>
     ensures { MatchOption result (¬ ((unique : Bool) × (view_tree item.now ≡ declaration_header unique)))
         (λ h. view_tree item.now ≡ declaration_header h.unique_names) }
@@ -85,6 +87,7 @@ impl Record for WitnessHeader {
     }
 }
 
+/// The header of a witness, where the item is one.
 fn witness_header_in(item: &View) -> Option<WitnessHeader>
     ensures { MatchOption result (¬ ((version : Version) × (view_tree item.now ≡ witness_header version)))
         (λ h. view_tree item.now ≡ witness_header h.version) }
