@@ -45,6 +45,3 @@ pub use transcript_writing::write_transcript;
 pub use turn::Turn;
 pub use witness::{Witness, read_witness};
 pub use witness_writing::write_witness;
-
-#[cfg(test)]
-mod tests;

@@ -2,7 +2,7 @@
 
 use super::reported;
 use super::vectors::*;
-use crate::*;
+use kmipa_record::{RecordKind, read_transcript};
 use kmipa_ttlv::{FaultKind, Input};
 use std::io;
 use std::io::Read;

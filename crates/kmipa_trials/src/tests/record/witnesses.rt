@@ -2,7 +2,7 @@
 
 use super::vectors::*;
 use super::{reported, witness_fault};
-use crate::*;
+use kmipa_record::{RecordFault, RecordKind, read_witness};
 use kmipa_ttlv::{Input, Value};
 use std::alloc::Global;
 use std::test::Fail;

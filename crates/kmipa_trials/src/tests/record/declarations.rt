@@ -2,9 +2,9 @@
 
 use super::vectors::*;
 use super::{declaration_fault, reported};
-use crate::*;
 use kmipa_attrs::ObjectType;
 use kmipa_msgs::{Cause, Row};
+use kmipa_record::{Declaration, RecordFault, RecordKind, read_declaration};
 use kmipa_ttlv::Input;
 use std::alloc::Global;
 use std::test::Fail;

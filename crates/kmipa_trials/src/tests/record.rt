@@ -7,7 +7,9 @@ mod vectors;
 mod witnesses;
 mod writing;
 
-use crate::*;
+use kmipa_record::{
+    Mark, RecordFault, RecordKind, read_declaration, read_transcript, read_witness,
+};
 use kmipa_ttlv::{FaultKind, Input};
 use std::alloc::Global;
 use std::test::Fail;

@@ -2,7 +2,10 @@
 
 use super::reported;
 use super::vectors::*;
-use crate::*;
+use kmipa_record::{
+    Fill, RecordFault, RecordKind, Turn, Witness, read_declaration, read_transcript, read_witness,
+    write_declaration, write_transcript, write_witness,
+};
 use kmipa_ttlv::{Input, Item, Tag};
 use std::alloc::Global;
 use std::test::Fail;

@@ -2,7 +2,7 @@
 
 use super::vectors::*;
 use super::{reported, transcript_fault};
-use crate::*;
+use kmipa_record::{Marks, RecordKind, read_transcript};
 use kmipa_ttlv::{FaultKind, Input};
 use std::test::Fail;
 
