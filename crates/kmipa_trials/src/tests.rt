@@ -1,4 +1,5 @@
 //! What no clause says, of each crate in a file of its own: outside vectors, and that each call succeeds where memory is
 //! there.
 
+mod ops;
 mod record;
