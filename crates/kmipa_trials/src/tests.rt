@@ -5,3 +5,4 @@ mod audits;
 mod calls;
 mod ops;
 mod record;
+mod store;
