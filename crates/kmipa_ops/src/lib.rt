@@ -41,6 +41,3 @@ pub use placeholder::Placeholder;
 pub use readable::is_readable;
 pub use taking::take;
 pub use why::{Refusal, Why};
-
-#[cfg(test)]
-mod tests;

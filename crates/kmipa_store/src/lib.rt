@@ -21,6 +21,3 @@ pub use fault::StoreFault;
 pub use journal::Journal;
 pub use laws::{calls_keep_ledgers_sound, every_choice_gives_an_inventory};
 pub use ledger::{Ledger, Mark};
-
-#[cfg(test)]
-mod tests;

@@ -3,7 +3,7 @@
 mod declarations;
 mod reads;
 mod transcripts;
-mod vectors;
+pub mod vectors;
 mod witnesses;
 mod writing;
 

@@ -3,7 +3,7 @@ use Rattle.kmipa_attrs.specs.declared.object_type.ObjectType.TheVariants.{Symmet
 use Rattle.kmipa_object.specs.declared.object.Object.{Object}
 use Rattle.kmipa_store.specs.Ledger.{held}
 use Rattle.kmipa_ops.proofs.AddLemmas.{declared_sound}
-use Rattle.kmipa_ops.proofs.tests.session.declare.Goals as goal
+use Rattle.kmipa_trials.proofs.tests.ops.session.declare.Goals as goal
 
 pub returns : goal.returns
 returns g c =

@@ -1,13 +1,12 @@
-//! Numbers of reasons, tags of judged attributes, how objects fit, and the laws.
+//! Numbers of reasons, how objects fit, and the laws.
 
 use super::items::anything;
-use crate::judged::Judged;
-use crate::{
+use kmipa_attrs::{AttrSet, Filter, ObjectType};
+use kmipa_object::{Life, Material, Object, State};
+use kmipa_ops::{
     Fit, Why, attributes_are_decided, blame_is_exact, chains_complete, founded_is_decided,
     lists_are_decided, matches, reasons_are_decided, stands_for_one, taking_decides,
 };
-use kmipa_attrs::{AttrSet, Filter, ObjectType};
-use kmipa_object::{Life, Material, Object, State};
 use std::test::Fail;
 
 #[test]
@@ -30,26 +29,6 @@ fn numbers_of_reasons(rt: HostRuntime) {
     reasons_are_decided();
     stands_for_one();
     taking_decides();
-}
-
-#[test]
-fn tags_of_judged_attributes(rt: HostRuntime) {
-    let table = [
-        (Judged::Name, 0x42_0053),
-        (Judged::ObjectType, 0x42_0057),
-        (Judged::CryptographicAlgorithm, 0x42_0028),
-        (Judged::CryptographicLength, 0x42_002A),
-        (Judged::CryptographicUsageMask, 0x42_002C),
-        (Judged::State, 0x42_008D),
-        (Judged::InitialDate, 0x42_0039),
-        (Judged::ActivationDate, 0x42_0001),
-        (Judged::DeactivationDate, 0x42_002F),
-        (Judged::DestroyDate, 0x42_0033),
-        (Judged::CompromiseDate, 0x42_0020),
-    ];
-    for (attribute, tag) in table {
-        assert_eq!(rt; attribute.tag(), tag);
-    }
 }
 
 /// An object without a length may be listed where one is asked for, and must be where nothing is.

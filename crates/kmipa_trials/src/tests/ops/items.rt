@@ -176,3 +176,9 @@ pub fn locate<'a>(alloc: Global, filter: Filter, id: &'a str) -> Result<Item<'a>
     let asked = Asked::Locate(Locate { filter });
     Ok(done(asked, Payload::Locate(Located { ids })))
 }
+
+/// A Get that succeeds and shows nothing.
+pub fn unshown(id: &str) -> Item<'_> {
+    let asked = Asked::Get(Get { id: Some(id) });
+    item_of(asked, answered(Status::Success, None, None))
+}

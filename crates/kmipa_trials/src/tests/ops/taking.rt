@@ -5,8 +5,8 @@ use super::items::{
     shown, undone,
 };
 use super::session::{Session, TAKEN_NAME};
-use crate::Why;
 use kmipa_attrs::AttrSet;
+use kmipa_ops::Why;
 use std::test::Fail;
 
 const K: [u8; 16] = [0, 1, 2, 3, 4, 5, 6, 7, 8, 9, 10, 11, 12, 13, 14, 15];

@@ -5,15 +5,16 @@ ghost use Rattle.kmipa_store.specs.Choices.{IsSound};
 ghost use Rattle.kmipa_store.specs.States.{state_of_journal};
 
 use super::items::Item;
-use crate::{Placeholder, Refusal, Why, is_readable, take};
 use kmipa_attrs::{AttrSet, ObjectType};
 use kmipa_msgs::{Cause, Row, Rules};
 use kmipa_object::{Life, Material, Object, Rule};
+use kmipa_ops::{Placeholder, Refusal, Why, is_readable, take};
 use kmipa_store::{Journal, Ledger};
 use std::alloc::Global;
 use std::test::Fail;
 
-const NOW: i64 = 1_700_000_000;
+/// The moment of each item.
+pub const NOW: i64 = 1_700_000_000;
 
 /// The reason that stands for a taken name.
 pub const TAKEN_NAME: u32 = 0x2B;
@@ -105,7 +106,8 @@ impl Session {
     }
 }
 
-fn new_ledger(alloc: Global) -> Journal
+/// A ledger without objects.
+pub fn new_ledger(alloc: Global) -> Journal
     ensures { IsSound (state_of_journal result).now }
 {
     Journal::new(alloc)

@@ -2,9 +2,9 @@
 
 ghost use Rattle.std.specs.Prelude.{◌≡◌};
 
-use crate::{Copies, Journal, Ledger};
 use kmipa_attrs::{AttrSet, Name, ObjectType};
 use kmipa_object::{Life, Material, Object, State};
+use kmipa_store::{Copies, Journal, Ledger};
 use std::alloc::Global;
 use std::process::Abort;
 

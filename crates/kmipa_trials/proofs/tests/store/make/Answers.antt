@@ -1,5 +1,5 @@
 use Rattle.kmipa_store.proofs.CallLemmas.{makes_more, makes_there}
-use Rattle.kmipa_store.proofs.tests.make.Goals as goal
+use Rattle.kmipa_trials.proofs.tests.store.make.Goals as goal
 
 pub returns : goal.returns
 returns g c =

@@ -4,11 +4,11 @@ ghost use Rattle.std.specs.Prelude.{◌≡◌, ◌<◌, length};
 
 mod queries;
 
-use crate::{
-    Copies, Journal, Ledger, StoreFault, calls_keep_ledgers_sound, every_choice_gives_an_inventory,
-};
 use kmipa_attrs::{AttrSet, ObjectType};
 use kmipa_object::{Life, Material, Object, Rule, SecretNo};
+use kmipa_store::{
+    Copies, Journal, Ledger, StoreFault, calls_keep_ledgers_sound, every_choice_gives_an_inventory,
+};
 use std::alloc::Global;
 use std::process::Abort;
 
