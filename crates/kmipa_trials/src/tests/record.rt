@@ -16,22 +16,28 @@ use std::test::Fail;
 use vectors::*;
 
 // The fault of a transcript, a declaration or a witness that is spelled by these parts, if it has one.
-pub fn transcript_fault(alloc: Global, parts: &[&[u8]]) -> Result<Option<RecordFault>, Fail> {
+pub(crate) fn transcript_fault(
+    alloc: Global,
+    parts: &[&[u8]],
+) -> Result<Option<RecordFault>, Fail> {
     let bytes = joined(alloc, parts)?;
     Ok(read_transcript(alloc, &mut Input::new(bytes.as_slice())).err())
 }
 
-pub fn declaration_fault(alloc: Global, parts: &[&[u8]]) -> Result<Option<RecordFault>, Fail> {
+pub(crate) fn declaration_fault(
+    alloc: Global,
+    parts: &[&[u8]],
+) -> Result<Option<RecordFault>, Fail> {
     let bytes = joined(alloc, parts)?;
     Ok(read_declaration(alloc, &mut Input::new(bytes.as_slice())).err())
 }
 
-pub fn witness_fault(alloc: Global, parts: &[&[u8]]) -> Result<Option<RecordFault>, Fail> {
+pub(crate) fn witness_fault(alloc: Global, parts: &[&[u8]]) -> Result<Option<RecordFault>, Fail> {
     let bytes = joined(alloc, parts)?;
     Ok(read_witness(alloc, &mut Input::new(bytes.as_slice())).err())
 }
 
-pub fn reported(offset: u64, kind: RecordKind) -> Option<RecordFault> {
+pub(crate) fn reported(offset: u64, kind: RecordKind) -> Option<RecordFault> {
     Some(RecordFault { offset, kind })
 }
 

@@ -42,7 +42,7 @@ fn done<'a>(asked: Asked<'a>, payload: Payload<'a>) -> Item<'a> {
 }
 
 /// The same ask, failed with this reason.
-pub fn failed(Item { ask, answer: _ }: Item<'_>, reason: u32) -> Item<'_> {
+pub(crate) fn failed(Item { ask, answer: _ }: Item<'_>, reason: u32) -> Item<'_> {
     Item {
         ask,
         answer: answered(Status::Failed, Some(reason), None),
@@ -50,7 +50,7 @@ pub fn failed(Item { ask, answer: _ }: Item<'_>, reason: u32) -> Item<'_> {
 }
 
 /// The same ask, undone without a payload.
-pub fn undone(Item { ask, answer: _ }: Item<'_>) -> Item<'_> {
+pub(crate) fn undone(Item { ask, answer: _ }: Item<'_>) -> Item<'_> {
     Item {
         ask,
         answer: answered(Status::Undone, None, None),
@@ -68,7 +68,7 @@ fn block(material: &[u8]) -> KeyBlock<'_> {
 }
 
 /// A Register of these bytes and attributes, answered by this identifier.
-pub fn register<'a>(id: &'a str, material: &'a [u8], attributes: AttrSet) -> Item<'a> {
+pub(crate) fn register<'a>(id: &'a str, material: &'a [u8], attributes: AttrSet) -> Item<'a> {
     let asked = Asked::Register(Register {
         object_type: ObjectType::SymmetricKey,
         attributes,
@@ -82,7 +82,7 @@ pub fn register<'a>(id: &'a str, material: &'a [u8], attributes: AttrSet) -> Ite
 }
 
 /// Attributes that are one name.
-pub fn named(alloc: Global, name: &str) -> Result<AttrSet, Fail> {
+pub(crate) fn named(alloc: Global, name: &str) -> Result<AttrSet, Fail> {
     let mut attributes = AttrSet::new(alloc);
     attributes.names.push(Name {
         value: String::from_str(alloc, name)?,
@@ -92,7 +92,7 @@ pub fn named(alloc: Global, name: &str) -> Result<AttrSet, Fail> {
 }
 
 /// A Create of an AES key of 128 bits.
-pub fn create(alloc: Global, id: &str) -> Item<'_> {
+pub(crate) fn create(alloc: Global, id: &str) -> Item<'_> {
     let attributes = AttrSet {
         algorithm: Some(3),
         length: Some(128),
@@ -107,7 +107,7 @@ pub fn create(alloc: Global, id: &str) -> Item<'_> {
 }
 
 /// A Get that shows these bytes as a Symmetric Key.
-pub fn shown<'a>(id: Option<&'a str>, material: &'a [u8]) -> Item<'a> {
+pub(crate) fn shown<'a>(id: Option<&'a str>, material: &'a [u8]) -> Item<'a> {
     let got = Got {
         object_type: None,
         id: None,
@@ -118,7 +118,7 @@ pub fn shown<'a>(id: Option<&'a str>, material: &'a [u8]) -> Item<'a> {
 }
 
 /// A Get Attributes of which nothing is required, since its request has another item, and that shows this state.
-pub fn in_state(alloc: Global, id: &str, state: u32) -> Item<'_> {
+pub(crate) fn in_state(alloc: Global, id: &str, state: u32) -> Item<'_> {
     let asked = Asked::GetAttributes(GetAttributes {
         id: Some(id),
         references: Vec::new(alloc),
@@ -136,28 +136,28 @@ pub fn in_state(alloc: Global, id: &str, state: u32) -> Item<'_> {
     done(asked, payload)
 }
 
-pub fn activate(id: &str) -> Item<'_> {
+pub(crate) fn activate(id: &str) -> Item<'_> {
     let asked = Asked::Activate(Activate { id: Some(id) });
     done(asked, Payload::Change(Changed { id: None }))
 }
 
-pub fn revoke(id: &str, code: u32) -> Item<'_> {
+pub(crate) fn revoke(id: &str, code: u32) -> Item<'_> {
     let asked = Asked::Revoke(Revoke { id: Some(id), code });
     done(asked, Payload::Change(Changed { id: None }))
 }
 
-pub fn destroy(id: &str) -> Item<'_> {
+pub(crate) fn destroy(id: &str) -> Item<'_> {
     let asked = Asked::Destroy(Destroy { id: Some(id) });
     done(asked, Payload::Change(Changed { id: None }))
 }
 
 /// An operation without effect that succeeds.
-pub fn query<'a>() -> Item<'a> {
+pub(crate) fn query<'a>() -> Item<'a> {
     item_of(Asked::Idle(0x18), answered(Status::Success, None, None))
 }
 
 /// Asks for nothing.
-pub fn anything(alloc: Global) -> Filter {
+pub(crate) fn anything(alloc: Global) -> Filter {
     Filter {
         names: AttrSet::new(alloc).names,
         object_type: None,
@@ -170,7 +170,7 @@ pub fn anything(alloc: Global) -> Filter {
 }
 
 /// A Locate that lists one identifier.
-pub fn locate<'a>(alloc: Global, filter: Filter, id: &'a str) -> Result<Item<'a>, Fail> {
+pub(crate) fn locate<'a>(alloc: Global, filter: Filter, id: &'a str) -> Result<Item<'a>, Fail> {
     let mut ids = Vec::new(alloc);
     ids.push(id)?;
     let asked = Asked::Locate(Locate { filter });
@@ -178,7 +178,7 @@ pub fn locate<'a>(alloc: Global, filter: Filter, id: &'a str) -> Result<Item<'a>
 }
 
 /// A Get that succeeds and shows nothing.
-pub fn unshown(id: &str) -> Item<'_> {
+pub(crate) fn unshown(id: &str) -> Item<'_> {
     let asked = Asked::Get(Get { id: Some(id) });
     item_of(asked, answered(Status::Success, None, None))
 }

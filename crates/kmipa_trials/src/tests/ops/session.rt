@@ -30,7 +30,7 @@ pub struct Session {
 
 impl Session {
     /// Without objects.
-    pub fn new(alloc: Global) -> Result<Session, Fail>
+    pub(crate) fn new(alloc: Global) -> Result<Session, Fail>
         ensures { IfOk result (λ session. IsSound (state_of_journal session.ledger).now) }
     {
         Ok(Session {
@@ -42,7 +42,7 @@ impl Session {
     }
 
     /// With an AES key of 128 bits more, whose bytes aren't known.
-    pub fn declares(self, id: &str) -> Result<Session, Fail>
+    pub(crate) fn declares(self, id: &str) -> Result<Session, Fail>
         requires { IsSound (state_of_journal self.ledger).now }
         ensures { IfOk result (λ session. IsSound (state_of_journal session.ledger).now) }
     {
@@ -62,7 +62,7 @@ impl Session {
     }
 
     /// After an item that is possible.
-    pub fn takes(self, item: Item) -> Result<Session, Fail>
+    pub(crate) fn takes(self, item: Item) -> Result<Session, Fail>
         requires { IsSound (state_of_journal self.ledger).now }
         ensures { IfOk result (λ session. IsSound (state_of_journal session.ledger).now) }
     {
@@ -70,7 +70,7 @@ impl Session {
     }
 
     /// The same session, where this is the lowest reason against an item.
-    pub fn refuses(self, item: Item, lowest: Why) -> Result<Session, Fail>
+    pub(crate) fn refuses(self, item: Item, lowest: Why) -> Result<Session, Fail>
         requires { IsSound (state_of_journal self.ledger).now }
         ensures { IfOk result (λ session. IsSound (state_of_journal session.ledger).now) }
     {
@@ -101,13 +101,13 @@ impl Session {
     }
 
     /// The identifier in the placeholder is this one.
-    pub fn holds(&self, id: &str) -> bool {
+    pub(crate) fn holds(&self, id: &str) -> bool {
         self.placeholder.id.as_deref() == Some(id)
     }
 }
 
 /// A ledger without objects.
-pub fn new_ledger(alloc: Global) -> Journal
+pub(crate) fn new_ledger(alloc: Global) -> Journal
     ensures { IsSound (state_of_journal result).now }
 {
     Journal::new(alloc)

@@ -50,7 +50,7 @@ pub const END_FRONT: [u8; 32] = [
     0x13, 8, 0, 0, 1, 8,
 ];
 
-pub fn joined(alloc: Global, parts: &[&[u8]]) -> Result<Vec<u8>, Fail> {
+pub(crate) fn joined(alloc: Global, parts: &[&[u8]]) -> Result<Vec<u8>, Fail> {
     let mut bytes = Vec::new(alloc);
     for part in parts {
         bytes.extend_from_slice(part)?;
@@ -59,7 +59,7 @@ pub fn joined(alloc: Global, parts: &[&[u8]]) -> Result<Vec<u8>, Fail> {
 }
 
 // The begin mark of a call without client and message, and its end mark without message.
-pub fn begin(call: u32) -> [u8; 40] {
+pub(crate) fn begin(call: u32) -> [u8; 40] {
     let [a, b, c, d] = call.to_be_bytes();
     [
         0x54, 0, 0x10, 1, 0, 0, 0, 32, 0x54, 0, 0x11, 2, 0, 0, 0, 4, a, b, c, d, 0, 0, 0, 0, 0x54,
@@ -67,7 +67,7 @@ pub fn begin(call: u32) -> [u8; 40] {
     ]
 }
 
-pub fn end(call: u32) -> [u8; 32] {
+pub(crate) fn end(call: u32) -> [u8; 32] {
     let [a, b, c, d] = call.to_be_bytes();
     [
         0x54, 0, 0x20, 1, 0, 0, 0, 24, 0x54, 0, 0x11, 2, 0, 0, 0, 4, a, b, c, d, 0, 0, 0, 0, 0x54,
@@ -76,7 +76,7 @@ pub fn end(call: u32) -> [u8; 32] {
 }
 
 // The turn of a call.
-pub fn turn(call: u32) -> [u8; 24] {
+pub(crate) fn turn(call: u32) -> [u8; 24] {
     let [a, b, c, d] = call.to_be_bytes();
     [
         0x54, 0, 0x41, 1, 0, 0, 0, 16, 0x54, 0, 0x11, 2, 0, 0, 0, 4, a, b, c, d, 0, 0, 0, 0,
@@ -84,7 +84,7 @@ pub fn turn(call: u32) -> [u8; 24] {
 }
 
 // The example of one call, of 488 bytes.
-pub fn one_call(alloc: Global) -> Result<Vec<u8>, Fail> {
+pub(crate) fn one_call(alloc: Global) -> Result<Vec<u8>, Fail> {
     joined(
         alloc,
         &[&TRANSCRIPT, &BEGIN_FRONT, &REQUEST, &END_FRONT, &ANSWER],
@@ -132,7 +132,7 @@ pub const DESTROYED: [u8; 16] = [
 ];
 
 // An item with this tag, type and value, padded with zeros.
-pub fn item(alloc: Global, tag: [u8; 3], kind: u8, value: &[u8]) -> Result<Vec<u8>, Fail> {
+pub(crate) fn item(alloc: Global, tag: [u8; 3], kind: u8, value: &[u8]) -> Result<Vec<u8>, Fail> {
     let Ok(length) = u8::try_from(value.len()) else {
         return Err(Fail::new("a long value"));
     };
@@ -147,16 +147,16 @@ pub fn item(alloc: Global, tag: [u8; 3], kind: u8, value: &[u8]) -> Result<Vec<u
 }
 
 // The Cryptographic Length of so many bits.
-pub fn bits(alloc: Global, number: i32) -> Result<Vec<u8>, Fail> {
+pub(crate) fn bits(alloc: Global, number: i32) -> Result<Vec<u8>, Fail> {
     item(alloc, [0x42, 0, 0x2A], INTEGER, &number.to_be_bytes())
 }
 
-pub fn material(alloc: Global, value: &[u8]) -> Result<Vec<u8>, Fail> {
+pub(crate) fn material(alloc: Global, value: &[u8]) -> Result<Vec<u8>, Fail> {
     item(alloc, [0x42, 0, 0x43], BYTES, value)
 }
 
 // The entry of an object `k` of this type with these attributes, and what is after them.
-pub fn entry(
+pub(crate) fn entry(
     alloc: Global,
     kind: u8,
     attributes: &[&[u8]],
@@ -171,7 +171,7 @@ pub fn entry(
 }
 
 // The row of this Result Reason and cause.
-pub fn row(alloc: Global, reason: u8, cause: u8) -> Result<Vec<u8>, Fail> {
+pub(crate) fn row(alloc: Global, reason: u8, cause: u8) -> Result<Vec<u8>, Fail> {
     let first = item(alloc, [0x42, 0, 0x7E], ENUMERATION, &[0, 0, 0, reason])?;
     let second = item(alloc, [0x54, 0, 0x33], ENUMERATION, &[0, 0, 0, cause])?;
     let both = joined(alloc, &[&first, &second])?;
