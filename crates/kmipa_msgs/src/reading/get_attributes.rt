@@ -12,7 +12,7 @@ use crate::reading::rows::both_read;
 use crate::reading::unread::Unread;
 use crate::request::GetAttributes;
 use crate::response::GotAttributes;
-use kmipa_attrs::fields::{as_enumeration, first, inside};
+use kmipa_attrs::fields::{as_enumeration, children_in, first, structure_at};
 use kmipa_attrs::tags::{ATTRIBUTE_REFERENCE, ATTRIBUTES, UNIQUE_IDENTIFIER};
 use kmipa_attrs::{Side, both};
 use kmipa_ttlv::{Children, View};
@@ -100,9 +100,10 @@ pub fn read_got_attributes<'a>(
 ) -> Result<GotAttributes<'a>, Unread>
     ensures { Yields got_attributes_of result (got_attributes_in (view_trees payload.entry)) }
 {
-    let type_known = type_known(inside(payload, ATTRIBUTES));
+    let given = structure_at(payload, ATTRIBUTES);
+    let type_known = type_known(children_in(given));
     let id = read_identifier(payload);
-    let attributes = read_attributes(alloc, payload, Side::Server);
+    let attributes = read_attributes(alloc, given, Side::Server);
     let ((_, id), attributes) = both_read(both(type_known, id), attributes)?;
     Ok(GotAttributes { id, attributes })
 }

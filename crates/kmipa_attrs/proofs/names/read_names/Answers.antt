@@ -7,7 +7,7 @@ use Rattle.kmipa_attrs.specs.Readings.{map_ok}
 use Rattle.kmipa_attrs.specs.Attributes.{each, all_named, names_in}
 use Rattle.kmipa_attrs.proofs.ViewLemmas.{each_next, each_none}
 use Rattle.kmipa_attrs.proofs.NameLemmas.{named_some, names_begin, names_more, names_wrong}
-use Rattle.kmipa_attrs.proofs.names.read_few.Goals as goal
+use Rattle.kmipa_attrs.proofs.names.read_names.Goals as goal
 
 pub children-init : goal.children-init
 children-init c = names_begin (each as_name name_tag (view_trees c.args.children)) (names_of c.new-names.result) (ap (map name_of) c.new-names.ensures.items)
