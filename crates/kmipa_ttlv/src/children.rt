@@ -21,6 +21,15 @@ impl<'a> Children<'a> {
         }
     }
 
+    /// The items that these bytes spell, which were tested before; of other bytes those that are read in place.
+    pub fn spelled(bytes: &'a [u8]) -> Children<'a>
+        ensures { view_trees result ≡ items_at bytes.now }
+    {
+        Children {
+            source: Source::Spelled(bytes),
+        }
+    }
+
     /// The next child, after which the others are left; `None` where none is left, then and from then on.
     pub fn next(&mut self) -> Option<View<'a>>
         ensures { MatchOption result ((view_trees self.old ≡ none) × (view_trees self.new ≡ none)) (λ v. view_trees self.old ≡ more (view_tree v) (view_trees self.new)) }

@@ -132,6 +132,10 @@ fn the_last_byte_is_missing(rt: HostRuntime) -> Result<(), Fail> {
     assert_eq!(rt; bytes.as_slice(), REQUEST.as_slice());
     let more = read_bytes(&mut input, &mut bytes)?;
     assert!(rt; !more);
+    let mut input = Input::new(REQUEST.as_slice());
+    assert!(rt; read_spelled(&mut input, &mut bytes)?);
+    assert_eq!(rt; Children::spelled(&bytes).count_of(0x42_0078), 1);
+    assert!(rt; !read_spelled(&mut input, &mut bytes)?);
     Ok(())
 }
 

@@ -1,4 +1,4 @@
-//! The bytes that came, of which only clauses know.
+//! Bytes that came or went, of which only clauses know.
 
 ghost use Rattle.std.specs.Prelude.{◌≡◌, ℕ, List, [], ◌++◌};
 ghost use Rattle.std.specs.Borrow.{ftrue};
@@ -7,26 +7,27 @@ use std::marker::{Model, PhantomData};
 
 /// A history of bytes. It takes no memory, and its methods do nothing at run time.
 #[derive(Drop)]
-pub(crate) struct Came {
+pub struct History {
     marker: PhantomData<u8>,
     pub ghost bytes: { List ℕ },
 }
 
-impl Model for Came {
+impl Model for History {
     ghost also_owns = { λ _. ftrue };
 }
 
-impl Came {
-    pub(crate) fn new() -> Came
+impl History {
+    /// Nothing has come or gone.
+    pub fn new() -> History
         ensures { result.bytes ≡ [] }
     {
-        Came {
+        History {
             marker: PhantomData,
         }
     }
 
-    /// These bytes came next.
-    pub(crate) fn note(&mut self, _bytes: &[u8])
+    /// These bytes came next, or went.
+    pub fn note(&mut self, _bytes: &[u8])
         ensures { self.new.bytes ≡ self.old.bytes ++ _bytes.now }
     {}
 }

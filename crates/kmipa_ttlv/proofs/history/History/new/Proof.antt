@@ -21,17 +21,17 @@ use denote.Triple.Entry.{on_entry}
 use denote.Triple.Spec.{Meets, triple_of}
 use denote.Triple.Table.{entered}
 use denote.Triple.Walked.{says, ends_at, walked, walk_Meets}
-use Rattle.kmipa_ttlv.specs.declared.came.Came.{Came}
-use Rattle.kmipa_ttlv.specs.contracts.came.Came as T
-use Rattle.kmipa_ttlv.specs.contracts.came.Came.new.Key.{name as #it}
-use Rattle.kmipa_ttlv.specs.contracts.came.Came.new as it
-use Rattle.kmipa_ttlv.proofs.came.Came.new.Statement as stated
-use Rattle.kmipa_ttlv.proofs.came.Came.new.Code as code
+use Rattle.kmipa_ttlv.specs.declared.history.History.{History}
+use Rattle.kmipa_ttlv.specs.contracts.history.History as T
+use Rattle.kmipa_ttlv.specs.contracts.history.History.new.Key.{name as #it}
+use Rattle.kmipa_ttlv.specs.contracts.history.History.new as it
+use Rattle.kmipa_ttlv.proofs.history.History.new.Statement as stated
+use Rattle.kmipa_ttlv.proofs.history.History.new.Code as code
 
 abbrev v : Val
 v = vstruct (vcons (vstruct vnil) vnil)
 
-abbrev r : Came
+abbrev r : History
 r = record { marker = record {}; bytes = [] }
 
 meets : {M : Type 1} {𝓤 : Ura M} (𝓛 : Logic 𝓤) → (at_mem : Memory → SProp 𝓤) (run : Routine → Fun 𝓤) (𝓣 : Tables 𝓤 𝓛.H)

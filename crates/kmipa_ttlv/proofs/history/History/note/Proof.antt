@@ -25,12 +25,12 @@ use denote.Triple.Entry.{on_entry}
 use denote.Triple.Spec.{Meets, triple_of}
 use denote.Triple.Table.{entered}
 use denote.Triple.Walked.{says, Stays, stay_ref, walk_of, AllGo, Goes-ref, Walks, ends_at, walked, walk_Meets}
-use Rattle.kmipa_ttlv.specs.declared.came.Came.{Came}
-use Rattle.kmipa_ttlv.specs.contracts.came.Came as T
-use Rattle.kmipa_ttlv.specs.contracts.came.Came.note.Key.{name as #it}
-use Rattle.kmipa_ttlv.specs.contracts.came.Came.note as it
-use Rattle.kmipa_ttlv.proofs.came.Came.note.Statement as stated
-use Rattle.kmipa_ttlv.proofs.came.Came.note.Code as code
+use Rattle.kmipa_ttlv.specs.declared.history.History.{History}
+use Rattle.kmipa_ttlv.specs.contracts.history.History as T
+use Rattle.kmipa_ttlv.specs.contracts.history.History.note.Key.{name as #it}
+use Rattle.kmipa_ttlv.specs.contracts.history.History.note as it
+use Rattle.kmipa_ttlv.proofs.history.History.note.Statement as stated
+use Rattle.kmipa_ttlv.proofs.history.History.note.Code as code
 use denote.Ref.{Bor}
 use denote.Builtin.{u8}
 use denote.Exit.{yes}
@@ -39,7 +39,7 @@ use denote.Triple.Walked.{stay_none_slice, Goes-none_slice}
 use Rattle.std.proofs.Common.{◌<◌, ◌^◌, length}
 
 abbrev Arg : Type 0
-Arg = MutBor Came × (Bor (List ℕ) × Unit {0})
+Arg = MutBor History × (Bor (List ℕ) × Unit {0})
 
 abbrev stayed : Stays (it.ended).signature.params (it.ended).kept
 stayed = (stay_ref (0 ∷ []) tt (plain (λ _. T.the_row)), (stay_none_slice (1 ∷ []) tt (plain (λ _. u8)) yes, tt))
@@ -47,11 +47,11 @@ stayed = (stay_ref (0 ∷ []) tt (plain (λ _. T.the_row)), (stay_none_slice (1 
 module _ {M : Type 1} {𝓤 : Ura M} (𝓛 : Logic 𝓤) (at_mem : Memory → SProp 𝓤) (run : Routine → Fun 𝓤) where
   open 𝓛 use {H, A}
 
-  module _ (κ κ' : Lft) (q q' : Share) (b o : ℕ) (γ : GName) (h : Came) (s : Bor (List ℕ)) where
+  module _ (κ κ' : Lft) (q q' : Share) (b o : ℕ) (γ : GName) (h : History) (s : Bor (List ℕ)) where
     abbrev x : Arg
     x = (record { ref_ptr = (b, o); ghost_name = γ; now = h }, (s, tt))
 
-    abbrev h' : Came
+    abbrev h' : History
     h' = record { marker = h.marker; bytes = h.bytes ++ s.now }
 
     abbrev at : List Val × (List Val × Unit {0})
