@@ -38,7 +38,7 @@ pub fn read_get_attributes<'a>(
 fn read_references(alloc: Global, payload: Children) -> Result<Vec<u32>, AllocError>
     ensures { IfOk result (λ tags. tags.items ≡ references (view_trees payload.entry)) }
 {
-    let mut tags = Vec::with_capacity(alloc, payload.count_of(ATTRIBUTE_REFERENCE))?;
+    let mut tags = Vec::new(alloc);
     let mut left = payload;
     'children: while let Some(child) = left.next_of(ATTRIBUTE_REFERENCE) {
         if let Some(tag) = as_enumeration(&child) {
