@@ -35,6 +35,3 @@ pub use readings::{Numbered, both, passing};
 pub use side::Side;
 pub use tags::tag_name;
 pub use writing::{write_attrs, write_short_attrs};
-
-#[cfg(test)]
-mod tests;

@@ -30,6 +30,3 @@ pub use response::{
 pub use rules::{Cause, Row, Rules};
 pub use wanted::is_wanted;
 pub use writing::{write_request, write_response};
-
-#[cfg(test)]
-mod tests;

@@ -16,6 +16,3 @@ pub use life::{Life, Material, SecretNo, activated, destroyed, revoked};
 pub use object::Object;
 pub use rule::Rule;
 pub use state::{State, state_at};
-
-#[cfg(test)]
-mod tests;

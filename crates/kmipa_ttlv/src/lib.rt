@@ -39,6 +39,3 @@ pub use reading::{read_all, read_bytes, read_item, read_spelled, read_view};
 pub use splitting::split_stream;
 pub use tag::Tag;
 pub use view::{Children, View, ViewValue};
-
-#[cfg(test)]
-mod tests;

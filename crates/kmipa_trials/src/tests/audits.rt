@@ -1,6 +1,7 @@
 //! Audits of a recorded call: `audit` says what `audit_with` says, but for the records.
 
-use super::record::vectors::*;
+use super::check;
+use super::spelled::*;
 use kmipa_check::{
     AuditFault, CheckFault, Refused, Verdict, WitnessFault, WitnessKind, audit, audit_with,
 };
@@ -9,64 +10,74 @@ use kmipa_ttlv::Input;
 use std::alloc::Global;
 use std::test::Fail;
 
-// What both say of the example of one call, with a declaration of this entry and a witness of these turns.
-fn said(alloc: Global, entry: &[u8], turns: &[u8]) -> Result<Result<Verdict, AuditFault>, Fail> {
-    let transcript = one_call(alloc)?;
-    let declaration = joined(alloc, &[&DECLARATION, entry])?;
-    let witness = joined(alloc, &[&WITNESS, turns])?;
-    let said = audit(
-        alloc,
-        &mut Input::new(transcript.as_slice()),
-        &mut Input::new(declaration.as_slice()),
-        &mut Input::new(witness.as_slice()),
-    );
+// What `audit_with` says, without the records.
+fn said<'a>(
+    alloc: Global,
+    transcript: &'a [u8],
+    declaration: &'a [u8],
+    witness: &'a [u8],
+) -> Result<Verdict, AuditFault> {
     let audited = audit_with(
         alloc,
-        &mut Input::new(transcript.as_slice()),
-        &mut Input::new(declaration.as_slice()),
-        &mut Input::new(witness.as_slice()),
+        &mut Input::new(transcript),
+        &mut Input::new(declaration),
+        &mut Input::new(witness),
     );
-    let is_same = match (&said, &audited) {
-        (Ok(verdict), Ok(audited)) => *verdict == audited.verdict,
-        (Err(fault), Err(other)) => *fault == *other,
-        _ => false,
-    };
-    if !is_same {
-        return Err(Fail::new("they differ"));
+    match audited {
+        Ok(audited) => Ok(audited.verdict),
+        Err(fault) => Err(fault),
     }
-    Ok(said)
+}
+
+// What `audit` says.
+fn said_alone<'a>(
+    alloc: Global,
+    transcript: &'a [u8],
+    declaration: &'a [u8],
+    witness: &'a [u8],
+) -> Result<Verdict, AuditFault> {
+    audit(
+        alloc,
+        &mut Input::new(transcript),
+        &mut Input::new(declaration),
+        &mut Input::new(witness),
+    )
+}
+
+// Whether both say this of the example of one call, with a declaration of this entry and a witness of these turns.
+fn is_said(
+    alloc: Global,
+    entry: &str,
+    turns: &[&str],
+    expected: Result<Verdict, AuditFault>,
+) -> Result<bool, Fail> {
+    let transcript = bytes_of(alloc, &[TRANSCRIPT, BEGIN_MARK, GET_K1, END_MARK, GOT_K1])?;
+    let declaration = bytes_of(alloc, &[DECLARATION, entry])?;
+    let mut witness = bytes_of(alloc, &[WITNESS])?;
+    witness.extend_from_slice(&bytes_of(alloc, turns)?)?;
+    Ok(
+        said(alloc, &transcript, &declaration, &witness) == expected
+            && said_alone(alloc, &transcript, &declaration, &witness) == expected,
+    )
 }
 
 #[test]
-fn declared_bytes_are_shown(rt: HostRuntime) -> Result<(), Fail> {
-    let yes = said(rt.alloc(), &ENTRY, &turn(1))?;
-    assert_eq!(rt; yes, Ok(Verdict::Yes));
-    Ok(())
-}
-
-#[test]
-fn other_bytes_are_shown(rt: HostRuntime) -> Result<(), Fail> {
-    let mut other = ENTRY;
-    other[103] = 31;
-    let no = said(rt.alloc(), &other, &turn(1))?;
-    let refused = Refused {
+fn one_call_is_judged(rt: HostRuntime) -> Result<(), Fail> {
+    let alloc = rt.alloc();
+    let yes = Ok(Verdict::Yes);
+    check(is_said(alloc, ENTRY, &[TURN], yes)?, "no yes")?;
+    let no = Ok(Verdict::No(Refused {
         turn: 1,
         call: 1,
         item: 1,
         why: Why::BytesDiffer,
-    };
-    assert_eq!(rt; no, Ok(Verdict::No(refused)));
-    Ok(())
-}
-
-#[test]
-fn call_is_left_out(rt: HostRuntime) -> Result<(), Fail> {
+    }));
+    check(is_said(alloc, OTHER_ENTRY, &[TURN], no)?, "another no")?;
     let fault = CheckFault::Witness(WitnessFault {
         at: 1,
         kind: WitnessKind::LeftOut,
     });
-    assert_eq!(rt; fault.number(), 2);
-    let none = said(rt.alloc(), &ENTRY, &[])?;
-    assert_eq!(rt; none, Err(AuditFault::Check(fault)));
-    Ok(())
+    check(fault.number() == 2, "another number")?;
+    let left_out = Err(AuditFault::Check(fault));
+    check(is_said(alloc, ENTRY, &[], left_out)?, "another fault")
 }

@@ -1,5 +1,5 @@
 use Rattle.kmipa_store.proofs.CallLemmas.{learns_length}
-use Rattle.kmipa_trials.proofs.tests.store.teach.Goals as goal
+use Rattle.kmipa_trials.proofs.tests.ledgers.teach.Goals as goal
 
 pub returns : goal.returns
 returns g c =

@@ -1,0 +1,219 @@
+//! The calls of a ledger, through the trait, on each ledger.
+
+ghost use Rattle.std.specs.Prelude.{◌≡◌, ◌<◌, length};
+
+use super::check;
+use kmipa_attrs::{AttrSet, Name, ObjectType};
+use kmipa_object::{Life, Material, Object, Rule, SecretNo, State};
+use kmipa_store::{Copies, Journal, Ledger, StoreFault};
+use std::alloc::Global;
+use std::process::Abort;
+use std::test::Fail;
+
+const K: [u8; 3] = [0, 1, 2];
+
+const J: [u8; 3] = [0, 1, 31];
+
+const T: i64 = 1_700_000_000;
+
+/// The life of a Pre-Active object. Where its bytes are is no matter of these tests.
+const UNBORN: Life = Life {
+    initial: None,
+    activation: None,
+    deactivation: None,
+    destroy: None,
+    compromise: None,
+    material: Material::Gone,
+};
+
+/// The life of an object that is active from the moment on, and the like of one that is destroyed then.
+const ACTIVE: Life = Life {
+    activation: Some(T),
+    ..UNBORN
+};
+
+const DESTROYED: Life = Life {
+    destroy: Some(T),
+    ..UNBORN
+};
+
+fn are_all(seen: &[bool]) -> bool {
+    for holds in seen {
+        if !*holds {
+            return false;
+        }
+    }
+    true
+}
+
+/// An object with one name.
+fn object_of(rt: &impl Abort, alloc: Global, id: &str, name: &str, life: Life) -> Object {
+    let mut given = AttrSet::new(alloc);
+    let value = String::from_str(alloc, name).expect(rt, "memory");
+    given
+        .names
+        .push(Name { value, kind: 1 })
+        .expect(rt, "memory");
+    Object {
+        id: String::from_str(alloc, id).expect(rt, "memory"),
+        kind: ObjectType::SymmetricKey,
+        given,
+        life,
+    }
+}
+
+/// Adds an object, where the ledger lets it.
+fn put<L: Ledger>(ledger: &mut L, object: Object) -> Option<usize>
+    ensures secrets { length (L.state ledger.new).now.secrets ≡ length (L.state ledger.old).now.secrets }
+    ensures marks { (L.state ledger.new).marks ≡ (L.state ledger.old).marks }
+{
+    ledger.add(object).ok()
+}
+
+/// A new secret; its number tells how many there were.
+fn make<L: Ledger>(rt: &impl Abort, ledger: &mut L) -> SecretNo
+    ensures there { result.number < length (L.state ledger.new).now.secrets }
+    ensures marks { (L.state ledger.new).marks ≡ (L.state ledger.old).marks }
+{
+    ledger.new_secret(Rule::Any).expect(rt, "memory")
+}
+
+/// Learns bytes.
+fn teach<L: Ledger>(ledger: &mut L, secret: SecretNo, bytes: &[u8]) -> Result<(), StoreFault>
+    requires { secret.number < length (L.state ledger.old).now.secrets }
+    ensures secrets { length (L.state ledger.new).now.secrets ≡ length (L.state ledger.old).now.secrets }
+    ensures marks { (L.state ledger.new).marks ≡ (L.state ledger.old).marks }
+{
+    ledger.learn(secret, bytes)
+}
+
+/// Whether a secret has these bytes, or none that are known.
+fn has<L: Ledger>(ledger: &L, secret: SecretNo, bytes: Option<&[u8]>) -> bool
+    requires { secret.number < length (L.state ledger.now).now.secrets }
+{
+    ledger.secret(secret) == bytes
+}
+
+/// What is learned stays when objects are undone, and goes when the ledger goes back.
+fn bytes_in_turn<L: Ledger>(rt: &impl Abort, alloc: Global, ledger: &mut L) -> bool {
+    let first = make(rt, ledger);
+    let a = put(ledger, object_of(rt, alloc, "a", "n", UNBORN));
+    let older = ledger.mark().expect(rt, "memory");
+    let newer = ledger.mark().expect(rt, "memory");
+    let second = make(rt, ledger);
+    assert!(rt; first.number < second.number);
+    let is_unknown = has(ledger, first, None);
+    let learned = teach(ledger, first, &K);
+    let b = put(ledger, object_of(rt, alloc, "b", "n", UNBORN));
+    ledger.undo(newer);
+    let third = make(rt, ledger);
+    assert!(rt; first.number < third.number);
+    let is_kept = has(ledger, first, Some(&K));
+    let other = teach(ledger, first, &J);
+    let is_gone = ledger.find("b").is_none();
+    ledger.back(older);
+    let fourth = make(rt, ledger);
+    assert!(rt; first.number < fourth.number);
+    let is_forgotten = has(ledger, first, None);
+    are_all(&[
+        (a, b) == (Some(0), Some(1)),
+        (first.number, second.number) == (0, 1),
+        (third.number, fourth.number) == (2, 1),
+        is_unknown && is_kept && is_gone && is_forgotten,
+        learned == Ok(()),
+        other == Err(StoreFault::BytesDiffer),
+        ledger.find("a") == Some(0),
+        ledger.len() == 1,
+    ])
+}
+
+/// The object at a place leads this life from now on.
+fn live<L: Ledger>(ledger: &mut L, place: usize, life: Life) -> bool
+    ensures marks { (L.state ledger.new).marks ≡ (L.state ledger.old).marks }
+{
+    place < ledger.len() && ledger.replace(place, life).is_ok()
+}
+
+/// The state of the object at a place, at a moment.
+fn state_at<L: Ledger>(ledger: &mut L, place: usize, t: i64) -> Option<State>
+    ensures { L.state ledger.new ≡ L.state ledger.old }
+{
+    ledger.set_moment(t);
+    if place < ledger.len() {
+        Some(ledger.state(place))
+    } else {
+        None
+    }
+}
+
+/// An object's dates come and go with the moment, which no mark goes back to.
+fn moments_in_turn<L: Ledger>(rt: &impl Abort, alloc: Global, ledger: &mut L) -> bool {
+    let start = ledger.moment();
+    let object = object_of(rt, alloc, "a", "n", UNBORN);
+    let a = put(ledger, object);
+    let mark = ledger.mark().expect(rt, "memory");
+    let is_active = live(ledger, 0, ACTIVE);
+    let late = state_at(ledger, 0, T);
+    let early = state_at(ledger, 0, T - 1);
+    let again = state_at(ledger, 0, T);
+    ledger.undo(mark);
+    are_all(&[
+        start == 0 && is_active,
+        a == Some(0),
+        late == Some(State::Active),
+        early == Some(State::PreActive),
+        again == Some(State::Active),
+        ledger.moment() == T,
+        state_at(ledger, 0, T) == Some(State::PreActive),
+        state_at(ledger, 1, T).is_none(),
+    ])
+}
+
+/// Names are found, destroyed or not, until they are taken back.
+fn names_in_turn<L: Ledger>(rt: &impl Abort, alloc: Global, ledger: &mut L) -> bool {
+    let a = put(ledger, object_of(rt, alloc, "a", "n", UNBORN));
+    let b = put(ledger, object_of(rt, alloc, "b", "m", UNBORN));
+    let mark = ledger.mark().expect(rt, "memory");
+    let c = put(ledger, object_of(rt, alloc, "c", "n", UNBORN));
+    let found = [
+        ledger.next_named("n", 1, 0),
+        ledger.next_named("n", 1, 1),
+        ledger.next_named("n", 1, 3),
+        ledger.next_named("n", 2, 0),
+    ];
+    ledger.undo(mark);
+    let is_destroyed = live(ledger, 0, DESTROYED);
+    let mark = ledger.mark().expect(rt, "memory");
+    let is_gone = !ledger.any_live_named("n", 1);
+    let is_back = live(ledger, 0, UNBORN) && ledger.any_live_named("n", 1);
+    ledger.keep(mark);
+    are_all(&[
+        [a, b, c] == [Some(0), Some(1), Some(2)],
+        found == [Some(0), Some(2), None, None],
+        ledger.next_named("n", 1, 1).is_none(),
+        is_destroyed && is_gone && is_back,
+        ledger.any_live_named("n", 1),
+    ])
+}
+
+#[test]
+fn journal_keeps_the_laws(rt: HostRuntime) -> Result<(), Fail> {
+    let alloc = rt.alloc();
+    check(bytes_in_turn(&rt, alloc, &mut Journal::new(alloc)), "bytes")?;
+    check(
+        moments_in_turn(&rt, alloc, &mut Journal::new(alloc)),
+        "moments",
+    )?;
+    check(names_in_turn(&rt, alloc, &mut Journal::new(alloc)), "names")
+}
+
+#[test]
+fn copies_keep_the_laws(rt: HostRuntime) -> Result<(), Fail> {
+    let alloc = rt.alloc();
+    check(bytes_in_turn(&rt, alloc, &mut Copies::new(alloc)), "bytes")?;
+    check(
+        moments_in_turn(&rt, alloc, &mut Copies::new(alloc)),
+        "moments",
+    )?;
+    check(names_in_turn(&rt, alloc, &mut Copies::new(alloc)), "names")
+}
