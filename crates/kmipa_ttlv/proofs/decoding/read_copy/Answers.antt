@@ -1,0 +1,9 @@
+use Rattle.std.proofs.lemmas.Result.{err_from_is_err_and}
+use Rattle.kmipa_ttlv.proofs.ReadLemmas.{tells_outer}
+use Rattle.kmipa_ttlv.proofs.decoding.read_copy.Goals as goal
+
+pub returns-in_err-view : goal.returns-in_err-view
+returns-in_err-view c =
+    let p = err_from_is_err_and c.from_residual.result c.from_residual.ensures.1 in
+    let f = c.in_err-view.field-0.0 in
+    rw (p.1, p.2) (tells_outer c.args.bytes.now f c.in_err-view.ensures)
