@@ -12,7 +12,7 @@ use Rattle.kmipa_ttlv.specs.declared.fault.FaultKind.TheVariants.{Truncated, Unk
 use Rattle.kmipa_ttlv.specs.declared.fault.TtlvFault.{TtlvFault}
 use Rattle.kmipa_record.specs.declared.fault.RecordKind.{RecordKind}
 use Rattle.kmipa_record.specs.declared.fault.RecordKind.TheVariants as record_kind
-use Rattle.kmipa_runs.specs.Lines.{line, device_line, record_status, record_text}
+use Rattle.kmipa_runs.specs.Lines.{line, device_line, memory_line, record_status, record_text}
 use Rattle.kmipa_runs.specs.Shown.{ShowsItems}
 use Rattle.kmipa_runs.specs.Statuses.{IsSilent}
 use Rattle.kmipa_runs.specs.declared.options.ShowOptions.{ShowOptions}
@@ -52,9 +52,21 @@ pub record AreShown (options : ShowOptions) (bytes lines : List ℕ) : Type 0 wh
   pub are : AreItems items bytes
   pub shown : ShowsItems options 0 (forest (λ t. t) items) lines
 
--- What `show` prints of a file at a status: the lines of its items, or the line of its first fault alone.
+-- Memory ran out after all bytes were read, which are items one after the other: of the first of these the lines were printed, and `memory`
+-- behind them.
+pub record StopsShort (options : ShowOptions) (bytes : List ℕ) (said : Status) (lines : List ℕ) : Type 0 where
+  pub items : List Tree
+  pub others : List Tree
+  pub are : AreItems (items ++ others) bytes
+  pub begun : List ℕ
+  pub shown : ShowsItems options 0 (forest (λ t. t) items) begun
+  pub said_is : said ≡ status.Failed
+  pub lines_are : lines ≡ begun ++ memory_line
+
+-- What `show` prints of a file at a status: the lines of its items, those of the first of them where memory ran out, or the line of its first
+-- fault alone.
 abbrev pub PrintsShown : ShowOptions → List ℕ → Bool → Status → List ℕ → Type 0
-PrintsShown options file failed said lines = ((said ≡ status.Done) × AreShown options file lines)
+PrintsShown options file failed said lines = ((said ≡ status.Done) × AreShown options file lines) ⊎ StopsShort options file said lines
     ⊎ ((f : TtlvFault) × TellsFirst file failed f × (said ≡ flaw_status f) × (lines ≡ flaw_text f))
 
 -- the spellings of items, one after the other, with zeros for padding

@@ -44,6 +44,9 @@ no_line r = line (codes "no: turn " ∷ decimal r.turn ∷ codes " call " ∷ si
 abbrev pub device_line : List ℕ
 device_line = line (codes "device" ∷ [])
 
+abbrev pub memory_line : List ℕ
+memory_line = line (codes "memory" ∷ [])
+
 -- which of its two messages a call's fault is of
 abbrev pub side_name : Side → List ℕ
 side_name Client = codes "request"
