@@ -112,7 +112,7 @@ fn push_digits<P: Printer>(table: &[u8; 16], bytes: &[u8], out: &mut P) -> io::R
     ensures fails { OnErr result (IsTrue (P.has_failed out.new)) }
 {
     let mut left = bytes;
-    'blocks: while !left.is_empty() {
+    'digits: while !left.is_empty() {
         let (block, others) = left.split_at(left.len().min(BLOCK));
         push_block(table, block, out)?;
         left = others;

@@ -13,10 +13,10 @@ returns-clause-pushes g c =
     let margin = replicate (2 * c.args.level) 32 in
     let digits = encode_upper (big_bytes 3 c.args.tag.number) in
     let name = tag_name_of c.args.tag.number in
-    let a : printed c.print.new.out ≡ old ++ margin = c.in_ok-print.ensures.prints ∙ ap (λ (l : List ℕ). old ++ l) c.margin.ensures in
-    let b : printed c.print-2.new.out ≡ (old ++ margin) ++ (digits ++ 32 ∷ [])
+    let a : printed c.print.new.self ≡ old ++ margin = c.in_ok-print.ensures.prints ∙ ap (λ (l : List ℕ). old ++ l) c.margin.ensures in
+    let b : printed c.print-2.new.self ≡ (old ++ margin) ++ (digits ++ 32 ∷ [])
     = c.in_ok-print-2.ensures.prints ∙ ap (λ (l : List ℕ). l ++ c.tag_digits.result) a ∙ ap (λ (l : List ℕ). (old ++ margin) ++ l) c.tag_digits.ensures in
-    let d : printed c.print-3.new.out ≡ ((old ++ margin) ++ (digits ++ 32 ∷ [])) ++ name
+    let d : printed c.print-3.new.self ≡ ((old ++ margin) ++ (digits ++ 32 ∷ [])) ++ name
     = c.in_ok-print-3.ensures.prints ∙ ap (λ (l : List ℕ). l ++ c.tag_name.result.now) b ∙ ap (λ (n : List ℕ). ((old ++ margin) ++ (digits ++ 32 ∷ [])) ++ n) c.tag_name.ensures in
     on_ok_weaker c.print-4.result
     (λ e. e ∙ ap (λ (l : List ℕ). l ++ c.args.kind.now) d ∙ four old margin digits name c.args.kind.now)

@@ -29,8 +29,8 @@ returns-clause-shows g c =
     let d : valued ≡ (old ++ (first ++ codes " ")) ++ value = split headed valued c.in_ok-push_value.ensures.appends ∙ ap (λ (l : List ℕ). l ++ value) a in
     let n : printed c.push_note.new.out ≡ ((old ++ (first ++ codes " ")) ++ value) ++ behind = c.in_ok-push_note.ensures.pushes ∙ ap (λ (l : List ℕ). l ++ behind) d in
     on_ok_weaker c.print.result
-    (λ e. plain_line c.args.notes c.args.level tag v value (appended_bytes old (printed c.print.new.out)) c.requires.plain (c.in_ok-push_value.ensures.shows tag)
-    (since old (first ++ codes " " ++ value ++ behind ++ codes "\n") (printed c.print.new.out)
+    (λ e. plain_line c.args.notes c.args.level tag v value (appended_bytes old (printed c.print.new.self)) c.requires.plain (c.in_ok-push_value.ensures.shows tag)
+    (since old (first ++ codes " " ++ value ++ behind ++ codes "\n") (printed c.print.new.self)
     (e ∙ ap (λ (l : List ℕ). l ++ codes "\n") n ∙ five old first (codes " ") value behind (codes "\n"))))
     c.print.ensures.prints
 
@@ -41,7 +41,7 @@ returns-clause-appends g c =
     let headed = printed c.push_head.new.out in
     let valued = printed c.push_value.new.out in
     let noted = printed c.push_note.new.out in
-    let new = printed c.print.new.out in
+    let new = printed c.print.new.self in
     let a = starts_on old headed valued (starts old _ headed c.in_ok-push_head.ensures.pushes) c.in_ok-push_value.ensures.appends in
     let b = starts_on old valued noted a (starts valued _ noted c.in_ok-push_note.ensures.pushes) in
     on_ok_weaker c.print.result (λ e. starts_on old noted new b (starts noted _ new e)) c.print.ensures.prints

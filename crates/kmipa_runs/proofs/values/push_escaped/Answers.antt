@@ -13,5 +13,5 @@ returns-clause-pushes g c =
     let digits = encode_lower (b ∷ []) in
     let is : escaped b ≡ codes "\\x" ++ digits = search (rules, c.is_plain.ensures, c.if-is_plain.false) in
     on_ok_weaker c.push_block.result
-    (λ e. pushed_on old (printed c.print.new.out) (printed c.push_block.new.out) (codes "\\x") digits c.in_ok-print.ensures.prints e ∙ ap (λ (l : List ℕ). old ++ l) (sym is))
+    (λ e. pushed_on old (printed c.print-2.new.self) (printed c.push_block.new.out) (codes "\\x") digits c.in_ok-print.ensures.prints e ∙ ap (λ (l : List ℕ). old ++ l) (sym is))
     c.push_block.ensures.pushes

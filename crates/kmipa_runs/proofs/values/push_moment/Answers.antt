@@ -10,8 +10,8 @@ returns-clause-shows g c =
     let printed = g.P.Printer.printed in
     let old = printed c.args.out.now in
     let numbered = printed c.push_number.new.out in
-    let spaced = printed c.print.new.out in
-    let new = printed c.print-2.new.out in
+    let spaced = printed c.print.new.self in
+    let new = printed c.print-2.new.self in
     let date = c.as_str.result.now in
     let has : HasDate c.args.second = search (rules, c.calendar_date.ensures) in
     let number = signed_decimal c.args.second in
@@ -27,8 +27,8 @@ returns-clause-appends g c =
     let printed = g.P.Printer.printed in
     let old = printed c.args.out.now in
     let numbered = printed c.push_number.new.out in
-    let spaced = printed c.print.new.out in
-    let new = printed c.print-2.new.out in
+    let spaced = printed c.print.new.self in
+    let new = printed c.print-2.new.self in
     on_ok_weaker c.print-2.result
     (λ e. starts old _ new (pushed_on old numbered new _ _ c.in_ok-push_number.ensures.pushes (pushed_on numbered spaced new (32 ∷ []) c.as_str.result.now c.in_ok-print.ensures.prints e)))
     c.print-2.ensures.prints
