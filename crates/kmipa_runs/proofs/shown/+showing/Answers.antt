@@ -15,9 +15,10 @@ use Rattle.kmipa_runs.proofs.shown.+showing.Goals as goal
 pub push_item-push_items-requires : goal.push_item-push_items-requires
 push_item-push_items-requires g t c =
     let tag = c.args.item.now.tag.number in
-    let e : view_tree c.args.item.now ≡ structure tag (view_trees c.in-Structure.children) = ap (view_value_tree tag) c.in-Structure.is in (
+    let e : view_tree c.args.item.now ≡ structure tag (view_trees c.in-Structure.children) = ap (view_value_tree tag) c.in-Structure.is in
+    λ κs outlives. (
       omega (arith, c.requires.level, ap depth e, c.decreases),
-      (omega (arith, c.requires.level, ap depth e), λ asked. let fits = c.requires.room asked in omega (arith, fits, ap depth e)),
+      (outlives, (omega (arith, c.requires.level, ap depth e), λ asked. let fits = c.requires.room asked in omega (arith, fits, ap depth e))),
     )
 
 pub push_item-returns-in_ok-push_head-in-Structure-clause-shows : goal.push_item-returns-in_ok-push_head-in-Structure-clause-shows
@@ -38,9 +39,10 @@ push_item-returns-in_ok-push_head-in-Structure-clause-shows g t c =
 
 pub push_items-push_item-requires : goal.push_items-push_item-requires
 push_items-push_item-requires g t c =
-    let e = c.in-Some.ensures in (
+    let e = c.in-Some.ensures in
+    λ κs outlives. (
       omega (arith, c.decreases),
-      (omega (arith, c.items.invariant.levels, ap depths e), λ asked. let fits = c.items.invariant.room asked in omega (arith, fits, ap depths e)),
+      (outlives, (omega (arith, c.items.invariant.levels, ap depths e), λ asked. let fits = c.items.invariant.room asked in omega (arith, fits, ap depths e))),
     )
 
 pub push_items-items-preserved : goal.push_items-items-preserved
@@ -110,7 +112,7 @@ push_below-push_item-requires g t c =
     let few = levels 16 (view_tree c.in-Some.message) c.args.bytes.now found.spelled.stands in
     let asked : IsTrue c.args.options.messages = search (rules, c.if-not-options.false) in
     let here = c.requires asked in
-    (omega (arith, here, few, c.decreases), (omega (arith, here, few), λ no. let clash : false ≡ true = no in absurd cc))
+    λ κs outlives. (omega (arith, here, few, c.decreases), (outlives, (omega (arith, here, few), λ no. let clash : false ≡ true = no in absurd cc)))
 
 pub push_item-returns-in_ok-push_head-in-Structure-clause-appends : goal.push_item-returns-in_ok-push_head-in-Structure-clause-appends
 push_item-returns-in_ok-push_head-in-Structure-clause-appends g t c =

@@ -17,7 +17,8 @@ returns-clause-pushes g c =
     let b : printed c.print-2.new.self ≡ (old ++ margin) ++ (digits ++ 32 ∷ [])
     = c.in_ok-print-2.ensures.prints ∙ ap (λ (l : List ℕ). l ++ c.tag_digits.result) a ∙ ap (λ (l : List ℕ). (old ++ margin) ++ l) c.tag_digits.ensures in
     let d : printed c.print-3.new.self ≡ ((old ++ margin) ++ (digits ++ 32 ∷ [])) ++ name
-    = c.in_ok-print-3.ensures.prints ∙ ap (λ (l : List ℕ). l ++ c.tag_name.result.now) b ∙ ap (λ (n : List ℕ). ((old ++ margin) ++ (digits ++ 32 ∷ [])) ++ n) c.tag_name.ensures in
+    = c.in_ok-print-3.ensures.prints ∙ ap (λ (l : List ℕ). l ++ c.as_bytes.result.now) b
+    ∙ ap (λ (n : List ℕ). ((old ++ margin) ++ (digits ++ 32 ∷ [])) ++ n) (c.as_bytes.ensures.value ∙ c.tag_name.ensures) in
     on_ok_weaker c.print-4.result
-    (λ e. e ∙ ap (λ (l : List ℕ). l ++ c.args.kind.now) d ∙ four old margin digits name c.args.kind.now)
+    (λ e. e ∙ ap (λ (k : List ℕ). printed c.print-3.new.self ++ k) c.as_bytes-2.ensures.value ∙ ap (λ (l : List ℕ). l ++ c.args.kind.now) d ∙ four old margin digits name c.args.kind.now)
     c.print-4.ensures.prints
