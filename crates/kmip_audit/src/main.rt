@@ -2,6 +2,7 @@
 #![tactic(auto)]
 
 mod files;
+mod output;
 mod printing;
 mod progress;
 mod session;

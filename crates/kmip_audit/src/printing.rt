@@ -1,10 +1,11 @@
 //! What is printed, and the status that is left of it.
 
-ghost use Rattle.std.specs.Prelude.{◌≡◌, ◌≢◌, ◌⊎◌, [], codes, MatchResult};
+ghost use Rattle.std.specs.Prelude.{◌≡◌, ◌≢◌, ◌⊎◌, [], codes, Ok, Err, MatchResult};
 ghost use Rattle.std.specs.IoError.{error_kind};
 ghost use Rattle.kmipa_runs.specs.declared.status.Status.{Status};
 ghost use Rattle.std.specs.declared.io.ErrorKind.{ErrorKind};
 
+use crate::output::Output;
 use crate::words::Usage;
 use kmipa_runs::Status;
 use std::io;
@@ -14,11 +15,34 @@ pub fn tell<R: Print + Eprint>(rt: &R, lines: &[u8], status: Status) -> Status
     ensures { (result ≡ status) ⊎ (result ≡ Status.Failed) }
 {
     let printed = rt.write_all(text_of(lines, status));
+    status_of(&reported(rt, printed), status)
+}
+
+/// Tells what is left to tell of a run that printed by itself, and answers its status, or `Failed` where that can't be
+/// printed.
+pub fn tell_rest<R: Print + Eprint>(
+    rt: &R,
+    output: &Output<'_, R>,
+    done: io::Result<Status>,
+) -> Status
+    ensures { MatchResult done (λ status. (result ≡ status) ⊎ (result ≡ Status.Failed)) (λ _. result ≡ Status.Failed) }
+{
+    match reported(rt, done) {
+        Ok(Status::Failed) if output.is_empty() => tell(rt, b"", Status::Failed),
+        done => done.unwrap_or(Status::Failed),
+    }
+}
+
+/// Tells why standard output could not be written. Where standard error can't be written either, there is nothing left
+/// to say.
+fn reported<R: Eprint, T>(rt: &R, printed: io::Result<T>) -> io::Result<T>
+    ensures { result ≡ printed }
+{
     if let Err(error) = &printed {
         rt.eprintln(format_args!("kmip_audit: standard output: {error}"))
             .ok();
     }
-    status_of(&printed, status)
+    printed
 }
 
 /// The text of lines: none with `Failed` say that memory ran out.

@@ -5,7 +5,8 @@ ghost use Rattle.kmipa_runs.specs.Lines.{FitsStatus, yes_line};
 ghost use Rattle.kmipa_runs.specs.declared.status.Status.{Status};
 
 use crate::files::{hint_kind, open_input, replace_file};
-use crate::printing::{tell, tell_error, tell_usage, tell_words};
+use crate::output::Output;
+use crate::printing::{tell, tell_error, tell_rest, tell_usage, tell_words};
 use crate::progress::Progress;
 use crate::words::{Job, read_words};
 use kmipa_runs::{ShowOptions, Status, check_run, search_run, show_run, write_run};
@@ -61,7 +62,7 @@ fn run_job<R: Files + Clock + AllocGlobal + Print + Eprint>(
             &mut Progress::new(rt, budget, watched && !quiet),
             &mut out,
         ),
-        Job::Show { file, options } => show_file(rt, file, options, &mut out),
+        Job::Show { file, options } => return show_file(rt, file, options),
         Job::Write { hex, out: made } => write_file(rt, hex, made, &mut out),
     };
     match done {
@@ -130,14 +131,18 @@ fn search_files<R: Files + AllocGlobal + Eprint, W: Watch>(
     Ok(status)
 }
 
-fn show_file<R: Files + AllocGlobal + Eprint>(
+/// Prints the items of a file, and answers the status to end with.
+fn show_file<R: Files + AllocGlobal + Print + Eprint>(
     rt: &R,
     name: &str,
     options: ShowOptions,
-    out: &mut Vec<u8>,
-) -> io::Result<Status> {
-    let mut input = open_input(rt, name)?;
-    Ok(show_run(rt.alloc(), &mut input, options, out))
+) -> Status {
+    let mut input = match open_input(rt, name) {
+        Ok(input) => input,
+        Err(error) => return tell_error(rt, &error),
+    };
+    let (output, done) = show_run(rt.alloc(), &mut input, options, Output::new(rt));
+    tell_rest(rt, &output, done)
 }
 
 /// Makes the file `name` of the digits of another one. Where the status is not `Done` nothing is made.

@@ -10,11 +10,11 @@ use Rattle.kmipa_attrs.specs.Fields.{tag_of, first, every, as_integer, as_enumer
 use denote.Bor.{Bor}
 
 -- the first of some trees
-abbrev first_in : List Tree → Option Tree
+abbrev pub first_in : List Tree → Option Tree
 first_in [] = None
 first_in (t ∷ ts) = Some t
 
-first_every : (tag : ℕ) (ts : Trees) → first tag ts ≡ first_in (every tag ts)
+pub first_every : (tag : ℕ) (ts : Trees) → first tag ts ≡ first_in (every tag ts)
 unfolding first every
 first_every tag none = refl
 first_every tag (more t ts) = by (tag_of t == tag) (first_every tag ts)

@@ -16,7 +16,7 @@ use smallvec::SmallVec;
 use std::alloc::{AllocError, Global};
 use std::collections::BTreeSet;
 
-/// With at most so many names, each is compared with those before it, and no set is built.
+/// While at most so many names differ, each is compared with those before it, and no set is built.
 const FEW: usize = 16;
 
 /// A name whose value is lent from what it was read from.
@@ -33,27 +33,19 @@ pub(crate) fn read_names(
 ) -> Result<SmallVec<Name, NAMES>, AttrFault>
     ensures { Gives names_of result (names_in (view_trees children.entry)) }
 {
-    if children.count_of(NAME) <= FEW {
-        read_few(alloc, children)
-    } else {
-        read_many(alloc, children)
-    }
-}
-
-/// The same, where each name is compared with those before it.
-fn read_few(alloc: Global, children: Children) -> Result<SmallVec<Name, NAMES>, AttrFault>
-    ensures { Gives names_of result (names_in (view_trees children.entry)) }
-{
     let mut names = SmallVec::new(alloc);
     let mut left = children;
     'children: while let Some(child) = left.next_of(NAME) {
+        if names.len() >= FEW {
+            return read_many(alloc, children);
+        }
         let name = read_name(alloc, &child)?;
         add_name(&mut names, name)?;
     }
     Ok(names)
 }
 
-/// The same, where each name is looked up among those before it.
+/// The same names, each looked up among those before it.
 fn read_many(alloc: Global, children: Children) -> Result<SmallVec<Name, NAMES>, AttrFault>
     ensures { Gives names_of result (names_in (view_trees children.entry)) }
 {

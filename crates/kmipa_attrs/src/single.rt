@@ -6,9 +6,7 @@ ghost use Rattle.kmipa_ttlv.specs.ViewTree.{view_tree, view_trees};
 ghost use Rattle.kmipa_attrs.specs.Attributes.{single_step, single, server_only, server_single};
 
 use crate::fault::AttrFault;
-use crate::fields::first;
 use crate::held::Held;
-use crate::readings::both;
 use crate::side::Side;
 use kmipa_ttlv::{Children, View};
 
@@ -40,7 +38,7 @@ fn step<T: Copy>(
     }
 }
 
-/// The value of such an attribute that no client may give.
+/// The value of such an attribute that no client may give; any other fault is lower than that a client gave it.
 pub(crate) fn server_single<T: Held>(
     children: Children,
     tag: u32,
@@ -48,11 +46,12 @@ pub(crate) fn server_single<T: Held>(
 ) -> Result<Option<T>, AttrFault>
     ensures { result ≡ server_single T.how tag side (view_trees children.entry) }
 {
-    let (value, ()) = both(
-        single::<T>(children, tag),
-        server_only(side, first(children, tag)),
-    )?;
-    Ok(value)
+    let value = single::<T>(children, tag)?;
+    match (side, value) {
+        (Side::Server, value) => Ok(value),
+        (Side::Client, None) => Ok(None),
+        (Side::Client, Some(_)) => Err(AttrFault::NotForClients),
+    }
 }
 
 /// Whether a child may be there.

@@ -275,20 +275,17 @@ call_open marks place number n m asked request begin same equal said none =
 
 -- ---- one message
 
-pub nothing_said : (Fault : Tree → ℕ → OutsideKind → Type 0) (side : Side) (n number : ℤ) (lent bytes : List ℕ) (found : Option View) (fault : CheckFault) → fault ≡ no_message n side → n ≡ number
-    → lent ≡ bytes → found ≡ None → ItemRead lent (Ok found) → MessageFault Fault side number bytes fault
-nothing_said Fault side n number lent bytes found fault e same f is h =
-    let P : Option View → Type 0 = λ o. ItemRead lent (Ok o) in
-    let Q : List ℕ → Type 0 = λ bs. (item : Tree) → Spells item bs → ⊥ in
-    let R : CheckFault → Type 0 = λ x. MessageFault Fault side number bytes x in
-    let none : (item : Tree) → Spells item lent → ⊥ = subst P is h in
-    subst R (sym e) (same, refl, no_item (subst Q f none) refl refl)
+pub nothing_said : (Fault : Tree → ℕ → OutsideKind → Type 0) (side : Side) (n number : ℤ) (lent bytes : List ℕ) (fault : CheckFault) → fault ≡ no_message n side → n ≡ number
+    → lent ≡ bytes → ItemRead lent None → MessageFault Fault side number bytes fault
+nothing_said Fault side n number lent bytes fault e same f none =
+    let P : List ℕ → Type 0 = λ bs. ItemRead bs None in
+    let Q : CheckFault → Type 0 = λ x. MessageFault Fault side number bytes x in
+    subst Q (sym e) (same, refl, no_item (subst P f none) refl refl)
 
-pub wrong_said : {X M : Type 0} (meaning : X → M) (Said : M → Type 0) (Fault : Tree → ℕ → OutsideKind → Type 0) (lent bytes : List ℕ) (found : Option View) (view : View) (fault : ReadFault) (o : Outside)
-    → lent ≡ bytes → found ≡ Some view → ItemRead lent (Ok found) → fault ≡ ReadFault.TheVariants.Outside o → Tells meaning Said (Fault (view_tree view)) (Err fault)
+pub wrong_said : {X M : Type 0} (meaning : X → M) (Said : M → Type 0) (Fault : Tree → ℕ → OutsideKind → Type 0) (lent bytes : List ℕ) (view : View) (fault : ReadFault) (o : Outside)
+    → lent ≡ bytes → ItemRead lent (Some view) → fault ≡ ReadFault.TheVariants.Outside o → Tells meaning Said (Fault (view_tree view)) (Err fault)
     → AreOutside Fault bytes o.item o.kind
-wrong_said meaning Said Fault lent bytes found view fault o f is h e reported =
-    let P : Option View → Type 0 = λ x. ItemRead lent (Ok x) in
-    let Q : List ℕ → Type 0 = λ bs. Spells (view_tree view) bs in
-    let R : ReadFault → Type 0 = λ x. Tells meaning Said (Fault (view_tree view)) (Err x) in
-    outside (view_tree view) (subst Q f (subst P is h)) (subst R e reported)
+wrong_said meaning Said Fault lent bytes view fault o f h e reported =
+    let P : List ℕ → Type 0 = λ bs. ItemRead bs (Some view) in
+    let Q : ReadFault → Type 0 = λ x. Tells meaning Said (Fault (view_tree view)) (Err x) in
+    outside (view_tree view) (subst P f h) (subst Q e reported)

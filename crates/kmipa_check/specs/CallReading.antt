@@ -23,10 +23,9 @@ use Rattle.kmipa_check.specs.declared.fault.CheckFault.TheVariants.{Outside, Wit
 use Rattle.kmipa_check.specs.Calls.{AreRequest, AreResponse, AreOutside, HasBegin, HasEnd, CallOf, IsRecorded, IsOutsideOn, IsFirstOutside, call_of}
 
 -- the one item that the bytes spell, or none where they spell none
-abbrev pub ItemRead : List ℕ → Result (Option View) CheckFault → Type 0
-ItemRead bytes (Ok (Some view)) = Spells (view_tree view) bytes
-ItemRead bytes (Ok None) = (item : Tree) → Spells item bytes → ⊥
-ItemRead bytes (Err fault) = fault ≡ Memory
+abbrev pub ItemRead : List ℕ → Option View → Type 0
+ItemRead bytes (Some view) = Spells (view_tree view) bytes
+ItemRead bytes None = (item : Tree) → Spells item bytes → ⊥
 
 -- the message of this call on this side is no message
 abbrev pub no_message : ℤ → Side → CheckFault

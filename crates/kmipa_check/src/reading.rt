@@ -13,7 +13,7 @@ use crate::fault::{CheckFault, Side, StepFault, WitnessKind};
 use crate::numbers::FirstPlaces;
 use kmipa_msgs::{Outside, OutsideKind, ReadFault, Request, Response, read_request, read_response};
 use kmipa_record::{Begin, End, Mark, Transcript};
-use kmipa_ttlv::{FaultKind, View, decode_view};
+use kmipa_ttlv::{View, decode_view};
 use std::alloc::Global;
 
 /// The calls of a transcript, by their begin marks; or the first message that is outside the profile, request before response.
@@ -98,7 +98,7 @@ fn read_end<'a>(
 pub fn request_in<'a>(alloc: Global, begin: &'a Begin) -> Result<Request<'a>, CheckFault>
     ensures { RequestRead begin.now.call begin.now.message.items result }
 {
-    let Some(view) = whole_item(&begin.message)? else {
+    let Some(view) = whole_item(&begin.message) else {
         return Err(not_a_message(begin.call, Side::Client));
     };
     match read_request(alloc, &view) {
@@ -118,7 +118,7 @@ pub fn response_in<'a>(
 ) -> Result<Response<'a>, CheckFault>
     ensures { ResponseRead end.now.call (request_of request.now) end.now.message.items result }
 {
-    let Some(view) = whole_item(&end.message)? else {
+    let Some(view) = whole_item(&end.message) else {
         return Err(not_a_message(end.call, Side::Server));
     };
     match read_response(alloc, &view, request) {
@@ -138,11 +138,7 @@ pub fn answer_in<'a>(
 ) -> Result<Response<'a>, StepFault>
     ensures { AnswerRead (request_of request.now) answer.now result }
 {
-    let Ok(item) = whole_item(answer) else {
-        // Only want of memory is reported.
-        return Err(StepFault::Memory);
-    };
-    let Some(view) = item else {
+    let Some(view) = whole_item(answer) else {
         return Err(StepFault::Unfit(WitnessKind::AnswerForm));
     };
     match read_response(alloc, &view, request) {
@@ -153,24 +149,12 @@ pub fn answer_in<'a>(
 }
 
 /// The item that the bytes spell, all of them; `None` where they spell none.
-fn whole_item(bytes: &[u8]) -> Result<Option<View<'_>>, CheckFault>
+fn whole_item(bytes: &[u8]) -> Option<View<'_>>
     ensures { ItemRead bytes.now result }
 {
     match decode_view(bytes) {
-        Ok((view, taken)) => {
-            if taken == bytes.len() {
-                Ok(Some(view))
-            } else {
-                Ok(None)
-            }
-        }
-        Err(fault) => {
-            if fault.kind == FaultKind::Memory {
-                Err(CheckFault::Memory)
-            } else {
-                Ok(None)
-            }
-        }
+        Ok((view, taken)) if taken == bytes.len() => Some(view),
+        _ => None,
     }
 }
 

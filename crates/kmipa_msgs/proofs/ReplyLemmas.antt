@@ -246,8 +246,8 @@ filled_in (structure n (more w ws)) u ts us e is = refl
 filled_in (scalar n s) u ts us e is = cc
 
 pub empty_is_bare : (t : Tree) (left rest : Children) (next : Option View) (b : Bool) → Some (view_trees left) ≡ as_structure t
-    → MatchOption next (view_trees left ≡ none) (λ v. view_trees left ≡ more (view_tree v) (view_trees rest)) → is_some next ≡ not b → b ≡ is_bare t
-empty_is_bare t left rest None true e is h = sym (bare t (view_trees left) e is)
+    → MatchOption next ((view_trees left ≡ none) × (view_trees rest ≡ none)) (λ v. view_trees left ≡ more (view_tree v) (view_trees rest)) → is_some next ≡ not b → b ≡ is_bare t
+empty_is_bare t left rest None true e is h = sym (bare t (view_trees left) e is.0)
 empty_is_bare t left rest (Some v) false e is h = sym (filled_in t (view_tree v) (view_trees left) (view_trees rest) e is)
 empty_is_bare t left rest None false e is h = absurd cc
 empty_is_bare t left rest (Some v) true e is h = absurd cc

@@ -136,3 +136,21 @@ pub whole_request : (t : Tree) (ts hs : Trees) (n : ℕ) (loose : Bool) (q : Bat
     → request_in t ≡ map_ok (request_at (header_at q)) (from_one (each_in (λ place. item_in loose) (every batch_item ts)))
 unfolding request_of_parts items_in
 whole_request t ts hs n loose q p ne le se = opened t ts hs n loose (Ok q) p ne le se
+
+-- whether there is an order follows from what the header says
+order_of : Result (BatchOption × Bool) OutsideKind → Bool
+order_of (Ok q) = q.1
+order_of (Err k) = true
+
+loose_rows : {A : Type 0} (plain : Result A OutsideKind) (option : Result BatchOption OutsideKind) (order : Field Bool) (n : ℕ) (q : BatchOption × Bool)
+    → Ok q ≡ map_ok (λ p. p.1) (both kind_number plain (both kind_number option (order_in order))) → is_loose (There q.1) n ≡ is_loose order n
+unfolding order_of
+loose_rows (Err k) option order n q e = absurd cc
+loose_rows (Ok x) (Err k) order n q e = absurd cc
+loose_rows (Ok x) (Ok y) Absent n q e = ap (λ (r : Result (BatchOption × Bool) OutsideKind). is_loose (There (order_of r)) n) e
+loose_rows (Ok x) (Ok y) Wrong n q e = absurd cc
+loose_rows (Ok x) (Ok y) (There b) n q e = ap (λ (r : Result (BatchOption × Bool) OutsideKind). is_loose (There (order_of r)) n) e
+
+pub loose_as_said : (hs : Trees) (n : ℕ) (q : BatchOption × Bool) → Ok q ≡ order_said hs n → is_loose (There q.1) n ≡ is_loose (at as_boolean batch_order_option hs) n
+unfolding order_said
+loose_as_said hs n q e = loose_rows (plain_rows hs n) (option_in (at as_enumeration batch_error_continuation_option hs)) (at as_boolean batch_order_option hs) n q e

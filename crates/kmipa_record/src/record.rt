@@ -121,15 +121,9 @@ fn view_of(place: u64, bytes: &[u8]) -> Result<View<'_>, RecordFault>
 {
     match decode_view(bytes) {
         Ok((view, _)) => Ok(view),
-        Err(fault) => match fault.kind {
-            FaultKind::Memory => Err(RecordFault {
-                offset: place,
-                kind: RecordKind::Memory,
-            }),
-            kind => Err(RecordFault {
-                offset: place.saturating_add(fault.offset),
-                kind: RecordKind::Ttlv(kind),
-            }),
-        },
+        Err(fault) => Err(RecordFault {
+            offset: place.saturating_add(fault.offset),
+            kind: RecordKind::Ttlv(fault.kind),
+        }),
     }
 }

@@ -28,3 +28,12 @@ starts_on a b c h k =
 pub on_ok : {T E : Type 0} (r : Result T E) (x a b y : List ℕ) → x ≡ (if is_ok r then a else b) → a ≡ y → OnOk r (x ≡ y)
 on_ok (Ok u) x a b y e h = e ∙ h
 on_ok (Err u) x a b y e h = tt
+
+-- two facts of one success
+pub on_both : {T E A B C : Type 0} (r : Result T E) → (A → B → C) → OnOk r A → OnOk r B → OnOk r C
+on_both (Ok u) f a b = f a b
+on_both (Err u) f a b = tt
+
+-- what is pushed behind what was pushed before
+pub pushed_on : (a b c x y : List ℕ) → b ≡ a ++ x → c ≡ b ++ y → c ≡ a ++ (x ++ y)
+pushed_on a b c x y e h = h ∙ ap (λ (l : List ℕ). l ++ y) e ∙ append_assoc a x y

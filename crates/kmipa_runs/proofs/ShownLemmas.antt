@@ -74,3 +74,15 @@ heads a b d e f = simp append_assoc
 pub head_of : (level tag : ℕ) (kind rest : List ℕ)
     → replicate (2 * level) 32 ++ encode_upper (big_bytes 3 tag) ++ 32 ∷ tag_name_of tag ++ (32 ∷ kind ++ rest) ≡ head level tag kind ++ rest
 head_of level tag kind rest = heads (replicate (2 * level) 32) (encode_upper (big_bytes 3 tag)) (tag_name_of tag) kind rest
+
+digits_both : (table a b : List ℕ) → encode_with table (a ++ b) ≡ encode_with table a ++ encode_with table b
+unfolding encode_with
+digits_both table [] b = refl
+digits_both table (x ∷ xs) b = rw (digits_both table xs b) refl
+
+-- the digits of a block are printed, and those of the others are left
+pub digits_on : (table old new block others left all : List ℕ) → left ≡ block ++ others → new ≡ old ++ encode_with table block → old ++ encode_with table left ≡ all
+    → new ++ encode_with table others ≡ all
+digits_on table old new block others left all e h inv =
+    ap (λ (l : List ℕ). l ++ encode_with table others) h ∙ append_assoc old (encode_with table block) (encode_with table others)
+    ∙ ap (λ (l : List ℕ). old ++ l) (sym (ap (encode_with table) e ∙ digits_both table block others)) ∙ inv

@@ -1,30 +1,26 @@
 //! Byte Strings that are messages.
 
-ghost use Rattle.std.specs.Prelude.{◌≡◌, ◌↔◌, IfOk, MatchOption, IsTrue};
+ghost use Rattle.std.specs.Prelude.{◌≡◌, ◌↔◌, MatchOption, IsTrue};
 ghost use Rattle.kmipa_ttlv.specs.ViewTree.{view_tree};
 ghost use Rattle.kmipa_ttlv.specs.Tree.{Tree};
 ghost use Rattle.kmipa_runs.specs.Shown.{AreMessage, IsMessage};
 
 use kmipa_attrs::tags;
-use kmipa_ttlv::{FaultKind, View, ViewValue, decode_view};
-use std::alloc::AllocError;
+use kmipa_ttlv::{View, ViewValue, decode_view};
 
 /// The Request Message or Response Message that these bytes are, or `None` where they are no whole one.
-pub fn message_of(bytes: &[u8]) -> Result<Option<View<'_>>, AllocError>
-    ensures { IfOk result (λ found. MatchOption found ((m : Tree) → AreMessage m bytes.now → ⊥) (λ view. AreMessage (view_tree view) bytes.now)) }
+pub fn message_of(bytes: &[u8]) -> Option<View<'_>>
+    ensures { MatchOption result ((m : Tree) → AreMessage m bytes.now → ⊥) (λ view. AreMessage (view_tree view) bytes.now) }
 {
     match decode_view(bytes) {
         Ok((view, taken)) => {
             if taken == bytes.len() && is_message(&view) {
-                Ok(Some(view))
+                Some(view)
             } else {
-                Ok(None)
+                None
             }
         }
-        Err(fault) => match fault.kind {
-            FaultKind::Memory => Err(AllocError),
-            _ => Ok(None),
-        },
+        Err(_) => None,
     }
 }
 

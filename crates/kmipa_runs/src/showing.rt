@@ -1,90 +1,105 @@
 //! `show`: the items of an input, line by line.
 
-ghost use Rattle.std.specs.Prelude.{◌≡◌, ◌<◌, ◌⊎◌, ℕ, List, [], ◌++◌, true, false, IsTrue, IfOk, IfErr, OnOk};
+ghost use Rattle.std.specs.Prelude.{◌≡◌, ◌⊎◌, ℕ, List, [], Ok, IsTrue, IfOk, OnErr, OnOk};
 ghost use Rattle.std.specs.Io.{StartsWith, appended_bytes};
-ghost use Rattle.kmipa_ttlv.specs.Input.{came_of, taken_of, is_ended, is_failed, IsFileOf};
-ghost use Rattle.kmipa_ttlv.specs.Reading.{ReadTells};
-ghost use Rattle.kmipa_runs.specs.Inputs.{AreShown, PrintsShown, TellsFirst};
+ghost use Rattle.kmipa_ttlv.specs.Input.{came_of, is_ended, is_failed, IsFileOf};
+ghost use Rattle.kmipa_ttlv.specs.Items.{AreItems};
+ghost use Rattle.kmipa_ttlv.specs.Tree.{Tree};
+ghost use Rattle.kmipa_runs.specs.Inputs.{flaw_status, flaw_text, AreShown, PrintsShown};
 ghost use Rattle.kmipa_runs.specs.Statuses.{IsSilent};
 
 use crate::flaws::tell_flaw;
+use crate::holding::hold_items;
 use crate::options::ShowOptions;
-use crate::shown::push_item;
+use crate::pieces::Pieces;
+use crate::printer::Printer;
+use crate::shown::push_items;
 use crate::status::Status;
-use kmipa_ttlv::{FaultKind, Input, TtlvFault, read_view};
+use kmipa_ttlv::{Children, Input, TtlvFault};
 use std::alloc::Global;
+use std::io;
 use std::io::Read;
 
-/// `show FILE`: appends the lines of the items of an input of which nothing was read, or the line of its first fault
-/// alone, and answers their status. Where memory runs out nothing is appended, and the status is `Failed`.
-pub fn show_run<R: Read>(
+/// `show FILE`: prints the lines of the items of an input of which nothing was read, or the line of its first fault
+/// alone, and answers the printer and the status. No line is printed before the whole input was read and tested, and no
+/// memory is taken after that. Where memory runs out nothing is printed, and the status is `Failed`. An `Err` is the
+/// printer's own.
+pub fn show_run<R: Read, P: Printer>(
     alloc: Global,
     input: &mut Input<R>,
     options: ShowOptions,
-    out: &mut Vec<u8>,
-) -> Status
+    mut printer: P,
+) -> (P, io::Result<Status>)
     requires { came_of input.old ≡ [] }
     // What is printed is reported of whatever the input may be, or memory ran out.
-    ensures prints { (file : List ℕ) → IsFileOf file input.new
-        → PrintsShown options file (is_failed input.new) result (appended_bytes out.old.items out.new.items) ⊎ IsSilent result (appended_bytes out.old.items out.new.items) }
+    ensures prints { (file : List ℕ) → IsFileOf file input.new → IfOk result.1 (λ said.
+        PrintsShown options file (is_failed input.new) said (appended_bytes (P.printed printer) (P.printed result.0))
+        ⊎ IsSilent said (appended_bytes (P.printed printer) (P.printed result.0))) }
     // Status 0 is answered only where the bytes that came, to the end that was seen, are the items that are shown.
-    ensures shows { result ≡ Status.Done → AreShown options (came_of input.new) (appended_bytes out.old.items out.new.items) × IsTrue (is_ended input.new) }
-    ensures appends { StartsWith out.new.items out.old.items }
+    ensures shows { result.1 ≡ Ok Status.Done
+        → AreShown options (came_of input.new) (appended_bytes (P.printed printer) (P.printed result.0)) × IsTrue (is_ended input.new) }
+    ensures appends { OnOk result.1 (StartsWith (P.printed result.0) (P.printed printer)) }
+    ensures own { OnErr result.1 (IsTrue (P.has_failed result.0)) }
 {
-    let kept = out.len();
-    match show_items(alloc, input, options, out) {
-        Ok(()) => Status::Done,
+    match hold_items(alloc, input) {
+        Ok(bytes) => print_items(alloc, &bytes, options, printer),
         Err(fault) => {
-            out.truncate(kept);
-            tell_flaw(alloc, fault, out)
+            let said = print_flaw(alloc, fault, &mut printer);
+            (printer, said)
         }
     }
 }
 
-/// Appends the lines of all items of an input. After a fault those of some may be appended.
-fn show_items<R: Read>(
+/// Prints the lines of the items that these bytes are; nothing, where memory runs out.
+fn print_items<P: Printer>(
     alloc: Global,
-    input: &mut Input<R>,
+    bytes: &[u8],
     options: ShowOptions,
-    out: &mut Vec<u8>,
-) -> Result<(), TtlvFault>
-    requires { came_of input.old ≡ [] }
-    ensures shows { OnOk result (AreShown options (came_of input.new) (appended_bytes out.old.items out.new.items)) }
-    ensures ended { OnOk result (IsTrue (is_ended input.new)) }
-    ensures fault { (file : List ℕ) → IsFileOf file input.new → IfErr result (TellsFirst file (is_failed input.new)) }
-    ensures appends { StartsWith out.new.items out.old.items }
+    printer: P,
+) -> (P, io::Result<Status>)
+    requires { (items : List Tree) × AreItems items bytes.now }
+    ensures shows { IfOk result.1 (λ said.
+        ((said ≡ Status.Done) × AreShown options bytes.now (appended_bytes (P.printed printer) (P.printed result.0)))
+        ⊎ IsSilent said (appended_bytes (P.printed printer) (P.printed result.0))) }
+    ensures appends { OnOk result.1 (StartsWith (P.printed result.0) (P.printed printer)) }
+    ensures own { OnErr result.1 (IsTrue (P.has_failed result.0)) }
 {
-    let mut bytes = Vec::new(alloc);
-    'items: while show_next(alloc, input, options, &mut bytes, out)? {}
-    Ok(())
+    match Pieces::new(alloc, printer) {
+        Ok(mut pieces) => {
+            let said = print_lines(bytes, options, &mut pieces);
+            (pieces.into_printer(), said)
+        }
+        Err(printer) => (printer, Ok(Status::Failed)),
+    }
 }
 
-/// Appends the lines of the next item of an input; `false` at its end.
-fn show_next<R: Read>(
-    alloc: Global,
-    input: &mut Input<R>,
+/// Prints the lines of the items that these bytes are, in pieces.
+fn print_lines<P: Printer>(
+    bytes: &[u8],
     options: ShowOptions,
-    bytes: &mut Vec<u8>,
-    out: &mut Vec<u8>,
-) -> Result<bool, TtlvFault>
-    // Where what came before is shown, what came now is.
-    ensures shows { OnOk result ((lines : List ℕ) → AreShown options (came_of input.old) lines
-        → AreShown options (came_of input.new) (lines ++ appended_bytes out.old.items out.new.items)) }
-    ensures end { IfOk result (λ more. more ≡ false → IsTrue (is_ended input.new)) }
-    ensures nearer { IfOk result (λ more. more ≡ true → taken_of input.old < taken_of input.new) }
-    ensures fault { IfErr result (λ f. ReadTells (taken_of input.old) (appended_bytes (came_of input.old) (came_of input.new)) (is_ended input.new) (is_failed input.new) f) }
-    ensures grows { StartsWith (came_of input.new) (came_of input.old) }
-    ensures appends { StartsWith out.new.items out.old.items }
+    pieces: &mut Pieces<P>,
+) -> io::Result<Status>
+    requires items { (items : List Tree) × AreItems items bytes.now }
+    requires empty { pieces.old.held.items ≡ [] }
+    ensures shows { IfOk result (λ said. (said ≡ Status.Done) × AreShown options bytes.now (appended_bytes (P.printed pieces.old.printer) (P.printed pieces.new.printer))) }
+    ensures appends { OnOk result (StartsWith (P.printed pieces.new.printer) (P.printed pieces.old.printer)) }
+    ensures own { OnErr result (IsTrue (P.has_failed pieces.new.printer)) }
 {
-    let offset = input.taken();
-    let Some(view) = read_view(input, bytes)? else {
-        return Ok(false);
-    };
-    match push_item(alloc, &view, options, 0, out) {
-        Ok(()) => Ok(true),
-        Err(_) => Err(TtlvFault {
-            offset,
-            kind: FaultKind::Memory,
-        }),
-    }
+    push_items(Children::spelled(bytes), options, 0, pieces)?;
+    pieces.finish()?;
+    Ok(Status::Done)
+}
+
+/// Prints the line of a fault of the input, and answers its status; nothing where memory ran out.
+fn print_flaw<P: Printer>(alloc: Global, fault: TtlvFault, printer: &mut P) -> io::Result<Status>
+    ensures tells { IfOk result (λ said.
+        ((said ≡ flaw_status fault) × (appended_bytes (P.printed printer.old) (P.printed printer.new) ≡ flaw_text fault))
+        ⊎ IsSilent said (appended_bytes (P.printed printer.old) (P.printed printer.new))) }
+    ensures appends { OnOk result (StartsWith (P.printed printer.new) (P.printed printer.old)) }
+    ensures own { OnErr result (IsTrue (P.has_failed printer.new)) }
+{
+    let mut lines = Vec::new(alloc);
+    let status = tell_flaw(alloc, fault, &mut lines);
+    printer.print(&lines)?;
+    Ok(status)
 }

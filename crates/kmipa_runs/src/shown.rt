@@ -1,6 +1,6 @@
 //! The lines that show an item.
 
-ghost use Rattle.std.specs.Prelude.{◌≡◌, ◌≤◌, ◌+◌, ◌*◌, ◌∷◌, [], ◌++◌, replicate, IsTrue, OnOk};
+ghost use Rattle.std.specs.Prelude.{◌≡◌, ◌≤◌, ◌+◌, ◌*◌, ◌∷◌, [], ◌++◌, replicate, IsTrue, OnErr, OnOk};
 ghost use Rattle.std.specs.Io.{StartsWith, appended_bytes};
 ghost use Rattle.byteorder.specs.Endian.{big_bytes};
 ghost use Rattle.hex.specs.Hex.{encode_upper};
@@ -12,122 +12,131 @@ ghost use Rattle.kmipa_runs.specs.Shown.{IsPlain, ShowsBelow, ShowsItem, ShowsIt
 
 use crate::message::message_of;
 use crate::options::ShowOptions;
-use crate::values::{UPPER, fill_digits, kind_word, push_note, push_text, push_value};
+use crate::printer::Printer;
+use crate::values::{UPPER, fill_digits, kind_word, push_note, push_value};
 use byteorder::{BigEndian, ByteOrder};
 use kmipa_attrs::tag_name;
 use kmipa_ttlv::{Children, Tag, View, ViewValue};
-use std::alloc::{AllocError, Global};
+use std::io;
 
 /// Two spaces for each level that an item may have above it: 15 in a file, and 16 more in a message below one of its
 /// Byte Strings.
-const MARGIN: [u8; 62] = [b' '; 62];
+static MARGIN: [u8; 62] = [b' '; 62];
 
-/// Appends the lines of an item with so many levels above it, and of the items in it. Where memory runs out a part
-/// of them may be appended.
+/// Prints the lines of an item with so many levels above it, and of the items in it. After an error a part
+/// of them may be printed.
 #[cycle(showing)]
-pub fn push_item(
-    alloc: Global,
+fn push_item<P: Printer>(
     item: &View,
     options: ShowOptions,
     level: usize,
-    out: &mut Vec<u8>,
-) -> Result<(), AllocError>
+    out: &mut P,
+) -> io::Result<()>
     requires level { level + depth (view_tree item.now) ≤ 32 }
     // Room for the levels of a message.
     requires room { IsTrue options.messages → level + depth (view_tree item.now) ≤ 16 }
-    ensures shows { OnOk result (ShowsItem options level (view_tree item.now) (appended_bytes out.old.items out.new.items)) }
-    ensures appends { StartsWith out.new.items out.old.items }
+    ensures shows { OnOk result (ShowsItem options level (view_tree item.now) (appended_bytes (P.printed out.old) (P.printed out.new))) }
+    ensures appends { OnOk result (StartsWith (P.printed out.new) (P.printed out.old)) }
+    ensures fails { OnErr result (IsTrue (P.has_failed out.new)) }
 {
     match &item.value {
         ViewValue::Structure(children) => {
             push_head(item.tag, " Structure\n", level, out)?;
-            push_items(alloc, *children, options, level + 1, out)
+            push_items(*children, options, level + 1, out)
         }
         ViewValue::Bytes(bytes) => {
-            push_line(alloc, item, options.notes, level, out)?;
-            push_below(alloc, bytes, options, level, out)
+            push_line(item, options.notes, level, out)?;
+            push_below(bytes, options, level, out)
         }
-        _ => push_line(alloc, item, options.notes, level, out),
+        _ => push_line(item, options.notes, level, out),
     }
 }
 
-/// Appends the lines of items that stand one after the other at this level.
+/// Prints the lines of items that stand one after the other at this level.
 #[cycle(showing)]
-fn push_items(
-    alloc: Global,
+pub fn push_items<P: Printer>(
     items: Children,
     options: ShowOptions,
     level: usize,
-    out: &mut Vec<u8>,
-) -> Result<(), AllocError>
+    out: &mut P,
+) -> io::Result<()>
     requires level { level + depths (view_trees items) ≤ 32 }
     requires room { IsTrue options.messages → level + depths (view_trees items) ≤ 16 }
-    ensures shows { OnOk result (ShowsItems options level (view_trees items.entry) (appended_bytes out.old.items out.new.items)) }
-    ensures appends { StartsWith out.new.items out.old.items }
+    ensures shows { OnOk result (ShowsItems options level (view_trees items.entry) (appended_bytes (P.printed out.old) (P.printed out.new))) }
+    ensures appends { OnOk result (StartsWith (P.printed out.new) (P.printed out.old)) }
+    ensures fails { OnErr result (IsTrue (P.has_failed out.new)) }
 {
     let mut left = items;
     'items: while let Some(item) = left.next() {
-        push_item(alloc, &item, options, level, out)?;
+        push_item(&item, options, level, out)?;
     }
     Ok(())
 }
 
-/// Appends what stands below a Byte String at this level: the lines of the message that it is, if that is asked for.
+/// Prints what stands below a Byte String at this level: the lines of the message that it is, if that is asked for.
 #[cycle(showing)]
-fn push_below(
-    alloc: Global,
+fn push_below<P: Printer>(
     bytes: &[u8],
     options: ShowOptions,
     level: usize,
-    out: &mut Vec<u8>,
-) -> Result<(), AllocError>
+    out: &mut P,
+) -> io::Result<()>
     requires { IsTrue options.messages → level ≤ 15 }
-    ensures shows { OnOk result (ShowsBelow options.messages options.notes level (byte_string bytes.now) (appended_bytes out.old.items out.new.items)) }
-    ensures appends { StartsWith out.new.items out.old.items }
+    ensures shows { OnOk result (ShowsBelow options.messages options.notes level (byte_string bytes.now) (appended_bytes (P.printed out.old) (P.printed out.new))) }
+    ensures appends { OnOk result (StartsWith (P.printed out.new) (P.printed out.old)) }
+    ensures fails { OnErr result (IsTrue (P.has_failed out.new)) }
 {
     if !options.messages {
         return Ok(());
     }
-    let Some(message) = message_of(bytes)? else {
+    let Some(message) = message_of(bytes) else {
         return Ok(());
     };
     let within = ShowOptions {
         messages: false,
         notes: options.notes,
     };
-    push_item(alloc, &message, within, level + 1, out)
+    push_item(&message, within, level + 1, out)
 }
 
-/// Appends the line of an item without children.
-fn push_line(
-    alloc: Global,
+/// Prints the line of an item without children.
+fn push_line<P: Printer>(
     item: &View,
     notes: bool,
     level: usize,
-    out: &mut Vec<u8>,
-) -> Result<(), AllocError>
+    out: &mut P,
+) -> io::Result<()>
     requires plain { IsPlain item.now.value }
     requires level { level ≤ 31 }
-    ensures shows { OnOk result (ShowsLine notes level (view_tree item.now) (appended_bytes out.old.items out.new.items)) }
-    ensures appends { StartsWith out.new.items out.old.items }
+    ensures shows { OnOk result (ShowsLine notes level (view_tree item.now) (appended_bytes (P.printed out.old) (P.printed out.new))) }
+    ensures appends { OnOk result (StartsWith (P.printed out.new) (P.printed out.old)) }
+    ensures fails { OnErr result (IsTrue (P.has_failed out.new)) }
 {
     push_head(item.tag, kind_word(&item.value), level, out)?;
-    push_value(alloc, &item.value, out)?;
+    push_value(&item.value, out)?;
     push_note(notes, item.tag, &item.value, out)?;
-    push_text("\n", out)
+    out.print(b"\n")
 }
 
-/// Appends the margin, the tag, its name and these words of the type, which begin with a space.
-fn push_head(tag: Tag, kind: &str, level: usize, out: &mut Vec<u8>) -> Result<(), AllocError>
+/// Prints the margin, the tag, its name and these words of the type, which begin with a space.
+fn push_head<P: Printer>(tag: Tag, kind: &str, level: usize, out: &mut P) -> io::Result<()>
     requires { level ≤ 31 }
-    ensures pushes { OnOk result (out.new.items ≡ out.old.items
+    ensures pushes { OnOk result (P.printed out.new ≡ P.printed out.old
         ++ (replicate (2 * level) 32 ++ encode_upper (big_bytes 3 tag.number) ++ 32 ∷ tag_name_of tag.number ++ kind.now)) }
-    ensures appends { StartsWith out.new.items out.old.items }
+    ensures fails { OnErr result (IsTrue (P.has_failed out.new)) }
 {
-    push_margin(level, out)?;
-    out.extend_from_slice(&tag_digits(tag))?;
-    push_text(tag_name(tag), out)?;
-    push_text(kind, out)
+    out.print(margin(level))?;
+    out.print(&tag_digits(tag))?;
+    out.print(tag_name(tag).as_bytes())?;
+    out.print(kind.as_bytes())
+}
+
+/// Two spaces a level.
+fn margin(level: usize) -> &'static [u8]
+    requires { level ≤ 31 }
+    ensures { result.now ≡ replicate (2 * level) 32 }
+{
+    &MARGIN[..2 * level]
 }
 
 /// The digits of a tag, and a space.
@@ -139,16 +148,4 @@ fn tag_digits(tag: Tag) -> [u8; 7]
     let mut digits = [b' '; 7];
     fill_digits(UPPER, &bytes, &mut digits[..6]);
     digits
-}
-
-/// Appends two spaces a level. The spaces of all levels are copied, which is one step, and those too many are let go.
-fn push_margin(level: usize, out: &mut Vec<u8>) -> Result<(), AllocError>
-    requires { level ≤ 31 }
-    ensures pushes { OnOk result (out.new.items ≡ out.old.items ++ replicate (2 * level) 32) }
-    ensures appends { StartsWith out.new.items out.old.items }
-{
-    let kept = out.len();
-    out.extend_from_slice(&MARGIN)?;
-    out.truncate(kept + 2 * level);
-    Ok(())
 }

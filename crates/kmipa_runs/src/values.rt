@@ -1,6 +1,6 @@
 //! The texts of values.
 
-ghost use Rattle.std.specs.Prelude.{◌≡◌, ◌*◌, ◌++◌, ◌∷◌, [], ℕ, length, IsTrue, codes, if◌then◌else◌, OnOk, option_map};
+ghost use Rattle.std.specs.Prelude.{◌≡◌, ◌≤◌, ◌*◌, ◌++◌, ◌∷◌, [], ℕ, length, IsTrue, codes, if◌then◌else◌, OnErr, OnOk, option_map};
 ghost use Rattle.std.specs.List.{flat_map};
 ghost use Rattle.std.specs.Fmt.{signed_decimal};
 ghost use Rattle.std.specs.Io.{StartsWith, appended_bytes};
@@ -10,15 +10,19 @@ ghost use Rattle.kmipa_runs.specs.Shown.{escaped, quoted, kind_name, note, noted
 
 use crate::dates::calendar_date;
 use crate::notes::number_name;
+use crate::printer::Printer;
 use itoa::Buffer;
 use kmipa_ttlv::{Tag, ViewValue};
-use std::alloc::{AllocError, Global};
+use std::io;
 
 /// The digits of tags and Enumerations.
 pub const UPPER: &[u8; 16] = b"0123456789ABCDEF";
 
 /// The digits of bytes.
 const LOWER: &[u8; 16] = b"0123456789abcdef";
+
+/// How many bytes are made digits at a time.
+const BLOCK: usize = 32;
 
 /// The name of a value's type, between spaces.
 pub fn kind_word(value: &ViewValue) -> &'static str
@@ -39,10 +43,11 @@ pub fn kind_word(value: &ViewValue) -> &'static str
     }
 }
 
-/// Appends the text of a value; of a Structure nothing. Where memory runs out a part of it may be appended.
-pub fn push_value(alloc: Global, value: &ViewValue, out: &mut Vec<u8>) -> Result<(), AllocError>
-    ensures shows { OnOk result ((tag : ℕ) → ShowsValue (view_value_tree tag value.now) (appended_bytes out.old.items out.new.items)) }
-    ensures appends { StartsWith out.new.items out.old.items }
+/// Prints the text of a value; of a Structure nothing.
+pub fn push_value<P: Printer>(value: &ViewValue, out: &mut P) -> io::Result<()>
+    ensures shows { OnOk result ((tag : ℕ) → ShowsValue (view_value_tree tag value.now) (appended_bytes (P.printed out.old) (P.printed out.new))) }
+    ensures appends { OnOk result (StartsWith (P.printed out.new) (P.printed out.old)) }
+    ensures fails { OnErr result (IsTrue (P.has_failed out.new)) }
 {
     match value {
         ViewValue::Structure(_) => Ok(()),
@@ -50,43 +55,26 @@ pub fn push_value(alloc: Global, value: &ViewValue, out: &mut Vec<u8>) -> Result
         ViewValue::LongInteger(n) => push_number(*n, out),
         ViewValue::BigInteger(bytes) => push_digits(LOWER, bytes, out),
         ViewValue::Enumeration(n) => push_digits(UPPER, &n.to_be_bytes(), out),
-        ViewValue::Boolean(true) => push_text("true", out),
-        ViewValue::Boolean(false) => push_text("false", out),
+        ViewValue::Boolean(true) => out.print(b"true"),
+        ViewValue::Boolean(false) => out.print(b"false"),
         ViewValue::Text(text) => push_quoted(text.as_bytes(), out),
         ViewValue::Bytes(bytes) => push_digits(LOWER, bytes, out),
-        ViewValue::DateTime(second) => push_moment(alloc, *second, out),
+        ViewValue::DateTime(second) => push_moment(*second, out),
         ViewValue::Interval(n) => push_number(i64::from(*n), out),
         ViewValue::DateTimeExtended(n) => push_number(*n, out),
     }
 }
 
-/// Appends a text.
-pub fn push_text(text: &str, out: &mut Vec<u8>) -> Result<(), AllocError>
-    ensures pushes { OnOk result (out.new.items ≡ out.old.items ++ text.now) }
-    ensures appends { StartsWith out.new.items out.old.items }
-{
-    out.extend_from_slice(text.as_bytes())
-}
-
-/// Appends a space and a text.
-fn push_word(text: &str, out: &mut Vec<u8>) -> Result<(), AllocError>
-    ensures pushes { OnOk result (out.new.items ≡ out.old.items ++ 32 ∷ text.now) }
-    ensures appends { StartsWith out.new.items out.old.items }
-{
-    push_text(" ", out)?;
-    push_text(text, out)
-}
-
-/// With the notes, appends the name of an Enumeration's number after a space, in parentheses, where the standard
+/// With the notes, prints the name of an Enumeration's number after a space, in parentheses, where the standard
 /// names it.
-pub fn push_note(
+pub fn push_note<P: Printer>(
     notes: bool,
     tag: Tag,
     value: &ViewValue,
-    out: &mut Vec<u8>,
-) -> Result<(), AllocError>
-    ensures pushes { OnOk result (out.new.items ≡ out.old.items ++ note notes (view_value_tree tag.number value.now)) }
-    ensures appends { StartsWith out.new.items out.old.items }
+    out: &mut P,
+) -> io::Result<()>
+    ensures pushes { OnOk result (P.printed out.new ≡ P.printed out.old ++ note notes (view_value_tree tag.number value.now)) }
+    ensures fails { OnErr result (IsTrue (P.has_failed out.new)) }
 {
     if !notes {
         return Ok(());
@@ -97,43 +85,51 @@ pub fn push_note(
     }
 }
 
-/// Appends a name, if there is one, after a space, in parentheses.
-fn push_name(name: Option<&str>, out: &mut Vec<u8>) -> Result<(), AllocError>
-    ensures pushes { OnOk result (out.new.items ≡ out.old.items ++ noted (option_map (λ text. text.now) name.entry)) }
-    ensures appends { StartsWith out.new.items out.old.items }
+/// Prints a name, if there is one, after a space, in parentheses.
+fn push_name<P: Printer>(name: Option<&str>, out: &mut P) -> io::Result<()>
+    ensures pushes { OnOk result (P.printed out.new ≡ P.printed out.old ++ noted (option_map (λ text. text.now) name.entry)) }
+    ensures fails { OnErr result (IsTrue (P.has_failed out.new)) }
 {
     let Some(name) = name else {
         return Ok(());
     };
-    push_text(" (", out)?;
-    push_text(name, out)?;
-    push_text(")", out)
+    out.print(b" (")?;
+    out.print(name.as_bytes())?;
+    out.print(b")")
 }
 
-/// Appends a number in decimal.
-fn push_number(number: i64, out: &mut Vec<u8>) -> Result<(), AllocError>
-    ensures pushes { OnOk result (out.new.items ≡ out.old.items ++ signed_decimal number) }
-    ensures appends { StartsWith out.new.items out.old.items }
+/// Prints a number in decimal.
+fn push_number<P: Printer>(number: i64, out: &mut P) -> io::Result<()>
+    ensures pushes { OnOk result (P.printed out.new ≡ P.printed out.old ++ signed_decimal number) }
+    ensures fails { OnErr result (IsTrue (P.has_failed out.new)) }
 {
-    push_text(Buffer::new().format(number), out)
+    out.print(Buffer::new().format(number).as_bytes())
 }
 
-/// Appends bytes as hexadecimal digits of this table.
-fn push_digits(table: &[u8; 16], bytes: &[u8], out: &mut Vec<u8>) -> Result<(), AllocError>
-    ensures pushes { OnOk result (out.new.items ≡ out.old.items ++ encode_with table.now bytes.now) }
-    ensures appends { StartsWith out.new.items out.old.items }
+/// Prints bytes as hexadecimal digits of this table.
+fn push_digits<P: Printer>(table: &[u8; 16], bytes: &[u8], out: &mut P) -> io::Result<()>
+    ensures pushes { OnOk result (P.printed out.new ≡ P.printed out.old ++ encode_with table.now bytes.now) }
+    ensures fails { OnErr result (IsTrue (P.has_failed out.new)) }
 {
-    let kept = out.len();
-    let Some(grown) = bytes
-        .len()
-        .checked_mul(2)
-        .and_then(|more| more.checked_add(kept))
-    else {
-        return Err(AllocError);
-    };
-    out.resize(grown, 0)?;
-    fill_digits(table, bytes, &mut out[kept..]);
+    let mut left = bytes;
+    'digits: while !left.is_empty() {
+        let (block, others) = left.split_at(left.len().min(BLOCK));
+        push_block(table, block, out)?;
+        left = others;
+    }
     Ok(())
+}
+
+/// Prints a few bytes as hexadecimal digits of this table.
+fn push_block<P: Printer>(table: &[u8; 16], block: &[u8], out: &mut P) -> io::Result<()>
+    requires { length block.now ≤ BLOCK }
+    ensures pushes { OnOk result (P.printed out.new ≡ P.printed out.old ++ encode_with table.now block.now) }
+    ensures fails { OnErr result (IsTrue (P.has_failed out.new)) }
+{
+    let mut digits = [0u8; 2 * BLOCK];
+    let filled = &mut digits[..2 * block.len()];
+    fill_digits(table, block, filled);
+    out.print(filled)
 }
 
 /// Writes bytes as hexadecimal digits of this table.
@@ -148,32 +144,43 @@ pub fn fill_digits(table: &[u8; 16], bytes: &[u8], digits: &mut [u8])
     }
 }
 
-/// Appends the number of a moment's second, and after a space its date, where the calendar has one.
-fn push_moment(alloc: Global, second: i64, out: &mut Vec<u8>) -> Result<(), AllocError>
-    ensures shows { OnOk result (ShowsMoment second (appended_bytes out.old.items out.new.items)) }
-    ensures appends { StartsWith out.new.items out.old.items }
+/// Prints the number of a moment's second, and after a space its date, where the calendar has one.
+fn push_moment<P: Printer>(second: i64, out: &mut P) -> io::Result<()>
+    ensures shows { OnOk result (ShowsMoment second (appended_bytes (P.printed out.old) (P.printed out.new))) }
+    ensures appends { OnOk result (StartsWith (P.printed out.new) (P.printed out.old)) }
+    ensures fails { OnErr result (IsTrue (P.has_failed out.new)) }
 {
     push_number(second, out)?;
-    let Some(date) = calendar_date(alloc, second)? else {
+    let Some(date) = calendar_date(second) else {
         return Ok(());
     };
-    push_word(date.as_str(), out)
+    out.print(b" ")?;
+    out.print(date.as_str().as_bytes())
 }
 
-/// Appends a text between double quotes.
-fn push_quoted(text: &[u8], out: &mut Vec<u8>) -> Result<(), AllocError>
-    ensures pushes { OnOk result (out.new.items ≡ out.old.items ++ quoted text.now) }
-    ensures appends { StartsWith out.new.items out.old.items }
+/// Prints a text between double quotes.
+fn push_quoted<P: Printer>(text: &[u8], out: &mut P) -> io::Result<()>
+    ensures pushes { OnOk result (P.printed out.new ≡ P.printed out.old ++ quoted text.now) }
+    ensures fails { OnErr result (IsTrue (P.has_failed out.new)) }
 {
-    push_text("\"", out)?;
+    out.print(b"\"")?;
     if are_plain(text) {
-        out.extend_from_slice(text)?;
+        out.print(text)?;
     } else {
-        for byte in text {
-            push_escaped(*byte, out)?;
-        }
+        push_all_escaped(text, out)?;
     }
-    push_text("\"", out)
+    out.print(b"\"")
+}
+
+/// Prints the bytes of a text, each as it is or escaped.
+fn push_all_escaped<P: Printer>(text: &[u8], out: &mut P) -> io::Result<()>
+    ensures pushes { OnOk result (P.printed out.new ≡ P.printed out.old ++ flat_map escaped text.now) }
+    ensures fails { OnErr result (IsTrue (P.has_failed out.new)) }
+{
+    for byte in text {
+        push_escaped(*byte, out)?;
+    }
+    Ok(())
 }
 
 /// Whether the bytes of a text stand for themselves.
@@ -194,14 +201,14 @@ fn is_plain(byte: u8) -> bool
     b' ' <= byte && byte <= b'~' && byte != b'"' && byte != b'\\'
 }
 
-/// Appends a byte of a text.
-fn push_escaped(byte: u8, out: &mut Vec<u8>) -> Result<(), AllocError>
-    ensures pushes { OnOk result (out.new.items ≡ out.old.items ++ escaped byte) }
-    ensures appends { StartsWith out.new.items out.old.items }
+/// Prints a byte of a text.
+fn push_escaped<P: Printer>(byte: u8, out: &mut P) -> io::Result<()>
+    ensures pushes { OnOk result (P.printed out.new ≡ P.printed out.old ++ escaped byte) }
+    ensures fails { OnErr result (IsTrue (P.has_failed out.new)) }
 {
     if is_plain(byte) {
-        return out.extend_from_slice(&[byte]);
+        return out.print(&[byte]);
     }
-    push_text("\\x", out)?;
-    push_digits(LOWER, &[byte], out)
+    out.print(b"\\x")?;
+    push_block(LOWER, &[byte], out)
 }

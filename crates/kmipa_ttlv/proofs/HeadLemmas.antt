@@ -2,18 +2,13 @@
 use Rattle.std.proofs.Common.{◌≡◌, ◌≤◌, ◌<◌, ℕ, ◌+◌, List, length, Bool, true, false, cond, not, ltb, Option, None, Some, refl, sym, ◌∙◌}
 use Rattle.std.proofs.lemmas.Bool.{le-ltb, lt-ltb}
 use Rattle.kmipa_ttlv.specs.Spelling.{kind_at, len_at, extent}
-use Rattle.kmipa_ttlv.specs.Flaw.{is_kind, allows, child_flaw, outer_flaw, head_flaw, IsLasting, Tells}
+use Rattle.kmipa_ttlv.specs.Flaw.{is_kind, allows, child_flaw, outer_flaw, head_flaw, IsLasting}
 use Rattle.kmipa_ttlv.specs.Head.{shared_flaw}
 use Rattle.kmipa_ttlv.specs.declared.fault.FaultKind.{FaultKind}
 use Rattle.kmipa_ttlv.specs.declared.fault.FaultKind.TheVariants.{Truncated, UnknownType, BadLength, Overrun, TooLong}
-use Rattle.kmipa_ttlv.specs.declared.fault.TtlvFault.{TtlvFault}
-use Rattle.kmipa_ttlv.proofs.StreamLemmas.{ByKind-lasting}
 
 abbrev some : ℕ → FaultKind → Option (ℕ × FaultKind)
 some n k = Some (n, k)
-
-pub Tells-lasting : (f : TtlvFault) (P : ℕ → FaultKind → Type 0) → IsLasting f.kind → P f.offset f.kind → Tells f P
-Tells-lasting f P lasting h = ByKind-lasting f.kind _ _ lasting.0 h
 
 -- the two tests, and then another one
 abbrev shared : Bool → Bool → ℕ → Option (ℕ × FaultKind) → Option (ℕ × FaultKind)

@@ -1,5 +1,5 @@
 -- The items that bytes spell, read in place, are those that stand there.
-use Rattle.std.proofs.Common.{◌⊎◌, inl, inr, ◌≡◌, ◌≤◌, ◌<◌, ◌+◌, ◌-◌, ℕ, zero, suc, Bool, true, false, cond, ◌==◌, List, [], length, drop, refl, sym, ap, subst, ◌∙◌, arith, IsTrue}
+use Rattle.std.proofs.Common.{◌⊎◌, inl, inr, ◌≡◌, ◌≤◌, ℕ, zero, suc, Bool, true, false, cond, ◌==◌, List, [], ◌∷◌, length, drop, refl, sym, ap, subst, ◌∙◌, arith, IsTrue}
 use Rattle.std.specs.Prelude.{nat_le, ◌&&◌}
 use Rattle.std.specs.Prelude.{nat_lt, ◌%◌, ◌≢◌, IsUtf8}
 use Rattle.std.specs.Str.{is_utf8}
@@ -7,8 +7,9 @@ use Rattle.std.proofs.lemmas.Str.{is_utf8-from_IsUtf8, IsUtf8-from_is_utf8}
 use Rattle.byteorder.specs.Endian.{big_number}
 use Rattle.std.proofs.lemmas.Bool.{eq-eqb, eqb-true, ne_eqb, leb-true, le-leb, ltb-true}
 use Rattle.std.proofs.lemmas.List.{length-drop}
-use Rattle.kmipa_ttlv.specs.Tree.{Tree, Trees, Scalar, structure, scalar, none, more, every, tag_of, byte_string}
-use Rattle.kmipa_ttlv.specs.Spelling.{tag_at, kind_at, len_at, value_at, extent, Stands, Run, kind_of, Means, Framed, Holds, number_of_bool}
+use Rattle.kmipa_ttlv.specs.Tree.{Tree, Trees, Scalar, structure, scalar, none, more, forest, every, tag_of, byte_string}
+use Rattle.kmipa_ttlv.specs.Spelling.{tag_at, kind_at, value_at, extent, Stands, Run, kind_of, Means, Framed, Holds, Joined, number_of_bool}
+use Rattle.kmipa_ttlv.specs.Items.{AreItems}
 use Rattle.kmipa_ttlv.specs.Flaw.{is_kind, allows}
 use Rattle.kmipa_ttlv.specs.Spelled.{scalar_at, IsScalarAt, held_at, item_at, is_whole, items_within, items_at}
 use Rattle.kmipa_ttlv.specs.Head.{number_of_kind}
@@ -16,9 +17,9 @@ use Rattle.kmipa_ttlv.specs.declared.head.Kind.{Kind}
 use Rattle.kmipa_ttlv.specs.declared.head.Kind
 use Rattle.kmipa_ttlv.specs.declared.head.Kind.TheVariants.{Structure, Integer, LongInteger, BigInteger, Enumeration, Boolean, Text, Bytes, DateTime, Interval, DateTimeExtended}
 use Rattle.kmipa_ttlv.proofs.ViewTreeLemmas.{every_none, every_more}
-use Rattle.kmipa_ttlv.proofs.FrontLemmas.{length-value_at}
-use Rattle.kmipa_ttlv.proofs.ExactLemmas.{scalar_is, two_le_kind, stands_some}
-use Rattle.kmipa_ttlv.proofs.FlawLemmas.{known_scalar, allowed_scalar, run_eights}
+use Rattle.kmipa_ttlv.proofs.FrontLemmas.{joined_lem, length-value_at}
+use Rattle.kmipa_ttlv.proofs.ExactLemmas.{scalar_is, two_le_kind}
+use Rattle.kmipa_ttlv.proofs.FlawLemmas.{known_scalar, allowed_scalar}
 
 both_true : (a b : Bool) → a && b ≡ true → (a ≡ true) × (b ≡ true)
 both_true true true e = (refl, refl)
@@ -152,6 +153,16 @@ mutual
     whole_of tag (kind_of u) bytes s.0,
     scalar_item items_at (tag_at bytes) (kind_at bytes) u (value_at bytes) s.0.kind_is s.1 ∙ ap (λ (n : ℕ). scalar n u) s.0.tag_is,
   )
+
+listed_joined : (items : List Tree) (bytes : List ℕ) → AreItems items bytes → Joined 16 (forest (λ t. t) items) bytes
+listed_joined [] bytes is = is
+listed_joined (t ∷ ts) bytes is = (is.0, is.1, is.2, record { stands = is.3.stands; all = is.3.all }, listed_joined ts is.1 is.4)
+
+-- so are items one after the other
+pub listed_items : (items : List Tree) (bytes : List ℕ) → AreItems items bytes → items_at bytes ≡ forest (λ t. t) items
+listed_items items bytes is =
+    let ts = forest (λ t. t) items in
+    run_items 16 ts bytes ((joined_lem 16 ts bytes).1 (listed_joined items bytes is))
 
 pub holds_item : (left tag kind : ℕ) (t : Tree) (value : List ℕ) → Holds left tag kind t value → item_at items_at tag kind value ≡ t
 holds_item left tag kind (structure n ts) value h = structure_item items_at tag kind ts value h.1 (run_items left ts value h.2) ∙ ap (λ (m : ℕ). structure m ts) (sym h.0)

@@ -128,12 +128,12 @@ size-tag n m (DateTimeExtended z) = refl
 
 -- ---- the next with a tag: the first of those from the tag on
 
-pub next_with : (tag : ℕ) (ts passed rest : Trees) (r : Option View) → passed ≡ from_tag tag ts → MatchOption r (passed ≡ none) (λ v. passed ≡ more (view_tree v) rest)
+pub next_with : (tag : ℕ) (ts passed rest : Trees) (r : Option View) → passed ≡ from_tag tag ts → MatchOption r ((passed ≡ none) × (rest ≡ none)) (λ v. passed ≡ more (view_tree v) rest)
     → MatchOption r (every tag ts ≡ []) (λ v. every tag ts ≡ view_tree v ∷ every tag rest)
-next_with tag ts passed rest None e h = every_from tag ts ∙ ap (with_tag tag) (sym e ∙ h)
+next_with tag ts passed rest None e h = every_from tag ts ∙ ap (with_tag tag) (sym e ∙ h.0)
 next_with tag ts passed rest (Some v) e h = every_from tag ts ∙ ap (with_tag tag) (sym e ∙ h)
 
-pub next_has : (tag : ℕ) (ts passed rest : Trees) (r : Option View) → passed ≡ from_tag tag ts → MatchOption r (passed ≡ none) (λ v. passed ≡ more (view_tree v) rest)
+pub next_has : (tag : ℕ) (ts passed rest : Trees) (r : Option View) → passed ≡ from_tag tag ts → MatchOption r ((passed ≡ none) × (rest ≡ none)) (λ v. passed ≡ more (view_tree v) rest)
     → IfSome r (λ v. v.tag.number ≡ tag)
 next_has tag ts passed rest None e h = tt
 next_has tag ts passed rest (Some v) e h = sym (tag_of-view v.tag.number v.value) ∙ subst (Begins tag) (sym e ∙ h) (from_begins tag ts)

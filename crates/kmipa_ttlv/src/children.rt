@@ -1,6 +1,6 @@
 //! The children of a structure, one after the other.
 
-ghost use Rattle.std.specs.Prelude.{◌≡◌, ◌≤◌, ◌∷◌, ℕ, [], length, MatchOption, IfSome};
+ghost use Rattle.std.specs.Prelude.{◌≡◌, ◌≤◌, ◌∷◌, ℕ, [], length, MatchOption, IfSome, IfNone};
 ghost use Rattle.kmipa_ttlv.specs.Tree.{none, more, every};
 ghost use Rattle.kmipa_ttlv.specs.ItemTree.{trees};
 ghost use Rattle.kmipa_ttlv.specs.Spelled.{items_at};
@@ -21,9 +21,18 @@ impl<'a> Children<'a> {
         }
     }
 
-    /// The next child, after which the others are left.
+    /// The items that these bytes spell, which were tested before; of other bytes those that are read in place.
+    pub fn spelled(bytes: &'a [u8]) -> Children<'a>
+        ensures { view_trees result ≡ items_at bytes.now }
+    {
+        Children {
+            source: Source::Spelled(bytes),
+        }
+    }
+
+    /// The next child, after which the others are left; `None` where none is left, then and from then on.
     pub fn next(&mut self) -> Option<View<'a>>
-        ensures { MatchOption result (view_trees self.old ≡ none) (λ v. view_trees self.old ≡ more (view_tree v) (view_trees self.new)) }
+        ensures { MatchOption result ((view_trees self.old ≡ none) × (view_trees self.new ≡ none)) (λ v. view_trees self.old ≡ more (view_tree v) (view_trees self.new)) }
     {
         match self.source {
             Source::Spelled(bytes) => {
@@ -43,10 +52,11 @@ impl<'a> Children<'a> {
         }
     }
 
-    /// The next child with this tag, after which those behind it are left.
+    /// The next child with this tag, after which those behind it are left; after `None` none is left.
     pub fn next_of(&mut self, tag: u32) -> Option<View<'a>>
         ensures next { MatchOption result (every tag (view_trees self.old) ≡ []) (λ v. every tag (view_trees self.old) ≡ view_tree v ∷ every tag (view_trees self.new)) }
         ensures tag { IfSome result (λ v. v.tag.number ≡ tag) }
+        ensures end { IfNone result (view_trees self.new ≡ none) }
     {
         self.pass_to(tag);
         self.next()

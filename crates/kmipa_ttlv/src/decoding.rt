@@ -9,7 +9,7 @@ ghost use Rattle.kmipa_ttlv.specs.Spelled.{IsScalarAt};
 ghost use Rattle.kmipa_ttlv.specs.ViewTree.{view_tree};
 ghost use Rattle.kmipa_ttlv.specs.Spelling.{extent, Holds, Stands, Run, Spells, IsFront};
 ghost use Rattle.kmipa_ttlv.specs.Tree.{Tree, Trees};
-ghost use Rattle.kmipa_ttlv.specs.Flaw.{allows, ScalarFlaw, ValueFlaw, FirstFlawed, Flaw, OuterFlaw, Tells};
+ghost use Rattle.kmipa_ttlv.specs.Flaw.{allows, ScalarFlaw, ValueFlaw, FirstFlawed, Flaw, OuterFlaw, Shows, Tells};
 
 use crate::copying::copy_item;
 use crate::fault::{FaultKind, TtlvFault};
@@ -37,13 +37,13 @@ pub fn decode(alloc: Global, bytes: &[u8]) -> Result<(Item, usize), TtlvFault>
     read_copy(alloc, bytes)
 }
 
-/// The same item, length and faults as `decode`, with texts and bytes lent. No memory is taken: the bytes are tested, and
-/// children are read where they are asked for.
+/// The same item, length and flaws as `decode`, with texts and bytes lent. No memory is taken, and Memory is never
+/// reported: the bytes are tested, and children are read where they are asked for.
 pub fn decode_view(bytes: &[u8]) -> Result<(View<'_>, usize), TtlvFault>
     ensures found { IfOk result (λ x. (x.1 ≤ length bytes.now) × Spells (view_tree x.0) (take x.1 bytes.now)) }
     ensures only { (t : Tree) (n : ℕ) → n ≤ length bytes.now → Spells t (take n bytes.now)
-        → MatchResult result (λ x. (view_tree x.0 ≡ t) × (x.1 ≡ n)) (λ f. f.kind ≡ FaultKind.Memory) }
-    ensures flaw { IfErr result (λ f. Tells f (OuterFlaw bytes.now)) }
+        → MatchResult result (λ x. (view_tree x.0 ≡ t) × (x.1 ≡ n)) (λ _. ⊥) }
+    ensures flaw { IfErr result (λ f. Shows f (OuterFlaw bytes.now)) }
 {
     read_outermost(bytes)
 }
@@ -57,7 +57,7 @@ fn read_copy(alloc: Global, bytes: &[u8]) -> Result<(Item, usize), TtlvFault>
 
 /// The item at the front of the bytes, and how many bytes it takes.
 fn read_outermost(bytes: &[u8]) -> Result<(View<'_>, usize), TtlvFault>
-    ensures { MatchResult result (λ x. IsFront (view_tree x.0) x.1 bytes.now) (λ f. Tells f (OuterFlaw bytes.now)) }
+    ensures { MatchResult result (λ x. IsFront (view_tree x.0) x.1 bytes.now) (λ f. Shows f (OuterFlaw bytes.now)) }
 {
     let head = outer_head(bytes)?;
     let value = value_of(bytes, head.len);
@@ -73,7 +73,7 @@ fn test_child(left: usize, place: usize, bytes: &[u8]) -> Result<usize, TtlvFaul
     requires { place + length bytes.now ≤ 0x10_0000 }
     ensures { MatchResult result
         (λ n. (t : Tree) × Stands left t bytes.now × (n ≡ extent bytes.now) × (n ≤ length bytes.now))
-        (λ f. Tells f (Flaw left place bytes.now)) }
+        (λ f. Shows f (Flaw left place bytes.now)) }
 {
     if left == 0 {
         return Err(fault(place, FaultKind::TooDeep));
@@ -90,7 +90,7 @@ fn test_value(left: usize, place: usize, head: Head, value: &[u8]) -> Result<(),
     requires allowed { IsTrue (allows (number_of_kind head.kind) (length value.now)) }
     requires room { place + 8 + length value.now ≤ 0x10_0000 }
     ensures { MatchResult result (λ _. (t : Tree) × Holds left head.tag.number (number_of_kind head.kind) t value.now)
-        (λ f. Tells f (ValueFlaw (Flaw left) left place (number_of_kind head.kind) value.now)) }
+        (λ f. Shows f (ValueFlaw (Flaw left) left place (number_of_kind head.kind) value.now)) }
 {
     match head.kind {
         Kind::Structure => test_children(left, place + HEADER, value),
@@ -103,7 +103,7 @@ fn test_value(left: usize, place: usize, head: Head, value: &[u8]) -> Result<(),
 fn test_children(left: usize, place: usize, bytes: &[u8]) -> Result<(), TtlvFault>
     requires { place + length bytes.now ≤ 0x10_0000 }
     ensures { MatchResult result (λ _. (ts : Trees) × Run left ts bytes.now [])
-        (λ f. Tells f (FirstFlawed (Flaw left) left place bytes.now)) }
+        (λ f. Shows f (FirstFlawed (Flaw left) left place bytes.now)) }
 {
     let mut at = place;
     let mut rest = bytes;
@@ -122,7 +122,7 @@ fn test_scalar(place: usize, kind: Kind, value: &[u8]) -> Result<(), TtlvFault>
     requires allowed { IsTrue (allows (number_of_kind kind) (length value.now)) }
     requires room { place + 8 + length value.now ≤ 0x10_0000 }
     ensures { MatchResult result (λ _. IsScalarAt (number_of_kind kind) value.now)
-        (λ f. Tells f (ScalarFlaw place (number_of_kind kind) value.now)) }
+        (λ f. Shows f (ScalarFlaw place (number_of_kind kind) value.now)) }
 {
     match kind {
         Kind::Boolean => {

@@ -1,6 +1,6 @@
 //! What is read from an input: its next item, or all of its bytes.
 
-ghost use Rattle.std.specs.Prelude.{◌≡◌, ◌≢◌, ◌≤◌, ◌<◌, ◌+◌, ℕ, List, [], ◌∷◌, ◌++◌, true, false, Err, length, vec_len, IsTrue, IfOk, IfErr, IfSome, IfNone, OnOk, OnSome, take, ◌⊎◌};
+ghost use Rattle.std.specs.Prelude.{◌≡◌, ◌≢◌, ◌≤◌, ◌<◌, ◌+◌, ℕ, List, [], ◌∷◌, ◌++◌, true, false, Err, length, vec_len, IsTrue, IfOk, IfErr, IfSome, IfNone, OnOk, OnSome, take, Bool, ◌⊎◌};
 ghost use Rattle.std.specs.Io.{StartsWith, appended_bytes};
 ghost use Rattle.kmipa_ttlv.specs.Input.{came_of, taken_of, is_ended, is_failed, StaysOver};
 ghost use Rattle.kmipa_ttlv.specs.Items.{AreItems};
@@ -83,15 +83,43 @@ pub fn read_view<'b, R: Read>(
     if !read_bytes(input, bytes)? {
         return Ok(None);
     }
+    Ok(Some(tested(place, bytes)?))
+}
+
+/// Reads the bytes of the next item into `bytes`, in place of what is there, and tests them; `false` at the end of the
+/// input. Errors: those of `read_item`.
+pub fn read_spelled<R: Read>(input: &mut Input<R>, bytes: &mut Vec<u8>) -> Result<bool, TtlvFault>
+    // What came is the item's spelling, and nothing after it.
+    ensures came { OnOk result (came_of input.new ≡ came_of input.old ++ bytes.new.items) }
+    ensures item { IfOk result (λ some. some ≡ true → (t : Tree) × Spells t bytes.new.items) }
+    // At the end nothing came.
+    ensures end { IfOk result (λ some. some ≡ false → (bytes.new.items ≡ []) × IsTrue (is_ended input.new)) }
+    ensures fault { IfErr result (λ f. ReadTells (taken_of input.old) (appended_bytes (came_of input.old) (came_of input.new)) (is_ended input.new) (is_failed input.new) f) }
+    ensures sound { IfErr result (λ f. f.kind ≢ FaultKind.Device → is_failed input.new ≡ false) }
+    ensures grows { StartsWith (came_of input.new) (came_of input.old) }
+    ensures over { StaysOver R.remaining input.old input.new }
+    ensures works { OnOk result (is_failed input.new ≡ false) }
+    // A failed input answers Device, and stays failed.
+    ensures failed { IsTrue (is_failed input.old) → result ≡ Err (record { offset = taken_of input.old; kind = FaultKind.Device }) }
+    ensures stays { IsTrue (is_failed input.old) → IsTrue (is_failed input.new) }
+{
+    let place = input.taken();
+    if !read_bytes(input, bytes)? {
+        return Ok(false);
+    }
+    tested(place, bytes)?;
+    Ok(true)
+}
+
+/// The view of an item whose bytes were read from this place of an input. Errors: those of `read_item`.
+fn tested(place: u64, bytes: &[u8]) -> Result<View<'_>, TtlvFault>
+    requires { IsWhole bytes.now }
+    ensures item { IfOk result (λ view. Spells (view_tree view) bytes.now) }
+    ensures fault { IfErr result (λ f. (ended failed : Bool) → ReadTells place bytes.now ended failed f) }
+{
     match decode_view(bytes) {
-        Ok((view, _)) => Ok(Some(view)),
-        Err(fault) => match fault.kind {
-            FaultKind::Memory => Err(TtlvFault {
-                offset: place,
-                kind: FaultKind::Memory,
-            }),
-            kind => Err(placed(place, fault.offset, kind)),
-        },
+        Ok((view, _)) => Ok(view),
+        Err(fault) => Err(placed(place, fault.offset, fault.kind)),
     }
 }
 

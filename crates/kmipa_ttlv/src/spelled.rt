@@ -64,6 +64,7 @@ pub fn view_of(head: Head, value: &[u8]) -> View<'_>
 }
 
 /// The value of an item of this kind, of whatever length.
+#[inline(always)]
 fn value_view(kind: Kind, value: &[u8]) -> ViewValue<'_>
     ensures { (tag : ℕ) → view_value_tree tag result ≡ item_at items_at tag (number_of_kind kind) value.now }
 {
@@ -73,6 +74,7 @@ fn value_view(kind: Kind, value: &[u8]) -> ViewValue<'_>
     allowed_view(kind, value)
 }
 
+#[inline(always)]
 #[tactic(auto, unfolding(crate::specs::Spelled::scalar_at))]
 fn allowed_view(kind: Kind, value: &[u8]) -> ViewValue<'_>
     requires { kind ≢ Kind.Structure → IsTrue (allows (number_of_kind kind) (length value.now)) }

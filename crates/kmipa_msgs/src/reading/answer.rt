@@ -15,7 +15,6 @@ ghost use Rattle.kmipa_msgs.specs.Yields.{Yields};
 use crate::fault::ReadFault;
 use crate::kind::OutsideKind;
 use crate::operation::Operation;
-use crate::reading::header::item_count;
 use crate::reading::operations::read_done;
 use crate::reading::payload::read_payload_of;
 use crate::reading::rows::both_read;
@@ -33,15 +32,17 @@ use std::alloc::Global;
 /// Result Status of an answer that is still to come.
 const PENDING: u32 = 2;
 
-/// The items of a message with these children, each beside the request's item at its place, up to the first that is outside.
+/// The items of a message with these children, each beside the request's item at its place, up to the first that is outside;
+/// there is room for `count` from the start.
 pub fn read_answers<'a>(
     alloc: Global,
+    count: usize,
     children: Children<'a>,
     asks: &[Ask],
 ) -> Result<Vec<Answer<'a>>, ReadFault>
     ensures { Gives answers_of result (from_one (each_in (λ place. answer_in (slice_get (map ask_of asks.now) place)) (every batch_item (view_trees children.entry)))) }
 {
-    let mut answers = Vec::with_capacity(alloc, item_count(children))?;
+    let mut answers = Vec::with_capacity(alloc, count)?;
     let mut left = children;
     'children: while let Some(child) = left.next_of(BATCH_ITEM) {
         let place = answers.len();
@@ -58,8 +59,9 @@ fn read_answer<'a>(alloc: Global, ask: Option<&Ask>, view: &View<'a>) -> Result<
     ensures { Yields answer_of result (answer_in (option_map (λ a. ask_of a.now) ask.entry) (view_tree view.now)) }
 {
     let children = as_structure(view).ok_or(OutsideKind::Missing)?;
-    let own = own_operation(ask, enumeration_at(children, OPERATION));
-    let operation = enumeration_at(children, OPERATION).optional(OutsideKind::Missing);
+    let named = enumeration_at(children, OPERATION);
+    let own = own_operation(ask, named);
+    let operation = named.optional(OutsideKind::Missing);
     let reason = enumeration_at(children, RESULT_REASON).optional(OutsideKind::Missing);
     let outcome = read_outcome(alloc, own, children);
     let ((operation, reason), (status, payload)) = both_read(both(operation, reason), outcome)?;

@@ -2,8 +2,8 @@
 
 ghost use Rattle.std.specs.Prelude.{◌≡◌};
 ghost use Rattle.kmipa_ttlv.specs.ViewTree.{view_tree, view_trees};
-ghost use Rattle.kmipa_attrs.specs.Fields.{every, at, as_structure};
-ghost use Rattle.kmipa_attrs.specs.Tags.{batch_item, request_payload};
+ghost use Rattle.kmipa_attrs.specs.Fields.{every, map_field};
+ghost use Rattle.kmipa_attrs.specs.Tags.{batch_item};
 ghost use Rattle.kmipa_msgs.specs.Messages.{asked_of, ask_of, asks_of};
 ghost use Rattle.kmipa_msgs.specs.Outside.{Gives, each_in, from_one};
 ghost use Rattle.kmipa_msgs.specs.Asks.{operation_in, form_in, payload_asked, ask_in, item_in, means_placeholder};
@@ -12,26 +12,26 @@ ghost use Rattle.kmipa_msgs.specs.Yields.{Yields};
 use crate::fault::ReadFault;
 use crate::kind::OutsideKind;
 use crate::operation::Operation;
-use crate::reading::header::item_count;
 use crate::reading::operations::read_asked;
 use crate::reading::rows::both_read;
 use crate::reading::unread::Unread;
 use crate::request::{Ask, Asked};
 use kmipa_attrs::Field;
-use kmipa_attrs::fields::{as_structure, bytes_at, enumeration_at, inside, structure_at};
+use kmipa_attrs::fields::{as_structure, bytes_at, children_in, enumeration_at, structure_at};
 use kmipa_attrs::tags::{BATCH_ITEM, OPERATION, REQUEST_PAYLOAD, UNIQUE_BATCH_ITEM_ID};
 use kmipa_ttlv::{Children, View};
 use std::alloc::Global;
 
-/// The items of a message with these children, up to the first that is outside.
+/// The items of a message with these children, up to the first that is outside; there is room for `count` from the start.
 pub fn read_asks<'a>(
     alloc: Global,
     unordered: bool,
+    count: usize,
     children: Children<'a>,
 ) -> Result<Vec<Ask<'a>>, ReadFault>
     ensures { Gives asks_of result (from_one (each_in (λ place. item_in unordered) (every batch_item (view_trees children.entry)))) }
 {
-    let mut asks = Vec::with_capacity(alloc, item_count(children))?;
+    let mut asks = Vec::with_capacity(alloc, count)?;
     let mut left = children;
     'children: while let Some(child) = left.next_of(BATCH_ITEM) {
         match read_item(alloc, unordered, &child) {
@@ -97,20 +97,21 @@ fn read_request_payload<'a>(
 ) -> Result<Asked<'a>, Unread>
     ensures { Yields asked_of result (payload_asked operation (view_trees children.entry)) }
 {
-    let shape = payload_shape(operation, children);
-    let asked = read_asked(alloc, operation, inside(children, REQUEST_PAYLOAD));
+    let payload = structure_at(children, REQUEST_PAYLOAD);
+    let shape = payload_shape(operation, payload);
+    let asked = read_asked(alloc, operation, children_in(payload));
     let (_, asked) = both_read(shape, asked)?;
     Ok(asked)
 }
 
 /// That a Request Payload is a structure, where it is read.
-fn payload_shape(operation: Operation, children: Children) -> Result<(), OutsideKind>
-    ensures { result ≡ form_in operation (at as_structure request_payload (view_trees children.entry)) }
+fn payload_shape(operation: Operation, payload: Field<Children>) -> Result<(), OutsideKind>
+    ensures { result ≡ form_in operation (map_field view_trees payload.entry) }
 {
     if !operation.is_judged() {
         return Ok(());
     }
-    match structure_at(children, REQUEST_PAYLOAD) {
+    match payload {
         Field::Wrong => Err(OutsideKind::Missing),
         _ => Ok(()),
     }

@@ -2,27 +2,27 @@
 
 ghost use Rattle.std.specs.Prelude.{◌≡◌};
 ghost use Rattle.kmipa_ttlv.specs.ViewTree.{view_trees};
-ghost use Rattle.kmipa_attrs.specs.Fields.{at, as_structure, as_enumeration};
+ghost use Rattle.kmipa_attrs.specs.Fields.{at, as_enumeration, map_field};
 ghost use Rattle.kmipa_attrs.specs.ObjectTypes.{type_of};
 ghost use Rattle.kmipa_attrs.specs.Sets.{attributes_of};
-ghost use Rattle.kmipa_attrs.specs.Tags.{object_type_tag, attributes_tag};
+ghost use Rattle.kmipa_attrs.specs.Tags.{object_type_tag};
 ghost use Rattle.kmipa_msgs.specs.Tables.{unless_unlisted};
 ghost use Rattle.kmipa_msgs.specs.AttributeFields.{agree, given_in};
 ghost use Rattle.kmipa_msgs.specs.Yields.{Yields};
 
 use crate::kind::OutsideKind;
 use crate::reading::unread::Unread;
-use kmipa_attrs::fields::{enumeration_at, structure_at};
-use kmipa_attrs::tags::{ATTRIBUTES, OBJECT_TYPE};
+use kmipa_attrs::fields::enumeration_at;
+use kmipa_attrs::tags::OBJECT_TYPE;
 use kmipa_attrs::{AttrSet, Field, ObjectType, Side, read_children};
 use kmipa_ttlv::Children;
 use std::alloc::Global;
 
-/// The attributes that a side gives in a payload; without Attributes there are none.
-pub fn read_attributes(alloc: Global, payload: Children, side: Side) -> Result<AttrSet, Unread>
-    ensures { Yields attributes_of result (given_in side (at as_structure attributes_tag (view_trees payload.entry))) }
+/// The attributes that a side gives in a payload's Attributes; where those are absent there are none.
+pub fn read_attributes(alloc: Global, given: Field<Children>, side: Side) -> Result<AttrSet, Unread>
+    ensures { Yields attributes_of result (given_in side (map_field view_trees given.entry)) }
 {
-    match structure_at(payload, ATTRIBUTES) {
+    match given {
         Field::There(children) => Ok(read_children(alloc, children, side)?),
         Field::Absent => Ok(AttrSet::new(alloc)),
         Field::Wrong => Err(Unread::Outside(OutsideKind::Missing)),

@@ -14,7 +14,7 @@ use crate::reading::attributes::{agree, read_attributes, type_known};
 use crate::reading::rows::{both_read, unless_absent};
 use crate::reading::unread::Unread;
 use crate::request::Create;
-use kmipa_attrs::fields::{enumeration_at, inside};
+use kmipa_attrs::fields::{children_in, enumeration_at, structure_at};
 use kmipa_attrs::tags::{
     ATTRIBUTES, CRYPTOGRAPHIC_ALGORITHM, CRYPTOGRAPHIC_LENGTH, CRYPTOGRAPHIC_USAGE_MASK,
     OBJECT_TYPE,
@@ -39,10 +39,11 @@ pub fn read_create(alloc: Global, payload: Children) -> Result<Create, Unread>
 fn read_new_key(alloc: Global, payload: Children) -> Result<AttrSet, Unread>
     ensures { Yields attributes_of result (new_key_in (view_trees payload.entry)) }
 {
-    let given = inside(payload, ATTRIBUTES);
-    let types = both(type_created(payload), type_known(given));
-    let plain = both(types, described(given));
-    let (_, attributes) = both_read(plain, read_attributes(alloc, payload, Side::Client))?;
+    let given = structure_at(payload, ATTRIBUTES);
+    let inner = children_in(given);
+    let types = both(type_created(payload), type_known(inner));
+    let plain = both(types, described(inner));
+    let (_, attributes) = both_read(plain, read_attributes(alloc, given, Side::Client))?;
     Ok(attributes)
 }
 

@@ -12,7 +12,7 @@ ghost use Rattle.kmipa_msgs.specs.Gets.{get_in, got_in};
 
 use crate::kind::OutsideKind;
 use crate::reading::key_block::read_key_block;
-use crate::reading::object::{block_inside, read_shape};
+use crate::reading::object::read_object;
 use crate::reading::rows::unless_there;
 use crate::request::Get;
 use crate::response::Got;
@@ -37,8 +37,9 @@ pub fn read_got<'a>(payload: Children<'a>) -> Result<Got<'a>, OutsideKind>
     ensures { map_ok got_of result ≡ got_in (view_trees payload.entry) }
 {
     let id = text_at(payload, UNIQUE_IDENTIFIER).optional(OutsideKind::IdentifierForm);
-    let types = both(type_shown(payload), read_shape(payload));
-    let block = read_key_block(block_inside(payload));
+    let (shape, block) = read_object(payload);
+    let types = both(type_shown(payload), shape);
+    let block = read_key_block(block);
     let (((object_type, shape), id), block) = both(both(types, id), block)?;
     Ok(Got {
         object_type,

@@ -12,7 +12,7 @@ use crate::reading::rows::both_read;
 use crate::reading::unread::Unread;
 use crate::request::GetAttributes;
 use crate::response::GotAttributes;
-use kmipa_attrs::fields::{as_enumeration, first, inside};
+use kmipa_attrs::fields::{as_enumeration, children_in, first, structure_at};
 use kmipa_attrs::tags::{ATTRIBUTE_REFERENCE, ATTRIBUTES, UNIQUE_IDENTIFIER};
 use kmipa_attrs::{Side, both};
 use kmipa_ttlv::{Children, View};
@@ -38,7 +38,7 @@ pub fn read_get_attributes<'a>(
 fn read_references(alloc: Global, payload: Children) -> Result<Vec<u32>, AllocError>
     ensures { IfOk result (λ tags. tags.items ≡ references (view_trees payload.entry)) }
 {
-    let mut tags = Vec::with_capacity(alloc, payload.count_of(ATTRIBUTE_REFERENCE))?;
+    let mut tags = Vec::new(alloc);
     let mut left = payload;
     'children: while let Some(child) = left.next_of(ATTRIBUTE_REFERENCE) {
         if let Some(tag) = as_enumeration(&child) {
@@ -100,9 +100,10 @@ pub fn read_got_attributes<'a>(
 ) -> Result<GotAttributes<'a>, Unread>
     ensures { Yields got_attributes_of result (got_attributes_in (view_trees payload.entry)) }
 {
-    let type_known = type_known(inside(payload, ATTRIBUTES));
+    let given = structure_at(payload, ATTRIBUTES);
+    let type_known = type_known(children_in(given));
     let id = read_identifier(payload);
-    let attributes = read_attributes(alloc, payload, Side::Server);
+    let attributes = read_attributes(alloc, given, Side::Server);
     let ((_, id), attributes) = both_read(both(type_known, id), attributes)?;
     Ok(GotAttributes { id, attributes })
 }

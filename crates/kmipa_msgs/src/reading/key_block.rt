@@ -2,9 +2,9 @@
 
 ghost use Rattle.std.specs.Prelude.{◌≡◌};
 ghost use Rattle.kmipa_ttlv.specs.ViewTree.{view_trees};
-ghost use Rattle.kmipa_attrs.specs.Fields.{at, as_enumeration, as_structure};
+ghost use Rattle.kmipa_attrs.specs.Fields.{at, as_enumeration, map_field};
 ghost use Rattle.kmipa_attrs.specs.Readings.{map_ok};
-ghost use Rattle.kmipa_attrs.specs.Tags.{key_format_type, key_value};
+ghost use Rattle.kmipa_attrs.specs.Tags.{key_format_type};
 ghost use Rattle.kmipa_msgs.specs.Messages.{block_of};
 ghost use Rattle.kmipa_msgs.specs.Numbers.{format_of};
 ghost use Rattle.kmipa_msgs.specs.Tables.{listed, there};
@@ -13,7 +13,7 @@ ghost use Rattle.kmipa_msgs.specs.KeyBlocks.{block_in};
 use crate::key_block::{KeyBlock, KeyFormat};
 use crate::kind::OutsideKind;
 use crate::reading::rows::unless_there;
-use kmipa_attrs::fields::{bytes_at, enumeration_at, inside, integer_at, structure_at};
+use kmipa_attrs::fields::{bytes_at, children_in, enumeration_at, integer_at, structure_at};
 use kmipa_attrs::tags::{
     CRYPTOGRAPHIC_ALGORITHM, CRYPTOGRAPHIC_LENGTH, KEY_FORMAT_TYPE, KEY_MATERIAL, KEY_VALUE,
     KEY_WRAPPING_DATA,
@@ -29,14 +29,15 @@ pub fn read_key_block<'a>(block: Children<'a>) -> Result<KeyBlock<'a>, OutsideKi
     let algorithm = enumeration_at(block, CRYPTOGRAPHIC_ALGORITHM).optional(OutsideKind::Missing);
     let length = integer_at(block, CRYPTOGRAPHIC_LENGTH).optional(OutsideKind::Missing);
     let unwrapped = unless_there(block, KEY_WRAPPING_DATA, OutsideKind::Wrapped);
-    let material = bytes_at(inside(block, KEY_VALUE), KEY_MATERIAL).needed(
+    let value = structure_at(block, KEY_VALUE);
+    let material = bytes_at(children_in(value), KEY_MATERIAL).needed(
         OutsideKind::Missing,
         OutsideKind::Format,
     );
     let rows = both(
         both(
             both(both(format(block), algorithm), length),
-            both(unwrapped, value_there(block)),
+            both(unwrapped, value_there(value)),
         ),
         material,
     );
@@ -59,10 +60,10 @@ fn format(block: Children) -> Result<KeyFormat, OutsideKind>
 }
 
 /// That there is a Key Value.
-fn value_there(block: Children) -> Result<(), OutsideKind>
-    ensures { result ≡ there (at as_structure key_value (view_trees block.entry)) OutsideKind.Missing OutsideKind.Format }
+fn value_there(value: Field<Children>) -> Result<(), OutsideKind>
+    ensures { result ≡ there (map_field view_trees value.entry) OutsideKind.Missing OutsideKind.Format }
 {
-    match structure_at(block, KEY_VALUE) {
+    match value {
         Field::There(_) => Ok(()),
         Field::Absent => Err(OutsideKind::Missing),
         Field::Wrong => Err(OutsideKind::Format),

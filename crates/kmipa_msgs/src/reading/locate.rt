@@ -2,9 +2,8 @@
 
 ghost use Rattle.std.specs.Prelude.{◌≡◌};
 ghost use Rattle.kmipa_ttlv.specs.ViewTree.{view_trees};
-ghost use Rattle.kmipa_attrs.specs.Fields.{at, as_structure};
+ghost use Rattle.kmipa_attrs.specs.Fields.{map_field};
 ghost use Rattle.kmipa_attrs.specs.Filters.{filter_of, filter_in, is_repeated};
-ghost use Rattle.kmipa_attrs.specs.Tags.{attributes_tag};
 ghost use Rattle.kmipa_msgs.specs.Messages.{locate_of, located_of};
 ghost use Rattle.kmipa_msgs.specs.Tables.{unless_wrong};
 ghost use Rattle.kmipa_msgs.specs.Locates.{is_unknown, some_unknown, has_unknown, filter_kind, locate_in, located_in};
@@ -16,7 +15,7 @@ use crate::reading::rows::{both_read, unless_wrong};
 use crate::reading::unread::Unread;
 use crate::request::Locate;
 use crate::response::Located;
-use kmipa_attrs::fields::{as_text, inside, integer_at, structure_at};
+use kmipa_attrs::fields::{as_text, children_in, integer_at, structure_at};
 use kmipa_attrs::tags::{ATTRIBUTES, MAXIMUM_ITEMS, UNIQUE_IDENTIFIER};
 use kmipa_attrs::{Field, Filter, both, read_filter_children};
 use kmipa_ttlv::Children;
@@ -26,21 +25,22 @@ use std::alloc::Global;
 pub fn read_locate(alloc: Global, payload: Children) -> Result<Locate, Unread>
     ensures { Yields locate_of result (locate_in (view_trees payload.entry)) }
 {
-    let given = inside(payload, ATTRIBUTES);
+    let given = structure_at(payload, ATTRIBUTES);
+    let inner = children_in(given);
     let maximum = integer_at(payload, MAXIMUM_ITEMS);
     let count = unless_wrong(maximum, OutsideKind::Missing);
-    let shape = both(count, attributes_shape(payload));
-    let plain = both(shape, type_known(given));
-    let filter = sought(alloc, given, maximum.value(), has_unknown(payload));
+    let shape = both(count, attributes_shape(given));
+    let plain = both(shape, type_known(inner));
+    let filter = sought(alloc, inner, maximum.value(), has_unknown(payload));
     let (_, filter) = both_read(plain, filter)?;
     Ok(Locate { filter })
 }
 
 /// That Attributes are a structure, where they are there.
-fn attributes_shape(payload: Children) -> Result<(), OutsideKind>
-    ensures { result ≡ unless_wrong (at as_structure attributes_tag (view_trees payload.entry)) OutsideKind.Missing }
+fn attributes_shape(given: Field<Children>) -> Result<(), OutsideKind>
+    ensures { result ≡ unless_wrong (map_field view_trees given.entry) OutsideKind.Missing }
 {
-    match structure_at(payload, ATTRIBUTES) {
+    match given {
         Field::Wrong => Err(OutsideKind::Missing),
         _ => Ok(()),
     }

@@ -16,12 +16,12 @@ use crate::kind::OutsideKind;
 use crate::reading::attributes::{read_attributes, type_known};
 use crate::reading::brought::Brought;
 use crate::reading::key_block::read_key_block;
-use crate::reading::object::{block_inside, read_shape};
+use crate::reading::object::read_object;
 use crate::reading::rows::both_read;
 use crate::reading::unread::Unread;
 use crate::request::Register;
 use crate::response::Registered;
-use kmipa_attrs::fields::{enumeration_at, inside, text_at};
+use kmipa_attrs::fields::{children_in, enumeration_at, structure_at, text_at};
 use kmipa_attrs::tags::{ATTRIBUTES, OBJECT_TYPE, UNIQUE_IDENTIFIER};
 use kmipa_attrs::{Field, ObjectType, Side, both};
 use kmipa_ttlv::Children;
@@ -46,11 +46,12 @@ pub fn read_register<'a>(alloc: Global, payload: Children<'a>) -> Result<Registe
 fn read_brought<'a>(alloc: Global, payload: Children<'a>) -> Result<Brought<'a>, Unread>
     ensures { Yields brought_of result (brought_in (view_trees payload.entry)) }
 {
-    let types = both(type_brought(payload), read_shape(payload));
-    let type_known = type_known(inside(payload, ATTRIBUTES));
-    let block = read_key_block(block_inside(payload));
-    let plain = both(both(types, type_known), block);
-    let rows = both_read(plain, read_attributes(alloc, payload, Side::Client));
+    let (shape, block) = read_object(payload);
+    let given = structure_at(payload, ATTRIBUTES);
+    let types = both(type_brought(payload), shape);
+    let type_known = type_known(children_in(given));
+    let plain = both(both(types, type_known), read_key_block(block));
+    let rows = both_read(plain, read_attributes(alloc, given, Side::Client));
     let ((((object_type, shape), _), block), attributes) = rows?;
     Ok(Brought {
         object_type,

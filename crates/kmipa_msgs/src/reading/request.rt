@@ -3,6 +3,7 @@
 ghost use Rattle.std.specs.Prelude.{◌≡◌};
 ghost use Rattle.kmipa_ttlv.specs.ViewTree.{view_tree, view_trees};
 ghost use Rattle.kmipa_attrs.specs.Fields.{at, as_enumeration, as_boolean};
+ghost use Rattle.kmipa_attrs.specs.declared.fields.Field.TheVariants.{There};
 ghost use Rattle.kmipa_attrs.specs.Tags.{batch_error_continuation_option, batch_order_option};
 ghost use Rattle.kmipa_msgs.specs.Messages.{request_of};
 ghost use Rattle.kmipa_msgs.specs.Outside.{Gives};
@@ -37,8 +38,8 @@ fn request<'a>(alloc: Global, message: &View<'a>) -> Result<Request<'a>, ReadFau
     let (children, header) = parts.ok_or(OutsideKind::NotAMessage)?;
     let count = item_count(children);
     let (option, ordered) = request_header(header, count)?;
-    let unordered = is_loose(header, count);
-    let items = read_asks(alloc, unordered, children)?;
+    let unordered = is_loose(ordered, count);
+    let items = read_asks(alloc, unordered, count, children)?;
     Ok(Request {
         option,
         ordered,
@@ -82,11 +83,8 @@ fn ordered(header: Children) -> Result<bool, OutsideKind>
 }
 
 /// Whether there are several items in no order.
-fn is_loose(header: Children, items: usize) -> bool
-    ensures { result ≡ is_loose (at as_boolean batch_order_option (view_trees header.entry)) items }
+fn is_loose(ordered: bool, items: usize) -> bool
+    ensures { result ≡ is_loose (There ordered) items }
 {
-    match boolean_at(header, BATCH_ORDER_OPTION) {
-        Field::There(false) => items > 1,
-        _ => false,
-    }
+    !ordered && items > 1
 }

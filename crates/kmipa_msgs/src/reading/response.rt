@@ -40,8 +40,9 @@ fn response<'a>(
 {
     let parts = message_parts(message, RESPONSE_MESSAGE, RESPONSE_HEADER);
     let (children, header) = parts.ok_or(OutsideKind::NotAMessage)?;
-    let stamp = response_header(header, item_count(children))?;
-    let items = read_answers(alloc, children, &request.items)?;
+    let count = item_count(children);
+    let stamp = response_header(header, count)?;
+    let items = read_answers(alloc, count, children, &request.items)?;
     Ok(Response { stamp, items })
 }
 

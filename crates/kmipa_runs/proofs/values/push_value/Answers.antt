@@ -10,9 +10,10 @@ use Rattle.kmipa_runs.proofs.AppendLemmas.{since}
 use Rattle.kmipa_runs.proofs.values.push_value.Goals as goal
 
 pub returns-in-BigInteger-clause-shows : goal.returns-in-BigInteger-clause-shows
-returns-in-BigInteger-clause-shows c =
-    let old = c.args.out.now.items in
-    let new = c.push_digits.new.out.items in
+returns-in-BigInteger-clause-shows g c =
+    let printed = g.P.Printer.printed in
+    let old = printed c.args.out.now in
+    let new = printed c.push_digits.new.out in
     let bs = c.in-BigInteger.bytes.now in
     on_ok_weaker c.push_digits.result
     (λ e. λ tag. let P : ViewValue → Type 0 = λ v. ShowsValue (view_value_tree tag v) (appended_bytes old new) in
@@ -20,9 +21,10 @@ returns-in-BigInteger-clause-shows c =
     c.push_digits.ensures.pushes
 
 pub returns-in-Bytes-clause-shows : goal.returns-in-Bytes-clause-shows
-returns-in-Bytes-clause-shows c =
-    let old = c.args.out.now.items in
-    let new = c.push_digits-in-Bytes.new.out.items in
+returns-in-Bytes-clause-shows g c =
+    let printed = g.P.Printer.printed in
+    let old = printed c.args.out.now in
+    let new = printed c.push_digits-in-Bytes.new.out in
     let bs = c.in-Bytes.bytes.now in
     on_ok_weaker c.push_digits-in-Bytes.result
     (λ e. λ tag. let P : ViewValue → Type 0 = λ v. ShowsValue (view_value_tree tag v) (appended_bytes old new) in
@@ -30,9 +32,10 @@ returns-in-Bytes-clause-shows c =
     c.push_digits-in-Bytes.ensures.pushes
 
 pub returns-in-Enumeration-clause-shows : goal.returns-in-Enumeration-clause-shows
-returns-in-Enumeration-clause-shows c =
-    let old = c.args.out.now.items in
-    let new = c.push_digits-in-Enumeration.new.out.items in
+returns-in-Enumeration-clause-shows g c =
+    let printed = g.P.Printer.printed in
+    let old = printed c.args.out.now in
+    let new = printed c.push_digits-in-Enumeration.new.out in
     let n = c.in-Enumeration.n in
     on_ok_weaker c.push_digits-in-Enumeration.result
     (λ e. λ tag. let P : ViewValue → Type 0 = λ v. ShowsValue (view_value_tree tag v) (appended_bytes old new) in

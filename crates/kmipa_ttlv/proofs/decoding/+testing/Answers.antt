@@ -5,15 +5,14 @@ use Rattle.kmipa_ttlv.specs.Tree.{Tree, Trees, structure, scalar, none, push}
 use Rattle.kmipa_ttlv.specs.Spelled.{scalar_at}
 use Rattle.kmipa_ttlv.specs.Spelling.{Holds, padded, extent, Run}
 use Rattle.kmipa_ttlv.specs.Flaw.{child_flaw, ValueFlaw, FirstFlawed, Flaw, ScalarFlaw, in_scalar, in_child}
-use Rattle.kmipa_ttlv.proofs.StandsLemmas.{Tells-weaker, flaw_of_head, flaw_of_value, stands_of, Run-push}
+use Rattle.kmipa_ttlv.proofs.StandsLemmas.{flaw_of_head, flaw_of_value, stands_of, Run-push}
 use Rattle.kmipa_ttlv.proofs.decoding.+testing.Goals as goal
 
 pub test_child-returns-in_err-head : goal.test_child-returns-in_err-head
 test_child-returns-in_err-head t c =
     let p = err_from_is_err_and c.from_residual.result c.from_residual.ensures.1 in
     let f = c.in_err-head.field-0.0 in
-    rw (p.1, p.2) (Tells-weaker f (λ offset reported. child_flaw c.args.place c.args.bytes.now ≡ Some (offset, reported)) (Flaw c.args.left c.args.place c.args.bytes.now)
-    (flaw_of_head c.args.left c.args.place c.args.bytes.now f.offset f.kind c.if-left-eq0.false) c.in_err-head.ensures)
+    rw (p.1, p.2) (flaw_of_head c.args.left c.args.place c.args.bytes.now f.offset f.kind c.if-left-eq0.false c.in_err-head.ensures)
 
 pub test_child-returns-in_err-test_value : goal.test_child-returns-in_err-test_value
 test_child-returns-in_err-test_value t c =
@@ -24,8 +23,7 @@ test_child-returns-in_err-test_value t c =
     let bytes = c.args.bytes.now in
     let value = c.value_of.result.now in
     let kind = number_of_kind c.in_ok-head.head.kind in
-    rw (p.1, p.2) (Tells-weaker f (ValueFlaw (Flaw (left - 1)) (left - 1) place kind value) (Flaw left place bytes)
-    (flaw_of_value left place bytes kind value f.offset f.kind c.if-left-eq0.false c.in_ok-head.ensures.0 c.in_ok-head.ensures.1.kind c.value_of.ensures.value) c.in_err-test_value.ensures)
+    rw (p.1, p.2) (flaw_of_value left place bytes kind value f.offset f.kind c.if-left-eq0.false c.in_ok-head.ensures.0 c.in_ok-head.ensures.1.kind c.value_of.ensures.value c.in_err-test_value.ensures)
 
 pub test_child-returns : goal.test_child-returns
 test_child-returns t c =
@@ -57,9 +55,9 @@ test_children-returns-in_err-taken t c =
     let p = err_from_is_err_and c.from_residual.result c.from_residual.ensures.1 in
     let f = c.in_err-taken.field-0.0 in
     let left = c.args.left in
-    rw (p.1, p.2) (Tells-weaker f (Flaw left c.loop-rest.at c.loop-rest.rest.now) (FirstFlawed (Flaw left) left c.args.place c.args.bytes.now)
-    (λ h. record { before = c.loop-rest.invariant.run.0; rest = c.loop-rest.rest.now; at = c.loop-rest.at; run = c.loop-rest.invariant.run.1; some = search rules; after = c.loop-rest.invariant.after; flaw = h })
-    c.in_err-taken.ensures)
+    let flawed : FirstFlawed (Flaw left) left c.args.place c.args.bytes.now f.offset f.kind
+    = record { before = c.loop-rest.invariant.run.0; rest = c.loop-rest.rest.now; at = c.loop-rest.at; run = c.loop-rest.invariant.run.1; some = search rules; after = c.loop-rest.invariant.after; flaw = c.in_err-taken.ensures } in
+    rw (p.1, p.2) flawed
 
 pub test_value-returns-in-Structure : goal.test_value-returns-in-Structure
 test_value-returns-in-Structure t c =
@@ -67,11 +65,11 @@ test_value-returns-in-Structure t c =
     let kind = number_of_kind c.args.head.kind in
     let one : kind ≡ 1 = ap number_of_kind c.in-Structure.is in
     MatchResult-weaker c.test_children.result c.test_children.ensures (λ x r. (structure tag r.0, (refl, one, r.1)))
-    (λ f h. Tells-weaker f (FirstFlawed (Flaw c.args.left) c.args.left (c.args.place + 8) c.args.value.now) (ValueFlaw (Flaw c.args.left) c.args.left c.args.place kind c.args.value.now) (λ g. in_child one g) h)
+    (λ f g. in_child one g)
 
 pub test_value-returns-in_default : goal.test_value-returns-in_default
 test_value-returns-in_default t c =
     let tag = c.args.head.tag.number in
     let kind = number_of_kind c.args.head.kind in
     MatchResult-weaker c.test_scalar.result c.test_scalar.ensures (λ x r. (scalar tag (scalar_at kind c.args.value.now), (refl, r.kind_is, r.means)))
-    (λ f h. Tells-weaker f (ScalarFlaw c.args.place kind c.args.value.now) (ValueFlaw (Flaw c.args.left) c.args.left c.args.place kind c.args.value.now) (λ g. in_scalar g) h)
+    (λ f g. in_scalar g)

@@ -1,7 +1,7 @@
 use Rattle.std.proofs.Common.{◌≡◌, Some, arith}
 use Rattle.std.proofs.lemmas.Result.{err_from_is_err_and}
 use Rattle.kmipa_ttlv.specs.Flaw.{child_flaw}
-use Rattle.kmipa_ttlv.proofs.HeadLemmas.{Tells-lasting, child_fails}
+use Rattle.kmipa_ttlv.proofs.HeadLemmas.{child_fails}
 use Rattle.kmipa_ttlv.proofs.head.child_head.Goals as goal
 
 pub returns-in_err-head : goal.returns-in_err-head
@@ -10,5 +10,4 @@ returns-in_err-head c =
     let f = c.in_err-head.field-0.0 in
     let place = c.args.place in
     let bytes = c.args.bytes.now in
-    rw (p.1, p.2) (Tells-lasting f (λ offset reported. child_flaw place bytes ≡ Some (offset, reported)) c.in_err-head.ensures.1
-    (child_fails place bytes f.offset f.kind (omega arith) c.in_err-head.ensures.0))
+    rw (p.1, p.2) (child_fails place bytes f.offset f.kind (omega arith) c.in_err-head.ensures.0)

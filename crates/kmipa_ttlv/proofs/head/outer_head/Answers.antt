@@ -1,7 +1,7 @@
 use Rattle.std.proofs.Common.{◌≡◌, Some, arith}
 use Rattle.std.proofs.lemmas.Result.{err_from_is_err_and}
 use Rattle.kmipa_ttlv.specs.Flaw.{outer_flaw}
-use Rattle.kmipa_ttlv.proofs.HeadLemmas.{Tells-lasting, outer_no_header, outer_fails, outer_short, outer_passes_whole}
+use Rattle.kmipa_ttlv.proofs.HeadLemmas.{outer_no_header, outer_fails, outer_short, outer_passes_whole}
 use Rattle.kmipa_ttlv.proofs.head.outer_head.Goals as goal
 
 pub returns-then-bytes-lt-HEADER : goal.returns-then-bytes-lt-HEADER
@@ -12,8 +12,7 @@ returns-in_err-head c =
     let p = err_from_is_err_and c.from_residual.result c.from_residual.ensures.1 in
     let f = c.in_err-head.field-0.0 in
     let bytes = c.args.bytes.now in
-    rw (p.1, p.2) (Tells-lasting f (λ offset reported. outer_flaw bytes ≡ Some (offset, reported)) c.in_err-head.ensures.1
-    (outer_fails bytes f.offset f.kind (omega arith) c.in_err-head.ensures.0))
+    rw (p.1, p.2) (outer_fails bytes f.offset f.kind (omega arith) c.in_err-head.ensures.0)
 
 pub returns-then-bytes-extent : goal.returns-then-bytes-extent
 returns-then-bytes-extent c =

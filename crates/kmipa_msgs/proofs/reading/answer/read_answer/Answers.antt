@@ -27,11 +27,11 @@ returns-in_err-operation c =
     let t = view_tree c.args.view.now in
     let ts = view_trees c.in_ok-children.children in
     let batch = value_in (at as_bytes unique_batch_item_id ts) in
-    let named = optional_row c.enumeration_at-2.result (at as_enumeration operation_tag ts) Missing c.optional-operation.result c.optional-operation.ensures c.enumeration_at-2.ensures in
-    let reason = optional_row c.enumeration_at-3.result (at as_enumeration result_reason ts) Missing c.optional-reason.result c.optional-reason.ensures c.enumeration_at-3.ensures in
+    let named = optional_row c.enumeration_at-named.result (at as_enumeration operation_tag ts) Missing c.optional-operation.result c.optional-operation.ensures c.enumeration_at-named.ensures in
+    let reason = optional_row c.enumeration_at.result (at as_enumeration result_reason ts) Missing c.optional-reason.result c.optional-reason.ensures c.enumeration_at.ensures in
     let plain = joined kind_number _ _ c.both.result _ _ c.both.ensures named reason in
     let there = sym (ap (option_map view_trees) c.in_ok-children.ensures.ok_part) ∙ c.as_structure.ensures in
     let read =
     yields_both outcome_of (answer_view batch) c.both.result c.read_outcome-outcome.result c.both_read.result (outcome_in c.own_operation-own.result ts) (answer_in a t) c.both_read.ensures c.read_outcome-outcome.ensures
-    (λ outcome g rows e. seen_answer a t ts batch c.both.result outcome rows there refl e plain (g ∙ ap (λ o. outcome_in o ts) (c.own_operation-own.ensures ∙ ap (own a) c.enumeration_at.ensures))) in
+    (λ outcome g rows e. seen_answer a t ts batch c.both.result outcome rows there refl e plain (g ∙ ap (λ o. outcome_in o ts) (c.own_operation-own.ensures ∙ ap (own a) c.enumeration_at-named.ensures))) in
     yields_err (answer_view batch) answer_of c.both_read.result c.in_err-operation.field-0.0 c.from_residual-in_err-operation.result (answer_in a t) read c.in_err-operation.was (search rules)

@@ -4,8 +4,8 @@ use Rattle.kmipa_msgs.specs.GetsAttributes.{references}
 use Rattle.kmipa_msgs.proofs.GetAttributesLemmas.{references_met, references_passed, references_done}
 use Rattle.kmipa_msgs.proofs.reading.get_attributes.read_references.Goals as goal
 
-pub children-preserved-in-Continue-branch-2 : goal.children-preserved-in-Continue-branch-2
-children-preserved-in-Continue-branch-2 c =
+pub children-preserved-in-Continue-1 : goal.children-preserved-in-Continue-1
+children-preserved-in-Continue-1 c =
     let us = view_trees c.next_of.new.self in
     c.children.invariant
     ∙ references_met c.children.tags.items (view_trees c.children.left) us (view_tree c.in-Some.child) c.in-Some-as_enumeration.tag c.in-Some.ensures.next c.in-Some-as_enumeration.ensures

@@ -10,4 +10,4 @@ pub children-preserved : goal.children-preserved
 children-preserved c = c.children.invariant ∙ object_passed (view_trees c.children.left) (view_trees c.next.new.self) c.in-Some.child c.in-Some.ensures (sym c.if-is_object.ensures)
 
 pub returns : goal.returns
-returns c = sym (c.children.invariant ∙ object_none (view_trees c.children.left) c.in_default.ensures)
+returns c = sym (c.children.invariant ∙ object_none (view_trees c.children.left) c.in_default.ensures.0)

@@ -38,22 +38,22 @@ pub returns-in_err-stamp : goal.returns-in_err-stamp
 returns-in_err-stamp c =
     let P : Option (Children × Children) → Type 0 = λ o. Opens response_message response_header_tag (view_tree c.args.message.now) o in
     let opens = subst P c.in_ok-children.ensures.ok_part c.message_parts-parts.ensures in
-    let count = c.item_count.ensures in
+    let count = c.item_count-count.ensures in
     let p = err_from_is_err_and c.from_residual-in_err-stamp.result c.from_residual-in_err-stamp.ensures.1 in
-    rw (p.1, p.2) (no_stamp (view_tree c.args.message.now) (request_of c.args.request.now) (view_trees c.in_ok-children.children) (view_trees c.in_ok-children.header) c.item_count.result c.in_err-stamp.field-0.0 opens count c.in_err-stamp.ensures)
+    rw (p.1, p.2) (no_stamp (view_tree c.args.message.now) (request_of c.args.request.now) (view_trees c.in_ok-children.children) (view_trees c.in_ok-children.header) c.item_count-count.result c.in_err-stamp.field-0.0 opens count c.in_err-stamp.ensures)
 
 pub returns-in_err-items : goal.returns-in_err-items
 unfolding answers_at
 returns-in_err-items c =
     let P : Option (Children × Children) → Type 0 = λ o. Opens response_message response_header_tag (view_tree c.args.message.now) o in
     let opens = subst P c.in_ok-children.ensures.ok_part c.message_parts-parts.ensures in
-    let count = c.item_count.ensures in
+    let count = c.item_count-count.ensures in
     let t = view_tree c.args.message.now in
     let ts = view_trees c.in_ok-children.children in
     let asked = request_of c.args.request.now in
     let e : c.from_residual-in_err-items.result ≡ Err c.in_err-items.field-0.0 = search rules in
     rw e (gives_items response_of answers_of (response_at c.in_ok-stamp.stamp) c.in_err-items.field-0.0 (answers_at ts c.deref.result.now) (response_in t asked) c.in_err-items.ensures
-    (whole_response t asked ts (view_trees c.in_ok-children.header) c.item_count.result c.in_ok-stamp.stamp opens count c.in_ok-stamp.ensures
+    (whole_response t asked ts (view_trees c.in_ok-children.header) c.item_count-count.result c.in_ok-stamp.stamp opens count c.in_ok-stamp.ensures
     ∙ ap (λ (xs : List Ask). map_ok (response_at c.in_ok-stamp.stamp) (answers_at ts xs)) (sym c.deref.ensures.value)))
 
 pub returns : goal.returns
@@ -61,10 +61,10 @@ unfolding answers_at
 returns c =
     let P : Option (Children × Children) → Type 0 = λ o. Opens response_message response_header_tag (view_tree c.args.message.now) o in
     let opens = subst P c.in_ok-children.ensures.ok_part c.message_parts-parts.ensures in
-    let count = c.item_count.ensures in
+    let count = c.item_count-count.ensures in
     let ts = view_trees c.in_ok-children.children in
     let fits : SFits w64 c.in_ok-stamp.stamp = search rules in
-    whole_response (view_tree c.args.message.now) (request_of c.args.request.now) ts (view_trees c.in_ok-children.header) c.item_count.result c.in_ok-stamp.stamp opens count c.in_ok-stamp.ensures
+    whole_response (view_tree c.args.message.now) (request_of c.args.request.now) ts (view_trees c.in_ok-children.header) c.item_count-count.result c.in_ok-stamp.stamp opens count c.in_ok-stamp.ensures
     ∙ ap (λ (xs : List Ask). map_ok (response_at c.in_ok-stamp.stamp) (answers_at ts xs)) (sym c.deref.ensures.value)
     ∙ ap (map_ok (response_at c.in_ok-stamp.stamp)) c.in_ok-items.ensures
     ∙ (λ i. Ok (response_at (sym (to_z-of_z w64 c.in_ok-stamp.stamp fits) i) (answers_of c.in_ok-items.items)))

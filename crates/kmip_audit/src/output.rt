@@ -1,0 +1,54 @@
+//! Standard output, which takes the lines of a run a piece at a time.
+
+ghost use Rattle.std.specs.Prelude.{◌≡◌, [], IsTrue};
+
+use kmipa_runs::Printer;
+use kmipa_ttlv::History;
+use std::io;
+
+/// Standard output, and what was printed there.
+#[derive(Drop)]
+pub struct Output<'a, R> {
+    rt: &'a R,
+    empty: bool,
+    failed: bool,
+    went: History,
+    ghost nothing: { IsTrue empty → went.bytes ≡ [] },
+}
+
+impl<'a, R: Print> Output<'a, R> {
+    /// Standard output, where nothing was printed.
+    pub fn new(rt: &'a R) -> Output<'a, R> {
+        Output {
+            rt,
+            empty: true,
+            failed: false,
+            went: History::new(),
+        }
+    }
+
+    /// Whether nothing was printed.
+    pub fn is_empty(&self) -> bool {
+        self.empty
+    }
+}
+
+impl<'a, R: Print> Printer for Output<'a, R> {
+    ghost printed = { λ output. output.went.bytes };
+
+    ghost has_failed = { λ output. output.failed };
+
+    fn print(&mut self, bytes: &[u8]) -> io::Result<()> {
+        match self.rt.write_all(bytes) {
+            Ok(()) => {
+                self.empty = self.empty && bytes.is_empty();
+                self.went.note(bytes);
+                Ok(())
+            }
+            Err(error) => {
+                self.failed = true;
+                Err(error)
+            }
+        }
+    }
+}

@@ -1,0 +1,93 @@
+//! A printer that is given its bytes in long pieces.
+
+ghost use Rattle.std.specs.Prelude.{◌≡◌, ◌≤◌, ◌+◌, ◌++◌, [], length, vec_len, vec_capacity, IsTrue, MatchResult, OnErr, OnOk};
+ghost use Rattle.kmipa_runs.specs.declared.pieces.TheConstants.{PIECE};
+
+use crate::printer::Printer;
+use std::alloc::Global;
+use std::io;
+
+/// How many bytes are held at most.
+const PIECE: usize = 65_536;
+
+/// A printer, and bytes that it is still to print. Their room is taken at the start, and no memory after that.
+pub struct Pieces<P> {
+    printer: P,
+    held: Vec<u8>,
+    ghost room: { PIECE ≤ vec_capacity held },
+    ghost few: { vec_len held ≤ PIECE },
+}
+
+impl<P: Printer> Pieces<P> {
+    /// Nothing is held. Where the room is refused, the printer comes back.
+    pub fn new(alloc: Global, printer: P) -> Result<Pieces<P>, P>
+        ensures { MatchResult result (λ pieces. (pieces.printer ≡ printer) × (pieces.held.items ≡ [])) (λ back. back ≡ printer) }
+    {
+        match Vec::with_capacity(alloc, PIECE) {
+            Ok(held) => Ok(Pieces { printer, held }),
+            Err(_) => Err(printer),
+        }
+    }
+
+    /// Prints what is held.
+    pub fn finish(&mut self) -> io::Result<()>
+        ensures prints { OnOk result (P.printed self.new.printer ≡ P.printed self.old.printer ++ self.old.held.items) }
+        ensures empties { OnOk result (self.new.held.items ≡ []) }
+        ensures fails { OnErr result (IsTrue (P.has_failed self.new.printer)) }
+    {
+        self.printer.print(&self.held)?;
+        self.held.clear();
+        Ok(())
+    }
+
+    /// The printer. What is held is let go.
+    pub fn into_printer(self) -> P
+        ensures { result ≡ self.printer }
+    {
+        let Pieces { printer, held } = self;
+        drop(held);
+        printer
+    }
+
+    /// Holds bytes for which there is room.
+    #[inline(always)]
+    fn hold(&mut self, bytes: &[u8])
+        requires { vec_len self.old.held + length bytes.now ≤ PIECE }
+        ensures holds { self.new.held.items ≡ self.old.held.items ++ bytes.now }
+        ensures same { self.new.printer ≡ self.old.printer }
+    {
+        if self.held.extend_from_slice(bytes).is_err() {
+            unreachable!();
+        }
+    }
+
+    /// Prints what is held, and holds these bytes, or prints them too where they are too many.
+    #[cold]
+    #[inline(never)]
+    fn print_ahead(&mut self, bytes: &[u8]) -> io::Result<()>
+        ensures prints { OnOk result (P.printed self.new.printer ++ self.new.held.items ≡ P.printed self.old.printer ++ self.old.held.items ++ bytes.now) }
+        ensures fails { OnErr result (IsTrue (P.has_failed self.new.printer)) }
+    {
+        self.finish()?;
+        if PIECE < bytes.len() {
+            return self.printer.print(bytes);
+        }
+        self.hold(bytes);
+        Ok(())
+    }
+}
+
+impl<P: Printer> Printer for Pieces<P> {
+    ghost printed = { λ pieces. P.printed pieces.printer ++ pieces.held.items };
+
+    ghost has_failed = { λ pieces. P.has_failed pieces.printer };
+
+    #[inline(always)]
+    fn print(&mut self, bytes: &[u8]) -> io::Result<()> {
+        if PIECE - self.held.len() < bytes.len() {
+            return self.print_ahead(bytes);
+        }
+        self.hold(bytes);
+        Ok(())
+    }
+}
