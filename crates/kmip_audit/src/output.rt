@@ -2,9 +2,9 @@
 
 ghost use Rattle.std.specs.Prelude.{◌≡◌, [], IsTrue};
 
-use kmipa_runs::Printer;
+use crate::printing::reported;
+use kmipa_runs::{Printer, Unprinted};
 use kmipa_ttlv::History;
-use std::io;
 
 /// Standard output, and what was printed there.
 #[derive(Drop)]
@@ -33,21 +33,21 @@ impl<'a, R: Print> Output<'a, R> {
     }
 }
 
-impl<'a, R: Print> Printer for Output<'a, R> {
+impl<'a, R: Print + Eprint> Printer for Output<'a, R> {
     ghost printed = { λ output. output.went.bytes };
 
     ghost has_failed = { λ output. output.failed };
 
-    fn print(&mut self, bytes: &[u8]) -> io::Result<()> {
-        match self.rt.write_all(bytes) {
+    fn print(&mut self, bytes: &[u8]) -> Result<(), Unprinted> {
+        match reported(self.rt, self.rt.write_all(bytes)) {
             Ok(()) => {
                 self.empty = self.empty && bytes.is_empty();
                 self.went.note(bytes);
                 Ok(())
             }
-            Err(error) => {
+            Err(_) => {
                 self.failed = true;
-                Err(error)
+                Err(Unprinted)
             }
         }
     }

@@ -7,7 +7,7 @@ ghost use Rattle.std.specs.declared.io.ErrorKind.{ErrorKind};
 
 use crate::output::Output;
 use crate::words::Usage;
-use kmipa_runs::Status;
+use kmipa_runs::{Status, Unprinted};
 use std::io;
 
 /// Prints what came of a run, and answers its status, or `Failed` where that can't be printed.
@@ -23,19 +23,20 @@ pub fn tell<R: Print + Eprint>(rt: &R, lines: &[u8], status: Status) -> Status
 pub fn tell_rest<R: Print + Eprint>(
     rt: &R,
     output: &Output<'_, R>,
-    done: io::Result<Status>,
+    done: Result<Status, Unprinted>,
 ) -> Status
     ensures { MatchResult done (λ status. (result ≡ status) ⊎ (result ≡ Status.Failed)) (λ _. result ≡ Status.Failed) }
 {
-    match reported(rt, done) {
+    match done {
         Ok(Status::Failed) if output.is_empty() => tell(rt, b"", Status::Failed),
-        done => done.unwrap_or(Status::Failed),
+        Ok(status) => status,
+        Err(Unprinted) => Status::Failed,
     }
 }
 
 /// Tells why standard output could not be written. Where standard error can't be written either, there is nothing left
 /// to say.
-fn reported<R: Eprint, T>(rt: &R, printed: io::Result<T>) -> io::Result<T>
+pub fn reported<R: Eprint, T>(rt: &R, printed: io::Result<T>) -> io::Result<T>
     ensures { result ≡ printed }
 {
     if let Err(error) = &printed {

@@ -25,7 +25,7 @@ mod writing;
 pub use laws::items_have_no_fault;
 pub use lines::Lines;
 pub use options::ShowOptions;
-pub use printer::Printer;
+pub use printer::{Printer, Unprinted};
 pub use reporting::report;
 pub use runs::check_run;
 pub use searched::Searched;

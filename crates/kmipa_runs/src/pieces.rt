@@ -3,9 +3,8 @@
 ghost use Rattle.std.specs.Prelude.{◌≡◌, ◌≤◌, ◌+◌, ◌++◌, [], length, vec_len, vec_capacity, IsTrue, MatchResult, OnErr, OnOk};
 ghost use Rattle.kmipa_runs.specs.declared.pieces.TheConstants.{PIECE};
 
-use crate::printer::Printer;
+use crate::printer::{Printer, Unprinted};
 use std::alloc::Global;
-use std::io;
 
 /// How many bytes are held at most.
 const PIECE: usize = 65_536;
@@ -30,7 +29,7 @@ impl<P: Printer> Pieces<P> {
     }
 
     /// Prints what is held.
-    pub fn finish(&mut self) -> io::Result<()>
+    pub fn finish(&mut self) -> Result<(), Unprinted>
         ensures prints { OnOk result (P.printed self.new.printer ≡ P.printed self.old.printer ++ self.old.held.items) }
         ensures empties { OnOk result (self.new.held.items ≡ []) }
         ensures fails { OnErr result (IsTrue (P.has_failed self.new.printer)) }
@@ -64,7 +63,7 @@ impl<P: Printer> Pieces<P> {
     /// Prints what is held, and holds these bytes, or prints them too where they are too many.
     #[cold]
     #[inline(never)]
-    fn print_ahead(&mut self, bytes: &[u8]) -> io::Result<()>
+    fn print_ahead(&mut self, bytes: &[u8]) -> Result<(), Unprinted>
         ensures prints { OnOk result (P.printed self.new.printer ++ self.new.held.items ≡ P.printed self.old.printer ++ self.old.held.items ++ bytes.now) }
         ensures fails { OnErr result (IsTrue (P.has_failed self.new.printer)) }
     {
@@ -83,7 +82,7 @@ impl<P: Printer> Printer for Pieces<P> {
     ghost has_failed = { λ pieces. P.has_failed pieces.printer };
 
     #[inline(always)]
-    fn print(&mut self, bytes: &[u8]) -> io::Result<()> {
+    fn print(&mut self, bytes: &[u8]) -> Result<(), Unprinted> {
         if PIECE - self.held.len() < bytes.len() {
             return self.print_ahead(bytes);
         }

@@ -12,24 +12,23 @@ use crate::flaws::tell_flaw;
 use crate::holding::hold_items;
 use crate::options::ShowOptions;
 use crate::pieces::Pieces;
-use crate::printer::Printer;
+use crate::printer::{Printer, Unprinted};
 use crate::shown::push_items;
 use crate::status::Status;
 use kmipa_ttlv::{Children, Input, TtlvFault};
 use std::alloc::Global;
-use std::io;
 use std::io::Read;
 
 /// `show FILE`: prints the lines of the items of an input of which nothing was read, or the line of its first fault
 /// alone, and answers the printer and the status. No line is printed before the whole input was read and tested, and no
-/// memory is taken after that. Where memory runs out nothing is printed, and the status is `Failed`. An `Err` is the
-/// printer's own.
+/// memory is taken after that. Where memory runs out nothing is printed, and the status is `Failed`. An `Err` says
+/// that a print failed.
 pub fn show_run<R: Read, P: Printer>(
     alloc: Global,
     input: &mut Input<R>,
     options: ShowOptions,
     mut printer: P,
-) -> (P, io::Result<Status>)
+) -> (P, Result<Status, Unprinted>)
     requires { came_of input.old ≡ [] }
     // What is printed is reported of whatever the input may be, or memory ran out.
     ensures prints { (file : List ℕ) → IsFileOf file input.new → IfOk result.1 (λ said.
@@ -56,7 +55,7 @@ fn print_items<P: Printer>(
     bytes: &[u8],
     options: ShowOptions,
     printer: P,
-) -> (P, io::Result<Status>)
+) -> (P, Result<Status, Unprinted>)
     requires { (items : List Tree) × AreItems items bytes.now }
     ensures shows { IfOk result.1 (λ said.
         ((said ≡ Status.Done) × AreShown options bytes.now (appended_bytes (P.printed printer) (P.printed result.0)))
@@ -78,7 +77,7 @@ fn print_lines<P: Printer>(
     bytes: &[u8],
     options: ShowOptions,
     pieces: &mut Pieces<P>,
-) -> io::Result<Status>
+) -> Result<Status, Unprinted>
     requires items { (items : List Tree) × AreItems items bytes.now }
     requires empty { pieces.old.held.items ≡ [] }
     ensures shows { IfOk result (λ said. (said ≡ Status.Done) × AreShown options bytes.now (appended_bytes (P.printed pieces.old.printer) (P.printed pieces.new.printer))) }
@@ -91,7 +90,11 @@ fn print_lines<P: Printer>(
 }
 
 /// Prints the line of a fault of the input, and answers its status; nothing where memory ran out.
-fn print_flaw<P: Printer>(alloc: Global, fault: TtlvFault, printer: &mut P) -> io::Result<Status>
+fn print_flaw<P: Printer>(
+    alloc: Global,
+    fault: TtlvFault,
+    printer: &mut P,
+) -> Result<Status, Unprinted>
     ensures tells { IfOk result (λ said.
         ((said ≡ flaw_status fault) × (appended_bytes (P.printed printer.old) (P.printed printer.new) ≡ flaw_text fault))
         ⊎ IsSilent said (appended_bytes (P.printed printer.old) (P.printed printer.new))) }

@@ -12,12 +12,11 @@ ghost use Rattle.kmipa_runs.specs.Shown.{IsPlain, ShowsBelow, ShowsItem, ShowsIt
 
 use crate::message::message_of;
 use crate::options::ShowOptions;
-use crate::printer::Printer;
+use crate::printer::{Printer, Unprinted};
 use crate::values::{UPPER, fill_digits, kind_word, push_note, push_value};
 use byteorder::{BigEndian, ByteOrder};
 use kmipa_attrs::tag_name;
 use kmipa_ttlv::{Children, Tag, View, ViewValue};
-use std::io;
 
 /// Two spaces for each level that an item may have above it: 15 in a file, and 16 more in a message below one of its
 /// Byte Strings.
@@ -31,7 +30,7 @@ fn push_item<P: Printer>(
     options: ShowOptions,
     level: usize,
     out: &mut P,
-) -> io::Result<()>
+) -> Result<(), Unprinted>
     requires level { level + depth (view_tree item.now) ≤ 32 }
     // Room for the levels of a message.
     requires room { IsTrue options.messages → level + depth (view_tree item.now) ≤ 16 }
@@ -59,7 +58,7 @@ pub fn push_items<P: Printer>(
     options: ShowOptions,
     level: usize,
     out: &mut P,
-) -> io::Result<()>
+) -> Result<(), Unprinted>
     requires level { level + depths (view_trees items) ≤ 32 }
     requires room { IsTrue options.messages → level + depths (view_trees items) ≤ 16 }
     ensures shows { OnOk result (ShowsItems options level (view_trees items.entry) (appended_bytes (P.printed out.old) (P.printed out.new))) }
@@ -80,7 +79,7 @@ fn push_below<P: Printer>(
     options: ShowOptions,
     level: usize,
     out: &mut P,
-) -> io::Result<()>
+) -> Result<(), Unprinted>
     requires { IsTrue options.messages → level ≤ 15 }
     ensures shows { OnOk result (ShowsBelow options.messages options.notes level (byte_string bytes.now) (appended_bytes (P.printed out.old) (P.printed out.new))) }
     ensures appends { OnOk result (StartsWith (P.printed out.new) (P.printed out.old)) }
@@ -105,7 +104,7 @@ fn push_line<P: Printer>(
     notes: bool,
     level: usize,
     out: &mut P,
-) -> io::Result<()>
+) -> Result<(), Unprinted>
     requires plain { IsPlain item.now.value }
     requires level { level ≤ 31 }
     ensures shows { OnOk result (ShowsLine notes level (view_tree item.now) (appended_bytes (P.printed out.old) (P.printed out.new))) }
@@ -119,7 +118,7 @@ fn push_line<P: Printer>(
 }
 
 /// Prints the margin, the tag, its name and these words of the type, which begin with a space.
-fn push_head<P: Printer>(tag: Tag, kind: &str, level: usize, out: &mut P) -> io::Result<()>
+fn push_head<P: Printer>(tag: Tag, kind: &str, level: usize, out: &mut P) -> Result<(), Unprinted>
     requires { level ≤ 31 }
     ensures pushes { OnOk result (P.printed out.new ≡ P.printed out.old
         ++ (replicate (2 * level) 32 ++ encode_upper (big_bytes 3 tag.number) ++ 32 ∷ tag_name_of tag.number ++ kind.now)) }

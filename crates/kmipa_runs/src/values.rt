@@ -10,10 +10,9 @@ ghost use Rattle.kmipa_runs.specs.Shown.{escaped, quoted, kind_name, note, noted
 
 use crate::dates::calendar_date;
 use crate::notes::number_name;
-use crate::printer::Printer;
+use crate::printer::{Printer, Unprinted};
 use itoa::Buffer;
 use kmipa_ttlv::{Tag, ViewValue};
-use std::io;
 
 /// The digits of tags and Enumerations.
 pub const UPPER: &[u8; 16] = b"0123456789ABCDEF";
@@ -44,7 +43,7 @@ pub fn kind_word(value: &ViewValue) -> &'static str
 }
 
 /// Prints the text of a value; of a Structure nothing.
-pub fn push_value<P: Printer>(value: &ViewValue, out: &mut P) -> io::Result<()>
+pub fn push_value<P: Printer>(value: &ViewValue, out: &mut P) -> Result<(), Unprinted>
     ensures shows { OnOk result ((tag : ℕ) → ShowsValue (view_value_tree tag value.now) (appended_bytes (P.printed out.old) (P.printed out.new))) }
     ensures appends { OnOk result (StartsWith (P.printed out.new) (P.printed out.old)) }
     ensures fails { OnErr result (IsTrue (P.has_failed out.new)) }
@@ -72,7 +71,7 @@ pub fn push_note<P: Printer>(
     tag: Tag,
     value: &ViewValue,
     out: &mut P,
-) -> io::Result<()>
+) -> Result<(), Unprinted>
     ensures pushes { OnOk result (P.printed out.new ≡ P.printed out.old ++ note notes (view_value_tree tag.number value.now)) }
     ensures fails { OnErr result (IsTrue (P.has_failed out.new)) }
 {
@@ -86,7 +85,7 @@ pub fn push_note<P: Printer>(
 }
 
 /// Prints a name, if there is one, after a space, in parentheses.
-fn push_name<P: Printer>(name: Option<&str>, out: &mut P) -> io::Result<()>
+fn push_name<P: Printer>(name: Option<&str>, out: &mut P) -> Result<(), Unprinted>
     ensures pushes { OnOk result (P.printed out.new ≡ P.printed out.old ++ noted (option_map (λ text. text.now) name.entry)) }
     ensures fails { OnErr result (IsTrue (P.has_failed out.new)) }
 {
@@ -99,7 +98,7 @@ fn push_name<P: Printer>(name: Option<&str>, out: &mut P) -> io::Result<()>
 }
 
 /// Prints a number in decimal.
-fn push_number<P: Printer>(number: i64, out: &mut P) -> io::Result<()>
+fn push_number<P: Printer>(number: i64, out: &mut P) -> Result<(), Unprinted>
     ensures pushes { OnOk result (P.printed out.new ≡ P.printed out.old ++ signed_decimal number) }
     ensures fails { OnErr result (IsTrue (P.has_failed out.new)) }
 {
@@ -107,7 +106,7 @@ fn push_number<P: Printer>(number: i64, out: &mut P) -> io::Result<()>
 }
 
 /// Prints bytes as hexadecimal digits of this table.
-fn push_digits<P: Printer>(table: &[u8; 16], bytes: &[u8], out: &mut P) -> io::Result<()>
+fn push_digits<P: Printer>(table: &[u8; 16], bytes: &[u8], out: &mut P) -> Result<(), Unprinted>
     ensures pushes { OnOk result (P.printed out.new ≡ P.printed out.old ++ encode_with table.now bytes.now) }
     ensures fails { OnErr result (IsTrue (P.has_failed out.new)) }
 {
@@ -121,7 +120,7 @@ fn push_digits<P: Printer>(table: &[u8; 16], bytes: &[u8], out: &mut P) -> io::R
 }
 
 /// Prints a few bytes as hexadecimal digits of this table.
-fn push_block<P: Printer>(table: &[u8; 16], block: &[u8], out: &mut P) -> io::Result<()>
+fn push_block<P: Printer>(table: &[u8; 16], block: &[u8], out: &mut P) -> Result<(), Unprinted>
     requires { length block.now ≤ BLOCK }
     ensures pushes { OnOk result (P.printed out.new ≡ P.printed out.old ++ encode_with table.now block.now) }
     ensures fails { OnErr result (IsTrue (P.has_failed out.new)) }
@@ -145,7 +144,7 @@ pub fn fill_digits(table: &[u8; 16], bytes: &[u8], digits: &mut [u8])
 }
 
 /// Prints the number of a moment's second, and after a space its date, where the calendar has one.
-fn push_moment<P: Printer>(second: i64, out: &mut P) -> io::Result<()>
+fn push_moment<P: Printer>(second: i64, out: &mut P) -> Result<(), Unprinted>
     ensures shows { OnOk result (ShowsMoment second (appended_bytes (P.printed out.old) (P.printed out.new))) }
     ensures appends { OnOk result (StartsWith (P.printed out.new) (P.printed out.old)) }
     ensures fails { OnErr result (IsTrue (P.has_failed out.new)) }
@@ -159,7 +158,7 @@ fn push_moment<P: Printer>(second: i64, out: &mut P) -> io::Result<()>
 }
 
 /// Prints a text between double quotes.
-fn push_quoted<P: Printer>(text: &[u8], out: &mut P) -> io::Result<()>
+fn push_quoted<P: Printer>(text: &[u8], out: &mut P) -> Result<(), Unprinted>
     ensures pushes { OnOk result (P.printed out.new ≡ P.printed out.old ++ quoted text.now) }
     ensures fails { OnErr result (IsTrue (P.has_failed out.new)) }
 {
@@ -173,7 +172,7 @@ fn push_quoted<P: Printer>(text: &[u8], out: &mut P) -> io::Result<()>
 }
 
 /// Prints the bytes of a text, each as it is or escaped.
-fn push_all_escaped<P: Printer>(text: &[u8], out: &mut P) -> io::Result<()>
+fn push_all_escaped<P: Printer>(text: &[u8], out: &mut P) -> Result<(), Unprinted>
     ensures pushes { OnOk result (P.printed out.new ≡ P.printed out.old ++ flat_map escaped text.now) }
     ensures fails { OnErr result (IsTrue (P.has_failed out.new)) }
 {
@@ -202,7 +201,7 @@ fn is_plain(byte: u8) -> bool
 }
 
 /// Prints a byte of a text.
-fn push_escaped<P: Printer>(byte: u8, out: &mut P) -> io::Result<()>
+fn push_escaped<P: Printer>(byte: u8, out: &mut P) -> Result<(), Unprinted>
     ensures pushes { OnOk result (P.printed out.new ≡ P.printed out.old ++ escaped byte) }
     ensures fails { OnErr result (IsTrue (P.has_failed out.new)) }
 {
