@@ -100,12 +100,7 @@ fn push_below<P: Printer>(
 }
 
 /// Prints the line of an item without children.
-fn push_line<P: Printer>(
-    item: &View,
-    notes: bool,
-    level: usize,
-    out: &mut P,
-) -> io::Result<()>
+fn push_line<P: Printer>(item: &View, notes: bool, level: usize, out: &mut P) -> io::Result<()>
     requires plain { IsPlain item.now.value }
     requires level { level ≤ 31 }
     ensures shows { OnOk result (ShowsLine notes level (view_tree item.now) (appended_bytes (P.printed out.old) (P.printed out.new))) }

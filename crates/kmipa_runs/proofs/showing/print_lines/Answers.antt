@@ -15,9 +15,11 @@ returns-clause-shows g c =
     let printed = g.P.Printer.printed in
     let old = c.args.pieces.now in
     let pushed = c.push_items.new.out in
-    let new = c.finish.new.self in
-    (refl, shown_in_pieces c.args.options c.args.bytes.now (view_trees c.spelled.result) (printed old.printer) (printed old.printer ++ old.held.items) old.held.items
-    (printed pushed.printer ++ pushed.held.items) (printed new.printer) c.requires.items c.spelled.ensures c.requires.empty refl c.in_ok-finish.ensures.prints c.in_ok-push_items.ensures.shows)
+    let new = c.finish.new.self in (
+      refl,
+      shown_in_pieces c.args.options c.args.bytes.now (view_trees c.spelled.result) (printed old.printer) (printed old.printer ++ old.held.items) old.held.items
+          (printed pushed.printer ++ pushed.held.items) (printed new.printer) c.requires.items c.spelled.ensures c.requires.empty refl c.in_ok-finish.ensures.prints c.in_ok-push_items.ensures.shows,
+    )
 
 pub returns-clause-appends : goal.returns-clause-appends
 returns-clause-appends g c =

@@ -22,10 +22,10 @@ returns-clause-shows g c =
     let pushes : numbered ≡ old ++ number = c.in_ok-push_number.ensures.pushes ∙ ap (λ (z : ℤ). old ++ signed_decimal z) (to_z-of_z w64 c.args.second fits) in
     on_ok_weaker c.print-2.result
     (λ e.
-        let dated : new ≡ spaced ++ date = e ∙ ap (λ (l : List ℕ). spaced ++ l) c.as_bytes.ensures.value in
-        let all : new ≡ old ++ (number ++ 32 ∷ date)
-        = pushed_on old numbered new number (32 ∷ date) pushes (pushed_on numbered spaced new (32 ∷ []) date c.in_ok-print.ensures.prints dated) in
-        record { dated = λ _. (date, since old (number ++ 32 ∷ date) new all); undated = λ no. absurd (no has) })
+    let dated : new ≡ spaced ++ date = e ∙ ap (λ (l : List ℕ). spaced ++ l) c.as_bytes.ensures.value in
+    let all : new ≡ old ++ (number ++ 32 ∷ date)
+    = pushed_on old numbered new number (32 ∷ date) pushes (pushed_on numbered spaced new (32 ∷ []) date c.in_ok-print.ensures.prints dated) in
+    record { dated = λ _. (date, since old (number ++ 32 ∷ date) new all); undated = λ no. absurd (no has) })
     c.print-2.ensures.prints
 
 pub returns-clause-appends : goal.returns-clause-appends
