@@ -39,17 +39,6 @@ mutual
 
 -- ---- one item more
 
-shows_last : (options : ShowOptions) (ts : List Tree) (t : Tree) (lines first : List ℕ) → ShowsItems options 0 (forest (λ u. u) ts) lines → ShowsItem options 0 t first
-    → ShowsItems options 0 (forest (λ u. u) (ts ++ t ∷ [])) (lines ++ first)
-shows_last options [] t lines first h s = (first, [], s, refl, ap (λ (l : List ℕ). l ++ first) h ∙ sym (append-nil first))
-shows_last options (u ∷ us) t lines first h s =
-    (h.0, h.1 ++ first, h.2, shows_last options us t h.1 first h.3 s, ap (λ (l : List ℕ). l ++ first) h.4 ∙ append_assoc h.0 h.1 first)
-
-pub shown_last : (options : ShowOptions) (came new lines first : List ℕ) (t : Tree) → ((given : List Tree) → AreItems given came → AreItems (given ++ t ∷ []) new)
-    → ShowsItem options 0 t first → AreShown options came lines → AreShown options new (lines ++ first)
-shown_last options came new lines first t next s h =
-    record { items = h.items ++ t ∷ []; are = next h.items h.are; shown = shows_last options h.items t lines first h.shown s }
-
 pub begins_last : (ts : List Tree) (t : Tree) (bytes rest front after : List ℕ) → rest ≡ front ++ after → Spells t front → Begins ts bytes rest → Begins (ts ++ t ∷ []) bytes after
 begins_last [] t bytes rest front after e s b = (front, after, b ∙ e, s, refl)
 begins_last (u ∷ us) t bytes rest front after e s b = (b.0, b.1, b.2, b.3, begins_last us t b.1 rest front after e s b.4)
