@@ -50,14 +50,9 @@ cause_same flaw.Overrun D M P Q f h = f (λ e. absurd cc) (λ e. absurd cc) h
 cause_same flaw.TooDeep D M P Q f h = f (λ e. absurd cc) (λ e. absurd cc) h
 cause_same flaw.TooLong D M P Q f h = f (λ e. absurd cc) (λ e. absurd cc) h
 
-pub memory_cause : (k : RecordKind) (D M P : Type 0) → k ≡ Memory → M → ByCause k D M P
-memory_cause k D M P e m = subst (λ (x : RecordKind). ByCause x D M P) (sym e) m
-
-pub number_cause : (k : RecordKind) (D M P : Type 0) → k ≡ Number → P → ByCause k D M P
-number_cause k D M P e p = subst (λ (x : RecordKind). ByCause x D M P) (sym e) p
-
-pub entry_cause : (k : RecordKind) (D M P : Type 0) → k ≡ Entry → P → ByCause k D M P
-entry_cause k D M P e p = subst (λ (x : RecordKind). ByCause x D M P) (sym e) p
+-- a fact of the kind that is reported, as one of what was caused
+pub caused : (k why : RecordKind) (D M P : Type 0) → k ≡ why → ByCause why D M P → ByCause k D M P
+caused k why D M P e h = subst (λ (x : RecordKind). ByCause x D M P) (sym e) h
 
 pub IfSome-always : {A : Type 0} (o : Option A) (P : A → Type 0) → ((x : A) → P x) → IfSome o P
 IfSome-always None P f = tt

@@ -6,10 +6,10 @@ use Rattle.kmipa_ttlv.specs.Tree.{Tree}
 use Rattle.kmipa_ttlv.specs.Reading.{IsWhole, ReadTells}
 use Rattle.kmipa_ttlv.specs.declared.fault.TtlvFault.{TtlvFault}
 use Rattle.kmipa_ttlv.proofs.ReadLemmas.{whole_stays, known_flaw_lem, starts_with_rest}
-use Rattle.kmipa_record.specs.Reading.{record_kind, TellsFlawOf, WholeFails, ReadFails, Takes, HeaderFault, absent, other}
+use Rattle.kmipa_record.specs.Reading.{record_kind, TellsFlawOf, ReadFails, Takes, HeaderFault, absent, other}
 use Rattle.kmipa_record.specs.declared.fault.RecordFault.{RecordFault}
-use Rattle.kmipa_record.specs.declared.fault.RecordKind.TheVariants.{Header}
-use Rattle.kmipa_record.proofs.KindLemmas.{ByCause-map, cause_same}
+use Rattle.kmipa_record.specs.declared.fault.RecordKind.TheVariants.{Ttlv, Header}
+use Rattle.kmipa_record.proofs.KindLemmas.{caused, cause_same}
 
 -- the fault of what was read, as a fault of a file
 pub read_fails : (place : ℕ) (came after left : List ℕ) (ended failed : Bool) (f : TtlvFault) → left ≡ came ++ after → (IsTrue ended → after ≡ [])
@@ -21,17 +21,16 @@ read_fails place came after left ended failed f e end t =
 
 -- the flaw of the value of a whole item
 pub whole_fails : (left after bytes : List ℕ) (place : ℕ) (failed : Bool) (f : RecordFault) → left ≡ bytes ++ after → IsWhole bytes
-    → WholeFails place bytes f → ReadFails place left failed f
+    → TellsFlawOf place bytes f → ReadFails place left failed f
 whole_fails left after bytes place failed f e w t =
-    rw e (ByCause-map f.kind _ _ _ _ _ _ (λ none. absurd none) (λ m. m)
-    (λ reported. record {
-      some = omega (arith, reported.some, length-append bytes after);
-      from = reported.from;
-      flaw = reported.flaw;
-      wrong = whole_stays bytes after reported.from reported.flaw w reported.wrong;
-      placed = reported.placed;
-      kind_is = reported.kind_is;
-    }) t)
+    rw e (caused f.kind (Ttlv t.flaw) _ _ _ t.kind_is (record {
+      some = omega (arith, t.some, length-append bytes after);
+      from = t.from;
+      flaw = t.flaw;
+      wrong = whole_stays bytes after t.from t.flaw w t.wrong;
+      placed = t.placed;
+      kind_is = t.kind_is;
+    }))
 
 -- a file without a header
 pub no_header_left : (is_header : Tree → Type 0) (place : ℕ) (left after : List ℕ) → left ≡ after → after ≡ []

@@ -14,18 +14,16 @@ use Rattle.kmipa_ttlv.specs.declared.fault.TtlvFault.{TtlvFault}
 use Rattle.kmipa_ttlv.proofs.LawLemmas.{no_flaw_lem}
 use Rattle.kmipa_ttlv.proofs.ReadLemmas.{head_fails}
 use Rattle.kmipa_record.specs.Files.{IsOneItemAtMost, TellsItem}
-use Rattle.kmipa_record.specs.Kinds.{ByCause}
-use Rattle.kmipa_record.specs.Reading.{record_kind, WholeFails, Takes}
+use Rattle.kmipa_record.specs.Reading.{record_kind, TellsFlawOf, Takes}
 use Rattle.kmipa_record.specs.DeclarationReading.{Refuses}
 use Rattle.kmipa_record.specs.Declarations.{RecordOf, row, entry}
 use Rattle.kmipa_record.specs.Witnesses.{TurnOf}
 use Rattle.kmipa_record.specs.WitnessReading.{RefusesTurn, no_memory, foreign, low}
 use Rattle.kmipa_record.specs.declared.fault.RecordFault.{RecordFault}
-use Rattle.kmipa_record.specs.declared.fault.RecordKind.{RecordKind}
-use Rattle.kmipa_record.specs.declared.fault.RecordKind.TheVariants.{Identifier}
+use Rattle.kmipa_record.specs.declared.fault.RecordKind.TheVariants.{Ttlv, Number, Identifier, Entry, Memory}
 use Rattle.kmipa_record.specs.declared.records.Records.{Records}
 use Rattle.kmipa_record.specs.declared.version.Version.{Version}
-use Rattle.kmipa_record.proofs.KindLemmas.{ByCause-map, memory_cause, entry_cause, number_cause}
+use Rattle.kmipa_record.proofs.KindLemmas.{caused}
 
 -- ---- one item
 
@@ -75,20 +73,16 @@ pub stopped_inside : (f : TtlvFault) (old new : List ℕ) (ended failed : Bool) 
 stopped_inside f old new ended failed h s = stopped_by f.kind f.offset old new ended failed h s
 
 -- a whole item was refused
-pub refused_whole : (f : RecordFault) (old new bytes : List ℕ) → new ≡ old ++ bytes → IsWhole bytes → WholeFails (length old) bytes f → TellsItem new f
-refused_whole f old new bytes e w h =
-    ByCause-map f.kind _ _ _ _ _ _ (λ none. absurd none) (λ o. one_whole old new bytes f.offset o e w) (λ reported. tt) h
+pub refused_whole : (f : RecordFault) (place : ℕ) (bytes came : List ℕ) → TellsFlawOf place bytes f → TellsItem came f
+refused_whole f place bytes came h = caused f.kind (Ttlv h.flaw) _ _ _ h.kind_is tt
 
 pub refused_turn_place : (version : Version) (turn : TurnOf) (came : List ℕ) (f : RecordFault) → IsOneItemAtMost (drop f.offset came) → RefusesTurn version turn f.kind → TellsItem came f
-refused_turn_place version turn came f one (no_memory e) = memory_cause f.kind _ _ _ e one
-refused_turn_place version turn came f one (foreign d e) = entry_cause f.kind _ _ _ e tt
-refused_turn_place version turn came f one (low a l e) = number_cause f.kind _ _ _ e tt
-
-identifier_cause : (k : RecordKind) (D M : Type 0) → k ≡ Identifier → ByCause k D M (Unit {0})
-identifier_cause k D M e = subst (λ (x : RecordKind). ByCause x D M (Unit {0})) (sym e) tt
+refused_turn_place version turn came f one (no_memory e) = caused f.kind Memory _ _ _ e one
+refused_turn_place version turn came f one (foreign d e) = caused f.kind Entry _ _ _ e tt
+refused_turn_place version turn came f one (low a l e) = caused f.kind Number _ _ _ e tt
 
 pub refused_record_place : (old : Records) (r : RecordOf) (came : List ℕ) (f : RecordFault) → IsOneItemAtMost (drop f.offset came) → Refuses old r f.kind → TellsItem came f
-refused_record_place old (row r) came f one (inl e) = memory_cause f.kind _ _ _ e one
-refused_record_place old (row r) came f one (inr x) = entry_cause f.kind _ _ _ x.0 tt
-refused_record_place old (entry e) came f one (inl m) = memory_cause f.kind _ _ _ m one
-refused_record_place old (entry e) came f one (inr x) = identifier_cause f.kind _ _ x.0
+refused_record_place old (row r) came f one (inl e) = caused f.kind Memory _ _ _ e one
+refused_record_place old (row r) came f one (inr x) = caused f.kind Entry _ _ _ x.0 tt
+refused_record_place old (entry e) came f one (inl m) = caused f.kind Memory _ _ _ m one
+refused_record_place old (entry e) came f one (inr x) = caused f.kind Identifier _ _ _ x.0 tt

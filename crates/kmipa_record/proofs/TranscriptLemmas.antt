@@ -17,7 +17,7 @@ use Rattle.kmipa_record.specs.declared.fault.RecordKind.{RecordKind}
 use Rattle.kmipa_record.specs.declared.fault.RecordKind.TheVariants.{Memory}
 use Rattle.kmipa_record.specs.declared.marks.Marks.{Marks}
 use Rattle.kmipa_record.specs.declared.transcript.Mark.{Mark}
-use Rattle.kmipa_record.proofs.KindLemmas.{ByCause-map, memory_cause}
+use Rattle.kmipa_record.proofs.KindLemmas.{ByCause-map, caused}
 use Rattle.kmipa_record.proofs.FileLemmas.{goes_on, Stands, item_reported, right_here}
 use Rattle.kmipa_record.proofs.PlaceLemmas.{one_whole, spelled_whole, begins_ahead}
 use Rattle.kmipa_record.proofs.CallLemmas.{follow_none, one_more_taken, refused_mark, refused_cause}
@@ -71,7 +71,7 @@ refused_reported file came after marks old mark place failed f e recorded follow
     record { right = (refl, record { marks = marks; are = refl; recorded = recorded }); reading = reading } in
     let right : IsTranscriptUpTo file f.offset = subst (IsTranscriptUpTo file) (sym o) (right_here AreRightInTranscript file (items_of marks) s.left place here) in
     elim r [
-      | inl m ↦ memory_cause f.kind _ _ _ m right
+      | inl m ↦ caused f.kind Memory _ _ _ m right
       | inr q ↦ refused_cause old mark f.kind _ _ _ q right
           (λ ne. subst (λ (n : ℕ). TranscriptFault file n f.kind) (sym o)
           (item_reported AreRightInTranscript TranscriptItemFault TranscriptEndFault file (items_of marks) (mark_item mark) s.left after place (length came) f.kind here s.taken
@@ -92,7 +92,7 @@ pub refused_place : (came : List ℕ) (marks : List MarkOf) (old : Calls) (mark 
 refused_place came marks old mark place f s o r =
     let whole = whole_mark came marks mark place f.offset s o in
     elim r [
-      | inl m ↦ memory_cause f.kind _ _ _ m whole
+      | inl m ↦ caused f.kind Memory _ _ _ m whole
       | inr q ↦ refused_cause old mark f.kind _ _ _ q whole (λ ne. tt)
     ]
 

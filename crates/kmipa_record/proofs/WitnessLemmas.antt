@@ -10,10 +10,10 @@ use Rattle.kmipa_record.specs.Witnesses.{TurnOf, turn_of, turn_item, witness_hea
 use Rattle.kmipa_record.specs.WitnessReading.{IsReadSoFar, RefusesTurn, no_memory, foreign, low}
 use Rattle.kmipa_record.specs.declared.fault.RecordFault.{RecordFault}
 use Rattle.kmipa_record.specs.declared.fault.RecordKind.{RecordKind}
-use Rattle.kmipa_record.specs.declared.fault.RecordKind.TheVariants.{Entry}
+use Rattle.kmipa_record.specs.declared.fault.RecordKind.TheVariants.{Number, Entry, Memory}
 use Rattle.kmipa_record.specs.declared.turn.Turn.{Turn}
 use Rattle.kmipa_record.specs.declared.version.Version.{Version}
-use Rattle.kmipa_record.proofs.KindLemmas.{memory_cause, number_cause, entry_cause}
+use Rattle.kmipa_record.proofs.KindLemmas.{caused}
 use Rattle.kmipa_record.proofs.FileLemmas.{goes_on, starts, ends_here, Stands, tells_read, item_reported, right_here, tells_header}
 use Rattle.kmipa_record.proofs.TurnLemmas.{turn_item_once}
 
@@ -63,13 +63,13 @@ pub refused_reported : (file : List ℕ) (version : Version) (turns : List TurnO
     → IsReadSoFar file version turns left place → Takes (turn_item turn) left after place place' → f.offset ≡ place → RefusesTurn version turn f.kind
     → Tells WitnessFault IsWitnessUpTo file failed f
 refused_reported file version turns turn left after place place' failed f s t o (no_memory k) =
-    memory_cause f.kind _ _ _ k (subst (IsWitnessUpTo file) (sym o) (right_here AreRightInWitness file (items_of version turns) left place (stands file version turns left place s)))
+    caused f.kind Memory _ _ _ k (subst (IsWitnessUpTo file) (sym o) (right_here AreRightInWitness file (items_of version turns) left place (stands file version turns left place s)))
 refused_reported file version turns turn left after place place' failed f s t o (foreign not k) =
-    entry_cause f.kind _ _ _ k (subst (λ (n : ℕ). WitnessFault file n f.kind) (sym o)
+    caused f.kind Entry _ _ _ k (subst (λ (n : ℕ). WitnessFault file n f.kind) (sym o)
     (item_fault file version turns (turn_item turn) left after place place' f.kind s t
     (no_turn (λ other a e. not (subst (Admits version) (sym (turn_item_once turn other e)) a)) k)))
 refused_reported file version turns turn left after place place' failed f s t o (low a l k) =
-    number_cause f.kind _ _ _ k (subst (λ (n : ℕ). WitnessFault file n f.kind) (sym o)
+    caused f.kind Number _ _ _ k (subst (λ (n : ℕ). WitnessFault file n f.kind) (sym o)
     (item_fault file version turns (turn_item turn) left after place place' f.kind s t (below_one turn a refl l k)))
 
 took : (file : List ℕ) (version : Version) (turns : List TurnOf) (turn : TurnOf) (left after : List ℕ) (place place' : ℕ) → Takes (turn_item turn) left after place place' → Admits version turn

@@ -52,10 +52,6 @@ abbrev pub ReadFails : ℕ → List ℕ → Bool → RecordFault → Type 0
 ReadFails place left failed f =
     ByCause f.kind (IsTrue failed × (f.offset ≡ place)) (f.offset ≡ place) (TellsFlawOf place left f)
 
--- a fault of bytes that are as many as their header says
-abbrev pub WholeFails : ℕ → List ℕ → RecordFault → Type 0
-WholeFails place bytes f = ByCause f.kind ⊥ (f.offset ≡ place) (TellsFlawOf place bytes f)
-
 -- the same of an item that says this
 abbrev pub TakesSaid : {T : Type 0} → (Tree → T → Type 0) → List ℕ → List ℕ → ℕ → ℕ → T → Type 0
 TakesSaid says left after place place' x = (item : Tree) × Takes item left after place place' × says item x

@@ -8,7 +8,7 @@ ghost use Rattle.kmipa_ttlv.specs.Spelling.{Spells};
 ghost use Rattle.kmipa_ttlv.specs.Tree.{Tree};
 ghost use Rattle.kmipa_ttlv.specs.ViewTree.{view_tree};
 ghost use Rattle.kmipa_record.specs.Files.{TellsItem};
-ghost use Rattle.kmipa_record.specs.Reading.{record_kind, ReadFails, WholeFails, HeaderFails, NextIs, TakesSaid};
+ghost use Rattle.kmipa_record.specs.Reading.{record_kind, TellsFlawOf, ReadFails, HeaderFails, NextIs, TakesSaid};
 
 use crate::fault::{RecordFault, RecordKind};
 use kmipa_ttlv::{FaultKind, Input, TtlvFault, View, decode_view, read_bytes};
@@ -117,7 +117,7 @@ fn fault_of(fault: TtlvFault) -> RecordFault
 /// The item that whole bytes at this place spell.
 fn view_of(place: u64, bytes: &[u8]) -> Result<View<'_>, RecordFault>
     requires { IsWhole bytes.now }
-    ensures { MatchResult result (λ view. Spells (view_tree view) bytes.now) (WholeFails place bytes.now) }
+    ensures { MatchResult result (λ view. Spells (view_tree view) bytes.now) (TellsFlawOf place bytes.now) }
 {
     match decode_view(bytes) {
         Ok((view, _)) => Ok(view),
