@@ -59,7 +59,7 @@ pub record IsStep (c : CallOf) (t : TurnOf) (s : StepOf) : Type 0 where
 -- the response that a step of the program is to give
 abbrev pub given_of : Given → ResponseOf
 given_of (Recorded response) = response_of response.now
-given_of (FromTurn response) = response_of response
+given_of (FromTurn response) = response_of response.value
 
 -- what a step of the program means
 abbrev pub step_of : Step → StepOf

@@ -1,6 +1,7 @@
 //! What a turn takes.
 
 use kmipa_msgs::{Request, Response};
+use std::alloc::{AllocError, Global};
 
 /// A call that a turn of a witness takes, and the response that it is to give.
 #[derive(Debug, Drop)]
@@ -38,14 +39,24 @@ impl<'b, 'a> Step<'b, 'a> {
 pub enum Given<'b, 'a> {
     /// As it was recorded.
     Recorded(&'b Response<'a>),
-    /// As the turn makes it: an answer that it gives, or payloads that it fills in.
-    FromTurn(Response<'a>),
+    /// As the turn makes it: an answer that it gives, or payloads that it fills in. Few turns do, so it lies in memory of its own.
+    FromTurn(Box<Response<'a>>),
 }
 
 impl<'b, 'a> Given<'b, 'a> {
-    ghost use Rattle.std.specs.Prelude.{◌≡◌};
+    ghost use Rattle.std.specs.Prelude.{◌≡◌, IfOk};
     ghost use Rattle.kmipa_msgs.specs.Messages.{response_of};
     ghost use Rattle.kmipa_check.specs.Steps.{given_of};
+
+    /// A response that a turn makes.
+    pub(crate) fn from_turn(
+        alloc: Global,
+        response: Response<'a>,
+    ) -> Result<Given<'b, 'a>, AllocError>
+        ensures { IfOk result (λ given. given_of given ≡ response_of response.entry) }
+    {
+        Ok(Given::FromTurn(Box::new(alloc, response)?))
+    }
 
     /// The response itself.
     pub fn response(&self) -> &Response<'a>

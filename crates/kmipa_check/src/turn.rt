@@ -80,7 +80,7 @@ fn open_answered<'b, 'a>(
         return Err(StepFault::Unfit(WitnessKind::AnswerMissing));
     };
     match answer_in(alloc, answer, &call.request) {
-        Ok(response) => Ok(Given::FromTurn(response)),
+        Ok(response) => Ok(Given::from_turn(alloc, response)?),
         Err(fault) => Err(fault),
     }
 }
@@ -107,7 +107,7 @@ fn filled_in<'b, 'a>(
         return Ok(given);
     }
     match filled(alloc, request, response, fills) {
-        Ok(full) => Ok(Given::FromTurn(full)),
+        Ok(full) => Ok(Given::from_turn(alloc, full)?),
         Err(fault) => Err(fault),
     }
 }

@@ -63,7 +63,7 @@ pub record RegisterOf : Type 0 where
   pub block : BlockOf
 
 abbrev pub register_of : Register → RegisterOf
-register_of r = record { object_type = r.object_type; attributes = attributes_of r.attributes; block = block_of r.block }
+register_of r = record { object_type = r.object_type; attributes = attributes_of r.attributes.value; block = block_of r.block }
 
 -- What a Get Attributes asks for: the tags that Attribute References name as Enumerations, whether there is a reference of any type, and
 -- whether there is an item that is neither the identifier nor a reference as an Enumeration.
@@ -98,7 +98,7 @@ pub data AskedOf : Type 0 where
   does_other : ℕ → AskedOf
 
 abbrev pub locate_of : Locate → FilterOf
-locate_of l = filter_of l.filter
+locate_of l = filter_of l.filter.value
 
 abbrev pub id_of : Get → Option (List ℕ)
 id_of g = maybe_lent g.id
@@ -110,7 +110,7 @@ abbrev pub destroy_of : Destroy → Option (List ℕ)
 destroy_of d = maybe_lent d.id
 
 abbrev pub asked_of : Asked → AskedOf
-asked_of (Asked.TheVariants.Create c) = creates (attributes_of c.attributes)
+asked_of (Asked.TheVariants.Create c) = creates (attributes_of c.attributes.value)
 asked_of (Asked.TheVariants.Register r) = registers (register_of r)
 asked_of (Asked.TheVariants.Locate l) = locates (locate_of l)
 asked_of (Asked.TheVariants.Get g) = gets (id_of g)
@@ -184,7 +184,7 @@ pub record GotAttributesOf : Type 0 where
   pub attributes : Attributes
 
 abbrev pub got_attributes_of : GotAttributes → GotAttributesOf
-got_attributes_of g = record { id = maybe_lent g.id; attributes = attributes_of g.attributes }
+got_attributes_of g = record { id = maybe_lent g.id; attributes = attributes_of g.attributes.value }
 
 abbrev pub changed_of : Changed → Option (List ℕ)
 changed_of c = maybe_lent c.id

@@ -59,7 +59,7 @@ impl<'a> Payload<'a> {
             Payload::Get(got) => Ok(Payload::Get(*got)),
             Payload::GetAttributes(got) => Ok(Payload::GetAttributes(GotAttributes {
                 id: got.id,
-                attributes: got.attributes.copy(alloc)?,
+                attributes: Box::new(alloc, got.attributes.copy(alloc)?)?,
             })),
             Payload::Change(changed) => Ok(Payload::Change(*changed)),
         }

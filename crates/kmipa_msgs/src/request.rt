@@ -55,7 +55,8 @@ pub struct Ask<'a> {
     pub asked: Asked<'a>,
 }
 
-/// What an item asks for: the payload of an operation.
+/// What an item asks for: the payload of an operation. Attributes and filters lie in memory of their own, so that an item without
+/// them takes little room.
 #[derive(Debug, Drop)]
 pub enum Asked<'a> {
     Create(Create),
@@ -76,7 +77,7 @@ pub enum Asked<'a> {
 #[derive(Debug, Drop)]
 pub struct Create {
     /// The attributes of the new key, algorithm, length and usage mask among them.
-    pub attributes: AttrSet,
+    pub attributes: Box<AttrSet>,
 }
 
 /// What a Register brings (KMIP 2.1, section 6.1).
@@ -85,7 +86,7 @@ pub struct Register<'a> {
     /// The type of the object, also as its attribute and as its tag say it.
     pub object_type: ObjectType,
     /// The attributes of the new object. An algorithm or a length that also stands in the key block is the same there.
-    pub attributes: AttrSet,
+    pub attributes: Box<AttrSet>,
     pub block: KeyBlock<'a>,
 }
 
@@ -93,7 +94,7 @@ pub struct Register<'a> {
 #[derive(Debug, Drop)]
 pub struct Locate {
     /// What an object is to be, and how many may be listed.
-    pub filter: Filter,
+    pub filter: Box<Filter>,
 }
 
 /// What a Get asks for (KMIP 2.1, section 6.1).

@@ -59,7 +59,7 @@ pub struct Answer<'a> {
     pub payload: Option<Payload<'a>>,
 }
 
-/// The payload of an operation's answer.
+/// The payload of an operation's answer. Attributes lie in memory of their own, so that an answer without them takes little room.
 #[derive(Debug, Drop)]
 pub enum Payload<'a> {
     Create(Registered<'a>),
@@ -87,15 +87,15 @@ pub struct Located<'a> {
     pub ids: Vec<&'a str>,
 }
 
-/// The answer of a Get.
+/// The answer of a Get. Fields lie in memory as they stand here, and so the two types take the room of one.
 #[derive(Clone, Copy, Debug)]
 pub struct Got<'a> {
     /// Object Type, which may be another than the object's own.
     pub object_type: Option<ObjectType>,
-    /// Unique Identifier.
-    pub id: Option<&'a str>,
     /// The type of the object that is shown.
     pub shape: ObjectType,
+    /// Unique Identifier.
+    pub id: Option<&'a str>,
     pub block: KeyBlock<'a>,
 }
 
@@ -105,7 +105,7 @@ pub struct GotAttributes<'a> {
     /// Unique Identifier.
     pub id: Option<&'a str>,
     /// The attributes that are shown, none where the answer has no Attributes.
-    pub attributes: AttrSet,
+    pub attributes: Box<AttrSet>,
 }
 
 /// The answer of an operation that changes an object: an Activate, a Revoke or a Destroy.

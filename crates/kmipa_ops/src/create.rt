@@ -22,7 +22,7 @@ use kmipa_store::Ledger;
 use std::alloc::{AllocError, Global};
 
 impl Deed for Create {
-    ghost asked = { λ create. creates (attributes_of create.attributes) };
+    ghost asked = { λ create. creates (attributes_of create.attributes.value) };
 
     fn is_of(&self, payload: &Payload) -> bool {
         match payload {

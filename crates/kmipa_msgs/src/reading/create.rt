@@ -26,13 +26,15 @@ use std::alloc::Global;
 /// What the children of a Create's Request Payload ask for.
 #[tactic(auto, unfolding(crate::specs::Creates::create_in))]
 pub fn read_create(alloc: Global, payload: Children) -> Result<Create, Unread>
-    ensures { Yields (λ c. attributes_of c.attributes) result (create_in (view_trees payload.entry)) }
+    ensures { Yields (λ c. attributes_of c.attributes.value) result (create_in (view_trees payload.entry)) }
 {
     let attributes = read_new_key(alloc, payload)?;
     if !is_of_key(&attributes) {
         return Err(Unread::Outside(OutsideKind::Disagree));
     }
-    Ok(Create { attributes })
+    Ok(Create {
+        attributes: Box::new(alloc, attributes)?,
+    })
 }
 
 /// The attributes of the new key, before its type is compared.

@@ -43,8 +43,8 @@ pub fn read_got<'a>(payload: Children<'a>) -> Result<Got<'a>, OutsideKind>
     let (((object_type, shape), id), block) = both(both(types, id), block)?;
     Ok(Got {
         object_type,
-        id,
         shape,
+        id,
         block,
     })
 }

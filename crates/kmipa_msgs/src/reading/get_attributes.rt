@@ -105,5 +105,8 @@ pub fn read_got_attributes<'a>(
     let id = read_identifier(payload);
     let attributes = read_attributes(alloc, given, Side::Server);
     let ((_, id), attributes) = both_read(both(type_known, id), attributes)?;
-    Ok(GotAttributes { id, attributes })
+    Ok(GotAttributes {
+        id,
+        attributes: Box::new(alloc, attributes)?,
+    })
 }

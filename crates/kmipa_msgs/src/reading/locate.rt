@@ -33,7 +33,9 @@ pub fn read_locate(alloc: Global, payload: Children) -> Result<Locate, Unread>
     let plain = both(shape, type_known(inner));
     let filter = sought(alloc, inner, maximum.value(), has_unknown(payload));
     let (_, filter) = both_read(plain, filter)?;
-    Ok(Locate { filter })
+    Ok(Locate {
+        filter: Box::new(alloc, filter)?,
+    })
 }
 
 /// That Attributes are a structure, where they are there.

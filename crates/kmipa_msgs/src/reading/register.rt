@@ -38,7 +38,7 @@ pub fn read_register<'a>(alloc: Global, payload: Children<'a>) -> Result<Registe
     }
     Ok(Register {
         object_type: brought.object_type,
-        attributes: brought.attributes,
+        attributes: Box::new(alloc, brought.attributes)?,
         block: brought.block,
     })
 }

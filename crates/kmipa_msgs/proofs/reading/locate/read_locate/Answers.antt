@@ -1,3 +1,4 @@
+use Rattle.std.specs.Prelude.{Ok}
 use Rattle.std.proofs.Common.{◌∙◌, ap, rules}
 use Rattle.kmipa_ttlv.specs.ViewTree.{view_trees}
 use Rattle.kmipa_attrs.specs.Fields.{at, in_field, value_in, as_enumeration}
@@ -40,4 +41,4 @@ returns c =
     let read =
     yields_both filter_of locate_view c.both-plain.result c.sought-filter.result c.both_read.result (filter_kind (filter_in c.value.result c.has_unknown.result us)) (locate_in ts) c.both_read.ensures c.sought-filter.ensures
     (λ filter g rows e. seen_locate ts us c.value.result c.has_unknown.result c.both-plain.result filter rows e plain inner (c.value.ensures ∙ ap value_in c.integer_at-maximum.ensures) c.has_unknown.ensures g) in
-    yields_ok locate_view c.both_read.result _ (locate_in ts) read c.in_ok-filter.was
+    ap (λ q. Ok (filter_of q)) c.in_ok-new.ensures.ok ∙ yields_ok locate_view c.both_read.result _ (locate_in ts) read c.in_ok-filter.was
