@@ -4,7 +4,7 @@ use Rattle.std.proofs.lemmas.List.{append-nil}
 use Rattle.std.specs.Io.{StartsWith, appended_bytes}
 use Rattle.hex.specs.declared.error.FromHexError.{FromHexError}
 use Rattle.hex.specs.declared.error.FromHexError.TheVariants.{OutOfMemory}
-use Rattle.kmipa_ttlv.specs.Tree.{Tree, Trees, structure, scalar, none, more, forest}
+use Rattle.kmipa_ttlv.specs.Tree.{Tree, Trees, structure, scalar, none, more}
 use Rattle.kmipa_ttlv.specs.Spelling.{value_at, extent, Stands, Run, Spells}
 use Rattle.kmipa_ttlv.specs.Stream.{Begins, capped}
 use Rattle.kmipa_ttlv.specs.Items.{AreItems}
@@ -16,10 +16,8 @@ use Rattle.kmipa_ttlv.specs.declared.fault.FaultKind.TheVariants.{Truncated, Unk
 use Rattle.kmipa_ttlv.specs.declared.fault.TtlvFault.{TtlvFault}
 use Rattle.kmipa_ttlv.proofs.StreamLemmas.{Begins-more}
 use Rattle.kmipa_ttlv.proofs.ReadLemmas.{known_flaw_lem, outer_flaw_own}
-use Rattle.kmipa_runs.specs.Inputs.{bytes_of, joined, refused_line, AreShown, TellsFirst, Writes, no_digits, no_memory}
-use Rattle.kmipa_runs.specs.Shown.{ShowsItem, ShowsItems}
+use Rattle.kmipa_runs.specs.Inputs.{bytes_of, joined, refused_line, TellsFirst, Writes, no_digits, no_memory}
 use Rattle.kmipa_runs.specs.Statuses.{IsSilent}
-use Rattle.kmipa_runs.specs.declared.options.ShowOptions.{ShowOptions}
 use Rattle.kmipa_runs.specs.declared.status.Status.{Status}
 use Rattle.kmipa_runs.specs.declared.status.Status.TheVariants as status
 use Rattle.kmipa_runs.proofs.AppendLemmas.{split}

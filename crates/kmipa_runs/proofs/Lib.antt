@@ -1,4 +1,5 @@
 mod AppendLemmas
+mod FrontLemmas
 mod InputLemmas
 mod LawLemmas
 mod LineLemmas

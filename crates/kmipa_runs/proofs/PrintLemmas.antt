@@ -1,5 +1,5 @@
 -- Items that are held, and printed a piece at a time.
-use Rattle.std.proofs.Common.{◌≡◌, ◌≤◌, ℕ, Bool, true, false, List, [], ◌∷◌, ◌++◌, length, refl, sym, ap, subst, ◌∙◌, arith}
+use Rattle.std.proofs.Common.{◌≡◌, ◌≤◌, ℕ, Bool, true, false, List, [], ◌∷◌, ◌++◌, refl, sym, ap, subst, ◌∙◌, arith}
 use Rattle.std.proofs.lemmas.List.{append-nil}
 use Rattle.std.specs.Io.{StartsWith, appended_bytes}
 use Rattle.kmipa_ttlv.specs.Tree.{Tree, Trees, forest}
@@ -7,7 +7,7 @@ use Rattle.kmipa_ttlv.specs.Spelling.{Spells}
 use Rattle.kmipa_ttlv.specs.Stream.{Begins}
 use Rattle.kmipa_ttlv.specs.Items.{AreItems}
 use Rattle.kmipa_ttlv.specs.Spelled.{items_at}
-use Rattle.kmipa_ttlv.specs.Written.{depth, depths}
+use Rattle.kmipa_ttlv.specs.Written.{depths}
 use Rattle.kmipa_ttlv.proofs.SpelledLemmas.{listed_items}
 use Rattle.kmipa_ttlv.proofs.StreamLemmas.{item_read}
 use Rattle.kmipa_runs.specs.Inputs.{AreShown}

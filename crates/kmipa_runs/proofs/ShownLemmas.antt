@@ -1,5 +1,5 @@
 -- The lines of items, from what is appended.
-use Rattle.std.proofs.Common.{◌≡◌, ℕ, Bool, true, false, ◌+◌, ◌*◌, replicate, ◌/◌, ◌%◌, ◌<◌, List, [], ◌∷◌, ◌++◌, length, get_or, drop, suc, refl, sym, ap, ◌∙◌, append_assoc, add-one, drop-cons}
+use Rattle.std.proofs.Common.{◌≡◌, ℕ, Bool, true, false, ◌+◌, ◌*◌, replicate, ◌/◌, ◌%◌, ◌<◌, List, [], ◌∷◌, ◌++◌, length, get_or, drop, refl, sym, ap, ◌∙◌, append_assoc, add-one, drop-cons}
 use denote.Bor.{Bor}
 use Rattle.std.specs.Prelude.{codes}
 use Rattle.std.proofs.lemmas.List.{append-nil}
@@ -64,16 +64,16 @@ no_digits table = refl
 pub five : (a b d e f g : List ℕ) → (((a ++ (b ++ d)) ++ e) ++ f) ++ g ≡ a ++ (b ++ d ++ e ++ f ++ g)
 five a b d e f g = simp append_assoc
 
-pub four : (a b d e f : List ℕ) → (((a ++ b) ++ (d ++ 32 ∷ [])) ++ e) ++ f ≡ a ++ (b ++ d ++ 32 ∷ e ++ f)
-four a b d e f = simp append_assoc
+pub fronted : (a b d e : List ℕ) → (a ++ (b ++ d ++ 32 ∷ [])) ++ e ≡ a ++ (b ++ d ++ 32 ∷ e)
+fronted a b d e = simp append_assoc
 
-heads : (a b d e f : List ℕ) → a ++ b ++ 32 ∷ d ++ (32 ∷ e ++ f) ≡ (a ++ b ++ 32 ∷ d ++ 32 ∷ e) ++ f
-heads a b d e f = simp append_assoc
+heads : (o a b d e f : List ℕ) → (o ++ (a ++ b ++ 32 ∷ d)) ++ (32 ∷ e ++ f) ≡ o ++ ((a ++ b ++ 32 ∷ d ++ 32 ∷ e) ++ f)
+heads o a b d e f = simp append_assoc
 
 -- the words of a type end the head of a line
-pub head_of : (level tag : ℕ) (kind rest : List ℕ)
-    → replicate (2 * level) 32 ++ encode_upper (big_bytes 3 tag) ++ 32 ∷ tag_name_of tag ++ (32 ∷ kind ++ rest) ≡ head level tag kind ++ rest
-head_of level tag kind rest = heads (replicate (2 * level) 32) (encode_upper (big_bytes 3 tag)) (tag_name_of tag) kind rest
+pub head_of : (old : List ℕ) (level tag : ℕ) (kind rest : List ℕ)
+    → (old ++ (replicate (2 * level) 32 ++ encode_upper (big_bytes 3 tag) ++ 32 ∷ tag_name_of tag)) ++ (32 ∷ kind ++ rest) ≡ old ++ (head level tag kind ++ rest)
+head_of old level tag kind rest = heads old (replicate (2 * level) 32) (encode_upper (big_bytes 3 tag)) (tag_name_of tag) kind rest
 
 digits_both : (table a b : List ℕ) → encode_with table (a ++ b) ≡ encode_with table a ++ encode_with table b
 unfolding encode_with

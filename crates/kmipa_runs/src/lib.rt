@@ -4,6 +4,7 @@
 mod dates;
 mod digits;
 mod flaws;
+mod front;
 mod holding;
 mod laws;
 mod lines;

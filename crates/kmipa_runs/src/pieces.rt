@@ -1,9 +1,14 @@
 //! A printer that is given its bytes in long pieces.
 
-ghost use Rattle.std.specs.Prelude.{◌≡◌, ◌≤◌, ◌+◌, ◌++◌, [], length, vec_len, vec_capacity, IsTrue, MatchResult, OnErr, OnOk};
+ghost use Rattle.std.specs.Prelude.{◌≡◌, ◌≤◌, ◌+◌, ◌*◌, ◌∷◌, ◌++◌, [], length, replicate, vec_len, vec_capacity, IsTrue, MatchResult, OnErr, OnOk};
+ghost use Rattle.byteorder.specs.Endian.{big_bytes};
+ghost use Rattle.hex.specs.Hex.{encode_upper};
+ghost use Rattle.kmipa_runs.specs.declared.front.TheConstants.{FRONT};
 ghost use Rattle.kmipa_runs.specs.declared.pieces.TheConstants.{PIECE};
 
+use crate::front::{FRONT, SPACES, fill_tag, front_of};
 use crate::printer::{Printer, Unprinted};
+use kmipa_ttlv::Tag;
 use std::alloc::Global;
 
 /// How many bytes are held at most.
@@ -60,6 +65,22 @@ impl<P: Printer> Pieces<P> {
         }
     }
 
+    /// Holds the front of a line; there is room for the longest. Its digits are written where they are held: copying
+    /// what was just written byte by byte takes longer.
+    #[inline(always)]
+    fn hold_front(&mut self, level: usize, tag: Tag)
+        requires room { vec_len self.old.held + FRONT ≤ PIECE }
+        requires level { level ≤ 31 }
+        ensures holds { self.new.held.items ≡ self.old.held.items
+            ++ (replicate (2 * level) 32 ++ encode_upper (big_bytes 3 tag.number) ++ 32 ∷ []) }
+        ensures same { self.new.printer ≡ self.old.printer }
+    {
+        let start = self.held.len() + 2 * level;
+        self.hold(&SPACES);
+        fill_tag(tag, self.held.slice_mut(start..start + 6));
+        self.held.truncate(start + 7);
+    }
+
     /// Prints what is held, and holds these bytes, or prints them too where they are too many.
     #[cold]
     #[inline(never)]
@@ -87,6 +108,15 @@ impl<P: Printer> Printer for Pieces<P> {
             return self.print_ahead(bytes);
         }
         self.hold(bytes);
+        Ok(())
+    }
+
+    #[inline(always)]
+    fn print_front(&mut self, level: usize, tag: Tag) -> Result<(), Unprinted> {
+        if PIECE - self.held.len() < FRONT {
+            return self.print_ahead(&front_of(level, tag)[..2 * level + 7]);
+        }
+        self.hold_front(level, tag);
         Ok(())
     }
 }

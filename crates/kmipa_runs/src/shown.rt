@@ -13,18 +13,14 @@ ghost use Rattle.kmipa_runs.specs.Shown.{IsPlain, ShowsBelow, ShowsItem, ShowsIt
 use crate::message::message_of;
 use crate::options::ShowOptions;
 use crate::printer::{Printer, Unprinted};
-use crate::values::{UPPER, fill_digits, kind_word, push_note, push_value};
-use byteorder::{BigEndian, ByteOrder};
+use crate::values::{push_kind, push_note, push_value};
 use kmipa_attrs::tag_name;
 use kmipa_ttlv::{Children, Tag, View, ViewValue};
-
-/// Two spaces for each level that an item may have above it: 15 in a file, and 16 more in a message below one of its
-/// Byte Strings.
-static MARGIN: [u8; 62] = [b' '; 62];
 
 /// Prints the lines of an item with so many levels above it, and of the items in it. After an error a part
 /// of them may be printed.
 #[cycle(showing)]
+#[inline(always)]
 fn push_item<P: Printer>(
     item: &View,
     options: ShowOptions,
@@ -40,7 +36,8 @@ fn push_item<P: Printer>(
 {
     match &item.value {
         ViewValue::Structure(children) => {
-            push_head(item.tag, " Structure\n", level, out)?;
+            push_head(item.tag, level, out)?;
+            out.print(b" Structure\n")?;
             push_items(*children, options, level + 1, out)
         }
         ViewValue::Bytes(bytes) => {
@@ -99,6 +96,7 @@ fn push_below<P: Printer>(
 }
 
 /// Prints the line of an item without children.
+#[inline(always)]
 fn push_line<P: Printer>(
     item: &View,
     notes: bool,
@@ -111,40 +109,21 @@ fn push_line<P: Printer>(
     ensures appends { OnOk result (StartsWith (P.printed out.new) (P.printed out.old)) }
     ensures fails { OnErr result (IsTrue (P.has_failed out.new)) }
 {
-    push_head(item.tag, kind_word(&item.value), level, out)?;
+    push_head(item.tag, level, out)?;
+    push_kind(&item.value, out)?;
     push_value(&item.value, out)?;
     push_note(notes, item.tag, &item.value, out)?;
     out.print(b"\n")
 }
 
-/// Prints the margin, the tag, its name and these words of the type, which begin with a space.
-fn push_head<P: Printer>(tag: Tag, kind: &str, level: usize, out: &mut P) -> Result<(), Unprinted>
+/// Prints the margin, the tag and its name.
+#[inline(always)]
+fn push_head<P: Printer>(tag: Tag, level: usize, out: &mut P) -> Result<(), Unprinted>
     requires { level ≤ 31 }
     ensures pushes { OnOk result (P.printed out.new ≡ P.printed out.old
-        ++ (replicate (2 * level) 32 ++ encode_upper (big_bytes 3 tag.number) ++ 32 ∷ tag_name_of tag.number ++ kind.now)) }
+        ++ (replicate (2 * level) 32 ++ encode_upper (big_bytes 3 tag.number) ++ 32 ∷ tag_name_of tag.number)) }
     ensures fails { OnErr result (IsTrue (P.has_failed out.new)) }
 {
-    out.print(margin(level))?;
-    out.print(&tag_digits(tag))?;
-    out.print(tag_name(tag).as_bytes())?;
-    out.print(kind.as_bytes())
-}
-
-/// Two spaces a level.
-fn margin(level: usize) -> &'static [u8]
-    requires { level ≤ 31 }
-    ensures { result.now ≡ replicate (2 * level) 32 }
-{
-    &MARGIN[..2 * level]
-}
-
-/// The digits of a tag, and a space.
-fn tag_digits(tag: Tag) -> [u8; 7]
-    ensures { result ≡ encode_upper (big_bytes 3 tag.number) ++ 32 ∷ [] }
-{
-    let mut bytes = [0u8; 3];
-    BigEndian::write_u24(&mut bytes, tag.number);
-    let mut digits = [b' '; 7];
-    fill_digits(UPPER, &bytes, &mut digits[..6]);
-    digits
+    out.print_front(level, tag)?;
+    out.print(tag_name(tag).as_bytes())
 }

@@ -4,7 +4,8 @@ ghost use Rattle.std.specs.Prelude.{◌≡◌, ◌≤◌, ◌*◌, ◌++◌, ◌
 ghost use Rattle.std.specs.List.{flat_map};
 ghost use Rattle.std.specs.Fmt.{signed_decimal};
 ghost use Rattle.std.specs.Io.{StartsWith, appended_bytes};
-ghost use Rattle.hex.specs.Hex.{encode_lower, encode_with};
+ghost use Rattle.byteorder.specs.Endian.{big_bytes};
+ghost use Rattle.hex.specs.Hex.{encode_lower, encode_upper, encode_with};
 ghost use Rattle.kmipa_ttlv.specs.ViewTree.{view_value_tree};
 ghost use Rattle.kmipa_runs.specs.Shown.{escaped, quoted, kind_name, note, noted, ShowsMoment, ShowsValue};
 
@@ -23,26 +24,29 @@ const LOWER: &[u8; 16] = b"0123456789abcdef";
 /// How many bytes are made digits at a time.
 const BLOCK: usize = 32;
 
-/// The name of a value's type, between spaces.
-pub fn kind_word(value: &ViewValue) -> &'static str
-    ensures { (tag : ℕ) → result.now ≡ 32 ∷ kind_name (view_value_tree tag value.now) ++ codes " " }
+/// Prints the name of a value's type, between spaces.
+#[inline(always)]
+pub fn push_kind<P: Printer>(value: &ViewValue, out: &mut P) -> Result<(), Unprinted>
+    ensures pushes { OnOk result ((tag : ℕ) → P.printed out.new ≡ P.printed out.old ++ (32 ∷ kind_name (view_value_tree tag value.now) ++ codes " ")) }
+    ensures fails { OnErr result (IsTrue (P.has_failed out.new)) }
 {
     match value {
-        ViewValue::Structure(_) => " Structure ",
-        ViewValue::Integer(_) => " Integer ",
-        ViewValue::LongInteger(_) => " LongInteger ",
-        ViewValue::BigInteger(_) => " BigInteger ",
-        ViewValue::Enumeration(_) => " Enumeration ",
-        ViewValue::Boolean(_) => " Boolean ",
-        ViewValue::Text(_) => " Text ",
-        ViewValue::Bytes(_) => " Bytes ",
-        ViewValue::DateTime(_) => " DateTime ",
-        ViewValue::Interval(_) => " Interval ",
-        ViewValue::DateTimeExtended(_) => " DateTimeExtended ",
+        ViewValue::Structure(_) => out.print(b" Structure "),
+        ViewValue::Integer(_) => out.print(b" Integer "),
+        ViewValue::LongInteger(_) => out.print(b" LongInteger "),
+        ViewValue::BigInteger(_) => out.print(b" BigInteger "),
+        ViewValue::Enumeration(_) => out.print(b" Enumeration "),
+        ViewValue::Boolean(_) => out.print(b" Boolean "),
+        ViewValue::Text(_) => out.print(b" Text "),
+        ViewValue::Bytes(_) => out.print(b" Bytes "),
+        ViewValue::DateTime(_) => out.print(b" DateTime "),
+        ViewValue::Interval(_) => out.print(b" Interval "),
+        ViewValue::DateTimeExtended(_) => out.print(b" DateTimeExtended "),
     }
 }
 
 /// Prints the text of a value; of a Structure nothing.
+#[inline(always)]
 pub fn push_value<P: Printer>(value: &ViewValue, out: &mut P) -> Result<(), Unprinted>
     ensures shows { OnOk result ((tag : ℕ) → ShowsValue (view_value_tree tag value.now) (appended_bytes (P.printed out.old) (P.printed out.new))) }
     ensures appends { OnOk result (StartsWith (P.printed out.new) (P.printed out.old)) }
@@ -53,7 +57,7 @@ pub fn push_value<P: Printer>(value: &ViewValue, out: &mut P) -> Result<(), Unpr
         ViewValue::Integer(n) => push_number(i64::from(*n), out),
         ViewValue::LongInteger(n) => push_number(*n, out),
         ViewValue::BigInteger(bytes) => push_digits(LOWER, bytes, out),
-        ViewValue::Enumeration(n) => push_digits(UPPER, &n.to_be_bytes(), out),
+        ViewValue::Enumeration(n) => push_enumeration(*n, out),
         ViewValue::Boolean(true) => out.print(b"true"),
         ViewValue::Boolean(false) => out.print(b"false"),
         ViewValue::Text(text) => push_quoted(text.as_bytes(), out),
@@ -66,6 +70,7 @@ pub fn push_value<P: Printer>(value: &ViewValue, out: &mut P) -> Result<(), Unpr
 
 /// With the notes, prints the name of an Enumeration's number after a space, in parentheses, where the standard
 /// names it.
+#[inline(always)]
 pub fn push_note<P: Printer>(
     notes: bool,
     tag: Tag,
@@ -95,6 +100,17 @@ fn push_name<P: Printer>(name: Option<&str>, out: &mut P) -> Result<(), Unprinte
     out.print(b" (")?;
     out.print(name.as_bytes())?;
     out.print(b")")
+}
+
+/// Prints the eight digits of an Enumeration's number.
+#[inline(always)]
+fn push_enumeration<P: Printer>(number: u32, out: &mut P) -> Result<(), Unprinted>
+    ensures pushes { OnOk result (P.printed out.new ≡ P.printed out.old ++ encode_upper (big_bytes 4 number)) }
+    ensures fails { OnErr result (IsTrue (P.has_failed out.new)) }
+{
+    let mut digits = [0u8; 8];
+    fill_digits(UPPER, &number.to_be_bytes(), &mut digits);
+    out.print(&digits)
 }
 
 /// Prints a number in decimal.
@@ -132,6 +148,7 @@ fn push_block<P: Printer>(table: &[u8; 16], block: &[u8], out: &mut P) -> Result
 }
 
 /// Writes bytes as hexadecimal digits of this table.
+#[inline(always)]
 pub fn fill_digits(table: &[u8; 16], bytes: &[u8], digits: &mut [u8])
     requires { length digits.old ≡ 2 * length bytes.now }
     ensures { digits.new ≡ encode_with table.now bytes.now }

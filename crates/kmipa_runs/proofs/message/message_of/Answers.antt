@@ -1,4 +1,4 @@
-use Rattle.std.proofs.Common.{◌≡◌, List, ℕ, length, take, sym, subst, arith, take_all}
+use Rattle.std.proofs.Common.{List, ℕ, length, sym, subst, arith, take_all}
 use Rattle.kmipa_ttlv.specs.Spelling.{Spells}
 use Rattle.kmipa_runs.proofs.message.message_of.Goals as goal
 

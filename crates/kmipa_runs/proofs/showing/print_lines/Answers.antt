@@ -1,7 +1,5 @@
-use Rattle.std.proofs.Common.{◌≡◌, ◌++◌, ℕ, List, arith, refl}
-use Rattle.std.specs.Io.{StartsWith}
+use Rattle.std.proofs.Common.{◌++◌, arith, refl}
 use Rattle.kmipa_ttlv.specs.ViewTree.{view_trees}
-use Rattle.kmipa_ttlv.specs.Written.{depths}
 use Rattle.kmipa_runs.proofs.PrintLemmas.{few_in_place, shown_in_pieces, starts_empty}
 use Rattle.kmipa_runs.proofs.showing.print_lines.Goals as goal
 

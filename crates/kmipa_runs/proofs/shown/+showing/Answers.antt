@@ -21,17 +21,18 @@ push_item-push_items-requires g t c =
       (outlives, (omega (arith, c.requires.level, ap depth e), λ asked. let fits = c.requires.room asked in omega (arith, fits, ap depth e))),
     )
 
-pub push_item-returns-in_ok-push_head-in-Structure-clause-shows : goal.push_item-returns-in_ok-push_head-in-Structure-clause-shows
-push_item-returns-in_ok-push_head-in-Structure-clause-shows g t c =
+pub push_item-returns-in_ok-print-in-Structure-clause-shows : goal.push_item-returns-in_ok-print-in-Structure-clause-shows
+push_item-returns-in_ok-print-in-Structure-clause-shows g t c =
     let printed = g.P.Printer.printed in
     let tag = c.args.item.now.tag.number in
     let old = printed c.args.out.now in
-    let lined = printed c.push_head.new.out in
+    let lined = printed c.print.new.self in
     let new = printed c.push_items.new.out in
     let first = head c.args.level tag (codes "Structure") in
     let e : view_tree c.args.item.now ≡ structure tag (view_trees c.in-Structure.children) = ap (view_value_tree tag) c.in-Structure.is in
     let line : lined ≡ old ++ (first ++ codes "\n")
-    = c.in_ok-push_head-in-Structure.ensures.pushes ∙ ap (λ (l : List ℕ). old ++ l) (head_of c.args.level tag (codes "Structure") (codes "\n")) in
+    = c.in_ok-print-in-Structure.ensures.prints ∙ ap (λ (l : List ℕ). l ++ codes " Structure\n") c.in_ok-push_head-in-Structure.ensures.pushes
+    ∙ head_of old c.args.level tag (codes "Structure") (codes "\n") in
     let P : Tree → Type 0 = λ tr. ShowsItem c.args.options c.args.level tr (appended_bytes old new) in
     on_both c.push_items.result
     (λ below appends. subst P (sym e) (appended_bytes lined new, below, onto old lined new (first ++ codes "\n") line appends))
@@ -114,14 +115,14 @@ push_below-push_item-requires g t c =
     let here = c.requires asked in
     λ κs outlives. (omega (arith, here, few, c.decreases), (outlives, (omega (arith, here, few), λ no. let clash : false ≡ true = no in absurd cc)))
 
-pub push_item-returns-in_ok-push_head-in-Structure-clause-appends : goal.push_item-returns-in_ok-push_head-in-Structure-clause-appends
-push_item-returns-in_ok-push_head-in-Structure-clause-appends g t c =
+pub push_item-returns-in_ok-print-in-Structure-clause-appends : goal.push_item-returns-in_ok-print-in-Structure-clause-appends
+push_item-returns-in_ok-print-in-Structure-clause-appends g t c =
     let printed = g.P.Printer.printed in
     let old = printed c.args.out.now in
-    let lined = printed c.push_head.new.out in
-    on_ok_weaker c.push_items.result
-    (λ appends. starts_on old lined (printed c.push_items.new.out) (starts old _ lined c.in_ok-push_head-in-Structure.ensures.pushes) appends)
-    c.push_items.ensures.appends
+    let headed = printed c.push_head.new.out in
+    let lined = printed c.print.new.self in
+    let started = starts_on old headed lined (starts old _ headed c.in_ok-push_head-in-Structure.ensures.pushes) (starts headed _ lined c.in_ok-print-in-Structure.ensures.prints) in
+    on_ok_weaker c.push_items.result (λ appends. starts_on old lined (printed c.push_items.new.out) started appends) c.push_items.ensures.appends
 
 pub push_item-returns-in_ok-push_line-in-Bytes-clause-appends : goal.push_item-returns-in_ok-push_line-in-Bytes-clause-appends
 push_item-returns-in_ok-push_line-in-Bytes-clause-appends g t c =

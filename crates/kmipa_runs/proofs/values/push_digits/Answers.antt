@@ -1,4 +1,4 @@
-use Rattle.std.proofs.Common.{◌≡◌, ◌++◌, List, ℕ, [], ap, sym, ◌∙◌, arith, append_assoc, rules}
+use Rattle.std.proofs.Common.{◌≡◌, ◌++◌, List, ℕ, [], ap, sym, ◌∙◌, rules}
 use Rattle.std.proofs.lemmas.List.{append-nil, nil_from_length}
 use Rattle.hex.specs.Hex.{encode_with}
 use Rattle.kmipa_runs.proofs.ShownLemmas.{digits_on, no_digits}

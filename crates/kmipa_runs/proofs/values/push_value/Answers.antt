@@ -1,8 +1,7 @@
-use Rattle.std.proofs.Common.{◌++◌, List, ℕ, ap, sym, subst, ◌∙◌}
+use Rattle.std.proofs.Common.{sym, subst}
 use Rattle.std.specs.Io.{appended_bytes}
 use Rattle.std.proofs.lemmas.Result.{on_ok_weaker}
-use Rattle.byteorder.specs.Endian.{big_bytes}
-use Rattle.hex.specs.Hex.{encode_lower, encode_upper}
+use Rattle.hex.specs.Hex.{encode_lower}
 use Rattle.kmipa_ttlv.specs.ViewTree.{view_value_tree}
 use Rattle.kmipa_ttlv.specs.declared.view.ViewValue.{ViewValue}
 use Rattle.kmipa_runs.specs.Shown.{ShowsValue}
@@ -30,14 +29,3 @@ returns-in-Bytes-clause-shows g c =
     (λ e. λ tag. let P : ViewValue → Type 0 = λ v. ShowsValue (view_value_tree tag v) (appended_bytes old new) in
     subst P (sym c.in-Bytes.is) (since old (encode_lower bs) new e))
     c.push_digits-in-Bytes.ensures.pushes
-
-pub returns-in-Enumeration-clause-shows : goal.returns-in-Enumeration-clause-shows
-returns-in-Enumeration-clause-shows g c =
-    let printed = g.P.Printer.printed in
-    let old = printed c.args.out.now in
-    let new = printed c.push_digits-in-Enumeration.new.out in
-    let n = c.in-Enumeration.n in
-    on_ok_weaker c.push_digits-in-Enumeration.result
-    (λ e. λ tag. let P : ViewValue → Type 0 = λ v. ShowsValue (view_value_tree tag v) (appended_bytes old new) in
-    subst P (sym c.in-Enumeration.is) (since old (encode_upper (big_bytes 4 n)) new (e ∙ ap (λ (l : List ℕ). old ++ encode_upper l) c.to_be_bytes.ensures)))
-    c.push_digits-in-Enumeration.ensures.pushes
