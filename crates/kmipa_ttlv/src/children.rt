@@ -31,6 +31,7 @@ impl<'a> Children<'a> {
     }
 
     /// The next child, after which the others are left; `None` where none is left, then and from then on.
+    #[inline(always)]
     pub fn next(&mut self) -> Option<View<'a>>
         ensures { MatchOption result ((view_trees self.old ≡ none) × (view_trees self.new ≡ none)) (λ v. view_trees self.old ≡ more (view_tree v) (view_trees self.new)) }
     {

@@ -14,6 +14,7 @@ use crate::view::{Children, Source, View, ViewValue};
 use byteorder::{BigEndian, ByteOrder};
 
 /// The item at the front and the bytes behind it, or `None` where no whole one is there.
+#[inline(always)]
 pub fn front_view(bytes: &[u8]) -> Option<(View<'_>, &[u8])>
     ensures { MatchOption result (items_at bytes.now ≡ none) (λ x. items_at bytes.now ≡ more (view_tree x.0) (items_at x.1.now)) }
 {
