@@ -18,7 +18,9 @@ pub struct Output<'a, R> {
 
 impl<'a, R: Print> Output<'a, R> {
     /// Standard output, where nothing was printed.
-    pub fn new(rt: &'a R) -> Output<'a, R> {
+    pub fn new(rt: &'a R) -> Output<'a, R>
+        ensures { result.went.bytes ≡ [] }
+    {
         Output {
             rt,
             empty: true,
@@ -28,7 +30,9 @@ impl<'a, R: Print> Output<'a, R> {
     }
 
     /// Whether nothing was printed.
-    pub fn is_empty(&self) -> bool {
+    pub fn is_empty(&self) -> bool
+        ensures { IsTrue result → self.now.went.bytes ≡ [] }
+    {
         self.empty
     }
 }
