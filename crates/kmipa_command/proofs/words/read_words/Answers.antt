@@ -1,8 +1,8 @@
 use Rattle.std.proofs.Common.{map}
 use Rattle.clap.specs.Words.{app_of, fault_of}
-use Rattle.kmip_audit.specs.Words.{program_app}
-use Rattle.kmip_audit.proofs.WordLemmas.{fits, reported, has_kind}
-use Rattle.kmip_audit.proofs.words.read_words.Goals as goal
+use Rattle.kmipa_command.specs.Words.{program_app}
+use Rattle.kmipa_command.proofs.WordLemmas.{fits, reported, has_kind}
+use Rattle.kmipa_command.proofs.words.read_words.Goals as goal
 
 pub returns-in-Err-clause-reported :
     goal.returns-in-Err-clause-reported

@@ -9,9 +9,9 @@ use Rattle.clap.specs.declared.error.kind.ErrorKind.TheVariants.{DisplayHelp, Di
 use Rattle.kmipa_runs.specs.declared.status.Status.{Status}
 use Rattle.kmipa_runs.specs.declared.status.Status.TheVariants.{Done, Failed, Usage as Mistake}
 use Rattle.kmipa_runs.specs.Statuses.{IsSilent}
-use Rattle.kmip_audit.specs.declared.words.Job.{Job}
-use Rattle.kmip_audit.specs.declared.words.Job.TheVariants.{Check, Search, Show, Write}
-use Rattle.kmip_audit.specs.declared.words.Usage.{Usage}
+use Rattle.kmipa_command.specs.declared.words.Job.{Job}
+use Rattle.kmipa_command.specs.declared.words.Job.TheVariants.{Check, Search, Show, Write}
+use Rattle.kmipa_command.specs.declared.words.Usage.{Usage}
 
 -- a file that has to be named
 abbrev pub file_rule : Text → Rule

@@ -4,7 +4,7 @@ ghost use Rattle.std.specs.Prelude.{◌≡◌, ◌≢◌, ◌⊎◌, false, [], 
 ghost use Rattle.clap.specs.Words.{app_of, rule_of, rows_of, found_of, kind_of, subcommand_of, subcommand_rows_of, fault_of};
 ghost use Rattle.clap.specs.declared.builder.command.Command.TheViews.{out-Command};
 ghost use Rattle.kmipa_runs.specs.Statuses.{IsSilent};
-ghost use Rattle.kmip_audit.specs.Words.{program_app, check_app, search_app, search_files_app, show_app, write_app, budget_rule, file_rule, flag_rule, status_of, IsJob, IsSearch, IsTold};
+ghost use Rattle.kmipa_command.specs.Words.{program_app, check_app, search_app, search_files_app, show_app, write_app, budget_rule, file_rule, flag_rule, status_of, IsJob, IsSearch, IsTold};
 
 use clap::builder::ValueParser;
 use clap::error::ErrorKind;

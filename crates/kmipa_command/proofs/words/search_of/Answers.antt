@@ -1,7 +1,7 @@
 use Rattle.std.proofs.Common.{codes}
 use Rattle.clap.specs.Words.{found_of}
-use Rattle.kmip_audit.proofs.WordLemmas.{at_row, flag_found, number_found}
-use Rattle.kmip_audit.proofs.words.search_of.Goals as goal
+use Rattle.kmipa_command.proofs.WordLemmas.{at_row, flag_found, number_found}
+use Rattle.kmipa_command.proofs.words.search_of.Goals as goal
 
 pub returns : goal.returns
 returns c =

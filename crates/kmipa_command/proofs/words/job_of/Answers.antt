@@ -1,7 +1,7 @@
 use Rattle.std.proofs.Common.{codes}
 use Rattle.clap.specs.Words.{found_of, subcommand_rows_of}
-use Rattle.kmip_audit.proofs.WordLemmas.{named, check_found, flag_found, search_found_some, show_found, write_found}
-use Rattle.kmip_audit.proofs.words.job_of.Goals as goal
+use Rattle.kmipa_command.proofs.WordLemmas.{named, check_found, flag_found, search_found_some, show_found, write_found}
+use Rattle.kmipa_command.proofs.words.job_of.Goals as goal
 
 pub returns-in_ok-get_str-in-check-3 : goal.returns-in_ok-get_str-in-check-3
 returns-in_ok-get_str-in-check-3 c =

@@ -3,9 +3,9 @@ use Rattle.std.proofs.lemmas.Result.{IfOk-weaker}
 use Rattle.clap.specs.Words.{app_of, shape_of}
 use Rattle.clap.specs.Simple.{with_subcommand}
 use Rattle.clap.specs.declared.builder.command.Command.TheViews.{out-Command}
-use Rattle.kmip_audit.specs.Words.{with_settings}
-use Rattle.kmip_audit.proofs.WordLemmas.{settings, whole}
-use Rattle.kmip_audit.proofs.words.command.Goals as goal
+use Rattle.kmipa_command.specs.Words.{with_settings}
+use Rattle.kmipa_command.proofs.WordLemmas.{settings, whole}
+use Rattle.kmipa_command.proofs.words.command.Goals as goal
 
 pub returns : goal.returns
 returns c =

@@ -1,0 +1,11 @@
+//! The command line: words come in, files are read and written, and lines go out.
+#![tactic(auto)]
+
+mod files;
+mod output;
+mod printing;
+mod progress;
+mod session;
+mod words;
+
+pub use session::run_session;
