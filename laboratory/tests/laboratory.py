@@ -28,7 +28,7 @@ SECONDS = 20
 
 sys.path.insert(0, str(FOLDER))
 
-from recording.transcript import Begin, End, read_marks  # noqa: E402
+from kmip_laboratory.transcript import Begin, End, read_marks  # noqa: E402
 
 
 def run(*words: object, **more: object) -> subprocess.CompletedProcess:

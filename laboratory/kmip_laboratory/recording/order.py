@@ -4,10 +4,10 @@ from __future__ import annotations
 
 from typing import List
 
-from . import message, ttlv
-from .files import write_file
-from .transcript import CALL, VERSION, End, read_marks
-from .trouble import say
+from .. import message, ttlv
+from ..files import write_file
+from ..transcript import CALL, VERSION, End, read_marks
+from ..trouble import say
 
 HEADER = 0x540040
 TURN = 0x540041

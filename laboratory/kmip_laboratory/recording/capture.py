@@ -10,14 +10,14 @@ from __future__ import annotations
 from collections import deque
 from typing import Deque, Dict, List, Optional
 
-from . import certificate, message
-from .address import Address
+from .. import certificate, message
+from ..address import Address
+from ..message import Side
+from ..transcript import TranscriptWriter
+from ..trouble import ConnectionTrouble, Trouble, say
+from ..ttlv import HEADER_LENGTH
 from .gaps import have_gap
-from .message import Side
 from .packets import Packet, read_packets
-from .transcript import TranscriptWriter
-from .trouble import ConnectionTrouble, Trouble, say
-from .ttlv import HEADER_LENGTH
 
 
 class Stream:

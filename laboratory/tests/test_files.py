@@ -8,10 +8,10 @@ from unittest import mock
 import messages
 from laboratory import Laboratory, run
 
-from recording import certificate, message, ttlv
-from recording.message import Side
-from recording.transcript import TranscriptWriter
-from recording.trouble import Trouble
+from kmip_laboratory import certificate, message, ttlv
+from kmip_laboratory.message import Side
+from kmip_laboratory.transcript import TranscriptWriter
+from kmip_laboratory.trouble import Trouble
 
 HEADER = "54000101 00000010 54000202 00000004 00000001 00000000"
 REQUEST = """42007801 00000070 42007701 00000038 42006901 00000020
@@ -69,7 +69,7 @@ class Files(Laboratory):
 
     def test_a_transcript_has_no_more_calls_than_the_auditor_reads(self) -> None:
         path = self.folder / "transcript.ttlv"
-        with TranscriptWriter(str(path)) as transcript, mock.patch("recording.transcript.MOST_CALLS", 1):
+        with TranscriptWriter(str(path)) as transcript, mock.patch("kmip_laboratory.transcript.MOST_CALLS", 1):
             transcript.begin("a", messages.get("1"))
             with self.assertRaisesRegex(Trouble, "record what follows into another file"):
                 transcript.begin("a", messages.get("2"))

@@ -77,9 +77,9 @@ class OrderRule(Laboratory):
         """A recorder in which these lines stand in the other order."""
         copy = self.folder / "turned"
         shutil.copytree(FOLDER, copy, ignore=shutil.ignore_patterns("tests", "__pycache__"))
-        source = (copy / "recording/connection.py").read_text()
+        source = (copy / "kmip_laboratory/recording/connection.py").read_text()
         self.assertEqual(source.count(lines), 1)
-        (copy / "recording/connection.py").write_text(source.replace(lines, others))
+        (copy / "kmip_laboratory/recording/connection.py").write_text(source.replace(lines, others))
         return copy / "kmip_record"
 
     def unmarked(self, program: Path) -> List[str]:

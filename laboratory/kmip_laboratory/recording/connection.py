@@ -13,12 +13,12 @@ import socket
 import ssl
 from typing import Coroutine, NamedTuple, Optional, TypeVar
 
-from . import message, peer
-from .address import Address
-from .message import Side
-from .peer import Peer
-from .transcript import TranscriptWriter
-from .trouble import ConnectionTrouble
+from .. import message, peer
+from ..address import Address
+from ..message import Side
+from ..peer import Peer
+from ..transcript import TranscriptWriter
+from ..trouble import ConnectionTrouble
 
 Result = TypeVar("Result")
 

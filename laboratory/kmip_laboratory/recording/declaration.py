@@ -7,9 +7,9 @@ import argparse
 from enum import IntEnum
 from typing import List, NamedTuple
 
-from . import ttlv
-from .files import write_file
-from .transcript import VERSION
+from .. import ttlv
+from ..files import write_file
+from ..transcript import VERSION
 
 HEADER = 0x540030
 UNIQUE_NAMES = 0x540031

@@ -7,12 +7,12 @@ from enum import IntEnum
 from types import TracebackType
 from typing import Optional, Type
 
-from . import message, peer, ttlv
-from .address import Address
-from .message import PROTOCOL_VERSION, PROTOCOL_VERSION_MAJOR, PROTOCOL_VERSION_MINOR, Side
-from .peer import Peer
-from .trouble import ConnectionTrouble, Trouble
-from .ttlv import Item, Kind
+from .. import message, peer, ttlv
+from ..address import Address
+from ..message import PROTOCOL_VERSION, PROTOCOL_VERSION_MAJOR, PROTOCOL_VERSION_MINOR, Side
+from ..peer import Peer
+from ..trouble import ConnectionTrouble, Trouble
+from ..ttlv import Item, Kind
 
 BATCH_COUNT = 0x42000D
 BATCH_ITEM = 0x42000F

@@ -8,9 +8,9 @@ import socket
 import subprocess
 from typing import Dict, Iterator, List, NamedTuple, Optional, Set
 
-from .address import Address
+from ..address import Address
+from ..trouble import Trouble
 from .gaps import Span
-from .trouble import Trouble
 
 APPLICATION_DATA = "23"
 FINISH = 0x01

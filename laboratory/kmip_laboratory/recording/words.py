@@ -7,11 +7,12 @@ import asyncio
 import sys
 from typing import List, NoReturn
 
-from . import capture, declaration, inventory, order, proxy, tls
-from .address import read_address
+from .. import tls
+from ..address import read_address
+from ..transcript import TranscriptWriter
+from ..trouble import Trouble, say
+from . import capture, declaration, inventory, order, proxy
 from .connection import Way
-from .transcript import TranscriptWriter
-from .trouble import Trouble, say
 
 DONE = 0
 TROUBLE = 1

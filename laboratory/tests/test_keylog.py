@@ -11,13 +11,13 @@ import stub
 from capturing import captured, need_tshark
 from laboratory import Laboratory, kinds, read_marks, run
 
-from recording import certificate
-from recording.address import Address
-from recording.capture import Stream
-from recording.gaps import Span, have_gap
-from recording.packets import Packet
-from recording.transcript import TranscriptWriter
-from recording.trouble import ConnectionTrouble
+from kmip_laboratory import certificate
+from kmip_laboratory.address import Address
+from kmip_laboratory.recording.capture import Stream
+from kmip_laboratory.recording.gaps import Span, have_gap
+from kmip_laboratory.recording.packets import Packet
+from kmip_laboratory.transcript import TranscriptWriter
+from kmip_laboratory.trouble import ConnectionTrouble
 
 STAMP = 1_700_000_000
 CLIENT = Address("192.0.2.7", 50_000)

@@ -9,10 +9,10 @@ import socket
 import ssl
 from typing import Dict, Optional
 
-from . import peer, tls
-from .address import Address
+from .. import peer, tls
+from ..address import Address
+from ..trouble import ConnectionTrouble, Trouble, say
 from .connection import Connection, Way
-from .trouble import ConnectionTrouble, Trouble, say
 
 SECONDS_FOR_LAST_ANSWERS = 5
 WAITING_CLIENTS = 256

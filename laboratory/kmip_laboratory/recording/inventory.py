@@ -6,11 +6,11 @@ import ssl
 import time
 from typing import List, NamedTuple, Optional
 
-from . import ttlv
-from .address import Address
+from .. import ttlv
+from ..address import Address
+from ..trouble import Trouble, say
+from ..ttlv import Item, Kind
 from .questions import Failed, Operation, Questions
-from .trouble import Trouble, say
-from .ttlv import Item, Kind
 
 ENTRY = 0x540034
 ATTRIBUTES = 0x420125
