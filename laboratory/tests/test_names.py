@@ -16,21 +16,23 @@ FORMATS = (FOLDER.parent / "docs/FORMATS.md").read_text()
 
 def of_enumeration(name: str) -> str:
     """The numbers of a type, as the document lists them."""
-    return re.search(rf"\| {name} \| (.*) \|", FORMATS).group(1)
+    return re.search(rf"^\| {name} \| (.*) \|$", FORMATS, re.MULTILINE).group(1)
 
 
 class Names(unittest.TestCase):
     """Each name that the document has stands with its number in the modules."""
 
     def test_tags(self) -> None:
-        listed = {int(number, 16): name for number, name in re.findall(r"\| (42[0-9A-F]{4}) \| ([^|]+) (?=\|)", FORMATS)}
+        listed = {int(number, 16): name for number, name in
+                  re.findall(r"\| (42[0-9A-F]{4}) \| ([^|]+) (?=\|)", FORMATS)}
         self.assertGreater(len(listed), 40)
         for number, name in listed.items():
             self.assertEqual((tag_name(number), tag_of_name(name)), (name, number))
             self.assertEqual(Tag(number).name, name.upper().replace(" ", "_"))
 
     def test_tags_of_files(self) -> None:
-        listed = {int(number, 16): name for number, name in re.findall(r"\| (54[0-9A-F]{4}) \| ([a-z ]+) (?=\|)", FORMATS)}
+        listed = {int(number, 16): name for number, name in
+                  re.findall(r"\| (54[0-9A-F]{4}) \| ([a-z ]+) (?=\|)", FORMATS)}
         self.assertEqual({tag.value: tag.name.lower().replace("_", " ") for tag in FileTag}, listed)
 
     def test_the_last_tags_and_reserved_ones(self) -> None:
