@@ -9,6 +9,7 @@ from typing import List, NoReturn
 
 from .. import tls
 from ..address import read_address
+from ..files import OUT_HINT, see_that_free
 from ..transcript import TranscriptWriter
 from ..trouble import Trouble, say
 from . import capture, declaration, inventory, order, proxy
@@ -19,6 +20,7 @@ TROUBLE = 1
 USAGE = 64
 
 MINOR_HELP = "change version 2.0 in the header of each message to 2.1, for servers that speak 2.0"
+FORCE_HELP = "write over the file where it is there already"
 MINOR_NOTE = "version 2.0 is written as 2.1 in the transcript: what is judged then is not quite what was said"
 
 
@@ -97,13 +99,15 @@ def _add_declare(word: argparse.ArgumentParser) -> None:
     word.add_argument("--reason", type=declaration.read_row, action="append", default=[], metavar="NUMBER=CAUSE",
                       help="a Result Reason that is given only for this cause: NotFound, WrongState or TakenName")
     word.add_argument("--minor", choices=["1"], help="ask in version 2.0 in place of 2.1")
-    word.add_argument("--out", required=True, metavar="DECLARATION", help="the file to write")
+    word.add_argument("--out", required=True, metavar="DECLARATION", help="a new file for it")
+    word.add_argument("--force", action="store_true", help=FORCE_HELP)
     word.set_defaults(run=_declare)
 
 
 def _add_order(word: argparse.ArgumentParser) -> None:
     word.add_argument("transcript", metavar="TRANSCRIPT")
-    word.add_argument("--out", required=True, metavar="WITNESS", help="the file to write")
+    word.add_argument("--out", required=True, metavar="WITNESS", help="a new file for it")
+    word.add_argument("--force", action="store_true", help=FORCE_HELP)
     word.set_defaults(run=_order)
 
 
@@ -130,6 +134,7 @@ def _keylog(words: argparse.Namespace) -> None:
 
 
 def _declare(words: argparse.Namespace) -> None:
+    see_that_free(words.out, words.force, OUT_HINT)
     entries: List[bytes] = []
     if words.server:
         if not (words.server_cert and words.server_key and words.server_ca):
@@ -138,8 +143,8 @@ def _declare(words: argparse.Namespace) -> None:
         if words.minor:
             say("the server is asked in version 2.0")
         entries = asyncio.run(inventory.entries(words.server, context, bool(words.minor), words.bytes))
-    print(declaration.run(words.unique_names, words.reason, entries, words.out))
+    print(declaration.run(words.unique_names, words.reason, entries, words.out, words.force))
 
 
 def _order(words: argparse.Namespace) -> None:
-    print(order.run(words.transcript, words.out))
+    print(order.run(words.transcript, words.out, words.force))
