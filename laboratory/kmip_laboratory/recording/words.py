@@ -32,6 +32,17 @@ class Parser(argparse.ArgumentParser):
         self.exit(USAGE, f"{self.prog}: {message}\n")
 
 
+def read_seconds(words: str) -> float:
+    """The number of seconds that these words are."""
+    try:
+        seconds = float(words)
+    except ValueError:
+        seconds = -1
+    if not 0 <= seconds < 86_400:
+        raise argparse.ArgumentTypeError(f"{words!r} is no number of seconds from 0 to a day")
+    return seconds
+
+
 def main(arguments: List[str]) -> int:
     """Does what the words say, and answers the status."""
     parser = _parser()
@@ -69,6 +80,8 @@ def _add_proxy(word: argparse.ArgumentParser) -> None:
     word.add_argument("--server-cert", metavar="FILE", help="certificate that the server is shown (else --cert)")
     word.add_argument("--server-key", metavar="FILE", help="its key (else --key)")
     word.add_argument("--server-ca", metavar="FILE", help="authority of the server's certificate (else --client-ca)")
+    word.add_argument("--answer-within", type=read_seconds, default=10, metavar="SECONDS", help="how long the server's "
+                      "answer is waited for when the client broke off (10)")
     _add_transcript_words(word)
     word.set_defaults(run=_proxy)
 
@@ -120,7 +133,8 @@ def _proxy(words: argparse.Namespace) -> None:
     with proxy.listen(words.listen) as listener:
         asyncio.run(proxy.reach(words.server, toward_server))
         with TranscriptWriter(words.out) as transcript:
-            way = Way(words.server, toward_clients, toward_server, transcript, bool(words.minor))
+            way = Way(words.server, toward_clients, toward_server, transcript, bool(words.minor),
+                      words.answer_within)
             try:
                 asyncio.run(proxy.run(way, listener))
             finally:
