@@ -7,7 +7,7 @@ the marks before it.
 from __future__ import annotations
 
 import os
-from typing import BinaryIO, Dict, Iterator, List, NamedTuple, Optional, Set, Union
+from typing import BinaryIO, Dict, Iterator, List, NamedTuple, Optional, Set, Tuple, Union
 
 from . import ttlv
 from .trouble import ConnectionTrouble, Trouble
@@ -49,11 +49,14 @@ class Torn(ValueError):
 class TranscriptWriter:
     """Writes marks into a new file, which only its owner may read: it has the bytes of keys in it."""
 
-    def __init__(self, path: str) -> None:
+    def __init__(self, path: str, before: Optional[TranscriptWriter] = None) -> None:
+        """`before` is the file that this one goes on behind: numbers and sums go on from it."""
         self.path = path
-        self._calls = 0
+        self.calls = 0
+        self.next_call = before.next_call if before else 1
         self._open: Set[int] = set()
         self._length = 0
+        self._ahead: Tuple[int, int] = before.sums() if before else (0, 0)
         try:
             self._file = os.open(path, os.O_WRONLY | os.O_CREAT | os.O_EXCL, 0o600)
         except FileExistsError:
@@ -65,12 +68,13 @@ class TranscriptWriter:
 
     def begin(self, client: str, request: bytes) -> int:
         """Marks that a request is whole, and answers the number of its call."""
-        if self._calls == MOST_CALLS:
+        if self.calls == MOST_CALLS:
             raise Trouble(f"{self.path} has {MOST_CALLS:,} calls, the most that the auditor reads: record what "
                           "follows into another file")
-        call = self._calls + 1
+        call = self.next_call
         self._append(_checked(spelled(Begin(call, client, request))))
-        self._calls = call
+        self.calls += 1
+        self.next_call += 1
         self._open.add(call)
         return call
 
@@ -81,13 +85,22 @@ class TranscriptWriter:
 
     def summary(self) -> str:
         """The line that tells what was recorded."""
-        return f"{self._calls} calls, {len(self._open)} open calls, {self._length} bytes"
+        open_calls, length = self.sums()
+        return f"{self.next_call - 1} calls, {open_calls} open calls, {length} bytes"
+
+    def sums(self) -> Tuple[int, int]:
+        """How many calls are open, and how many bytes were written, in this file and those ahead of it."""
+        return self._ahead[0] + len(self._open), self._ahead[1] + self._length
+
+    def close(self) -> None:
+        """Closes the file."""
+        os.close(self._file)
 
     def __enter__(self) -> TranscriptWriter:
         return self
 
     def __exit__(self, *_: object) -> None:
-        os.close(self._file)
+        self.close()
 
     def _append(self, record: bytes) -> None:
         written = 0

@@ -4,7 +4,7 @@ from __future__ import annotations
 
 import struct
 from enum import IntEnum
-from typing import Dict, List, NamedTuple, Optional, Union
+from typing import Dict, Iterator, List, NamedTuple, Optional, Tuple, Union
 
 LONGEST_ITEM = 1_048_576
 DEEPEST_LEVEL = 16
@@ -140,6 +140,20 @@ def read_item(data: bytes) -> Item:
     if whole != len(data):
         raise NotTtlv(f"an item of {whole} bytes, in {len(data)}")
     return _read_items(data, 0, len(data), 1)[0]
+
+
+def headers_in(data: bytes, start: int, stop: int) -> Iterator[Tuple[int, int, int, int]]:
+    """Tag, type, offset of the value and its length, of each item that stands from `start` up to `stop`, one after the
+    other; what is in them is not looked at."""
+    while start < stop:
+        if start + HEADER_LENGTH > stop:
+            raise NotTtlv(f"a header that runs past its structure at offset {start}")
+        front, length = HEADER.unpack_from(data, start)
+        place = start + HEADER_LENGTH
+        start = place + length + -length % 8
+        if start > stop:
+            raise NotTtlv(f"an item that runs past its structure at offset {place - HEADER_LENGTH}")
+        yield front >> 8, front & 0xFF, place, length
 
 
 def _read_items(data: bytes, start: int, stop: int, level: int) -> List[Item]:

@@ -249,7 +249,7 @@ class Versions(Laboratory):
         self.assertTrue(recorder.heard("version 2.0 is written as 2.1"))
         self.assertEqual([mark.message for mark in recorder.marks()], [
             messages.get("key-1", (2, 1)), messages.not_found(STAMP, (2, 1)),
-            messages.get("key-1", (1, 4)), messages.not_found(STAMP, (1, 0))])
+            messages.get("key-1", (2, 1)), messages.not_found(STAMP, (2, 1))])
 
 
 class Ends(Laboratory):

@@ -13,12 +13,11 @@ import socket
 import ssl
 from typing import Coroutine, NamedTuple, Optional, TypeVar
 
-from .. import message, peer
+from .. import peer
 from ..address import Address
-from ..message import Side
 from ..peer import Peer
-from ..transcript import TranscriptWriter
 from ..trouble import ConnectionTrouble
+from .recording import Recording
 
 Result = TypeVar("Result")
 
@@ -29,13 +28,8 @@ class Way(NamedTuple):
     server: Address
     toward_clients: ssl.SSLContext
     toward_server: ssl.SSLContext
-    transcript: TranscriptWriter
-    minor_1: bool
+    recording: Recording
     answer_within: float
-
-    def marked(self, whole: bytes, side: Side) -> bytes:
-        """The message as the transcript is to have it."""
-        return message.with_minor_1(whole, side) if self.minor_1 else whole
 
 
 class Connection:
@@ -78,9 +72,9 @@ class Connection:
             self._busy = False
 
     async def _take_call(self, client: Peer, server: Peer, request: bytes) -> None:
-        self.open_call = self._way.transcript.begin(self.name, self._way.marked(request, Side.CLIENT))
+        self.open_call = self._way.recording.begin(self.name, request)
         response = await self._answer(client, server, request)
-        self._way.transcript.end(self.open_call, self._way.marked(response, Side.SERVER))
+        self._way.recording.end(self.open_call, response)
         self.open_call = None
         await _hand_over(client, response)
 

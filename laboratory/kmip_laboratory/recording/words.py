@@ -10,16 +10,16 @@ from typing import List, NoReturn
 from .. import tls
 from ..address import read_address
 from ..files import OUT_HINT, see_that_free
-from ..transcript import TranscriptWriter
 from ..trouble import Trouble, say
-from . import capture, declaration, inventory, order, proxy
+from . import capture, declaration, inventory, order, passes, proxy
 from .connection import Way
+from .recording import Recording, tell_account
 
 DONE = 0
 TROUBLE = 1
 USAGE = 64
 
-MINOR_HELP = "change version 2.0 in the header of each message to 2.1, for servers that speak 2.0"
+MINOR_HELP = "write messages of versions 1.0 to 2.0 as 2.1, as `translate` does"
 FORCE_HELP = "write over the file where it is there already"
 MINOR_NOTE = "version 2.0 is written as 2.1 in the transcript: what is judged then is not quite what was said"
 
@@ -68,6 +68,7 @@ def _parser() -> Parser:
     _add_keylog(words.add_parser("keylog", help="make a transcript from a packet capture and a TLS key log"))
     _add_declare(words.add_parser("declare", help="declare which objects the server holds"))
     _add_order(words.add_parser("order", help="guess a witness from a transcript"))
+    passes.add(words)
     return parser
 
 
@@ -132,19 +133,18 @@ def _proxy(words: argparse.Namespace) -> None:
         say(MINOR_NOTE)
     with proxy.listen(words.listen) as listener:
         asyncio.run(proxy.reach(words.server, toward_server))
-        with TranscriptWriter(words.out) as transcript:
-            way = Way(words.server, toward_clients, toward_server, transcript, bool(words.minor),
-                      words.answer_within)
+        with Recording(words.out, bool(words.minor)) as recording:
+            way = Way(words.server, toward_clients, toward_server, recording, words.answer_within)
             try:
                 asyncio.run(proxy.run(way, listener))
             finally:
-                print(transcript.summary(), flush=True)
+                tell_account(recording)
 
 
 def _keylog(words: argparse.Namespace) -> None:
     if words.minor:
         say(MINOR_NOTE)
-    print(capture.run(words.capture, words.keylog, words.server, bool(words.minor), words.out))
+    capture.run(words.capture, words.keylog, words.server, lambda: Recording(words.out, bool(words.minor)))
 
 
 def _declare(words: argparse.Namespace) -> None:
