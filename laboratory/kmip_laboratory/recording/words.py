@@ -9,6 +9,7 @@ from typing import List, NoReturn
 
 from .. import tls
 from ..address import read_address
+from ..blinding import words as blinding
 from ..transcript import TranscriptWriter
 from ..trouble import Trouble, say
 from . import capture, declaration, inventory, order, proxy
@@ -55,6 +56,7 @@ def _parser() -> Parser:
     _add_keylog(words.add_parser("keylog", help="make a transcript from a packet capture and a TLS key log"))
     _add_declare(words.add_parser("declare", help="declare which objects the server holds"))
     _add_order(words.add_parser("order", help="guess a witness from a transcript"))
+    blinding.add(words)
     return parser
 
 
