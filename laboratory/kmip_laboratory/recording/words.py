@@ -9,6 +9,7 @@ from typing import List, NoReturn
 
 from .. import tls
 from ..address import read_address
+from ..blinding import words as blinding
 from ..files import OUT_HINT, see_that_free
 from ..trouble import Trouble, say
 from . import capture, declaration, inventory, order, passes, proxy
@@ -69,6 +70,7 @@ def _parser() -> Parser:
     _add_declare(words.add_parser("declare", help="declare which objects the server holds"))
     _add_order(words.add_parser("order", help="guess a witness from a transcript"))
     passes.add(words)
+    blinding.add(words)
     return parser
 
 
