@@ -7,7 +7,7 @@ from pathlib import Path
 
 import messages
 import stub
-from laboratory import FOLDER, Laboratory, run, wait_until
+from laboratory import FOLDER, InFolder, Laboratory, run, wait_until
 
 from kmip_laboratory.recording.account import Account
 from kmip_laboratory.transcript import Begin, End, TranscriptWriter, spelled
@@ -32,7 +32,7 @@ def answered(operation: int, status: int) -> bytes:
     return messages.item(0x42007B, 1, header + messages.item(0x42000F, 1, item))
 
 
-class Listed(Laboratory):
+class Listed(InFolder):
     """The word `list`."""
 
     def listed(self, *words: object) -> list[str]:

@@ -8,7 +8,7 @@ import unittest
 from pathlib import Path
 
 import certificates
-from laboratory import Laboratory, run
+from laboratory import InFolder, Laboratory, run
 from test_proxy import at_once
 
 
@@ -96,16 +96,8 @@ class Troubles(Laboratory):
         self.assertIn(f"`truncate -s 24 {torn}` leaves the marks before", done.stderr)
 
 
-class Outputs(Laboratory):
+class Outputs(InFolder):
     """What is there already stays, and what is no transcript is told as that."""
-
-    def refused(self, *words: object) -> str:
-        """The one line on standard error at these words, which end with status 1 and leave no new file."""
-        before = sorted(path.name for path in self.folder.iterdir())
-        done = run(*words, cwd=self.folder)
-        self.assertEqual((done.returncode, done.stdout, done.stderr.count("\n")), (1, "", 1), done.stderr)
-        self.assertEqual(sorted(path.name for path in self.folder.iterdir()), before)
-        return done.stderr
 
     def test_declare_and_order_write_over_a_file_with_force_alone(self) -> None:
         (self.folder / "old").write_bytes(b"mine")
