@@ -69,11 +69,11 @@ class Client(threading.Thread):
     """Makes calls until the budget is spent, or until the server is no longer there."""
 
     def __init__(self, number: int, server: Address, context: ssl.SSLContext, version: Version, plan: Plan, cuts: Cuts,
-                 known: Known, marks: Marks, budget: Budget, patience: float) -> None:
+                 known: Known, marks: Marks, budget: Budget, patience: float, pause: float) -> None:
         super().__init__(daemon=True, name=f"client-{number}")
         self._server, self._context, self._version = server, context, version
         self._plan, self._cuts, self._known, self._marks, self._budget = plan, cuts, known, marks, budget
-        self._patience = patience
+        self._patience, self._pause = patience, pause
         self._socket: Optional[ssl.SSLSocket] = None
         self._slow = False
         self.counts: Counted[str] = Counter()
@@ -95,6 +95,8 @@ class Client(threading.Thread):
             if not self._budget.take():
                 return
             cut = self._cuts.of(planned.luck)
+            if self._pause:
+                time.sleep(2 * planned.pause * self._pause)
             try:
                 self._call(planned, cut)
                 breaks = 0

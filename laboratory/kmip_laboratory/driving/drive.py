@@ -36,6 +36,7 @@ class Job:
     seconds: Optional[float] = None
     seed: int = 1
     patience: float = 30
+    pause: float = 0
     minor_1: bool = False
     cuts: Cuts = field(default_factory=lambda: Cuts({}))
 
@@ -71,7 +72,7 @@ def drive(job: Job, transcript: Optional[TranscriptWriter] = None, progress: boo
     budget = Budget(job.calls, job.seconds, job.clients)
     known, marks = Known(job.mix.counts["hot"]), Marks(transcript, job.minor_1)
     clients = [Client(number, job.server, job.context, job.version, Plan(job.seed, number, job.mix), job.cuts, known,
-                      marks, budget, job.patience) for number in range(1, job.clients + 1)]
+                      marks, budget, job.patience, job.pause) for number in range(1, job.clients + 1)]
     begun = time.monotonic()
     for client in clients:
         client.start()

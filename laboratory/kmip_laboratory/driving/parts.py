@@ -9,12 +9,13 @@ changed anything of what its other calls tell of:
 - What an answer tells of an object depends on its group alone; what a Locate by a name lists, and whether a name is
   taken, on the groups of the name's bearers; what a Locate without a name lists, on everything.
 
-So a part is a call with all changes of the groups that it depends on; or all calls about one group.
+So a part is a call with the changes of the groups that it depends on; or all calls about one group. Of the changes
+those are left out that began after all the others of the part had ended, since they were done after them.
 """
 
 from __future__ import annotations
 
-from typing import Dict, Iterable, Iterator, List, Set
+from typing import Dict, Iterable, List, Set, Tuple
 
 from .messages import Name
 from .numbers import Operation
@@ -71,27 +72,35 @@ class Groups:
         return {self.of(each) for each in self._needs(call)}
 
 
-def parts(calls: List[Recorded], declared: Dict[str, Set[Name]]) -> Iterator[List[Recorded]]:
-    """The parts: for each call the one that ends with it, in the order of the end marks, and then each group whole.
-    Parts of nearly everything are left out."""
+def parts(calls: List[Recorded], declared: Dict[str, Set[Name]]) -> Tuple[List[List[Recorded]], List[List[Recorded]]]:
+    """The parts of one call each with what it depends on, in the order of the end marks; and the parts that are all
+    calls about one group."""
     groups = Groups(calls, declared)
+    needed = {call.number: groups.needed(call) for call in calls}
     changes: Dict[str, Set[int]] = {}
-    about: Dict[str, List[Recorded]] = {}
+    about: Dict[str, Set[int]] = {}
     for call in calls:
-        needed = groups.needed(call)
-        for group in needed if call.changes else ():
+        for group in needed[call.number] if call.changes else ():
             changes.setdefault(group, set()).add(call.number)
-        if len(needed) == 1:
-            about.setdefault(next(iter(needed)), []).append(call)
-    for call in calls:
-        kept = set().union(*(changes.get(group, set()) for group in groups.needed(call))) | {call.number}
-        yield [each for each in calls if each.number in kept]
-    for group, whole in about.items():
-        kept = changes.get(group, set()) | {call.number for call in whole}
-        shown = changes.get(group, set()) | {call.number for call in whole if _shows_bytes(call)}
-        yield [each for each in calls if each.number in shown]
-        yield [each for each in calls if each.number in kept]
+        if len(needed[call.number]) == 1:
+            about.setdefault(next(iter(needed[call.number])), set()).add(call.number)
+
+    def only(kept: Set[int]) -> List[Recorded]:
+        return [call for call in calls if call.number in kept]
+
+    single = [_up_to(call, only(set().union(*(changes.get(group, set()) for group in needed[call.number]))))
+              for call in calls]
+    return single, [only(kept | changes.get(group, set())) for group, kept in about.items()]
 
 
-def _shows_bytes(call: Recorded) -> bool:
-    return any(answer.material is not None for answer in call.response.answers)
+def _up_to(call: Recorded, changes: List[Recorded]) -> List[Recorded]:
+    """The call with those changes that may have been done ahead of it, or ahead of one that may."""
+    begun = sorted((each for each in changes if each is not call), key=lambda each: each.places[0])
+    until = call.places[1]
+    kept = [call]
+    for each in begun:
+        if each.places[0] > until:
+            break
+        kept.append(each)
+        until = max(until, each.places[1])
+    return sorted(kept, key=lambda each: each.places[1])

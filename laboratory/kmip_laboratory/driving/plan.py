@@ -44,13 +44,15 @@ class Planned:
 
 @dataclass(frozen=True)
 class PlannedCall:
-    """A call of the plan; `luck` decides what befalls it (cuts.py)."""
+    """A call of the plan; `luck` decides what befalls it (cuts.py), `where` at which byte, and `pause` how long the
+    client waits ahead of it; all from 0 to 1."""
 
     items: Tuple[Planned, ...]
     option: Optional[Option]
     ordered: Optional[bool]
     luck: float
     where: float
+    pause: float
 
 
 class Plan:
@@ -82,7 +84,7 @@ class Plan:
                      for place, item in enumerate(items, 1)]
         else:
             items = [self._item()]
-        return PlannedCall(tuple(items), option, ordered, dice.random(), dice.random())
+        return PlannedCall(tuple(items), option, ordered, dice.random(), dice.random(), dice.random())
 
     def _option(self) -> Optional[Option]:
         draw = self._dice.random()

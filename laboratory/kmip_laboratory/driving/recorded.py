@@ -3,7 +3,7 @@
 from __future__ import annotations
 
 from dataclasses import dataclass
-from typing import Dict, Iterator, List, Optional, Set
+from typing import Dict, Iterator, List, Optional, Set, Tuple
 
 from .. import ttlv
 from ..trouble import Trouble
@@ -23,11 +23,12 @@ CHANGES = (*MAKES, Operation.ACTIVATE, Operation.REVOKE, Operation.DESTROY)
 
 @dataclass(frozen=True)
 class Recorded:
-    """A call that has ended. `names` are those that it gives or looks for, `made` those of each object that it made;
+    """A call that has ended, with the places of its marks among all. `names` are those that it gives or looks for, `made` those of each object that it made;
     `everything` says that what it tells depends on all objects."""
 
     begin: Begin
     end: End
+    places: Tuple[int, int]
     request: Request
     response: Response
     objects: frozenset[str]
@@ -45,20 +46,21 @@ class Recorded:
 def read(path: str) -> Optional[List[Recorded]]:
     """The calls of a transcript in the order of their end marks; None where one is open or unordered, wants a
     payload, or can't be read, since leaving calls out then tells nothing."""
-    begins: Dict[int, Begin] = {}
+    begins: Dict[int, Tuple[int, Begin]] = {}
     calls: List[Recorded] = []
-    for mark in read_marks(path):
+    for place, mark in enumerate(read_marks(path)):
         if isinstance(mark, Begin):
-            begins[mark.call] = mark
+            begins[mark.call] = place, mark
             continue
         try:
-            calls.append(_recorded(begins.pop(mark.call), mark))
+            begun, begin = begins.pop(mark.call)
+            calls.append(_recorded(begin, mark, (begun, place)))
         except (ttlv.NotTtlv, NotUnderstood, ValueError, KeyError):
             return None
     return calls if not begins else None
 
 
-def _recorded(begin: Begin, end: End) -> Recorded:
+def _recorded(begin: Begin, end: End, places: Tuple[int, int]) -> Recorded:
     request, response = read_request(begin.message), read_response(end.message)
     pairs = list(zip(request.asks, response.answers))
     if request.ordered is False and len(request.asks) > 1:
@@ -72,7 +74,7 @@ def _recorded(begin: Begin, end: End) -> Recorded:
             made.setdefault(answer.identifiers[0], set()).update(given)
     looks = [ask for ask in request.asks if ask.operation == Operation.LOCATE]
     everything = any(all(each.tag is not Tag.NAME for each in ask.attributes) for ask in looks)
-    return Recorded(begin, end, request, response, objects, names, made, _changes(request, response), everything)
+    return Recorded(begin, end, places, request, response, objects, names, made, _changes(request, response), everything)
 
 
 def _objects(ask: Ask, answer: Answer) -> Iterator[str]:

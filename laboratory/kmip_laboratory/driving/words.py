@@ -10,7 +10,8 @@ from typing import List, NoReturn
 from .. import tls
 from ..address import Address, read_address
 from ..trouble import Trouble
-from . import certificates, drive, mixes, simulate, wire
+from . import audit, calibrate, certificates, drive, mixes, simulate, wire
+from .auditor import Auditor
 from .cuts import HELP, Cut, Cuts
 from .faults import FAULTS, description
 from .record import recording
@@ -57,6 +58,8 @@ def _parser() -> Parser:
     words = parser.add_subparsers(required=True, metavar="WORD", parser_class=Parser)
     _add_drive(words.add_parser("drive", help="let clients make calls to a server at once"))
     _add_simulate(words.add_parser("simulate", help="be a key server, with faults that are asked for"))
+    _add_calibrate(words.add_parser("calibrate", help="convict the simulated server of each of its faults"))
+    _add_audit(words.add_parser("audit", help="declare, drive, record, search and explain in one go"))
     faults = words.add_parser("faults", help="list the faults of the simulated server")
     faults.set_defaults(run=_faults)
     made = words.add_parser("certificates", help="make certificates to try things with")
@@ -91,6 +94,10 @@ def _seconds(words: str) -> float:
     return seconds
 
 
+def _pause(words: str) -> float:
+    return 0.0 if words == "0" else _seconds(words)
+
+
 def add_load(word: argparse.ArgumentParser) -> None:
     """The options that say what is driven."""
     add = word.add_argument
@@ -105,6 +112,7 @@ def add_load(word: argparse.ArgumentParser) -> None:
     add("--seed", type=int, default=1, metavar="N", help="the same seed gives the same plan (1)")
     add("--mix", default="everything", metavar="MIX", help=f"one of {', '.join(mixes.there())}, or a file (everything)")
     add("--patience", type=_seconds, default=30, metavar="S", help="seconds that a client waits for an answer (30)")
+    add("--pause", type=_pause, default=0.0, metavar="S", help="mean seconds between the calls of a client (0)")
     for cut in Cut:
         option = "end" if cut is Cut.END else "slow" if cut is Cut.SLOW else cut.value.replace(" ", "-").replace("-the", "")
         add(f"--{option}", type=_share, default=0.0, metavar="P", dest=cut.name, help=HELP[cut])
@@ -120,7 +128,7 @@ def job_of(words: argparse.Namespace) -> drive.Job:
     calls = USUAL_CALLS if words.calls is None and words.seconds is None else words.calls
     context = tls.toward_server(words.cert, words.key, words.ca)
     return drive.Job(words.server, context, mixes.find(words.mix), wire.read_version(words.kmip), words.clients, calls,
-                     words.seconds, words.seed, words.patience, words.kmip == "2.0", Cuts(shares))
+                     words.seconds, words.seed, words.patience, words.pause, words.kmip == "2.0", Cuts(shares))
 
 
 def _add_drive(word: argparse.ArgumentParser) -> None:
@@ -166,6 +174,54 @@ def _simulate(words: argparse.Namespace) -> int:
         simulate.wait()
     print(f"{engine.struck} times a fault came about")
     return DONE
+
+
+def _add_auditor(word: argparse.ArgumentParser, budget: int) -> None:
+    word.add_argument("--auditor", metavar="FILE", help="the program kmip_audit (KMIP_AUDIT, or that on the path)")
+    word.add_argument("--budget", type=_count, default=budget, metavar="N", help=f"steps of each search ({budget})")
+
+
+def _add_calibrate(word: argparse.ArgumentParser) -> None:
+    usual = calibrate.Scale()
+    add = word.add_argument
+    add("--fault", action="append", metavar="NAME", help="a fault; may be repeated (all of them, and none)")
+    add("--seed", type=int, default=1, metavar="N", help="of the first recording of each fault (1)")
+    add("--clients", type=_count, default=usual.clients, metavar="N", help=f"clients at once ({usual.clients})")
+    add("--calls", type=_count, default=usual.calls, metavar="N", help=f"calls of a recording ({usual.calls})")
+    add("--most", type=_count, default=usual.most_calls, metavar="N",
+        help=f"calls for a fault at most ({usual.most_calls})")
+    add("--seconds", type=_seconds, default=usual.seconds, metavar="S",
+        help=f"seconds for a fault, after which no recording is begun ({usual.seconds:.0f})")
+    _add_auditor(word, usual.budget)
+    word.set_defaults(run=_calibrate)
+
+
+def _calibrate(words: argparse.Namespace) -> int:
+    names = list(FAULTS) if words.fault is None else words.fault
+    simulate.find(names)
+    scale = calibrate.Scale(words.clients, words.calls, words.most, words.seconds, budget=words.budget)
+    without = mixes.there() if words.fault is None else []
+    right = True
+    print("| Fault | Mix | Seed | Calls until convicted | Reason | Seconds |\n|---|---|---|---|---|---|")
+    for row in calibrate.run(names, without, words.seed, Auditor(words.auditor), scale):
+        print(row.line(), flush=True)
+        right = right and row.right
+    return DONE if right else TROUBLE
+
+
+def _add_audit(word: argparse.ArgumentParser) -> None:
+    add_load(word)
+    word.add_argument("--out", type=Path, required=True, metavar="FOLDER", help="a new folder for all files")
+    word.add_argument("--empty", action="store_true", help="the server holds nothing, and need not be asked")
+    word.add_argument("--unique-names", action="store_true", help="declare that live objects never share a name")
+    word.add_argument("--reason", action="append", default=[], metavar="NUMBER=CAUSE",
+                      help="a Result Reason that is given only for NotFound, WrongState or TakenName")
+    _add_auditor(word, 1_000_000)
+    word.set_defaults(run=_audit)
+
+
+def _audit(words: argparse.Namespace) -> int:
+    return audit.run(job_of(words), words, Auditor(words.auditor), tell)
 
 
 def _faults(_: argparse.Namespace) -> int:

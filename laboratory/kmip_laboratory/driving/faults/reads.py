@@ -70,11 +70,12 @@ class CutBytes(Fault):
 class ShortKey(Fault):
     """A Create makes fewer bytes than the length asks for, and a Get shows them."""
 
-    mix = "everything"
-
-    def new_value(self, length: int) -> bytes:
-        value = super().new_value(length)
-        return value[:len(value) // 2] if self.strikes() else value
+    def create(self, ask: Ask, call: Call) -> Answer:
+        answer = super().create(ask, call)
+        thing = self.store.find(answer.identifiers[0])
+        if thing is not None and thing.value and self.strikes():
+            self.store.put(replace(thing, value=thing.value[:len(thing.value) // 2]))
+        return answer
 
 
 class AttributesOfAnother(Fault):
