@@ -10,6 +10,7 @@ from typing import List, NoReturn
 from .. import tls
 from ..address import read_address
 from ..blinding import words as blinding
+from ..shrinking import words as shrinking
 from ..transcript import TranscriptWriter
 from ..trouble import Trouble, say
 from . import capture, declaration, inventory, order, proxy
@@ -57,6 +58,7 @@ def _parser() -> Parser:
     _add_declare(words.add_parser("declare", help="declare which objects the server holds"))
     _add_order(words.add_parser("order", help="guess a witness from a transcript"))
     blinding.add(words)
+    shrinking.add(words)
     return parser
 
 
