@@ -11,6 +11,7 @@ from .. import tls
 from ..address import read_address
 from ..blinding import words as blinding
 from ..files import OUT_HINT, see_that_free
+from ..shrinking import words as shrinking
 from ..trouble import Trouble, say
 from . import capture, declaration, inventory, order, passes, proxy
 from .connection import Way
@@ -71,6 +72,7 @@ def _parser() -> Parser:
     _add_order(words.add_parser("order", help="guess a witness from a transcript"))
     passes.add(words)
     blinding.add(words)
+    shrinking.add(words)
     return parser
 
 
