@@ -11,6 +11,7 @@ from .. import tls
 from ..address import read_address
 from ..files import OUT_HINT, see_that_free
 from ..trouble import Trouble, say
+from ..versions import JUDGED, NEARLY_JUDGED, TRANSLATED, Version
 from . import capture, declaration, inventory, order, passes, proxy
 from .connection import Way
 from .recording import Recording, tell_account
@@ -41,6 +42,14 @@ def read_seconds(words: str) -> float:
     if not 0 <= seconds < 86_400:
         raise argparse.ArgumentTypeError(f"{words!r} is no number of seconds from 0 to a day")
     return seconds
+
+
+def read_version(words: str) -> Version:
+    """The version that these words are, where a server can be asked in it."""
+    versions = {str(version): version for version in (*TRANSLATED, JUDGED)}
+    if words not in versions:
+        raise argparse.ArgumentTypeError(f"{words!r} is none of the versions {', '.join(versions)}")
+    return versions[words]
 
 
 def main(arguments: List[str]) -> int:
@@ -112,7 +121,9 @@ def _add_declare(word: argparse.ArgumentParser) -> None:
     word.add_argument("--unique-names", action="store_true", help="declare that live objects never share a name")
     word.add_argument("--reason", type=declaration.read_row, action="append", default=[], metavar="NUMBER=CAUSE",
                       help="a Result Reason that is given only for this cause: NotFound, WrongState or TakenName")
-    word.add_argument("--minor", choices=["1"], help="ask in version 2.0 in place of 2.1")
+    asked = word.add_mutually_exclusive_group()
+    asked.add_argument("--minor", choices=["1"], help="ask in version 2.0 in place of 2.1")
+    asked.add_argument("--version", type=read_version, metavar="MAJOR.MINOR", help="ask in this version, from 1.0 on")
     word.add_argument("--out", required=True, metavar="DECLARATION", help="a new file for it")
     word.add_argument("--force", action="store_true", help=FORCE_HELP)
     word.set_defaults(run=_declare)
@@ -154,9 +165,10 @@ def _declare(words: argparse.Namespace) -> None:
         if not (words.server_cert and words.server_key and words.server_ca):
             raise Trouble("to ask a server, give --server-cert, --server-key and --server-ca")
         context = tls.toward_server(words.server_cert, words.server_key, words.server_ca)
-        if words.minor:
-            say("the server is asked in version 2.0")
-        entries = asyncio.run(inventory.entries(words.server, context, bool(words.minor), words.bytes))
+        version = words.version or (NEARLY_JUDGED if words.minor else JUDGED)
+        if version != JUDGED:
+            say(f"the server is asked in version {version}")
+        entries = asyncio.run(inventory.entries(words.server, context, version, words.bytes))
     print(declaration.run(words.unique_names, words.reason, entries, words.out, words.force))
 
 
