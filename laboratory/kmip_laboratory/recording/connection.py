@@ -18,6 +18,7 @@ from ..address import Address
 from ..peer import Peer
 from ..trouble import ConnectionTrouble
 from .recording import Recording
+from .segments import Gate
 
 Result = TypeVar("Result")
 
@@ -30,6 +31,7 @@ class Way(NamedTuple):
     toward_server: ssl.SSLContext
     recording: Recording
     answer_within: float
+    gate: Gate
 
 
 class Connection:
@@ -68,6 +70,7 @@ class Connection:
             if request is None or server.gone.done():
                 return
             self._busy = True
+            await self._way.gate.room()
             await self._take_call(client, server, request)
             self._busy = False
 

@@ -4,6 +4,8 @@ from __future__ import annotations
 
 import argparse
 import asyncio
+import socket
+import ssl
 import sys
 from typing import List, NoReturn
 
@@ -11,10 +13,12 @@ from .. import tls
 from ..address import read_address
 from ..files import OUT_HINT, see_that_free
 from ..trouble import Trouble, say
-from ..versions import JUDGED, NEARLY_JUDGED, TRANSLATED, Version
+from ..versions import JUDGED, NEARLY_JUDGED
 from . import capture, declaration, inventory, order, passes, proxy
 from .connection import Way
+from .numbers import add_segment_words, read_milliseconds, read_seconds, read_version
 from .recording import Recording, tell_account
+from .segments import Gate, Segments
 
 DONE = 0
 TROUBLE = 1
@@ -31,25 +35,6 @@ class Parser(argparse.ArgumentParser):
     def error(self, message: str) -> NoReturn:
         self.print_usage(sys.stderr)
         self.exit(USAGE, f"{self.prog}: {message}\n")
-
-
-def read_seconds(words: str) -> float:
-    """The number of seconds that these words are."""
-    try:
-        seconds = float(words)
-    except ValueError:
-        seconds = -1
-    if not 0 <= seconds < 86_400:
-        raise argparse.ArgumentTypeError(f"{words!r} is no number of seconds from 0 to a day")
-    return seconds
-
-
-def read_version(words: str) -> Version:
-    """The version that these words are, where a server can be asked in it."""
-    versions = {str(version): version for version in (*TRANSLATED, JUDGED)}
-    if words not in versions:
-        raise argparse.ArgumentTypeError(f"{words!r} is none of the versions {', '.join(versions)}")
-    return versions[words]
 
 
 def main(arguments: List[str]) -> int:
@@ -92,6 +77,8 @@ def _add_proxy(word: argparse.ArgumentParser) -> None:
     word.add_argument("--server-ca", metavar="FILE", help="authority of the server's certificate (else --client-ca)")
     word.add_argument("--answer-within", type=read_seconds, default=10, metavar="SECONDS", help="how long the server's "
                       "answer is waited for when the client broke off (10)")
+    word.add_argument("--hold", type=read_milliseconds, default=50, metavar="MS", help="how long new requests may be "
+                      "held where a new file is due, until no call is under way (50)")
     _add_transcript_words(word)
     word.set_defaults(run=_proxy)
 
@@ -106,6 +93,7 @@ def _add_keylog(word: argparse.ArgumentParser) -> None:
 
 
 def _add_transcript_words(word: argparse.ArgumentParser) -> None:
+    add_segment_words(word)
     word.add_argument("--minor", choices=["1"], help=MINOR_HELP)
     word.add_argument("--out", required=True, metavar="TRANSCRIPT", help="a new file for the transcript")
 
@@ -144,18 +132,29 @@ def _proxy(words: argparse.Namespace) -> None:
         say(MINOR_NOTE)
     with proxy.listen(words.listen) as listener:
         asyncio.run(proxy.reach(words.server, toward_server))
-        with Recording(words.out, bool(words.minor)) as recording:
-            way = Way(words.server, toward_clients, toward_server, recording, words.answer_within)
+        with Recording(words.out, bool(words.minor), _segments(words)) as recording:
             try:
-                asyncio.run(proxy.run(way, listener))
+                asyncio.run(_record(words, recording, toward_clients, toward_server, listener))
             finally:
                 tell_account(recording)
+
+
+async def _record(words: argparse.Namespace, recording: Recording, toward_clients: ssl.SSLContext,
+                  toward_server: ssl.SSLContext, listener: socket.socket) -> None:
+    gate = Gate(recording.wants_quiet, words.hold / 1000)
+    recording.when_quiet = gate.look
+    await proxy.run(Way(words.server, toward_clients, toward_server, recording, words.answer_within, gate), listener)
+
+
+def _segments(words: argparse.Namespace) -> Segments:
+    return Segments(words.segment_calls, words.segment_seconds)
 
 
 def _keylog(words: argparse.Namespace) -> None:
     if words.minor:
         say(MINOR_NOTE)
-    capture.run(words.capture, words.keylog, words.server, lambda: Recording(words.out, bool(words.minor)))
+    capture.run(words.capture, words.keylog, words.server, lambda clock, without_end: Recording(
+        words.out, bool(words.minor), _segments(words), clock, without_end))
 
 
 def _declare(words: argparse.Namespace) -> None:
