@@ -7,14 +7,14 @@ import asyncio
 import socket
 import ssl
 import sys
-from typing import List, NoReturn
+from typing import Dict, List, NoReturn
 
 from .. import tls
 from ..address import read_address
 from ..files import OUT_HINT, see_that_free
 from ..trouble import Trouble, say
 from ..versions import JUDGED, NEARLY_JUDGED
-from . import capture, declaration, inventory, order, passes, proxy
+from . import capture, declaration, identities, inventory, order, passes, proxy
 from .connection import Way
 from .numbers import add_segment_words, read_milliseconds, read_seconds, read_version
 from .recording import Recording, tell_account
@@ -75,6 +75,9 @@ def _add_proxy(word: argparse.ArgumentParser) -> None:
     word.add_argument("--server-cert", metavar="FILE", help="certificate that the server is shown (else --cert)")
     word.add_argument("--server-key", metavar="FILE", help="its key (else --key)")
     word.add_argument("--server-ca", metavar="FILE", help="authority of the server's certificate (else --client-ca)")
+    word.add_argument("--as", dest="identities", action="append", default=[], metavar="NAME=CERT,KEY", help="show the "
+                      "client of this common name to the server with this certificate; or a folder of NAME.pem and "
+                      "NAME.key; may be repeated")
     word.add_argument("--answer-within", type=read_seconds, default=10, metavar="SECONDS", help="how long the server's "
                       "answer is waited for when the client broke off (10)")
     word.add_argument("--hold", type=read_milliseconds, default=50, metavar="MS", help="how long new requests may be "
@@ -126,24 +129,27 @@ def _add_order(word: argparse.ArgumentParser) -> None:
 
 def _proxy(words: argparse.Namespace) -> None:
     toward_clients = tls.toward_clients(words.cert, words.key, words.client_ca)
-    toward_server = tls.toward_server(
-        words.server_cert or words.cert, words.server_key or words.key, words.server_ca or words.client_ca)
+    authority = words.server_ca or words.client_ca
+    toward_server = tls.toward_server(words.server_cert or words.cert, words.server_key or words.key, authority)
+    clients = identities.contexts(identities.read_identities(words.identities), authority)
     if words.minor:
         say(MINOR_NOTE)
     with proxy.listen(words.listen) as listener:
-        asyncio.run(proxy.reach(words.server, toward_server))
+        for context in [toward_server, *clients.values()]:
+            asyncio.run(proxy.reach(words.server, context))
         with Recording(words.out, bool(words.minor), _segments(words)) as recording:
             try:
-                asyncio.run(_record(words, recording, toward_clients, toward_server, listener))
+                asyncio.run(_record(words, recording, toward_clients, toward_server, clients, listener))
             finally:
                 tell_account(recording)
 
 
 async def _record(words: argparse.Namespace, recording: Recording, toward_clients: ssl.SSLContext,
-                  toward_server: ssl.SSLContext, listener: socket.socket) -> None:
+                  toward_server: ssl.SSLContext, clients: Dict[str, ssl.SSLContext], listener: socket.socket) -> None:
     gate = Gate(recording.wants_quiet, words.hold / 1000)
     recording.when_quiet = gate.look
-    await proxy.run(Way(words.server, toward_clients, toward_server, recording, words.answer_within, gate), listener)
+    await proxy.run(Way(words.server, toward_clients, toward_server, recording, words.answer_within, gate, clients),
+                    listener)
 
 
 def _segments(words: argparse.Namespace) -> Segments:
