@@ -8,7 +8,7 @@ capture.
 from __future__ import annotations
 
 from collections import deque
-from typing import Callable, Deque, Dict, List, Optional
+from typing import Callable, Deque, Dict, FrozenSet, List, Optional, Protocol, Set
 
 from .. import certificate, message
 from ..address import Address
@@ -20,6 +20,16 @@ from .packets import Packet, read_packets
 from .recording import Recording, tell_account
 
 
+class Marks(Protocol):
+    """Where marks go."""
+
+    def begin(self, client: str, request: bytes) -> int:
+        """Marks a request, and answers the number of its call."""
+
+    def end(self, call: int, response: bytes) -> None:
+        """Marks the response to a call."""
+
+
 class Stream:
     """One connection of the capture: what of it is not yet a whole message, and which calls are unanswered."""
 
@@ -29,7 +39,7 @@ class Stream:
         self._open: Deque[int] = deque()
         self._torn: Dict[Side, bytes] = {Side.CLIENT: b"", Side.SERVER: b""}
 
-    def take(self, packet: Packet, recording: Recording) -> None:
+    def take(self, packet: Packet, recording: Marks) -> None:
         """Marks the messages that this packet completes."""
         side = Side.CLIENT if packet.by_client else Side.SERVER
         if packet.certificate and packet.by_client:
@@ -55,25 +65,72 @@ class Stream:
         return torn[:length]
 
 
-def run(capture: str, keylog: str, server: Address, record: Callable[[], Recording]) -> None:
+class Rehearsal:
+    """Counts calls as a recording does, and knows at the end which of them were not answered."""
+
+    def __init__(self) -> None:
+        self._calls = 0
+        self.unanswered: Set[int] = set()
+
+    def begin(self, client: str, request: bytes) -> int:
+        """A request."""
+        self._calls += 1
+        self.unanswered.add(self._calls)
+        return self._calls
+
+    def end(self, call: int, response: bytes) -> None:
+        """The answer to a call."""
+        self.unanswered.remove(call)
+
+
+class Moment:
+    """A clock that shows the Time Stamp of the last answer, since a capture is read faster than it was made."""
+
+    def __init__(self) -> None:
+        self.now = 0.0
+
+    def __call__(self) -> float:
+        return self.now
+
+
+Record = Callable[[Callable[[], float], FrozenSet[int]], Recording]
+
+
+def run(capture: str, keylog: str, server: Address, record: Record) -> None:
     """Writes the transcript, and tells of it."""
     packets = read_packets(capture, keylog, server)
     _see_that_all_is_there(packets, capture, keylog)
-    streams: Dict[int, Stream] = {}
-    with record() as recording:
-        for packet in packets:
-            stream = streams.setdefault(packet.stream, Stream(packet.client))
-            if not stream.broken:
-                _take(stream, packet, recording)
+    rehearsal, clock = Rehearsal(), Moment()
+    _take_all(packets, rehearsal, lambda words: None)
+    with record(clock, frozenset(rehearsal.unanswered)) as recording:
+        _take_all(packets, _Timed(recording, clock), say)
         tell_account(recording)
 
 
-def _take(stream: Stream, packet: Packet, recording: Recording) -> None:
-    try:
-        stream.take(packet, recording)
-    except ConnectionTrouble as trouble:
-        stream.broken = True
-        say(f"{stream.name}, stream {packet.stream} of the capture: {trouble}; the rest of it is left out")
+class _Timed:
+    """A recording whose clock goes with the answers."""
+
+    def __init__(self, recording: Recording, clock: Moment) -> None:
+        self._recording = recording
+        self._clock = clock
+        self.begin = recording.begin
+
+    def end(self, call: int, response: bytes) -> None:
+        self._clock.now = max(self._clock.now, message.time_stamp(response) or 0)
+        self._recording.end(call, response)
+
+
+def _take_all(packets: List[Packet], marks: Marks, tell: Callable[[str], None]) -> None:
+    streams: Dict[int, Stream] = {}
+    for packet in packets:
+        stream = streams.setdefault(packet.stream, Stream(packet.client))
+        if stream.broken:
+            continue
+        try:
+            stream.take(packet, marks)
+        except ConnectionTrouble as trouble:
+            stream.broken = True
+            tell(f"{stream.name}, stream {packet.stream} of the capture: {trouble}; the rest of it is left out")
 
 
 def _see_that_all_is_there(packets: List[Packet], capture: str, keylog: str) -> None:

@@ -11,13 +11,14 @@ from __future__ import annotations
 import asyncio
 import socket
 import ssl
-from typing import Coroutine, NamedTuple, Optional, TypeVar
+from typing import Coroutine, Dict, NamedTuple, Optional, TypeVar
 
 from .. import peer
 from ..address import Address
 from ..peer import Peer
-from ..trouble import ConnectionTrouble
+from ..trouble import ConnectionTrouble, say
 from .recording import Recording
+from .segments import Gate
 
 Result = TypeVar("Result")
 
@@ -30,6 +31,14 @@ class Way(NamedTuple):
     toward_server: ssl.SSLContext
     recording: Recording
     answer_within: float
+    gate: Gate
+    identities: Dict[str, ssl.SSLContext]
+
+    def toward_server_as(self, name: Optional[str]) -> ssl.SSLContext:
+        """TLS toward the server for the client with this common name: as itself, or else as the recorder."""
+        if self.identities and name not in self.identities:
+            say(f"{name or 'a client without a name'} has no certificate by --as: the server sees the recorder's")
+        return self.identities.get(name or "", self.toward_server)
 
 
 class Connection:
@@ -53,8 +62,9 @@ class Connection:
         """Takes calls from the client until one of the sides closes."""
         client = await peer.accept(self._socket, self._way.toward_clients)
         try:
-            self.name = client.common_name() or self.name
-            server = await peer.connect(self._way.server, self._way.toward_server)
+            name = client.common_name()
+            self.name = f"{name} {self.name}" if name and self._way.identities else name or self.name
+            server = await peer.connect(self._way.server, self._way.toward_server_as(name))
             try:
                 await self._take_calls(client, server)
             finally:
@@ -68,6 +78,7 @@ class Connection:
             if request is None or server.gone.done():
                 return
             self._busy = True
+            await self._way.gate.room()
             await self._take_call(client, server, request)
             self._busy = False
 

@@ -10,13 +10,16 @@ from ..sifting import effects, forgetting
 from ..sifting import run as sifting
 from ..translation import run as translation
 from ..trouble import Trouble
-from . import listing
+from . import cut, listing
+from .numbers import add_segment_words
+from .segments import Segments
 
 
 def add(words: argparse._SubParsersAction) -> None:
     """Adds these words to those of the program."""
     _add_list(words.add_parser("list", help="tell what is in a transcript, call by call"))
     _add_translate(words.add_parser("translate", help="write a transcript of versions 1.0 to 2.0 as one of 2.1"))
+    _add_cut(words.add_parser("cut", help="write a transcript as several behind each other"))
     _add_sift(words.add_parser("sift", help="leave out calls that had no effect on what is judged"))
 
 
@@ -25,6 +28,14 @@ def _add_list(word: argparse.ArgumentParser) -> None:
     word.add_argument("--call", type=int, metavar="N", help="both messages of this call, in place of a line for each")
     word.add_argument("--keys", action="store_true", help="show the bytes of keys too, with --call")
     word.set_defaults(run=_list)
+
+
+def _add_cut(word: argparse.ArgumentParser) -> None:
+    word.add_argument("transcript", metavar="IN")
+    word.add_argument("folder", metavar="DIR", help="a new folder for the files")
+    add_segment_words(word)
+    word.set_defaults(run=lambda words: print(cut.run(
+        words.transcript, words.folder, Segments(words.segment_calls, words.segment_seconds))))
 
 
 def _add_translate(word: argparse.ArgumentParser) -> None:

@@ -4,8 +4,10 @@ from __future__ import annotations
 
 import argparse
 import asyncio
+import socket
+import ssl
 import sys
-from typing import List, NoReturn
+from typing import Dict, List, NoReturn
 
 from .. import tls
 from ..address import read_address
@@ -13,9 +15,12 @@ from ..blinding import words as blinding
 from ..files import OUT_HINT, see_that_free
 from ..shrinking import words as shrinking
 from ..trouble import Trouble, say
-from . import capture, declaration, inventory, order, passes, proxy
+from ..versions import JUDGED, NEARLY_JUDGED
+from . import capture, declaration, identities, inventory, order, passes, proxy
 from .connection import Way
+from .numbers import add_segment_words, read_milliseconds, read_seconds, read_version
 from .recording import Recording, tell_account
+from .segments import Gate, Segments
 
 DONE = 0
 TROUBLE = 1
@@ -32,17 +37,6 @@ class Parser(argparse.ArgumentParser):
     def error(self, message: str) -> NoReturn:
         self.print_usage(sys.stderr)
         self.exit(USAGE, f"{self.prog}: {message}\n")
-
-
-def read_seconds(words: str) -> float:
-    """The number of seconds that these words are."""
-    try:
-        seconds = float(words)
-    except ValueError:
-        seconds = -1
-    if not 0 <= seconds < 86_400:
-        raise argparse.ArgumentTypeError(f"{words!r} is no number of seconds from 0 to a day")
-    return seconds
 
 
 def main(arguments: List[str]) -> int:
@@ -85,8 +79,13 @@ def _add_proxy(word: argparse.ArgumentParser) -> None:
     word.add_argument("--server-cert", metavar="FILE", help="certificate that the server is shown (else --cert)")
     word.add_argument("--server-key", metavar="FILE", help="its key (else --key)")
     word.add_argument("--server-ca", metavar="FILE", help="authority of the server's certificate (else --client-ca)")
+    word.add_argument("--as", dest="identities", action="append", default=[], metavar="NAME=CERT,KEY", help="show the "
+                      "client of this common name to the server with this certificate; or a folder of NAME.pem and "
+                      "NAME.key; may be repeated")
     word.add_argument("--answer-within", type=read_seconds, default=10, metavar="SECONDS", help="how long the server's "
                       "answer is waited for when the client broke off (10)")
+    word.add_argument("--hold", type=read_milliseconds, default=50, metavar="MS", help="how long new requests may be "
+                      "held where a new file is due, until no call is under way (50)")
     _add_transcript_words(word)
     word.set_defaults(run=_proxy)
 
@@ -101,6 +100,7 @@ def _add_keylog(word: argparse.ArgumentParser) -> None:
 
 
 def _add_transcript_words(word: argparse.ArgumentParser) -> None:
+    add_segment_words(word)
     word.add_argument("--minor", choices=["1"], help=MINOR_HELP)
     word.add_argument("--out", required=True, metavar="TRANSCRIPT", help="a new file for the transcript")
 
@@ -116,7 +116,9 @@ def _add_declare(word: argparse.ArgumentParser) -> None:
     word.add_argument("--unique-names", action="store_true", help="declare that live objects never share a name")
     word.add_argument("--reason", type=declaration.read_row, action="append", default=[], metavar="NUMBER=CAUSE",
                       help="a Result Reason that is given only for this cause: NotFound, WrongState or TakenName")
-    word.add_argument("--minor", choices=["1"], help="ask in version 2.0 in place of 2.1")
+    asked = word.add_mutually_exclusive_group()
+    asked.add_argument("--minor", choices=["1"], help="ask in version 2.0 in place of 2.1")
+    asked.add_argument("--version", type=read_version, metavar="MAJOR.MINOR", help="ask in this version, from 1.0 on")
     word.add_argument("--out", required=True, metavar="DECLARATION", help="a new file for it")
     word.add_argument("--force", action="store_true", help=FORCE_HELP)
     word.set_defaults(run=_declare)
@@ -131,24 +133,38 @@ def _add_order(word: argparse.ArgumentParser) -> None:
 
 def _proxy(words: argparse.Namespace) -> None:
     toward_clients = tls.toward_clients(words.cert, words.key, words.client_ca)
-    toward_server = tls.toward_server(
-        words.server_cert or words.cert, words.server_key or words.key, words.server_ca or words.client_ca)
+    authority = words.server_ca or words.client_ca
+    toward_server = tls.toward_server(words.server_cert or words.cert, words.server_key or words.key, authority)
+    clients = identities.contexts(identities.read_identities(words.identities), authority)
     if words.minor:
         say(MINOR_NOTE)
     with proxy.listen(words.listen) as listener:
-        asyncio.run(proxy.reach(words.server, toward_server))
-        with Recording(words.out, bool(words.minor)) as recording:
-            way = Way(words.server, toward_clients, toward_server, recording, words.answer_within)
+        for context in [toward_server, *clients.values()]:
+            asyncio.run(proxy.reach(words.server, context))
+        with Recording(words.out, bool(words.minor), _segments(words)) as recording:
             try:
-                asyncio.run(proxy.run(way, listener))
+                asyncio.run(_record(words, recording, toward_clients, toward_server, clients, listener))
             finally:
                 tell_account(recording)
+
+
+async def _record(words: argparse.Namespace, recording: Recording, toward_clients: ssl.SSLContext,
+                  toward_server: ssl.SSLContext, clients: Dict[str, ssl.SSLContext], listener: socket.socket) -> None:
+    gate = Gate(recording.wants_quiet, words.hold / 1000)
+    recording.when_quiet = gate.look
+    await proxy.run(Way(words.server, toward_clients, toward_server, recording, words.answer_within, gate, clients),
+                    listener)
+
+
+def _segments(words: argparse.Namespace) -> Segments:
+    return Segments(words.segment_calls, words.segment_seconds)
 
 
 def _keylog(words: argparse.Namespace) -> None:
     if words.minor:
         say(MINOR_NOTE)
-    capture.run(words.capture, words.keylog, words.server, lambda: Recording(words.out, bool(words.minor)))
+    capture.run(words.capture, words.keylog, words.server, lambda clock, without_end: Recording(
+        words.out, bool(words.minor), _segments(words), clock, without_end))
 
 
 def _declare(words: argparse.Namespace) -> None:
@@ -158,9 +174,10 @@ def _declare(words: argparse.Namespace) -> None:
         if not (words.server_cert and words.server_key and words.server_ca):
             raise Trouble("to ask a server, give --server-cert, --server-key and --server-ca")
         context = tls.toward_server(words.server_cert, words.server_key, words.server_ca)
-        if words.minor:
-            say("the server is asked in version 2.0")
-        entries = asyncio.run(inventory.entries(words.server, context, bool(words.minor), words.bytes))
+        version = words.version or (NEARLY_JUDGED if words.minor else JUDGED)
+        if version != JUDGED:
+            say(f"the server is asked in version {version}")
+        entries = asyncio.run(inventory.entries(words.server, context, version, words.bytes))
     print(declaration.run(words.unique_names, words.reason, entries, words.out, words.force))
 
 

@@ -1,0 +1,91 @@
+"""The word `cut`: a transcript as several behind each other, each of which begins while no call is under way."""
+
+from __future__ import annotations
+
+import os
+import shutil
+from typing import BinaryIO, Dict, FrozenSet, List, Optional, Set
+
+from .. import message
+from ..files import see_that_free
+from ..transcript import Begin, Mark, marks_in, spelled
+from ..trouble import Trouble, say
+from .rewriting import FILE_HEADER
+from .segments import Due, Segments
+
+
+def never_ended(source: str) -> FrozenSet[int]:
+    """The calls without an end mark. They are no longer under way than up to their begin, as far as cuts go."""
+    begun: Dict[int, bool] = {}
+    for mark in marks_in(source):
+        begun[mark.call] = not isinstance(mark, Begin)
+    return frozenset(call for call, has_ended in begun.items() if not has_ended)
+
+
+class Cutter:
+    """Writes marks into the files of a folder, and begins a new one where one is due."""
+
+    def __init__(self, folder: str, segments: Segments, without_end: FrozenSet[int]) -> None:
+        self._folder = folder
+        self._without_end = without_end
+        self._stamp = 0
+        self._due = Due(segments, lambda: self._stamp)
+        self._under_way: Set[int] = set()
+        self._file: Optional[BinaryIO] = None
+        self.counts: List[int] = []
+
+    def take(self, mark: Mark) -> None:
+        """Writes a mark."""
+        if isinstance(mark, Begin):
+            if self._file is None or (self._due.is_due() and not self._under_way):
+                self._next_file()
+            self._due.begin()
+            self.counts[-1] += 1
+            if mark.call not in self._without_end:
+                self._under_way.add(mark.call)
+        else:
+            self._under_way.discard(mark.call)
+            self._stamp = max(self._stamp, message.time_stamp(mark.message) or 0)
+        self._file.write(spelled(mark))
+
+    def close(self) -> None:
+        """Closes the last file."""
+        if self._file is not None:
+            self._file.close()
+
+    def _next_file(self) -> None:
+        self.close()
+        self.counts.append(0)
+        self._due.restart()
+        self._file = open(os.path.join(self._folder, segment_name(len(self.counts))), "xb")
+        os.chmod(self._file.fileno(), 0o600)
+        self._file.write(FILE_HEADER)
+
+
+def segment_name(number: int) -> str:
+    """The name of a file in the folder."""
+    return f"transcript-{number:04d}.ttlv"
+
+
+def run(source: str, folder: str, segments: Segments) -> str:
+    """Makes the folder with the files, tells what is in them, and answers the summary."""
+    if not segments.are_asked:
+        raise Trouble("`cut` needs --segment-calls or --segment-seconds: after how many a new file is to begin")
+    see_that_free(folder)
+    made = f"{folder}.{os.getpid()}.part"
+    cutter = Cutter(made, segments, never_ended(source))
+    try:
+        os.mkdir(made, 0o700)
+        for mark in marks_in(source):
+            cutter.take(mark)
+        cutter.close()
+        os.rename(made, folder)
+    except OSError as error:
+        raise Trouble(f"{folder} can't be written: {error.strerror}; give it another name, or make room") from None
+    finally:
+        shutil.rmtree(made, ignore_errors=True)
+    for number, count in enumerate(cutter.counts, 1):
+        more = ", more than asked for: calls were under way all the time" if segments.calls and (
+            count > segments.calls) else ""
+        say(f"{segment_name(number)}: {count} calls{more}")
+    return f"{len(cutter.counts)} files, {sum(cutter.counts)} calls"

@@ -1,0 +1,98 @@
+"""When one transcript is to be followed by another: after so many calls or seconds, while no call is under way."""
+
+from __future__ import annotations
+
+import asyncio
+from pathlib import Path
+from typing import Callable, NamedTuple, Optional
+
+from ..trouble import say
+
+# Requests are held for one part in so many of the time at most.
+PARTS_WITHOUT_HOLD = 20
+
+
+class Segments(NamedTuple):
+    """After how many calls, or how many seconds, a new file is due."""
+
+    calls: Optional[int] = None
+    seconds: Optional[float] = None
+
+    @property
+    def are_asked(self) -> bool:
+        """Whether there are to be several files at all."""
+        return self.calls is not None or self.seconds is not None
+
+
+ONE_FILE = Segments()
+
+
+class Due:
+    """Says whether a new file is due, by the calls of this one and by a clock, which shows 0 until it is set."""
+
+    def __init__(self, segments: Segments, clock: Callable[[], float]) -> None:
+        self._segments = segments
+        self._clock = clock
+        self._began: Optional[float] = None
+        self.calls = 0
+
+    def begin(self) -> None:
+        """Counts a call."""
+        if self.calls == 0:
+            self._began = self._clock() or None
+        self.calls += 1
+
+    def restart(self) -> None:
+        """Begins a new file."""
+        self.calls = 0
+
+    def is_due(self) -> bool:
+        """Whether a new file is to begin as soon as no call is under way."""
+        calls, seconds = self._segments
+        if self._began is None:
+            self._began = self._clock() or None
+        return self.calls > 0 and ((calls is not None and self.calls >= calls) or (
+            seconds is not None and self._began is not None and self._clock() - self._began >= seconds))
+
+
+def segment_path(out: str, number: int) -> str:
+    """The name of a file of several: its number stands ahead of the ending."""
+    path = Path(out)
+    return str(path.with_name(f"{path.stem}-{number:04d}{path.suffix}"))
+
+
+class Gate:
+    """Holds new requests for a short time where a new file is due and calls are under way, until none is."""
+
+    def __init__(self, is_wanted: Callable[[], bool], seconds: float) -> None:
+        self._is_wanted = is_wanted
+        self._seconds = seconds
+        self._quiet = asyncio.Event()
+        self._until: Optional[float] = None
+        self._rest_until = 0.0
+
+    def look(self) -> None:
+        """Lets the held requests go, where no new file is wanted any more."""
+        if not self._is_wanted():
+            self._quiet.set()
+
+    async def room(self) -> None:
+        """Comes back when a request may be marked."""
+        now = asyncio.get_running_loop().time()
+        if not self._is_wanted() or now < self._rest_until:
+            return
+        if self._until is None:
+            self._until = now + self._seconds
+            self._quiet.clear()
+        try:
+            await asyncio.wait_for(self._quiet.wait(), max(0.0, self._until - now))
+        except asyncio.TimeoutError:
+            self._give_up()
+        self._until = None
+
+    def _give_up(self) -> None:
+        now = asyncio.get_running_loop().time()
+        if self._is_wanted() and now >= self._rest_until:
+            self._rest_until = now + PARTS_WITHOUT_HOLD * self._seconds
+            say(f"calls were under way for all of {self._seconds * 1000:g} ms: the file goes on, and a new one begins "
+                "at the next moment without a call")
