@@ -58,11 +58,12 @@ class WithPyKmip(Laboratory):
         log = self.folder / "server.log"
         return log.exists() and "Starting connection service" in log.read_text()
 
-    def work(self, port: int, clients: int, rounds: int, keylog: Optional[Path] = None) -> None:
+    def work(self, port: int, clients: int, rounds: int, keylog: Optional[Path] = None,
+             version: str = "2.0") -> None:
         """Lets PyKMIP clients do their work, to its end."""
         done = subprocess.run(
             [PYKMIP_PYTHON, "-W", "ignore", HERE / "pykmip_clients.py", self.certificates, str(port), str(clients),
-             str(rounds)], capture_output=True, text=True, timeout=SECONDS * 4, env=_environment(keylog))
+             str(rounds), version], capture_output=True, text=True, timeout=SECONDS * 4, env=_environment(keylog))
         self.assertEqual(done.returncode, 0, done.stderr)
 
     def write_witness(self, marks: list) -> None:

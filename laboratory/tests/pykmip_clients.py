@@ -1,4 +1,4 @@
-"""PyKMIP clients, as they are, all at once: pykmip_clients.py FOLDER PORT CLIENTS ROUNDS.
+"""PyKMIP clients, as they are, all at once: pykmip_clients.py FOLDER PORT CLIENTS ROUNDS [VERSION].
 
 Client N shows the certificate client-N.pem. Each takes keys of its own through their lives, and all of them meet on
 one key that client 0 registered ahead of them; a server that lets only its owner have it refuses that.
@@ -16,6 +16,7 @@ from kmip.pie.exceptions import KmipOperationFailure
 
 ATTRIBUTES = ["Name", "Object Type", "Cryptographic Algorithm", "Cryptographic Length", "Cryptographic Usage Mask",
               "State"]
+VERSION = enums.KMIPVersion(float(sys.argv[5]) if len(sys.argv) > 5 else 2.0)
 MASKS = [enums.CryptographicUsageMask.ENCRYPT, enums.CryptographicUsageMask.DECRYPT]
 
 
@@ -24,7 +25,7 @@ def connected(folder, port, number):
     client = pie.ProxyKmipClient(
         hostname="127.0.0.1", port=port, cert=os.path.join(folder, f"client-{number}.pem"),
         key=os.path.join(folder, f"client-{number}.key"), ca=os.path.join(folder, "authority.pem"),
-        kmip_version=enums.KMIPVersion.KMIP_2_0)
+        kmip_version=VERSION)
     client.open()
     return client
 

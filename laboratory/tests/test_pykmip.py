@@ -12,6 +12,8 @@ from capturing import captured, need_tshark
 from key_server import WithPyKmip
 from laboratory import Begin, audit, read_marks, run
 
+from kmip_laboratory import ttlv
+
 CLIENTS = 6
 ROUNDS = 3
 # Of each round: the life of a key, and the meeting on the shared one; besides, the registration of that.
@@ -39,6 +41,34 @@ class ByProxy(WithPyKmip):
         run("declare", "--empty", "--out", self.folder / "declaration.ttlv")
         run("order", recorder.transcript, "--out", self.folder / "witness.ttlv")
         self.assertEqual(audit(self.folder), "outside: call 1 request item 0 kind 2 Version\n")
+
+
+    def test_clients_of_1_2_are_judged_once_they_are_translated(self) -> None:
+        recorder = self.start(self.server_port)
+        self.work(recorder.port, 1, 1, version="1.2")
+        recorder.end()
+        run("declare", "--empty", "--out", self.folder / "declaration.ttlv")
+        run("order", recorder.transcript, "--out", self.folder / "witness.ttlv")
+        self.assertEqual(audit(self.folder), "outside: call 1 request item 0 kind 2 Version\n")
+        done = run("translate", recorder.transcript, self.folder / "new.ttlv")
+        self.assertEqual(done.stdout, "28 messages translated, 0 left as they are\n", done.stderr)
+        self.assertEqual(audit(self.folder, "new.ttlv"), "yes\n")
+        self.declared_in_1_2()
+
+    def declared_in_1_2(self) -> None:
+        """A server can be asked in 1.2 what it holds."""
+        certificates = self.certificates
+        done = run("declare", "--server", f"127.0.0.1:{self.server_port}", "--version", "1.2", "--out",
+                   self.folder / "asked.ttlv", "--server-cert", certificates / "recorder.pem", "--server-key",
+                   certificates / "recorder.key", "--server-ca", certificates / "authority.pem")
+        self.assertEqual((done.returncode, done.stdout), (0, "0 rows, 1 entries\n"), done.stderr)
+        self.assertIn("the server is asked in version 1.2", done.stderr)
+        self.assertIn("object 1: the server says that it is Active, but tells no date that makes it so", done.stderr)
+        shared = ttlv.read_item((self.folder / "asked.ttlv").read_bytes()[40:])
+        told = shared.first(0x420125, ttlv.Kind.STRUCTURE)
+        self.assertEqual(told.first(0x420028, ttlv.Kind.ENUMERATION).value, 3)
+        self.assertEqual(told.first(0x42002A, ttlv.Kind.INTEGER).value, 256)
+        self.assertEqual(len(told.every(0x420053, ttlv.Kind.STRUCTURE)), 1)
 
 
 class ByKeyLog(WithPyKmip):
@@ -85,7 +115,7 @@ class Declared(WithPyKmip):
             done = self.declare(*words)
             self.assertEqual((done.returncode, done.stdout), (0, "0 rows, 1 entries\n"), done.stderr)
             self.record(lambda port: self.get("1", port), "after.ttlv")
-            run("order", self.folder / "after.ttlv", "--out", self.folder / "witness.ttlv")
+            run("order", self.folder / "after.ttlv", "--out", self.folder / "witness.ttlv", "--force")
             self.assertEqual(audit(self.folder, "after.ttlv"), "yes\n")
         path = self.folder / "declaration.ttlv"
         path.write_bytes(path.read_bytes()[:-1] + bytes([path.read_bytes()[-1] ^ 1]))
@@ -117,7 +147,7 @@ class Declared(WithPyKmip):
 
     def declare(self, *words: str) -> subprocess.CompletedProcess:
         return run("declare", "--server", f"127.0.0.1:{self.server_port}", *self.certificate_words(), "--minor", "1",
-                   *words, "--out", self.folder / "declaration.ttlv")
+                   *words, "--out", self.folder / "declaration.ttlv", "--force")
 
     def certificate_words(self) -> list:
         return ["--server-cert", self.certificates / "recorder.pem", "--server-key", self.certificates / "recorder.key",

@@ -8,9 +8,11 @@ from typing import List, NamedTuple, Optional
 
 from .. import ttlv
 from ..address import Address
+from ..operations import Operation
 from ..trouble import Trouble, say
 from ..ttlv import Item, Kind
-from .questions import Failed, Operation, Questions
+from ..versions import OF_OLD, Version
+from .questions import Failed, Questions
 
 ENTRY = 0x540034
 ATTRIBUTES = 0x420125
@@ -51,11 +53,11 @@ SINGLE = [*OF_KEYS, INITIAL_DATE, ACTIVATION_DATE, DEACTIVATION_DATE, DESTROY_DA
 STATES = ["no State", "Pre-Active", "Active", "Deactivated", "Compromised", "Destroyed", "Destroyed Compromised"]
 
 
-async def entries(server: Address, context: ssl.SSLContext, minor_0: bool, with_bytes: bool) -> List[bytes]:
+async def entries(server: Address, context: ssl.SSLContext, version: Version, with_bytes: bool) -> List[bytes]:
     """An entry for each object that the server lists and tells of."""
-    async with Questions(server, context, 0 if minor_0 else 1) as questions:
+    async with Questions(server, context, version) as questions:
         found = []
-        for identifier in await _identifiers(questions):
+        for identifier in await _identifiers(questions, version):
             entry = await _entry(questions, identifier, with_bytes)
             if entry is not None:
                 found.append(entry)
@@ -64,11 +66,12 @@ async def entries(server: Address, context: ssl.SSLContext, minor_0: bool, with_
     return found
 
 
-async def _identifiers(questions: Questions) -> List[str]:
+async def _identifiers(questions: Questions, version: Version) -> List[str]:
     try:
-        payload = await questions.ask(Operation.LOCATE, ttlv.structure(ATTRIBUTES))
+        payload = await questions.ask(Operation.LOCATE, *([] if version in OF_OLD else [ttlv.structure(ATTRIBUTES)]))
     except Failed as failed:
-        raise Trouble(f"the server refused to list its objects: {failed}; servers of 2.0 need --minor 1") from None
+        raise Trouble(f"the server refused to list its objects: {failed}; servers of 2.0 need --minor 1, "
+                      "and older ones --version, as 1.2") from None
     listed = [item.value for item in payload.every(UNIQUE_IDENTIFIER, Kind.TEXT)]
     located = payload.first(LOCATED_ITEMS, Kind.INTEGER)
     if located and located.value > len(listed):

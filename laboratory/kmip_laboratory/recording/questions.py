@@ -1,18 +1,20 @@
-"""Questions to a key server, one at a time: a request of one item, and its answer."""
+"""Questions to a key server, one at a time: a request of one item, and its answer in the form of version 2.1."""
 
 from __future__ import annotations
 
 import ssl
-from enum import IntEnum
 from types import TracebackType
 from typing import Optional, Type
 
 from .. import message, peer, ttlv
 from ..address import Address
 from ..message import PROTOCOL_VERSION, PROTOCOL_VERSION_MAJOR, PROTOCOL_VERSION_MINOR, Side
+from ..operations import Operation
 from ..peer import Peer
+from ..translation.messages import Translator
 from ..trouble import ConnectionTrouble, Trouble
 from ..ttlv import Item, Kind
+from ..versions import Version
 
 BATCH_COUNT = 0x42000D
 BATCH_ITEM = 0x42000F
@@ -25,14 +27,6 @@ RESULT_STATUS = 0x42007F
 SUCCESS = 0
 
 
-class Operation(IntEnum):
-    """The operations that are asked."""
-
-    LOCATE = 0x08
-    GET = 0x0A
-    GET_ATTRIBUTES = 0x0B
-
-
 class Failed(Exception):
     """The server refused; the text is its reason."""
 
@@ -40,11 +34,13 @@ class Failed(Exception):
 class Questions:
     """A connection over which a server is asked; to be used in an `async with`."""
 
-    def __init__(self, server: Address, context: ssl.SSLContext, minor: int) -> None:
+    def __init__(self, server: Address, context: ssl.SSLContext, version: Version) -> None:
         self._server = server
         self._context = context
-        self._minor = minor
+        self._version = version
+        self._translator = Translator()
         self._peer: Optional[Peer] = None
+        self._asked = 0
 
     async def __aenter__(self) -> Questions:
         try:
@@ -60,18 +56,21 @@ class Questions:
 
     async def ask(self, operation: Operation, *payload: bytes) -> Item:
         """The Response Payload of a successful answer."""
+        request = self._request(operation, payload)
+        self._translator.message(self._asked + 1, Side.CLIENT, request)
         try:
-            await self._peer.send(self._request(operation, payload))
+            await self._peer.send(request)
             received = await self._peer.receive()
         except ConnectionTrouble as trouble:
             raise Trouble(f"{self._server} could not be asked: {trouble}") from None
         if received is None:
             raise Trouble(f"{self._server} closed the connection in place of an answer")
-        return _payload_of(message.read(received, Side.SERVER))
+        self._asked += 1
+        return _payload_of(message.read(self._translator.message(self._asked, Side.SERVER, received), Side.SERVER))
 
     def _request(self, operation: Operation, payload: tuple[bytes, ...]) -> bytes:
-        version = ttlv.structure(PROTOCOL_VERSION, ttlv.integer(PROTOCOL_VERSION_MAJOR, 2),
-                                 ttlv.integer(PROTOCOL_VERSION_MINOR, self._minor))
+        version = ttlv.structure(PROTOCOL_VERSION, ttlv.integer(PROTOCOL_VERSION_MAJOR, self._version.major),
+                                 ttlv.integer(PROTOCOL_VERSION_MINOR, self._version.minor))
         header = ttlv.structure(Side.CLIENT.header_tag, version, ttlv.integer(BATCH_COUNT, 1))
         item = ttlv.structure(BATCH_ITEM, ttlv.enumeration(OPERATION, operation),
                               ttlv.structure(REQUEST_PAYLOAD, *payload))
