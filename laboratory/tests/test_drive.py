@@ -160,7 +160,7 @@ class OnTheWire(Laboratory):
         for words, told in ((("--mix", "none"), "the mix none can't be read"),
                             (("--calls", "1", "--seconds", "1"), "--calls and --seconds exclude each other"),
                             (("--slow", "0.9", "--end", "0.2"), "above 1 together"),
-                            (("--calls", "9"), "can't go on with the server at 127.0.0.1:1")):
+                            (("--calls", "9"), "no server at 127.0.0.1:1: ")):
             done = self.drive(1, *words)
             with self.subTest(words=words):
                 self.assertEqual((done.returncode, done.stdout, done.stderr.count("\n")), (1, "", 1), done.stderr)

@@ -2,6 +2,7 @@
 
 from __future__ import annotations
 
+import socket
 import ssl
 import sys
 import time
@@ -9,8 +10,10 @@ from collections import Counter
 from dataclasses import dataclass, field
 from typing import Counter as Counted, List, Optional
 
+from .. import tls
 from ..address import Address
 from ..transcript import TranscriptWriter
+from ..trouble import Trouble
 from .client import Budget, Client
 from .cuts import Cut, Cuts
 from .known import Known
@@ -73,6 +76,7 @@ def drive(job: Job, transcript: Optional[TranscriptWriter] = None, progress: boo
     known, marks = Known(job.mix.counts["hot"]), Marks(transcript, job.minor_1)
     clients = [Client(number, job.server, job.context, job.version, Plan(job.seed, number, job.mix), job.cuts, known,
                       marks, budget, job.patience, job.pause) for number in range(1, job.clients + 1)]
+    _reach(job)
     begun = time.monotonic()
     for client in clients:
         client.start()
@@ -85,6 +89,16 @@ def drive(job: Job, transcript: Optional[TranscriptWriter] = None, progress: boo
     if failures:
         raise failures[0]
     return Done(job, budget.taken, seconds, sum((client.counts for client in clients), Counter()))
+
+
+def _reach(job: Job) -> None:
+    """Connects once, so that what is wrong is told before a call is made."""
+    try:
+        with socket.create_connection(job.server, timeout=job.patience) as plain, job.context.wrap_socket(plain):
+            pass
+    except OSError as error:
+        raise Trouble(f"no server at {job.server}: {tls.meaning(error)}. Look at --server, --ca, --cert and --key, and "
+                      "that the server runs") from None
 
 
 def _wait(clients: List[Client], budget: Budget, begun: float, shown: bool) -> None:

@@ -111,16 +111,17 @@ class CompromiseForgotten(Fault):
         return super().revoke(ask, call)
 
 
-class DeactivationKept(Fault):
-    """A Destroy of an active object leaves out its Deactivation Date."""
+class DeactivationMistaken(Fault):
+    """A Destroy of an active object writes its Activation Date as its Deactivation Date."""
 
     mix = "lifecycle"
+    rate_usual = 1.0
 
     def destroy(self, ask: Ask, call: Call) -> Answer:
         before = self.meant(ask, call)
         answer = super().destroy(ask, call)
-        if self.strikes():
-            self.store.put(replace(before, destroyed=call.now, value=None))
+        if self.state(before, call.now) is State.ACTIVE and self.strikes():
+            self.store.put(replace(before, destroyed=call.now, value=None, deactivation=before.activation))
         return answer
 
 
