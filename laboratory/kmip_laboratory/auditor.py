@@ -11,7 +11,7 @@ import shutil
 import subprocess
 from enum import Enum
 from pathlib import Path
-from typing import Dict, List, NamedTuple, Optional, Pattern
+from typing import Dict, Iterator, List, NamedTuple, Optional, Pattern
 
 from .trouble import Trouble
 
@@ -87,12 +87,17 @@ class Auditor:
         more = [] if budget is None else ["--budget", str(budget)]
         return self._verdict("search", transcript, declaration, out, "--quiet", *more)
 
-    def show(self, path: str, *words: str) -> List[str]:
-        """The lines of a file's items."""
-        done = self._run("show", path, *words)
-        if done.returncode != 0:
-            raise Trouble(f"{path} can't be shown: {done.stdout.strip() or done.stderr.strip()}")
-        return done.stdout.splitlines()
+    def show_each(self, path: str, *words: str) -> Iterator[str]:
+        """The lines of a file's items, one after the other."""
+        try:
+            with subprocess.Popen([self.program, "show", path, *words], stdin=subprocess.DEVNULL, stdout=subprocess.PIPE,
+                                  text=True, errors="replace") as running:
+                for line in running.stdout or ():
+                    yield line.rstrip("\n")
+        except OSError as error:
+            raise self._not_run(error) from None
+        if running.returncode != 0:
+            raise Trouble(f"kmip_audit show {path} ended with status {running.returncode}; run it to see why")
 
     def _verdict(self, *words: str) -> Verdict:
         done = self._run(*words)
@@ -108,8 +113,11 @@ class Auditor:
             return subprocess.run([self.program, *words], stdin=subprocess.DEVNULL, capture_output=True, text=True,
                                   check=False, errors="replace")
         except OSError as error:
-            raise Trouble(f"the auditor {self.program} can't be run: {error.strerror}; build it, or give its program "
-                          f"in {VARIABLE}") from None
+            raise self._not_run(error) from None
+
+    def _not_run(self, error: OSError) -> Trouble:
+        return Trouble(f"the auditor {self.program} can't be run: {error.strerror}; build it, or give its program in "
+                       f"{VARIABLE}")
 
 
 def read_verdict(printed: str, status: int) -> Optional[Verdict]:

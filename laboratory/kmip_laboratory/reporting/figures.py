@@ -1,0 +1,54 @@
+"""What the page's script needs of a recording: its calls as columns of numbers."""
+
+from __future__ import annotations
+
+from typing import Dict, List, Tuple
+
+from ..calls import Call
+from .judging import Judged, came_to, operations
+
+KINDS = ["success", "failed", "refused", "undone", "open"]
+
+
+def figures(judged: Judged, recording: int, lines: Dict[str, int]) -> Dict[str, object]:
+    """The calls by their begin marks; the lines of messages as numbers in a table that all recordings share."""
+    calls = judged.calls
+    marks = {place: rank for rank, place in enumerate(sorted(_places(calls)))}
+    lanes, lane_of = _lanes(calls)
+    clients = sorted({call.client for call in calls})
+    does = sorted(set(map(operations, calls)))
+    numbers = [lines.setdefault(line, len(lines)) for line in judged.messages.lines]
+    shown = [judged.messages.of_call.get(call.number, ([], [])) for call in calls]
+    return {
+        "recording": recording, "fault": judged.verdict.call, "story": [call.number for call in judged.story()],
+        "marks": len(marks), "clients": clients, "lanes": [clients.index(client) for client in lanes], "what": does,
+        "number": [call.number for call in calls], "begin": [marks[call.begin] for call in calls],
+        "end": [-1 if call.end is None else marks[call.end] for call in calls],
+        "lane": [lane_of[call.number] for call in calls], "kind": [KINDS.index(came_to(call)) for call in calls],
+        "turn": [judged.turns.get(call.number, 0) for call in calls], "stamp": [call.stamp for call in calls],
+        "does": [does.index(operations(call)) for call in calls],
+        "request": [[numbers[line] for line in request] for request, _ in shown],
+        "response": [[numbers[line] for line in response] for _, response in shown],
+    }
+
+
+def _places(calls: List[Call]) -> List[int]:
+    return [call.begin for call in calls] + [call.end for call in calls if call.end is not None]
+
+
+def _lanes(calls: List[Call]) -> Tuple[List[str], Dict[int, int]]:
+    """Rows for each client, as many as it had calls at once, and the row of each call."""
+    free: Dict[str, List[int]] = {}
+    within: Dict[int, int] = {}
+    for call in calls:
+        rows = free.setdefault(call.client, [])
+        row = next((row for row, until in enumerate(rows) if until < call.begin), len(rows))
+        until = 1 << 62 if call.end is None else call.end
+        rows[row:row + 1] = [until]
+        within[call.number] = row
+    lanes: List[str] = []
+    first: Dict[str, int] = {}
+    for client in sorted(free):
+        first[client] = len(lanes)
+        lanes += [client] * len(free[client])
+    return lanes, {call.number: first[call.client] + within[call.number] for call in calls}

@@ -1,0 +1,142 @@
+"""One recording, judged by the auditor, with what the page shows of its calls."""
+
+from __future__ import annotations
+
+import hashlib
+import os
+import shlex
+import tempfile
+import time
+from pathlib import Path
+from typing import Dict, List, NamedTuple, Optional, Tuple
+
+from ..auditor import Auditor, Outcome, Verdict
+from ..calls import Call, Operation, Status, read_transcript
+from ..records import read_file, records
+from ..transcript import CALL
+from ..trouble import Trouble
+from ..ttlv import Kind
+from .messages import Messages, read_messages
+
+TURN = 0x540041
+TRANSCRIPT, DECLARATION, WITNESS = "transcript.ttlv", "declaration.ttlv", "witness.ttlv"
+
+
+class Judged(NamedTuple):
+    """A recording: its folder, the verdict with the command that repeats it, its files with their digests, its calls, and
+    the turn of each call in the order that was judged or found."""
+
+    folder: str
+    verdict: Verdict
+    command: str
+    version: str
+    files: List[Tuple[str, int, str]]
+    calls: List[Call]
+    turns: Dict[int, int]
+    messages: Messages
+    seconds: float
+
+    def refused(self) -> Optional[Call]:
+        """The call that the verdict names."""
+        return next((call for call in self.calls if call.number == self.verdict.call), None)
+
+    def story(self) -> List[Call]:
+        """The calls that name an object of the refused call, up to it: by turns, or else by begin marks."""
+        refused = self.refused()
+        if refused is None:
+            return []
+        objects = identifiers(refused)
+        last = self._rank(refused)
+        return sorted((call for call in self.calls if identifiers(call) & objects and self._rank(call) <= last),
+                      key=self._rank)
+
+    def _rank(self, call: Call) -> Tuple[int, int]:
+        return (self.turns.get(call.number, len(self.turns) + 1), call.begin)
+
+
+def find(paths: List[str]) -> List[str]:
+    """The folders with a transcript at or below these, in order."""
+    found: List[str] = []
+    for path in paths:
+        below = sorted(str(file.parent) for file in Path(path).rglob(TRANSCRIPT))
+        if not below:
+            raise Trouble(f"{path} has no {TRANSCRIPT} in it or below it: give the folder of a recording")
+        found += [folder for folder in below if folder not in found]
+    return found
+
+
+def judge(folder: str, budget: Optional[int]) -> Judged:
+    """Asks the auditor: a check where there is a witness, else a search."""
+    auditor = Auditor()
+    transcript, declaration, witness = (os.path.join(folder, name) for name in (TRANSCRIPT, DECLARATION, WITNESS))
+    files = [_digest(path) for path in (transcript, declaration, witness) if path != witness or os.path.exists(path)]
+    started = time.monotonic()
+    with tempfile.TemporaryDirectory(prefix="kmip_report-") as made:
+        if len(files) == 3:
+            verdict, words = auditor.check(transcript, declaration, witness), ["check", transcript, declaration, witness]
+        else:
+            witness = os.path.join(made, WITNESS)
+            verdict = auditor.search(transcript, declaration, witness, budget)
+            more = [] if budget is None else ["--budget", str(budget)]
+            words = ["search", transcript, declaration, WITNESS, *more]
+        seconds = time.monotonic() - started
+        turns = _turns(witness) if os.path.exists(witness) and verdict.outcome is not Outcome.MALFORMED else {}
+    command = " ".join(["kmip_audit", *map(shlex.quote, words)])
+    readable = verdict.outcome not in (Outcome.MALFORMED, Outcome.DEVICE, Outcome.MEMORY)
+    return Judged(folder, verdict, command, auditor.version(), files, read_transcript(transcript).calls if readable else [],
+                  turns, read_messages(auditor, transcript) if readable else Messages([], {}), seconds)
+
+
+def _digest(path: str) -> Tuple[str, int, str]:
+    data = read_file(path)
+    return path, len(data), hashlib.sha256(data).hexdigest()
+
+
+def _turns(path: str) -> Dict[int, int]:
+    """The turn of each call in a witness."""
+    numbers = [record.item.first(CALL, Kind.INTEGER) for record in records(path, read_file(path))
+               if record.item.tag == TURN]
+    return {number.value: place for place, number in enumerate(numbers, 1) if number}
+
+
+def identifiers(call: Call) -> frozenset[str]:
+    """The objects that a call names."""
+    return frozenset().union(*(piece.identifiers | piece.answered for piece in call.pieces))
+
+
+def operations(call: Call) -> str:
+    """What a call asks, in words."""
+    told: Dict[str, int] = {}
+    for piece in call.pieces:
+        name = operation_name(piece.operation)
+        told[name] = told.get(name, 0) + 1
+    return ", ".join(name if count == 1 else f"{name} x{count}" for name, count in told.items()) or "unreadable"
+
+
+def operation_name(number: Optional[int]) -> str:
+    """The name of an operation, or its number."""
+    if number is None:
+        return "no operation"
+    try:
+        return Operation(number).name.replace("_", " ").title()
+    except ValueError:
+        return f"operation {number:X}"
+
+
+def came_to(call: Call) -> str:
+    """What a call came to, in a word."""
+    if call.end is None:
+        return "open"
+    if call.refused:
+        return "refused"
+    statuses = {piece.status for piece in call.pieces}
+    if Status.UNDONE in statuses:
+        return "undone"
+    if Status.FAILED in statuses:
+        return "failed"
+    return "success"
+
+
+def stamps(calls: List[Call]) -> List[int]:
+    """The Time Stamps that are there."""
+    return [call.stamp for call in calls if call.stamp is not None]

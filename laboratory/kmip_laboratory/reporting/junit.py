@@ -1,0 +1,35 @@
+"""The report as JUnit's XML: a test case for each recording."""
+
+from __future__ import annotations
+
+import re
+from typing import List
+from xml.etree import ElementTree
+
+from ..auditor import Outcome
+from .judging import Judged
+from .reasons import in_short, in_words
+
+NO_XML = re.compile("[^\t\n\r\x20-\ud7ff\ue000-\ufffd\U00010000-\U0010ffff]")
+JUDGED = (Outcome.YES, Outcome.NO, Outcome.GAVE_UP)
+
+
+def told(recordings: List[Judged]) -> str:
+    """The XML: a yes passes, a no or a giving up fails, and what can't be judged is an error."""
+    failures = sum(judged.verdict.outcome in JUDGED[1:] for judged in recordings)
+    errors = sum(judged.verdict.outcome not in JUDGED for judged in recordings)
+    suite = ElementTree.Element("testsuite", name="kmip_audit", tests=str(len(recordings)), failures=str(failures),
+                                errors=str(errors), time=f"{sum(judged.seconds for judged in recordings):.3f}")
+    for judged in recordings:
+        case = ElementTree.SubElement(suite, "testcase", classname="kmip_audit", name=_text(judged.folder),
+                                      time=f"{judged.seconds:.3f}")
+        if judged.verdict.outcome is not Outcome.YES:
+            kind = "failure" if judged.verdict.outcome in JUDGED else "error"
+            trouble = ElementTree.SubElement(case, kind, message=in_words(judged.verdict), type=in_short(judged.verdict))
+            trouble.text = _text("\n".join(judged.verdict.lines) + f"\n$ {judged.command}")
+    return '<?xml version="1.0" encoding="utf-8"?>\n' + ElementTree.tostring(suite, encoding="unicode") + "\n"
+
+
+def _text(words: str) -> str:
+    """The words without what XML can't hold."""
+    return NO_XML.sub("?", words)

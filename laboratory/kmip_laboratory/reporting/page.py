@@ -1,0 +1,172 @@
+"""The page: one file that needs no other."""
+
+from __future__ import annotations
+
+from collections import Counter
+from datetime import datetime, timedelta, timezone
+from pathlib import Path
+from typing import Dict, List, Optional
+
+from .figures import figures
+from .judging import Judged, came_to, operation_name, operations, stamps
+from .markup import Markup, Part, data, digest, element, table, together
+from .reasons import PREMISES, in_short, in_words
+
+SOURCES = Path(__file__).resolve().parent / "page"
+EPOCH = datetime(1970, 1, 1, tzinfo=timezone.utc)
+TOOLS = [("fault", "To the verdict's call"), ("in", "Zoom in"), ("out", "Zoom out"), ("left", "Earlier"),
+         ("right", "Later"), ("all", "Whole recording")]
+LEGEND = [("success", "success"), ("failed", "failed"), ("refused", "message refused"), ("undone", "undone"),
+          ("open", "no answer"), ("fault", "named by the verdict")]
+KEYS = ("Keys, once the timeline has the focus: left and right for the call before and behind, up and down for the row above and "
+        "below, Home and End, + and - to zoom, Page Up and Page Down to move, 0 for the whole recording, f for the verdict's "
+        "call. Drag to move; Ctrl and the wheel zoom.")
+MOST_OF_STORY = 20
+
+
+def page(recordings: List[Judged], made: datetime) -> str:
+    """The page of these recordings."""
+    style = _source("style.css")
+    scripts = [_source("timeline.js"), _source("page.js")]
+    lines: Dict[str, int] = {}
+    told = [figures(judged, number, lines) for number, judged in enumerate(recordings, 1)]
+    policy = (f"default-src 'none'; style-src {digest(style)}; script-src " + " ".join(map(digest, scripts))
+              + "; base-uri 'none'; form-action 'none'")
+    head = element(
+        "head", element("meta", charset="utf-8"), element("meta", http_equiv="Content-Security-Policy", content=policy),
+        element("meta", name="viewport", content="width=device-width, initial-scale=1"),
+        element("title", _title(recordings)), element("style", Markup(style)))
+    parts = [element("h1", _title(recordings)), _made(recordings, made)]
+    if len(recordings) > 1:
+        parts.append(_overview(recordings))
+    parts += [_recording(judged, number) for number, judged in enumerate(recordings, 1)]
+    parts.append(data({"lines": list(lines), "recordings": told}, "data"))
+    parts += [element("script", Markup(script)) for script in scripts]
+    return "<!DOCTYPE html>\n" + element("html", head, element("body", element("main", together(parts))), lang="en") + "\n"
+
+
+def moment(seconds: int) -> str:
+    """A Time Stamp as a date."""
+    try:
+        return (EPOCH + timedelta(seconds=seconds)).strftime("%Y-%m-%dT%H:%M:%SZ")
+    except OverflowError:
+        return str(seconds)
+
+
+def _source(name: str) -> str:
+    return (SOURCES / name).read_text(encoding="utf-8")
+
+
+def _title(recordings: List[Judged]) -> str:
+    if len(recordings) == 1:
+        return f"Audit of {recordings[0].folder}"
+    return f"Audit of {len(recordings)} recordings"
+
+
+def _made(recordings: List[Judged], made: datetime) -> Markup:
+    versions = ", ".join(sorted({judged.version for judged in recordings}))
+    return element("p", f"Made {made.strftime('%Y-%m-%dT%H:%M:%SZ')} by kmip_report, from what {versions} printed.", of="soft")
+
+
+def _overview(recordings: List[Judged]) -> Markup:
+    """A line for each recording, and what they have in common."""
+    rows: List[List[Part]] = [
+        [element("a", judged.folder, href=f"#recording-{number}"), in_short(judged.verdict), str(len(judged.calls)),
+         f"{judged.seconds:.1f}"] for number, judged in enumerate(recordings, 1)]
+    reasons: List[List[Part]] = [
+        [reason, str(count)] for reason, count in Counter(in_short(judged.verdict) for judged in recordings).most_common()]
+    return together([
+        element("h2", "Verdicts"), table(["Recording", "Verdict", "Calls", "Seconds to judge"], rows, 2),
+        element("h2", "By verdict"), table(["Verdict", "Recordings"], reasons, 1)])
+
+
+def _recording(judged: Judged, number: int) -> Markup:
+    outcome = judged.verdict.outcome.value.replace(" ", "-")
+    parts = [
+        element("h2", judged.folder),
+        element("div", element("p", in_words(judged.verdict)), element("pre", "\n".join(judged.verdict.lines)),
+                of=f"verdict {outcome}")]
+    refused = judged.refused()
+    if refused is not None:
+        parts.append(element("p", "The verdict names ", _link(refused.number), f", {operations(refused)}, of client "
+                             f"{refused.client}."))
+    if judged.calls:
+        parts += [_timeline(judged), _story(judged), element("h3", "Calls"), _counts(judged)]
+    parts += [element("h3", "Evidence"), _evidence(judged), element("h3", "What a verdict means"),
+              element("p", PREMISES)]
+    return element("section", *parts, of="recording", id=f"recording-{number}")
+
+
+def _link(number: int) -> Markup:
+    return element("button", f"call {number}", type="button", of="call", data_number=number)
+
+
+def _timeline(judged: Judged) -> Markup:
+    buttons = [element("button", words, type="button", data_does=does) for does, words in TOOLS
+               if does != "fault" or judged.refused() is not None]
+    if judged.turns:
+        buttons.append(element("button", "Line of the order", type="button", data_does="order", aria_pressed="false"))
+    legend = [element("li", element("svg", element("rect", of=kind, width=26, height=12), viewBox="0 0 26 12",
+                                    aria_hidden="true"), words) for kind, words in LEGEND]
+    if len(judged.story()) > 1:
+        legend.append(element("li", element("svg", element("rect", of="bar success story", x=2, y=2, width=22, height=8),
+                                            viewBox="0 0 26 12", aria_hidden="true"), "names the same object"))
+    order = "Numbers in the bars are turns of the order. " if judged.turns else ""
+    lanes = element("div", element("svg", role="presentation"), of="lanes", tabindex=0, role="listbox",
+                    aria_label="Calls, a row for each client; arrow keys go from call to call")
+    details = element(
+        "div", element("h3", ""), element("p", "", of="soft"), element(
+            "div", element("div", element("h4", "Request"), element("pre", "", tabindex=0, aria_label="Request")),
+            element("div", element("h4", "Answer"), element("pre", "", tabindex=0, aria_label="Answer")), of="both"),
+        of="details", aria_live="polite", hidden="")
+    return together([
+        element("h3", "Timeline"), element("div", *buttons, element("span", "", of="soft said", role="status"), of="tools"),
+        element("div", element("svg", of="overview", role="presentation"), lanes, of="timeline"),
+        element("ul", *legend, of="legend"), element("p", order + KEYS, of="soft"), details])
+
+
+def _story(judged: Judged) -> Markup:
+    """The newest calls that name an object of the refused call."""
+    story = judged.story()
+    if len(story) < 2:
+        return Markup("")
+    rows: List[List[Part]] = [
+        [_link(call.number), call.client, operations(call), came_to(call),
+         "" if call.stamp is None else moment(call.stamp), str(judged.turns.get(call.number, ""))]
+        for call in story[-MOST_OF_STORY:]]
+    left_out = len(story) - len(rows)
+    told = f" The {left_out} before these are left out." if left_out else ""
+    return together([
+        element("h3", "The object's story"),
+        element("p", "The calls up to the verdict's that name an object which it names: this is the report's reading of the "
+                "transcript, and not the auditor's word." + told, of="soft"),
+        table(["Call", "Client", "Operation", "Came to", "Time Stamp", "Turn"], rows, 1)])
+
+
+def _counts(judged: Judged) -> Markup:
+    """Calls by operation, client and outcome; from when to when."""
+    pieces = Counter((operation_name(piece.operation), came_to(call)) for call in judged.calls for piece in call.pieces)
+    clients = Counter((call.client, came_to(call)) for call in judged.calls)
+    seen = stamps(judged.calls)
+    when = (f"{len(judged.calls)} calls; Time Stamps from {moment(min(seen))} to {moment(max(seen))}, "
+            f"{max(seen) - min(seen) + 1} seconds." if seen else f"{len(judged.calls)} calls, none with a Time Stamp.")
+    return together([element("p", when), element("div", _cross("Operation", pieces), _cross("Client", clients), of="counts")])
+
+
+def _cross(head: str, counts: Counter[tuple[str, str]]) -> Markup:
+    ends = [word for word in ("success", "failed", "refused", "undone", "open") if any(end == word for _, end in counts)]
+    rows: List[List[Part]] = [[name, *(str(counts[(name, end)]) for end in ends)] for name in sorted({n for n, _ in counts})]
+    return table([head, *ends], rows, len(ends))
+
+
+def _evidence(judged: Judged) -> Markup:
+    rows: List[List[Part]] = [[path, element("code", sha256), f"{length:,}"] for path, length, sha256 in judged.files]
+    return together([
+        table(["File", "SHA-256, as the report read it", "Bytes"], rows, 1),
+        element("p", f"Judged in {judged.seconds:.1f} seconds. Anybody can repeat the verdict:"),
+        element("pre", f"$ {judged.command}\n" + "\n".join(judged.verdict.lines))])
+
+
+def moment_of_making(told: Optional[str]) -> datetime:
+    """The moment at which the page is made; SOURCE_DATE_EPOCH sets it."""
+    return EPOCH + timedelta(seconds=int(told)) if told and told.isdecimal() else datetime.now(timezone.utc)

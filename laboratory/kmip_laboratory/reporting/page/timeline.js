@@ -1,0 +1,303 @@
+'use strict';
+/* A timeline of the calls of one recording. Bars are drawn for what is in view alone; where there are too many, they are
+   drawn together, by what matters most. Texts of messages only ever become text nodes. */
+
+const SVG = 'http://www.w3.org/2000/svg';
+const KINDS = ['success', 'failed', 'refused', 'undone', 'open', 'fault'];
+const WORDS = ['success', 'failed', 'message refused', 'undone', 'no answer', 'named by the verdict'];
+const ROW = 26, BAR = 18, LABEL = 150, AXIS = 24, MOST_BARS = 1200, CLOSEST = 8;
+
+function drawn(name, attributes, text) {
+  const made = document.createElementNS(SVG, name);
+  for (const key in attributes) made.setAttribute(key, attributes[key]);
+  if (text !== undefined) made.textContent = text;
+  return made;
+}
+
+function clock(seconds) {
+  const date = new Date(seconds * 1000);
+  return isNaN(date) ? String(seconds) : date.toISOString().slice(11, 19);
+}
+
+class Timeline {
+  constructor(root, data, choose) {
+    this.data = data;
+    this.choose = choose;
+    this.chosen = -1;
+    this.ordered = false;
+    this.last = Math.max(1, ...this.maxima());
+    this.overview = root.querySelector('.overview');
+    this.rows = root.querySelector('.lanes svg');
+    this.box = root.querySelector('.lanes');
+    this.place = new Map(data.number.map((number, index) => [number, index]));
+    this.fault = this.place.has(data.fault) ? this.place.get(data.fault) : -1;
+    this.story = new Set(data.story.map(number => this.place.get(number)));
+    this.listen(root);
+    this.start();
+    new ResizeObserver(() => this.draw()).observe(this.box);
+  }
+
+  maxima() { let most = 0; for (const end of this.data.end) if (end > most) most = end; return [most, this.data.marks]; }
+  end(index) { const end = this.data.end[index]; return end < 0 ? this.last + 1 : end; }
+  kind(index) { return index === this.fault ? 5 : this.data.kind[index]; }
+  width() { return Math.max(320, this.box.clientWidth || 900); }
+  x(mark) { return LABEL + (mark - this.from) / (this.to - this.from) * (this.width() - LABEL - 12); }
+
+  start() {
+    const at = this.fault < 0 ? -1 : this.data.begin[this.fault];
+    if (at < 0 || this.last <= 240) this.view(0, Math.min(this.last + 1, 240));
+    else this.view(at - 80, at + 80);
+    if (this.fault >= 0) this.reveal(this.fault);
+  }
+
+  view(from, to) {
+    const span = Math.min(Math.max(to - from, CLOSEST), this.last + 1);
+    this.from = Math.min(Math.max(0, from), this.last + 1 - span);
+    this.to = this.from + span;
+    if (!this.waiting) {
+      this.waiting = true;
+      requestAnimationFrame(() => { this.waiting = false; this.draw(); });
+    }
+  }
+
+  zoom(times, middle) {
+    const at = middle === undefined ? (this.from + this.to) / 2 : middle;
+    this.view(at - (at - this.from) * times, at + (this.to - at) * times);
+  }
+
+  pan(part) { const by = (this.to - this.from) * part; this.view(this.from + by, this.to + by); }
+
+  show(index) {
+    if (index < 0 || index >= this.data.number.length) return;
+    const begin = this.data.begin[index], end = Math.min(this.end(index), begin + 40), span = this.to - this.from;
+    if (begin < this.from || end > this.to) this.view((begin + end - span) / 2, (begin + end + span) / 2);
+    this.chosen = index;
+    this.reveal(index);
+    this.view(this.from, this.to);
+    this.choose(index);
+  }
+
+  reveal(index) {
+    const top = this.data.lane[index] * ROW, box = this.box;
+    if (top < box.scrollTop) box.scrollTop = top;
+    if (top + ROW * 2 > box.scrollTop + box.clientHeight) box.scrollTop = top + ROW * 2 - box.clientHeight;
+  }
+
+  inView() {
+    const found = [], begin = this.data.begin;
+    let low = 0, high = begin.length;
+    while (low < high) { const middle = (low + high) >> 1; if (begin[middle] <= this.to) low = middle + 1; else high = middle; }
+    for (let index = 0; index < low; index++) if (this.end(index) >= this.from) found.push(index);
+    return found;
+  }
+
+  draw() {
+    const lanes = this.data.lanes, height = lanes.length * ROW + AXIS, width = this.width();
+    this.rows.setAttribute('height', height);
+    this.rows.setAttribute('viewBox', `0 0 ${width} ${height}`);
+    this.rows.replaceChildren();
+    this.axis(lanes.length * ROW);
+    lanes.forEach((client, lane) => this.row(client, lane, width));
+    const found = this.inView();
+    if (found.length <= MOST_BARS) found.forEach(index => this.bar(index));
+    else this.together(found);
+    if (this.ordered && found.length <= MOST_BARS) this.order(found);
+    this.map(width);
+    this.tell(found.length);
+  }
+
+  row(client, lane, width) {
+    const y = lane * ROW;
+    this.rows.append(drawn('line', { class: 'row', x1: 0, x2: width, y1: y + ROW, y2: y + ROW }));
+    if (lane && this.data.lanes[lane - 1] === client) return;
+    const name = this.data.clients[client];
+    const text = drawn('text', { x: 8, y: y + 17 }, name.length > 20 ? name.slice(0, 19) + '…' : name || '(no name)');
+    text.append(drawn('title', {}, name));
+    this.rows.append(text);
+  }
+
+  axis(top) {
+    let before = null, right = -100;
+    for (const index of this.inView()) {
+      const stamp = this.data.stamp[index];
+      if (stamp === null || stamp === before) continue;
+      const x = this.x(this.data.begin[index]);
+      if (x >= LABEL && x - right > 70 && x < this.width() - 60) {
+        this.rows.append(drawn('line', { class: 'tick', x1: x, x2: x, y1: 0, y2: top + 6 }));
+        this.rows.append(drawn('text', { class: 'soft', x: x + 3, y: top + 17 }, clock(stamp)));
+        right = x;
+      }
+      before = stamp;
+    }
+    this.rows.append(drawn('text', { class: 'soft', x: 8, y: top + 17 }, 'Time Stamp, UTC'));
+  }
+
+  bar(index) {
+    const data = this.data, kind = KINDS[this.kind(index)], y = data.lane[index] * ROW + 4;
+    const left = Math.max(LABEL - 4, this.x(data.begin[index])), right = Math.min(this.width(), this.x(this.end(index)));
+    const width = Math.max(4, right - left);
+    if (right < LABEL) return;
+    const names = ['bar', kind];
+    if (this.story.has(index) && index !== this.fault) names.push('story');
+    if (index === this.chosen) names.push('chosen');
+    const rect = drawn('rect', { class: names.join(' '), x: left, y, width, height: BAR, rx: 2, 'data-call': index,
+      role: 'option', id: this.name(index), 'aria-label': this.label(index),
+      'aria-selected': index === this.chosen ? 'true' : 'false' });
+    rect.append(drawn('title', {}, this.label(index)));
+    this.rows.append(rect);
+    if (kind === 'open') this.rows.append(drawn('path', { class: 'flag', d: `M${left + width - 9} ${y + 3}l6 6l-6 6z` }));
+    if (index === this.fault) this.rows.append(drawn('path', { class: 'flag', d: `M${left - 1} ${y - 4}h10l-5 6z` }));
+    const turn = data.turn[index];
+    if (turn && width > 8 + 7 * String(turn).length) {
+      this.rows.append(drawn('text', { class: 'in', x: left + 4, y: y + 13 }, String(turn)));
+    }
+  }
+
+  label(index) {
+    const data = this.data, turn = data.turn[index];
+    return `call ${data.number[index]}, ${data.clients[data.lanes[data.lane[index]]]}, ${data.what[data.does[index]]}, ` +
+      WORDS[data.kind[index]] + (turn ? `, turn ${turn}` : '') + (index === this.fault ? ', named by the verdict' : '');
+  }
+
+  name(index) { return `call-${this.data.recording}-${this.data.number[index]}`; }
+
+  together(found) {
+    const width = this.width(), columns = Math.ceil(width / 3), rank = [0, 2, 3, 1, 4, 5];
+    const worst = new Map();
+    for (const index of found) {
+      const kind = this.kind(index), lane = this.data.lane[index];
+      const first = Math.max(0, Math.floor(this.x(this.data.begin[index]) / 3));
+      const last = Math.min(columns, Math.floor(this.x(this.end(index)) / 3));
+      for (let column = first; column <= last; column++) {
+        const at = lane * 10000 + column, before = worst.get(at);
+        if (before === undefined || rank[kind] > rank[before]) worst.set(at, kind);
+      }
+    }
+    for (const [at, kind] of worst) {
+      const x = (at % 10000) * 3;
+      if (x < LABEL - 4) continue;
+      this.rows.append(drawn('rect', { class: KINDS[kind], x, width: 3, y: Math.floor(at / 10000) * ROW + 4, height: BAR }));
+    }
+  }
+
+  order(found) {
+    const path = found.filter(index => this.data.turn[index]).sort((a, b) => this.data.turn[a] - this.data.turn[b]);
+    const points = path.map(index => {
+      const left = Math.max(LABEL, this.x(this.data.begin[index])), right = Math.min(this.width(), this.x(this.end(index)));
+      return `${((left + right) / 2).toFixed(1)},${this.data.lane[index] * ROW + 4 + BAR / 2}`;
+    });
+    this.rows.append(drawn('polyline', { class: 'order', points: points.join(' ') }));
+  }
+
+  map(width) {
+    const height = 30, at = mark => LABEL + mark / (this.last + 1) * (width - LABEL - 12);
+    this.overview.setAttribute('viewBox', `0 0 ${width} ${height}`);
+    this.overview.setAttribute('height', height);
+    if (this.mapped !== width) {
+      this.mapped = width;
+      this.drawing = drawn('g', {});
+      const busy = new Map();
+      for (let index = 0; index < this.data.begin.length; index++) {
+        const x = Math.floor(at(this.data.begin[index]) / 2) * 2, kind = this.kind(index);
+        const column = busy.get(x) || [0, 0];
+        column[0]++;
+        if (kind === 1 || kind === 4) column[1]++;
+        busy.set(x, column);
+      }
+      let most = 1;
+      for (const column of busy.values()) most = Math.max(most, column[0]);
+      for (const [x, column] of busy) {
+        const tall = Math.max(2, 22 * column[0] / most), low = 22 * column[1] / most;
+        this.drawing.append(drawn('rect', { class: 'success', x, width: 2, y: 26 - tall, height: tall }));
+        if (low) this.drawing.append(drawn('rect', { class: 'failed', x, width: 2, y: 26 - low, height: low }));
+      }
+      if (this.fault >= 0) {
+        const x = at(this.data.begin[this.fault]);
+        this.drawing.append(drawn('path', { class: 'flag', d: `M${x - 5} 0h10l-5 8z` }));
+        this.drawing.append(drawn('rect', { class: 'fault', x: x - 1, width: 2, y: 4, height: 24 }));
+      }
+      this.drawing.append(drawn('text', { class: 'soft', x: 8, y: 19 }, 'whole recording'));
+    }
+    const left = at(this.from);
+    this.overview.replaceChildren(this.drawing,
+      drawn('rect', { class: 'window', x: left, width: Math.max(3, at(this.to) - left), y: 1, height: height - 2 }));
+  }
+
+  tell(count) {
+    this.box.setAttribute('aria-activedescendant', this.chosen < 0 ? '' : this.name(this.chosen));
+    this.said.textContent = `${count} of ${this.data.number.length} calls in view` +
+      (count > MOST_BARS ? ': drawn together; zoom in to see each' : '');
+  }
+
+  mark(event, svg) {
+    const box = svg.getBoundingClientRect(), x = (event.clientX - box.left) * this.width() / box.width;
+    return (x - LABEL) / (this.width() - LABEL - 12);
+  }
+
+  listen(root) {
+    this.said = root.querySelector('.said');
+    const does = {
+      in: () => this.zoom(0.5), out: () => this.zoom(2), left: () => this.pan(-0.5), right: () => this.pan(0.5),
+      all: () => this.view(0, this.last + 1), fault: () => this.fault >= 0 ? this.show(this.fault) : this.start(),
+      order: button => { this.ordered = !this.ordered; button.setAttribute('aria-pressed', this.ordered); this.draw(); },
+    };
+    for (const button of root.querySelectorAll('.tools button')) {
+      button.addEventListener('click', () => does[button.dataset.does](button));
+    }
+    this.rows.addEventListener('click', event => {
+      const call = event.target.getAttribute('data-call');
+      if (call !== null && !this.dragged) this.show(Number(call));
+    });
+    this.box.addEventListener('keydown', event => this.key(event));
+    this.rows.addEventListener('wheel', event => {
+      if (!event.ctrlKey && !event.shiftKey) return;
+      event.preventDefault();
+      const middle = this.from + this.mark(event, this.rows) * (this.to - this.from);
+      this.zoom(event.deltaY > 0 ? 1.25 : 0.8, middle);
+    }, { passive: false });
+    this.drag();
+    this.overview.addEventListener('click', event => {
+      const at = this.mark(event, this.overview) * (this.last + 1), half = (this.to - this.from) / 2;
+      this.view(at - half, at + half);
+    });
+  }
+
+  drag() {
+    let down = null;
+    this.rows.addEventListener('pointerdown', event => { down = [event.clientX, this.from, this.to]; this.dragged = false; });
+    window.addEventListener('pointermove', event => {
+      if (down === null || Math.abs(event.clientX - down[0]) < 4) return;
+      this.dragged = true;
+      const by = (down[0] - event.clientX) / (this.width() - LABEL) * (down[2] - down[1]);
+      this.view(down[1] + by, down[2] + by);
+    });
+    window.addEventListener('pointerup', () => { down = null; });
+  }
+
+  key(event) {
+    const many = this.data.number.length, now = this.chosen < 0 ? this.middle() : this.chosen;
+    const does = {
+      ArrowRight: () => this.show(this.chosen < 0 ? now : Math.min(many - 1, now + 1)),
+      ArrowLeft: () => this.show(this.chosen < 0 ? now : Math.max(0, now - 1)),
+      ArrowDown: () => this.show(this.beside(now, 1)), ArrowUp: () => this.show(this.beside(now, -1)),
+      Home: () => this.show(0), End: () => this.show(many - 1), Enter: () => this.show(now), ' ': () => this.show(now),
+      PageDown: () => this.pan(0.5), PageUp: () => this.pan(-0.5), '+': () => this.zoom(0.5), '-': () => this.zoom(2),
+      '0': () => this.view(0, this.last + 1), f: () => this.show(this.fault),
+    }[event.key];
+    if (!does || event.ctrlKey || event.altKey || event.metaKey || !many) return;
+    event.preventDefault();
+    does();
+  }
+
+  middle() { const found = this.inView(); return this.fault >= 0 ? this.fault : found[found.length >> 1] || 0; }
+
+  beside(index, step) {
+    const data = this.data, lane = data.lane[index] + step;
+    let best = index, near = Infinity;
+    for (let other = 0; other < data.number.length; other++) {
+      const far = Math.abs(data.begin[other] - data.begin[index]);
+      if (data.lane[other] === lane && far < near) { best = other; near = far; }
+    }
+    return best;
+  }
+}

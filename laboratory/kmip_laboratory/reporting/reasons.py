@@ -1,0 +1,61 @@
+"""Plain words for what the auditor's lines name by number; docs/PROFILE.md has each in full."""
+
+from __future__ import annotations
+
+from typing import Dict
+
+from ..auditor import Outcome, Verdict
+
+WHY: Dict[int, str] = {
+    1: "a call that ended before this one began has not been done yet in this order",
+    2: "its Time Stamp is less than that of the call before it",
+    3: "an answer of the batch is missing, is one too many, or has a status that the batch excludes there",
+    4: "the answer names another operation than the request",
+    5: "it succeeded for an object that does not exist then",
+    6: "it succeeded though the object's state excludes it",
+    7: "the new object got an identifier that is taken",
+    8: "the new object got a name that is taken, and names are declared unique",
+    9: "other bytes were shown than those already known of the object",
+    10: "no such key has bytes of this length",
+    11: "an attribute in the answer is not the object's",
+    12: "a required attribute is missing in the answer",
+    13: "something is listed that must not be",
+    14: "something is not listed that must be",
+    15: "the reason of the refusal has no cause",
+    16: "the answer repeats another identifier, type or batch item ID than it should",
+}
+MEANING: Dict[Outcome, str] = {
+    Outcome.YES: "Explained: the answers can all be explained by the calls having been done one at a time.",
+    Outcome.NO: "Not possible in this order: an answer can't be explained where the witness puts it.",
+    Outcome.OUTSIDE: "Not judged: a message is outside of what the auditor judges.",
+    Outcome.WITNESS: "Not judged: the witness does not fit the transcript.",
+    Outcome.MALFORMED: "Not judged: a file is not what it should be.",
+    Outcome.GAVE_UP: "No order was found that explains the answers.",
+    Outcome.DEVICE: "Not judged: a file could not be read.",
+    Outcome.MEMORY: "Not judged: memory ran out.",
+}
+PREMISES = (
+    "A yes says that some inventory fits the declaration, and that doing one call after the other from there, by the rules of "
+    "the profile and in this order, gives every recorded answer. It does not say that the server really took this order, "
+    "that it held what is declared, or that the recorder's marks are right. A no speaks of this order alone; where a search "
+    "gives up, it has decided that there is no order only if it had steps left, and every call has ended, has its items in order "
+    "and waits for no payload.")
+
+
+def in_words(verdict: Verdict) -> str:
+    """What the lines say, in a sentence or two."""
+    told = MEANING[verdict.outcome]
+    if verdict.outcome is Outcome.NO:
+        where = "the call itself" if verdict.item == 0 else f"item {verdict.item}"
+        told += (f" Turn {verdict.turn}, call {verdict.call}, {where}: "
+                 f"{WHY.get(verdict.number or 0, verdict.name)} (reason {verdict.number}, {verdict.name}).")
+    if verdict.outcome is Outcome.OUTSIDE:
+        told += f" Call {verdict.call}, {verdict.side}, item {verdict.item}: kind {verdict.number}, {verdict.name}."
+    return told
+
+
+def in_short(verdict: Verdict) -> str:
+    """The reason alone, by which recordings are counted."""
+    if verdict.number is None:
+        return verdict.outcome.value
+    return f"{verdict.outcome.value}: {verdict.number} {verdict.name}"

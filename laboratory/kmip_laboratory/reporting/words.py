@@ -1,0 +1,93 @@
+"""The command line of kmip_report."""
+
+from __future__ import annotations
+
+import argparse
+import os
+import sys
+from concurrent.futures import ProcessPoolExecutor
+from functools import partial
+from typing import List, NoReturn
+
+from .. import fresh
+from ..auditor import Outcome
+from ..files import write_file
+from ..trouble import Trouble
+from . import junit, page, text
+from .judging import Judged, find, judge
+
+ALL_WELL = 0
+TROUBLE = 1
+USAGE = 64
+
+
+class Parser(argparse.ArgumentParser):
+    """A parser whose status for wrong words is that of the auditor."""
+
+    def error(self, message: str) -> NoReturn:
+        self.print_usage(sys.stderr)
+        self.exit(USAGE, f"{self.prog}: {message}\n")
+
+
+def main(arguments: List[str]) -> int:
+    """Makes the report, and answers the status."""
+    words = _parser().parse_args(arguments)
+    outs = [path for path in (words.out, words.junit) if path and path != "-"]
+    try:
+        if not words.force:
+            fresh.refuse_present(outs)
+        recordings = _judged(find(words.recordings), words.jobs, words.budget)
+        if words.text:
+            print("\n\n".join(text.told(judged) for judged in recordings))
+        _write(words, recordings)
+    except Trouble as trouble:
+        print(f"kmip_report: {trouble}", file=sys.stderr)
+        return TROUBLE
+    except KeyboardInterrupt:
+        print("kmip_report: ended by Ctrl-C; nothing more was written", file=sys.stderr)
+        return TROUBLE
+    yes = sum(judged.verdict.outcome is Outcome.YES for judged in recordings)
+    print(f"{len(recordings)} recordings: {yes} yes, {len(recordings) - yes} not")
+    return ALL_WELL
+
+
+def _parser() -> Parser:
+    parser = Parser(prog="kmip_report", description="What kmip_audit says of recordings, as one page: see docs/REPORT.md.")
+    parser.add_argument("out", metavar="OUT.html", help="the page; - for none")
+    parser.add_argument("recordings", nargs="+", metavar="RECORDING",
+                        help="a folder with transcript.ttlv, declaration.ttlv and, unless a search is to find one, "
+                        "witness.ttlv; or a folder of such folders")
+    parser.add_argument("--junit", metavar="FILE", help="write a test case for each recording, as JUnit's XML")
+    parser.add_argument("--text", action="store_true", help="print the report in 80 columns too")
+    parser.add_argument("--jobs", type=_jobs, default=os.cpu_count() or 1, metavar="N", help="recordings judged at once")
+    parser.add_argument("--force", action="store_true", help="write over files that are there")
+    parser.add_argument("--budget", type=int, metavar="N", help="the most steps of a search")
+    return parser
+
+
+def _jobs(told: str) -> int:
+    if not told.isdecimal() or int(told) < 1:
+        raise argparse.ArgumentTypeError(f"{told!r} is no number of recordings at once, as 4 is one")
+    return int(told)
+
+
+def _judged(folders: List[str], jobs: int, budget: int | None) -> List[Judged]:
+    if len(folders) == 1:
+        return [judge(folders[0], budget)]
+    with ProcessPoolExecutor(min(jobs, len(folders))) as pool:
+        return list(pool.map(partial(judge, budget=budget), folders))
+
+
+def _write(words: argparse.Namespace, recordings: List[Judged]) -> None:
+    """Writes the files that are asked for: all or, where nothing may be written over, none."""
+    files = []
+    if words.out != "-":
+        told = page.page(recordings, page.moment_of_making(os.environ.get("SOURCE_DATE_EPOCH")))
+        files.append((words.out, told.encode("utf-8")))
+    if words.junit:
+        files.append((words.junit, junit.told(recordings).encode("utf-8")))
+    if not words.force:
+        fresh.write_all(files)
+        return
+    for path, data in files:
+        write_file(path, data)
