@@ -1,7 +1,7 @@
-"""Checks copies of a crate in which edits stand, and reads out of what rattle says whether the functions that they change are refused.
+"""Checks copies of a crate in which edits stand, and reads out of what rattle says whether the changed functions are refused.
 
-A proof knows nothing of a function that it calls but its contract. So edits of different bodies don't touch each other's goals, and
-one check of the functions that they change, and of those that these call, judges them all.
+A proof knows nothing of a function that it calls but its contract. So edits of different bodies don't touch each other's
+goals, and one check of the functions that they change, and of those that these call, judges them all.
 """
 from __future__ import annotations
 
@@ -18,6 +18,8 @@ from edit_files import BadEdit, Edit, put_in
 PARTS = ("src", "specs", "proofs")
 # What an answer by hand is told where it names something that the body no longer has.
 STALE = re.compile(r"has no field|is not in scope|has no `|was not admitted")
+# What a function is told whose own goals are all proved.
+PROVED = re.compile(r"proved|(no proof|not proved)[:;] (in `\S+`, of this cycle of calls: )?it (calls|passes|drops) ")
 ENDED = re.compile(r"^only=\d+ ", re.M)
 
 
@@ -39,7 +41,7 @@ class Verdict:
 
 @dataclass
 class Crate:
-    """A crate of the repository: its folder, what it uses of the repository and of the kit, and where the libraries below it are built."""
+    """A crate of the repository: its folder, what it uses of the repository and of the kit, and where libraries are built."""
 
     name: str
     folder: Path
@@ -82,7 +84,7 @@ class Crate:
                 shutil.copytree(self.folder / part, room / part)
 
     def run_rattle(self, room: Path, words: list[str]) -> str:
-        """Runs a command of rattle on the copy in a folder, and returns what it said; the processor's seconds are counted."""
+        """Runs a command of rattle on the copy in a folder, and returns what it said; it counts the processor's seconds."""
         with tempfile.TemporaryFile() as out:
             command = [str(kit_folder() / "bin/rattle"), *words]
             ran = subprocess.Popen(command, cwd=room, stdin=subprocess.DEVNULL, stdout=out, stderr=subprocess.STDOUT)
@@ -97,20 +99,22 @@ class Crate:
         with tempfile.TemporaryDirectory(prefix="wrong-bodies-") as made:
             self.copy_to(Path(made))
             to = folder / f"{self.name}.rlib"
-            said = self.run_rattle(Path(made), ["build", *self.rattle_words(), "--statements", "--jobs", str(jobs), "-o", str(to)])
+            words = ["build", *self.rattle_words(), "--statements", "--jobs", str(jobs), "-o", str(to)]
+            said = self.run_rattle(Path(made), words)
         if not to.is_dir():
-            raise SystemExit(f"wrong-bodies: {self.name} is not proved, so that nothing above it can be judged: {first_error(said)}")
+            raise SystemExit(f"wrong-bodies: {self.name}: it is not proved, and has to be first: {first_error(said)}")
         self.libraries[self.name] = to
 
     def check(self, edits: list[Edit], kept: Path) -> str:
-        """Checks the functions that these edits change, in a copy in which they all stand, over what checks before it proved."""
+        """Checks the functions that these edits change, in a copy in which all stand, over what earlier checks proved."""
         with tempfile.TemporaryDirectory(prefix="wrong-bodies-") as made:
             room = Path(made)
             self.copy_to(room)
             for path, text in edited(self, edits).items():
                 (room / path).write_text(text, encoding="utf-8")
             only = [word for it in edits for word in ("--only", it.function)]
-            return self.run_rattle(room, ["check", *self.rattle_words(), "--jobs", "1", "--incremental", str(kept), *only])
+            words = ["check", *self.rattle_words(), "--jobs", "1", "--incremental", str(kept), *only]
+            return self.run_rattle(room, words)
 
 
 def edited(crate: Crate, edits: list[Edit]) -> dict[str, str]:
@@ -123,7 +127,7 @@ def edited(crate: Crate, edits: list[Edit]) -> dict[str, str]:
 
 
 def stand_together(crate: Crate, edits: list[Edit]) -> bool:
-    """Whether one check can judge these edits: each is of one body alone, no two share a proof, and each text still stands once."""
+    """Whether one check can judge these: each is of one body alone, no two share a proof, and each text still stands once."""
     if len({it.proof for it in edits}) < len(edits) or len(edits) > 1 and not all(it.in_body for it in edits):
         return False
     try:
@@ -163,9 +167,10 @@ def unknown_names(edits: list[Edit], said: str) -> list[Edit]:
 
 def verdict_of(edit: Edit, said: str) -> Verdict:
     """What a check that came to its end says of the very function that the edit changes."""
-    ends = [it for it in re.findall(r"^fn (\S+: .*)", said, re.M) if f"::{it.partition(': ')[0]}".endswith(f"::{edit.function}")]
+    lines = re.findall(r"^fn (\S+: .*)", said, re.M)
+    ends = [it for it in lines if f"::{it.partition(': ')[0]}".endswith(f"::{edit.function}")]
     if len(ends) != 1:
-        return Verdict("not judged", f"{len(ends)} functions are called {edit.function}: a line 'fn: NAME' has to name one")
+        return Verdict("not judged", f"{len(ends)} functions are called {edit.function}: name one by a line 'fn: NAME'")
     path, _, told = ends[0].partition(": ")
     goals = re.search(r"`search` did not prove ((?:`[^`]+`(?:, )?)+)", told)
     if goals:
@@ -176,6 +181,6 @@ def verdict_of(edit: Edit, said: str) -> Verdict:
     if told.startswith("not proved") and errors:
         of_goal = next((it for it in errors if not STALE.search(it)), None)
         return Verdict("refused", f"its answer by hand: {of_goal}") if of_goal else Verdict("stale", errors[0])
-    if re.match(r"proved|(no proof|not proved)[:;] (in `\S+`, of this cycle of calls: )?it (calls|passes|drops) ", told):
+    if PROVED.match(told):
         return Verdict("let through", told)
     return Verdict("not judged", told)

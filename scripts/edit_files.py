@@ -1,7 +1,7 @@
 """Reads edits, as must-fail/ and wrong-bodies/ hold them, and finds the function whose body each of them changes.
 
-An edit is a file of lines: 'file: src/..', and behind it pairs 'old: TEXT' and 'new: TEXT', where the old text stands once in that file.
-A line 'fn: NAME' names the function that has to be refused, where the text that changes stands in none, as that of a constant.
+An edit is a file of lines: 'file: src/..', and behind it pairs 'old: TEXT' and 'new: TEXT', where the old text stands once in
+that file. A line 'fn: NAME' names the function that has to be refused, where the text stands in none, as that of a constant.
 """
 from __future__ import annotations
 
@@ -30,7 +30,7 @@ class Change:
 
 @dataclass(frozen=True)
 class Function:
-    """A function, by the name that rattle tells it by, or by that name's end; the lines that it takes; and its cycle of calls."""
+    """A function: the name that rattle has for it, or that name's end; the lines that it takes; and its cycle of calls."""
 
     name: str
     first: int
@@ -41,7 +41,7 @@ class Function:
 
 @dataclass(frozen=True)
 class Edit:
-    """One edit: the changes, the function that has to be refused, what is proved along with it, and whether it is of that body alone."""
+    """One edit: its changes, the function to be refused, what is proved along with that, and whether it is of that body alone."""
 
     name: str
     changes: tuple[Change, ...]
@@ -101,7 +101,7 @@ def read_edit(file: Path, crate: Path) -> Edit:
     found = {place.name: place for place, _ in places if place}
     in_body = len(found) == 1 and all(place and is_inside(place, line) for place, line in places)
     if not named and len(found) != 1:
-        raise BadEdit("it changes no body, or several: a line 'fn: NAME' has to name the function that is to be refused")
+        raise BadEdit("it changes no body, or several: name the function that is to be refused by a line 'fn: NAME'")
     name = named or next(iter(found))
     cycle = found[name].cycle if name in found else None
     return Edit(file.stem, tuple(changes), name, cycle, f"+{cycle}" if cycle else f"{changes[0].path} {name}", in_body)
@@ -119,7 +119,7 @@ def function_at(text: str, path: str, first: int, last: int) -> Optional[Functio
 
 
 def functions_of(text: str, path: str) -> list[Function]:
-    """The functions of a file, in the layout of rt fmt: each ends at the first brace that stands where the function's own line begins."""
+    """The functions of a file in the layout of rt fmt: each ends at the first brace that stands where its own line begins."""
     lines, found, owners = text.split("\n"), [], [("", -1)]
     for at, line in enumerate(lines):
         while owners[-1][0] and at > owners[-1][1]:
@@ -130,8 +130,7 @@ def functions_of(text: str, path: str) -> list[Function]:
         if not head:
             continue
         indent, last = head[1], end_of(lines, at)
-        body = next((n for n in range(at, last) if lines[n].rstrip().endswith("{") and lines[n].startswith(indent + "{")), at)
-        body = at if line.rstrip().endswith("{") else body
+        body = next((n for n in range(at, last) if re.match(indent + r"(\S.*)?\{$", lines[n])), at)
         above = at
         while above and re.match(r" *(#\[|///)", lines[above - 1]):
             above -= 1
@@ -157,7 +156,7 @@ def module_of(path: str) -> str:
 
 
 def owner_of(block: re.Match[str], lines: list[str], at: int) -> str:
-    """What rattle names the functions of a block by: of an impl the type, and right behind it the trait with the types that it is given."""
+    """What rattle names a block's functions by: of an impl the type, and right behind it the trait and the types it is given."""
     kind, rest = block[1], block[2]
     if kind != "impl":
         named = re.search(r"\w+", rest)
