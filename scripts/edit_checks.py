@@ -1,7 +1,7 @@
-"""Checks copies of a crate in which edits stand, and reads out of what rattle says whether the changed functions are refused.
+"""Checks copies of a crate in which edits stand, and reads whether the functions that they change are refused.
 
-A proof knows nothing of a function that it calls but its contract. So edits of different bodies don't touch each other's
-goals, and one check of the functions that they change, and of those that these call, judges them all.
+A proof knows nothing of a function that it calls but its contract. So edits of different bodies don't touch each
+other's goals, and one check of the functions that they change, and of those that these call, judges them all.
 """
 from __future__ import annotations
 
@@ -41,7 +41,7 @@ class Verdict:
 
 @dataclass
 class Crate:
-    """A crate of the repository: its folder, what it uses of the repository and of the kit, and where libraries are built."""
+    """A crate: its folder, what it uses of the repository and of the kit, and where libraries are built."""
 
     name: str
     folder: Path
@@ -84,7 +84,7 @@ class Crate:
                 shutil.copytree(self.folder / part, room / part)
 
     def run_rattle(self, room: Path, words: list[str]) -> str:
-        """Runs a command of rattle on the copy in a folder, and returns what it said; it counts the processor's seconds."""
+        """Runs a command of rattle on the copy in a folder, counts its processor's seconds, and returns what it said."""
         with tempfile.TemporaryFile() as out:
             command = [str(kit_folder() / "bin/rattle"), *words]
             ran = subprocess.Popen(command, cwd=room, stdin=subprocess.DEVNULL, stdout=out, stderr=subprocess.STDOUT)
@@ -106,7 +106,7 @@ class Crate:
         self.libraries[self.name] = to
 
     def check(self, edits: list[Edit], kept: Path) -> str:
-        """Checks the functions that these edits change, in a copy in which all stand, over what earlier checks proved."""
+        """Checks the functions that these edits change, in a copy with all of them, over what earlier checks proved."""
         with tempfile.TemporaryDirectory(prefix="wrong-bodies-") as made:
             room = Path(made)
             self.copy_to(room)
@@ -127,7 +127,7 @@ def edited(crate: Crate, edits: list[Edit]) -> dict[str, str]:
 
 
 def stand_together(crate: Crate, edits: list[Edit]) -> bool:
-    """Whether one check can judge these: each is of one body alone, no two share a proof, and each text still stands once."""
+    """Whether one check can judge these: each is in one body, no two share a proof, each text still stands once."""
     if len({it.proof for it in edits}) < len(edits) or len(edits) > 1 and not all(it.in_body for it in edits):
         return False
     try:

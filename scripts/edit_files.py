@@ -1,7 +1,8 @@
 """Reads edits, as must-fail/ and wrong-bodies/ hold them, and finds the function whose body each of them changes.
 
-An edit is a file of lines: 'file: src/..', and behind it pairs 'old: TEXT' and 'new: TEXT', where the old text stands once in
-that file. A line 'fn: NAME' names the function that has to be refused, where the text stands in none, as that of a constant.
+An edit is a file of lines: 'file: src/..', and behind it pairs 'old: TEXT' and 'new: TEXT', where the old text stands
+once in that file. A line 'fn: NAME' names the function that has to be refused, where the text stands in none, as that
+of a constant.
 """
 from __future__ import annotations
 
@@ -30,7 +31,7 @@ class Change:
 
 @dataclass(frozen=True)
 class Function:
-    """A function: the name that rattle has for it, or that name's end; the lines that it takes; and its cycle of calls."""
+    """A function: rattle's name for it, or that name's end; the lines that it takes; and its cycle of calls."""
 
     name: str
     first: int
@@ -41,7 +42,7 @@ class Function:
 
 @dataclass(frozen=True)
 class Edit:
-    """One edit: its changes, the function to be refused, what is proved along with that, and whether it is of that body alone."""
+    """One edit: its changes, the function to be refused, what is proved with it, and whether all is in that body."""
 
     name: str
     changes: tuple[Change, ...]
@@ -119,7 +120,7 @@ def function_at(text: str, path: str, first: int, last: int) -> Optional[Functio
 
 
 def functions_of(text: str, path: str) -> list[Function]:
-    """The functions of a file in the layout of rt fmt: each ends at the first brace that stands where its own line begins."""
+    """The functions of a file in rt fmt's layout: each ends at the first brace that stands where its line begins."""
     lines, found, owners = text.split("\n"), [], [("", -1)]
     for at, line in enumerate(lines):
         while owners[-1][0] and at > owners[-1][1]:
@@ -156,7 +157,7 @@ def module_of(path: str) -> str:
 
 
 def owner_of(block: re.Match[str], lines: list[str], at: int) -> str:
-    """What rattle names a block's functions by: of an impl the type, and right behind it the trait and the types it is given."""
+    """What rattle names a block's functions by: of an impl the type, and behind it the trait and the types it takes."""
     kind, rest = block[1], block[2]
     if kind != "impl":
         named = re.search(r"\w+", rest)
