@@ -84,7 +84,7 @@ class Crate:
                 shutil.copytree(self.folder / part, room / part)
 
     def run_rattle(self, room: Path, words: list[str]) -> str:
-        """Runs a command of rattle on the copy in a folder, counts its processor's seconds, and returns what it said."""
+        """Runs a command of rattle on the copy in a folder, counts its processor's seconds, and returns its lines."""
         with tempfile.TemporaryFile() as out:
             command = [str(kit_folder() / "bin/rattle"), *words]
             ran = subprocess.Popen(command, cwd=room, stdin=subprocess.DEVNULL, stdout=out, stderr=subprocess.STDOUT)
