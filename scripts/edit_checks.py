@@ -17,7 +17,7 @@ from edit_files import BadEdit, Edit, put_in
 
 PARTS = ("src", "specs", "proofs")
 # What an answer by hand is told where it names something that the body no longer has.
-STALE = re.compile(r"has no field|is not in scope|has no `|was not admitted")
+STALE = re.compile(r"has no field|is not in scope|has no `|was not admitted|\(nearest: ")
 # What a function is told whose own goals are all proved.
 PROVED = re.compile(r"proved|(no proof|not proved)[:;] (in `\S+`, of this cycle of calls: )?it (calls|passes|drops) ")
 ENDED = re.compile(r"^only=\d+ ", re.M)
