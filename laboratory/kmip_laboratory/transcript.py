@@ -7,7 +7,7 @@ the marks before it.
 from __future__ import annotations
 
 import os
-from typing import List, NamedTuple, Set, Union
+from typing import BinaryIO, Dict, Iterator, List, NamedTuple, Optional, Set, Tuple, Union
 
 from . import ttlv
 from .trouble import ConnectionTrouble, Trouble
@@ -39,14 +39,24 @@ class End(NamedTuple):
     message: bytes
 
 
+Mark = Union[Begin, End]
+
+
+class Torn(ValueError):
+    """A record that ends with the file, ahead of its own end."""
+
+
 class TranscriptWriter:
     """Writes marks into a new file, which only its owner may read: it has the bytes of keys in it."""
 
-    def __init__(self, path: str) -> None:
+    def __init__(self, path: str, before: Optional[TranscriptWriter] = None) -> None:
+        """`before` is the file that this one goes on behind: numbers and sums go on from it."""
         self.path = path
-        self._calls = 0
+        self.calls = 0
+        self.next_call = before.next_call if before else 1
         self._open: Set[int] = set()
         self._length = 0
+        self._ahead: Tuple[int, int] = before.sums() if before else (0, 0)
         try:
             self._file = os.open(path, os.O_WRONLY | os.O_CREAT | os.O_EXCL, 0o600)
         except FileExistsError:
@@ -58,31 +68,39 @@ class TranscriptWriter:
 
     def begin(self, client: str, request: bytes) -> int:
         """Marks that a request is whole, and answers the number of its call."""
-        if self._calls == MOST_CALLS:
+        if self.calls == MOST_CALLS:
             raise Trouble(f"{self.path} has {MOST_CALLS:,} calls, the most that the auditor reads: record what "
                           "follows into another file")
-        call = self._calls + 1
-        self._append(_checked(ttlv.structure(
-            BEGIN_MARK, ttlv.integer(CALL, call), ttlv.text(CLIENT, client), ttlv.byte_string(MESSAGE, request))))
-        self._calls = call
+        call = self.next_call
+        self._append(_checked(spelled(Begin(call, client, request))))
+        self.calls += 1
+        self.next_call += 1
         self._open.add(call)
         return call
 
     def end(self, call: int, response: bytes) -> None:
         """Marks that the response to a call is whole."""
-        self._append(_checked(ttlv.structure(
-            END_MARK, ttlv.integer(CALL, call), ttlv.byte_string(MESSAGE, response))))
+        self._append(_checked(spelled(End(call, response))))
         self._open.remove(call)
 
     def summary(self) -> str:
         """The line that tells what was recorded."""
-        return f"{self._calls} calls, {len(self._open)} open calls, {self._length} bytes"
+        open_calls, length = self.sums()
+        return f"{self.next_call - 1} calls, {open_calls} open calls, {length} bytes"
+
+    def sums(self) -> Tuple[int, int]:
+        """How many calls are open, and how many bytes were written, in this file and those ahead of it."""
+        return self._ahead[0] + len(self._open), self._ahead[1] + self._length
+
+    def close(self) -> None:
+        """Closes the file."""
+        os.close(self._file)
 
     def __enter__(self) -> TranscriptWriter:
         return self
 
     def __exit__(self, *_: object) -> None:
-        os.close(self._file)
+        self.close()
 
     def _append(self, record: bytes) -> None:
         written = 0
@@ -104,41 +122,83 @@ def _checked(mark: bytes) -> bytes:
     return mark
 
 
-def read_marks(path: str) -> List[Union[Begin, End]]:
+def spelled(mark: Mark) -> bytes:
+    """The record that a mark is."""
+    if isinstance(mark, Begin):
+        return ttlv.structure(BEGIN_MARK, ttlv.integer(CALL, mark.call), ttlv.text(CLIENT, mark.client),
+                              ttlv.byte_string(MESSAGE, mark.message))
+    return ttlv.structure(END_MARK, ttlv.integer(CALL, mark.call), ttlv.byte_string(MESSAGE, mark.message))
+
+
+def read_marks(path: str) -> List[Mark]:
     """The marks of a transcript, in their order."""
+    return list(marks_in(path))
+
+
+def marks_in(path: str) -> Iterator[Mark]:
+    """The marks of a transcript, one after the other, so that the file need not be held."""
     try:
         with open(path, "rb") as file:
-            data = file.read()
+            yield from _marks_of(file, path)
     except OSError as error:
         raise Trouble(f"{path} can't be read: {error.strerror}") from None
-    marks: List[Union[Begin, End]] = []
+
+
+def _marks_of(file: BinaryIO, path: str) -> Iterator[Mark]:
+    """Tells where the file is not what it should be: header, then marks; an end for a call that began, and once."""
     place = 0
-    while place < len(data):
-        try:
-            record = _record_at(data, place)
-        except ttlv.NotTtlv as fault:
-            raise Trouble(f"{path} has no whole record at offset {place}: {fault}. Where the recorder was killed "
-                          f"while it wrote there, `truncate -s {place} {path}` leaves the marks before") from None
+    begun: Dict[int, bool] = {}
+    while front := file.read(ttlv.HEADER_LENGTH):
+        if place == 0 and front[:4] != HEADER.to_bytes(3, "big") + bytes([Kind.STRUCTURE]):
+            raise Trouble(f"{path} is no transcript: at offset 0 there is no header of one; give one that `kmip_record "
+                          "proxy` or `keylog` made")
+        record = _record(file, front, path, place)
+        if place > 0:
+            yield _mark_of(record, begun, path, place)
         place += len(record)
-        marks += _marks_of(ttlv.read_item(record))
-    return marks
+    if place == 0:
+        raise Trouble(f"{path} is no transcript: it is empty; give one that `kmip_record proxy` or `keylog` made")
 
 
-def _record_at(data: bytes, place: int) -> bytes:
-    if len(data) - place < ttlv.HEADER_LENGTH:
-        raise ttlv.NotTtlv("its header is torn")
-    record = data[place:place + ttlv.outermost_length(data[place:place + ttlv.HEADER_LENGTH])]
-    ttlv.read_item(record)
-    return record
+def _record(file: BinaryIO, front: bytes, path: str, place: int) -> bytes:
+    """The bytes of the record that begins with these."""
+    try:
+        if len(front) < ttlv.HEADER_LENGTH:
+            raise Torn("its header is torn")
+        length = ttlv.outermost_length(front)
+        record = front + file.read(length - ttlv.HEADER_LENGTH)
+        if len(record) < length:
+            raise Torn(f"an item of {length} bytes, in {len(record)}")
+        return record
+    except Torn as fault:
+        raise Trouble(f"{path} has no whole record at offset {place}: {fault}. Where the recorder was killed "
+                      f"while it wrote there, `truncate -s {place} {path}` leaves the marks before") from None
+    except ttlv.NotTtlv as fault:
+        raise Trouble(f"{path} has no record at offset {place}: {fault}; it is no transcript, or was damaged") from None
 
 
-def _marks_of(record: ttlv.Item) -> List[Union[Begin, End]]:
-    """The mark that a record is, where it is one."""
+def _mark_of(record: bytes, begun: Dict[int, bool], path: str, place: int) -> Mark:
+    """The mark that a record is. `begun` has the calls that began, and whether they ended."""
+    try:
+        item = ttlv.read_item(record)
+    except ttlv.NotTtlv as fault:
+        raise Trouble(f"{path} has no record at offset {place}: {fault}; it is no transcript, or was damaged") from None
+    mark = _read_mark(item)
+    if mark is None:
+        raise Trouble(f"{path} has a record that is no mark at offset {place}; it is no transcript, or was damaged")
+    if isinstance(mark, Begin) == (mark.call in begun) or begun.get(mark.call, False):
+        raise Trouble(f"{path} has at offset {place} a second begin mark of call {mark.call}, or an end mark of a call "
+                      "that is not under way; it is no transcript, or was damaged")
+    begun[mark.call] = isinstance(mark, End)
+    return mark
+
+
+def _read_mark(record: ttlv.Item) -> Optional[Mark]:
     call = record.first(CALL, Kind.INTEGER)
     client = record.first(CLIENT, Kind.TEXT)
     message = record.first(MESSAGE, Kind.BYTES)
     if record.tag == BEGIN_MARK and call and client and message:
-        return [Begin(call.value, client.value, message.value)]
+        return Begin(call.value, client.value, message.value)
     if record.tag == END_MARK and call and message:
-        return [End(call.value, message.value)]
-    return []
+        return End(call.value, message.value)
+    return None

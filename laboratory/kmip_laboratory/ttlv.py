@@ -2,8 +2,9 @@
 
 from __future__ import annotations
 
+import struct
 from enum import IntEnum
-from typing import List, NamedTuple, Optional, Union
+from typing import Dict, Iterator, List, NamedTuple, Optional, Tuple, Union
 
 LONGEST_ITEM = 1_048_576
 DEEPEST_LEVEL = 16
@@ -29,6 +30,16 @@ class Kind(IntEnum):
 SHORT_NUMBERS = (Kind.INTEGER, Kind.ENUMERATION, Kind.INTERVAL)
 LONG_NUMBERS = (Kind.LONG_INTEGER, Kind.BOOLEAN, Kind.DATE_TIME, Kind.DATE_TIME_EXTENDED)
 SIGNED = (Kind.INTEGER, Kind.LONG_INTEGER, Kind.DATE_TIME, Kind.DATE_TIME_EXTENDED)
+
+
+HEADER = struct.Struct(">II")
+PADDINGS = tuple(bytes(-length % 8) for length in range(8))
+# The members that are met most, since a look into an enumeration takes its time.
+STRUCTURE, BIG_INTEGER, BOOLEAN, TEXT, BYTES = (
+    Kind.STRUCTURE, Kind.BIG_INTEGER, Kind.BOOLEAN, Kind.TEXT, Kind.BYTES)
+# By the plain numbers of types, for the same reason.
+KINDS: Dict[int, Kind] = {kind.value: kind for kind in Kind}
+LENGTHS: Dict[int, int] = {kind.value: 4 if kind in SHORT_NUMBERS else 8 for kind in SHORT_NUMBERS + LONG_NUMBERS}
 
 
 class NotTtlv(ValueError):
@@ -91,19 +102,19 @@ def byte_string(tag: int, value: bytes) -> bytes:
 
 def spell(item: Item) -> bytes:
     """The bytes of an item that was read, with zeros as padding."""
-    if item.kind == Kind.STRUCTURE:
-        return structure(item.tag, *map(spell, item.children()))
-    if item.kind == Kind.TEXT:
-        return text(item.tag, item.value)
-    if item.kind in (Kind.BYTES, Kind.BIG_INTEGER):
-        return _item(item.tag, item.kind, item.value)
-    length = 4 if item.kind in SHORT_NUMBERS else 8
-    return _item(item.tag, item.kind, int(item.value).to_bytes(length, "big", signed=item.kind in SIGNED))
+    kind, value = item.kind, item.value
+    if kind is STRUCTURE:
+        return _item(item.tag, kind, b"".join(map(spell, value)))
+    if kind is TEXT:
+        return text(item.tag, value)
+    if kind is BYTES or kind is BIG_INTEGER:
+        return _item(item.tag, kind, value)
+    return _item(item.tag, kind, int(value).to_bytes(LENGTHS[kind.value], "big", signed=kind in SIGNED))
 
 
 def _item(tag: int, kind: Kind, value: bytes) -> bytes:
-    header = tag.to_bytes(3, "big") + bytes([kind]) + len(value).to_bytes(4, "big")
-    return header + value + bytes(padding(len(value)))
+    length = len(value)
+    return HEADER.pack(tag << 8 | kind, length) + value + PADDINGS[length % 8]
 
 
 def padding(length: int) -> int:
@@ -128,63 +139,67 @@ def read_item(data: bytes) -> Item:
     whole = outermost_length(data)
     if whole != len(data):
         raise NotTtlv(f"an item of {whole} bytes, in {len(data)}")
-    return _read(data, 0, len(data), 1)
+    return _read_items(data, 0, len(data), 1)[0]
 
 
-def _read(data: bytes, start: int, stop: int, level: int) -> Item:
-    """The item at `start`, on this level, in a structure whose value ends at `stop`."""
-    if level > DEEPEST_LEVEL:
-        raise NotTtlv(f"more than {DEEPEST_LEVEL} levels at offset {start}")
-    place = start + HEADER_LENGTH
-    if place > stop:
-        raise NotTtlv(f"a header that runs past its structure at offset {start}")
-    length = int.from_bytes(data[start + 4:place], "big")
-    kind = _checked_kind(data[start + 3], length, start)
-    if place + length + padding(length) > stop:
-        raise NotTtlv(f"an item that runs past its structure at offset {start}")
-    tag = int.from_bytes(data[start:start + 3], "big")
-    if kind == Kind.STRUCTURE:
-        return Item(tag, kind, _read_children(data, place, place + length, level + 1), place)
-    return Item(tag, kind, _value(kind, data[place:place + length], place), place)
-
-
-def _read_children(data: bytes, start: int, stop: int, level: int) -> List[Item]:
-    children = []
+def headers_in(data: bytes, start: int, stop: int) -> Iterator[Tuple[int, int, int, int]]:
+    """Tag, type, offset of the value and its length, of each item that stands from `start` up to `stop`, one after the
+    other; what is in them is not looked at."""
     while start < stop:
-        child = _read(data, start, stop, level)
-        children.append(child)
-        length = int.from_bytes(data[start + 4:start + HEADER_LENGTH], "big")
-        start = child.place + length + padding(length)
-    return children
+        if start + HEADER_LENGTH > stop:
+            raise NotTtlv(f"a header that runs past its structure at offset {start}")
+        front, length = HEADER.unpack_from(data, start)
+        place = start + HEADER_LENGTH
+        start = place + length + -length % 8
+        if start > stop:
+            raise NotTtlv(f"an item that runs past its structure at offset {place - HEADER_LENGTH}")
+        yield front >> 8, front & 0xFF, place, length
+
+
+def _read_items(data: bytes, start: int, stop: int, level: int) -> List[Item]:
+    """The items on this level that stand from `start` up to `stop`, where their structure's value ends."""
+    if level > DEEPEST_LEVEL and start < stop:
+        raise NotTtlv(f"more than {DEEPEST_LEVEL} levels at offset {start}")
+    items = []
+    while start < stop:
+        place = start + HEADER_LENGTH
+        if place > stop:
+            raise NotTtlv(f"a header that runs past its structure at offset {start}")
+        front, length = HEADER.unpack_from(data, start)
+        kind = _checked_kind(front & 0xFF, length, start)
+        behind = place + length + -length % 8
+        if behind > stop:
+            raise NotTtlv(f"an item that runs past its structure at offset {start}")
+        if kind is STRUCTURE:
+            items.append(Item(front >> 8, kind, _read_items(data, place, place + length, level + 1), place))
+        else:
+            items.append(Item(front >> 8, kind, _value(kind, data[place:place + length], place), place))
+        start = behind
+    return items
 
 
 def _checked_kind(number: int, length: int, start: int) -> Kind:
     """The type with this number, where such an item may have this length."""
-    try:
-        kind = Kind(number)
-    except ValueError:
-        raise NotTtlv(f"an item of the unknown type {number:02X} at offset {start}") from None
-    wrong = (
-        (kind in SHORT_NUMBERS and length != 4)
-        or (kind in LONG_NUMBERS and length != 8)
-        or (kind == Kind.STRUCTURE and length % 8 != 0)
-        or (kind == Kind.BIG_INTEGER and (length == 0 or length % 8 != 0))
-    )
+    kind = KINDS.get(number)
+    if kind is None:
+        raise NotTtlv(f"an item of the unknown type {number:02X} at offset {start}")
+    wrong = (length != LENGTHS.get(number, length) or (number in (1, 4) and length % 8 != 0)
+             or (number == 4 and length == 0))
     if wrong:
         raise NotTtlv(f"an item of type {number:02X} with the length {length} at offset {start}")
     return kind
 
 
 def _value(kind: Kind, spelled: bytes, place: int) -> Union[int, bool, str, bytes]:
-    if kind == Kind.TEXT:
+    if kind is TEXT:
         try:
             return spelled.decode("utf-8")
         except UnicodeDecodeError:
             raise NotTtlv(f"a text that is not UTF-8 at offset {place}") from None
-    if kind in (Kind.BYTES, Kind.BIG_INTEGER):
+    if kind is BYTES or kind is BIG_INTEGER:
         return spelled
     number = int.from_bytes(spelled, "big", signed=kind in SIGNED)
-    if kind != Kind.BOOLEAN:
+    if kind is not BOOLEAN:
         return number
     if number > 1:
         raise NotTtlv(f"a Boolean that is neither 0 nor 1 at offset {place}")

@@ -54,6 +54,23 @@ def wait_until(holds: Callable[[], object], what: str) -> None:
         time.sleep(0.01)
 
 
+class InFolder(unittest.TestCase):
+    """Each test has a folder of its own, and nothing else."""
+
+    def setUp(self) -> None:
+        folder = tempfile.TemporaryDirectory(prefix="laboratory-")
+        self.addCleanup(folder.cleanup)
+        self.folder = Path(folder.name)
+
+    def refused(self, *words: object) -> str:
+        """The one line on standard error at these words, which end with status 1 and leave no new file."""
+        before = sorted(path.name for path in self.folder.iterdir())
+        done = run(*words, cwd=self.folder)
+        self.assertEqual((done.returncode, done.stdout, done.stderr.count("\n")), (1, "", 1), done.stderr)
+        self.assertEqual(sorted(path.name for path in self.folder.iterdir()), before)
+        return done.stderr
+
+
 class Laboratory(unittest.TestCase):
     """Each test has a folder of its own; all have one set of certificates."""
 

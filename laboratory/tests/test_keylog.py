@@ -16,7 +16,7 @@ from kmip_laboratory.address import Address
 from kmip_laboratory.recording.capture import Stream
 from kmip_laboratory.recording.gaps import Span, have_gap
 from kmip_laboratory.recording.packets import Packet
-from kmip_laboratory.transcript import TranscriptWriter
+from kmip_laboratory.recording.recording import Recording
 from kmip_laboratory.trouble import ConnectionTrouble
 
 STAMP = 1_700_000_000
@@ -46,9 +46,9 @@ class Streams(Laboratory):
     def take(self, sent: List[tuple[bool, bytes]], shown: Optional[bytes] = None) -> List[tuple[str, int]]:
         path = self.folder / "transcript.ttlv"
         stream = Stream(CLIENT)
-        with TranscriptWriter(str(path)) as transcript:
+        with Recording(str(path)) as recording:
             for by_client, data in sent:
-                stream.take(Packet(0, CLIENT, by_client, data, shown, False, None), transcript, False)
+                stream.take(Packet(0, CLIENT, by_client, data, shown, False, None), recording)
         return read_marks(str(path))
 
     def test_a_mark_stands_where_its_message_is_whole(self) -> None:

@@ -19,12 +19,12 @@ HEADER_LENGTH = 24
 BEGIN_BESIDES_MESSAGE = 48
 A_MOMENT = 0.2
 
-BEGIN_LINE = "        self.open_call = self._way.transcript.begin(self.name, self._way.marked(request, Side.CLIENT))\n"
-ASK_LINE = "        response = await _unless_gone(_answer(server, request), client)\n"
-END_LINES = """        self._way.transcript.end(self.open_call, self._way.marked(response, Side.SERVER))
+BEGIN_LINE = "        self.open_call = self._way.recording.begin(self.name, request)\n"
+ASK_LINE = "        response = await self._answer(client, server, request)\n"
+END_LINES = """        self._way.recording.end(self.open_call, response)
         self.open_call = None
 """
-SEND_LINE = "        await client.send(response)\n"
+SEND_LINE = "        await _hand_over(client, response)\n"
 
 
 class OrderRule(Laboratory):

@@ -82,15 +82,42 @@ class ManyConnections(Laboratory):
 class Breaks(Laboratory):
     """Connections that break, each with a second one beside it that goes on."""
 
-    def test_a_client_that_breaks_off_leaves_an_open_call(self) -> None:
-        server = self.stub(never)
+    def test_a_client_that_breaks_off_has_its_answer_marked(self) -> None:
+        may = threading.Event()
+
+        def answering(peer: ssl.SSLSocket, request: bytes) -> None:
+            may.wait(SECONDS)
+            at_once(peer, request)
+
+        server = self.stub(answering)
         recorder = self.start(server.port)
+        self.assertTrue(server.ended.wait(SECONDS), "the recorder's own try")
+        server.ended.clear()
+        client = self.client(recorder.port)
+        client.sendall(messages.get("key-1"))
+        wait_until(lambda: server.got, "the request at the server")
+        client.close()
+        self.assertFalse(server.ended.wait(0.3), "the break stays with the recorder while the call is under way")
+        may.set()
+        wait_until(lambda: recorder.heard("client-1: the client broke off; the server's answer is marked all the same"),
+                   "a word on the break")
+        self.assertTrue(server.ended.wait(SECONDS), "then the break goes on to the server")
+        self.assertTrue(recorder.end().startswith("1 calls, 0 open calls, "))
+        self.assertEqual([mark.message for mark in recorder.marks()], [
+            messages.get("key-1"), messages.not_found(STAMP)])
+
+    def test_a_client_that_breaks_off_without_an_answer_leaves_an_open_call(self) -> None:
+        server = self.stub(never)
+        recorder = self.start(server.port, "--answer-within", "0.3")
+        self.assertTrue(server.ended.wait(SECONDS), "the recorder's own try")
+        server.ended.clear()
         client = self.client(recorder.port)
         client.sendall(messages.get("key-1"))
         wait_until(lambda: server.got, "the request at the server")
         client.close()
         self.assertTrue(server.ended.wait(SECONDS), "the break goes on to the server")
-        wait_until(lambda: recorder.heard("client-1: the client broke off; call 1 stays open"), "a word on the call")
+        wait_until(lambda: recorder.heard("client-1: the client broke off, and no answer came in 0.3 s; call 1 stays "
+                                          "open"), "a word on the call")
         self.assertTrue(recorder.end().startswith("1 calls, 1 open calls, "))
         self.assertEqual(kinds(recorder.marks()), [("begin", 1)])
 
@@ -222,7 +249,7 @@ class Versions(Laboratory):
         self.assertTrue(recorder.heard("version 2.0 is written as 2.1"))
         self.assertEqual([mark.message for mark in recorder.marks()], [
             messages.get("key-1", (2, 1)), messages.not_found(STAMP, (2, 1)),
-            messages.get("key-1", (1, 4)), messages.not_found(STAMP, (1, 0))])
+            messages.get("key-1", (2, 1)), messages.not_found(STAMP, (2, 1))])
 
 
 class Ends(Laboratory):

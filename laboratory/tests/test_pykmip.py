@@ -85,7 +85,7 @@ class Declared(WithPyKmip):
             done = self.declare(*words)
             self.assertEqual((done.returncode, done.stdout), (0, "0 rows, 1 entries\n"), done.stderr)
             self.record(lambda port: self.get("1", port), "after.ttlv")
-            run("order", self.folder / "after.ttlv", "--out", self.folder / "witness.ttlv")
+            run("order", self.folder / "after.ttlv", "--out", self.folder / "witness.ttlv", "--force")
             self.assertEqual(audit(self.folder, "after.ttlv"), "yes\n")
         path = self.folder / "declaration.ttlv"
         path.write_bytes(path.read_bytes()[:-1] + bytes([path.read_bytes()[-1] ^ 1]))
@@ -117,7 +117,7 @@ class Declared(WithPyKmip):
 
     def declare(self, *words: str) -> subprocess.CompletedProcess:
         return run("declare", "--server", f"127.0.0.1:{self.server_port}", *self.certificate_words(), "--minor", "1",
-                   *words, "--out", self.folder / "declaration.ttlv")
+                   *words, "--out", self.folder / "declaration.ttlv", "--force")
 
     def certificate_words(self) -> list:
         return ["--server-cert", self.certificates / "recorder.pem", "--server-key", self.certificates / "recorder.key",

@@ -8,8 +8,14 @@ import unittest
 from pathlib import Path
 
 import certificates
-from laboratory import Laboratory, run
+from laboratory import InFolder, Laboratory, run
 from test_proxy import at_once
+
+
+HEADER = bytes.fromhex("540001010000001054000202000000040000000100000000")
+BEGIN = ("54001001000000305400110200000004000000010000000054001207000000016100000000000000"
+         "5400130800000008" "4200780100000000")
+END = "54002001000000205400110200000004000000010000000054001308000000084200" "7B0100000000"
 
 
 class Troubles(Laboratory):
@@ -88,6 +94,39 @@ class Troubles(Laboratory):
         done = run("order", torn, "--out", self.folder / "witness.ttlv")
         self.assertEqual(done.returncode, 1)
         self.assertIn(f"`truncate -s 24 {torn}` leaves the marks before", done.stderr)
+
+
+class Outputs(InFolder):
+    """What is there already stays, and what is no transcript is told as that."""
+
+    def test_declare_and_order_write_over_a_file_with_force_alone(self) -> None:
+        (self.folder / "old").write_bytes(b"mine")
+        (self.folder / "transcript").write_bytes(HEADER)
+        for words in (("declare", "--empty"), ("order", "transcript"),
+                      ("declare", "--server", "127.0.0.1:1", "--server-cert", "a", "--server-key", "b",
+                       "--server-ca", "c")):
+            self.assertIn("old is there already, and is left as it is: give --out another name, or --force",
+                          self.refused(*words, "--out", "old"))
+            self.assertEqual((self.folder / "old").read_bytes(), b"mine")
+        for words, length in ((("declare", "--empty"), 40), (("order", "transcript"), 24)):
+            self.assertEqual(run(*words, "--out", "old", "--force", cwd=self.folder).returncode, 0)
+            self.assertEqual((self.folder / "old").stat().st_size, length)
+
+    def test_what_is_no_transcript(self) -> None:
+        begin, end = bytes.fromhex(BEGIN), bytes.fromhex(END)
+        for data, words in {
+                b"": "is no transcript: it is empty",
+                b"calls of a server": "is no transcript: at offset 0 there is no header of one",
+                bytes.fromhex("540030010000002054000202000000040000000100000000"): "is no transcript: at offset 0",
+                HEADER + b"\x42\0\x0d\x0c" + bytes(4): "has no record at offset 24: an item of the unknown type 0C",
+                HEADER + HEADER: "has a record that is no mark at offset 24",
+                HEADER + begin + begin: "has at offset 80 a second begin mark of call 1",
+                HEADER + end: "has at offset 24 a second begin mark of call 1, or an end mark of a call"}.items():
+            (self.folder / "input").write_bytes(data)
+            said = self.refused("order", "input", "--out", "witness")
+            self.assertIn(words, said)
+            self.assertNotIn("truncate", said)
+        self.assertIn("nothing can't be read: No such file", self.refused("order", "nothing", "--out", "witness"))
 
 
 class Words(Laboratory):

@@ -67,6 +67,7 @@ refused_explains rules m request response None may r = record {
   learns = λ number bytes e. inl e;
   grows = omega arith;
   extends = extends_same m.secrets;
+  ascends = λ a. a;
 }
 
 module _ (rules : RulesOf) (m : Meaning) (request : RequestOf) (response : ResponseOf) (order : Option (List ℕ)) (may : MayTake request response order) where
@@ -96,6 +97,7 @@ module _ (rules : RulesOf) (m : Meaning) (request : RequestOf) (response : Respo
       learns = λ number bytes e. learned number bytes (ran.explains.learns number bytes e);
       grows = ran.explains.grows;
       extends = ran.explains.extends;
+      ascends = ran.explains.ascends;
     }
 
     -- the objects go back, and what was learned stays
@@ -123,6 +125,7 @@ module _ (rules : RulesOf) (m : Meaning) (request : RequestOf) (response : Respo
       learns = λ number bytes e. learned number bytes (ran.explains.learns number bytes e);
       grows = ran.explains.grows;
       extends = ran.explains.extends;
+      ascends = λ a. a;
     }
 
     pub undone_sound : IsSound m → IsSound (record { objects = m.objects; secrets = n.secrets })

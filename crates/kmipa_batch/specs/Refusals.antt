@@ -8,6 +8,7 @@ use Rattle.kmipa_msgs.specs.Messages.{RulesOf, AskOf, RequestOf, AnswerOf, Respo
 use Rattle.kmipa_ops.specs.declared.why.Why.{Why}
 use Rattle.kmipa_ops.specs.declared.why.Why.TheVariants.{BatchShape}
 use Rattle.kmipa_ops.specs.Chains.{ChainSome}
+use Rattle.kmipa_ops.specs.Ascending.{SecretsAscend}
 use Rattle.kmipa_ops.specs.Explains.{Explains, Tells, Refuted}
 use Rattle.kmipa_batch.specs.Shapes.{IsShapedAt, IsFirstUnshaped}
 use Rattle.kmipa_batch.specs.Orders.{is_unordered, place_at}
@@ -27,6 +28,8 @@ pub record CallExplainsAlong (rules : RulesOf) (m : Meaning) (request : RequestO
       → (bytes_at m.secrets number ≡ Some (Some bytes)) ⊎ Tells (pairs_of request response) bytes
   pub grows : length m.secrets ≤ length n.secrets
   pub extends : Extends m.secrets n.secrets
+  -- each object keeps a secret of its own
+  pub ascends : SecretsAscend m.objects → SecretsAscend n.objects
 
 -- Whether the shape of a place is judged by the time that so many items are done. In an ordered call it is judged just before the place's
 -- item; in a call without order all shapes are judged before the first item.

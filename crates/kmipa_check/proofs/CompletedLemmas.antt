@@ -9,7 +9,7 @@ use Rattle.kmipa_attrs.specs.Tags.{object_type_tag, unique_identifier}
 use Rattle.kmipa_attrs.specs.declared.fields.Field.TheVariants.{There}
 use Rattle.kmipa_attrs.specs.Readings.{Optional}
 use Rattle.kmipa_attrs.specs.Attributes.{each}
-use Rattle.kmipa_attrs.specs.Fields.{tag_of, first, every, at, typed, as_text, as_enumeration}
+use Rattle.kmipa_attrs.specs.Fields.{tag_of, first, every, typed, as_text, as_enumeration}
 use Rattle.kmipa_msgs.specs.declared.response.Status.{Status}
 use Rattle.kmipa_msgs.specs.declared.response.Status.TheVariants.{Undone}
 use Rattle.kmipa_msgs.specs.Messages.{AskedOf, creates, registers, locates, AskOf, operation_asked, RegisteredOf, PayloadOf, created, registered, located, AnswerOf}

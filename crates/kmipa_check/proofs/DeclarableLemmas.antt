@@ -15,7 +15,7 @@ use Rattle.kmipa_check.specs.Described.{card_declared}
 use Rattle.kmipa_check.specs.Opening.{known_declared}
 
 -- the rule of bits that may be laid down
-abbrev rule_bits : Option ℤ → Rule
+abbrev pub rule_bits : Option ℤ → Rule
 rule_bits None = Any
 rule_bits (Some bits) = Bits bits
 
@@ -28,7 +28,7 @@ key_rule_bits None bits = refl
 key_rule_bits (Some algorithm) None = refl
 key_rule_bits (Some algorithm) (Some bits) = by_algorithm (algorithm == 3) bits
 
-rule_declared : (kind : ObjectType) (a : Attributes) → rule_for kind (given_of a) ≡ rule_bits (key_bits kind a)
+pub rule_declared : (kind : ObjectType) (a : Attributes) → rule_for kind (given_of a) ≡ rule_bits (key_bits kind a)
 rule_declared SymmetricKey a = key_rule_bits a.algorithm a.length
 rule_declared SecretData a = refl
 

@@ -31,3 +31,7 @@ pub mod NextLemmas
 pub mod TimedLemmas
 pub mod OneAnswerLemmas
 pub mod StampLemmas
+pub mod LeftLemmas
+pub mod AscendLemmas
+pub mod JoinLemmas
+pub mod SplitLemmas

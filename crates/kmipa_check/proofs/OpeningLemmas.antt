@@ -16,6 +16,7 @@ use Rattle.kmipa_store.proofs.ChoiceLemmas.{override, override_same, override_ag
 use Rattle.kmipa_store.proofs.InventoryLemmas.{inv-append, inv-same}
 use Rattle.kmipa_store.proofs.SoundLemmas.{sound_none, inventory_of}
 use Rattle.kmipa_ops.proofs.AddLemmas.{destroyed_sound, own_sound}
+use Rattle.kmipa_ops.proofs.AscendLemmas.{ascend_dead, ascend_own}
 use Rattle.kmipa_record.specs.Entries.{EntryOf, entry_of, IsDeclarable}
 use Rattle.kmipa_record.specs.declared.entry.Entry.{Entry}
 use Rattle.kmipa_record.specs.Declarations.{DeclarationOf, AreDeclared}
@@ -34,6 +35,7 @@ opened_none = record {
   described = λ c h. tt;
   all = all_none;
   reported = λ number bytes known. absurd cc;
+  ascends = record { ascend = λ p q g h s t less x y u v. absurd cc };
 }
   where
     all_none : (things : List Thing) → IsInventory things → AllZip IsDescribed [] things → (c : Choice) × Chooses [] c × (things ≡ [])
@@ -85,6 +87,7 @@ module _ (es : List EntryOf) (e : EntryOf) (m : Meaning) (o : Opened es m) (may 
       described = buried_described;
       all = buried_all;
       reported = λ number bytes known. reported_before bytes (o.reported number bytes known);
+      ascends = ascend_dead m (card_declared e) o.ascends;
     }
 
   -- a live one
@@ -145,6 +148,7 @@ module _ (es : List EntryOf) (e : EntryOf) (m : Meaning) (o : Opened es m) (may 
           described = own_described;
           all = own_all;
           reported = own_reported;
+          ascends = ascend_own m (card_declared e) e.bytes o.sound o.ascends;
         }
 
   pub opened_more : Opened (es ++ e ∷ []) (with_declared m e)
@@ -210,4 +214,5 @@ opened_known declared n m past p =
           let q = o.all start described.inventory described.objects in
           (q.0, q.1, linked ∙ q.2);
       reported = λ number bytes known. let e = o.reported number bytes known in by_declaration e.0 e.1 e.2;
+      ascends = o.ascends;
     }

@@ -10,7 +10,6 @@ use Rattle.kmipa_record.specs.declared.transcript.Mark
 use Rattle.kmipa_record.specs.declared.transcript.Begin.{Begin}
 use Rattle.kmipa_record.specs.declared.transcript.End.{End}
 use Rattle.kmipa_ttlv.specs.Tree.{Tree}
-use Rattle.kmipa_ttlv.specs.Spelling.{Spells}
 use Rattle.kmipa_ttlv.specs.ViewTree.{view_tree}
 use Rattle.kmipa_ttlv.specs.declared.view.View.{View}
 use Rattle.kmipa_msgs.specs.declared.response.Response.{Response}

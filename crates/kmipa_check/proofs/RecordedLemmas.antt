@@ -14,7 +14,7 @@ use Rattle.kmipa_check.proofs.WholeOrderLemmas.{number_of}
 
 -- ---- marks
 
-begun_has : (marks : List MarkOf) (k : ℕ) (n : ℤ) (client m : List ℕ) → slice_get marks k ≡ Some (begins n client m) → (i : ℕ) × (slice_get (begun marks) i ≡ Some n)
+pub begun_has : (marks : List MarkOf) (k : ℕ) (n : ℤ) (client m : List ℕ) → slice_get marks k ≡ Some (begins n client m) → (i : ℕ) × (slice_get (begun marks) i ≡ Some n)
 begun_has [] k n client m at = absurd cc
 begun_has (begins a b c ∷ marks) zero n client m at = (0, cc)
 begun_has (ends a b ∷ marks) zero n client m at = absurd cc

@@ -144,7 +144,7 @@ step_rises order placed j d within =
     (λ h. absurd (p.stamped (j, get_or order j d, add-one j, slice_get-get_or order j d (omega (arith, within)), h)))
     (λ h. h)
 
-over : (x y z : ℤ) → x ≤ℤ y → y ≤ℤ z → x ≤ℤ z
+pub over : (x y z : ℤ) → x ≤ℤ y → y ≤ℤ z → x ≤ℤ z
 over x y z p q = by_lt_z z x (λ h. clash_ℤ (<ℤ-≤ℤ_trans h p) q) (λ h. h)
 
 rises_on : (order : List StepOf) (i j : ℕ) (d : StepOf) → (get_or order j d).response.stamp ≤ℤ (get_or order (suc j) d).response.stamp
@@ -161,7 +161,7 @@ rises order placed i zero d below within = absurd (omega (arith, below))
 rises order placed i (suc j) d below within =
     rises_on order i j d (step_rises order placed j d within) (λ h. rises order placed i j d h (omega (arith, within))) (below_suc i j below)
 
-is_placed : (order : List StepOf) → ArePlaced order (length order) → IsPlaced order
+pub is_placed : (order : List StepOf) → ArePlaced order (length order) → IsPlaced order
 is_placed order placed = record { kept = all_kept order placed; stamped = rises order placed }
 
 pub replayed_accepts : (marks : List MarkOf) (declared : DeclarationOf) (turns : List TurnOf) (calls : List CallOf) (order : List StepOf) (m : Meaning) → AreCalls marks calls

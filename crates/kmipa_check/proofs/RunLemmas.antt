@@ -51,6 +51,7 @@ taken_is_known_lem declared steps s m n k e = record {
     | inl h ↦ kept bytes (k.reported number bytes h)
     | inr t ↦ by_step s (Contains-append_right steps (s ∷ []) s (0, last, refl)) t
   ];
+  ascends = e.ascends k.ascends;
 }
   where
     last : 0 < 1

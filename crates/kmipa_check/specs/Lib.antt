@@ -18,3 +18,4 @@ pub mod Kinds
 pub mod Stamps
 pub mod Laws
 pub mod Plain
+pub mod Left

@@ -8,6 +8,7 @@ use Rattle.kmipa_store.specs.Ledger.{Held, Known, Meaning, LedgerState, bytes_at
 use Rattle.kmipa_store.specs.Choices.{Choice, Chooses, IsSound, inv}
 use Rattle.kmipa_store.specs.declared.fault.StoreFault.{StoreFault}
 use Rattle.kmipa_store.specs.declared.fault.StoreFault.TheVariants.{Memory}
+use Rattle.kmipa_ops.specs.Ascending.{SecretsAscend}
 use Rattle.kmipa_record.specs.Entries.{EntryOf}
 use Rattle.kmipa_check.specs.Described.{IsDescribed, card_declared}
 
@@ -54,3 +55,4 @@ pub record Opened (entries : List EntryOf) (m : Meaning) : Type 0 where
   pub described : (c : Choice) → Chooses m.secrets c → AllZip IsDescribed entries (inv c m.objects)
   pub all : (things : List Thing) → IsInventory things → AllZip IsDescribed entries things → (c : Choice) × Chooses m.secrets c × (things ≡ inv c m.objects)
   pub reported : (number : ℕ) (bytes : List ℕ) → bytes_at m.secrets number ≡ Some (Some bytes) → (e : EntryOf) × Contains entries e × (e.bytes ≡ Some bytes)
+  pub ascends : SecretsAscend m.objects

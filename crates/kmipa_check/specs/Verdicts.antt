@@ -11,6 +11,7 @@ use Rattle.kmipa_msgs.specs.Messages.{RulesOf}
 use Rattle.kmipa_ops.specs.declared.why.Why.{Why}
 use Rattle.kmipa_ops.specs.declared.why.Why.TheVariants.{EarlierCallLate, StampRunsBack}
 use Rattle.kmipa_ops.specs.Chains.{ChainSome}
+use Rattle.kmipa_ops.specs.Ascending.{SecretsAscend}
 use Rattle.kmipa_ops.specs.Explains.{Tells}
 use Rattle.kmipa_batch.specs.Calls.{pairs_of, pairs_taken, RefusesMessage}
 use Rattle.kmipa_batch.specs.Refusals.{AreShapedFor, SpeaksAtAlong}
@@ -81,6 +82,8 @@ pub record AreKnown (declared : DeclarationOf) (order : List StepOf) (m : Meanin
   pub complete : (start V : List Thing) → Describes declared start → Linked (rules_declared declared) start order V → (c : Choice) × Chooses m.secrets c × (V ≡ inv c m.objects)
   -- no other bytes are known
   pub reported : (number : ℕ) (bytes : List ℕ) → bytes_at m.secrets number ≡ Some (Some bytes) → WereReported declared order bytes
+  -- each live object has a secret of its own
+  pub ascends : SecretsAscend m.objects
 
 -- the turn is impossible where it stands, for the lower of two reasons
 pub data RefusedPlace (order : List StepOf) (turn : ℕ) (c : StepOf) (why : Why) : Type 0 where

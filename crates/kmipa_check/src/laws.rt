@@ -2,6 +2,7 @@
 
 ghost use Rattle.kmipa_check.specs.Audits.{AcceptedAuditIsYes};
 ghost use Rattle.kmipa_check.specs.Laws.{AcceptedIsExplained, CallsAreTimed, FilledIsCompleted, KnownIsAccepted, OneAnswer, OneListOfCalls, OneOrder, PlacedOneByOne, RefusedIsNever, StepIsReadable, TakenIsKnown};
+ghost use Rattle.kmipa_check.specs.Left.{AcceptedBehindIsAccepted, AcceptedTogetherIsAccepted, LedgerIsLeft, SegmentsJoin};
 ghost use Rattle.kmipa_check.specs.Verdicts.{AcceptedIsYes};
 
 /// Where a witness is accepted, a check can answer nothing but yes, unless memory runs out.
@@ -67,4 +68,24 @@ pub fn known_is_accepted()
 /// A transcript with an accepted witness is explained.
 pub fn accepted_is_explained()
     ensures { AcceptedIsExplained }
+{}
+
+/// The declaration of a ledger that knows what steps leave describes exactly the inventories in which they can end.
+pub fn ledger_is_left()
+    ensures { LedgerIsLeft }
+{}
+
+/// Segments of one recording join.
+pub fn segments_join()
+    ensures { SegmentsJoin }
+{}
+
+/// A segment that is accepted from what the one before it leaves is accepted with it.
+pub fn accepted_behind_is_accepted()
+    ensures { AcceptedBehindIsAccepted }
+{}
+
+/// What is accepted together is accepted segment by segment.
+pub fn accepted_together_is_accepted()
+    ensures { AcceptedTogetherIsAccepted }
 {}

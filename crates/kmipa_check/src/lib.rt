@@ -8,6 +8,7 @@ mod fault;
 mod filling;
 mod late;
 mod laws;
+mod leaving;
 mod numbers;
 mod opening;
 mod order;
@@ -22,14 +23,16 @@ mod verdict;
 
 pub use auditing::{AuditFault, Audited, audit, audit_with};
 pub use call::Call;
-pub use checking::check;
+pub use checking::{Checked, check, check_leaving};
 pub use fault::{CheckFault, Side, StepFault, WitnessFault, WitnessKind};
 pub use filling::needs_fill;
 pub use laws::{
-    accepted_audit_is_yes, accepted_is_explained, accepted_is_yes, calls_are_timed,
-    filled_is_completed, known_is_accepted, one_answer, one_list_of_calls, one_order,
-    placed_one_by_one, refused_is_never, step_is_readable, taken_is_known,
+    accepted_audit_is_yes, accepted_behind_is_accepted, accepted_is_explained, accepted_is_yes,
+    accepted_together_is_accepted, calls_are_timed, filled_is_completed, known_is_accepted,
+    ledger_is_left, one_answer, one_list_of_calls, one_order, placed_one_by_one, refused_is_never,
+    segments_join, step_is_readable, taken_is_known,
 };
+pub use leaving::declaration_left;
 pub use opening::{open_ledger, rules_of_declaration};
 pub use plain_laws::{plain_call_has_one_step, plain_call_is_taken_bare};
 pub use reading::read_calls;

@@ -30,9 +30,14 @@ pub fn replay<L: Ledger>(
 ) -> Result<Verdict, CheckFault>
     requires sound { IsSound (L.state ledger.old).now }
     requires takable { AllTakable (map step_of steps.now) }
-    ensures { (declared : DeclarationOf) → rules_of rules.now ≡ rules_declared declared
+    ensures told { (declared : DeclarationOf) → rules_of rules.now ≡ rules_declared declared
         → Replayed declared (map step_of steps.now) 0 (L.state ledger.old).now
         → TellsRun declared (map step_of steps.now) result }
+    // At a yes it is this ledger that knows what they leave.
+    ensures leaves { (declared : DeclarationOf) → rules_of rules.now ≡ rules_declared declared
+        → Replayed declared (map step_of steps.now) 0 (L.state ledger.old).now
+        → result ≡ Ok Verdict.Yes → Replayed declared (map step_of steps.now) (length (map step_of steps.now)) (L.state ledger.new).now }
+    ensures sound { IfOk result (λ verdict. verdict ≡ Verdict.Yes → IsSound (L.state ledger.new).now) }
 {
     let late = first_late(steps);
     let mut turn = 0;

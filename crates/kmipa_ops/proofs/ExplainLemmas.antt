@@ -13,6 +13,7 @@ use Rattle.kmipa_ops.specs.Does.{Does}
 use Rattle.kmipa_ops.specs.Chains.{Chain, ChainSome, CompletesEach, ChainsComplete}
 use Rattle.kmipa_ops.specs.Blame.{speaks, lowest}
 use Rattle.kmipa_ops.specs.After.{after, placeholder_after}
+use Rattle.kmipa_ops.proofs.AscendLemmas.{after_ascends}
 use Rattle.kmipa_ops.specs.Explains.{Tells, TellsBytes, Explains, Refuted, Taken, Took, is_readable, IsPossible, BlameIsExact}
 use Rattle.kmipa_ops.proofs.FirstLemmas.{find-some}
 use Rattle.kmipa_ops.proofs.ItemLemmas.{item_step, never, learns_after}
@@ -48,6 +49,7 @@ explains_none rules t m p = record {
   learns = λ number bytes e. inl e;
   grows = omega arith;
   extends = extends_same m.secrets;
+  ascends = λ a. a;
 }
 
 -- items, and then more items
@@ -71,6 +73,7 @@ explains_more rules t m p xs ys k q n r e f = record {
   ];
   grows = let a : length m.secrets ≤ length k.secrets = e.grows in let b : length k.secrets ≤ length n.secrets = f.grows in omega arith;
   extends = extends_more m.secrets k.secrets n.secrets e.extends f.extends;
+  ascends = λ a. f.ascends (e.ascends a);
 }
 
 -- a chain whose answers may be completed is a chain of completed answers
@@ -110,6 +113,7 @@ explains_one rules m p t ask answer sound readable bytes none =
       ];
       grows = s.grows;
       extends = s.extends;
+      ascends = λ a. after_ascends answer.status m p t ask.asked answer.payload sound a;
     }
 
 pub took : (rules : RulesOf) (s : LedgerState) (p : Option (List ℕ)) (t : ℤ) (ask : AskOf) (answer : AnswerOf) (u : LedgerState) (q : Option (List ℕ))

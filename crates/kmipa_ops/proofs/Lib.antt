@@ -19,6 +19,7 @@ mod SayableLemmas
 mod LowestLemmas
 mod FoundedLemmas
 mod ItemLemmas
+pub mod AscendLemmas
 pub mod ExplainLemmas
 mod ReasonLemmas
 mod TakenLemmas

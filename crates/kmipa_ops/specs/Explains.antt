@@ -13,6 +13,7 @@ use Rattle.kmipa_ops.specs.Rows.{row_of}
 use Rattle.kmipa_ops.specs.Objects.{is_other}
 use Rattle.kmipa_ops.specs.Completes.{DoesSome, can_judge}
 use Rattle.kmipa_ops.specs.Chains.{ChainSome}
+use Rattle.kmipa_ops.specs.Ascending.{SecretsAscend}
 use Rattle.kmipa_ops.specs.Blame.{lowest}
 
 -- the bytes that an ask brings
@@ -42,6 +43,8 @@ pub record Explains (rules : RulesOf) (t : ℤ) (m : Meaning) (before : Option (
       → (bytes_at m.secrets number ≡ Some (Some bytes)) ⊎ Tells pairs bytes
   pub grows : length m.secrets ≤ length n.secrets
   pub extends : Extends m.secrets n.secrets
+  -- each object keeps a secret of its own
+  pub ascends : SecretsAscend m.objects → SecretsAscend n.objects
 
 -- no choice allows the answer, and this is the lowest reason
 pub record Refuted (rules : RulesOf) (m : Meaning) (before : Option (List ℕ)) (t : ℤ) (ask : AskOf) (answer : AnswerOf) (why : Why) : Type 0 where

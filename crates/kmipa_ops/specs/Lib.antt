@@ -23,6 +23,7 @@ pub mod Completes
 pub mod Sayable
 pub mod Chains
 pub mod Blame
+pub mod Ascending
 pub mod Explains
 pub mod Reasons
 pub mod OneInventory

@@ -8,16 +8,16 @@ capture.
 from __future__ import annotations
 
 from collections import deque
-from typing import Deque, Dict, List, Optional
+from typing import Callable, Deque, Dict, List, Optional
 
 from .. import certificate, message
 from ..address import Address
 from ..message import Side
-from ..transcript import TranscriptWriter
 from ..trouble import ConnectionTrouble, Trouble, say
 from ..ttlv import HEADER_LENGTH
 from .gaps import have_gap
 from .packets import Packet, read_packets
+from .recording import Recording, tell_account
 
 
 class Stream:
@@ -29,18 +29,17 @@ class Stream:
         self._open: Deque[int] = deque()
         self._torn: Dict[Side, bytes] = {Side.CLIENT: b"", Side.SERVER: b""}
 
-    def take(self, packet: Packet, transcript: TranscriptWriter, minor_1: bool) -> None:
+    def take(self, packet: Packet, recording: Recording) -> None:
         """Marks the messages that this packet completes."""
         side = Side.CLIENT if packet.by_client else Side.SERVER
         if packet.certificate and packet.by_client:
             self.name = certificate.common_name(packet.certificate) or self.name
         self._torn[side] += packet.sent
         while (whole := self._next_message(side)) is not None:
-            marked = message.with_minor_1(whole, side) if minor_1 else whole
             if side is Side.CLIENT:
-                self._open.append(transcript.begin(self.name, marked))
+                self._open.append(recording.begin(self.name, whole))
             elif self._open:
-                transcript.end(self._open.popleft(), marked)
+                recording.end(self._open.popleft(), whole)
             else:
                 raise ConnectionTrouble("the server sent a response without a request")
 
@@ -56,22 +55,22 @@ class Stream:
         return torn[:length]
 
 
-def run(capture: str, keylog: str, server: Address, minor_1: bool, out: str) -> str:
-    """Writes the transcript, and answers the line that tells of it."""
+def run(capture: str, keylog: str, server: Address, record: Callable[[], Recording]) -> None:
+    """Writes the transcript, and tells of it."""
     packets = read_packets(capture, keylog, server)
     _see_that_all_is_there(packets, capture, keylog)
     streams: Dict[int, Stream] = {}
-    with TranscriptWriter(out) as transcript:
+    with record() as recording:
         for packet in packets:
             stream = streams.setdefault(packet.stream, Stream(packet.client))
             if not stream.broken:
-                _take(stream, packet, transcript, minor_1)
-        return transcript.summary()
+                _take(stream, packet, recording)
+        tell_account(recording)
 
 
-def _take(stream: Stream, packet: Packet, transcript: TranscriptWriter, minor_1: bool) -> None:
+def _take(stream: Stream, packet: Packet, recording: Recording) -> None:
     try:
-        stream.take(packet, transcript, minor_1)
+        stream.take(packet, recording)
     except ConnectionTrouble as trouble:
         stream.broken = True
         say(f"{stream.name}, stream {packet.stream} of the capture: {trouble}; the rest of it is left out")

@@ -13,12 +13,11 @@ import socket
 import ssl
 from typing import Coroutine, NamedTuple, Optional, TypeVar
 
-from .. import message, peer
+from .. import peer
 from ..address import Address
-from ..message import Side
 from ..peer import Peer
-from ..transcript import TranscriptWriter
 from ..trouble import ConnectionTrouble
+from .recording import Recording
 
 Result = TypeVar("Result")
 
@@ -29,12 +28,8 @@ class Way(NamedTuple):
     server: Address
     toward_clients: ssl.SSLContext
     toward_server: ssl.SSLContext
-    transcript: TranscriptWriter
-    minor_1: bool
-
-    def marked(self, whole: bytes, side: Side) -> bytes:
-        """The message as the transcript is to have it."""
-        return message.with_minor_1(whole, side) if self.minor_1 else whole
+    recording: Recording
+    answer_within: float
 
 
 class Connection:
@@ -77,18 +72,39 @@ class Connection:
             self._busy = False
 
     async def _take_call(self, client: Peer, server: Peer, request: bytes) -> None:
-        self.open_call = self._way.transcript.begin(self.name, self._way.marked(request, Side.CLIENT))
-        response = await _unless_gone(_answer(server, request), client)
-        if response is None:
-            raise ConnectionTrouble("the client broke off" if client.gone.done() else "the server gave no answer")
-        self._way.transcript.end(self.open_call, self._way.marked(response, Side.SERVER))
+        self.open_call = self._way.recording.begin(self.name, request)
+        response = await self._answer(client, server, request)
+        self._way.recording.end(self.open_call, response)
         self.open_call = None
-        await client.send(response)
+        await _hand_over(client, response)
+
+    async def _answer(self, client: Peer, server: Peer, request: bytes) -> bytes:
+        """The server's answer. A client that breaks off is not seen by the server until it has answered, or until the
+        time for that is over: it will have done the call in any case, and nobody would know."""
+        asking = asyncio.ensure_future(_ask(server, request))
+        try:
+            await asyncio.wait({asking, client.gone}, return_when=asyncio.FIRST_COMPLETED)
+            if not asking.done():
+                await asyncio.wait({asking}, timeout=self._way.answer_within)
+            if not asking.done():
+                raise ConnectionTrouble(f"the client broke off, and no answer came in {self._way.answer_within:g} s")
+            response = asking.result()
+        finally:
+            asking.cancel()
+        if response is None:
+            raise ConnectionTrouble("the server gave no answer")
+        return response
 
 
-async def _answer(server: Peer, request: bytes) -> Optional[bytes]:
+async def _ask(server: Peer, request: bytes) -> Optional[bytes]:
     await server.send(request)
     return await server.receive()
+
+
+async def _hand_over(client: Peer, response: bytes) -> None:
+    if client.gone.done():
+        raise ConnectionTrouble("the client broke off; the server's answer is marked all the same")
+    await client.send(response)
 
 
 async def _unless_gone(work: Coroutine[None, None, Optional[Result]], other: Peer) -> Optional[Result]:

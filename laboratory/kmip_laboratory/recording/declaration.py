@@ -46,12 +46,12 @@ def read_row(words: str) -> Row:
     return row
 
 
-def run(unique_names: bool, rows: List[Row], entries: List[bytes], out: str) -> str:
+def run(unique_names: bool, rows: List[Row], entries: List[bytes], out: str, force: bool) -> str:
     """Writes the declaration, and answers the line that tells of it."""
     header = ttlv.structure(HEADER, ttlv.integer(VERSION, 1), ttlv.boolean(UNIQUE_NAMES, unique_names))
     records = [
         ttlv.structure(ROW, ttlv.enumeration(RESULT_REASON, row.reason), ttlv.enumeration(CAUSE, row.cause))
         for row in rows
     ]
-    write_file(out, header + b"".join(records + entries))
+    write_file(out, header + b"".join(records + entries), force)
     return f"{len(rows)} rows, {len(entries)} entries"

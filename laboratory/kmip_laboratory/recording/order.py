@@ -27,9 +27,9 @@ def witness(calls: List[int]) -> bytes:
     return ttlv.structure(HEADER, ttlv.integer(VERSION, 1)) + b"".join(turns)
 
 
-def run(transcript: str, out: str) -> str:
+def run(transcript: str, out: str, force: bool) -> str:
     """Writes the guess, and answers the line that tells of it."""
     calls = guess(transcript)
-    write_file(out, witness(calls))
+    write_file(out, witness(calls), force)
     say("this order is a guess: calls that overlapped within one second may have been done in another")
     return f"{len(calls)} turns"

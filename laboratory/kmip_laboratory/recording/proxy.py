@@ -62,7 +62,10 @@ class Proxy:
         try:
             await connection.serve()
         except ConnectionTrouble as trouble:
-            left = f"; call {connection.open_call} stays open" if connection.open_call else ""
+            left = ""
+            if connection.open_call:
+                left = f"; call {connection.open_call} stays open"
+                self._way.recording.give_up(connection.open_call)
             say(f"{connection.name}: {trouble}{left}")
         except Exception as failure:
             self._failure = self._failure or failure
@@ -94,7 +97,7 @@ async def run(way: Way, listener: socket.socket) -> None:
     loop = asyncio.get_running_loop()
     for number in (signal.SIGINT, signal.SIGTERM):
         loop.add_signal_handler(number, proxy.stop)
-    say(f"{Address(*listener.getsockname()[:2])} leads to {way.server}; marks go into {way.transcript.path}; "
+    say(f"{Address(*listener.getsockname()[:2])} leads to {way.server}; marks go into {way.recording.path}; "
         "Ctrl-C ends")
     await proxy.serve(listener)
 

@@ -9,16 +9,20 @@ from typing import List, NoReturn
 
 from .. import tls
 from ..address import read_address
-from ..transcript import TranscriptWriter
+from ..blinding import words as blinding
+from ..files import OUT_HINT, see_that_free
+from ..shrinking import words as shrinking
 from ..trouble import Trouble, say
-from . import capture, declaration, inventory, order, proxy
+from . import capture, declaration, inventory, order, passes, proxy
 from .connection import Way
+from .recording import Recording, tell_account
 
 DONE = 0
 TROUBLE = 1
 USAGE = 64
 
-MINOR_HELP = "change version 2.0 in the header of each message to 2.1, for servers that speak 2.0"
+MINOR_HELP = "write messages of versions 1.0 to 2.0 as 2.1, as `translate` does"
+FORCE_HELP = "write over the file where it is there already"
 MINOR_NOTE = "version 2.0 is written as 2.1 in the transcript: what is judged then is not quite what was said"
 
 
@@ -28,6 +32,17 @@ class Parser(argparse.ArgumentParser):
     def error(self, message: str) -> NoReturn:
         self.print_usage(sys.stderr)
         self.exit(USAGE, f"{self.prog}: {message}\n")
+
+
+def read_seconds(words: str) -> float:
+    """The number of seconds that these words are."""
+    try:
+        seconds = float(words)
+    except ValueError:
+        seconds = -1
+    if not 0 <= seconds < 86_400:
+        raise argparse.ArgumentTypeError(f"{words!r} is no number of seconds from 0 to a day")
+    return seconds
 
 
 def main(arguments: List[str]) -> int:
@@ -55,6 +70,9 @@ def _parser() -> Parser:
     _add_keylog(words.add_parser("keylog", help="make a transcript from a packet capture and a TLS key log"))
     _add_declare(words.add_parser("declare", help="declare which objects the server holds"))
     _add_order(words.add_parser("order", help="guess a witness from a transcript"))
+    passes.add(words)
+    blinding.add(words)
+    shrinking.add(words)
     return parser
 
 
@@ -67,6 +85,8 @@ def _add_proxy(word: argparse.ArgumentParser) -> None:
     word.add_argument("--server-cert", metavar="FILE", help="certificate that the server is shown (else --cert)")
     word.add_argument("--server-key", metavar="FILE", help="its key (else --key)")
     word.add_argument("--server-ca", metavar="FILE", help="authority of the server's certificate (else --client-ca)")
+    word.add_argument("--answer-within", type=read_seconds, default=10, metavar="SECONDS", help="how long the server's "
+                      "answer is waited for when the client broke off (10)")
     _add_transcript_words(word)
     word.set_defaults(run=_proxy)
 
@@ -97,13 +117,15 @@ def _add_declare(word: argparse.ArgumentParser) -> None:
     word.add_argument("--reason", type=declaration.read_row, action="append", default=[], metavar="NUMBER=CAUSE",
                       help="a Result Reason that is given only for this cause: NotFound, WrongState or TakenName")
     word.add_argument("--minor", choices=["1"], help="ask in version 2.0 in place of 2.1")
-    word.add_argument("--out", required=True, metavar="DECLARATION", help="the file to write")
+    word.add_argument("--out", required=True, metavar="DECLARATION", help="a new file for it")
+    word.add_argument("--force", action="store_true", help=FORCE_HELP)
     word.set_defaults(run=_declare)
 
 
 def _add_order(word: argparse.ArgumentParser) -> None:
     word.add_argument("transcript", metavar="TRANSCRIPT")
-    word.add_argument("--out", required=True, metavar="WITNESS", help="the file to write")
+    word.add_argument("--out", required=True, metavar="WITNESS", help="a new file for it")
+    word.add_argument("--force", action="store_true", help=FORCE_HELP)
     word.set_defaults(run=_order)
 
 
@@ -115,21 +137,22 @@ def _proxy(words: argparse.Namespace) -> None:
         say(MINOR_NOTE)
     with proxy.listen(words.listen) as listener:
         asyncio.run(proxy.reach(words.server, toward_server))
-        with TranscriptWriter(words.out) as transcript:
-            way = Way(words.server, toward_clients, toward_server, transcript, bool(words.minor))
+        with Recording(words.out, bool(words.minor)) as recording:
+            way = Way(words.server, toward_clients, toward_server, recording, words.answer_within)
             try:
                 asyncio.run(proxy.run(way, listener))
             finally:
-                print(transcript.summary(), flush=True)
+                tell_account(recording)
 
 
 def _keylog(words: argparse.Namespace) -> None:
     if words.minor:
         say(MINOR_NOTE)
-    print(capture.run(words.capture, words.keylog, words.server, bool(words.minor), words.out))
+    capture.run(words.capture, words.keylog, words.server, lambda: Recording(words.out, bool(words.minor)))
 
 
 def _declare(words: argparse.Namespace) -> None:
+    see_that_free(words.out, words.force, OUT_HINT)
     entries: List[bytes] = []
     if words.server:
         if not (words.server_cert and words.server_key and words.server_ca):
@@ -138,8 +161,8 @@ def _declare(words: argparse.Namespace) -> None:
         if words.minor:
             say("the server is asked in version 2.0")
         entries = asyncio.run(inventory.entries(words.server, context, bool(words.minor), words.bytes))
-    print(declaration.run(words.unique_names, words.reason, entries, words.out))
+    print(declaration.run(words.unique_names, words.reason, entries, words.out, words.force))
 
 
 def _order(words: argparse.Namespace) -> None:
-    print(order.run(words.transcript, words.out))
+    print(order.run(words.transcript, words.out, words.force))

@@ -51,7 +51,7 @@ returns c recorded =
     let O : List Call → Type 0 = λ cs. IsOrder (map call_of cs) (map turn_of c.deref-2.result.now) (map step_of steps) in
     let T : List Turn → Type 0 = λ ts. IsOrder (map call_of calls) (map turn_of ts) (map step_of steps) in
     let order : IsOrder (map call_of calls) (witness_of c.args.witness.now) (map step_of steps) = subst T c.deref-2.ensures.value (subst O c.deref.ensures.value o) in
-    let reported = c.replay.ensures declared c.in_ok-rules.ensures
+    let reported = c.replay.ensures.told declared c.in_ok-rules.ensures
     (replayed_none declared (map step_of c.deref-3.result.now) (state_of_journal c.in_ok-ledger.ledger).now c.in_ok-ledger.ensures.opened c.in_ok-ledger.ensures.sound) in
     let S : List Step → Type 0 = λ ss. TellsRun declared (map step_of ss) c.replay.result in
     run_reported marks declared (witness_of c.args.witness.now) (map call_of calls) (map step_of steps) c.replay.result are order (subst S c.deref-3.ensures.value reported)

@@ -6,8 +6,8 @@ use Rattle.kmipa_check.specs.declared.verdict.Refused.{Refused}
 use Rattle.kmipa_check.proofs.ReplayLemmas.{replayed_all}
 use Rattle.kmipa_check.proofs.replay.replay.Goals as goal
 
-pub returns-in-Ok-Some : goal.returns-in-Ok-Some
-returns-in-Ok-Some g c = λ declared is r.
+pub returns-in-Ok-Some-clause-told : goal.returns-in-Ok-Some-clause-told
+returns-in-Ok-Some-clause-told g c = λ declared is r.
     let P : Option Refused → Type 0 = λ o. TurnTold declared (map step_of c.args.steps.now) c.turns.turn (Ok o) (g.L.Ledger.state c.take_turn.new.ledger).now in
     subst P c.in-Ok-Some.field-0-is (c.in-Ok-Some.ensures.taken declared is (c.turns.invariant.replayed declared is r))
 
@@ -19,11 +19,16 @@ turns-preserved g c = record {
   sound = c.in-Ok-None.ensures.sound;
 }
 
-pub returns : goal.returns
-returns g c = λ declared is r.
+pub returns-clause-told : goal.returns-clause-told
+returns-clause-told g c = λ declared is r.
     let order = map step_of c.args.steps.now in (
       (g.L.Ledger.state c.turns.ledger).now,
       replayed_all declared order c.turns.turn (g.L.Ledger.state c.turns.ledger).now
           (omega (arith, c.turns-test.false, length-map c.args.steps.now step_of))
           (c.turns.invariant.replayed declared is r),
     )
+
+pub returns-clause-leaves : goal.returns-clause-leaves
+returns-clause-leaves g c = λ declared is r yes.
+    replayed_all declared (map step_of c.args.steps.now) c.turns.turn (g.L.Ledger.state c.turns.ledger).now
+    (omega (arith, c.turns-test.false, length-map c.args.steps.now step_of)) (c.turns.invariant.replayed declared is r)

@@ -1,0 +1,1 @@
+"""The parts of kmip_drive: clients that make a key server work, a key server with faults, and what convicts it."""

@@ -1,0 +1,69 @@
+"""The word `audit`: declares, drives and records, searches, and explains, in one go."""
+
+from __future__ import annotations
+
+import argparse
+import subprocess
+import sys
+from pathlib import Path
+from typing import Callable, List
+
+from ..trouble import Trouble
+from . import record
+from .auditor import DECLARATION, TRANSCRIPT, WITNESS, Auditor
+from .decide import Decision, decide, why_of, write_part
+from .drive import Job, drive
+
+RECORDER = Path(__file__).resolve().parents[2] / "kmip_record"
+PART = "part"
+
+
+def run(job: Job, words: argparse.Namespace, auditor: Auditor, tell: Callable[[str], None]) -> int:
+    """Everything; the files are in the folder that --out names. The status is the auditor's: 0 where it found a
+    witness, 1 where it decided that there is none, 4 where it decided nothing, else what it ended with."""
+    folder: Path = words.out
+    with record.recording(folder, job.version, tell) as transcript:
+        if not words.empty:
+            _ask_the_server(folder, words)
+        else:
+            record.declare(folder, words.unique_names, words.reason)
+        done = drive(job, transcript, progress=True)
+        print(transcript.summary())
+    print("\n".join(done.lines()), flush=True)
+    decision = decide(folder, auditor, words.budget, words.budget)
+    for line in explained(folder, decision, auditor):
+        print(line)
+    return decision.status
+
+
+def _ask_the_server(folder: Path, words: argparse.Namespace) -> None:
+    """What the server holds, by `kmip_record declare`; it goes in the place of the empty declaration."""
+    (folder / DECLARATION).unlink()
+    asked = ["declare", "--server", str(words.server), "--server-cert", words.cert, "--server-key", words.key,
+             "--server-ca", words.ca, "--out", str(folder / DECLARATION)]
+    asked += ["--unique-names"] if words.unique_names else []
+    asked += ["--minor", "1"] if words.kmip == "2.0" else []
+    for reason in words.reason:
+        asked += ["--reason", reason]
+    done = subprocess.run([sys.executable, str(RECORDER), *asked], stdout=subprocess.PIPE, text=True, check=False)
+    if done.returncode != 0:
+        raise Trouble("the server could not be asked what it holds; on one that holds nothing, give --empty")
+    print(f"declaration: {done.stdout.strip()}")
+
+
+def explained(folder: Path, decision: Decision, auditor: Auditor) -> List[str]:
+    """The lines that tell what came out, and where to look."""
+    if decision.explained:
+        return [decision.line, f"{folder / WITNESS} is an order that explains every answer"]
+    if decision.status != 1:
+        return [decision.line]
+    lines = [decision.line, "no order explains what was recorded"]
+    if decision.part:
+        (folder / PART).mkdir()
+        write_part(folder, folder / PART, set(decision.part))
+        numbers = ", ".join(map(str, sorted(decision.part)))
+        lines += [f"already these {len(decision.part)} calls can't be explained: {numbers}; they are in {folder / PART}",
+                  f"in the order of their answers: {why_of(folder / PART, auditor)}"]
+    elif decision.why:
+        lines.append(f"in the order of the answers: {decision.why}")
+    return [" ".join(line.splitlines()) for line in lines]

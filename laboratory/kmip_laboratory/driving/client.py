@@ -1,0 +1,198 @@
+"""A client: a connection of its own, calls as its plan has them, and what befalls them."""
+
+from __future__ import annotations
+
+import contextlib
+import socket
+import ssl
+import struct
+import threading
+import time
+from collections import Counter
+from typing import Counter as Counted, List, Optional
+
+from .. import message, tls, ttlv
+from ..address import Address
+from ..message import Side
+from ..trouble import ConnectionTrouble, Trouble
+from .cuts import Cut, Cuts
+from .known import Known
+from .marks import Marks
+from .messages import Ask, Request, Version
+from .numbers import Operation, Status
+from .plan import Plan, PlannedCall
+from .requests import write_request
+from .responses import read_response
+from .wire import NotUnderstood
+
+MOST_BREAKS_IN_A_ROW = 5
+SECONDS_AFTER_A_BREAK = 0.1
+SLOW_PIECE = 16
+SECONDS_OF_SLOWNESS = 0.002
+LINGER_AND_RESET = struct.pack("ii", 1, 0)
+
+
+class CutOff(Exception):
+    """The client itself broke the connection."""
+
+
+class Budget:
+    """So many calls, or so many seconds, for all clients together; and how many of them are left."""
+
+    def __init__(self, calls: Optional[int], seconds: Optional[float], clients: int) -> None:
+        self._lock = threading.Lock()
+        self._calls = calls
+        self._until = None if seconds is None else time.monotonic() + seconds
+        self.taken = 0
+        self.clients = clients
+        self.stopped = False
+
+    def take(self) -> bool:
+        """Whether there is one more call to make."""
+        with self._lock:
+            over = self.stopped or (self._calls is not None and self.taken >= self._calls)
+            if over or (self._until is not None and time.monotonic() >= self._until):
+                return False
+            self.taken += 1
+            return True
+
+    def may_end(self) -> bool:
+        """Whether a client may go; the last one stays."""
+        with self._lock:
+            if self.clients == 1:
+                return False
+            self.clients -= 1
+            return True
+
+
+class Client(threading.Thread):
+    """Makes calls until the budget is spent, or until the server is no longer there."""
+
+    def __init__(self, number: int, server: Address, context: ssl.SSLContext, version: Version, plan: Plan, cuts: Cuts,
+                 known: Known, marks: Marks, budget: Budget, patience: float, pause: float) -> None:
+        super().__init__(daemon=True, name=f"client-{number}")
+        self._server, self._context, self._version = server, context, version
+        self._plan, self._cuts, self._known, self._marks, self._budget = plan, cuts, known, marks, budget
+        self._patience, self._pause = patience, pause
+        self._socket: Optional[ssl.SSLSocket] = None
+        self._slow = False
+        self.counts: Counted[str] = Counter()
+        self.failure: Optional[BaseException] = None
+
+    def run(self) -> None:
+        """All calls."""
+        try:
+            self._make_calls()
+        except BaseException as failure:
+            self.failure = failure
+            self._budget.stopped = True
+        finally:
+            self._drop()
+
+    def _make_calls(self) -> None:
+        breaks = 0
+        for planned in self._plan.calls():
+            if not self._budget.take():
+                return
+            cut = self._cuts.of(planned.luck)
+            if self._pause:
+                time.sleep(2 * planned.pause * self._pause)
+            try:
+                self._call(planned, cut)
+                breaks = 0
+            except CutOff:
+                self.counts[cut.value] += 1
+                self._drop(reset=planned.where < 0.5)
+            except (OSError, EOFError, ConnectionTrouble) as trouble:
+                self.counts["broken by the server"] += 1
+                self._drop()
+                breaks += 1
+                if breaks == MOST_BREAKS_IN_A_ROW:
+                    told = tls.meaning(trouble) if isinstance(trouble, OSError) else trouble
+                    raise Trouble(f"{self.name} can't go on with the server at {self._server}: {told}") from None
+                time.sleep(SECONDS_AFTER_A_BREAK)
+            if cut is Cut.END and self._budget.may_end():
+                self.counts[cut.value] += 1
+                return
+
+    def _reach(self) -> ssl.SSLSocket:
+        if self._socket is None:
+            plain = socket.create_connection(self._server, timeout=self._patience)
+            plain.setsockopt(socket.IPPROTO_TCP, socket.TCP_NODELAY, 1)
+            self._socket = self._context.wrap_socket(plain)
+            self.counts["connections"] += 1
+        return self._socket
+
+    def _drop(self, reset: bool = False) -> None:
+        """Closes the connection; a reset is what a killed client leaves."""
+        if self._socket is not None:
+            with contextlib.suppress(OSError, ValueError):
+                if reset:
+                    self._socket.setsockopt(socket.SOL_SOCKET, socket.SO_LINGER, LINGER_AND_RESET)
+                self._socket.close()
+            self._socket = None
+
+    def _call(self, planned: PlannedCall, cut: Optional[Cut]) -> None:
+        asks = [self._known.ask(item) for item in planned.items]
+        request = write_request(Request(self._version, tuple(asks), planned.option, planned.ordered))
+        server = self._reach()
+        if cut is Cut.BEFORE_SENDING:
+            raise CutOff
+        if cut is Cut.IN_REQUEST:
+            server.sendall(request[:1 + int(planned.where * (len(request) - 1))])
+            raise CutOff
+        call = self._marks.begin(self.name, request)
+        server.sendall(request)
+        for ask in asks:
+            self.counts[f"{Operation(ask.operation).name} asked"] += 1
+        if cut is Cut.AFTER_SENDING:
+            self.counts["open calls"] += 1
+            raise CutOff
+        response = self._answer(server, cut, planned.where)
+        self._marks.end(call, response)
+        self._learn(asks, response)
+
+    def _answer(self, server: ssl.SSLSocket, cut: Optional[Cut], where: float) -> bytes:
+        """The whole response."""
+        try:
+            self._slow = cut is Cut.SLOW
+            header = self._receive(server, ttlv.HEADER_LENGTH)
+            length = message.announced_length(header, Side.SERVER) - ttlv.HEADER_LENGTH
+            if cut is Cut.IN_ANSWER:
+                self._receive(server, int(where * length))
+                self.counts["open calls"] += 1
+                raise CutOff
+            if self._slow:
+                self.counts[Cut.SLOW.value] += 1
+            return header + self._receive(server, length)
+        except (OSError, EOFError, ConnectionTrouble):
+            self.counts["open calls"] += 1
+            raise
+
+    def _receive(self, server: ssl.SSLSocket, length: int) -> bytes:
+        received = bytearray()
+        while len(received) < length:
+            left = length - len(received)
+            piece = server.recv(min(left, SLOW_PIECE) if self._slow else left)
+            if not piece:
+                raise EOFError("it closed the connection in place of an answer")
+            received += piece
+            if self._slow:
+                time.sleep(SECONDS_OF_SLOWNESS)
+        return bytes(received)
+
+    def _learn(self, asks: List[Ask], response: bytes) -> None:
+        try:
+            read = read_response(response)
+        except (ttlv.NotTtlv, NotUnderstood, ValueError):
+            self.counts["answers that were not understood"] += 1
+            return
+        if len(read.answers) == 1 and read.answers[0].operation is None:
+            self.counts["refused messages"] += 1
+            return
+        for ask, answer in zip(asks, read.answers):
+            told = {Status.SUCCESS: "done", Status.UNDONE: "undone"}.get(answer.status, "failed")
+            self.counts[f"{Operation(ask.operation).name} {told}"] += 1
+        self._known.learn(asks, read)
+
+

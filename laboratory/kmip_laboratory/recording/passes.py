@@ -1,0 +1,85 @@
+"""The words that look at a transcript, or make a new one of it."""
+
+from __future__ import annotations
+
+import argparse
+import sys
+from typing import Iterable
+
+from ..sifting import effects, forgetting
+from ..sifting import run as sifting
+from ..translation import run as translation
+from ..trouble import Trouble
+from . import listing
+
+
+def add(words: argparse._SubParsersAction) -> None:
+    """Adds these words to those of the program."""
+    _add_list(words.add_parser("list", help="tell what is in a transcript, call by call"))
+    _add_translate(words.add_parser("translate", help="write a transcript of versions 1.0 to 2.0 as one of 2.1"))
+    _add_sift(words.add_parser("sift", help="leave out calls that had no effect on what is judged"))
+
+
+def _add_list(word: argparse.ArgumentParser) -> None:
+    word.add_argument("transcript", metavar="TRANSCRIPT")
+    word.add_argument("--call", type=int, metavar="N", help="both messages of this call, in place of a line for each")
+    word.add_argument("--keys", action="store_true", help="show the bytes of keys too, with --call")
+    word.set_defaults(run=_list)
+
+
+def _add_translate(word: argparse.ArgumentParser) -> None:
+    word.add_argument("transcript", metavar="IN")
+    word.add_argument("out", metavar="OUT", help="a new file for the transcript")
+    word.set_defaults(run=lambda words: print(translation.run(words.transcript, words.out)))
+
+
+def _add_sift(word: argparse.ArgumentParser) -> None:
+    word.add_argument("transcript", metavar="IN")
+    word.add_argument("out", metavar="OUT", nargs="?", help="a new file for the transcript; none with --list")
+    word.add_argument("--list", action="store_true", help="count the calls by sort, operation, version and client")
+    word.add_argument("--also", type=_doubtful, action="append", default=[], metavar="OPERATION",
+                      help="leave this doubtful operation out too; may be repeated")
+    word.add_argument("--forget", type=_attribute, action="append", default=[], metavar="NAME",
+                      help="take this judged attribute out of what Get Attributes tells; may be repeated")
+    word.set_defaults(run=_sift)
+
+
+def _doubtful(words: str) -> int:
+    operation = effects.named(words)
+    if operation is None:
+        names = ", ".join(each.name.replace("_", " ").title() for each in effects.DOUBTFUL)
+        raise argparse.ArgumentTypeError(f"{words!r} is no doubtful operation; those are {names}")
+    return operation.value
+
+
+def _attribute(words: str) -> int:
+    tag = forgetting.attribute_named(words)
+    if tag is None:
+        raise argparse.ArgumentTypeError(f"{words!r} is no judged attribute, as 'Initial Date' is one")
+    return tag
+
+
+def _sift(words: argparse.Namespace) -> None:
+    if words.list:
+        _print(sifting.table(words.transcript, frozenset(words.also)))
+    elif words.out is None:
+        raise Trouble("`sift` needs a new file for what is left, or --list: `kmip_record sift IN OUT`")
+    else:
+        print(sifting.run(words.transcript, words.out, frozenset(words.also), frozenset(words.forget)))
+
+
+def _list(words: argparse.Namespace) -> None:
+    if words.call is None:
+        _print(listing.lines(words.transcript))
+    else:
+        _print(listing.call_lines(words.transcript, words.call, words.keys))
+
+
+def _print(lines: Iterable[str]) -> None:
+    """Prints lines up to the last, or as long as somebody reads them."""
+    try:
+        for line in lines:
+            print(line)
+        sys.stdout.flush()
+    except BrokenPipeError:
+        sys.stderr.close()

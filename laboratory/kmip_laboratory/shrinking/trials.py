@@ -1,0 +1,90 @@
+"""Asks the auditor to search an order of some calls, and whether its giving up says that there is none."""
+
+from __future__ import annotations
+
+import os
+import tempfile
+from enum import Enum
+from types import TracebackType
+from typing import Dict, FrozenSet, Iterable, List, NamedTuple, Optional, Set, Tuple, Type
+
+from ..auditor import Auditor, Outcome, Verdict
+from ..calls import Call, Transcript
+from ..trouble import Trouble
+from .parts import Declaration, Parts, is_plain
+
+
+class Answer(Enum):
+    """What a search says of some calls."""
+
+    EXPLAINED = "an order explains them"
+    IMPOSSIBLE = "no order explains them"
+    UNKNOWN = "the search decided nothing"
+
+
+class Files(NamedTuple):
+    """A transcript and a declaration, as bytes."""
+
+    transcript: bytes
+    declaration: bytes
+
+
+class Trials:
+    """Searches of calls of one transcript. Each choice of calls is asked of once."""
+
+    def __init__(self, transcript: Transcript, declaration: Declaration, whole: bool, budget: int) -> None:
+        self._transcript = transcript
+        self._declaration = declaration
+        self._whole = whole
+        self._budget = budget
+        self._auditor = Auditor()
+        self._answers: Dict[FrozenSet[int], Tuple[Answer, Verdict]] = {}
+        self.parts = Parts(transcript.calls, declaration, whole)
+
+    def __enter__(self) -> Trials:
+        self._folder = tempfile.TemporaryDirectory(prefix="kmip_record-shrink-")
+        return self
+
+    def __exit__(self, kind: Optional[Type[BaseException]], error: Optional[BaseException],
+                 trace: Optional[TracebackType]) -> None:
+        self._folder.cleanup()
+
+    @property
+    def asked(self) -> int:
+        """How many searches there were."""
+        return len(self._answers)
+
+    def impossible(self, calls: Iterable[Call]) -> bool:
+        """Whether the search decides that no order explains these calls."""
+        return self.answer(list(calls))[0] is Answer.IMPOSSIBLE
+
+    def answer(self, calls: List[Call]) -> Tuple[Answer, Verdict]:
+        """What a search says of these calls, and its line."""
+        chosen = frozenset(call.number for call in calls)
+        if chosen not in self._answers:
+            self._answers[chosen] = self._asked(calls)
+        return self._answers[chosen]
+
+    def files(self, calls: List[Call]) -> Files:
+        """The files of these calls alone."""
+        marks = [(call.begin, call.marks[0]) for call in calls]
+        marks += [(call.end, call.marks[1]) for call in calls if call.end is not None]
+        named: Set[str] = set(self._declaration.entries)
+        if not self._whole:
+            named = set().union(*(self.parts.named[call.number] for call in calls))
+        return Files(self._transcript.header + b"".join(mark for _, mark in sorted(marks)),
+                     self._declaration.spelled(named))
+
+    def _asked(self, calls: List[Call]) -> Tuple[Answer, Verdict]:
+        names = [os.path.join(self._folder.name, name) for name in ("transcript", "declaration", "witness")]
+        for name, data in zip(names, self.files(calls)):
+            with open(name, "wb") as file:
+                file.write(data)
+        verdict = self._auditor.search(*names, self._budget)
+        if verdict.outcome is Outcome.YES:
+            return Answer.EXPLAINED, verdict
+        if verdict.outcome is not Outcome.GAVE_UP:
+            raise Trouble(f"the auditor does not judge this recording: {verdict.text}; leave out what it names, and "
+                          "shrink the rest")
+        decided = all(map(is_plain, calls)) and verdict.steps is not None and verdict.steps < self._budget
+        return (Answer.IMPOSSIBLE if decided else Answer.UNKNOWN), verdict

@@ -1,0 +1,62 @@
+"""The word `sift`: one pass to sort the calls, and one to write those that are kept."""
+
+from __future__ import annotations
+
+from typing import Dict, FrozenSet, List, Optional
+
+from ..files import see_that_free
+from ..recording.calls import calls_in
+from ..recording.rewriting import rewrite
+from ..transcript import Begin, Mark
+from ..trouble import say
+from .forgetting import places_of, request_without, response_without
+from .sorting import Sorted
+
+
+def table(source: str, also: FrozenSet[int]) -> List[str]:
+    """How many calls of each sort, operation, version and client there are."""
+    calls = Sorted(also)
+    for call in calls_in(source):
+        calls.take(call)
+    return calls.table_lines() + calls.unknown_lines()
+
+
+class Sifting:
+    """What is left out of a transcript, and what of an answer."""
+
+    def __init__(self, source: str, also: FrozenSet[int], forgotten: FrozenSet[int]) -> None:
+        self.calls = Sorted(also)
+        self.changed = 0
+        self._forgotten = forgotten
+        self._places: Dict[int, List[int]] = {}
+        for call in calls_in(source):
+            self.calls.take(call)
+            places = [] if call.number in self.calls.dropped else places_of(call.asked(), call.answered())
+            if places:
+                self._places[call.number] = places
+
+    def mark(self, mark: Mark) -> Optional[Mark]:
+        """The mark as it is to stay, if it is."""
+        if mark.call in self.calls.dropped:
+            return None
+        places = self._places.get(mark.call)
+        if not places:
+            return mark
+        without = request_without if isinstance(mark, Begin) else response_without
+        made = mark._replace(message=without(mark.message, places, self._forgotten))
+        self.changed += made != mark
+        return made
+
+
+def run(source: str, target: str, also: FrozenSet[int], forgotten: FrozenSet[int]) -> str:
+    """Writes the transcript of what is left, tells the account of it, and answers its summary."""
+    see_that_free(target)
+    sifting = Sifting(source, also, forgotten)
+    rewrite(source, target, sifting.mark)
+    for cause, count in sifting.calls.causes.most_common():
+        say(f"left out: {count} calls, {cause}")
+    if sifting.changed:
+        say(f"attributes were taken out of {sifting.changed} messages of Get Attributes")
+    for line in sifting.calls.unknown_lines():
+        say(line)
+    return f"{sifting.calls.kept} calls kept, {len(sifting.calls.dropped)} left out"
