@@ -1,0 +1,186 @@
+"""Checks copies of a crate in which edits stand, and reads whether the functions that they change are refused.
+
+A proof knows nothing of a function that it calls but its contract. So edits of different bodies don't touch each
+other's goals, and one check of the functions that they change, and of those that these call, judges them all.
+"""
+from __future__ import annotations
+
+import os
+import re
+import shutil
+import subprocess
+import tempfile
+from dataclasses import dataclass, field
+from pathlib import Path
+
+from edit_files import BadEdit, Edit, put_in
+
+PARTS = ("src", "specs", "proofs")
+# What an answer by hand is told where it names something that the body no longer has.
+STALE = re.compile(r"has no field|is not in scope|has no `|was not admitted|\(nearest: ")
+# What a function is told whose own goals are all proved.
+PROVED = re.compile(r"proved|(no proof|not proved)[:;] (in `\S+`, of this cycle of calls: )?it (calls|passes|drops) ")
+ENDED = re.compile(r"^only=\d+ ", re.M)
+
+
+def kit_folder() -> Path:
+    """The kit's folder, in which the command rt is."""
+    found = shutil.which("rt")
+    if not found:
+        raise SystemExit("wrong-bodies: rt is not on the path: add the kit's folder bin to it")
+    return Path(os.path.realpath(found)).parent.parent
+
+
+@dataclass(frozen=True)
+class Verdict:
+    """What was found of an edit: 'refused', 'let through', 'stale' or 'not judged', and the words for it."""
+
+    kind: str
+    words: str
+
+
+@dataclass
+class Crate:
+    """A crate: its folder, what it uses of the repository and of the kit, and where libraries are built."""
+
+    name: str
+    folder: Path
+    below: list[Crate]
+    of_kit: list[str]
+    libraries: dict[str, Path]
+    seconds: float = 0.0
+    words: list[str] = field(default_factory=list)
+
+    def all_below(self) -> list[Crate]:
+        """Every crate of the repository below it, the lowest first."""
+        found: dict[str, Crate] = {}
+        for crate in self.below:
+            found.update({it.name: it for it in [*crate.all_below(), crate]})
+        return list(found.values())
+
+    def newest(self) -> float:
+        """When its files changed last."""
+        files = [it for part in PARTS for it in (self.folder / part).rglob("*") if it.is_file()]
+        return max(it.stat().st_mtime for it in files)
+
+    def rattle_words(self) -> list[str]:
+        """The words of rattle's commands for this crate, but the command's own."""
+        kit = kit_folder()
+        words = ["--crate-name", self.name, "src/main.rt" if (self.folder / "src/main.rt").is_file() else "src/lib.rt"]
+        for name in self.of_kit:
+            words += ["--extern", f"{name}={kit}/rlibs/{name}.rlib"]
+        words += ["-L", f"dependency={kit}/rlibs"]
+        for crate in self.below:
+            words += ["--extern", f"{crate.name}={self.libraries[crate.name]}"]
+        for crate in self.all_below():
+            words += ["-L", f"dependency={self.libraries[crate.name].parent}"]
+        words += ["--antt-project", f"{kit}/rattle/logic/antt-project.json", "--logic-built", f"{kit}/logic_built"]
+        return [*words, "--links", f"{self.name}="]
+
+    def copy_to(self, room: Path) -> None:
+        """Copies what a check reads of the crate into a folder."""
+        for part in PARTS:
+            if (self.folder / part).is_dir():
+                shutil.copytree(self.folder / part, room / part)
+
+    def run_rattle(self, room: Path, words: list[str]) -> str:
+        """Runs a command of rattle on the copy in a folder, counts its processor's seconds, and returns its lines."""
+        with tempfile.TemporaryFile() as out:
+            command = [str(kit_folder() / "bin/rattle"), *words]
+            ran = subprocess.Popen(command, cwd=room, stdin=subprocess.DEVNULL, stdout=out, stderr=subprocess.STDOUT)
+            _, status, used = os.wait4(ran.pid, 0)
+            ran.returncode = status
+            self.seconds += used.ru_utime + used.ru_stime
+            out.seek(0)
+            return out.read().decode(errors="replace")
+
+    def build_to(self, folder: Path, jobs: int) -> None:
+        """Proves the library from nothing and builds it into a folder, for the crates above it."""
+        with tempfile.TemporaryDirectory(prefix="wrong-bodies-") as made:
+            self.copy_to(Path(made))
+            to = folder / f"{self.name}.rlib"
+            words = ["build", *self.rattle_words(), "--statements", "--jobs", str(jobs), "-o", str(to)]
+            said = self.run_rattle(Path(made), words)
+        if not to.is_dir():
+            raise SystemExit(f"wrong-bodies: {self.name}: it is not proved, and has to be first: {first_error(said)}")
+        self.libraries[self.name] = to
+
+    def check(self, edits: list[Edit], kept: Path) -> str:
+        """Checks the functions that these edits change, in a copy with all of them, over what earlier checks proved."""
+        with tempfile.TemporaryDirectory(prefix="wrong-bodies-") as made:
+            room = Path(made)
+            self.copy_to(room)
+            for path, text in edited(self, edits).items():
+                (room / path).write_text(text, encoding="utf-8")
+            only = [word for it in edits for word in ("--only", it.function)]
+            words = ["check", *self.rattle_words(), "--jobs", "1", "--incremental", str(kept), *only]
+            return self.run_rattle(room, words)
+
+
+def edited(crate: Crate, edits: list[Edit]) -> dict[str, str]:
+    """The texts of the crate's files that these edits change, with all of them in."""
+    paths = {change.path for it in edits for change in it.changes}
+    texts = {path: (crate.folder / path).read_text(encoding="utf-8") for path in paths}
+    for it in edits:
+        texts = put_in(texts, it.changes)
+    return texts
+
+
+def stand_together(crate: Crate, edits: list[Edit]) -> bool:
+    """Whether one check can judge these: each is in one body, no two share a proof, each text still stands once."""
+    if len({it.proof for it in edits}) < len(edits) or len(edits) > 1 and not all(it.in_body for it in edits):
+        return False
+    try:
+        edited(crate, edits)
+    except BadEdit:
+        return False
+    return True
+
+
+def rounds_of(crate: Crate, edits: list[Edit]) -> list[list[Edit]]:
+    """The edits, shared out over as few rounds as come by taking each into the first where it may stand."""
+    rounds: list[list[Edit]] = []
+    for it in edits:
+        fits = next((some for some in rounds if stand_together(crate, [*some, it])), None)
+        if fits is None:
+            rounds.append([it])
+        else:
+            fits.append(it)
+    return rounds
+
+
+def first_error(said: str) -> str:
+    """The first line that tells what was wrong."""
+    lines = said.split("\n")
+    return next((it for it in lines if "error" in it or it.startswith("rattle:")), lines[0])[:200]
+
+
+def has_ended(said: str) -> bool:
+    """Whether a check came to its last line, which it does only for text that is well formed and typed."""
+    return bool(ENDED.search(said.rstrip().rpartition("\n")[2]))
+
+
+def unknown_names(edits: list[Edit], said: str) -> list[Edit]:
+    """Those whose function rattle doesn't find, or finds several of."""
+    return [it for it in edits if re.search(rf"^rattle: error: .*`{re.escape(it.function)}`", said, re.M)]
+
+
+def verdict_of(edit: Edit, said: str) -> Verdict:
+    """What a check that came to its end says of the very function that the edit changes."""
+    lines = re.findall(r"^fn (\S+: .*)", said, re.M)
+    ends = [it for it in lines if f"::{it.partition(': ')[0]}".endswith(f"::{edit.function}")]
+    if len(ends) != 1:
+        return Verdict("not judged", f"{len(ends)} functions are called {edit.function}: name one by a line 'fn: NAME'")
+    path, _, told = ends[0].partition(": ")
+    goals = re.search(r"`search` did not prove ((?:`[^`]+`(?:, )?)+)", told)
+    if goals:
+        return Verdict("refused", f"not proved: {goals[1]}")
+    modules = path.split("::")[1:]
+    own = "/".join([*modules[:-1], f"+{edit.cycle}" if edit.cycle else modules[-1]])
+    errors = re.findall(rf"^(?:\./)?proofs/{re.escape(own)}/\w+\.antt:\d+:\d+: error: (.*)", said, re.M)
+    if told.startswith("not proved") and errors:
+        of_goal = next((it for it in errors if not STALE.search(it)), None)
+        return Verdict("refused", f"its answer by hand: {of_goal}") if of_goal else Verdict("stale", errors[0])
+    if PROVED.match(told):
+        return Verdict("let through", told)
+    return Verdict("not judged", told)
