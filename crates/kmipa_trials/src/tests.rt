@@ -4,6 +4,7 @@ mod attributes;
 mod audits;
 mod calls;
 mod files;
+mod leaving;
 mod ledgers;
 mod messages;
 mod spelled;
