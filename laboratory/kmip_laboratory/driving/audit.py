@@ -23,10 +23,10 @@ def run(job: Job, words: argparse.Namespace, auditor: Auditor, tell: Callable[[s
     witness, 1 where it decided that there is none, 4 where it decided nothing, else what it ended with."""
     folder: Path = words.out
     with record.recording(folder, job.version, tell) as transcript:
-        if not words.empty:
-            _ask_the_server(folder, words)
-        else:
+        if words.empty:
             record.declare(folder, words.unique_names, words.reason)
+        else:
+            _ask_the_server(folder, words)
         done = drive(job, transcript, progress=True)
         print(transcript.summary())
     print("\n".join(done.lines()), flush=True)
@@ -37,12 +37,11 @@ def run(job: Job, words: argparse.Namespace, auditor: Auditor, tell: Callable[[s
 
 
 def _ask_the_server(folder: Path, words: argparse.Namespace) -> None:
-    """What the server holds, by `kmip_record declare`; it goes in the place of the empty declaration."""
-    (folder / DECLARATION).unlink()
+    """What the server holds, by `kmip_record declare`."""
     asked = ["declare", "--server", str(words.server), "--server-cert", words.cert, "--server-key", words.key,
              "--server-ca", words.ca, "--out", str(folder / DECLARATION)]
     asked += ["--unique-names"] if words.unique_names else []
-    asked += ["--minor", "1"] if words.kmip == "2.0" else []
+    asked += ["--version", words.kmip] if words.kmip != "2.1" else []
     for reason in words.reason:
         asked += ["--reason", reason]
     done = subprocess.run([sys.executable, str(RECORDER), *asked], stdout=subprocess.PIPE, text=True, check=False)

@@ -49,6 +49,7 @@ class Auditor:
 
     def _run(self, folder: Path, words: list[str]) -> subprocess.CompletedProcess[str]:
         try:
-            return subprocess.run([self._program, *words], cwd=folder, capture_output=True, text=True, check=False)
+            return subprocess.run([self._program, *words], cwd=folder, capture_output=True, text=True,
+                                  errors="replace", check=False)
         except OSError as error:
             raise Trouble(f"{self._program} can't be run: {error.strerror}") from None

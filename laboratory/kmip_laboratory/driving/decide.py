@@ -88,7 +88,7 @@ def _why(folder: Path, made: Path, part: List[Recorded], auditor: Auditor) -> st
 
 def why_of(folder: Path, auditor: Auditor) -> str:
     """What a check says where the calls were done in the order of their answers."""
-    write_file(str(folder / WITNESS), order.witness(order.guess(str(folder / TRANSCRIPT))))
+    write_file(str(folder / WITNESS), order.witness(order.guess(str(folder / TRANSCRIPT))), force=True)
     return auditor.check(folder)
 
 
@@ -101,5 +101,5 @@ def write_part(folder: Path, made: Path, numbers: Set[int]) -> None:
             records.append(
                 ttlv.structure(FileTag.BEGIN_MARK, call, ttlv.text(FileTag.CLIENT, mark.client), message)
                 if isinstance(mark, Begin) else ttlv.structure(FileTag.END_MARK, call, message))
-    write_file(str(made / TRANSCRIPT), b"".join(records))
-    write_file(str(made / DECLARATION), (folder / DECLARATION).read_bytes())
+    write_file(str(made / TRANSCRIPT), b"".join(records), force=True)
+    write_file(str(made / DECLARATION), (folder / DECLARATION).read_bytes(), force=True)

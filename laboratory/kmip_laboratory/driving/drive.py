@@ -23,6 +23,7 @@ from .mixes import Mix
 from .numbers import Operation
 from .plan import Plan
 
+JUDGED = (2, 1)
 SECONDS_BETWEEN_LINES = 1.0
 
 
@@ -40,7 +41,6 @@ class Job:
     seed: int = 1
     patience: float = 30
     pause: float = 0
-    minor_1: bool = False
     cuts: Cuts = field(default_factory=lambda: Cuts({}))
 
 
@@ -73,7 +73,7 @@ class Done:
 def drive(job: Job, transcript: Optional[TranscriptWriter] = None, progress: bool = False) -> Done:
     """Lets all clients make their calls, marking them where a transcript is given."""
     budget = Budget(job.calls, job.seconds, job.clients)
-    known, marks = Known(job.mix.counts["hot"]), Marks(transcript, job.minor_1)
+    known, marks = Known(job.mix.counts["hot"]), Marks(transcript, job.version != JUDGED)
     clients = [Client(number, job.server, job.context, job.version, Plan(job.seed, number, job.mix), job.cuts, known,
                       marks, budget, job.patience, job.pause) for number in range(1, job.clients + 1)]
     _reach(job)

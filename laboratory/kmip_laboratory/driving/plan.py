@@ -15,7 +15,7 @@ from .mixes import Mix
 from .numbers import AES, ObjectType, Operation, Option, State, Tag
 
 LENGTHS = (128, 192, 256)
-CODES = (1, 2, 4, 5, 6)
+CODES = (1, 2, 3, 5, 6)
 STATES = (State.PRE_ACTIVE, State.ACTIVE, State.DEACTIVATED, State.COMPROMISED)
 MOST_LOCATED = 5
 DATES = (Tag.INITIAL_DATE, Tag.ACTIVATION_DATE, Tag.DEACTIVATION_DATE, Tag.DESTROY_DATE, Tag.COMPROMISE_DATE)
@@ -94,7 +94,8 @@ class Plan:
         return Option.CONTINUE if draw < undo + going_on else self._dice.choice([None, Option.STOP])
 
     def _story(self) -> List[Planned]:
-        """Items that belong together: an object from its birth on by the placeholder, one's life, or a Locate."""
+        """Items that belong together: an object from its birth on by the placeholder, a placeholder that
+        nothing has set, what a Locate lists, or an object's life."""
         dice = self._dice
         draw = dice.random()
         if draw < 0.4:
@@ -102,6 +103,8 @@ class Plan:
             rest = [Planned(Ask(Operation.GET)), Planned(Ask(Operation.GET_ATTRIBUTES, references=(Tag.STATE,))),
                     Planned(Ask(Operation.ACTIVATE)), Planned(Ask(Operation.DESTROY))]
             return [first] + dice.sample(rest, dice.randint(1, len(rest)))
+        if draw < 0.48:
+            return [Planned(Ask(dice.choice([Operation.GET, Operation.GET_ATTRIBUTES]))), self._item()]
         if draw < 0.6:
             return [self._item("locate"), Planned(Ask(dice.choice([Operation.GET, Operation.GET_ATTRIBUTES])))]
         pick = self._pick()

@@ -10,9 +10,9 @@ from ..recording import declaration
 from ..transcript import TranscriptWriter
 from ..trouble import Trouble
 from .auditor import DECLARATION, TRANSCRIPT
+from .drive import JUDGED
 from .messages import Version
 
-FIRST_AS_SAID = (2, 0)
 
 
 @contextmanager
@@ -24,16 +24,13 @@ def recording(folder: Path, version: Version, tell: Callable[[str], None]) -> It
         raise Trouble(f"{folder} is there already, and recorded calls can't be had again: name a new folder") from None
     except OSError as error:
         raise Trouble(f"{folder} can't be made: {error.strerror}; name another folder") from None
-    if version == FIRST_AS_SAID:
-        tell("version 2.0 is written as 2.1 in the transcript: what is judged then is not quite what was said")
-    elif version < FIRST_AS_SAID:
-        tell("the transcript is of a version below 2.0, which is not judged as it is: `kmip_record translate` makes "
-             "one of 2.1")
-    declare(folder, False, [])
+    if version != JUDGED:
+        tell(f"version {version[0]}.{version[1]} is written as 2.1 in the transcript: what is judged then is not quite "
+             "what was said")
     with TranscriptWriter(str(folder / TRANSCRIPT)) as transcript:
         yield transcript
 
 
 def declare(folder: Path, unique_names: bool, rows: List[str]) -> None:
     """A declaration that the server was empty."""
-    declaration.run(unique_names, [declaration.read_row(row) for row in rows], [], str(folder / DECLARATION))
+    declaration.run(unique_names, [declaration.read_row(row) for row in rows], [], str(folder / DECLARATION), False)

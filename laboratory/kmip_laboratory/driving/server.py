@@ -20,6 +20,7 @@ from .wire import NotUnderstood
 
 WAITING_CLIENTS = 256
 SECONDS_FOR_TLS = 20
+SECONDS_TO_CLOSE = 5
 NEWEST = (2, 1)
 
 
@@ -35,18 +36,21 @@ class Server:
         self._connections: Set[socket.socket] = set()
         self._lock = threading.Lock()
         self._closed = False
-        threading.Thread(target=self._accept, daemon=True).start()
+        self._threads: Set[threading.Thread] = set()
+        self._accepting = threading.Thread(target=self._accept, daemon=True)
+        self._accepting.start()
 
     def close(self) -> None:
-        """Ends all connections, and listens no more."""
+        """Ends all connections, and listens no more. Each connection is closed by its own thread, and waited for: a
+        socket that another thread closes is a number that the next file gets, while TLS still writes to it."""
         with self._lock:
             self._closed = True
-            left = list(self._connections)
+            left, threads = list(self._connections), list(self._threads)
         for each in [self._listener, *left]:
             with contextlib.suppress(OSError):
                 each.shutdown(socket.SHUT_RDWR)
-            with contextlib.suppress(OSError):
-                each.close()
+        for thread in [self._accepting, *threads]:
+            thread.join(SECONDS_TO_CLOSE)
 
     def __enter__(self) -> Server:
         return self
@@ -55,12 +59,16 @@ class Server:
         self.close()
 
     def _accept(self) -> None:
-        while True:
-            try:
-                plain, _ = self._listener.accept()
-            except OSError:
-                return
-            threading.Thread(target=self._serve, args=(plain,), daemon=True).start()
+        with self._listener:
+            while not self._closed:
+                try:
+                    plain, _ = self._listener.accept()
+                except OSError:
+                    continue
+                thread = threading.Thread(target=self._serve, args=(plain,), daemon=True)
+                with self._lock:
+                    self._threads = {each for each in self._threads if each.is_alive()} | {thread}
+                    thread.start()
 
     def _serve(self, plain: socket.socket) -> None:
         """One connection, from its handshake to its end."""

@@ -9,6 +9,7 @@ from typing import List, NoReturn
 
 from .. import tls
 from ..address import Address, read_address
+from ..recording import declaration
 from ..trouble import Trouble
 from . import audit, calibrate, certificates, drive, mixes, simulate, wire
 from .auditor import Auditor
@@ -98,6 +99,11 @@ def _pause(words: str) -> float:
     return 0.0 if words == "0" else _seconds(words)
 
 
+def _row(words: str) -> str:
+    declaration.read_row(words)
+    return words
+
+
 def add_load(word: argparse.ArgumentParser) -> None:
     """The options that say what is driven."""
     add = word.add_argument
@@ -128,13 +134,12 @@ def job_of(words: argparse.Namespace) -> drive.Job:
     calls = USUAL_CALLS if words.calls is None and words.seconds is None else words.calls
     context = tls.toward_server(words.cert, words.key, words.ca)
     return drive.Job(words.server, context, mixes.find(words.mix), wire.read_version(words.kmip), words.clients, calls,
-                     words.seconds, words.seed, words.patience, words.pause, words.kmip == "2.0", Cuts(shares))
+                     words.seconds, words.seed, words.patience, words.pause, Cuts(shares))
 
 
 def _add_drive(word: argparse.ArgumentParser) -> None:
     add_load(word)
-    word.add_argument("--out", type=Path, metavar="FOLDER", help="record into a new folder: transcript.ttlv, and a "
-                      "declaration that the server was empty")
+    word.add_argument("--out", type=Path, metavar="FOLDER", help="record into a new folder, as transcript.ttlv")
     word.set_defaults(run=_drive)
 
 
@@ -214,7 +219,7 @@ def _add_audit(word: argparse.ArgumentParser) -> None:
     word.add_argument("--out", type=Path, required=True, metavar="FOLDER", help="a new folder for all files")
     word.add_argument("--empty", action="store_true", help="the server holds nothing, and need not be asked")
     word.add_argument("--unique-names", action="store_true", help="declare that live objects never share a name")
-    word.add_argument("--reason", action="append", default=[], metavar="NUMBER=CAUSE",
+    word.add_argument("--reason", type=_row, action="append", default=[], metavar="NUMBER=CAUSE",
                       help="a Result Reason that is given only for NotFound, WrongState or TakenName")
     _add_auditor(word, 1_000_000)
     word.set_defaults(run=_audit)

@@ -40,7 +40,7 @@ class UndoLeavesAnObject(Fault):
 class UndoForgotten(Fault):
     """A batch under Undo fails, says that its items are undone, and undoes nothing."""
 
-    mix = "batches"
+    mix = "everything"
     rate_usual = 1.0
 
     def batch(self, request: Request, call: Call) -> List[Answer]:

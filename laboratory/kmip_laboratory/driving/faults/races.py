@@ -9,7 +9,7 @@ from typing import Dict, List, Optional
 
 from ..engine import Call
 from ..messages import Answer, Ask, Name, Request, Response
-from ..numbers import COMPROMISES, Operation, Status
+from ..numbers import COMPROMISES, Operation, Option, Status
 from ..store import Thing
 from .base import Fault
 
@@ -95,7 +95,7 @@ class MixedBatches(Fault):
 
     def answer(self, request: Request, session: Dict[str, Optional[str]]) -> Response:
         with self.lock:
-            torn = len(request.asks) > 1 and self.strikes()
+            torn = len(request.asks) > 1 and request.option is not Option.UNDO and self.strikes()
         if not torn:
             return super().answer(request, session)
         call = Call(0, request, session=session)
@@ -104,6 +104,8 @@ class MixedBatches(Fault):
             with self.lock:
                 call.now = self.clock.now()
                 answers.append(self.item(ask, call))
+            if answers[-1].status is Status.FAILED and request.option is not Option.CONTINUE:
+                break
             time.sleep(SECONDS_OF_RACE / 4)
         return Response(request.version, self.stamp(call), tuple(answers))
 
