@@ -5,7 +5,6 @@ from __future__ import annotations
 import hashlib
 import html.parser
 import json
-import os
 import re
 import shutil
 import subprocess
@@ -30,7 +29,7 @@ CHROMIUM = shutil.which("chromium")
 STRANGE = ["<script>alert(1)</script>", "\"'></pre><b>", "</script><img src=x onerror=alert(1)>", "&lt;i&gt;", "]]>"]
 KEY = bytes(range(200, 216))
 DRIVER = """<script>
-const bars = document.querySelectorAll('rect.bar'), panel = document.querySelector('.details'), seen = [bars.length];
+const bars = document.querySelectorAll('rect[data-call]'), panel = document.querySelector('.details'), seen = [bars.length];
 bars[0].dispatchEvent(new MouseEvent('click', { bubbles: true }));
 seen.push(panel.querySelector('h3').textContent);
 const box = document.querySelector('.lanes');
@@ -153,9 +152,9 @@ class Report(unittest.TestCase):
 
     def test_bad_words_and_what_is_there(self) -> None:
         self.out.write_text("mine")
-        for words, status, told in ((["nowhere"], 1, "has no transcript.ttlv in it"),
-                                    ([EXAMPLES / "query"], 1, "is there already"), ([], 64, "RECORDING")):
-            done = report(self.out, *words)
+        for words, status, told in (([self.folder / "new", "nowhere"], 1, "has no transcript.ttlv in it"),
+                                    ([self.out, EXAMPLES / "query"], 1, "is there already"), ([self.out], 64, "RECORDING")):
+            done = report(*words)
             self.assertEqual(done.returncode, status)
             self.assertIn(told, done.stderr)
         self.assertEqual(self.out.read_text(), "mine")
@@ -178,7 +177,7 @@ class Report(unittest.TestCase):
         self.page(self.strange())
         dom, said = self.browse(self.out)
         self.assertEqual([line for line in said.splitlines() if "CONSOLE" in line], [])
-        self.assertEqual(len(re.findall(r'<rect class="bar ', dom)), len(STRANGE) + 1)
+        self.assertEqual(len(re.findall(r'<rect [^>]*data-call=', dom)), len(STRANGE) + 1)
         self.assertIn("Call 6: Get", dom, "it opens at the verdict's call")
         driven = self.folder / "driven.html"
         text = re.sub(r'<meta http-equiv="Content-Security-Policy"[^>]*>', "", self.out.read_text(encoding="utf-8"))
