@@ -97,12 +97,14 @@ class Blind(unittest.TestCase):
         for folder in folders():
             sources = [folder / name for name in NAMES]
             before = verdict("check", *sources)
-            searched = verdict("search", *sources[:2], self.folder / "found")
+            searches = (folder / "search").exists() or folder.parent.name == "recorded"
+            searched = verdict("search", *sources[:2], self.folder / "found") if searches else None
             for more in ([], ["--names", "--identifiers"]):
                 with self.subTest(folder.name, more=more):
                     targets = self.blinded(sources, *more)
                     self.assertEqual(verdict("check", *targets), before)
-                    self.assertEqual(verdict("search", *targets[:2], self.folder / "again"), searched)
+                    if searches:
+                        self.assertEqual(verdict("search", *targets[:2], self.folder / "again"), searched)
 
     def test_no_window_of_a_key_is_left(self) -> None:
         seen = 0

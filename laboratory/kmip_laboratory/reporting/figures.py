@@ -2,6 +2,7 @@
 
 from __future__ import annotations
 
+import re
 from typing import Dict, List, Tuple
 
 from ..calls import Call
@@ -15,7 +16,7 @@ def figures(judged: Judged, recording: int, lines: Dict[str, int]) -> Dict[str, 
     calls = judged.calls
     marks = {place: rank for rank, place in enumerate(sorted(_places(calls)))}
     lanes, lane_of = _lanes(calls)
-    clients = sorted({call.client for call in calls})
+    clients = sorted({call.client for call in calls}, key=_natural)
     does = sorted(set(map(operations, calls)))
     numbers = [lines.setdefault(line, len(lines)) for line in judged.messages.lines]
     shown = [judged.messages.of_call.get(call.number, ([], [])) for call in calls]
@@ -30,6 +31,11 @@ def figures(judged: Judged, recording: int, lines: Dict[str, int]) -> Dict[str, 
         "request": [[numbers[line] for line in request] for request, _ in shown],
         "response": [[numbers[line] for line in response] for _, response in shown],
     }
+
+
+def _natural(name: str) -> List[Tuple[str, int]]:
+    """By which names are sorted: their numbers by what they count."""
+    return [(words, int(digits) if digits.isdecimal() else 0) for words, digits in re.findall(r"(\D*)(\d*)", name)]
 
 
 def _places(calls: List[Call]) -> List[int]:
@@ -48,7 +54,7 @@ def _lanes(calls: List[Call]) -> Tuple[List[str], Dict[int, int]]:
         within[call.number] = row
     lanes: List[str] = []
     first: Dict[str, int] = {}
-    for client in sorted(free):
+    for client in sorted(free, key=_natural):
         first[client] = len(lanes)
         lanes += [client] * len(free[client])
     return lanes, {call.number: first[call.client] + within[call.number] for call in calls}

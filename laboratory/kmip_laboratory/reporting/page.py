@@ -39,7 +39,7 @@ def page(recordings: List[Judged], made: datetime) -> str:
     parts = [element("h1", _title(recordings)), _made(recordings, made)]
     if len(recordings) > 1:
         parts.append(_overview(recordings))
-    parts += [_recording(judged, number) for number, judged in enumerate(recordings, 1)]
+    parts += [_recording(judged, number, judged.folder if len(recordings) > 1 else "Verdict") for number, judged in enumerate(recordings, 1)]
     parts.append(data({"lines": list(lines), "recordings": told}, "data"))
     parts += [element("script", Markup(script)) for script in scripts]
     return "<!DOCTYPE html>\n" + element("html", head, element("body", element("main", together(parts))), lang="en") + "\n"
@@ -80,10 +80,10 @@ def _overview(recordings: List[Judged]) -> Markup:
         element("h2", "By verdict"), table(["Verdict", "Recordings"], reasons, 1)])
 
 
-def _recording(judged: Judged, number: int) -> Markup:
+def _recording(judged: Judged, number: int, heading: str) -> Markup:
     outcome = judged.verdict.outcome.value.replace(" ", "-")
     parts = [
-        element("h2", judged.folder),
+        element("h2", heading),
         element("div", element("p", in_words(judged.verdict)), element("pre", "\n".join(judged.verdict.lines)),
                 of=f"verdict {outcome}")]
     refused = judged.refused()

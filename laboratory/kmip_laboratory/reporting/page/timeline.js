@@ -32,6 +32,7 @@ class Timeline {
     this.place = new Map(data.number.map((number, index) => [number, index]));
     this.fault = this.place.has(data.fault) ? this.place.get(data.fault) : -1;
     this.story = new Set(data.story.map(number => this.place.get(number)));
+    for (const svg of [this.overview, this.rows]) svg.setAttribute('preserveAspectRatio', 'none');
     this.listen(root);
     this.start();
     new ResizeObserver(() => this.draw()).observe(this.box);
@@ -139,13 +140,15 @@ class Timeline {
     if (right < LABEL) return;
     const names = ['bar', kind];
     if (this.story.has(index) && index !== this.fault) names.push('story');
-    if (index === this.chosen) names.push('chosen');
     const rect = drawn('rect', { class: names.join(' '), x: left, y, width, height: BAR, rx: 2, 'data-call': index,
       role: 'option', id: this.name(index), 'aria-label': this.label(index),
       'aria-selected': index === this.chosen ? 'true' : 'false' });
     rect.append(drawn('title', {}, this.label(index)));
     this.rows.append(rect);
-    if (kind === 'open') this.rows.append(drawn('path', { class: 'flag', d: `M${left + width - 9} ${y + 3}l6 6l-6 6z` }));
+    if (index === this.chosen) {
+      this.rows.append(drawn('rect', { class: 'chosen', x: left - 3, y: y - 3, width: width + 6, height: BAR + 6, rx: 3 }));
+    }
+    if (kind === 'open') this.rows.append(drawn('path', { class: 'break', d: `M${left + width - 9} ${y + 3}l6 6l-6 6z` }));
     if (index === this.fault) this.rows.append(drawn('path', { class: 'flag', d: `M${left - 1} ${y - 4}h10l-5 6z` }));
     const turn = data.turn[index];
     if (turn && width > 8 + 7 * String(turn).length) {

@@ -1,0 +1,201 @@
+"""kmip_report: what it says is what the auditor said, texts stay texts, and a browser shows it."""
+
+from __future__ import annotations
+
+import hashlib
+import html.parser
+import json
+import re
+import shutil
+import subprocess
+import sys
+import tempfile
+import unittest
+from pathlib import Path
+from typing import Dict, List, Optional, Tuple
+from xml.etree import ElementTree
+
+import messages
+import sessions
+from laboratory import FOLDER
+from test_blind import shown_key
+
+from kmip_laboratory.auditor import Outcome, read_verdict
+from kmip_laboratory.recording.order import witness
+from kmip_laboratory.transcript import TranscriptWriter
+
+EXAMPLES = FOLDER.parent / "examples"
+CHROMIUM = shutil.which("chromium")
+STRANGE = ["<script>alert(1)</script>", "\"'></pre><b>", "</script><img src=x onerror=alert(1)>", "&lt;i&gt;", "]]>"]
+KEY = bytes(range(200, 216))
+DRIVER = """<script>
+const bars = document.querySelectorAll('rect[data-call]'), panel = document.querySelector('.details'), seen = [bars.length];
+bars[0].dispatchEvent(new MouseEvent('click', { bubbles: true }));
+seen.push(panel.querySelector('h3').textContent);
+const box = document.querySelector('.lanes');
+for (const key of ['ArrowRight', 'End', 'f', '+', '-', '0', 'PageUp', 'PageDown', 'Home', 'ArrowDown', 'ArrowUp']) {
+  box.dispatchEvent(new KeyboardEvent('keydown', { key, bubbles: true, cancelable: true }));
+  seen.push(panel.querySelector('h3').textContent);
+}
+for (const button of document.querySelectorAll('.tools button')) button.click();
+document.body.append(Object.assign(document.createElement('output'), { id: 'seen', textContent: JSON.stringify(seen) }));
+</script>"""
+
+
+class Page(html.parser.HTMLParser):
+    """The elements of a page, and the data in it."""
+
+    def __init__(self, text: str) -> None:
+        super().__init__()
+        self.tags: List[str] = []
+        self.attributes: Dict[str, List[Dict[str, Optional[str]]]] = {}
+        self.texts: List[str] = []
+        self.feed(text)
+        found = re.search(r'<script type="application/json" id="data">(.*?)</script>', text, re.DOTALL)
+        self.data = json.loads(found.group(1)) if found else {}
+
+    def handle_starttag(self, tag: str, attrs: List[Tuple[str, Optional[str]]]) -> None:
+        self.tags.append(tag)
+        self.attributes.setdefault(tag, []).append(dict(attrs))
+
+    def handle_data(self, data: str) -> None:
+        self.texts.append(data)
+
+
+def report(*words: object) -> subprocess.CompletedProcess[str]:
+    """Runs kmip_report with these words."""
+    return subprocess.run([sys.executable, str(FOLDER / "kmip_report"), *map(str, words)], capture_output=True, text=True,
+                          timeout=120, check=False)
+
+
+class Report(unittest.TestCase):
+    """Each test has a folder of its own."""
+
+    def setUp(self) -> None:
+        made = tempfile.TemporaryDirectory(prefix="report-")
+        self.addCleanup(made.cleanup)
+        self.folder = Path(made.name)
+        self.out = self.folder / "out.html"
+
+    def page(self, *words: object) -> Page:
+        """The page that is made at these words."""
+        done = report(self.out, *words)
+        self.assertEqual(done.returncode, 0, done.stderr)
+        return Page(self.out.read_text(encoding="utf-8"))
+
+    def strange(self) -> Path:
+        """A recording in which every text is strange, and a key is shown."""
+        folder = self.folder / "<i>strange & \"folder\""
+        folder.mkdir()
+        with TranscriptWriter(str(folder / "transcript.ttlv")) as writer:
+            for text in STRANGE:
+                writer.end(writer.begin(text, messages.get(text)), messages.not_found(9, text=text))
+            number = writer.begin(STRANGE[0], messages.get(STRANGE[0]))
+            writer.end(number, shown_key(STRANGE[0], KEY))
+        (folder / "declaration.ttlv").write_bytes(sessions.declaration())
+        (folder / "witness.ttlv").write_bytes(witness([*range(1, len(STRANGE) + 2)]))
+        return folder
+
+    def test_the_lines_the_digests_and_the_command(self) -> None:
+        folder = EXAMPLES / "recorded" / "register_get_other_byte"
+        page = self.page(folder)
+        told = "".join(page.texts)
+        self.assertIn((folder / "line").read_text().strip(), told)
+        for name in ("transcript.ttlv", "declaration.ttlv", "witness.ttlv"):
+            self.assertIn(hashlib.sha256((folder / name).read_bytes()).hexdigest(), told)
+        files = " ".join(str(folder / name) for name in ("transcript.ttlv", "declaration.ttlv", "witness.ttlv"))
+        self.assertIn(f"$ kmip_audit check {files}\n", told)
+        (data,) = page.data["recordings"]
+        self.assertEqual((data["fault"], len(data["number"]), data["turn"][:3]), (53, 86, [1, 2, 3]))
+        self.assertIn(7, data["story"], "the call that registered the key which was shown")
+
+    def test_texts_stay_texts_and_keys_are_hidden(self) -> None:
+        page = self.page(self.strange())
+        self.assertEqual(page.tags.count("script"), 3, "the page's own")
+        self.assertFalse({"b", "i", "img"} & set(page.tags))
+        written = self.out.read_text(encoding="utf-8")
+        for key in (KEY.hex(), KEY.hex().upper(), "(bytes"):
+            self.assertNotIn(key, written)
+        self.assertIn("420043 Key Material Bytes (16 bytes, hidden)", "\n".join(page.data["lines"]))
+        self.assertEqual(set(page.data["recordings"][0]["clients"]), set(STRANGE))
+
+    def test_the_page_needs_nothing_else(self) -> None:
+        page = self.page(EXAMPLES / "register_then_get")
+        for attributes in (found for every in page.attributes.values() for found in every):
+            self.assertFalse({"src", "srcset", "action"} & set(attributes))
+            self.assertTrue((attributes.get("href") or "#").startswith("#"))
+        policy = [found["content"] or "" for found in page.attributes["meta"] if "http-equiv" in found]
+        self.assertTrue(policy[0].startswith("default-src 'none';"))
+
+    def test_many_recordings_and_junit(self) -> None:
+        names = ["register_then_get", "destroy_twice", "outside_version", "torn_transcript"]
+        for name in names:
+            shutil.copytree(EXAMPLES / name, self.folder / "all" / name)
+        (self.folder / "all" / names[0] / "witness.ttlv").unlink()
+        page = self.page(self.folder / "all", "--junit", self.folder / "junit.xml", "--jobs", 2)
+        links = [found["href"] for found in page.attributes["a"]]
+        self.assertEqual(links, [f"#recording-{number}" for number in (1, 2, 3, 4)])
+        self.assertIn("no: 6 WrongState", page.texts)
+        suite = ElementTree.parse(self.folder / "junit.xml").getroot()
+        self.assertEqual([suite.get(name) for name in ("tests", "failures", "errors")], ["4", "1", "2"])
+        ends = {Path(case.get("name") or "").name: [child.tag for child in case] for case in suite}
+        self.assertEqual(ends, {"destroy_twice": ["failure"], "outside_version": ["error"], "register_then_get": [],
+                                "torn_transcript": ["error"]})
+
+    def test_text_of_eighty_columns(self) -> None:
+        folder = EXAMPLES / "destroy_twice"
+        done = report("-", folder, "--text")
+        self.assertIn((folder / "line").read_text().strip(), done.stdout)
+        drawn = [line for line in done.stdout.splitlines() if "|" in line]
+        self.assertEqual([line[0] for line in drawn], [" ", ">"])
+        self.assertLessEqual(max(map(len, drawn)), 80)
+
+    def test_bad_words_and_what_is_there(self) -> None:
+        self.out.write_text("mine")
+        for words, status, told in (([self.folder / "new", "nowhere"], 1, "has no transcript.ttlv in it"),
+                                    ([self.out, EXAMPLES / "query"], 1, "is there already"), ([self.out], 64, "RECORDING")):
+            done = report(*words)
+            self.assertEqual(done.returncode, status)
+            self.assertIn(told, done.stderr)
+        self.assertEqual(self.out.read_text(), "mine")
+        self.assertEqual(report(self.out, EXAMPLES / "query", "--force").returncode, 0)
+        self.assertTrue(self.out.read_text().startswith("<!DOCTYPE html>"))
+
+    def test_each_printed_line_is_read(self) -> None:
+        for line, outcome, number in (("yes", Outcome.YES, None), ("yes: 86 steps", Outcome.YES, None),
+                                      ("gave up: 2 steps", Outcome.GAVE_UP, None), ("device", Outcome.DEVICE, None),
+                                      ("witness: at 2 kind 3 LeftOut", Outcome.WITNESS, 3),
+                                      ("malformed: transcript offset 9 kind 1 Ttlv Truncated", Outcome.MALFORMED, 1)):
+            verdict = read_verdict(line + "\n", 0)
+            self.assertEqual((verdict and verdict.outcome, verdict and verdict.number), (outcome, number))
+        for path in EXAMPLES.glob("*/line"):
+            self.assertIsNotNone(read_verdict(path.read_text(), 0), path)
+        self.assertIsNone(read_verdict("no: turn 1\n", 1))
+
+    @unittest.skipUnless(CHROMIUM, "needs Debian's chromium")
+    def test_a_browser_shows_it(self) -> None:
+        self.page(self.strange())
+        dom, said = self.browse(self.out)
+        self.assertEqual([line for line in said.splitlines() if "CONSOLE" in line], [])
+        self.assertEqual(len(re.findall(r'<rect [^>]*data-call=', dom)), len(STRANGE) + 1)
+        self.assertIn("Call 6: Get", dom, "it opens at the verdict's call")
+        driven = self.folder / "driven.html"
+        text = re.sub(r'<meta http-equiv="Content-Security-Policy"[^>]*>', "", self.out.read_text(encoding="utf-8"))
+        driven.write_text(text.replace("</body>", DRIVER + "</body>"), encoding="utf-8")
+        dom, said = self.browse(driven)
+        self.assertEqual([line for line in said.splitlines() if "CONSOLE" in line], [])
+        found = re.search(r'<output id="seen">(.*?)</output>', dom)
+        self.assertIsNotNone(found, "no script broke off")
+        self.assertEqual(json.loads(found.group(1))[:5], [6, "Call 1: Get", "Call 2: Get", "Call 6: Get", "Call 6: Get"])
+
+    def browse(self, page: Path) -> Tuple[str, str]:
+        """What a browser makes of a page, and what it says."""
+        done = subprocess.run(
+            [CHROMIUM, "--headless=new", "--no-sandbox", "--disable-gpu", "--enable-logging=stderr", "--v=0",
+             "--virtual-time-budget=2000", f"--user-data-dir={self.folder / 'browser'}", "--dump-dom", page.as_uri()],
+            capture_output=True, text=True, timeout=90, check=False)
+        return done.stdout, done.stderr
+
+
+if __name__ == "__main__":
+    unittest.main()
