@@ -180,10 +180,9 @@ def _record(file: BinaryIO, front: bytes, path: str, place: int) -> bytes:
 def _mark_of(record: bytes, begun: Dict[int, bool], path: str, place: int) -> Mark:
     """The mark that a record is. `begun` has the calls that began, and whether they ended."""
     try:
-        item = ttlv.read_item(record)
+        mark = _read_mark(record)
     except ttlv.NotTtlv as fault:
         raise Trouble(f"{path} has no record at offset {place}: {fault}; it is no transcript, or was damaged") from None
-    mark = _read_mark(item)
     if mark is None:
         raise Trouble(f"{path} has a record that is no mark at offset {place}; it is no transcript, or was damaged")
     if isinstance(mark, Begin) == (mark.call in begun) or begun.get(mark.call, False):
@@ -193,12 +192,16 @@ def _mark_of(record: bytes, begun: Dict[int, bool], path: str, place: int) -> Ma
     return mark
 
 
-def _read_mark(record: ttlv.Item) -> Optional[Mark]:
-    call = record.first(CALL, Kind.INTEGER)
-    client = record.first(CLIENT, Kind.TEXT)
-    message = record.first(MESSAGE, Kind.BYTES)
-    if record.tag == BEGIN_MARK and call and client and message:
-        return Begin(call.value, client.value, message.value)
-    if record.tag == END_MARK and call and message:
-        return End(call.value, message.value)
-    return None
+def _read_mark(record: bytes) -> Optional[Mark]:
+    """The mark that a record is, read by its headers alone, since there are many of them."""
+    tag, _, start, length = next(ttlv.headers_in(record, 0, len(record)))
+    values = {(tag, kind): record[place:place + size] for tag, kind, place, size in
+              ttlv.headers_in(record, start, start + length)}
+    call, message = values.get((CALL, Kind.INTEGER)), values.get((MESSAGE, Kind.BYTES))
+    client = values.get((CLIENT, Kind.TEXT))
+    if call is None or message is None or len(call) != 4:
+        return None
+    number = int.from_bytes(call, "big", signed=True)
+    if tag == BEGIN_MARK and client is not None:
+        return Begin(number, client.decode("utf-8", "replace"), message)
+    return End(number, message) if tag == END_MARK else None

@@ -18,6 +18,7 @@ from .payloads import REQUESTS, RESPONSES, needing_work
 
 # Up to this version a batch that does not say whether its order counts was one whose order does not.
 LAST_WITHOUT_ORDER = Version(1, 2)
+MAJOR, MINOR = Tag.PROTOCOL_VERSION_MAJOR.value, Tag.PROTOCOL_VERSION_MINOR.value
 
 
 class Translator:
@@ -75,20 +76,21 @@ def _translated(message: bytes, side: Side, seen: Glimpse, operations: List[int]
 
 def _with_judged_version(message: bytes, side: Side) -> bytes:
     """The message with 2.1 in its header, and nothing else changed."""
+    start, stop = _value(message, (side.message_tag, side.header_tag, Tag.PROTOCOL_VERSION))
     made = bytearray(message)
-    for path_tag, number in ((Tag.PROTOCOL_VERSION_MAJOR, JUDGED.major), (Tag.PROTOCOL_VERSION_MINOR, JUDGED.minor)):
-        place = _place(message, (side.message_tag, side.header_tag, Tag.PROTOCOL_VERSION, path_tag))
+    for tag, number in ((MAJOR, JUDGED.major), (MINOR, JUDGED.minor)):
+        place = next(place for each, _, place, _ in ttlv.headers_in(message, start, stop) if each == tag)
         made[place:place + 4] = number.to_bytes(4, "big")
     return bytes(made)
 
 
-def _place(message: bytes, path: tuple[int, ...]) -> int:
-    """Where the value stands to which this path of tags leads; it was seen that it is there."""
+def _value(message: bytes, path: tuple[int, ...]) -> tuple[int, int]:
+    """Where the value stands to which this path of tags leads, from and up to; it was seen that it is there."""
     start, stop = 0, len(message)
     for tag in path:
         start, stop = next((place, place + length) for each, _, place, length in
                            ttlv.headers_in(message, start, stop) if each == tag)
-    return start
+    return start, stop
 
 
 def _batch_item(item: Item, operations: List[int], place: int, table: Dict[int, Callable[[Item, str, Lost], Item]],
