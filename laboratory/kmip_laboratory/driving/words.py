@@ -19,6 +19,8 @@ from .record import recording
 
 DONE, TROUBLE, USAGE = 0, 1, 64
 USUAL_CALLS = 1000
+OPTIONS = {Cut.BEFORE_SENDING: "--cut-before-sending", Cut.IN_REQUEST: "--cut-in-request", Cut.END: "--end",
+           Cut.AFTER_SENDING: "--cut-after-sending", Cut.IN_ANSWER: "--cut-in-answer", Cut.SLOW: "--slow"}
 
 
 class Parser(argparse.ArgumentParser):
@@ -120,8 +122,7 @@ def add_load(word: argparse.ArgumentParser) -> None:
     add("--patience", type=_seconds, default=30, metavar="S", help="seconds that a client waits for an answer (30)")
     add("--pause", type=_pause, default=0.0, metavar="S", help="mean seconds between the calls of a client (0)")
     for cut in Cut:
-        option = "end" if cut is Cut.END else "slow" if cut is Cut.SLOW else cut.value.replace(" ", "-").replace("-the", "")
-        add(f"--{option}", type=_share, default=0.0, metavar="P", dest=cut.name, help=HELP[cut])
+        add(OPTIONS[cut], type=_share, default=0.0, metavar="P", dest=cut.name, help=HELP[cut])
 
 
 def job_of(words: argparse.Namespace) -> drive.Job:
