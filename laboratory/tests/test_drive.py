@@ -165,6 +165,9 @@ class OnTheWire(Laboratory):
             with self.subTest(words=words):
                 self.assertEqual((done.returncode, done.stdout, done.stderr.count("\n")), (1, "", 1), done.stderr)
                 self.assertIn(told, done.stderr)
+        audited = self.drive(1, "--out", self.folder / "none", "--empty", "--auditor", AUDITOR, word="audit")
+        self.assertEqual((audited.returncode, audited.stderr.count("\n")), (3, 1), audited.stderr)
+        self.assertFalse((self.folder / "none").exists(), "so that the same words serve again")
         wrong = driven("simulate", "--cert", "a", "--key", "b", "--ca", "c", "--fault", "none")
         self.assertEqual((wrong.returncode, wrong.stderr), (
             1, "kmip_drive: there is no fault 'none': `kmip_drive faults` lists them\n"))
