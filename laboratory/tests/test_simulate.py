@@ -126,7 +126,8 @@ class Rules(unittest.TestCase):
         identifier = named.identifiers[0]
         by_name = Attribute(Tag.NAME, Name("n"))
         for filters, maximum, listed in (
-                ((by_name,), None, {"k", identifier}), ((by_name,), 1, {identifier}), ((by_name,), 0, {"k", identifier}),
+                ((by_name,), None, {"k", identifier}), ((by_name,), 1, {identifier}),
+                ((by_name,), 0, {"k", identifier}),
                 ((by_name, Attribute(Tag.STATE, State.ACTIVE)), None, {"k"}),
                 ((Attribute(Tag.OBJECT_TYPE, 7),), None, {identifier}),
                 ((Attribute(Tag.CRYPTOGRAPHIC_LENGTH, 128),), None, {"k"}),

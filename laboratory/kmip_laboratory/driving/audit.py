@@ -10,7 +10,7 @@ from typing import Callable, List
 
 from ..trouble import Trouble
 from . import record
-from .auditor import DECLARATION, TRANSCRIPT, WITNESS, Auditor
+from .auditor import DECLARATION, WITNESS, Auditor
 from .decide import Decision, decide, why_of, write_part
 from .drive import Job, drive
 
@@ -61,7 +61,8 @@ def explained(folder: Path, decision: Decision, auditor: Auditor) -> List[str]:
         (folder / PART).mkdir()
         write_part(folder, folder / PART, set(decision.part))
         numbers = ", ".join(map(str, sorted(decision.part)))
-        lines += [f"already these {len(decision.part)} calls can't be explained: {numbers}; they are in {folder / PART}",
+        lines += [f"already these {len(decision.part)} calls can't be explained: {numbers}; they are in "
+                  f"{folder / PART}",
                   f"in the order of their answers: {why_of(folder / PART, auditor)}"]
     elif decision.why:
         lines.append(f"in the order of the answers: {decision.why}")

@@ -1,4 +1,4 @@
-"""What befalls a call on a client's side: a connection that is cut, an answer that is read slowly, a client that ends."""
+"""What befalls a call on a client's side: a connection that is cut, a slow reader, a client that ends."""
 
 from __future__ import annotations
 

@@ -1,4 +1,4 @@
-"""What all clients know together: identifiers that answers told, which of them are hot or gone, and the server's second."""
+"""What all clients know together: identifiers that answers told, which of them are gone, and the server's second."""
 
 from __future__ import annotations
 

@@ -5,7 +5,7 @@ from __future__ import annotations
 from dataclasses import dataclass
 from typing import NamedTuple, Optional, Tuple, Union
 
-from .numbers import Operation, Option, Reason, Status, Tag
+from .numbers import Option, Reason, Status, Tag
 
 Version = Tuple[int, int]
 

@@ -2,6 +2,7 @@
 
 from __future__ import annotations
 
+import shutil
 from contextlib import contextmanager
 from pathlib import Path
 from typing import Callable, Iterator, List
@@ -17,7 +18,7 @@ from .messages import Version
 
 @contextmanager
 def recording(folder: Path, version: Version, tell: Callable[[str], None]) -> Iterator[TranscriptWriter]:
-    """A transcript in a new folder, beside a declaration that the server was empty."""
+    """A transcript in a new folder, which is not left there where no call was recorded."""
     try:
         folder.mkdir(parents=True)
     except FileExistsError:
@@ -28,7 +29,12 @@ def recording(folder: Path, version: Version, tell: Callable[[str], None]) -> It
         tell(f"version {version[0]}.{version[1]} is written as 2.1 in the transcript: what is judged then is not quite "
              "what was said")
     with TranscriptWriter(str(folder / TRANSCRIPT)) as transcript:
-        yield transcript
+        try:
+            yield transcript
+        except BaseException:
+            if transcript.calls == 0:
+                shutil.rmtree(folder)
+            raise
 
 
 def declare(folder: Path, unique_names: bool, rows: List[str]) -> None:

@@ -23,8 +23,8 @@ CHANGES = (*MAKES, Operation.ACTIVATE, Operation.REVOKE, Operation.DESTROY)
 
 @dataclass(frozen=True)
 class Recorded:
-    """A call that has ended, with the places of its marks among all. `names` are those that it gives or looks for, `made` those of each object that it made;
-    `everything` says that what it tells depends on all objects."""
+    """A call that has ended, with the places of its marks among all. `names` are those that it gives or looks for,
+    `made` those of each object that it made; `everything` says that what it tells depends on all objects."""
 
     begin: Begin
     end: End
@@ -74,7 +74,8 @@ def _recorded(begin: Begin, end: End, places: Tuple[int, int]) -> Recorded:
             made.setdefault(answer.identifiers[0], set()).update(given)
     looks = [ask for ask in request.asks if ask.operation == Operation.LOCATE]
     everything = any(all(each.tag is not Tag.NAME for each in ask.attributes) for ask in looks)
-    return Recorded(begin, end, places, request, response, objects, names, made, _changes(request, response), everything)
+    return Recorded(begin, end, places, request, response, objects, names, made, _changes(request, response),
+                    everything)
 
 
 def _objects(ask: Ask, answer: Answer) -> Iterator[str]:

@@ -18,7 +18,11 @@ from .faults import FAULTS, description
 from .record import recording
 
 DONE, TROUBLE, USAGE = 0, 1, 64
+# At `audit` 1 says that no order explains the recording.
+TROUBLE_OF_AUDIT = 3
 USUAL_CALLS = 1000
+OPTIONS = {Cut.BEFORE_SENDING: "--cut-before-sending", Cut.IN_REQUEST: "--cut-in-request", Cut.END: "--end",
+           Cut.AFTER_SENDING: "--cut-after-sending", Cut.IN_ANSWER: "--cut-in-answer", Cut.SLOW: "--slow"}
 
 
 class Parser(argparse.ArgumentParser):
@@ -47,15 +51,16 @@ def main(arguments: List[str]) -> int:
         return words.run(words)
     except Trouble as trouble:
         tell(str(trouble))
-        return TROUBLE
+        return words.trouble
     except KeyboardInterrupt:
         tell("ended by Ctrl-C")
-        return TROUBLE
+        return words.trouble
 
 
 def _parser() -> Parser:
     parser = Parser(prog="kmip_drive", description="Makes a key server work hard, so that its faults show: see "
                     "docs/DRIVING.md. Options without a word are those of drive.")
+    parser.set_defaults(trouble=TROUBLE)
     words = parser.add_subparsers(required=True, metavar="WORD", parser_class=Parser)
     _add_drive(words.add_parser("drive", help="let clients make calls to a server at once"))
     _add_simulate(words.add_parser("simulate", help="be a key server, with faults that are asked for"))
@@ -120,8 +125,7 @@ def add_load(word: argparse.ArgumentParser) -> None:
     add("--patience", type=_seconds, default=30, metavar="S", help="seconds that a client waits for an answer (30)")
     add("--pause", type=_pause, default=0.0, metavar="S", help="mean seconds between the calls of a client (0)")
     for cut in Cut:
-        option = "end" if cut is Cut.END else "slow" if cut is Cut.SLOW else cut.value.replace(" ", "-").replace("-the", "")
-        add(f"--{option}", type=_share, default=0.0, metavar="P", dest=cut.name, help=HELP[cut])
+        add(OPTIONS[cut], type=_share, default=0.0, metavar="P", dest=cut.name, help=HELP[cut])
 
 
 def job_of(words: argparse.Namespace) -> drive.Job:
@@ -222,7 +226,7 @@ def _add_audit(word: argparse.ArgumentParser) -> None:
     word.add_argument("--reason", type=_row, action="append", default=[], metavar="NUMBER=CAUSE",
                       help="a Result Reason that is given only for NotFound, WrongState or TakenName")
     _add_auditor(word, 1_000_000)
-    word.set_defaults(run=_audit)
+    word.set_defaults(run=_audit, trouble=TROUBLE_OF_AUDIT)
 
 
 def _audit(words: argparse.Namespace) -> int:

@@ -3,22 +3,16 @@
 from __future__ import annotations
 
 from ..engine import Engine
-from ..store import Thing
 
 
 class Fault(Engine):
     """The docstring of a fault says what goes wrong.
 
-    `mix` is the mix in which it shows soonest, `rate` how often it comes about where it could, `unique_names` whether
-    the server says that names are unique, and `unseen` why no audit can see it, where none can.
+    `mix` is the mix in which it shows soonest, `rate_usual` how often it comes about where it could,
+    `unique_names_usual` whether names are declared unique, and `unseen` why no audit can see it, where none can.
     """
 
     mix = "everything"
     rate_usual = 0.2
     unique_names_usual = False
     unseen = ""
-
-
-def is_key(thing: Thing) -> bool:
-    """Whether it is an object with bytes of an AES key."""
-    return thing.length is not None

@@ -6,7 +6,7 @@ from dataclasses import replace
 from typing import Dict, List, Tuple
 
 from ..engine import Call
-from ..messages import Answer, Ask, Refused
+from ..messages import Answer, Ask, Refused, Request
 from ..numbers import ObjectType, Reason, State
 from ..store import Thing
 from .base import Fault
@@ -97,7 +97,7 @@ class LateDestroy(Fault):
         super().__init__(*words, **more)
         self._waiting: List[Tuple[int, Ask, Call]] = []
 
-    def batch(self, request, call):  # type: ignore[no-untyped-def]
+    def batch(self, request: Request, call: Call) -> List[Answer]:
         due = [each for each in self._waiting if each[0] <= 0]
         self._waiting = [(left - 1, ask, when) for left, ask, when in self._waiting if left > 0]
         for _, ask, when in due:

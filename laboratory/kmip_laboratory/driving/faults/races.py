@@ -5,7 +5,7 @@ from __future__ import annotations
 import threading
 import time
 from dataclasses import replace
-from typing import Dict, List, Optional
+from typing import Dict, List, Optional, Tuple
 
 from ..engine import Call
 from ..messages import Answer, Ask, Name, Request, Response
@@ -60,7 +60,7 @@ class RacingNames(Fault):
             finally:
                 session.pop("free", None)
 
-    def is_taken(self, names: tuple, call: Call) -> bool:
+    def is_taken(self, names: Tuple[Name, ...], call: Call) -> bool:
         return call.session.get("free") is None and super().is_taken(names, call)
 
 

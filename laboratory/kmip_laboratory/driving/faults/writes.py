@@ -3,10 +3,10 @@
 from __future__ import annotations
 
 from dataclasses import replace
-from typing import List
+from typing import List, Tuple
 
 from ..engine import Call
-from ..messages import Answer, Ask, Material, Refused
+from ..messages import Answer, Ask, Material, Name, Refused
 from ..numbers import COMPROMISES, ObjectType, Reason, State
 from ..store import Thing
 from .base import Fault
@@ -153,7 +153,7 @@ class NamesTwice(Fault):
     unique_names_usual = True
     rate_usual = 1.0
 
-    def is_taken(self, names: tuple, call: Call) -> bool:
+    def is_taken(self, names: Tuple[Name, ...], call: Call) -> bool:
         newest: List[Thing] = self.store.live()[:3]
         taken = any(name in thing.names for thing in newest for name in names)
         return taken or (super().is_taken(names, call) and not self.strikes())
