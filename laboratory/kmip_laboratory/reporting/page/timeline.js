@@ -185,9 +185,11 @@ class Timeline {
 
   order(found) {
     const path = found.filter(index => this.data.turn[index]).sort((a, b) => this.data.turn[a] - this.data.turn[b]);
+    let moment = 0;
     const points = path.map(index => {
-      const left = Math.max(LABEL, this.x(this.data.begin[index])), right = Math.min(this.width(), this.x(this.end(index)));
-      return `${((left + right) / 2).toFixed(1)},${this.data.lane[index] * ROW + 4 + BAR / 2}`;
+      moment = Math.max(moment, this.data.begin[index]);
+      const x = this.x(Math.min(moment + 0.5, this.end(index)));
+      return `${x.toFixed(1)},${this.data.lane[index] * ROW + 4 + BAR / 2}`;
     });
     this.rows.append(drawn('polyline', { class: 'order', points: points.join(' ') }));
   }
