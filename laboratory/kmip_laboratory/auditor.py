@@ -90,8 +90,8 @@ class Auditor:
     def show_each(self, path: str, *words: str) -> Iterator[str]:
         """The lines of a file's items, one after the other."""
         try:
-            with subprocess.Popen([self.program, "show", path, *words], stdin=subprocess.DEVNULL, stdout=subprocess.PIPE,
-                                  text=True, errors="replace") as running:
+            with subprocess.Popen([self.program, "show", path, *words], stdin=subprocess.DEVNULL,
+                                  stdout=subprocess.PIPE, text=True, errors="replace") as running:
                 for line in running.stdout or ():
                     yield line.rstrip("\n")
         except OSError as error:

@@ -104,7 +104,8 @@ def read_transcript(path: str) -> Transcript:
         if record.item.tag == File.TRANSCRIPT:
             header += record.spelled
         elif call is None or record.item.tag not in (BEGIN_MARK, END_MARK):
-            raise Trouble(f"{path} has no mark at offset {record.place}; `kmip_audit check` tells what is wrong with it")
+            raise Trouble(f"{path} has no mark at offset {record.place}; `kmip_audit check` tells what is wrong with "
+                          "it")
         else:
             marks = begins if record.item.tag == BEGIN_MARK else ends
             marks[call.value] = (record.place, record.spelled, record.item)

@@ -172,7 +172,8 @@ class Blind(unittest.TestCase):
         shown = shown_key("k", KEY)
         for told in (KEY.hex(), KEY.hex(":").upper(), "key ZWZnaGlqa2xtbm9wcXJz", KEY.decode("latin-1")):
             with self.subTest(told):
-                source = self.transcript((messages.get("k"), shown), (messages.get("k"), messages.not_found(9, text=told)))
+                source = self.transcript((messages.get("k"), shown),
+                                         (messages.get("k"), messages.not_found(9, text=told)))
                 (target,) = self.blinded([source])
                 self.assertIn(told.encode(), source.read_bytes())
                 self.assertNotIn(told.encode(), target.read_bytes())
@@ -223,7 +224,8 @@ def shown_key(identifier: str, key: bytes) -> bytes:
     block = messages.item(0x420040, 1, messages.number(0x420042, 5, 1) + value)
     payload = (messages.number(0x420057, 5, 2) + messages.item(0x420094, 7, identifier.encode())
                + messages.item(0x42008F, 1, block))
-    answered = messages.number(0x42005C, 5, 0x0A) + messages.number(0x42007F, 5, 0) + messages.item(0x42007C, 1, payload)
+    answered = (messages.number(0x42005C, 5, 0x0A) + messages.number(0x42007F, 5, 0)
+                + messages.item(0x42007C, 1, payload))
     return messages.item(0x42007B, 1, header + messages.item(0x42000F, 1, answered))
 
 

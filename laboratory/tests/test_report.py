@@ -29,7 +29,8 @@ CHROMIUM = shutil.which("chromium")
 STRANGE = ["<script>alert(1)</script>", "\"'></pre><b>", "</script><img src=x onerror=alert(1)>", "&lt;i&gt;", "]]>"]
 KEY = bytes(range(200, 216))
 DRIVER = """<script>
-const bars = document.querySelectorAll('rect[data-call]'), panel = document.querySelector('.details'), seen = [bars.length];
+const bars = document.querySelectorAll('rect[data-call]'), panel = document.querySelector('.details');
+const seen = [bars.length];
 bars[0].dispatchEvent(new MouseEvent('click', { bubbles: true }));
 seen.push(panel.querySelector('h3').textContent);
 const box = document.querySelector('.lanes');
@@ -38,7 +39,10 @@ for (const key of ['ArrowRight', 'End', 'f', '+', '-', '0', 'PageUp', 'PageDown'
   seen.push(panel.querySelector('h3').textContent);
 }
 for (const button of document.querySelectorAll('.tools button')) button.click();
-document.body.append(Object.assign(document.createElement('output'), { id: 'seen', textContent: JSON.stringify(seen) }));
+const told = document.createElement('output');
+told.id = 'seen';
+told.textContent = JSON.stringify(seen);
+document.body.append(told);
 </script>"""
 
 
@@ -64,8 +68,8 @@ class Page(html.parser.HTMLParser):
 
 def report(*words: object) -> subprocess.CompletedProcess[str]:
     """Runs kmip_report with these words."""
-    return subprocess.run([sys.executable, str(FOLDER / "kmip_report"), *map(str, words)], capture_output=True, text=True,
-                          timeout=120, check=False)
+    return subprocess.run([sys.executable, str(FOLDER / "kmip_report"), *map(str, words)], capture_output=True,
+                          text=True, timeout=120, check=False)
 
 
 class Report(unittest.TestCase):

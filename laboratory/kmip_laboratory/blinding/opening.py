@@ -100,7 +100,8 @@ class Opened:
         try:
             message = ttlv.read_item(item.value)
         except ttlv.NotTtlv as fault:
-            say(f"{self.path}: a message of call {where.call} is no TTLV ({fault}): it becomes zeros, and is still none")
+            say(f"{self.path}: a message of call {where.call} is no TTLV ({fault}): it becomes zeros, and is still "
+                "none")
             self.data[where.base:where.base + len(item.value)] = bytes(len(item.value))
             return
         self._open(message, where, False)

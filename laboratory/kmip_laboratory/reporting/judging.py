@@ -23,8 +23,8 @@ TRANSCRIPT, DECLARATION, WITNESS = "transcript.ttlv", "declaration.ttlv", "witne
 
 
 class Judged(NamedTuple):
-    """A recording: its folder, the verdict with the command that repeats it, its files with their digests, its calls, and
-    the turn of each call in the order that was judged or found."""
+    """A recording: its folder, the verdict with the command that repeats it, its files with their digests, its calls,
+    and the turn of each call in the order that was judged or found."""
 
     folder: str
     verdict: Verdict
@@ -73,7 +73,8 @@ def judge(folder: str, budget: Optional[int]) -> Judged:
     started = time.monotonic()
     with tempfile.TemporaryDirectory(prefix="kmip_report-") as made:
         if len(files) == 3:
-            verdict, words = auditor.check(transcript, declaration, witness), ["check", transcript, declaration, witness]
+            verdict = auditor.check(transcript, declaration, witness)
+            words = ["check", transcript, declaration, witness]
         else:
             witness = os.path.join(made, WITNESS)
             verdict = auditor.search(transcript, declaration, witness, budget)
@@ -83,8 +84,9 @@ def judge(folder: str, budget: Optional[int]) -> Judged:
         turns = _turns(witness) if os.path.exists(witness) and verdict.outcome is not Outcome.MALFORMED else {}
     command = " ".join(["kmip_audit", *map(shlex.quote, words)])
     readable = verdict.outcome not in (Outcome.MALFORMED, Outcome.DEVICE, Outcome.MEMORY)
-    return Judged(folder, verdict, command, auditor.version(), files, read_transcript(transcript).calls if readable else [],
-                  turns, read_messages(auditor, transcript) if readable else Messages([], {}), seconds)
+    calls = read_transcript(transcript).calls if readable else []
+    messages = read_messages(auditor, transcript) if readable else Messages([], {})
+    return Judged(folder, verdict, command, auditor.version(), files, calls, turns, messages, seconds)
 
 
 def _digest(path: str) -> Tuple[str, int, str]:

@@ -25,7 +25,8 @@ def told(recordings: List[Judged]) -> str:
                                       time=f"{judged.seconds:.3f}")
         if judged.verdict.outcome is not Outcome.YES:
             kind = "failure" if judged.verdict.outcome in JUDGED else "error"
-            trouble = ElementTree.SubElement(case, kind, message=in_words(judged.verdict), type=in_short(judged.verdict))
+            trouble = ElementTree.SubElement(case, kind, message=in_words(judged.verdict),
+                                             type=in_short(judged.verdict))
             trouble.text = _text("\n".join(judged.verdict.lines) + f"\n$ {judged.command}")
     return '<?xml version="1.0" encoding="utf-8"?>\n' + ElementTree.tostring(suite, encoding="unicode") + "\n"
 

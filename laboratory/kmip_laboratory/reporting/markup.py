@@ -20,7 +20,8 @@ Part = Union[str, Markup]
 
 def element(tag: str, *parts: Part, **attributes: object) -> Markup:
     """An element with these parts; a part that is no markup is text. `of` stands for `class`, `_` for `-`."""
-    told = "".join(f' {_name(name)}="{html.escape(str(value))}"' for name, value in attributes.items() if value is not None)
+    told = "".join(f' {_name(name)}="{html.escape(str(value))}"' for name, value in attributes.items()
+                   if value is not None)
     inside = "".join(part if isinstance(part, Markup) else html.escape(part) for part in parts)
     return Markup(f"<{tag}{told}>" if tag in EMPTY else f"<{tag}{told}>{inside}</{tag}>")
 

@@ -7,7 +7,7 @@ from datetime import datetime, timedelta, timezone
 from pathlib import Path
 from typing import Dict, List, Optional
 
-from .figures import figures
+from .figures import KINDS, figures
 from .judging import Judged, came_to, operation_name, operations, stamps
 from .markup import Markup, Part, data, digest, element, table, together
 from .reasons import PREMISES, in_short, in_words
@@ -18,9 +18,9 @@ TOOLS = [("fault", "To the verdict's call"), ("in", "Zoom in"), ("out", "Zoom ou
          ("right", "Later"), ("all", "Whole recording")]
 LEGEND = [("success", "success"), ("failed", "failed"), ("refused", "message refused"), ("undone", "undone"),
           ("open", "no answer"), ("fault", "named by the verdict")]
-KEYS = ("Keys, once the timeline has the focus: left and right for the call before and behind, up and down for the row above and "
-        "below, Home and End, + and - to zoom, Page Up and Page Down to move, 0 for the whole recording, f for the verdict's "
-        "call. Drag to move; Ctrl and the wheel zoom.")
+KEYS = ("Keys, once the timeline has the focus: left and right for the call before and behind, up and down for the row "
+        "above and below, Home and End, + and - to zoom, Page Up and Page Down to move, 0 for the whole recording, f for "
+        "the verdict's call. Drag to move; Ctrl and the wheel zoom.")
 MOST_OF_STORY = 20
 
 
@@ -39,10 +39,12 @@ def page(recordings: List[Judged], made: datetime) -> str:
     parts = [element("h1", _title(recordings)), _made(recordings, made)]
     if len(recordings) > 1:
         parts.append(_overview(recordings))
-    parts += [_recording(judged, number, judged.folder if len(recordings) > 1 else "Verdict") for number, judged in enumerate(recordings, 1)]
+    parts += [_recording(judged, number, judged.folder if len(recordings) > 1 else "Verdict")
+              for number, judged in enumerate(recordings, 1)]
     parts.append(data({"lines": list(lines), "recordings": told}, "data"))
     parts += [element("script", Markup(script)) for script in scripts]
-    return "<!DOCTYPE html>\n" + element("html", head, element("body", element("main", together(parts))), lang="en") + "\n"
+    body = element("body", element("main", together(parts)))
+    return "<!DOCTYPE html>\n" + element("html", head, body, lang="en") + "\n"
 
 
 def moment(seconds: int) -> str:
@@ -65,7 +67,8 @@ def _title(recordings: List[Judged]) -> str:
 
 def _made(recordings: List[Judged], made: datetime) -> Markup:
     versions = ", ".join(sorted({judged.version for judged in recordings}))
-    return element("p", f"Made {made.strftime('%Y-%m-%dT%H:%M:%SZ')} by kmip_report, from what {versions} printed.", of="soft")
+    when = made.strftime("%Y-%m-%dT%H:%M:%SZ")
+    return element("p", f"Made {when} by kmip_report, from what {versions} printed.", of="soft")
 
 
 def _overview(recordings: List[Judged]) -> Markup:
@@ -73,8 +76,8 @@ def _overview(recordings: List[Judged]) -> Markup:
     rows: List[List[Part]] = [
         [element("a", judged.folder, href=f"#recording-{number}"), in_short(judged.verdict), str(len(judged.calls)),
          f"{judged.seconds:.1f}"] for number, judged in enumerate(recordings, 1)]
-    reasons: List[List[Part]] = [
-        [reason, str(count)] for reason, count in Counter(in_short(judged.verdict) for judged in recordings).most_common()]
+    counts = Counter(in_short(judged.verdict) for judged in recordings)
+    reasons: List[List[Part]] = [[reason, str(count)] for reason, count in counts.most_common()]
     return together([
         element("h2", "Verdicts"), table(["Recording", "Verdict", "Calls", "Seconds to judge"], rows, 2),
         element("h2", "By verdict"), table(["Verdict", "Recordings"], reasons, 1)])
@@ -109,8 +112,9 @@ def _timeline(judged: Judged) -> Markup:
     legend = [element("li", element("svg", element("rect", of=kind, width=26, height=12), viewBox="0 0 26 12",
                                     aria_hidden="true"), words) for kind, words in LEGEND]
     if len(judged.story()) > 1:
-        legend.append(element("li", element("svg", element("rect", of="bar success story", x=2, y=2, width=22, height=8),
-                                            viewBox="0 0 26 12", aria_hidden="true"), "names the same object"))
+        sample = element("rect", of="bar success story", x=2, y=2, width=22, height=8)
+        legend.append(element("li", element("svg", sample, viewBox="0 0 26 12", aria_hidden="true"),
+                              "names the same object"))
     order = "Numbers in the bars are turns of the order. " if judged.turns else ""
     lanes = element("div", element("svg", role="presentation"), of="lanes", tabindex=0, role="listbox",
                     aria_label="Calls, a row for each client; arrow keys go from call to call")
@@ -120,7 +124,8 @@ def _timeline(judged: Judged) -> Markup:
             element("div", element("h4", "Answer"), element("pre", "", tabindex=0, aria_label="Answer")), of="both"),
         of="details", aria_live="polite", hidden="")
     return together([
-        element("h3", "Timeline"), element("div", *buttons, element("span", "", of="soft said", role="status"), of="tools"),
+        element("h3", "Timeline"),
+        element("div", *buttons, element("span", "", of="soft said", role="status"), of="tools"),
         element("div", element("svg", of="overview", role="presentation"), lanes, of="timeline"),
         element("ul", *legend, of="legend"), element("p", order + KEYS, of="soft"), details])
 
@@ -138,8 +143,8 @@ def _story(judged: Judged) -> Markup:
     told = f" The {left_out} before these are left out." if left_out else ""
     return together([
         element("h3", "The object's story"),
-        element("p", "The calls up to the verdict's that name an object which it names: this is the report's reading of the "
-                "transcript, and not the auditor's word." + told, of="soft"),
+        element("p", "The calls up to the verdict's that name an object which it names: this is the report's reading of "
+                "the transcript, and not the auditor's word." + told, of="soft"),
         table(["Call", "Client", "Operation", "Came to", "Time Stamp", "Turn"], rows, 1)])
 
 
@@ -150,12 +155,14 @@ def _counts(judged: Judged) -> Markup:
     seen = stamps(judged.calls)
     when = (f"{len(judged.calls)} calls; Time Stamps from {moment(min(seen))} to {moment(max(seen))}, "
             f"{max(seen) - min(seen) + 1} seconds." if seen else f"{len(judged.calls)} calls, none with a Time Stamp.")
-    return together([element("p", when), element("div", _cross("Operation", pieces), _cross("Client", clients), of="counts")])
+    tables = element("div", _cross("Operation", pieces), _cross("Client", clients), of="counts")
+    return together([element("p", when), tables])
 
 
 def _cross(head: str, counts: Counter[tuple[str, str]]) -> Markup:
-    ends = [word for word in ("success", "failed", "refused", "undone", "open") if any(end == word for _, end in counts)]
-    rows: List[List[Part]] = [[name, *(str(counts[(name, end)]) for end in ends)] for name in sorted({n for n, _ in counts})]
+    ends = [word for word in KINDS if any(end == word for _, end in counts)]
+    names = sorted({name for name, _ in counts})
+    rows: List[List[Part]] = [[name, *(str(counts[(name, end)]) for end in ends)] for name in names]
     return table([head, *ends], rows, len(ends))
 
 

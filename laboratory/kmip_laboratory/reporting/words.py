@@ -52,14 +52,16 @@ def main(arguments: List[str]) -> int:
 
 
 def _parser() -> Parser:
-    parser = Parser(prog="kmip_report", description="What kmip_audit says of recordings, as one page: see docs/REPORT.md.")
+    parser = Parser(prog="kmip_report",
+                    description="What kmip_audit says of recordings, as one page: see docs/REPORT.md.")
     parser.add_argument("out", metavar="OUT.html", help="the page; - for none")
     parser.add_argument("recordings", nargs="+", metavar="RECORDING",
                         help="a folder with transcript.ttlv, declaration.ttlv and, unless a search is to find one, "
                         "witness.ttlv; or a folder of such folders")
     parser.add_argument("--junit", metavar="FILE", help="write a test case for each recording, as JUnit's XML")
     parser.add_argument("--text", action="store_true", help="print the report in 80 columns too")
-    parser.add_argument("--jobs", type=_jobs, default=os.cpu_count() or 1, metavar="N", help="recordings judged at once")
+    parser.add_argument("--jobs", type=_jobs, default=os.cpu_count() or 1, metavar="N",
+                        help="recordings judged at once")
     parser.add_argument("--force", action="store_true", help="write over files that are there")
     parser.add_argument("--budget", type=int, metavar="N", help="the most steps of a search")
     return parser
@@ -90,4 +92,4 @@ def _write(words: argparse.Namespace, recordings: List[Judged]) -> None:
         fresh.write_all(files)
         return
     for path, data in files:
-        write_file(path, data)
+        write_file(path, data, force=True)

@@ -36,7 +36,8 @@ def read_declaration(path: str) -> Declaration:
     """The declaration in a file."""
     data = read_file(path)
     if which(path, data) is not File.DECLARATION:
-        raise Trouble(f"{path} is no declaration, but a {which(path, data).name.lower()}: give the files in their order")
+        raise Trouble(f"{path} is no declaration, but a {which(path, data).name.lower()}: give the files in their "
+                      "order")
     read = Declaration(b"", {}, {})
     head = []
     for record in records(path, data):

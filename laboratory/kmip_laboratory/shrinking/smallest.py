@@ -80,7 +80,8 @@ def _ends_by_stamp(calls: List[Call]) -> List[List[Call]]:
     cuts = []
     for stamp in sorted({call.stamp for call in calls if call.stamp is not None}):
         ends = [call.end for call in calls if call.end is not None and _is_up_to(call, stamp)]
-        cuts.append([call for call in calls if (call.begin < max(ends) if call.end is None else _is_up_to(call, stamp))])
+        cuts.append([call for call in calls
+                     if (call.begin < max(ends) if call.end is None else _is_up_to(call, stamp))])
     return [cut for cut in cuts if len(cut) < len(calls)] + [calls]
 
 

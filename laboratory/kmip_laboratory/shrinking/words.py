@@ -23,7 +23,8 @@ def add(words: argparse._SubParsersAction) -> None:
     word.add_argument("transcript", metavar="TRANSCRIPT")
     word.add_argument("source", metavar="DECLARATION")
     word.add_argument("out", metavar="OUT", help="a new file for the transcript that is left")
-    word.add_argument("--declaration", metavar="OUT", help="leave objects out of the declaration too, and make this file")
+    word.add_argument("--declaration", metavar="OUT",
+                      help="leave objects out of the declaration too, and make this file")
     word.add_argument("--budget", type=_budget, default=BUDGET, metavar="N",
                       help=f"the most steps of each search ({BUDGET:,})")
     word.set_defaults(run=run)

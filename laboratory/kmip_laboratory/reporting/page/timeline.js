@@ -1,6 +1,6 @@
 'use strict';
-/* A timeline of the calls of one recording. Bars are drawn for what is in view alone; where there are too many, they are
-   drawn together, by what matters most. Texts of messages only ever become text nodes. */
+/* A timeline of the calls of one recording. Bars are drawn for what is in view alone; where there are too many, they
+   are drawn together, by what matters most. Texts of messages only ever become text nodes. */
 
 const SVG = 'http://www.w3.org/2000/svg';
 const KINDS = ['success', 'failed', 'refused', 'undone', 'open', 'fault'];
@@ -25,7 +25,7 @@ class Timeline {
     this.choose = choose;
     this.chosen = -1;
     this.ordered = false;
-    this.last = Math.max(1, ...this.maxima());
+    this.last = Math.max(1, data.marks);
     this.overview = root.querySelector('.overview');
     this.rows = root.querySelector('.lanes svg');
     this.box = root.querySelector('.lanes');
@@ -38,7 +38,6 @@ class Timeline {
     new ResizeObserver(() => this.draw()).observe(this.box);
   }
 
-  maxima() { let most = 0; for (const end of this.data.end) if (end > most) most = end; return [most, this.data.marks]; }
   end(index) { const end = this.data.end[index]; return end < 0 ? this.last + 1 : end; }
   kind(index) { return index === this.fault ? 5 : this.data.kind[index]; }
   width() { return Math.max(320, this.box.clientWidth || 900); }
@@ -87,7 +86,10 @@ class Timeline {
   inView() {
     const found = [], begin = this.data.begin;
     let low = 0, high = begin.length;
-    while (low < high) { const middle = (low + high) >> 1; if (begin[middle] <= this.to) low = middle + 1; else high = middle; }
+    while (low < high) {
+      const middle = (low + high) >> 1;
+      if (begin[middle] <= this.to) low = middle + 1; else high = middle;
+    }
     for (let index = 0; index < low; index++) if (this.end(index) >= this.from) found.push(index);
     return found;
   }
@@ -135,7 +137,8 @@ class Timeline {
 
   bar(index) {
     const data = this.data, kind = KINDS[this.kind(index)], y = data.lane[index] * ROW + 4;
-    const left = Math.max(LABEL - 4, this.x(data.begin[index])), right = Math.min(this.width(), this.x(this.end(index)));
+    const left = Math.max(LABEL - 4, this.x(data.begin[index]));
+    const right = Math.min(this.width(), this.x(this.end(index)));
     const width = Math.max(4, right - left);
     if (right < LABEL) return;
     const names = ['bar', kind];
@@ -146,9 +149,12 @@ class Timeline {
     rect.append(drawn('title', {}, this.label(index)));
     this.rows.append(rect);
     if (index === this.chosen) {
-      this.rows.append(drawn('rect', { class: 'chosen', x: left - 3, y: y - 3, width: width + 6, height: BAR + 6, rx: 3 }));
+      this.rows.append(drawn('rect', {
+        class: 'chosen', x: left - 3, y: y - 3, width: width + 6, height: BAR + 6, rx: 3 }));
     }
-    if (kind === 'open') this.rows.append(drawn('path', { class: 'break', d: `M${left + width - 9} ${y + 3}l6 6l-6 6z` }));
+    if (kind === 'open') {
+      this.rows.append(drawn('path', { class: 'break', d: `M${left + width - 9} ${y + 3}l6 6l-6 6z` }));
+    }
     if (index === this.fault) this.rows.append(drawn('path', { class: 'flag', d: `M${left - 1} ${y - 4}h10l-5 6z` }));
     const turn = data.turn[index];
     if (turn && width > 8 + 7 * String(turn).length) {
@@ -158,8 +164,9 @@ class Timeline {
 
   label(index) {
     const data = this.data, turn = data.turn[index];
-    return `call ${data.number[index]}, ${data.clients[data.lanes[data.lane[index]]]}, ${data.what[data.does[index]]}, ` +
-      WORDS[data.kind[index]] + (turn ? `, turn ${turn}` : '') + (index === this.fault ? ', named by the verdict' : '');
+    const client = data.clients[data.lanes[data.lane[index]]];
+    return `call ${data.number[index]}, ${client}, ${data.what[data.does[index]]}, ${WORDS[data.kind[index]]}` +
+      (turn ? `, turn ${turn}` : '') + (index === this.fault ? ', named by the verdict' : '');
   }
 
   name(index) { return `call-${this.data.recording}-${this.data.number[index]}`; }
@@ -179,15 +186,18 @@ class Timeline {
     for (const [at, kind] of worst) {
       const x = (at % 10000) * 3;
       if (x < LABEL - 4) continue;
-      this.rows.append(drawn('rect', { class: KINDS[kind], x, width: 3, y: Math.floor(at / 10000) * ROW + 4, height: BAR }));
+      const y = Math.floor(at / 10000) * ROW + 4;
+      this.rows.append(drawn('rect', { class: KINDS[kind], x, width: 3, y, height: BAR }));
     }
   }
 
   order(found) {
     const path = found.filter(index => this.data.turn[index]).sort((a, b) => this.data.turn[a] - this.data.turn[b]);
+    let moment = 0;
     const points = path.map(index => {
-      const left = Math.max(LABEL, this.x(this.data.begin[index])), right = Math.min(this.width(), this.x(this.end(index)));
-      return `${((left + right) / 2).toFixed(1)},${this.data.lane[index] * ROW + 4 + BAR / 2}`;
+      moment = Math.max(moment, this.data.begin[index]);
+      const x = Math.max(LABEL, this.x(Math.min(moment + 0.5, this.end(index))));
+      return `${x.toFixed(1)},${this.data.lane[index] * ROW + 4 + BAR / 2}`;
     });
     this.rows.append(drawn('polyline', { class: 'order', points: points.join(' ') }));
   }
@@ -242,7 +252,11 @@ class Timeline {
     const does = {
       in: () => this.zoom(0.5), out: () => this.zoom(2), left: () => this.pan(-0.5), right: () => this.pan(0.5),
       all: () => this.view(0, this.last + 1), fault: () => this.fault >= 0 ? this.show(this.fault) : this.start(),
-      order: button => { this.ordered = !this.ordered; button.setAttribute('aria-pressed', this.ordered); this.draw(); },
+      order: button => {
+        this.ordered = !this.ordered;
+        button.setAttribute('aria-pressed', this.ordered);
+        this.draw();
+      },
     };
     for (const button of root.querySelectorAll('.tools button')) {
       button.addEventListener('click', () => does[button.dataset.does](button));
@@ -267,7 +281,10 @@ class Timeline {
 
   drag() {
     let down = null;
-    this.rows.addEventListener('pointerdown', event => { down = [event.clientX, this.from, this.to]; this.dragged = false; });
+    this.rows.addEventListener('pointerdown', event => {
+      down = [event.clientX, this.from, this.to];
+      this.dragged = false;
+    });
     window.addEventListener('pointermove', event => {
       if (down === null || Math.abs(event.clientX - down[0]) < 4) return;
       this.dragged = true;
