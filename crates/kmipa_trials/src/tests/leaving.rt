@@ -35,7 +35,10 @@ fn shown_bytes_are_left(rt: HostRuntime) -> Result<(), Fail> {
     let mut written = Vec::new(alloc);
     write_declaration(alloc, &left, &mut written)?;
     let known = bytes_of(alloc, &[DECLARATION, ENTRY])?;
-    check(written.as_slice() == known.as_slice(), "another declaration")
+    check(
+        written.as_slice() == known.as_slice(),
+        "another declaration",
+    )
 }
 
 #[test]
