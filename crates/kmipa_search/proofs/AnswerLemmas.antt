@@ -15,7 +15,7 @@ use Rattle.kmipa_check.specs.Calls.{CallOf, AreCalls, IsRecorded}
 use Rattle.kmipa_check.specs.Steps.{StepOf, IsStep}
 use Rattle.kmipa_check.specs.Plain.{bare_turn}
 use Rattle.kmipa_check.specs.Runs.{IsAccepted, IsExplained, TakeEachOnce, rules_declared}
-use Rattle.kmipa_check.specs.Laws.{AreMade}
+use Rattle.kmipa_check.specs.Laws.{AreMade, OneListOfCalls}
 use Rattle.kmipa_check.specs.Ordering.{Decided}
 use Rattle.kmipa_check.specs.Verdicts.{AreKnown, Checks}
 use Rattle.kmipa_check.specs.declared.fault.CheckFault.{CheckFault}
@@ -28,7 +28,7 @@ use Rattle.kmipa_search.specs.Plain.{ArePlain, AreApart, IsForced}
 use Rattle.kmipa_search.specs.Next.{weight}
 use Rattle.kmipa_search.specs.Progress.{step_at, ordered, HaveRun, CanBeTaken, Opens, ComesTo}
 use Rattle.kmipa_search.specs.Confirming.{Confirms, IsTried, turns_at}
-use Rattle.kmipa_search.specs.Laws.{EnoughDecides, ForcedIsLight}
+use Rattle.kmipa_search.specs.Laws.{IsEnough, EnoughDecides, ForcedIsLight}
 use Rattle.kmipa_search.specs.Found.{HasDecided, stopped, enough, one_by_one, Finds, Searches}
 use Rattle.kmipa_search.specs.declared.found.Found.{Found}
 use Rattle.kmipa_search.specs.declared.found.Found.TheVariants.{Yes, GaveUp}
@@ -43,13 +43,10 @@ use Rattle.kmipa_search.proofs.PlainLemmas.{same_steps, plain_at, plain_from, pl
 -- calls that aren't plain: nothing is decided
 pub undecided : (marks : List MarkOf) (declared : DeclarationOf) (calls : List CallOf) (budget count : ℕ) → LawsOfCheck → AreRecorded marks → AreCalls marks calls → AreNotPlain calls
     → count ≤ budget → Finds marks declared budget (GaveUp count)
-undecided marks declared calls budget count laws r are not few = (few, λ others there decided explained. by others there decided)
+undecided marks declared calls budget count laws r are not few = (few, (calls, are, λ decided explained. by decided))
   where
-    by : (others : List CallOf) → AreCalls marks others → HasDecided others budget count → ⊥
-    by others there decided =
-        let P : List CallOf → Type 0 = λ cs. (steps : List StepOf) → ArePlain cs steps → ⊥ in
-        let never = subst P (laws.one_list marks calls others r are there) not in
-        elim decided [ stopped s plain less ↦ never s plain | enough s plain less ↦ never s plain | one_by_one f few ↦ never f.steps f.plain ]
+    by : HasDecided calls budget count → ⊥
+    by decided = elim decided [ stopped s plain less ↦ not s plain | enough s plain less ↦ not s plain | one_by_one f few ↦ not f.steps f.plain ]
 
 pub forced_is_light_lem : ForcedIsLight
 forced_is_light_lem calls f = omega (arith, light f.steps f.apart, plain_long calls f.steps f.plain)
@@ -91,19 +88,14 @@ module _ (marks : List MarkOf) (declared : DeclarationOf) (calls : List CallOf) 
       })
 
   pub gave_up : (budget count : ℕ) → ComesTo declared steps budget None count → Finds marks declared budget (GaveUp count)
-  gave_up budget count l = (l.0, λ others there decided explained. unexplained (l.1 (by others there decided)) explained)
+  gave_up budget count l = (l.0, (calls, are, λ decided explained. unexplained (l.1 (by decided)) explained))
     where
-      enough_steps : (others : List CallOf) → AreCalls marks others → (own : List StepOf) → ArePlain others own → own ≡ steps
-      enough_steps others there own p =
-          let P : List CallOf → Type 0 = λ cs. ArePlain cs own in
-          same_steps calls own steps (subst P (sym (laws.one_list marks calls others r are there)) p) plain
-
-      by : (others : List CallOf) → AreCalls marks others → HasDecided others budget count → (count < budget) ⊎ (weight steps ≤ budget)
-      by others there (stopped own p less) = inl less
-      by others there (enough own p few) = inr (let P : List StepOf → Type 0 = λ ss. weight ss ≤ budget in subst P (enough_steps others there own p) few)
-      by others there (one_by_one f few) =
+      by : HasDecided calls budget count → (count < budget) ⊎ (weight steps ≤ budget)
+      by (stopped own p less) = inl less
+      by (enough own p few) = inr (let P : List StepOf → Type 0 = λ ss. weight ss ≤ budget in subst P (same_steps calls own steps p plain) few)
+      by (one_by_one f few) =
           let P : List StepOf → Type 0 = λ ss. weight ss ≤ budget in
-          inr (subst P (enough_steps others there f.steps f.plain) (omega (arith, forced_is_light_lem others f, few)))
+          inr (subst P (same_steps calls f.steps steps f.plain plain) (omega (arith, forced_is_light_lem calls f, few)))
 
   -- ---- an order that can be taken is a witness
 
@@ -226,9 +218,10 @@ tried marks declared calls budget count witness (Err (fault.Witness f)) laws r a
 
 -- ---- the law
 
-pub enough_decides_lem : EnoughDecides
-enough_decides_lem marks declared calls budget (Yes witness count) r are few f =
+pub enough_decides_lem : OneListOfCalls → EnoughDecides
+enough_decides_lem one_list marks declared calls budget (Yes witness count) r are few f =
     let a = f.0 in
     record { calls = a.calls; are = a.are; start = a.start; described = a.described; steps = a.steps; run = a.run }
-enough_decides_lem marks declared calls budget (GaveUp count) r are few f = λ explained.
-    f.1 calls are (elim few [ inl p ↦ enough p.0 p.1 p.2 | inr p ↦ one_by_one p.0 p.1 ]) explained
+enough_decides_lem one_list marks declared calls budget (GaveUp count) r are few f = λ explained.
+    let P : List CallOf → Type 0 = λ cs. IsEnough cs budget in
+    f.1.2 (elim (subst P (one_list marks calls f.1.0 r are f.1.1) few) [ inl p ↦ enough p.0 p.1 p.2 | inr p ↦ one_by_one p.0 p.1 ]) explained

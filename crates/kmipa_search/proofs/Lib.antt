@@ -19,3 +19,5 @@ pub mod RemainingLemmas
 pub mod SortLemmas
 pub mod ApartLemmas
 pub mod GuessLemmas
+pub mod PickLemmas
+pub mod IdleLemmas

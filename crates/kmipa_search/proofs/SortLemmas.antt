@@ -158,3 +158,13 @@ stamps_total = ranks_by (then_total (on_total (λ (p : ℤ × ℕ). p.0) int_cmp
 
 pub ends_total : IsStrictWeakOrder (λ (x y : ℕ × ℕ). is_lt (ordering_then (nat_cmp x.0 y.0) (nat_cmp x.1 y.1)))
 ends_total = ranks_by (then_total (on_total (λ (p : ℕ × ℕ). p.0) nat_cmp_total) (on_total (λ (p : ℕ × ℕ). p.1) nat_cmp_total)) (λ (p : ℕ × ℕ). p)
+
+-- keys whose second part is their place
+pub own_keys : (ks : List (ℕ × ℕ)) (n k : ℕ) (d : ℕ × ℕ) → k < n → length ks ≡ n → ((i : ℕ) (e : ℕ × ℕ) → i < n → (get_or ks i e).1 ≡ i) → get_or ks k d ≡ ((get_or ks k (0, 0)).0, k)
+own_keys ks n k d below long second =
+    let here = slice_get-get_or ks k d (omega (arith, below, long)) in
+    let same : get_or ks k (0, 0) ≡ get_or ks k d = get_or_from_slice_get ks k (get_or ks k d) (0, 0) here in
+    pair (get_or ks k d) (get_or ks k (0, 0)) (sym same) (second k d below)
+  where
+    pair : (x y : ℕ × ℕ) → x ≡ y → x.1 ≡ k → x ≡ (y.0, k)
+    pair (a, b) (c, e) same is = let first : a ≡ c = ap (λ (z : ℕ × ℕ). z.0) same in ap (λ (z : ℕ). (z, b)) first ∙ ap (λ (z : ℕ). (c, z)) is

@@ -20,13 +20,13 @@ pub data HasDecided (calls : List CallOf) (budget count : ℕ) : Type 0 where
   enough : (steps : List StepOf) → ArePlain calls steps → weight steps ≤ budget → HasDecided calls budget count
   one_by_one : IsForced calls → length calls ≤ budget → HasDecided calls budget count
 
--- A yes comes with a witness that is accepted and can be written. Each of its turns was tried, within the budget. Giving up tells that
--- nothing explains the transcript, where the search has decided.
+-- A yes comes with a witness that is accepted and can be written. Each of its turns was tried, within the budget. Giving up comes
+-- only where all messages are inside, and tells that nothing explains these calls, where the search has decided.
 abbrev pub Finds : List MarkOf → DeclarationOf → ℕ → Found → Type 0
 Finds marks declared budget (Yes witness count) = IsAccepted marks declared (witness_of witness) × ((bytes : List ℕ) × IsWitness bytes (witness_of witness))
     × (count ≤ budget) × (length (witness_of witness) ≤ count)
 Finds marks declared budget (GaveUp count) = (count ≤ budget)
-    × ((calls : List CallOf) → AreCalls marks calls → HasDecided calls budget count → IsExplained marks declared → ⊥)
+    × ((calls : List CallOf) × AreCalls marks calls × (HasDecided calls budget count → IsExplained marks declared → ⊥))
 
 -- what a search answers: what it found, or the first message that is outside
 abbrev pub Searches : List MarkOf → DeclarationOf → ℕ → Result Found CheckFault → Type 0

@@ -1,5 +1,6 @@
 pub mod Plain
 pub mod Next
+pub mod Cursors
 pub mod Found
 pub mod Forced
 pub mod Laws
@@ -12,3 +13,5 @@ pub mod Links
 pub mod Ranks
 pub mod Remaining
 pub mod Guessing
+pub mod Tries
+pub mod Idle

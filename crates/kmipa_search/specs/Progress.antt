@@ -17,6 +17,10 @@ use Rattle.kmipa_check.specs.Laws.{TakenIsKnown, RefusedIsNever}
 use Rattle.kmipa_check.specs.declared.fault.CheckFault.{CheckFault}
 use Rattle.kmipa_check.specs.declared.fault.CheckFault.TheVariants.{Outside, Witness, Memory}
 use Rattle.kmipa_search.specs.Next.{IsNext, is_next, sum_from, weigh, weight}
+use Rattle.kmipa_search.specs.Cursors.{IsCursor}
+use Rattle.kmipa_search.specs.Tries.{IsTried}
+use Rattle.kmipa_search.specs.declared.tried.Tried.{Tried}
+use Rattle.kmipa_search.specs.declared.tried.Visit.{Visit}
 
 abbrev pub no_step : StepOf
 no_step = step_with (record { number = pos 0; begin = 0; end = None; request = record { option = Stop; ordered = true; items = [] }; response = None }) (record { stamp = pos 0; items = [] })
@@ -73,14 +77,27 @@ abbrev pub AreNext : List StepOf → List ℕ → Type 0
 AreNext calls [] = Unit {0}
 AreNext calls (p ∷ taken) = IsNext calls taken p × AreNext calls taken
 
--- no next call below a place leads to a run
-abbrev pub ClearedHere : DeclarationOf → List StepOf → List ℕ → ℕ → Type 0
-ClearedHere declared calls taken from = (p : ℕ) → p < from → IsNext calls taken p → IsDead declared calls (p ∷ taken)
+-- no next call that was tried leads to a run
+abbrev pub Cleared : DeclarationOf → List StepOf → List ℕ → List ℕ → Tried → Type 0
+Cleared declared calls wishes taken t = (p : ℕ) → IsTried wishes t p → IsNext calls taken p → IsDead declared calls (p ∷ taken)
 
--- nor, at each call taken, one below it
-abbrev pub ClearedBehind : DeclarationOf → List StepOf → List ℕ → Type 0
-ClearedBehind declared calls [] = Unit {0}
-ClearedBehind declared calls (p ∷ taken) = ClearedHere declared calls taken p × ClearedBehind declared calls taken
+-- the places of the calls taken
+abbrev pub places : List Visit → List ℕ
+places visits = map (λ (v : Visit). v.place) visits
+
+-- Nor, at each call taken, one that was tried before it; and if it leads to none either, that one is as it was noted. If it is without effect,
+-- no other does.
+abbrev pub ClearedBehind : DeclarationOf → List StepOf → List ℕ → List Visit → Type 0
+ClearedBehind declared calls wishes [] = Unit {0}
+ClearedBehind declared calls wishes (v ∷ visits) =
+    (IsDead declared calls (places (v ∷ visits)) → Cleared declared calls wishes (places visits) v.tried)
+    × (v.idle ≡ true → IsDead declared calls (places (v ∷ visits)) → IsDead declared calls (places visits))
+    × ClearedBehind declared calls wishes visits
+
+-- the tries go on at each call taken where a next one begins
+abbrev pub AreCursors : List StepOf → List Visit → Type 0
+AreCursors calls [] = Unit {0}
+AreCursors calls (v ∷ visits) = IsCursor calls (places visits) v.tried.from × AreCursors calls visits
 
 -- the ledger knows what the calls taken leave, and at each mark what those before it left
 abbrev pub KnowsAll : DeclarationOf → List StepOf → List ℕ → Meaning → List Meaning → Type 0
@@ -92,23 +109,34 @@ KnowsAll declared calls (p ∷ taken) now (m ∷ marks) = (AreKnown declared (so
 abbrev pub cost : List StepOf → List ℕ → ℕ → ℕ
 cost calls taken place = cond (is_next calls taken place) (suc (weigh (length calls - suc (length taken)) calls (place ∷ taken))) 0
 
--- what is left to be tried from a place on
-abbrev pub owed_here : List StepOf → List ℕ → ℕ → ℕ
-owed_here calls taken from = sum_from (cost calls taken) (length calls - from) from
+-- no more than so much is left to be tried at a place of the search
+pub record IsOwed (calls : List StepOf) (wishes taken : List ℕ) (t : Tried) (amount : ℕ) : Type 0 where
+  pub each : ℕ → ℕ
+  pub enough : (p : ℕ) → IsNext calls taken p → (IsTried wishes t p → ⊥) → suc (weigh (length calls - suc (length taken)) calls (p ∷ taken)) ≤ each p
+  pub sum : sum_from each (length calls) 0 ≤ amount
 
 -- and at each call taken after it
-abbrev pub owed_after : List StepOf → List ℕ → ℕ
-owed_after calls [] = 0
-owed_after calls (p ∷ taken) = owed_here calls taken (suc p) + owed_after calls taken
+abbrev pub IsOwedBehind : List StepOf → List ℕ → List Visit → ℕ → Type 0
+IsOwedBehind calls wishes [] amount = Unit {0}
+IsOwedBehind calls wishes (v ∷ visits) amount =
+    (here : ℕ) × (rest : ℕ) × IsOwed calls wishes (places visits) v.tried here × IsOwedBehind calls wishes visits rest × (here + rest ≤ amount)
 
--- a search that took these calls, and has tried the next ones below a place
-pub record Searching (declared : DeclarationOf) (calls : List StepOf) (taken : List ℕ) (from steps : ℕ) (now : Meaning) (marks : List Meaning) : Type 0 where
-  pub knows : KnowsAll declared calls taken now marks
-  pub nexts : AreNext calls taken
-  pub here : ClearedHere declared calls taken from
-  pub after : ClearedBehind declared calls taken
-  pub paid : length taken ≤ steps
-  pub owed : length taken < length calls → steps + owed_here calls taken from + owed_after calls taken ≤ weight calls
+-- no more is left to be tried than the weight allows
+pub record IsPaid (calls : List StepOf) (wishes : List ℕ) (visits : List Visit) (t : Tried) (steps : ℕ) : Type 0 where
+  pub here : ℕ
+  pub rest : ℕ
+  pub owed : IsOwed calls wishes (places visits) t here
+  pub after : IsOwedBehind calls wishes visits rest
+  pub within : steps + here + rest ≤ weight calls
+
+-- a search that took these calls, and has tried some of the next ones
+pub record Searching (declared : DeclarationOf) (calls : List StepOf) (wishes : List ℕ) (visits : List Visit) (t : Tried) (steps : ℕ) (now : Meaning) (marks : List Meaning) : Type 0 where
+  pub knows : KnowsAll declared calls (places visits) now marks
+  pub nexts : AreNext calls (places visits)
+  pub here : Cleared declared calls wishes (places visits) t
+  pub after : ClearedBehind declared calls wishes visits
+  pub paid : length visits ≤ steps
+  pub owed : length visits < length calls → IsPaid calls wishes visits t steps
 
 -- the next call from a place on, or that there is none
 abbrev pub IsNextFrom : List StepOf → List ℕ → ℕ → Option ℕ → Type 0

@@ -9,6 +9,10 @@ pub record IsRanked (count : ℕ) (Le : ℕ → ℕ → Type 0) (order rank : Li
   pub placed : (p : ℕ) → p < count → (0 < at rank p) × (at rank p ≤ count) × (at order (at rank p) ≡ p)
   pub sorted : (p q : ℕ) → p < count → q < count → at rank p < at rank q → Le p q
 
+-- in whatever order
+abbrev pub InAnyOrder : ℕ → ℕ → Type 0
+InAnyOrder p q = Unit {0}
+
 -- by stamps, and calls of one stamp by their places
 abbrev pub ByStamp : List StepOf → ℕ → ℕ → Type 0
 ByStamp calls p q = ((step_at calls p).response.stamp <ℤ (step_at calls q).response.stamp) ⊎ (((step_at calls p).response.stamp ≡ (step_at calls q).response.stamp) × (p < q))

@@ -1,14 +1,10 @@
 -- The calls that remain to be taken. Not promised.
-use Rattle.std.specs.Prelude.{◌≡◌, ◌⊎◌, ℕ, suc, List, length}
+use Rattle.std.specs.Prelude.{ℕ, List, length}
 use Rattle.kmipa_check.specs.Steps.{StepOf}
-use Rattle.kmipa_search.specs.Next.{IsNext}
+pub use Rattle.kmipa_search.specs.Cursors.{IsCursor}
 use Rattle.kmipa_search.specs.Progress.{AreNext}
 use Rattle.kmipa_search.specs.Ranks.{IsRanked, ByStamp, ByEnd, WereLinked}
 use Rattle.kmipa_search.specs.declared.remaining.Remaining.{Remaining}
-
--- the tries begin at the first call, or after a next one
-abbrev pub IsCursor : List StepOf → List ℕ → ℕ → Type 0
-IsCursor calls taken from = (from ≡ 0) ⊎ ((p : ℕ) × (from ≡ suc p) × IsNext calls taken p)
 
 -- these calls are taken, and the others remain
 pub record AreRemaining (calls : List StepOf) (taken : List ℕ) (w : Remaining) : Type 0 where

@@ -2,11 +2,15 @@
 
 ghost use Rattle.kmipa_search.specs.Laws.{EnoughDecides, ForcedIsLight, NextIsTested};
 
+use kmipa_check::one_list_of_calls;
+
 /// Where the budget is enough for every try, or in a forced transcript for each call once, a search says yes exactly where the transcript
 /// is explained.
 pub fn enough_decides()
     ensures { EnoughDecides }
-{}
+{
+    one_list_of_calls();
+}
 
 /// The weight of forced calls is at most their number.
 pub fn forced_is_light()

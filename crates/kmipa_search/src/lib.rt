@@ -7,13 +7,16 @@ mod forced;
 mod found;
 mod guesses;
 mod guessing;
+mod idle;
 mod laws;
 mod links;
 mod order;
+mod picking;
 mod plain;
 mod ranks;
 mod remaining;
 mod searching;
+mod tried;
 mod watch;
 
 pub use forced::is_forced;

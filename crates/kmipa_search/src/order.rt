@@ -10,13 +10,20 @@ ghost use Rattle.kmipa_search.specs.Progress.{AllReadable, CallTried, Opens};
 ghost use Rattle.kmipa_search.specs.Outcomes.{TellsOutcome, not_taken};
 
 use crate::candidate::Candidate;
+use crate::idle::is_idle_place;
+use crate::picking::pick;
+use crate::ranks::Ranks;
 use crate::remaining::Remaining;
+use crate::tried::{Tried, Visit};
 use crate::watch::Watch;
 use kmipa_batch::{CallRefusal, take_call};
 use kmipa_check::CheckFault;
 use kmipa_msgs::Rules;
 use kmipa_store::{Ledger, Mark};
-use std::alloc::Global;
+use std::alloc::{AllocError, Global};
+
+/// So many steps are made in the order of the begin marks.
+const EARLY: u64 = 1_000;
 
 /// What a search of the calls comes to.
 #[derive(Drop)]
@@ -27,7 +34,7 @@ pub struct Outcome {
     pub steps: u64,
 }
 
-/// Takes the calls one after the other, each time the first next one that leads on, depth first.
+/// Takes the calls one after the other, each time a next one that leads on, depth first. `pick` says in which order they are tried.
 pub fn find_order<L: Ledger, W: Watch>(
     alloc: Global,
     ledger: &mut L,
@@ -43,43 +50,60 @@ pub fn find_order<L: Ledger, W: Watch>(
         → TellsOutcome declared (map candidate_step calls.now) budget result }
 {
     let mut remaining = Remaining::new(alloc, calls)?;
+    let wishes = Ranks::by_wish(alloc, calls)?;
     let mut path = Vec::new(alloc);
-    let mut from = 0;
+    let mut tried = Tried::none();
     let mut depth = 0;
     let mut steps = 0;
     'tries: while path.len() < calls.len() {
-        match remaining.next(calls, from) {
-            Some(place) => {
+        match pick(&remaining, calls, &wishes, tried, steps >= EARLY) {
+            Some(pick) => {
                 if steps == budget {
                     return Ok(Outcome { order: None, steps });
                 }
                 steps += 1;
                 watch.step(steps, path.len());
+                let place = pick.place;
                 match try_call(alloc, ledger, rules, &calls[place])? {
                     Some(mark) => {
-                        path.push(place)?;
+                        path.push(Visit {
+                            place,
+                            tried: pick.tried,
+                            idle: is_idle_place(calls, place),
+                        })?;
                         remaining.take(calls, place);
                         depth = mark;
-                        from = 0;
+                        tried = Tried::none();
                     }
-                    None => from = place + 1,
+                    None => tried = pick.tried,
                 }
             }
             None => {
-                let Some(place) = path.pop() else {
+                let Some(visit) = path.pop() else {
                     return Ok(Outcome { order: None, steps });
                 };
                 ledger.back(Mark { depth });
                 depth -= 1;
-                remaining.give_back(calls, place);
-                from = place + 1;
+                remaining.give_back(calls, visit.place);
+                tried = visit.behind(steps >= EARLY);
             }
         }
     }
     Ok(Outcome {
-        order: Some(path),
+        order: Some(places(alloc, &path)?),
         steps,
     })
+}
+
+/// The places of the calls taken.
+fn places(alloc: Global, path: &[Visit]) -> Result<Vec<usize>, AllocError>
+    ensures { IfOk result (λ order. order.items ≡ map (λ visit. visit.place) path.now) }
+{
+    let mut order = Vec::new(alloc);
+    'visits: for visit in path {
+        order.push(visit.place)?;
+    }
+    Ok(order)
 }
 
 /// Takes a call after a new mark, and answers the mark's depth; or the call is impossible, and the ledger is as before.

@@ -1,7 +1,11 @@
 //! Calls in an order of their own.
 
 use crate::candidate::Candidate;
+use crate::idle::is_idle_call;
 use std::alloc::{AllocError, Global};
+
+/// More than the end of any call.
+const EFFECT: usize = 1 << 40;
 
 /// Places in an order: their ranks are numbered from 1 on.
 #[derive(Drop)]
@@ -14,7 +18,7 @@ impl Ranks {
     ghost use Rattle.std.specs.Prelude.{◌≡◌, ◌≢◌, ◌<◌, ◌^◌, ◌∷◌, AllPairs, IfOk, length, map};
     ghost use Rattle.kmipa_search.specs.Candidates.{candidate_step};
     ghost use Rattle.kmipa_search.specs.Links.{at};
-    ghost use Rattle.kmipa_search.specs.Ranks.{IsRanked, ByStamp, ByEnd, HasRank, AreNoted, rank_from};
+    ghost use Rattle.kmipa_search.specs.Ranks.{IsRanked, ByStamp, ByEnd, InAnyOrder, HasRank, AreNoted, rank_from};
 
     /// By stamps, and calls of one stamp by their places.
     pub fn by_stamp(alloc: Global, calls: &[Candidate]) -> Result<Ranks, AllocError>
@@ -42,6 +46,24 @@ impl Ranks {
         let mut place = 0;
         'calls: while place < calls.len() {
             keys.push((calls[place].end, place))?;
+            place += 1;
+        }
+        keys.sort_unstable();
+        let mut places = Vec::new(alloc);
+        'keys: for key in &keys {
+            places.push(key.1)?;
+        }
+        Ranks::of(alloc, &places)
+    }
+
+    /// Calls without effect first, and each by its end.
+    pub fn by_wish(alloc: Global, calls: &[Candidate]) -> Result<Ranks, AllocError>
+        ensures { IfOk result (λ r. IsRanked (length calls.now) InAnyOrder r.order.items r.rank.items) }
+    {
+        let mut keys = Vec::new(alloc);
+        let mut place = 0;
+        'calls: while place < calls.len() {
+            keys.push((wish(&calls[place]), place))?;
             place += 1;
         }
         keys.sort_unstable();
@@ -99,6 +121,15 @@ impl Ranks {
 }
 
 ghost use Rattle.std.specs.Prelude.{◌≡◌, slice_set};
+
+/// What a call is wished by: the less, the more. One that ended first was mostly done first.
+fn wish(call: &Candidate) -> usize {
+    if is_idle_call(call) {
+        call.end
+    } else {
+        call.end.saturating_add(EFFECT)
+    }
+}
 
 /// Writes a rank at a place, if there is one.
 fn note(ranks: &mut Vec<usize>, place: usize, rank: usize)

@@ -6,7 +6,7 @@ use Rattle.kmipa_search.proofs.order.find_order.Given as goal
 
 abbrev pub invariant-tries : goal.invariant-tries
 invariant-tries g l =
-    Progress (rules_of l.rules) (map candidate_step l.calls) l.budget (g.L.Ledger.state l.fn.ledger).now l.remaining (reverse l.path.items) l.from l.depth l.steps (g.L.Ledger.state l.ledger)
+    Progress (rules_of l.rules) (map candidate_step l.calls) l.wishes.rank.items l.budget (g.L.Ledger.state l.fn.ledger).now l.remaining (reverse l.path.items) l.tried l.depth l.steps (g.L.Ledger.state l.ledger)
 
 abbrev pub decreases-tries : goal.decreases-tries
 decreases-tries g l = 2 * (l.budget - l.steps) + length l.path.items
