@@ -57,12 +57,7 @@ pub fn pick(
 }
 
 /// The first next call that was not tried.
-fn first(
-    remaining: &Remaining,
-    calls: &[Candidate],
-    wishes: &Ranks,
-    tried: Tried,
-) -> Option<usize>
+fn first(remaining: &Remaining, calls: &[Candidate], wishes: &Ranks, tried: Tried) -> Option<usize>
     ensures first { (taken : List ℕ) → AreBegun (map candidate_step calls.now) → AreRemaining (map candidate_step calls.now) taken remaining.now
         → IsCursor (map candidate_step calls.now) taken tried.from → IsFirst (map candidate_step calls.now) taken wishes.now.rank.items tried result }
     ensures within { IfSome result (λ place. place < length calls.now) }
@@ -119,5 +114,9 @@ fn better(wishes: &Ranks, count: usize, done: usize, best: usize, place: usize) 
     if best >= count {
         return place;
     }
-    if rank < wishes.rank(best) { place } else { best }
+    if rank < wishes.rank(best) {
+        place
+    } else {
+        best
+    }
 }
