@@ -4,8 +4,8 @@ ghost use Rattle.std.specs.Prelude.{◌≡◌, ◌≤◌, [], IfOk, length};
 ghost use Rattle.kmipa_ttlv.specs.Input.{came_of};
 
 use kmipa_ttlv::Input;
-use std::fs::{File, OpenOptions};
-use std::io::{BufReader, Read, Write};
+use std::fs::OpenFile;
+use std::io::{BufReader, Read};
 use std::rt::Files;
 use std::{fs, io};
 
@@ -27,57 +27,20 @@ pub fn open_input<R: Files + AllocGlobal + Eprint>(
 }
 
 fn opened<R: Files + AllocGlobal>(rt: &R, name: &str) -> io::Result<BufReader<R::File>> {
-    BufReader::new(rt.alloc(), fs::open(rt, name)?)
+    let file = fs::open(rt, name)?;
+    if file.metadata()?.is_dir() {
+        return Err(io::Error::from(io::ErrorKind::IsADirectory));
+    }
+    BufReader::new(rt.alloc(), file)
 }
 
 /// Tells what is wrong with a file, if anything is. Where standard error can't be written there is nothing left to say.
-fn reported<R: Eprint, T>(rt: &R, name: &str, done: io::Result<T>) -> io::Result<T> {
+pub fn reported<R: Eprint, T>(rt: &R, name: &str, done: io::Result<T>) -> io::Result<T> {
     if let Err(error) = &done {
         rt.eprintln(format_args!("kmip_audit: {name}: {error}"))
             .ok();
     }
     done
-}
-
-/// Writes a file in place of what it held, whole or not at all: the bytes are written to a new file beside it, which
-/// then takes its name. What is no plain file, as a device, a pipe or a link, is written as it stands.
-pub fn replace_file<R: Files + AllocGlobal + Eprint>(
-    rt: &R,
-    name: &str,
-    bytes: &[u8],
-) -> io::Result<()> {
-    match fs::symlink_metadata(rt, name) {
-        Ok(metadata) if !metadata.is_file() => reported(rt, name, fs::write(rt, name, bytes)),
-        _ => write_beside(rt, name, bytes),
-    }
-}
-
-fn write_beside<R: Files + AllocGlobal + Eprint>(
-    rt: &R,
-    name: &str,
-    bytes: &[u8],
-) -> io::Result<()> {
-    let beside = format!(in rt.alloc(); "{name}.part")?;
-    reported(rt, beside.as_str(), write_new(rt, beside.as_str(), bytes))?;
-    let renamed = fs::rename(rt, beside.as_str(), name);
-    if renamed.is_err() {
-        fs::remove_file(rt, beside.as_str()).ok();
-    }
-    reported(rt, name, renamed)
-}
-
-/// Writes a file that was not there. What can't be written whole is removed.
-fn write_new<R: Files>(rt: &R, name: &str, bytes: &[u8]) -> io::Result<()> {
-    let mut file = OpenOptions::new()
-        .write(true)
-        .create_new(true)
-        .open(rt, name)?;
-    let written = file.write_all(bytes);
-    drop(file);
-    if written.is_err() {
-        fs::remove_file(rt, name).ok();
-    }
-    written
 }
 
 /// Where a file's header is refused, and the file is of another kind, tells so on standard error.
@@ -113,4 +76,27 @@ fn first_bytes<R: Files>(rt: &R, name: &str) -> Option<[u8; 3]> {
     let mut file = fs::open(rt, name).ok()?;
     file.read_exact(&mut begins).ok()?;
     Some(begins)
+}
+
+/// Where digits are refused, tells on standard error which byte of the file is no digit.
+pub fn hint_digits<R: Files + AllocGlobal + Eprint>(rt: &R, name: &str, lines: &[u8]) {
+    if lines != b"hex: refused\n".as_slice() {
+        return;
+    }
+    let Ok(text) = fs::read(rt, name) else {
+        return;
+    };
+    match text.iter().position(|byte| !may_stand_in_digits(*byte)) {
+        Some(place) => rt.eprintln(format_args!(
+            "kmip_audit: {name}: the byte at offset {place} is neither a hexadecimal digit nor white space"
+        )),
+        None => rt.eprintln(format_args!(
+            "kmip_audit: {name}: the digits are odd in number, and two spell a byte"
+        )),
+    }
+    .ok();
+}
+
+fn may_stand_in_digits(byte: u8) -> bool {
+    byte.is_ascii_hexdigit() || matches!(byte, b' ' | b'\t' | b'\r' | b'\n')
 }

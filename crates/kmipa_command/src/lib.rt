@@ -5,6 +5,7 @@ mod files;
 mod output;
 mod printing;
 mod progress;
+mod replacing;
 mod session;
 mod words;
 

@@ -34,14 +34,16 @@ pub fn tell_rest<R: Print + Eprint>(
     }
 }
 
-/// Tells why standard output could not be written. Where standard error can't be written either, there is nothing left
-/// to say.
+/// Tells why standard output could not be written, but for a reader who had read enough and went. Where standard error can't be written
+/// either, there is nothing left to say.
 pub fn reported<R: Eprint, T>(rt: &R, printed: io::Result<T>) -> io::Result<T>
     ensures { result ≡ printed }
 {
     if let Err(error) = &printed {
-        rt.eprintln(format_args!("kmip_audit: standard output: {error}"))
-            .ok();
+        if error.kind() != io::ErrorKind::BrokenPipe {
+            rt.eprintln(format_args!("kmip_audit: standard output: {error}"))
+                .ok();
+        }
     }
     printed
 }

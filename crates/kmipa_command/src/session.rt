@@ -4,10 +4,11 @@ ghost use Rattle.std.specs.Prelude.{◌≡◌, ◌↔◌, [], IfOk};
 ghost use Rattle.kmipa_runs.specs.Lines.{FitsStatus, yes_line};
 ghost use Rattle.kmipa_runs.specs.declared.status.Status.{Status};
 
-use crate::files::{hint_kind, open_input, replace_file};
+use crate::files::{hint_digits, hint_kind, open_input};
 use crate::output::Output;
 use crate::printing::{tell, tell_error, tell_rest, tell_usage, tell_words};
 use crate::progress::Progress;
+use crate::replacing::{is_input, replace_file, test_output};
 use crate::words::{Job, read_words};
 use kmipa_runs::{ShowOptions, Status, check_run, search_run, show_run, write_run};
 use kmipa_search::Watch;
@@ -107,8 +108,12 @@ fn search_files<R: Files + AllocGlobal + Eprint, W: Watch>(
     watch: &mut W,
     out: &mut Vec<u8>,
 ) -> io::Result<Status> {
+    if is_input(rt, names[2], &names[..2]) {
+        return Ok(Status::Usage);
+    }
     let mut transcript = open_input(rt, names[0])?;
     let mut declaration = open_input(rt, names[1])?;
+    test_output(rt, names[2])?;
     let mut made = Vec::new(rt.alloc());
     let status = search_run(
         rt.alloc(),
@@ -152,10 +157,17 @@ fn write_file<R: Files + AllocGlobal + Eprint>(
     name: &str,
     out: &mut Vec<u8>,
 ) -> io::Result<Status> {
+    if is_input(rt, name, &[hex]) {
+        return Ok(Status::Usage);
+    }
     let mut input = open_input(rt, hex)?;
+    test_output(rt, name)?;
     let mut made = Vec::new(rt.alloc());
     let status = write_run(rt.alloc(), &mut input, out, &mut made);
     drop(input);
+    if status == Status::Refused {
+        hint_digits(rt, hex, out);
+    }
     if status == Status::Done {
         replace_file(rt, name, made.as_slice())?;
     }

@@ -44,7 +44,7 @@ Examples:
   kmip_audit check transcript.ttlv declaration.ttlv witness.ttlv
   kmip_audit search transcript.ttlv declaration.ttlv witness.ttlv
   kmip_audit show transcript.ttlv
-  kmip_audit write transcript.txt transcript.ttlv
+  kmip_audit write digits.txt items.ttlv
 
 Status: 0 yes, found, shown or written; 1 no; 2 a file is refused; 3 a device failed or memory ran out;
   4 a search gave up; 64 wrong words";
@@ -76,7 +76,7 @@ Status: 0 shown; 2 the file is refused; 3 a device failed or memory ran out; 64 
 
 const WRITE_HELP: &str = "\
 Example:
-  kmip_audit write transcript.txt transcript.ttlv
+  kmip_audit write digits.txt items.ttlv
 
 Status: 0 written; 2 the digits are refused; 3 a device failed or memory ran out; 64 wrong words";
 
