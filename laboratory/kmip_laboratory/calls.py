@@ -10,40 +10,12 @@ from typing import Dict, FrozenSet, Iterator, List, NamedTuple, Optional, Set, T
 
 from . import message, ttlv
 from .records import File, read_file, records, which
+from .tags import Tag
 from .transcript import BEGIN_MARK, CALL, CLIENT, END_MARK, MESSAGE
 from .trouble import Trouble
 from .ttlv import Item, Kind
 
-ATTRIBUTES = 0x420125
-BATCH_ITEM = 0x42000F
-BATCH_ORDER_OPTION = 0x420010
-NAME = 0x420053
-NAME_TYPE = 0x420054
-NAME_VALUE = 0x420055
-OPERATION = 0x42005C
-REQUEST_HEADER = 0x420077
-REQUEST_PAYLOAD = 0x420079
-RESPONSE_PAYLOAD = 0x42007C
-RESULT_REASON = 0x42007E
-RESULT_STATUS = 0x42007F
-UNIQUE_IDENTIFIER = 0x420094
-
 Name = Tuple[str, int]
-
-
-class Operation(IntEnum):
-    """The operations that are judged, and the two that are read over."""
-
-    CREATE = 0x01
-    REGISTER = 0x03
-    LOCATE = 0x08
-    GET = 0x0A
-    GET_ATTRIBUTES = 0x0B
-    ACTIVATE = 0x12
-    REVOKE = 0x13
-    DESTROY = 0x14
-    QUERY = 0x18
-    DISCOVER_VERSIONS = 0x1E
 
 
 class Status(IntEnum):
@@ -117,18 +89,18 @@ def _call(number: int, begin: Tuple[int, bytes, Item], end: Optional[Tuple[int, 
     request = _message(begin[2])
     response = _message(end[2]) if end else None
     asked, answered = _item(request), _item(response)
-    header = asked.first(REQUEST_HEADER, Kind.STRUCTURE) if asked else None
-    order = header.first(BATCH_ORDER_OPTION, Kind.BOOLEAN) if header else None
-    answers = answered.every(BATCH_ITEM, Kind.STRUCTURE) if answered else []
-    asks = asked.every(BATCH_ITEM, Kind.STRUCTURE) if asked else []
+    header = asked.first(Tag.REQUEST_HEADER, Kind.STRUCTURE) if asked else None
+    order = header.first(Tag.BATCH_ORDER_OPTION, Kind.BOOLEAN) if header else None
+    answers = answered.every(Tag.BATCH_ITEM, Kind.STRUCTURE) if answered else []
+    asks = asked.every(Tag.BATCH_ITEM, Kind.STRUCTURE) if asked else []
     return Call(
         number, client.value if client else "", begin[0], end[0] if end else None, (begin[1], end[1] if end else b""),
         request, response, message.time_stamp(response) if response is not None else None,
         [_piece(asks[place] if place < len(asks) else None, answers[place] if place < len(answers) else None)
          for place in range(max(len(asks), len(answers)))],
         order is None or order.value is True or len(asks) < 2,
-        len(answers) == 1 and _number(answers[0], OPERATION) is None
-        and _number(answers[0], RESULT_STATUS) == Status.FAILED)
+        len(answers) == 1 and _number(answers[0], Tag.OPERATION) is None
+        and _number(answers[0], Tag.RESULT_STATUS) == Status.FAILED)
 
 
 def _message(mark: Item) -> bytes:
@@ -147,12 +119,12 @@ def _item(spelled: Optional[bytes]) -> Optional[Item]:
 
 
 def _piece(ask: Optional[Item], answer: Optional[Item]) -> Piece:
-    asked = ask.first(REQUEST_PAYLOAD, Kind.STRUCTURE) if ask else None
-    told = answer.first(RESPONSE_PAYLOAD, Kind.STRUCTURE) if answer else None
-    operation = _number(ask, OPERATION) if ask else _number(answer, OPERATION)
+    asked = ask.first(Tag.REQUEST_PAYLOAD, Kind.STRUCTURE) if ask else None
+    told = answer.first(Tag.RESPONSE_PAYLOAD, Kind.STRUCTURE) if answer else None
+    operation = _number(ask, Tag.OPERATION) if ask else _number(answer, Tag.OPERATION)
     return Piece(
-        operation, _number(answer, RESULT_STATUS), _number(answer, RESULT_REASON),
-        frozenset(_texts(asked, UNIQUE_IDENTIFIER)), frozenset(_texts(told, UNIQUE_IDENTIFIER)),
+        operation, _number(answer, Tag.RESULT_STATUS), _number(answer, Tag.RESULT_REASON),
+        frozenset(_texts(asked, Tag.UNIQUE_IDENTIFIER)), frozenset(_texts(told, Tag.UNIQUE_IDENTIFIER)),
         frozenset(names(asked)), bool(told and told.children()))
 
 
@@ -171,10 +143,10 @@ def _texts(item: Optional[Item], tag: int) -> Iterator[str]:
 
 def names(item: Optional[Item]) -> Set[Name]:
     """The names in the Attributes of a payload or of an entry."""
-    attributes = item.first(ATTRIBUTES, Kind.STRUCTURE) if item else None
+    attributes = item.first(Tag.ATTRIBUTES, Kind.STRUCTURE) if item else None
     found: Set[Name] = set()
-    for name in attributes.every(NAME, Kind.STRUCTURE) if attributes else []:
-        value, kind = name.first(NAME_VALUE, Kind.TEXT), name.first(NAME_TYPE, Kind.ENUMERATION)
+    for name in attributes.every(Tag.NAME, Kind.STRUCTURE) if attributes else []:
+        value, kind = name.first(Tag.NAME_VALUE, Kind.TEXT), name.first(Tag.NAME_TYPE, Kind.ENUMERATION)
         if value:
             found.add((value.value, kind.value if kind else 1))
     return found

@@ -26,6 +26,7 @@ from kmip_laboratory.transcript import TranscriptWriter
 
 EXAMPLES = FOLDER.parent / "examples"
 CHROMIUM = shutil.which("chromium")
+SECONDS_TO_BROWSE = 90
 STRANGE = ["<script>alert(1)</script>", "\"'></pre><b>", "</script><img src=x onerror=alert(1)>", "&lt;i&gt;", "]]>"]
 KEY = bytes(range(200, 216))
 DRIVER = """<script>
@@ -193,11 +194,15 @@ class Report(unittest.TestCase):
         self.assertEqual(json.loads(found.group(1))[:5], [6, "Call 1: Get", "Call 2: Get", "Call 6: Get", "Call 6: Get"])
 
     def browse(self, page: Path) -> Tuple[str, str]:
-        """What a browser makes of a page, and what it says."""
-        done = subprocess.run(
-            [CHROMIUM, "--headless=new", "--no-sandbox", "--disable-gpu", "--enable-logging=stderr", "--v=0",
-             "--virtual-time-budget=2000", f"--user-data-dir={self.folder / 'browser'}", "--dump-dom", page.as_uri()],
-            capture_output=True, text=True, timeout=90, check=False)
+        """What a browser makes of a page, and what it says. A browser that doesn't come to its end shows nothing of the page."""
+        words = [CHROMIUM, "--headless=new", "--no-sandbox", "--disable-gpu", "--enable-logging=stderr", "--v=0",
+                 "--virtual-time-budget=2000", f"--user-data-dir={self.folder / 'browser'}", "--dump-dom", page.as_uri()]
+        try:
+            done = subprocess.run(words, capture_output=True, text=True, timeout=SECONDS_TO_BROWSE, check=False)
+        except subprocess.TimeoutExpired:
+            self.skipTest(f"the browser did not come to its end within {SECONDS_TO_BROWSE} s")
+        if done.returncode != 0:
+            self.skipTest(f"the browser ended with {done.returncode}: {done.stderr[-200:]}")
         return done.stdout, done.stderr
 
 

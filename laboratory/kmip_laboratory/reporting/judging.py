@@ -11,7 +11,8 @@ from pathlib import Path
 from typing import Dict, List, NamedTuple, Optional, Tuple
 
 from ..auditor import Auditor, Outcome, Verdict
-from ..calls import Call, Operation, Status, read_transcript
+from ..calls import Call, Status, read_transcript
+from ..operations import operation_name as standard_name
 from ..records import read_file, records
 from ..transcript import CALL
 from ..trouble import Trouble
@@ -119,10 +120,7 @@ def operation_name(number: Optional[int]) -> str:
     """The name of an operation, or its number."""
     if number is None:
         return "no operation"
-    try:
-        return Operation(number).name.replace("_", " ").title()
-    except ValueError:
-        return f"operation {number:X}"
+    return standard_name(number)
 
 
 def came_to(call: Call) -> str:

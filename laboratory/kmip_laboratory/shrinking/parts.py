@@ -7,9 +7,11 @@ from __future__ import annotations
 
 from typing import Dict, FrozenSet, Iterable, List, NamedTuple, Set
 
-from ..calls import UNIQUE_IDENTIFIER, Call, Name, Operation, Piece, Status, names
+from ..calls import Call, Name, Piece, Status, names
+from ..operations import Operation
 from ..records import File, read_file, records, which
 from ..recording.inventory import ENTRY
+from ..tags import Tag
 from ..trouble import Trouble
 from ..ttlv import Kind
 
@@ -41,7 +43,7 @@ def read_declaration(path: str) -> Declaration:
     read = Declaration(b"", {}, {})
     head = []
     for record in records(path, data):
-        identifier = record.item.first(UNIQUE_IDENTIFIER, Kind.TEXT)
+        identifier = record.item.first(Tag.UNIQUE_IDENTIFIER, Kind.TEXT)
         if record.item.tag == ENTRY and identifier:
             read.entries[identifier.value] = record.spelled
             read.names[identifier.value] = names(record.item)
