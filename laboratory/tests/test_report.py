@@ -30,20 +30,25 @@ SECONDS_TO_BROWSE = 90
 STRANGE = ["<script>alert(1)</script>", "\"'></pre><b>", "</script><img src=x onerror=alert(1)>", "&lt;i&gt;", "]]>"]
 KEY = bytes(range(200, 216))
 DRIVER = """<script>
-const bars = document.querySelectorAll('rect[data-call]'), panel = document.querySelector('.details');
-const seen = [bars.length];
-bars[0].dispatchEvent(new MouseEvent('click', { bubbles: true }));
-seen.push(panel.querySelector('h3').textContent);
-const box = document.querySelector('.lanes');
-for (const key of ['ArrowRight', 'End', 'f', '+', '-', '0', 'PageUp', 'PageDown', 'Home', 'ArrowDown', 'ArrowUp']) {
-  box.dispatchEvent(new KeyboardEvent('keydown', { key, bubbles: true, cancelable: true }));
+// The page draws when it is laid out, which may be behind this.
+const drive = () => {
+  if (!document.querySelector('rect[data-call]')) { setTimeout(drive, 20); return; }
+  const bars = document.querySelectorAll('rect[data-call]'), panel = document.querySelector('.details');
+  const seen = [bars.length];
+  bars[0].dispatchEvent(new MouseEvent('click', { bubbles: true }));
   seen.push(panel.querySelector('h3').textContent);
-}
-for (const button of document.querySelectorAll('.tools button')) button.click();
-const told = document.createElement('output');
-told.id = 'seen';
-told.textContent = JSON.stringify(seen);
-document.body.append(told);
+  const box = document.querySelector('.lanes');
+  for (const key of ['ArrowRight', 'End', 'f', '+', '-', '0', 'PageUp', 'PageDown', 'Home', 'ArrowDown', 'ArrowUp']) {
+    box.dispatchEvent(new KeyboardEvent('keydown', { key, bubbles: true, cancelable: true }));
+    seen.push(panel.querySelector('h3').textContent);
+  }
+  for (const button of document.querySelectorAll('.tools button')) button.click();
+  const told = document.createElement('output');
+  told.id = 'seen';
+  told.textContent = JSON.stringify(seen);
+  document.body.append(told);
+};
+drive();
 </script>"""
 
 
