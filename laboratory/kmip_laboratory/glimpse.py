@@ -5,32 +5,51 @@ A glimpse reads no more than it tells, so that passes over long transcripts take
 
 from __future__ import annotations
 
+from functools import lru_cache
 from typing import Dict, List, NamedTuple, Optional, Tuple
 
-from . import ttlv
 from .message import Side
 from .tags import Tag
-from .ttlv import Kind
+from .ttlv import Kind, front, places_in
 from .versions import Version
 
 SUCCESS, FAILED, PENDING, UNDONE = range(4)
 
+BATCH_ITEM = front(Tag.BATCH_ITEM, Kind.STRUCTURE)
+HEADERS = {side: front(side.header_tag, Kind.STRUCTURE) for side in Side}
+MAJOR = front(Tag.PROTOCOL_VERSION_MAJOR, Kind.INTEGER)
+MESSAGES = {side: front(side.message_tag, Kind.STRUCTURE) for side in Side}
+MINOR = front(Tag.PROTOCOL_VERSION_MINOR, Kind.INTEGER)
+OPERATION = front(Tag.OPERATION, Kind.ENUMERATION)
+PAYLOADS = {Side.CLIENT: front(Tag.REQUEST_PAYLOAD, Kind.STRUCTURE),
+            Side.SERVER: front(Tag.RESPONSE_PAYLOAD, Kind.STRUCTURE)}
+REASON = front(Tag.RESULT_REASON, Kind.ENUMERATION)
+STATUS = front(Tag.RESULT_STATUS, Kind.ENUMERATION)
+TIME_STAMP = front(Tag.TIME_STAMP, Kind.DATE_TIME)
+UNIQUE_IDENTIFIER = front(Tag.UNIQUE_IDENTIFIER, Kind.TEXT)
+VERSION = front(Tag.PROTOCOL_VERSION, Kind.STRUCTURE)
+
 
 class Part(NamedTuple):
-    """A Batch Item. `payload` is where the value of its payload stands, from and up to."""
+    """A Batch Item. `place` is the offset of its value, and `payload` where that of its payload stands, from and up
+    to."""
 
     operation: Optional[int]
     status: Optional[int]
     reason: Optional[int]
     payload: Optional[Tuple[int, int]]
+    place: int
 
 
 class Glimpse(NamedTuple):
-    """A message; of a request there is neither status nor reason, and mostly no moment."""
+    """A message; of a request there is neither status nor reason, and mostly no moment. `header` and `version_place`
+    are where the values of its header and of its Protocol Version stand, from and up to."""
 
     version: Optional[Version]
     stamp: Optional[int]
     parts: List[Part]
+    header: Tuple[int, int]
+    version_place: Tuple[int, int]
 
     @property
     def is_refusal(self) -> bool:
@@ -41,47 +60,51 @@ class Glimpse(NamedTuple):
 def glimpse(message: bytes, side: Side) -> Optional[Glimpse]:
     """What the message says at first sight; None where it is no message of this side."""
     try:
-        (tag, kind, start, length), = ttlv.headers_in(message, 0, len(message))
-        if (tag, kind) != (side.message_tag, Kind.STRUCTURE):
-            return None
-        return _glimpse(message, side, start, start + length)
+        (number, start, length), = places_in(message, 0, len(message))
+        return _glimpse(message, side, start, start + length) if number == MESSAGES[side] else None
     except ValueError:
         return None
 
 
 def _glimpse(message: bytes, side: Side, start: int, stop: int) -> Glimpse:
-    version, stamp, parts = None, None, []
-    for tag, kind, place, length in ttlv.headers_in(message, start, stop):
-        if kind == 1 and tag == Tag.BATCH_ITEM:
-            parts.append(_part(message, side, place, place + length))
-        elif kind == 1 and tag == side.header_tag:
-            for tag, kind, place, length in ttlv.headers_in(message, place, place + length):
-                if tag == Tag.PROTOCOL_VERSION and kind == 1 and version is None:
-                    version = _version(message, place, place + length)
-                elif tag == Tag.TIME_STAMP and kind == 9 and stamp is None:
-                    stamp = int.from_bytes(message[place:place + 8], "big", signed=True)
-    return Glimpse(version, stamp, parts)
+    header, found, payload, parts = HEADERS[side], None, PAYLOADS[side], []
+    for number, place, length in places_in(message, start, stop):
+        if number == BATCH_ITEM:
+            parts.append(_part(message, payload, place, place + length))
+        elif number == header and found is None:
+            found = (place, place + length)
+    version, stamp, where = None, None, None
+    for number, place, length in places_in(message, *found) if found else ():
+        if number == VERSION and where is None:
+            where = (place, place + length)
+            version = _version(message[place:place + length])
+        elif number == TIME_STAMP and stamp is None:
+            stamp = int.from_bytes(message[place:place + 8], "big", signed=True)
+    return Glimpse(version, stamp, parts, found or (0, 0), where or (0, 0))
 
 
-def _version(message: bytes, start: int, stop: int) -> Optional[Version]:
+@lru_cache(maxsize=64)
+def _version(spelled: bytes) -> Optional[Version]:
+    """The version that the value of a Protocol Version is. There are few, and they come again and again."""
     found: Dict[int, int] = {}
-    for tag, kind, place, _ in ttlv.headers_in(message, start, stop):
-        if kind == 2:
-            found.setdefault(tag, int.from_bytes(message[place:place + 4], "big", signed=True))
-    major, minor = found.get(Tag.PROTOCOL_VERSION_MAJOR), found.get(Tag.PROTOCOL_VERSION_MINOR)
+    for number, place, _ in places_in(spelled, 0, len(spelled)):
+        found.setdefault(number, int.from_bytes(spelled[place:place + 4], "big", signed=True))
+    major, minor = found.get(MAJOR), found.get(MINOR)
     return None if major is None or minor is None else Version(major, minor)
 
 
-def _part(message: bytes, side: Side, start: int, stop: int) -> Part:
-    payload_tag = Tag.REQUEST_PAYLOAD if side is Side.CLIENT else Tag.RESPONSE_PAYLOAD
-    numbers: Dict[int, int] = {}
-    payload = None
-    for tag, kind, place, length in ttlv.headers_in(message, start, stop):
-        if kind == 5:
-            numbers.setdefault(tag, int.from_bytes(message[place:place + 4], "big"))
-        elif tag == payload_tag and kind == 1 and payload is None:
-            payload = (place, place + length)
-    return Part(numbers.get(Tag.OPERATION), numbers.get(Tag.RESULT_STATUS), numbers.get(Tag.RESULT_REASON), payload)
+def _part(message: bytes, payload_front: int, start: int, stop: int) -> Part:
+    operation = status = reason = payload = None
+    for number, place, length in places_in(message, start, stop):
+        if number == payload_front:
+            payload = payload or (place, place + length)
+        elif number == OPERATION and operation is None:
+            operation = int.from_bytes(message[place:place + 4], "big")
+        elif number == STATUS and status is None:
+            status = int.from_bytes(message[place:place + 4], "big")
+        elif number == REASON and reason is None:
+            reason = int.from_bytes(message[place:place + 4], "big")
+    return Part(operation, status, reason, payload, start)
 
 
 def identifiers(message: bytes, part: Part) -> List[str]:
@@ -89,5 +112,4 @@ def identifiers(message: bytes, part: Part) -> List[str]:
     if part.payload is None:
         return []
     return [message[place:place + length].decode("utf-8", "replace")
-            for tag, kind, place, length in ttlv.headers_in(message, *part.payload)
-            if tag == Tag.UNIQUE_IDENTIFIER and kind == 7]
+            for number, place, length in places_in(message, *part.payload) if number == UNIQUE_IDENTIFIER]

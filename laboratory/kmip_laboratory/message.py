@@ -12,29 +12,20 @@ from .ttlv import Item, Kind
 PROTOCOL_VERSION = 0x420069
 PROTOCOL_VERSION_MAJOR = 0x42006A
 PROTOCOL_VERSION_MINOR = 0x42006B
-TIME_STAMP = 0x420092
+RESPONSE_HEADER = ttlv.front(0x42007A, Kind.STRUCTURE)
+TIME_STAMP = ttlv.front(0x420092, Kind.DATE_TIME)
 
 
 class Side(Enum):
-    """Who speaks. The values are the word for it, the tag of the message, and the tag of its header."""
+    """Who speaks: what its messages are called, their tag, and the tag of their headers."""
 
     CLIENT = ("Request Message", 0x420078, 0x420077)
     SERVER = ("Response Message", 0x42007B, 0x42007A)
 
-    @property
-    def message_name(self) -> str:
-        """What such a message is called."""
-        return self.value[0]
-
-    @property
-    def message_tag(self) -> int:
-        """The tag of such a message."""
-        return self.value[1]
-
-    @property
-    def header_tag(self) -> int:
-        """The tag of such a message's header."""
-        return self.value[2]
+    def __init__(self, message_name: str, message_tag: int, header_tag: int) -> None:
+        self.message_name = message_name
+        self.message_tag = message_tag
+        self.header_tag = header_tag
 
 
 def announced_length(header: bytes, side: Side) -> int:
@@ -56,28 +47,14 @@ def read(message: bytes, side: Side) -> Item:
         raise ConnectionTrouble(f"what came is no {side.message_name}: {fault}") from None
 
 
-def with_minor_1(message: bytes, side: Side) -> bytes:
-    """The message with its version 2.0 made 2.1; a message of any other version as it is."""
-    version = _version(read(message, side), side)
-    if version is None:
-        return message
-    major = version.first(PROTOCOL_VERSION_MAJOR, Kind.INTEGER)
-    minor = version.first(PROTOCOL_VERSION_MINOR, Kind.INTEGER)
-    if major is None or minor is None or (major.value, minor.value) != (2, 0):
-        return message
-    return message[:minor.place] + (1).to_bytes(4, "big") + message[minor.place + 4:]
-
-
-def _version(item: Item, side: Side) -> Optional[Item]:
-    header = item.first(side.header_tag, Kind.STRUCTURE)
-    return header.first(PROTOCOL_VERSION, Kind.STRUCTURE) if header else None
-
-
 def time_stamp(response: bytes) -> Optional[int]:
     """The Time Stamp of a response, where it is one and has one."""
     try:
-        header = ttlv.read_item(response).first(Side.SERVER.header_tag, Kind.STRUCTURE)
-    except ttlv.NotTtlv:
-        return None
-    stamp = header.first(TIME_STAMP, Kind.DATE_TIME) if header else None
-    return stamp.value if stamp else None
+        (_, start, length), = ttlv.places_in(response, 0, len(response))
+        for number, place, size in ttlv.places_in(response, start, start + length):
+            if number == RESPONSE_HEADER:
+                return next((int.from_bytes(response[at:at + 8], "big", signed=True) for found, at, _ in
+                             ttlv.places_in(response, place, place + size) if found == TIME_STAMP), None)
+    except ValueError:
+        pass
+    return None

@@ -3,6 +3,7 @@
 from __future__ import annotations
 
 from enum import IntEnum
+from functools import lru_cache
 
 
 class Operation(IntEnum):
@@ -79,6 +80,7 @@ SPECIAL_NAMES = {Operation.RE_KEY: "Re-key", Operation.RE_CERTIFY: "Re-certify",
                  Operation.PKCS_11: "PKCS#11", Operation.RE_PROVISION: "Re-Provision"}
 
 
+@lru_cache(maxsize=256)
 def operation_name(number: int) -> str:
     """The name of an operation; of a number that the standard does not name, its digits."""
     try:

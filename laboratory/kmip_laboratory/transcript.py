@@ -20,6 +20,9 @@ CALL = 0x540011
 CLIENT = 0x540012
 MESSAGE = 0x540013
 END_MARK = 0x540020
+BEGIN_FRONT, END_FRONT = ttlv.front(BEGIN_MARK, Kind.STRUCTURE), ttlv.front(END_MARK, Kind.STRUCTURE)
+CALL_FRONT, CLIENT_FRONT = ttlv.front(CALL, Kind.INTEGER), ttlv.front(CLIENT, Kind.TEXT)
+MESSAGE_FRONT = ttlv.front(MESSAGE, Kind.BYTES)
 
 MOST_CALLS = 100_000
 
@@ -137,6 +140,11 @@ def read_marks(path: str) -> List[Mark]:
 
 def marks_in(path: str) -> Iterator[Mark]:
     """The marks of a transcript, one after the other, so that the file need not be held."""
+    return (mark for mark, _ in spelled_marks_in(path))
+
+
+def spelled_marks_in(path: str) -> Iterator[Tuple[Mark, bytes]]:
+    """The same, each with its record."""
     try:
         with open(path, "rb") as file:
             yield from _marks_of(file, path)
@@ -144,7 +152,7 @@ def marks_in(path: str) -> Iterator[Mark]:
         raise Trouble(f"{path} can't be read: {error.strerror}") from None
 
 
-def _marks_of(file: BinaryIO, path: str) -> Iterator[Mark]:
+def _marks_of(file: BinaryIO, path: str) -> Iterator[Tuple[Mark, bytes]]:
     """Tells where the file is not what it should be: header, then marks; an end for a call that began, and once."""
     place = 0
     begun: Dict[int, bool] = {}
@@ -154,7 +162,7 @@ def _marks_of(file: BinaryIO, path: str) -> Iterator[Mark]:
                           "proxy` or `keylog` made")
         record = _record(file, front, path, place)
         if place > 0:
-            yield _mark_of(record, begun, path, place)
+            yield _mark_of(record, begun, path, place), record
         place += len(record)
     if place == 0:
         raise Trouble(f"{path} is no transcript: it is empty; give one that `kmip_record proxy` or `keylog` made")
@@ -194,14 +202,17 @@ def _mark_of(record: bytes, begun: Dict[int, bool], path: str, place: int) -> Ma
 
 def _read_mark(record: bytes) -> Optional[Mark]:
     """The mark that a record is, read by its headers alone, since there are many of them."""
-    tag, _, start, length = next(ttlv.headers_in(record, 0, len(record)))
-    values = {(tag, kind): record[place:place + size] for tag, kind, place, size in
-              ttlv.headers_in(record, start, start + length)}
-    call, message = values.get((CALL, Kind.INTEGER)), values.get((MESSAGE, Kind.BYTES))
-    client = values.get((CLIENT, Kind.TEXT))
-    if call is None or message is None or len(call) != 4:
+    (outer, start, length), = ttlv.places_in(record, 0, len(record))
+    call = client = message = None
+    for front, place, size in ttlv.places_in(record, start, start + length):
+        if front == CALL_FRONT and size == 4:
+            call = int.from_bytes(record[place:place + 4], "big", signed=True)
+        elif front == MESSAGE_FRONT:
+            message = record[place:place + size]
+        elif front == CLIENT_FRONT:
+            client = record[place:place + size].decode("utf-8", "replace")
+    if call is None or message is None:
         return None
-    number = int.from_bytes(call, "big", signed=True)
-    if tag == BEGIN_MARK and client is not None:
-        return Begin(number, client.decode("utf-8", "replace"), message)
-    return End(number, message) if tag == END_MARK else None
+    if outer == BEGIN_FRONT and client is not None:
+        return Begin(call, client, message)
+    return End(call, message) if outer == END_FRONT else None

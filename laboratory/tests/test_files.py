@@ -8,8 +8,7 @@ from unittest import mock
 import messages
 from laboratory import Laboratory, run
 
-from kmip_laboratory import certificate, message, ttlv
-from kmip_laboratory.message import Side
+from kmip_laboratory import certificate, ttlv
 from kmip_laboratory.transcript import TranscriptWriter
 from kmip_laboratory.trouble import Trouble
 
@@ -117,12 +116,6 @@ class Items(unittest.TestCase):
                     "00000004 FFFFFFFF 00000000 4200010B 00000008 80000000 00000000")
         spelled = messages.item(0x420001, 1, bytes.fromhex(children))
         self.assertEqual(ttlv.spell(ttlv.read_item(spelled)), spelled)
-
-    def test_only_version_2_0_of_the_header_changes(self) -> None:
-        self.assertEqual(message.with_minor_1(messages.get("k", (2, 0)), Side.CLIENT), messages.get("k", (2, 1)))
-        for protocol in ((1, 0), (2, 1), (3, 0)):
-            other = messages.get("k", protocol)
-            self.assertEqual(message.with_minor_1(other, Side.CLIENT), other)
 
     def test_bytes_that_are_no_certificate_have_no_name(self) -> None:
         for data in (b"", b"\x30", b"\x30\x02\x30\x00", b"certificate"):

@@ -9,7 +9,7 @@ from .. import ttlv
 from ..records import records, which
 from ..transcript import CALL, CLIENT, MESSAGE
 from ..trouble import say
-from ..ttlv import Item, Kind
+from ..ttlv import BIG_INTEGER, BYTES, STRUCTURE, TEXT, Item, Kind
 from .replacing import Bytes
 
 ANSWER = 0x540044
@@ -32,6 +32,7 @@ class Sort(Enum):
     OTHER = "text"
 
 
+OTHER, PASSWORD_SORT = Sort.OTHER, Sort.PASSWORD
 SORTS = {NAME_VALUE: Sort.NAME, UNIQUE_IDENTIFIER: Sort.IDENTIFIER, CLIENT: Sort.CLIENT, PASSWORD: Sort.PASSWORD}
 
 
@@ -63,7 +64,7 @@ class Opened:
         self._replacing = replacing
         for record in records(path, data):
             call = record.item.first(CALL, Kind.INTEGER)
-            self._open(record.item, Where(record.place, call.value if call else 0, False), False)
+            self._open([record.item], Where(record.place, call.value if call else 0, False), False)
 
     def first_place(self, text: Text) -> int:
         """The offset at which a text stands first."""
@@ -75,25 +76,30 @@ class Opened:
         for place in self.texts[text]:
             self.data[place:place + len(spelled)] = spelled
 
-    def _open(self, item: Item, where: Where, secret: bool) -> None:
-        """Opens an item, and what stands in it."""
-        secret = secret or item.tag in SECRETS
-        if item.kind == Kind.STRUCTURE:
-            for child in item.children():
-                self._open(child, where, secret)
-            return
-        place = where.base + item.place
-        length = int.from_bytes(self.data[place - 4:place], "big")
-        padding = ttlv.padding(length)
+    def _open(self, items: List[Item], where: Where, secret: bool) -> None:
+        """Opens these items, and what stands in them."""
+        for item in items:
+            tag, kind, value, place = item
+            place += where.base
+            if kind is STRUCTURE:
+                self._open(value, where, secret or tag in SECRETS)
+            elif kind is TEXT:
+                self._fill(place, int.from_bytes(self.data[place - 4:place], "big"))
+                self._note(item, place)
+            elif kind is BYTES or kind is BIG_INTEGER:
+                self._fill(place, len(value))
+                if tag in MESSAGES and not where.message:
+                    self._open_message(item, Where(place, where.call, True))
+                else:
+                    self._replace(item, place, secret or tag in SECRETS)
+            elif kind in ttlv.SHORT_NUMBERS:
+                self._fill(place, 4)
+
+    def _fill(self, place: int, length: int) -> None:
+        """Makes the padding of a value zeros."""
+        padding = -length % 8
         if padding:
             self.data[place + length:place + length + padding] = bytes(padding)
-        if item.kind == Kind.TEXT:
-            self._note(item, place)
-        elif item.kind in (Kind.BYTES, Kind.BIG_INTEGER):
-            if item.tag in MESSAGES and not where.message:
-                self._open_message(item, Where(place, where.call, True))
-            else:
-                self._replace(item, place, secret)
 
     def _open_message(self, item: Item, where: Where) -> None:
         """Opens the message that these bytes are; what is none can't be read, and becomes zeros."""
@@ -104,7 +110,7 @@ class Opened:
                 "none")
             self.data[where.base:where.base + len(item.value)] = bytes(len(item.value))
             return
-        self._open(message, where, False)
+        self._open([message], where, False)
 
     def _replace(self, item: Item, place: int, secret: bool) -> None:
         if secret:
@@ -113,9 +119,9 @@ class Opened:
         self.data[place:place + len(item.value)] = self._replacing.of(item.value)
 
     def _note(self, item: Item, place: int) -> None:
-        text = Text(SORTS.get(item.tag, Sort.OTHER), item.value)
-        self.texts.setdefault(text, []).append(place)
-        if text.sort is Sort.PASSWORD:
+        sort = SORTS.get(item.tag, OTHER)
+        self.texts.setdefault(Text(sort, item.value), []).append(place)
+        if sort is PASSWORD_SORT:
             self.secrets.add(item.value.encode("utf-8"))
 
 

@@ -8,7 +8,7 @@ from typing import BinaryIO, Dict, FrozenSet, List, Optional, Set
 
 from .. import message
 from ..files import see_that_free
-from ..transcript import Begin, Mark, marks_in, spelled
+from ..transcript import Begin, Mark, marks_in, spelled_marks_in
 from ..trouble import Trouble, say
 from .rewriting import FILE_HEADER
 from .segments import Due, Segments
@@ -34,8 +34,8 @@ class Cutter:
         self._file: Optional[BinaryIO] = None
         self.counts: List[int] = []
 
-    def take(self, mark: Mark) -> None:
-        """Writes a mark."""
+    def take(self, mark: Mark, record: bytes) -> None:
+        """Writes a mark, as its record has it."""
         if isinstance(mark, Begin):
             if self._file is None or (self._due.is_due() and not self._under_way):
                 self._next_file()
@@ -46,7 +46,7 @@ class Cutter:
         else:
             self._under_way.discard(mark.call)
             self._stamp = max(self._stamp, message.time_stamp(mark.message) or 0)
-        self._file.write(spelled(mark))
+        self._file.write(record)
 
     def close(self) -> None:
         """Closes the last file."""
@@ -76,8 +76,8 @@ def run(source: str, folder: str, segments: Segments) -> str:
     cutter = Cutter(made, segments, never_ended(source))
     try:
         os.mkdir(made, 0o700)
-        for mark in marks_in(source):
-            cutter.take(mark)
+        for mark, record in spelled_marks_in(source):
+            cutter.take(mark, record)
         cutter.close()
         os.rename(made, folder)
     except OSError as error:

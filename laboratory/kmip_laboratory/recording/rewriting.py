@@ -6,7 +6,7 @@ from typing import Callable, Optional
 
 from .. import ttlv
 from ..files import new_file
-from ..transcript import HEADER, VERSION, Mark, marks_in, spelled
+from ..transcript import HEADER, VERSION, Mark, spelled, spelled_marks_in
 
 FILE_HEADER = ttlv.structure(HEADER, ttlv.integer(VERSION, 1))
 
@@ -15,7 +15,7 @@ def rewrite(source: str, target: str, change: Callable[[Mark], Optional[Mark]]) 
     """Writes what `change` makes of each mark; nothing where it makes none."""
     with new_file(target) as file:
         file.write(FILE_HEADER)
-        for mark in marks_in(source):
+        for mark, record in spelled_marks_in(source):
             made = change(mark)
             if made is not None:
-                file.write(spelled(made))
+                file.write(record if made is mark else spelled(made))

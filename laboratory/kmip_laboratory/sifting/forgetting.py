@@ -9,12 +9,17 @@ from __future__ import annotations
 from typing import Callable, FrozenSet, List, Optional
 
 from .. import ttlv
-from ..glimpse import SUCCESS, UNDONE, Glimpse
+from ..glimpse import SUCCESS, UNDONE, Glimpse, glimpse
+from ..message import Side
 from ..operations import Operation
+from ..slices import Change, Slice, changed, changed_at, slices_of
 from ..tag_names import tag_of_name
 from ..tags import JUDGED_ATTRIBUTES, Tag
-from ..ttlv import Item, Kind
+from ..ttlv import HEADER_LENGTH, Kind, front
 from ..versions import JUDGED, NEARLY_JUDGED
+
+ATTRIBUTES = front(Tag.ATTRIBUTES, Kind.STRUCTURE)
+REFERENCE = front(Tag.ATTRIBUTE_REFERENCE, Kind.ENUMERATION)
 
 # Named where nothing judged is asked for any more, since a request that names nothing asks for everything.
 UNJUDGED = Tag.LAST_CHANGE_DATE
@@ -38,51 +43,41 @@ def places_of(asked: Optional[Glimpse], answered: Optional[Glimpse]) -> List[int
 
 def request_without(message: bytes, places: List[int], forgotten: FrozenSet[int]) -> bytes:
     """The request, at these items without references to what is forgotten."""
-    return _changed(message, places, Tag.REQUEST_PAYLOAD, lambda payload: _asking(payload, forgotten))
+    return _changed(message, Side.CLIENT, places, lambda payload: _asking(payload, forgotten))
 
 
 def response_without(message: bytes, places: List[int], forgotten: FrozenSet[int]) -> bytes:
     """The response, at these items without the attributes that are forgotten, and with each value told once."""
-    return _changed(message, places, Tag.RESPONSE_PAYLOAD, lambda payload: payload._replace(value=[
-        _telling(child, forgotten) if child.tag == Tag.ATTRIBUTES and child.kind is Kind.STRUCTURE else child
-        for child in payload.children()]))
+    return _changed(message, Side.SERVER, places, lambda payload: changed_at(payload, (ATTRIBUTES,), lambda told: (
+        _telling(told, forgotten))))
 
 
-def _changed(message: bytes, places: List[int], tag: int, change: Callable[[Item], Item]) -> bytes:
-    """The message, with the payloads of these items changed; byte by byte as it was where that changes nothing."""
-    item = ttlv.read_item(message)
-    children, place = [], -1
-    for child in item.children():
-        if child.tag == Tag.BATCH_ITEM and child.kind is Kind.STRUCTURE:
-            place += 1
-            if place in places:
-                child = child._replace(value=[change(part) if part.tag == tag and part.kind is Kind.STRUCTURE else part
-                                              for part in child.children()])
-        children.append(child)
-    made = item._replace(value=children)
-    return message if made == item else ttlv.spell(made)
+def _changed(message: bytes, side: Side, places: List[int], change: Callable[[bytes], bytes]) -> bytes:
+    """The message, with the values of the payloads of these items changed."""
+    seen = glimpse(message, side)
+    changes = []
+    for place in places:
+        item, payload = seen.parts[place].place, seen.parts[place].payload
+        if payload:
+            changes.append(Change((HEADER_LENGTH, item, payload[0]), *payload, change(message[slice(*payload)])))
+    return changed(message, changes)
 
 
-def _asking(payload: Item, forgotten: FrozenSet[int]) -> Item:
-    rest = [child for child in payload.children() if not _is_reference_to(child, forgotten)]
-    if any(child.tag != Tag.UNIQUE_IDENTIFIER for child in rest) or not forgotten:
-        return payload._replace(value=rest)
-    asked_for_all = len(rest) == len(payload.children())
+def _asking(payload: bytes, forgotten: FrozenSet[int]) -> bytes:
+    children = slices_of(payload)
+    rest = [child for child in children if not _is_reference_to(child, forgotten)]
+    kept = b"".join([child.whole for child in rest])
+    if any(child.front >> 8 != Tag.UNIQUE_IDENTIFIER for child in rest) or not forgotten:
+        return kept
+    asked_for_all = len(rest) == len(children)
     wanted = [tag for tag in JUDGED_ATTRIBUTES if tag not in forgotten] if asked_for_all else []
-    return payload._replace(value=[*rest, *(Item(Tag.ATTRIBUTE_REFERENCE, Kind.ENUMERATION, int(tag), 0)
-                                            for tag in wanted or [UNJUDGED])])
+    return kept + b"".join([ttlv.enumeration(Tag.ATTRIBUTE_REFERENCE, tag) for tag in wanted or [UNJUDGED]])
 
 
-def _is_reference_to(item: Item, forgotten: FrozenSet[int]) -> bool:
-    return item.tag == Tag.ATTRIBUTE_REFERENCE and item.kind is Kind.ENUMERATION and item.value in forgotten
+def _is_reference_to(item: Slice, forgotten: FrozenSet[int]) -> bool:
+    return item.front == REFERENCE and int.from_bytes(item.value, "big") in forgotten
 
 
-def _telling(attributes: Item, forgotten: FrozenSet[int]) -> Item:
-    kept: List[Item] = []
-    told: List[tuple[int, Kind, object]] = []
-    for child in attributes.children():
-        said = (child.tag, child.kind, ttlv.spell(child))
-        if child.tag not in forgotten and said not in told:
-            kept.append(child)
-            told.append(said)
-    return attributes._replace(value=kept)
+def _telling(attributes: bytes, forgotten: FrozenSet[int]) -> bytes:
+    told = [child.whole for child in slices_of(attributes) if child.front >> 8 not in forgotten]
+    return b"".join(dict.fromkeys(told))

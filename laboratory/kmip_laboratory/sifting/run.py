@@ -17,7 +17,7 @@ def table(source: str, also: FrozenSet[int]) -> List[str]:
     """How many calls of each sort, operation, version and client there are."""
     calls = Sorted(also)
     for call in calls_in(source):
-        calls.take(call)
+        calls.take(call, call.asked(), call.answered())
     return calls.table_lines() + calls.unknown_lines()
 
 
@@ -30,8 +30,9 @@ class Sifting:
         self._forgotten = forgotten
         self._places: Dict[int, List[int]] = {}
         for call in calls_in(source):
-            self.calls.take(call)
-            places = [] if call.number in self.calls.dropped else places_of(call.asked(), call.answered())
+            asked, answered = call.asked(), call.answered()
+            self.calls.take(call, asked, answered)
+            places = [] if call.number in self.calls.dropped else places_of(asked, answered)
             if places:
                 self._places[call.number] = places
 

@@ -52,9 +52,8 @@ class Sorted:
         self.unknown: Dict[str, Unknown] = {}
         self.table: Counts[tuple[str, str, str, str]] = Counter()
 
-    def take(self, call: Call) -> None:
-        """Sorts a call in."""
-        asked, answered = call.asked(), call.answered()
+    def take(self, call: Call, asked: Optional[Glimpse], answered: Optional[Glimpse]) -> None:
+        """Sorts a call in, of which this was asked and answered."""
         cause = cause_to_leave_out(asked, answered, self._harmless)
         stopping = [] if cause else _stopping(asked, answered)
         if cause:

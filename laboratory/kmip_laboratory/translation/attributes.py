@@ -4,9 +4,11 @@ from __future__ import annotations
 
 from typing import Counter, List
 
+from .. import ttlv
+from ..slices import Slice, slices_of, structure, with_tag
 from ..tag_names import tag_of_name
 from ..tags import Tag
-from ..ttlv import Item, Kind
+from ..ttlv import Kind, front
 
 NAMES = frozenset("""
 Unique Identifier; Name; Object Type; Cryptographic Algorithm; Cryptographic Length; Cryptographic Parameters;
@@ -22,6 +24,12 @@ Always Sensitive; Extractable; Never Extractable
 # Who made an attribute of his own, a client or the server, was the beginning of its name.
 VENDOR_PREFIXES = ("x-", "y-")
 
+ATTRIBUTE = front(Tag.ATTRIBUTE, Kind.STRUCTURE)
+ATTRIBUTE_INDEX = front(Tag.ATTRIBUTE_INDEX, Kind.INTEGER)
+ATTRIBUTE_NAME = front(Tag.ATTRIBUTE_NAME, Kind.TEXT)
+ATTRIBUTES = front(Tag.ATTRIBUTES, Kind.STRUCTURE)
+VENDOR_REFERENCE = front(Tag.ATTRIBUTE_REFERENCE, Kind.STRUCTURE)
+
 Lost = Counter[str]
 
 
@@ -29,37 +37,42 @@ class Guess(Exception):
     """What can't be translated without one. The text says which field, and why."""
 
 
-def attributes(of: List[Item], where: str, lost: Lost) -> Item:
+def attributes(of: List[Slice], where: str, lost: Lost) -> bytes:
     """The Attributes that these items, each an Attribute of the older form, say."""
-    return Item(Tag.ATTRIBUTES, Kind.STRUCTURE, [attribute(item, where, lost) for item in of], 0)
+    return structure(ATTRIBUTES, b"".join([attribute(item, where, lost) for item in of]))
 
 
-def attribute(item: Item, where: str, lost: Lost) -> Item:
+def attribute(item: Slice, where: str, lost: Lost) -> bytes:
     """An Attribute of the older form as an item of the newer. Its index is lost."""
-    name = item.first(Tag.ATTRIBUTE_NAME, Kind.TEXT)
+    name = value = None
+    for child in slices_of(item.value):
+        if child.front == ATTRIBUTE_NAME and name is None:
+            name = child.text()
+        elif child.front >> 8 == Tag.ATTRIBUTE_VALUE and value is None:
+            value = child
+        elif child.front == ATTRIBUTE_INDEX:
+            lost["Attribute Index"] += 1
     if name is None:
         raise Guess(f"{where}: an Attribute without a name")
-    value = next((child for child in item.children() if child.tag == Tag.ATTRIBUTE_VALUE), None)
     if value is None:
-        raise Guess(f"{where}, {name.value}: an Attribute without a value")
-    if item.first(Tag.ATTRIBUTE_INDEX, Kind.INTEGER):
-        lost["Attribute Index"] += 1
-    if name.value.startswith(VENDOR_PREFIXES):
-        return Item(Tag.ATTRIBUTE, Kind.STRUCTURE, [*_vendor(name.value), value._replace(tag=Tag.ATTRIBUTE_VALUE)], 0)
-    return Item(_tag(name.value, where), value.kind, value.value, 0)
+        raise Guess(f"{where}, {name}: an Attribute without a value")
+    if name.startswith(VENDOR_PREFIXES):
+        return structure(ATTRIBUTE, _vendor(name) + value.whole)
+    return with_tag(_tag(name, where), value)
 
 
-def reference(item: Item, where: str) -> Item:
+def reference(item: Slice, where: str) -> bytes:
     """An Attribute Name of the older form as an Attribute Reference."""
-    if item.kind is not Kind.TEXT:
+    if item.front != ATTRIBUTE_NAME:
         raise Guess(f"{where}: an Attribute Name that is no text")
-    if item.value.startswith(VENDOR_PREFIXES):
-        return Item(Tag.ATTRIBUTE_REFERENCE, Kind.STRUCTURE, _vendor(item.value), 0)
-    return Item(Tag.ATTRIBUTE_REFERENCE, Kind.ENUMERATION, _tag(item.value, where), 0)
+    name = item.text()
+    if name.startswith(VENDOR_PREFIXES):
+        return structure(VENDOR_REFERENCE, _vendor(name))
+    return ttlv.enumeration(Tag.ATTRIBUTE_REFERENCE, _tag(name, where))
 
 
-def _vendor(name: str) -> List[Item]:
-    return [Item(Tag.VENDOR_IDENTIFICATION, Kind.TEXT, name[:1], 0), Item(Tag.ATTRIBUTE_NAME, Kind.TEXT, name[2:], 0)]
+def _vendor(name: str) -> bytes:
+    return ttlv.text(Tag.VENDOR_IDENTIFICATION, name[:1]) + ttlv.text(Tag.ATTRIBUTE_NAME, name[2:])
 
 
 def _tag(name: str, where: str) -> int:

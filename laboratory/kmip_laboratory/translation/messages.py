@@ -3,22 +3,22 @@
 from __future__ import annotations
 
 from collections import Counter
+from functools import lru_cache
 from typing import Callable, Dict, List, Optional
 
 from .. import ttlv
-from ..glimpse import Glimpse, glimpse
+from ..glimpse import MAJOR, MINOR, Glimpse, glimpse
 from ..message import Side
 from ..operations import operation_name
+from ..slices import Change, changed
 from ..tags import Tag
 from ..trouble import say
-from ..ttlv import Item, Kind
 from ..versions import JUDGED, NEARLY_JUDGED, TRANSLATED, Version
 from .attributes import Guess, Lost
-from .payloads import REQUESTS, RESPONSES, needing_work
+from .payloads import REQUESTS, RESPONSES
 
 # Up to this version a batch that does not say whether its order counts was one whose order does not.
 LAST_WITHOUT_ORDER = Version(1, 2)
-MAJOR, MINOR = Tag.PROTOCOL_VERSION_MAJOR.value, Tag.PROTOCOL_VERSION_MINOR.value
 
 
 class Translator:
@@ -60,55 +60,42 @@ class Translator:
 
 def _translated(message: bytes, side: Side, seen: Glimpse, operations: List[int], lost: Lost) -> bytes:
     table = REQUESTS if side is Side.CLIENT else RESPONSES
-    is_batch = side is Side.CLIENT and len(operations) > 1
-    if seen.version == NEARLY_JUDGED or not (is_batch or needing_work(operations, table)):
-        return _with_judged_version(message, side)
-    places = iter(range(len(operations)))
-    item = ttlv.read_item(_with_judged_version(message, side))
+    start, stop = seen.version_place
+    changes = [Change((), start, stop, _judged_version(message[start:stop]))]
     found: Lost = Counter()
-    children = [_batch_item(child, operations, next(places), table, found) if child.tag == Tag.BATCH_ITEM
-                and child.kind is Kind.STRUCTURE else child for child in item.children()]
-    if is_batch and seen.version <= LAST_WITHOUT_ORDER:
-        children = [_without_order(child) if child.tag == side.header_tag else child for child in children]
+    if seen.version != NEARLY_JUDGED:
+        if side is Side.CLIENT and len(operations) > 1 and seen.version <= LAST_WITHOUT_ORDER:
+            changes += _without_order(message, seen)
+        for place, part in enumerate(seen.parts):
+            change = table.get(operations[place])
+            if change and part.payload:
+                start, stop = part.payload
+                try:
+                    made = change(message[start:stop], "", found)
+                except Guess as fault:
+                    raise Guess(f"item {place + 1}, {operation_name(operations[place])}{fault}") from None
+                changes.append(Change((ttlv.HEADER_LENGTH, part.place, start), start, stop, made))
     lost.update(found)
-    return ttlv.spell(item._replace(value=children))
+    return changed(message, changes)
 
 
-def _with_judged_version(message: bytes, side: Side) -> bytes:
-    """The message with 2.1 in its header, and nothing else changed."""
-    start, stop = _value(message, (side.message_tag, side.header_tag, Tag.PROTOCOL_VERSION))
-    made = bytearray(message)
-    for tag, number in ((MAJOR, JUDGED.major), (MINOR, JUDGED.minor)):
-        place = next(place for each, _, place, _ in ttlv.headers_in(message, start, stop) if each == tag)
+@lru_cache(maxsize=64)
+def _judged_version(spelled: bytes) -> bytes:
+    """The value of a Protocol Version that was seen to have both of its numbers, with those of 2.1."""
+    made = bytearray(spelled)
+    places = ttlv.places_in(spelled, 0, len(spelled))
+    for wanted, number in ((MAJOR, JUDGED.major), (MINOR, JUDGED.minor)):
+        place = next(place for each, place, _ in places if each == wanted)
         made[place:place + 4] = number.to_bytes(4, "big")
     return bytes(made)
 
 
-def _value(message: bytes, path: tuple[int, ...]) -> tuple[int, int]:
-    """Where the value stands to which this path of tags leads, from and up to; it was seen that it is there."""
-    start, stop = 0, len(message)
-    for tag in path:
-        start, stop = next((place, place + length) for each, _, place, length in
-                           ttlv.headers_in(message, start, stop) if each == tag)
-    return start, stop
-
-
-def _batch_item(item: Item, operations: List[int], place: int, table: Dict[int, Callable[[Item, str, Lost], Item]],
-                lost: Lost) -> Item:
-    change = table.get(operations[place])
-    if change is None:
-        return item
-    where = f"item {place + 1}, {operation_name(operations[place])}"
-    payload_tag = Tag.REQUEST_PAYLOAD if table is REQUESTS else Tag.RESPONSE_PAYLOAD
-    return item._replace(value=[change(child, where, lost) if child.tag == payload_tag and child.kind is Kind.STRUCTURE
-                                else child for child in item.children()])
-
-
-def _without_order(header: Item) -> Item:
-    """The header of a batch that says nothing of its order, in a version in which that meant that there is none."""
-    if any(child.tag == Tag.BATCH_ORDER_OPTION for child in header.children()):
-        return header
-    option = Item(Tag.BATCH_ORDER_OPTION, Kind.BOOLEAN, False, 0)
-    place = next((place for place, child in enumerate(header.children()) if child.tag == Tag.BATCH_COUNT),
-                 len(header.children()))
-    return header._replace(value=[*header.children()[:place], option, *header.children()[place:]])
+def _without_order(message: bytes, seen: Glimpse) -> List[Change]:
+    """What the header of a batch has to say where it says nothing of its order, in a version in which that meant that
+    there is none. It stands ahead of the Batch Count."""
+    start, stop = seen.header
+    places = {front >> 8: place - ttlv.HEADER_LENGTH for front, place, _ in ttlv.places_in(message, start, stop)}
+    if Tag.BATCH_ORDER_OPTION in places:
+        return []
+    place = places.get(Tag.BATCH_COUNT, stop)
+    return [Change((ttlv.HEADER_LENGTH, start), place, place, ttlv.boolean(Tag.BATCH_ORDER_OPTION, False))]

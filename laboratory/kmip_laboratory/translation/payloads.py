@@ -5,80 +5,83 @@ from __future__ import annotations
 from typing import Callable, Dict, List
 
 from ..operations import Operation
+from ..slices import Slice, changed_at, slices_of, structure
 from ..tag_names import tag_name
 from ..tags import Tag
-from ..ttlv import Item, Kind
-from .attributes import Guess, Lost, attributes, reference
+from ..ttlv import Kind, front
+from .attributes import ATTRIBUTES, Guess, Lost, attributes, reference
 
-Payload = Callable[[Item, str, Lost], Item]
+# Of the value of a payload the value that says the same; the text is where in the payload it stands, for people.
+Payload = Callable[[bytes, str, Lost], bytes]
+
+TEMPLATE_ATTRIBUTE = front(Tag.TEMPLATE_ATTRIBUTE, Kind.STRUCTURE)
+KEY_VALUE = (front(Tag.KEY_BLOCK, Kind.STRUCTURE), front(Tag.KEY_VALUE, Kind.STRUCTURE))
 
 
-def _with_attributes(payload: Item, where: str, lost: Lost) -> Item:
+def _with_attributes(payload: bytes, where: str, lost: Lost) -> bytes:
     """Create and Register: a Template-Attribute becomes Attributes; a template can't be."""
-    if sum(child.tag == Tag.TEMPLATE_ATTRIBUTE for child in payload.children()) > 1:
+    children = slices_of(payload)
+    if sum(child.front == TEMPLATE_ATTRIBUTE for child in children) > 1:
         raise Guess(f"{where}: a second Template-Attribute")
-    return _each(payload, where, lost, lambda child: _of_template(child, f"{where}, Template-Attribute", lost)
-                 if child.tag == Tag.TEMPLATE_ATTRIBUTE else child)
+    return b"".join([_of_template(child, f"{where}, Template-Attribute", lost) if child.front == TEMPLATE_ATTRIBUTE
+                     else _object(child, where, lost) for child in children])
 
 
-def _of_template(template: Item, where: str, lost: Lost) -> Item:
-    for child in template.children():
-        if child.tag != Tag.ATTRIBUTE:
-            raise Guess(f"{where}: a {tag_name(child.tag)}, which stands for a template's attributes")
-    return attributes(template.children(), where, lost)
+def _of_template(template: Slice, where: str, lost: Lost) -> bytes:
+    children = slices_of(template.value)
+    for child in children:
+        if child.front >> 8 != Tag.ATTRIBUTE:
+            raise Guess(f"{where}: a {tag_name(child.front >> 8)}, which stands for a template's attributes")
+    return attributes(children, where, lost)
 
 
-def _without_attributes(payload: Item, where: str, lost: Lost) -> Item:
+def _without_attributes(payload: bytes, where: str, lost: Lost) -> bytes:
     """The answers to Create and Register: which attributes the server set besides has no place in the newer form."""
-    kept = [child for child in payload.children() if child.tag != Tag.TEMPLATE_ATTRIBUTE]
-    lost["Template-Attribute of an answer"] += len(payload.children()) - len(kept)
-    return payload._replace(value=kept)
+    children = slices_of(payload)
+    kept = [child.whole for child in children if child.front >> 8 != Tag.TEMPLATE_ATTRIBUTE]
+    lost["Template-Attribute of an answer"] += len(children) - len(kept)
+    return b"".join(kept)
 
 
-def _gathered(payload: Item, where: str, lost: Lost) -> Item:
+def _gathered(payload: bytes, where: str, lost: Lost) -> bytes:
     """Single Attributes become one structure behind what else there is."""
-    found = [child for child in payload.children() if child.tag == Tag.ATTRIBUTE]
+    children = slices_of(payload)
+    found = [child for child in children if child.front >> 8 == Tag.ATTRIBUTE]
     if not found:
         return payload
-    rest = [child for child in payload.children() if child.tag != Tag.ATTRIBUTE]
-    if any(child.tag == Tag.ATTRIBUTES for child in rest):
+    rest = [child for child in children if child.front >> 8 != Tag.ATTRIBUTE]
+    if any(child.front >> 8 == Tag.ATTRIBUTES for child in rest):
         raise Guess(f"{where}: Attributes of the older form and of the newer")
-    return payload._replace(value=[*rest, attributes(found, where, lost)])
+    return b"".join([child.whole for child in rest]) + attributes(found, where, lost)
 
 
-def _told(payload: Item, where: str, lost: Lost) -> Item:
+def _told(payload: bytes, where: str, lost: Lost) -> bytes:
     """The answer to Get Attributes: as above, and an answer without attributes says that there are none."""
     made = _gathered(payload, where, lost)
-    if any(child.tag == Tag.ATTRIBUTES for child in made.children()):
+    if any(child.front >> 8 == Tag.ATTRIBUTES for child in slices_of(made)):
         return made
-    return made._replace(value=[*made.children(), Item(Tag.ATTRIBUTES, Kind.STRUCTURE, [], 0)])
+    return made + structure(ATTRIBUTES, b"")
 
 
-def _referring(payload: Item, where: str, lost: Lost) -> Item:
+def _referring(payload: bytes, where: str, lost: Lost) -> bytes:
     """Get Attributes: names become references."""
-    return payload._replace(value=[reference(child, where) if child.tag == Tag.ATTRIBUTE_NAME else child
-                                   for child in payload.children()])
+    return b"".join([reference(child, where) if child.front >> 8 == Tag.ATTRIBUTE_NAME else child.whole
+                     for child in slices_of(payload)])
 
 
-def _each(payload: Item, where: str, lost: Lost, change: Callable[[Item], Item]) -> Item:
-    """The payload with its children changed, and the attributes in the Key Value of an object gathered."""
-    return payload._replace(value=[_object(change(child), where, lost) for child in payload.children()])
-
-
-def _object(item: Item, where: str, lost: Lost, path: tuple[int, ...] = (Tag.KEY_BLOCK, Tag.KEY_VALUE)) -> Item:
-    if item.tag == Tag.TEMPLATE:
+def _object(item: Slice, where: str, lost: Lost) -> bytes:
+    """An object, with the attributes in its Key Value gathered; all else as it is."""
+    if item.front >> 8 == Tag.TEMPLATE:
         raise Guess(f"{where}: a template as the object")
-    if item.kind is not Kind.STRUCTURE:
-        return item
-    if not path:
-        return _gathered(item, f"{where}, Key Value", lost)
-    return item._replace(value=[_object(child, where, lost, path[1:]) if child.tag == path[0] else child
-                                for child in item.children()])
+    if item.front & 0xFF != Kind.STRUCTURE:
+        return item.whole
+    return structure(item.front, changed_at(item.value, KEY_VALUE, lambda value: _gathered(
+        value, f"{where}, Key Value", lost)))
 
 
-def _with_object(payload: Item, where: str, lost: Lost) -> Item:
+def _with_object(payload: bytes, where: str, lost: Lost) -> bytes:
     """The answer to Get."""
-    return _each(payload, where, lost, lambda child: child)
+    return b"".join([_object(child, where, lost) for child in slices_of(payload)])
 
 
 REQUESTS: Dict[int, Payload] = {
@@ -93,8 +96,3 @@ RESPONSES: Dict[int, Payload] = {
     Operation.GET.value: _with_object,
     Operation.GET_ATTRIBUTES.value: _told,
 }
-
-
-def needing_work(operations: List[int], table: Dict[int, Payload]) -> bool:
-    """Whether a payload of one of these operations may change."""
-    return any(operation in table for operation in operations)
