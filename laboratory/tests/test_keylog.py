@@ -3,13 +3,15 @@
 from __future__ import annotations
 
 import subprocess
+import threading
 import unittest
+from pathlib import Path
 from typing import Dict, List, Optional
 
 import messages
 import stub
 from capturing import captured, need_tshark
-from laboratory import Laboratory, kinds, read_marks, run
+from laboratory import SECONDS, Laboratory, kinds, read_marks, run, wait_until
 
 from kmip_laboratory import certificate
 from kmip_laboratory.address import Address
@@ -97,6 +99,70 @@ class Newest(Laboratory):
         self.assertEqual([mark.message for mark in marks[::2]], requests)
         self.assertEqual([mark.message for mark in marks[1::2]], [answer] * 3)
         self.assertEqual({mark.client for mark in marks[::2]}, {"client-1"})
+
+
+class Segments(Laboratory):
+    """The words `--segment-calls` and `--segment-seconds`, on packets of three clients, one of which gets no answer."""
+
+    def capture(self) -> tuple[Path, Path]:
+        """A capture and its key log: calls 1, 5 and 6 alone, 2 without an answer, and 4 within 3; 5 is answered twenty
+        seconds later by its Time Stamp."""
+        quick_one_is_done = threading.Event()
+
+        def answering(peer: stub.ssl.SSLSocket, request: bytes) -> None:
+            if b"never" in request:
+                return
+            if b"slow" in request:
+                quick_one_is_done.wait(SECONDS)
+            peer.sendall(messages.not_found(STAMP + (20 if b"late" in request else 0)))
+
+        keylog = self.folder / "keylog"
+        server = self.stub(answering, keylog=keylog)
+        with captured(self, server.port) as capture:
+            clients = [self.client(server.port, f"client-{number}") for number in range(3)]
+
+            def say(client: int, key: str) -> None:
+                clients[client].sendall(messages.get(key))
+                wait_until(lambda: messages.get(key) in server.got, f"the request for {key} at the server")
+
+            def call(client: int, key: str) -> None:
+                say(client, key)
+                self.assertTrue(stub.receive(clients[client]))
+
+            call(0, "first")
+            say(1, "never")
+            say(0, "slow")
+            call(2, "quick")
+            quick_one_is_done.set()
+            self.assertTrue(stub.receive(clients[0]))
+            call(0, "late")
+            call(2, "last")
+            for client in clients:
+                client.close()
+        self.server = f"127.0.0.1:{server.port}"
+        return capture, keylog
+
+    def files(self, *words: object) -> List[List[tuple[str, int]]]:
+        """The marks of each file that is made."""
+        done = run("keylog", *words, "--server", self.server, "--out", self.folder / "made.ttlv")
+        self.assertEqual(done.returncode, 0, done.stderr)
+        self.assertTrue(done.stdout.startswith("6 calls, 1 open calls, "), done.stdout)
+        found = sorted(self.folder.glob("made-0*.ttlv"))
+        marks = [kinds(read_marks(str(path))) for path in found]
+        for path in found:
+            path.unlink()
+        return marks
+
+    def test_a_new_file_begins_while_no_call_is_under_way_but_one_that_never_ends(self) -> None:
+        need_tshark(self)
+        capture, keylog = self.capture()
+        first = [("begin", 1), ("end", 1), ("begin", 2)]
+        overlapping = [("begin", 3), ("begin", 4), ("end", 4), ("end", 3)]
+        late, last = [("begin", 5), ("end", 5)], [("begin", 6), ("end", 6)]
+        self.assertEqual(self.files(capture, keylog, "--segment-calls", 2), [first, overlapping, late + last])
+        self.assertEqual(self.files(capture, keylog, "--segment-calls", 1),
+                         [[("begin", 1), ("end", 1)], [("begin", 2)], overlapping, late, last])
+        self.assertEqual(self.files(capture, keylog, "--segment-seconds", 10), [first + overlapping + late, last])
 
 
 class Needs(Laboratory):
