@@ -47,6 +47,14 @@ def read(message: bytes, side: Side) -> Item:
         raise ConnectionTrouble(f"what came is no {side.message_name}: {fault}") from None
 
 
+def see(message: bytes, side: Side) -> None:
+    """Refuses what is no TTLV."""
+    try:
+        ttlv.see_item(message)
+    except ttlv.NotTtlv as fault:
+        raise ConnectionTrouble(f"what came is no {side.message_name}: {fault}") from None
+
+
 def time_stamp(response: bytes) -> Optional[int]:
     """The Time Stamp of a response, where it is one and has one."""
     try:

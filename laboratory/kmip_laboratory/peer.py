@@ -26,6 +26,7 @@ class Peer:
         self._side = side
         self._who = "the client" if side is Side.CLIENT else "the server"
         self.gone = asyncio.ensure_future(_closed(writer))
+        self._is_waited_for = True
 
     def common_name(self) -> Optional[str]:
         """The common name in the peer's certificate."""
@@ -34,19 +35,25 @@ class Peer:
         return names[0] if names else None
 
     async def receive(self) -> Optional[bytes]:
-        """The next message, once it is whole; None where the peer closed ahead of its first byte."""
+        """The next message, once it is whole; None where the peer closed ahead of its first byte, or where it is no
+        longer waited for."""
         try:
             header = await self._reader.readexactly(HEADER_LENGTH)
             length = message.announced_length(header, self._side)
             received = header + await self._reader.readexactly(length - HEADER_LENGTH)
         except asyncio.IncompleteReadError as torn:
-            if torn.expected == HEADER_LENGTH and not torn.partial:
+            if not self._is_waited_for or (torn.expected == HEADER_LENGTH and not torn.partial):
                 return None
             raise ConnectionTrouble(f"{self._who} broke off in the middle of a message") from None
         except OSError as error:
             raise ConnectionTrouble(f"{self._who} broke off: {tls.meaning(error)}") from None
-        message.read(received, self._side)
+        message.see(received, self._side)
         return received
+
+    def stop_waiting(self) -> None:
+        """Ends a wait for a message that is under way, and every later one."""
+        self._is_waited_for = False
+        self._reader.feed_eof()
 
     async def send(self, whole: bytes) -> None:
         """Sends a message to the peer."""

@@ -135,12 +135,22 @@ def outermost_length(header: bytes) -> int:
 
 def read_item(data: bytes) -> Item:
     """The one item that these bytes are."""
+    _see_outermost(data)
+    return _read_items(data, 0, len(data), 1)[0]
+
+
+def see_item(data: bytes) -> None:
+    """Refuses bytes that are not one item, as `read_item` does, and makes nothing of them."""
+    _see_outermost(data)
+    _see_items(data, 0, len(data), 1)
+
+
+def _see_outermost(data: bytes) -> None:
     if len(data) < HEADER_LENGTH:
         raise NotTtlv(f"{len(data)} bytes, fewer than the {HEADER_LENGTH} of a header")
     whole = outermost_length(data)
     if whole != len(data):
         raise NotTtlv(f"an item of {whole} bytes, in {len(data)}")
-    return _read_items(data, 0, len(data), 1)[0]
 
 
 def front(tag: int, kind: Kind) -> int:
@@ -171,8 +181,7 @@ def places_in(data: bytes, start: int, stop: int) -> List[Place]:
 
 def _read_items(data: bytes, start: int, stop: int, level: int) -> List[Item]:
     """The items on this level that stand from `start` up to `stop`, where their structure's value ends."""
-    if level > DEEPEST_LEVEL and start < stop:
-        raise NotTtlv(f"more than {DEEPEST_LEVEL} levels at offset {start}")
+    _see_level(level, start, stop)
     items = []
     # As `Item(..)`, in half of the time.
     new = tuple.__new__
@@ -184,6 +193,22 @@ def _read_items(data: bytes, start: int, stop: int, level: int) -> List[Item]:
             value = _value(kind, data, place, length)
         items.append(new(Item, (number >> 8, kind, value, place)))
     return items
+
+
+def _see_items(data: bytes, start: int, stop: int, level: int) -> None:
+    """Refuses what `_read_items` refuses."""
+    _see_level(level, start, stop)
+    for number, place, length in places_in(data, start, stop):
+        kind = _checked_kind(number & 0xFF, length, place - HEADER_LENGTH)
+        if kind is STRUCTURE:
+            _see_items(data, place, place + length, level + 1)
+        elif kind is TEXT or kind is BOOLEAN:
+            _value(kind, data, place, length)
+
+
+def _see_level(level: int, start: int, stop: int) -> None:
+    if level > DEEPEST_LEVEL and start < stop:
+        raise NotTtlv(f"more than {DEEPEST_LEVEL} levels at offset {start}")
 
 
 def _checked_kind(number: int, length: int, start: int) -> Kind:

@@ -9,6 +9,8 @@ import messages
 import stub
 from laboratory import FOLDER, InFolder, Laboratory, run, wait_until
 
+from kmip_laboratory.glimpse import glimpse
+from kmip_laboratory.message import Side
 from kmip_laboratory.recording.account import Account
 from kmip_laboratory.transcript import Begin, End, TranscriptWriter, spelled
 
@@ -92,9 +94,9 @@ class Accounts(Laboratory):
                 (asked(ENCRYPT), answered(ENCRYPT, 0)), (asked(ENCRYPT), answered(ENCRYPT, 1)),
                 (messages.get("k"), messages.not_found(STAMP)), (asked(ENCRYPT, (1, 2)), None),
                 (asked(ENCRYPT), answered(ENCRYPT, 0)), (asked(0x12), answered(0x12, 2))), 1):
-            account.begin(call, request)
+            account.begin(call, glimpse(request, Side.CLIENT))
             if response:
-                account.end(call, response)
+                account.end(call, glimpse(response, Side.SERVER))
         lines = account.lines()
         self.assertEqual(lines[0], "by version: 2.1 5, 1.2 1; by operation: Encrypt 4, Get 1, Activate 1; 2 items "
                                    "failed, 1 calls are open")

@@ -6,9 +6,7 @@ from __future__ import annotations
 from collections import Counter
 from typing import Counter as Counts, Dict, List, NamedTuple, Optional
 
-from ..enumerations import STATUSES
-from ..glimpse import FAILED, PENDING, SUCCESS, UNDONE, Glimpse, Part, glimpse
-from ..message import Side
+from ..glimpse import FAILED, PENDING, SUCCESS, UNDONE, Glimpse, Part
 from ..operations import JUDGED, READ_OVER, operation_name
 from ..versions import JUDGED as JUDGED_VERSION, TRANSLATED, Version
 
@@ -49,29 +47,24 @@ class Account:
 
     def __init__(self) -> None:
         self.calls = 0
-        self.versions: Counts[str] = Counter()
-        self.operations: Counts[str] = Counter()
-        self.statuses: Counts[str] = Counter()
+        self.versions: Counts[Optional[Version]] = Counter()
+        self.operations: Counts[int] = Counter()
+        self.failed = 0
         self.stops: Dict[str, Stop] = {}
         self._open: Dict[int, Optional[Glimpse]] = {}
 
-    def begin(self, call: int, request: bytes) -> Optional[Version]:
-        """Counts a request, and answers its version where that can't be judged and is the first of its kind."""
-        asked = glimpse(request, Side.CLIENT)
+    def begin(self, call: int, asked: Optional[Glimpse]) -> None:
+        """Counts a request."""
         self._open[call] = asked
         self.calls += 1
-        version = asked.version if asked else None
-        self.versions[str(version or "none")] += 1
+        self.versions[asked.version if asked else None] += 1
         for part in asked.parts if asked else []:
-            self.operations[operation_name(part.operation or 0)] += 1
-        is_new = self.versions[str(version or "none")] == 1
-        return version if version != JUDGED_VERSION and is_new else None
+            self.operations[part.operation or 0] += 1
 
-    def end(self, call: int, response: bytes) -> None:
+    def end(self, call: int, answered: Optional[Glimpse]) -> None:
         """Counts an answer."""
-        answered = glimpse(response, Side.SERVER)
         for part in answered.parts if answered else []:
-            self.statuses[STATUSES.get(part.status or 0, "unknown")] += 1
+            self.failed += part.status == FAILED
         self._stop_at(call, self._open.pop(call), answered)
 
     def _stop_at(self, call: int, asked: Optional[Glimpse], answered: Optional[Glimpse]) -> None:
@@ -84,18 +77,19 @@ class Account:
         """The account, as lines for a person."""
         for call, asked in list(self._open.items()):
             self._stop_at(call, asked, None)
-        failed = self.statuses[STATUSES[FAILED]]
-        lines = [f"by version: {listed(self.versions)}; by operation: {listed(self.operations)}; "
-                 f"{failed} items failed, {len(self._open)} calls are open"] if self.calls else []
+        versions = listed({str(version or "none"): count for version, count in self.versions.most_common()})
+        operations = listed({operation_name(number): count for number, count in self.operations.most_common()})
+        lines = [f"by version: {versions}; by operation: {operations}; {self.failed} items failed, {len(self._open)} "
+                 "calls are open"] if self.calls else []
         for cause, stop in sorted(self.stops.items(), key=lambda entry: entry[1].first):
             lines.append(f"the auditor will stop at call {stop.first}, for {cause}: {stop.count} calls are so; "
                          f"{advice(cause)}")
         return lines
 
 
-def listed(counts: Counts[str]) -> str:
-    """Counts by their names, the most first."""
-    return ", ".join(f"{name} {count}" for name, count in counts.most_common()) or "none"
+def listed(counts: Dict[str, int]) -> str:
+    """Counts by their names, in their order."""
+    return ", ".join(f"{name} {count}" for name, count in counts.items()) or "none"
 
 
 def advice(cause: str) -> str:

@@ -61,7 +61,7 @@ class Stream:
         if len(torn) < length:
             return None
         self._torn[side] = torn[length:]
-        message.read(torn[:length], side)
+        message.see(torn[:length], side)
         return torn[:length]
 
 

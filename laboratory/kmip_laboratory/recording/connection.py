@@ -11,7 +11,7 @@ from __future__ import annotations
 import asyncio
 import socket
 import ssl
-from typing import Coroutine, Dict, NamedTuple, Optional, TypeVar
+from typing import Dict, NamedTuple, Optional
 
 from .. import peer
 from ..address import Address
@@ -19,8 +19,6 @@ from ..peer import Peer
 from ..trouble import ConnectionTrouble, say
 from .recording import Recording
 from .segments import Gate
-
-Result = TypeVar("Result")
 
 
 class Way(NamedTuple):
@@ -65,6 +63,8 @@ class Connection:
             name = client.common_name()
             self.name = f"{name} {self.name}" if name and self._way.identities else name or self.name
             server = await peer.connect(self._way.server, self._way.toward_server_as(name))
+            server.gone.add_done_callback(lambda _: client.stop_waiting())
+            client.gone.add_done_callback(lambda _: self._wait_no_longer(server))
             try:
                 await self._take_calls(client, server)
             finally:
@@ -72,9 +72,15 @@ class Connection:
         finally:
             await client.close()
 
+    def _wait_no_longer(self, server: Peer) -> None:
+        """The client broke off. The server does not see that until it has answered, or until the time for that is over:
+        it will have done the call in any case, and nobody would know."""
+        if self.open_call is not None:
+            asyncio.get_running_loop().call_later(self._way.answer_within, server.stop_waiting)
+
     async def _take_calls(self, client: Peer, server: Peer) -> None:
         while not self._ending:
-            request = await _unless_gone(client.receive(), server)
+            request = await client.receive()
             if request is None or server.gone.done():
                 return
             self._busy = True
@@ -90,39 +96,17 @@ class Connection:
         await _hand_over(client, response)
 
     async def _answer(self, client: Peer, server: Peer, request: bytes) -> bytes:
-        """The server's answer. A client that breaks off is not seen by the server until it has answered, or until the
-        time for that is over: it will have done the call in any case, and nobody would know."""
-        asking = asyncio.ensure_future(_ask(server, request))
-        try:
-            await asyncio.wait({asking, client.gone}, return_when=asyncio.FIRST_COMPLETED)
-            if not asking.done():
-                await asyncio.wait({asking}, timeout=self._way.answer_within)
-            if not asking.done():
-                raise ConnectionTrouble(f"the client broke off, and no answer came in {self._way.answer_within:g} s")
-            response = asking.result()
-        finally:
-            asking.cancel()
+        if client.gone.done():
+            self._wait_no_longer(server)
+        await server.send(request)
+        response = await server.receive()
         if response is None:
-            raise ConnectionTrouble("the server gave no answer")
+            raise ConnectionTrouble("the server gave no answer" if server.gone.done() or not client.gone.done() else
+                                    f"the client broke off, and no answer came in {self._way.answer_within:g} s")
         return response
-
-
-async def _ask(server: Peer, request: bytes) -> Optional[bytes]:
-    await server.send(request)
-    return await server.receive()
 
 
 async def _hand_over(client: Peer, response: bytes) -> None:
     if client.gone.done():
         raise ConnectionTrouble("the client broke off; the server's answer is marked all the same")
     await client.send(response)
-
-
-async def _unless_gone(work: Coroutine[None, None, Optional[Result]], other: Peer) -> Optional[Result]:
-    """What the work with one side gives; None where the other side is gone before it is done."""
-    task = asyncio.ensure_future(work)
-    try:
-        await asyncio.wait({task, other.gone}, return_when=asyncio.FIRST_COMPLETED)
-        return task.result() if task.done() else None
-    finally:
-        task.cancel()

@@ -3,9 +3,9 @@
 from __future__ import annotations
 
 import time
-from typing import Callable, FrozenSet, List, Set
+from typing import Callable, FrozenSet, List, Optional, Set
 
-from ..glimpse import glimpse
+from ..glimpse import Glimpse, glimpse
 from ..message import Side
 from ..transcript import TranscriptWriter
 from ..translation import messages as translation
@@ -47,21 +47,22 @@ class Recording:
         """Marks that a request is whole, and answers the number of its call."""
         if not self._open and self._due.is_due():
             self._next_file()
-        self._tell_version(client, request)
+        seen = glimpse(request, Side.CLIENT)
+        self._tell_version(client, seen)
         number = self._writer.next_call
         marked = self._marked(number, Side.CLIENT, request)
         call = self._writer.begin(client, marked)
         self._due.begin()
         if call not in self._without_end:
             self._open.add(call)
-        self.account.begin(call, marked)
+        self.account.begin(call, seen if marked is request else glimpse(marked, Side.CLIENT))
         return call
 
     def end(self, call: int, response: bytes) -> None:
         """Marks that the response to a call is whole."""
         marked = self._marked(call, Side.SERVER, response)
         self._writer.end(call, marked)
-        self.account.end(call, marked)
+        self.account.end(call, glimpse(marked, Side.SERVER))
         self.give_up(call)
 
     def give_up(self, call: int) -> None:
@@ -96,9 +97,8 @@ class Recording:
             return message
         return self._translator.message(call, side, message)
 
-    def _tell_version(self, client: str, request: bytes) -> None:
+    def _tell_version(self, client: str, seen: Optional[Glimpse]) -> None:
         """Tells a version that can't be judged at its first message."""
-        seen = glimpse(request, Side.CLIENT)
         version = seen.version if seen else None
         if version is None or version == JUDGED or version in self._versions:
             return
@@ -115,5 +115,3 @@ def tell_account(recording: Recording) -> None:
     for line in recording.account_lines():
         say(line)
     print(recording.summary(), flush=True)
-
-
