@@ -33,8 +33,8 @@ LONG_NUMBERS = (Kind.LONG_INTEGER, Kind.BOOLEAN, Kind.DATE_TIME, Kind.DATE_TIME_
 HEADER = struct.Struct(">II")
 PADDINGS = tuple(bytes(-length % 8) for length in range(8))
 # The members that are met most, since a look into an enumeration takes its time.
-STRUCTURE, BIG_INTEGER, BOOLEAN, TEXT, BYTES = (
-    Kind.STRUCTURE, Kind.BIG_INTEGER, Kind.BOOLEAN, Kind.TEXT, Kind.BYTES)
+STRUCTURE, INTEGER, BIG_INTEGER, ENUMERATION, BOOLEAN, TEXT, BYTES = (
+    Kind.STRUCTURE, Kind.INTEGER, Kind.BIG_INTEGER, Kind.ENUMERATION, Kind.BOOLEAN, Kind.TEXT, Kind.BYTES)
 # By the plain numbers of types, for the same reason.
 KINDS: Dict[int, Kind] = {kind.value: kind for kind in Kind}
 LENGTHS: Dict[int, int] = {kind.value: 4 if kind in SHORT_NUMBERS else 8 for kind in SHORT_NUMBERS + LONG_NUMBERS}
@@ -61,44 +61,45 @@ class Item(NamedTuple):
 
     def first(self, tag: int, kind: Kind) -> Optional["Item"]:
         """The first child with this tag, where it is of this kind."""
-        for child in self.children():
-            if child.tag == tag:
-                return child if child.kind == kind else None
+        value = self.value
+        for child in value if isinstance(value, list) else ():
+            if child[0] == tag:
+                return child if child[1] == kind else None
         return None
 
     def every(self, tag: int, kind: Kind) -> List["Item"]:
         """All children with this tag and kind."""
-        return [child for child in self.children() if child.tag == tag and child.kind == kind]
+        return [child for child in self.children() if child[0] == tag and child[1] == kind]
 
 
 def structure(tag: int, *children: bytes) -> bytes:
     """A structure of these items."""
-    return _item(tag, Kind.STRUCTURE, b"".join(children))
+    return _item(tag, STRUCTURE, b"".join(children))
 
 
 def integer(tag: int, number: int) -> bytes:
     """A signed number of 32 bits."""
-    return _item(tag, Kind.INTEGER, number.to_bytes(4, "big", signed=True))
+    return _item(tag, INTEGER, number.to_bytes(4, "big", signed=True))
 
 
 def enumeration(tag: int, number: int) -> bytes:
     """An unsigned number of 32 bits that stands for something."""
-    return _item(tag, Kind.ENUMERATION, number.to_bytes(4, "big"))
+    return _item(tag, ENUMERATION, number.to_bytes(4, "big"))
 
 
 def boolean(tag: int, value: bool) -> bytes:
     """True or false."""
-    return _item(tag, Kind.BOOLEAN, int(value).to_bytes(8, "big"))
+    return _item(tag, BOOLEAN, int(value).to_bytes(8, "big"))
 
 
 def text(tag: int, value: str) -> bytes:
     """A text in UTF-8; what UTF-8 can't spell becomes a question mark."""
-    return _item(tag, Kind.TEXT, value.encode("utf-8", "replace"))
+    return _item(tag, TEXT, value.encode("utf-8", "replace"))
 
 
 def byte_string(tag: int, value: bytes) -> bytes:
     """A string of bytes."""
-    return _item(tag, Kind.BYTES, value)
+    return _item(tag, BYTES, value)
 
 
 def spell(item: Item) -> bytes:

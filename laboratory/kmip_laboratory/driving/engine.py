@@ -9,7 +9,7 @@ import itertools
 import random
 import threading
 from dataclasses import dataclass, field, replace
-from typing import Callable, Dict, List, Optional, Tuple
+from typing import Dict, List, Optional, Tuple
 
 from .messages import Answer, Ask, Attribute, Material, Name, Refused, Request, Response
 from .numbers import AES, COMPROMISES, ObjectType, Operation, Option, Reason, State, Status, Tag
@@ -17,6 +17,18 @@ from .store import Clock, Store, Thing
 
 # The reason for the wrong state, by version: below 2.0 there is none of its own.
 FIRST_WITH_REASONS = (2, 0)
+
+
+# Which method does an operation.
+WAYS: Dict[int, str] = {
+    Operation.CREATE: "create", Operation.REGISTER: "register", Operation.LOCATE: "locate", Operation.GET: "get",
+    Operation.GET_ATTRIBUTES: "get_attributes", Operation.ACTIVATE: "activate", Operation.REVOKE: "revoke",
+    Operation.DESTROY: "destroy", Operation.QUERY: "idle", Operation.DISCOVER_VERSIONS: "idle",
+}
+NAME, STATE = Tag.NAME, Tag.STATE
+# What a Locate may look for besides, and where an object keeps it.
+FIELDS = {Tag.OBJECT_TYPE: "object_type", Tag.CRYPTOGRAPHIC_ALGORITHM: "algorithm",
+          Tag.CRYPTOGRAPHIC_LENGTH: "length"}
 
 
 @dataclass
@@ -94,15 +106,10 @@ class Engine:
 
     def perform(self, ask: Ask, call: Call) -> Answer:
         """Does one item, or refuses it."""
-        ways: Dict[int, Callable[[Ask, Call], Answer]] = {
-            Operation.CREATE: self.create, Operation.REGISTER: self.register, Operation.LOCATE: self.locate,
-            Operation.GET: self.get, Operation.GET_ATTRIBUTES: self.get_attributes,
-            Operation.ACTIVATE: self.activate, Operation.REVOKE: self.revoke, Operation.DESTROY: self.destroy,
-            Operation.QUERY: self.idle, Operation.DISCOVER_VERSIONS: self.idle,
-        }
-        if ask.operation not in ways:
+        way = WAYS.get(ask.operation)
+        if way is None:
             raise Refused(Reason.OPERATION_NOT_SUPPORTED)
-        return ways[ask.operation](ask, call)
+        return getattr(self, way)(ask, call)
 
     def idle(self, ask: Ask, _: Call) -> Answer:
         """Query and Discover Versions tell nothing here."""
@@ -168,17 +175,20 @@ class Engine:
 
     def fits(self, thing: Thing, ask: Ask, call: Call) -> bool:
         """Whether an object fits all filters."""
-        return all(self.has(thing, each, call) for each in ask.attributes)
+        for each in ask.attributes:
+            if not self.has(thing, each, call):
+                return False
+        return True
 
     def has(self, thing: Thing, filtered: Attribute, call: Call) -> bool:
         """Whether an object has the attribute that one filter asks for."""
-        if filtered.tag is Tag.NAME:
-            return filtered.value in thing.names
-        if filtered.tag is Tag.STATE:
-            return self.state(thing, call.now) == filtered.value
-        values = {Tag.OBJECT_TYPE: thing.object_type, Tag.CRYPTOGRAPHIC_ALGORITHM: thing.algorithm,
-                  Tag.CRYPTOGRAPHIC_LENGTH: thing.length}
-        return values.get(filtered.tag) == filtered.value
+        tag, value = filtered
+        if tag is NAME:
+            return value in thing.names
+        if tag is STATE:
+            return self.state(thing, call.now) == value
+        field = FIELDS.get(tag)
+        return field is not None and getattr(thing, field) == value
 
     def get(self, ask: Ask, call: Call) -> Answer:
         """The bytes of a live object."""
