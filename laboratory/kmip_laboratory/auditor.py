@@ -62,6 +62,11 @@ class Verdict(NamedTuple):
     date: str = ""
     steps: Optional[int] = None
 
+    def decides(self, budget: int) -> bool:
+        """Whether a search with this budget has decided. Giving up with steps left is a decision, where no call is
+        open, unordered or wants a payload."""
+        return self.outcome is not Outcome.GAVE_UP or (self.steps or 0) < budget
+
     @property
     def text(self) -> str:
         """The lines in one."""
@@ -72,7 +77,10 @@ class Auditor:
     """The program, wherever it is."""
 
     def __init__(self, program: Optional[str] = None) -> None:
-        self.program = program or _found()
+        self.program = _abiding(program) if program else _found()
+        if shutil.which(self.program) is None:
+            raise Trouble(f"there is no auditor at {self.program}: build it (README.md says how), or give its program "
+                          f"in {VARIABLE}")
 
     def version(self) -> str:
         """What the program calls itself."""
@@ -136,7 +144,12 @@ def _found() -> str:
     """The program: that of the variable, the built one, or the one on the path."""
     named = os.environ.get(VARIABLE)
     if named:
-        return os.path.abspath(named) if os.sep in named else named
+        return _abiding(named)
     if BUILT.exists():
         return str(BUILT)
     return shutil.which("kmip_audit") or str(BUILT)
+
+
+def _abiding(program: str) -> str:
+    """The program's name, so that it means the same in every folder."""
+    return os.path.abspath(program) if os.sep in program else program

@@ -12,7 +12,8 @@ from typing import List
 
 from laboratory import AUDITOR, FOLDER, SECONDS, Begin, End, Laboratory, read_marks, wait_until
 
-from kmip_laboratory.driving import auditor, calibrate, mixes, plan
+from kmip_laboratory.auditor import Auditor
+from kmip_laboratory.driving import calibrate, mixes, plan
 from kmip_laboratory.driving.decide import decide
 from kmip_laboratory.driving.faults import FAULTS, description
 from kmip_laboratory.driving.numbers import Operation
@@ -142,6 +143,8 @@ class OnTheWire(Laboratory):
         checked = subprocess.run([AUDITOR, "check", "transcript.ttlv", "declaration.ttlv", "witness.ttlv"], cwd=out,
                                  capture_output=True, text=True, timeout=SECONDS * 3)
         self.assertEqual(checked.stdout, "yes\n")
+        self.assertIn(f"{out / 'report.html'} shows it\n", done.stdout)
+        self.assertIn("<pre>yes</pre>", (out / "report.html").read_text("utf-8"))
 
     def test_one_command_convicts_a_server_that_is_wrong(self) -> None:
         out = self.folder / "out"
@@ -155,6 +158,7 @@ class OnTheWire(Laboratory):
                                   capture_output=True, text=True, timeout=SECONDS * 3)
         self.assertEqual(searched.returncode, 4)
         self.assertLess(int(re.search(r"gave up: (\d+) steps", searched.stdout).group(1)), 1_000_000)
+        self.assertIn("why 9 BytesDiffer", (out / "report.html").read_text("utf-8"))
 
     def test_troubles_are_one_line(self) -> None:
         for words, told in ((("--mix", "none"), "the mix none can't be read"),
@@ -179,7 +183,7 @@ class Convictions(Laboratory):
 
     def calibration(self, **more: object) -> calibrate.Calibration:
         scale = calibrate.Scale(**{"calls": 60, "budget": 3_000, "part_budget": 300, **more})
-        return calibrate.Calibration(auditor.Auditor(AUDITOR), scale, self.folder)
+        return calibrate.Calibration(Auditor(AUDITOR), scale, self.folder)
 
     def test_without_a_fault_it_is_yes(self) -> None:
         calibration = self.calibration()
@@ -200,7 +204,7 @@ class Convictions(Laboratory):
         calibration = self.calibration()
         folder = calibration.record(calibrate.simulate.make([], 10, 3, None, False), "hot-keys", 3)
         # With no step for the whole, parts alone are searched.
-        self.assertEqual(decide(folder, auditor.Auditor(AUDITOR), 1, 300).status, 4)
+        self.assertEqual(decide(folder, Auditor(AUDITOR), 1, 300).status, 4)
 
     def test_open_calls_have_no_parts(self) -> None:
         calibration = self.calibration(calls=10)

@@ -1,21 +1,26 @@
-"""The word `audit`: declares, drives and records, searches, and explains, in one go."""
+"""The word `audit`: declares, drives and records, searches, explains and reports, in one go."""
 
 from __future__ import annotations
 
 import argparse
+import os
 import subprocess
 import sys
 from pathlib import Path
 from typing import Callable, List
 
+from ..auditor import VARIABLE, Auditor
+from ..recordings import DECLARATION, WITNESS
 from ..trouble import Trouble
 from . import record
-from .auditor import DECLARATION, WITNESS, Auditor
 from .decide import Decision, decide, why_of, write_part
 from .drive import Job, drive
 
-RECORDER = Path(__file__).resolve().parents[2] / "kmip_record"
-PART = "part"
+PROGRAMS = Path(__file__).resolve().parents[2]
+RECORDER, REPORTER = PROGRAMS / "kmip_record", PROGRAMS / "kmip_report"
+PART, REPORT = "part", "report.html"
+# The report of what no search decided asks for so many steps at most, since it searches once more.
+STEPS_OF_REPORT = 10_000
 
 
 def run(job: Job, words: argparse.Namespace, auditor: Auditor, tell: Callable[[str], None]) -> int:
@@ -32,8 +37,17 @@ def run(job: Job, words: argparse.Namespace, auditor: Auditor, tell: Callable[[s
     print("\n".join(done.lines()), flush=True)
     decision = decide(folder, auditor, words.budget, words.budget)
     for line in explained(folder, decision, auditor):
-        print(line)
+        print(line, flush=True)
+    _report(folder / PART if decision.part else folder, folder / REPORT, auditor, words.budget)
     return decision.status
+
+
+def _report(recording: Path, page: Path, auditor: Auditor, budget: int) -> None:
+    """The page of what was decided, by `kmip_report`: of the calls that convict, where there are such."""
+    words = [str(page), str(recording), "--budget", str(min(budget, STEPS_OF_REPORT))]
+    done = subprocess.run([sys.executable, str(REPORTER), *words], stdout=subprocess.PIPE, text=True, check=False,
+                          env={**os.environ, VARIABLE: auditor.program})
+    print(f"{page} shows it" if done.returncode == 0 else "no page was made of it")
 
 
 def _ask_the_server(folder: Path, words: argparse.Namespace) -> None:

@@ -12,9 +12,10 @@ from typing import Iterator, List, NamedTuple, Optional, Type
 
 from .. import tls
 from ..address import Address
+from ..auditor import Auditor
+from ..recordings import TRANSCRIPT
 from ..transcript import TranscriptWriter
 from . import certificates, mixes, record, simulate
-from .auditor import TRANSCRIPT, Auditor
 from .decide import Decision, decide
 from .drive import Job, drive
 from .engine import Engine

@@ -7,15 +7,14 @@ from pathlib import Path
 from typing import List, NamedTuple, Optional, Set
 
 from .. import ttlv
+from ..auditor import Auditor, Outcome, Verdict
 from ..files import write_file
 from ..recording import order
+from ..recordings import DECLARATION, TRANSCRIPT, WITNESS
 from ..tags import FileTag
 from ..transcript import Begin, read_marks
-from .auditor import DECLARATION, TRANSCRIPT, WITNESS, Auditor, Found
 from .parts import parts
 from .recorded import Recorded, declared_names, read
-
-OUTSIDE_STATUSES = (2, 3)
 
 
 class Decision(NamedTuple):
@@ -41,19 +40,18 @@ class Decision(NamedTuple):
 def decide(folder: Path, auditor: Auditor, budget: int, part_budget: int) -> Decision:
     """Searches a witness of the folder's recording; where that gives up, looks for the least part that nothing
     explains."""
-    found = auditor.search(folder, budget)
-    if found.status != 4:
-        return Decision(found.line, found.status)
+    found = _searched(folder, auditor, budget)
+    undecided = Decision(found.text, found.status)
+    if found.outcome is not Outcome.GAVE_UP:
+        return undecided
     calls = read(str(folder / TRANSCRIPT))
     if calls is None:
-        return Decision(found.line, found.status)
+        return undecided
     with tempfile.TemporaryDirectory(prefix="kmip-drive-") as made:
         part = _refuted_part(folder, Path(made), calls, auditor, part_budget)
         if part is not None:
-            return Decision(found.line, 1, [call.number for call in part], _why(folder, Path(made), part, auditor))
-    if found.decided:
-        return Decision(found.line, 1, None, why_of(folder, auditor))
-    return Decision(found.line, found.status)
+            return Decision(found.text, 1, [call.number for call in part], _why(folder, Path(made), part, auditor))
+    return Decision(found.text, 1, None, why_of(folder, auditor)) if found.decides(budget) else undecided
 
 
 def _refuted_part(folder: Path, made: Path, calls: List[Recorded], auditor: Auditor,
@@ -62,23 +60,29 @@ def _refuted_part(folder: Path, made: Path, calls: List[Recorded], auditor: Audi
     explained: List[Set[int]] = []
     single, whole = parts(calls, declared_names(str(folder / DECLARATION)))
     for part in whole:
-        if _search(folder, made, part, auditor, budget).status == 0:
+        if _search(folder, made, part, auditor, budget).outcome is Outcome.YES:
             explained.append({call.number for call in part})
     for part in [*single, *whole]:
         numbers = {call.number for call in part}
         if len(part) == len(calls) or any(numbers <= each for each in explained):
             continue
         found = _search(folder, made, part, auditor, budget)
-        if found.status == 4 and found.decided:
+        if found.outcome is Outcome.GAVE_UP and found.decides(budget):
             return part
-        if found.status == 0:
+        if found.outcome is Outcome.YES:
             explained.append(numbers)
     return None
 
 
-def _search(folder: Path, made: Path, part: List[Recorded], auditor: Auditor, budget: int) -> Found:
+def _search(folder: Path, made: Path, part: List[Recorded], auditor: Auditor, budget: int) -> Verdict:
     write_part(folder, made, {call.number for call in part})
-    return auditor.search(made, budget)
+    (made / WITNESS).unlink(missing_ok=True)
+    return _searched(made, auditor, budget)
+
+
+def _searched(folder: Path, auditor: Auditor, budget: int) -> Verdict:
+    """What a search of the folder's recording says; the witness that it finds goes into the folder."""
+    return auditor.search(str(folder / TRANSCRIPT), str(folder / DECLARATION), str(folder / WITNESS), budget)
 
 
 def _why(folder: Path, made: Path, part: List[Recorded], auditor: Auditor) -> str:
@@ -89,7 +93,8 @@ def _why(folder: Path, made: Path, part: List[Recorded], auditor: Auditor) -> st
 def why_of(folder: Path, auditor: Auditor) -> str:
     """What a check says where the calls were done in the order of their answers."""
     write_file(str(folder / WITNESS), order.witness(order.guess(str(folder / TRANSCRIPT))), force=True)
-    return auditor.check(folder)
+    verdict = auditor.check(str(folder / TRANSCRIPT), str(folder / DECLARATION), str(folder / WITNESS))
+    return verdict.text
 
 
 def write_part(folder: Path, made: Path, numbers: Set[int]) -> None:

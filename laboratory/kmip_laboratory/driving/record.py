@@ -8,9 +8,9 @@ from pathlib import Path
 from typing import Callable, Iterator, List
 
 from ..recording import declaration
+from ..recordings import DECLARATION, TRANSCRIPT
 from ..transcript import TranscriptWriter
 from ..trouble import Trouble
-from .auditor import DECLARATION, TRANSCRIPT
 from .drive import JUDGED
 from .messages import Version
 

@@ -9,10 +9,10 @@ from typing import List, NoReturn
 
 from .. import tls
 from ..address import Address, read_address
+from ..auditor import Auditor
 from ..recording import declaration
 from ..trouble import Trouble
 from . import audit, calibrate, certificates, drive, mixes, simulate, wire
-from .auditor import Auditor
 from .cuts import HELP, Cut, Cuts
 from .faults import FAULTS, description
 from .record import recording
@@ -65,7 +65,7 @@ def _parser() -> Parser:
     _add_drive(words.add_parser("drive", help="let clients make calls to a server at once"))
     _add_simulate(words.add_parser("simulate", help="be a key server, with faults that are asked for"))
     _add_calibrate(words.add_parser("calibrate", help="convict the simulated server of each of its faults"))
-    _add_audit(words.add_parser("audit", help="declare, drive, record, search and explain in one go"))
+    _add_audit(words.add_parser("audit", help="declare, drive, record, search, explain and report in one go"))
     faults = words.add_parser("faults", help="list the faults of the simulated server")
     faults.set_defaults(run=_faults)
     made = words.add_parser("certificates", help="make certificates to try things with")

@@ -13,6 +13,7 @@ from typing import Dict, List, NamedTuple, Optional, Tuple
 from ..auditor import Auditor, Outcome, Verdict
 from ..calls import Call, Status, read_transcript
 from ..operations import operation_name as standard_name
+from ..recordings import DECLARATION, TRANSCRIPT, WITNESS
 from ..records import read_file, records
 from ..transcript import CALL
 from ..trouble import Trouble
@@ -20,7 +21,6 @@ from ..ttlv import Kind
 from .messages import Messages, read_messages
 
 TURN = 0x540041
-TRANSCRIPT, DECLARATION, WITNESS = "transcript.ttlv", "declaration.ttlv", "witness.ttlv"
 
 
 class Judged(NamedTuple):

@@ -86,5 +86,5 @@ class Trials:
         if verdict.outcome is not Outcome.GAVE_UP:
             raise Trouble(f"the auditor does not judge this recording: {verdict.text}; leave out what it names, and "
                           "shrink the rest")
-        decided = all(map(is_plain, calls)) and verdict.steps is not None and verdict.steps < self._budget
+        decided = all(map(is_plain, calls)) and verdict.decides(self._budget)
         return (Answer.IMPOSSIBLE if decided else Answer.UNKNOWN), verdict
