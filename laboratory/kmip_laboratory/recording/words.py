@@ -28,7 +28,8 @@ USAGE = 64
 
 MINOR_HELP = "write messages of versions 1.0 to 2.0 as 2.1, as `translate` does"
 FORCE_HELP = "write over the file where it is there already"
-MINOR_NOTE = "version 2.0 is written as 2.1 in the transcript: what is judged then is not quite what was said"
+MINOR_NOTE = ("versions 1.0 to 2.0 are written as 2.1 in the transcript: what is judged then is not quite what was "
+              "said")
 
 
 class Parser(argparse.ArgumentParser):
