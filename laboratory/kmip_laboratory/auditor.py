@@ -1,76 +1,19 @@
-"""The auditor, asked: its program is run on files, and the lines that it prints are read into values.
-
-Every verdict of the laboratory is one of these. The lines are those of docs/PROFILE.md.
-"""
+"""The auditor, asked: its program is run on files, and every verdict of the laboratory is what it answered."""
 
 from __future__ import annotations
 
 import os
-import re
 import shutil
 import subprocess
-from enum import Enum
 from pathlib import Path
-from typing import Dict, Iterator, List, NamedTuple, Optional, Pattern
+from typing import Callable, Iterator, Optional
 
 from .trouble import Trouble
+from .verdicts import Verdict, read_json, read_verdict
 
 BUILT = Path(__file__).resolve().parents[2] / "crates/kmip_audit/out/kmip_audit"
 VARIABLE = "KMIP_AUDIT"
-
-
-class Outcome(Enum):
-    """What the auditor answered."""
-
-    YES = "yes"
-    NO = "no"
-    OUTSIDE = "outside"
-    WITNESS = "witness"
-    MALFORMED = "malformed"
-    GAVE_UP = "gave up"
-    DEVICE = "device"
-    MEMORY = "memory"
-
-
-PATTERNS: Dict[Outcome, Pattern[str]] = {
-    Outcome.YES: re.compile(r"yes(?:: (?P<steps>\d+) steps)?"),
-    Outcome.NO: re.compile(r"no: turn (?P<turn>\d+) call (?P<call>\d+) item (?P<item>\d+) why (?P<number>\d+) "
-                           r"(?P<name>\w+)\nat (?P<date>\S+)"),
-    Outcome.OUTSIDE: re.compile(r"outside: call (?P<call>\d+) (?P<side>request|response) item (?P<item>\d+) kind "
-                                r"(?P<number>\d+) (?P<name>.+)"),
-    Outcome.WITNESS: re.compile(r"witness: at (?P<turn>\d+) kind (?P<number>\d+) (?P<name>\w+)"),
-    Outcome.MALFORMED: re.compile(r"malformed: (?P<file>\w+) offset (?P<offset>\d+) kind (?P<number>\d+) (?P<name>.+)"),
-    Outcome.GAVE_UP: re.compile(r"gave up: (?P<steps>\d+) steps"),
-    Outcome.DEVICE: re.compile(r"device"),
-    Outcome.MEMORY: re.compile(r"memory"),
-}
-
-
-class Verdict(NamedTuple):
-    """An answer: the lines as they were printed, the status, and what the lines name. A number that they do not name
-    is None."""
-
-    outcome: Outcome
-    lines: List[str]
-    status: int
-    turn: Optional[int] = None
-    call: Optional[int] = None
-    item: Optional[int] = None
-    number: Optional[int] = None
-    name: str = ""
-    side: str = ""
-    date: str = ""
-    steps: Optional[int] = None
-
-    def decides(self, budget: int) -> bool:
-        """Whether a search with this budget has decided. Giving up with steps left is a decision, where no call is
-        open, unordered or wants a payload."""
-        return self.outcome is not Outcome.GAVE_UP or (self.steps or 0) < budget
-
-    @property
-    def text(self) -> str:
-        """The lines in one."""
-        return ", ".join(self.lines)
+USAGE = 64
 
 
 class Auditor:
@@ -95,6 +38,14 @@ class Auditor:
         more = [] if budget is None else ["--budget", str(budget)]
         return self._verdict("search", transcript, declaration, out, "--quiet", *more)
 
+    def told(self, *words: str) -> Verdict:
+        """What these words say, in JSON where the program knows that: then its version and the files' digests are
+        told too."""
+        done = self._run(*words, "--json")
+        if done.returncode == USAGE and not done.stdout:
+            return self._verdict(*words)
+        return self._read(words[0], done, read_json)
+
     def show_each(self, path: str, *words: str) -> Iterator[str]:
         """The lines of a file's items, one after the other."""
         try:
@@ -108,12 +59,15 @@ class Auditor:
             raise Trouble(f"kmip_audit show {path} ended with status {running.returncode}; run it to see why")
 
     def _verdict(self, *words: str) -> Verdict:
-        done = self._run(*words)
-        verdict = read_verdict(done.stdout, done.returncode)
+        return self._read(words[0], self._run(*words), read_verdict)
+
+    def _read(self, word: str, done: subprocess.CompletedProcess[str], read: Callable[[str, int], Optional[Verdict]]
+              ) -> Verdict:
+        verdict = read(done.stdout, done.returncode)
         if verdict is None:
             told = " ".join((done.stdout + done.stderr).split())
-            raise Trouble(f"{self.program} {words[0]} ended with status {done.returncode}, and said what is no "
-                          f"verdict: {told[:200] or 'nothing'}; give the auditor's program in {VARIABLE}")
+            raise Trouble(f"{self.program} {word} ended with status {done.returncode}, and said what is no verdict: "
+                          f"{told[:200] or 'nothing'}; give the auditor's program in {VARIABLE}")
         return verdict
 
     def _run(self, *words: str) -> subprocess.CompletedProcess[str]:
@@ -126,18 +80,6 @@ class Auditor:
     def _not_run(self, error: OSError) -> Trouble:
         return Trouble(f"the auditor {self.program} can't be run: {error.strerror}; build it, or give its program in "
                        f"{VARIABLE}")
-
-
-def read_verdict(printed: str, status: int) -> Optional[Verdict]:
-    """The verdict that these lines are; None where they are none."""
-    for outcome, pattern in PATTERNS.items():
-        found = pattern.fullmatch(printed.rstrip("\n"))
-        if found:
-            told = {name: value for name, value in found.groupdict().items() if value is not None}
-            numbers = {name: int(told[name]) for name in ("turn", "call", "item", "number", "steps") if name in told}
-            texts = {name: told[name] for name in ("name", "side", "date") if name in told}
-            return Verdict(outcome, printed.splitlines(), status, **numbers, **texts)
-    return None
 
 
 def _found() -> str:

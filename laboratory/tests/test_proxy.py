@@ -246,7 +246,7 @@ class Versions(Laboratory):
             client.sendall(messages.get("key-1", protocol))
             self.assertEqual(stub.receive(client), told if protocol == (2, 0) else messages.not_found(STAMP, (1, 0)))
         recorder.end()
-        self.assertTrue(recorder.heard("version 2.0 is written as 2.1"))
+        self.assertTrue(recorder.heard("versions 1.0 to 2.0 are written as 2.1"))
         self.assertEqual([mark.message for mark in recorder.marks()], [
             messages.get("key-1", (2, 1)), messages.not_found(STAMP, (2, 1)),
             messages.get("key-1", (2, 1)), messages.not_found(STAMP, (2, 1))])

@@ -5,24 +5,26 @@ from __future__ import annotations
 import hashlib
 import html.parser
 import json
+import os
 import re
 import shutil
 import subprocess
 import sys
 import tempfile
 import unittest
+import unittest.mock
 from pathlib import Path
 from typing import Dict, List, Optional, Tuple
 from xml.etree import ElementTree
 
 import messages
 import sessions
-from laboratory import FOLDER
+from laboratory import AUDITOR, FOLDER
 from test_blind import shown_key
 
-from kmip_laboratory.auditor import Outcome, read_verdict
 from kmip_laboratory.recording.order import witness
 from kmip_laboratory.transcript import TranscriptWriter
+from kmip_laboratory.verdicts import Outcome, read_json, read_verdict
 
 EXAMPLES = FOLDER.parent / "examples"
 CHROMIUM = shutil.which("chromium")
@@ -181,6 +183,49 @@ class Report(unittest.TestCase):
         for path in EXAMPLES.glob("*/line"):
             self.assertIsNotNone(read_verdict(path.read_text(), 0), path)
         self.assertIsNone(read_verdict("no: turn 1\n", 1))
+
+    def test_json_says_what_the_lines_say(self) -> None:
+        digests = '"auditor":"9.9","files":[{"length":5,"role":"transcript","sha256":"ab"}]'
+        for members, lines in (
+                ('"verdict":"yes"', "yes"), ('"verdict":"yes","steps":7', "yes: 7 steps"),
+                ('"verdict":"no","turn":2,"call":3,"item":1,"why":{"name":"WrongState","number":6},"stamp":1700000001,'
+                 '"date":"2023-11-14T22:13:21Z"', "no: turn 2 call 3 item 1 why 6 WrongState\nat 2023-11-14T22:13:21Z"),
+                ('"verdict":"outside","call":1,"message":"request","item":0,"kind":{"name":"Version","number":2}',
+                 "outside: call 1 request item 0 kind 2 Version"),
+                ('"verdict":"witness","at":2,"kind":{"name":"LeftOut","number":3}', "witness: at 2 kind 3 LeftOut"),
+                ('"verdict":"malformed","file":"transcript","offset":9,"kind":{"name":"Ttlv","number":1},'
+                 '"flaw":"Truncated"', "malformed: transcript offset 9 kind 1 Ttlv Truncated"),
+                ('"verdict":"gave up","steps":2,"decided":true,"more":[]', "gave up: 2 steps"),
+                ('"verdict":"device"', "device"), ('"verdict":"memory"', "memory")):
+            found, plain = read_json("{" + f"{members},{digests}" + "}\n", 0), read_verdict(lines + "\n", 0)
+            self.assertIsNotNone(found, members)
+            self.assertEqual(found._replace(version="", files=(), decided=None), plain)
+            self.assertEqual((found.version, found.files[0]), ("kmip_audit 9.9", ("transcript", 5, "ab")))
+        self.assertIsNone(read_json('{"verdict":"perhaps","auditor":"1"}', 0))
+        self.assertIsNone(read_json("yes\n", 0))
+
+    def test_digests_and_version_are_the_auditors_where_it_tells_them(self) -> None:
+        folder = self.folder / "recording"
+        shutil.copytree(EXAMPLES / "destroy_twice", folder)
+        names = ("transcript", "declaration", "witness")
+        digests = [{"role": name, "length": (folder / f"{name}.ttlv").stat().st_size, "sha256": hashlib.sha256(
+            (folder / f"{name}.ttlv").read_bytes()).hexdigest()} for name in names]
+        told = {"verdict": "no", "turn": 2, "call": 2, "item": 1, "why": {"number": 6, "name": "WrongState"},
+                "date": "2023-11-14T22:13:21Z", "auditor": "7.6.5", "files": digests}
+        program = self.folder / "kmip_audit"
+        program.write_text(f"#!{sys.executable}\nimport os, sys\nif '--json' in sys.argv:\n    print({json.dumps(told)!r}"
+                           f")\n    sys.exit(1)\nos.execv({AUDITOR!r}, [{AUDITOR!r}, *sys.argv[1:]])\n")
+        program.chmod(0o700)
+        with unittest.mock.patch.dict(os.environ, {"KMIP_AUDIT": str(program)}):
+            text = "".join(self.page(folder).texts)
+            for words in ("from what kmip_audit 7.6.5 printed", "SHA-256, as the auditor judged it", digests[0]["sha256"],
+                          "no: turn 2 call 2 item 1 why 6 WrongState\nat 2023-11-14T22:13:21Z"):
+                self.assertIn(words, text)
+            with open(folder / "witness.ttlv", "ab") as file:
+                file.write(bytes(8))
+            done = report(self.folder / "other.html", folder)
+            self.assertEqual((done.returncode, done.stdout), (1, ""))
+            self.assertIn("witness.ttlv is not what was judged", done.stderr)
 
     @unittest.skipUnless(CHROMIUM, "needs Debian's chromium")
     def test_a_browser_shows_it(self) -> None:

@@ -7,12 +7,13 @@ from pathlib import Path
 from typing import List, NamedTuple, Optional, Set
 
 from .. import ttlv
-from ..auditor import Auditor, Outcome, Verdict
+from ..auditor import Auditor
 from ..files import write_file
 from ..recording import order
 from ..recordings import DECLARATION, TRANSCRIPT, WITNESS
 from ..tags import FileTag
 from ..transcript import Begin, read_marks
+from ..verdicts import Outcome, Verdict
 from .parts import parts
 from .recorded import Recorded, declared_names, read
 

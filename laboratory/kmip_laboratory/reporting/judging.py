@@ -10,7 +10,7 @@ import time
 from pathlib import Path
 from typing import Dict, List, NamedTuple, Optional, Tuple
 
-from ..auditor import Auditor, Outcome, Verdict
+from ..auditor import Auditor
 from ..calls import Call, Status, read_transcript
 from ..operations import operation_name as standard_name
 from ..recordings import DECLARATION, TRANSCRIPT, WITNESS
@@ -18,6 +18,7 @@ from ..records import read_file, records
 from ..transcript import CALL
 from ..trouble import Trouble
 from ..ttlv import Kind
+from ..verdicts import Outcome, Verdict
 from .messages import Messages, read_messages
 
 TURN = 0x540041
@@ -74,20 +75,29 @@ def judge(folder: str, budget: Optional[int]) -> Judged:
     started = time.monotonic()
     with tempfile.TemporaryDirectory(prefix="kmip_report-") as made:
         if len(files) == 3:
-            verdict = auditor.check(transcript, declaration, witness)
             words = ["check", transcript, declaration, witness]
+            verdict = auditor.told(*words)
         else:
             witness = os.path.join(made, WITNESS)
-            verdict = auditor.search(transcript, declaration, witness, budget)
             more = [] if budget is None else ["--budget", str(budget)]
+            verdict = auditor.told("search", transcript, declaration, witness, *more, "--quiet")
             words = ["search", transcript, declaration, WITNESS, *more]
         seconds = time.monotonic() - started
+        _see_that_they_are_the_judged(files, verdict)
         turns = _turns(witness) if os.path.exists(witness) and verdict.outcome is not Outcome.MALFORMED else {}
     command = " ".join(["kmip_audit", *map(shlex.quote, words)])
     readable = verdict.outcome not in (Outcome.MALFORMED, Outcome.DEVICE, Outcome.MEMORY)
     calls = read_transcript(transcript).calls if readable else []
     messages = read_messages(auditor, transcript) if readable else Messages([], {})
-    return Judged(folder, verdict, command, auditor.version(), files, calls, turns, messages, seconds)
+    return Judged(folder, verdict, command, verdict.version or auditor.version(), files, calls, turns, messages, seconds)
+
+
+def _see_that_they_are_the_judged(files: List[Tuple[str, int, str]], verdict: Verdict) -> None:
+    """Holds the digests that the auditor told against those of the files."""
+    for (path, length, sha256), judged in zip(files, verdict.files):
+        if (length, sha256) != (judged.length, judged.sha256):
+            raise Trouble(f"{path} is not what was judged: it has changed since, or the auditor is not one; make the "
+                          "report again")
 
 
 def _digest(path: str) -> Tuple[str, int, str]:

@@ -6,7 +6,7 @@ import re
 from typing import List
 from xml.etree import ElementTree
 
-from ..auditor import Outcome
+from ..verdicts import Outcome
 from .judging import Judged
 from .reasons import in_short, in_words
 

@@ -4,7 +4,7 @@ from __future__ import annotations
 
 from typing import Dict
 
-from ..auditor import Outcome, Verdict
+from ..verdicts import Outcome, Verdict
 
 WHY: Dict[int, str] = {
     1: "a call that ended before this one began has not been done yet in this order",
@@ -51,11 +51,13 @@ def in_words(verdict: Verdict) -> str:
                  f"{WHY.get(verdict.number or 0, verdict.name)} (reason {verdict.number}, {verdict.name}).")
     if verdict.outcome is Outcome.OUTSIDE:
         told += f" Call {verdict.call}, {verdict.side}, item {verdict.item}: kind {verdict.number}, {verdict.name}."
+    if verdict.decided is not None:
+        told += " The auditor has decided: no order does." if verdict.decided else " The auditor has not decided it."
     return told
 
 
 def in_short(verdict: Verdict) -> str:
     """The reason alone, by which recordings are counted."""
     if verdict.number is None:
-        return verdict.outcome.value
+        return f"{verdict.outcome.value}, decided" if verdict.decided else verdict.outcome.value
     return f"{verdict.outcome.value}: {verdict.number} {verdict.name}"

@@ -10,9 +10,9 @@ from functools import partial
 from typing import List, NoReturn
 
 from .. import fresh
-from ..auditor import Outcome
 from ..files import write_file
 from ..trouble import Trouble
+from ..verdicts import Outcome
 from . import junit, page, text
 from .judging import Judged, find, judge
 

@@ -8,9 +8,10 @@ from enum import Enum
 from types import TracebackType
 from typing import Dict, FrozenSet, Iterable, List, NamedTuple, Optional, Set, Tuple, Type
 
-from ..auditor import Auditor, Outcome, Verdict
+from ..auditor import Auditor
 from ..calls import Call, Transcript
 from ..trouble import Trouble
+from ..verdicts import Outcome, Verdict
 from .parts import Declaration, Parts, is_plain
 
 
