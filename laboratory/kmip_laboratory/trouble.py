@@ -1,5 +1,6 @@
 """What goes wrong, told to people: what it is, and what to do about it."""
 
+import os
 import sys
 
 
@@ -9,6 +10,11 @@ class Trouble(Exception):
 
 class ConnectionTrouble(Exception):
     """Ends one connection alone. Its text says what went wrong on it."""
+
+
+def hush() -> None:
+    """What is still printed goes nowhere, since nobody reads it: so nothing is said of the pipe at the end."""
+    os.dup2(os.open(os.devnull, os.O_WRONLY), sys.stdout.fileno())
 
 
 def say(words: str) -> None:

@@ -11,7 +11,7 @@ from .. import tls
 from ..address import Address, read_address
 from ..auditor import Auditor
 from ..recording import declaration
-from ..trouble import Trouble
+from ..trouble import Trouble, hush
 from . import audit, calibrate, certificates, drive, mixes, simulate, wire
 from .cuts import HELP, Cut, Cuts
 from .faults import FAULTS, description
@@ -54,6 +54,9 @@ def main(arguments: List[str]) -> int:
         return words.trouble
     except KeyboardInterrupt:
         tell("ended by Ctrl-C")
+        return words.trouble
+    except BrokenPipeError:
+        hush()
         return words.trouble
 
 

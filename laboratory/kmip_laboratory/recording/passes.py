@@ -3,14 +3,13 @@
 from __future__ import annotations
 
 import argparse
-import os
 import sys
 from typing import Iterable
 
 from ..sifting import effects, forgetting
 from ..sifting import run as sifting
 from ..translation import run as translation
-from ..trouble import Trouble
+from ..trouble import Trouble, hush
 from . import cut, listing
 from .numbers import add_segment_words
 from .segments import Segments
@@ -94,5 +93,4 @@ def _print(lines: Iterable[str]) -> None:
             print(line)
         sys.stdout.flush()
     except BrokenPipeError:
-        # What is left to be printed at the end goes nowhere, so that nothing is said of the pipe.
-        os.dup2(os.open(os.devnull, os.O_WRONLY), sys.stdout.fileno())
+        hush()

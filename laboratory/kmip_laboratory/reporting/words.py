@@ -11,7 +11,7 @@ from typing import List, NoReturn
 
 from .. import fresh
 from ..files import write_file
-from ..trouble import Trouble
+from ..trouble import Trouble, hush
 from ..verdicts import Outcome
 from . import junit, page, text
 from .judging import Judged, find, judge
@@ -37,17 +37,25 @@ def main(arguments: List[str]) -> int:
         if not words.force:
             fresh.refuse_present(outs)
         recordings = _judged(find(words.recordings), words.jobs, words.budget)
-        if words.text:
-            print("\n\n".join(text.told(judged) for judged in recordings))
         _write(words, recordings)
+        return _tell(recordings, words.text)
     except Trouble as trouble:
         print(f"kmip_report: {trouble}", file=sys.stderr)
         return TROUBLE
     except KeyboardInterrupt:
         print("kmip_report: ended by Ctrl-C; nothing more was written", file=sys.stderr)
         return TROUBLE
+
+
+def _tell(recordings: List[Judged], in_full: bool) -> int:
+    """Prints what came out, up to the last line, or as long as somebody reads it; answers the status."""
     yes = sum(judged.verdict.outcome is Outcome.YES for judged in recordings)
-    print(f"{len(recordings)} recordings: {yes} yes, {len(recordings) - yes} not")
+    try:
+        if in_full:
+            print("\n\n".join(text.told(judged) for judged in recordings))
+        print(f"{len(recordings)} recordings: {yes} yes, {len(recordings) - yes} not", flush=True)
+    except BrokenPipeError:
+        hush()
     return ALL_WELL
 
 
