@@ -7,6 +7,7 @@ import html.parser
 import json
 import os
 import re
+import resource
 import shutil
 import subprocess
 import sys
@@ -14,7 +15,7 @@ import tempfile
 import unittest
 import unittest.mock
 from pathlib import Path
-from typing import Dict, List, Optional, Tuple
+from typing import Callable, Dict, List, Optional, Tuple
 from xml.etree import ElementTree
 
 import messages
@@ -29,6 +30,7 @@ from kmip_laboratory.verdicts import Outcome, read_json, read_verdict
 EXAMPLES = FOLDER.parent / "examples"
 CHROMIUM = shutil.which("chromium")
 SECONDS_TO_BROWSE = 90
+DARK = "--blink-settings=preferredColorScheme=0"
 STRANGE = ["<script>alert(1)</script>", "\"'></pre><b>", "</script><img src=x onerror=alert(1)>", "&lt;i&gt;", "]]>"]
 KEY = bytes(range(200, 216))
 DRIVER = """<script>
@@ -36,7 +38,7 @@ DRIVER = """<script>
 const drive = () => {
   if (!document.querySelector('rect[data-call]')) { setTimeout(drive, 20); return; }
   const bars = document.querySelectorAll('rect[data-call]'), panel = document.querySelector('.details');
-  const seen = [bars.length];
+  const seen = [matchMedia('(prefers-color-scheme: dark)').matches, bars.length];
   bars[0].dispatchEvent(new MouseEvent('click', { bubbles: true }));
   seen.push(panel.querySelector('h3').textContent);
   const box = document.querySelector('.lanes');
@@ -72,6 +74,28 @@ class Page(html.parser.HTMLParser):
 
     def handle_data(self, data: str) -> None:
         self.texts.append(data)
+
+
+def contrast(one: str, other: str) -> float:
+    """The contrast ratio of two colours, as WCAG 2.1 defines it."""
+    def luminance(colour: str) -> float:
+        parts = [int(colour[place:place + 2], 16) / 255 for place in (1, 3, 5)]
+        linear = [part / 12.92 if part <= 0.04045 else ((part + 0.055) / 1.055) ** 2.4 for part in parts]
+        return sum(part * share for part, share in zip(linear, (0.2126, 0.7152, 0.0722)))
+
+    low, high = sorted(map(luminance, (one, other)))
+    return (high + 0.05) / (low + 0.05)
+
+
+def processor_seconds(work: Callable[[], object]) -> float:
+    """How long the programs that this starts take of the processor."""
+    def spent() -> float:
+        used = resource.getrusage(resource.RUSAGE_CHILDREN)
+        return used.ru_utime + used.ru_stime
+
+    before = spent()
+    work()
+    return spent() - before
 
 
 def report(*words: object) -> subprocess.CompletedProcess[str]:
@@ -227,6 +251,49 @@ class Report(unittest.TestCase):
             self.assertEqual((done.returncode, done.stdout), (1, ""))
             self.assertIn("witness.ttlv is not what was judged", done.stderr)
 
+    def test_colours_have_the_contrast_of_wcag_aa(self) -> None:
+        style = (FOLDER / "kmip_laboratory/reporting/page/style.css").read_text("utf-8")
+        light, dark = (dict(re.findall(r"--(\w+): (#[0-9a-f]{6});", part)) for part in style.split("@media", 1))
+        for colours in (light, dark):
+            self.assertEqual(set(colours), set(light))
+            for ground in ("paper", "panel"):
+                for words in ("ink", "soft", "link"):
+                    self.assertGreaterEqual(contrast(colours[words], colours[ground]), 4.5, (words, ground))
+                for bar in ("success", "failed", "refused", "undone", "open", "fault", "good", "focus"):
+                    self.assertGreaterEqual(contrast(colours[bar], colours[ground]), 3, (bar, ground))
+            for bar in ("success", "failed", "refused", "undone", "open", "fault"):
+                self.assertGreaterEqual(contrast(colours["paper"], colours[bar]), 4.5, f"the number in a bar: {bar}")
+
+    @unittest.skipUnless(CHROMIUM, "needs Debian's chromium")
+    def test_a_page_of_ten_thousand_calls(self) -> None:
+        if self.seconds_to_show_a_thousand() > 0.5:
+            self.skipTest("the auditor is one that was built for tests")
+        self.page(self.large(10_000))
+        self.assertLessEqual(self.out.stat().st_size, 20_000_000)
+        blank = self.folder / "blank.html"
+        blank.write_text("<!DOCTYPE html><p>nothing</p>", encoding="utf-8")
+        spent = [processor_seconds(lambda page=page: self.browse(page)) for page in (blank, self.out)]
+        self.assertLessEqual(spent[1] - spent[0], 3, "seconds of the processor, since others may be at work")
+
+    def large(self, calls: int) -> Path:
+        """A recording of so many calls of a server that is right."""
+        folder, server = self.folder / f"of {calls}", sessions.Server(1)
+        folder.mkdir()
+        server.declare()
+        with TranscriptWriter(str(folder / "transcript.ttlv")) as writer:
+            for number in range(calls):
+                asked, answered = server.call()
+                writer.end(writer.begin(f"client-{number % 12}", asked), answered)
+        (folder / "declaration.ttlv").write_bytes(sessions.declaration(*server.entries))
+        (folder / "witness.ttlv").write_bytes(witness([*range(1, calls + 1)]))
+        return folder
+
+    def seconds_to_show_a_thousand(self) -> float:
+        """How long the auditor takes to show a thousand calls, in seconds of the processor."""
+        folder = self.large(1000)
+        return processor_seconds(lambda: subprocess.run(
+            [AUDITOR, "show", folder / "transcript.ttlv", "--messages"], stdout=subprocess.DEVNULL, check=True))
+
     @unittest.skipUnless(CHROMIUM, "needs Debian's chromium")
     def test_a_browser_shows_it(self) -> None:
         self.page(self.strange())
@@ -237,16 +304,18 @@ class Report(unittest.TestCase):
         driven = self.folder / "driven.html"
         text = re.sub(r'<meta http-equiv="Content-Security-Policy"[^>]*>', "", self.out.read_text(encoding="utf-8"))
         driven.write_text(text.replace("</body>", DRIVER + "</body>"), encoding="utf-8")
-        dom, said = self.browse(driven)
-        self.assertEqual([line for line in said.splitlines() if "CONSOLE" in line], [])
-        found = re.search(r'<output id="seen">(.*?)</output>', dom)
-        self.assertIsNotNone(found, "no script broke off")
-        self.assertEqual(json.loads(found.group(1))[:5], [6, "Call 1: Get", "Call 2: Get", "Call 6: Get", "Call 6: Get"])
+        for dark in (False, True):
+            dom, said = self.browse(driven, *([DARK] if dark else []))
+            self.assertEqual([line for line in said.splitlines() if "CONSOLE" in line], [])
+            found = re.search(r'<output id="seen">(.*?)</output>', dom)
+            self.assertIsNotNone(found, "no script broke off")
+            seen = json.loads(found.group(1))
+            self.assertEqual(seen[:6], [dark, 6, "Call 1: Get", "Call 2: Get", "Call 6: Get", "Call 6: Get"])
 
-    def browse(self, page: Path) -> Tuple[str, str]:
+    def browse(self, page: Path, *more: str) -> Tuple[str, str]:
         """What a browser makes of a page, and what it says. A browser that doesn't come to its end shows nothing of the page."""
         words = [CHROMIUM, "--headless=new", "--no-sandbox", "--disable-gpu", "--enable-logging=stderr", "--v=0",
-                 "--virtual-time-budget=2000", f"--user-data-dir={self.folder / 'browser'}", "--dump-dom", page.as_uri()]
+                 "--virtual-time-budget=2000", f"--user-data-dir={self.folder / 'browser'}", *more, "--dump-dom", page.as_uri()]
         try:
             done = subprocess.run(words, capture_output=True, text=True, timeout=SECONDS_TO_BROWSE, check=False)
         except subprocess.TimeoutExpired:
