@@ -13,18 +13,20 @@ from typing import Counter as Counted, List, Optional
 
 from .. import message, tls, ttlv
 from ..address import Address
+from ..glimpse import SUCCESS, UNDONE, glimpse, identifiers
 from ..message import Side
 from ..trouble import ConnectionTrouble, Trouble
 from .cuts import Cut, Cuts
+from .incoming import Incoming
 from .known import Known
 from .marks import Marks
 from .messages import Ask, Request, Version
-from .numbers import Operation, Status
+from .numbers import Operation
 from .plan import Plan, PlannedCall
 from .requests import write_request
-from .responses import read_response
-from .wire import NotUnderstood
 
+NAMES = {operation.value: operation.name for operation in Operation}
+CAME_TO = {SUCCESS: "done", UNDONE: "undone"}
 MOST_BREAKS_IN_A_ROW = 5
 SECONDS_AFTER_A_BREAK = 0.1
 SLOW_PIECE = 16
@@ -75,6 +77,7 @@ class Client(threading.Thread):
         self._plan, self._cuts, self._known, self._marks, self._budget = plan, cuts, known, marks, budget
         self._patience, self._pause = patience, pause
         self._socket: Optional[ssl.SSLSocket] = None
+        self._incoming: Optional[Incoming] = None
         self._slow = False
         self.counts: Counted[str] = Counter()
         self.failure: Optional[BaseException] = None
@@ -120,6 +123,7 @@ class Client(threading.Thread):
             plain = socket.create_connection(self._server, timeout=self._patience)
             plain.setsockopt(socket.IPPROTO_TCP, socket.TCP_NODELAY, 1)
             self._socket = self._context.wrap_socket(plain)
+            self._incoming = Incoming(self._socket)
             self.counts["connections"] += 1
         return self._socket
 
@@ -144,55 +148,54 @@ class Client(threading.Thread):
         call = self._marks.begin(self.name, request)
         server.sendall(request)
         for ask in asks:
-            self.counts[f"{Operation(ask.operation).name} asked"] += 1
+            self.counts[f"{NAMES[ask.operation]} asked"] += 1
         if cut is Cut.AFTER_SENDING:
             self.counts["open calls"] += 1
             raise CutOff
-        response = self._answer(server, cut, planned.where)
+        response = self._answer(cut, planned.where)
         self._marks.end(call, response)
         self._learn(asks, response)
 
-    def _answer(self, server: ssl.SSLSocket, cut: Optional[Cut], where: float) -> bytes:
+    def _answer(self, cut: Optional[Cut], where: float) -> bytes:
         """The whole response."""
         try:
             self._slow = cut is Cut.SLOW
-            header = self._receive(server, ttlv.HEADER_LENGTH)
+            header = self._receive(ttlv.HEADER_LENGTH)
             length = message.announced_length(header, Side.SERVER) - ttlv.HEADER_LENGTH
             if cut is Cut.IN_ANSWER:
-                self._receive(server, int(where * length))
+                self._receive(int(where * length))
                 self.counts["open calls"] += 1
                 raise CutOff
             if self._slow:
                 self.counts[Cut.SLOW.value] += 1
-            return header + self._receive(server, length)
+            return header + self._receive(length)
         except (OSError, EOFError, ConnectionTrouble):
             self.counts["open calls"] += 1
             raise
 
-    def _receive(self, server: ssl.SSLSocket, length: int) -> bytes:
-        received = bytearray()
+    def _receive(self, length: int) -> bytes:
+        received = b""
         while len(received) < length:
             left = length - len(received)
-            piece = server.recv(min(left, SLOW_PIECE) if self._slow else left)
-            if not piece:
+            piece = self._incoming.receive(min(left, SLOW_PIECE), SLOW_PIECE) if self._slow else (
+                self._incoming.receive(left))
+            if piece is None:
                 raise EOFError("it closed the connection in place of an answer")
             received += piece
             if self._slow:
                 time.sleep(SECONDS_OF_SLOWNESS)
-        return bytes(received)
+        return received
 
     def _learn(self, asks: List[Ask], response: bytes) -> None:
-        try:
-            read = read_response(response)
-        except (ttlv.NotTtlv, NotUnderstood, ValueError):
+        seen = glimpse(response, Side.SERVER)
+        if seen is None or seen.stamp is None or not seen.parts:
             self.counts["answers that were not understood"] += 1
             return
-        if len(read.answers) == 1 and read.answers[0].operation is None:
+        if len(seen.parts) == 1 and seen.parts[0].operation is None:
             self.counts["refused messages"] += 1
             return
-        for ask, answer in zip(asks, read.answers):
-            told = {Status.SUCCESS: "done", Status.UNDONE: "undone"}.get(answer.status, "failed")
-            self.counts[f"{Operation(ask.operation).name} {told}"] += 1
-        self._known.learn(asks, read)
+        for ask, part in zip(asks, seen.parts):
+            self.counts[f"{NAMES[ask.operation]} {CAME_TO.get(part.status, 'failed')}"] += 1
+        self._known.learn(asks, seen.stamp, [(part, identifiers(response, part)) for part in seen.parts])
 
 

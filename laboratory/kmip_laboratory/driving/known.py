@@ -5,12 +5,15 @@ from __future__ import annotations
 import threading
 import time
 from dataclasses import replace
-from typing import List, Optional
+from typing import List, Optional, Tuple
 
-from .messages import Ask, Attribute, Response
-from .numbers import Operation, Reason, Status
+from ..glimpse import SUCCESS, Part
+from .messages import Ask, Attribute
+from .numbers import Operation, Reason
 from .plan import Pick, Planned
 
+TELLING = frozenset({Operation.CREATE.value, Operation.REGISTER.value, Operation.LOCATE.value})
+DESTROY, NOT_FOUND = Operation.DESTROY.value, Reason.ITEM_NOT_FOUND.value
 MOST_LIVE = 200
 MOST_GONE = 12
 UNKNOWN = ("nobody-1", "nobody-2", "nobody-3")
@@ -41,18 +44,16 @@ class Known:
         pool = pools.get(pick.kind) or (pools["hot"] if pick.kind != "unknown" else []) or list(UNKNOWN)
         return pool[int(pick.draw * len(pool))]
 
-    def learn(self, asks: List[Ask], response: Response) -> None:
-        """Takes note of what an answer told."""
+    def learn(self, asks: List[Ask], stamp: int, answers: List[Tuple[Part, List[str]]]) -> None:
+        """Takes note of what an answer told: its Time Stamp, and each item with the identifiers that it names."""
         with self._lock:
-            self._stamp = response.stamp
-            for ask, answer in zip(asks, response.answers):
-                if answer.status is Status.SUCCESS and ask.operation in (
-                        Operation.CREATE, Operation.REGISTER, Operation.LOCATE):
-                    for identifier in answer.identifiers:
+            self._stamp = stamp
+            for ask, (part, told) in zip(asks, answers):
+                if part.status == SUCCESS and ask.operation in TELLING:
+                    for identifier in told:
                         self._add(identifier)
                 elif ask.identifier is not None and (
-                        ask.operation == Operation.DESTROY and answer.status is Status.SUCCESS
-                        or answer.reason == Reason.ITEM_NOT_FOUND):
+                        (ask.operation == DESTROY and part.status == SUCCESS) or part.reason == NOT_FOUND):
                     self._remove(ask.identifier)
 
     def _add(self, identifier: str) -> None:

@@ -12,6 +12,7 @@ from .. import message, ttlv
 from ..message import Side
 from ..trouble import ConnectionTrouble
 from .engine import Engine
+from .incoming import Incoming
 from .messages import Answer, Response
 from .numbers import Reason, Status
 from .requests import read_request
@@ -89,11 +90,12 @@ class Server:
 
     def _answer(self, client: ssl.SSLSocket) -> None:
         session: Dict[str, Optional[str]] = {}
+        incoming = Incoming(client)
         while True:
-            header = receive(client, ttlv.HEADER_LENGTH)
+            header = incoming.receive(ttlv.HEADER_LENGTH)
             if header is None:
                 return
-            rest = receive(client, message.announced_length(header, Side.CLIENT) - ttlv.HEADER_LENGTH)
+            rest = incoming.receive(message.announced_length(header, Side.CLIENT) - ttlv.HEADER_LENGTH)
             if rest is None:
                 return
             client.sendall(self._respond(header + rest, session))
@@ -107,14 +109,3 @@ class Server:
                 refusal = Answer(None, Status.FAILED, Reason.INVALID_MESSAGE)
                 return write_response(Response(NEWEST, self.engine.clock.now(), (refusal,)))
         return write_response(self.engine.answer(asked, session))
-
-
-def receive(peer: ssl.SSLSocket, length: int) -> Optional[bytes]:
-    """So many bytes; None where the peer ends before they are there."""
-    received = bytearray()
-    while len(received) < length:
-        piece = peer.recv(length - len(received))
-        if not piece:
-            return None
-        received += piece
-    return bytes(received)
