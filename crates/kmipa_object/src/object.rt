@@ -1,6 +1,7 @@
 //! An object of the inventory.
 
 ghost use Rattle.std.specs.Prelude.{◌≡◌, IfOk};
+ghost use Rattle.kmipa_attrs.specs.Sets.{attributes_of};
 ghost use Rattle.kmipa_object.specs.Inventory.{card_of, rule_of};
 
 use crate::life::Life;
@@ -31,6 +32,7 @@ impl Object {
 
     /// An equal object, with memory of its own.
     pub fn copy(&self, alloc: Global) -> Result<Object, AllocError>
+        ensures given { IfOk result (λ object. attributes_of object.given ≡ attributes_of self.now.given) }
         ensures card { IfOk result (λ object. card_of object ≡ card_of self.now) }
         ensures life { IfOk result (λ object. object.life ≡ self.now.life) }
     {

@@ -27,7 +27,7 @@ use Rattle.kmipa_ops.specs.Locate.{says_no, is_doubtful, must_fit, fits_here, is
 use Rattle.kmipa_ops.specs.declared.places_listed.PlacesListed.{PlacesListed}
 use Rattle.kmipa_ops.specs.Listing.{is_among, is_place, PlaceListed, ArePlaced, NoneMust, NextCandidate, CoveredTo, LeavesOut, IsMissing, FitsAt, may_of, must_of}
 use Rattle.kmipa_ops.proofs.TestLemmas.{or_cases, or_right, same_truth, true_not, false_if}
-use Rattle.kmipa_ops.proofs.ScanLemmas.{any_same, or_mix}
+use Rattle.kmipa_ops.proofs.ScanLemmas.{any_map, any_same, or_mix}
 
 or_last : (b : Bool) → (b || false) ≡ (false || b)
 or_last true = refl
@@ -324,37 +324,45 @@ no_stranger q s c e =
     let says : says_no q s c ≡ true = five_true (has_stranger c.given.names q.names) _ _ _ _ e in
     ap (λ (b : Bool). not b && not (is_doubtful q c)) says
 
--- an object that lacks the first name asked for needn't be listed
-module _ (q : FilterOf) (n : NameOf) (ns : List NameOf) (first : q.names ≡ n ∷ ns) where
-  lacks_first : (s : State) (h : Held) → has_name n.value n.kind h ≡ false → must_fit q s h.card ≡ false
-  lacks_first s h lacks =
-      let known : list_any (λ (k : NameOf). same_name k n) h.card.given.names ≡ false =
-      any_same (λ (k : NameOf). same_name k n) (λ (k : NameOf). same_name n k) (λ k. same_both k n) h.card.given.names ∙ lacks in
-      let stranger : has_stranger h.card.given.names q.names ≡ true =
-      ap (has_stranger h.card.given.names) first ∙ ap (λ (b : Bool). not b || has_stranger h.card.given.names ns) known in
-      no_stranger q s h.card stranger
-
-  pub named_none : (hs : List Held) (t : ℤ) (from : ℕ) → next_named n.value n.kind from hs ≡ None → (to : ℕ) → NoneMust hs t q from to
-  named_none hs t from e to p h low high at =
-      let d = dropped hs from p h low at in
-      lacks_first (state h.card.dates t) h (position_none (has_name n.value n.kind) (drop from hs) from e d.0 h d.2)
-
-  pub named_next : (hs : List Held) (t : ℤ) (from to : ℕ) → next_named n.value n.kind from hs ≡ Some to → (from ≤ to) × NoneMust hs t q from to
-  named_next hs t from to e =
-      let r = position_some (has_name n.value n.kind) (drop from hs) from to e in (
-        r.0,
-        λ p h low high at.
-            let d = dropped hs from p h low at in
-            let below : from + d.0 < to = let same : from + d.0 ≡ p = d.1 in omega arith in
-            lacks_first (state h.card.dates t) h (r.1 d.0 h below d.2),
-      )
-
--- THE SCAN
-
 lt_or_le : (a b : ℕ) → (a < b) ⊎ (b ≤ a)
 lt_or_le a zero = inr (omega arith)
 lt_or_le zero (suc b) = inl (omega arith)
 lt_or_le (suc a) (suc b) = elim (lt_or_le a b) [ inl h ↦ inl (omega arith) | inr h ↦ inr (omega arith) ]
+
+-- the next place, where one name more is asked for
+module _ (q : FilterOf) (n : NameOf) (i : ℕ) (asked : slice_get q.names i ≡ Some n) where
+  lacks_one : (s : State) (h : Held) → has_name n.value n.kind h ≡ false → must_fit q s h.card ≡ false
+  lacks_one s h lacks =
+      let own : List NameOf = h.card.given.names in
+      let known : list_any (λ (k : NameOf). same_name k n) own ≡ false =
+      any_same (λ (k : NameOf). same_name k n) (λ (k : NameOf). same_name n k) (λ k. same_both k n) own ∙ lacks in
+      no_stranger q s h.card (any_at (λ (m : NameOf). not (list_any (λ (k : NameOf). same_name k m) own)) q.names i n asked (ap not known))
+
+  module _ (hs : List Held) (t : ℤ) (from place : ℕ) (so_far : NextCandidate hs t q from (Some place)) where
+    pub narrow_none : next_named n.value n.kind place hs ≡ None → NextCandidate hs t q from None
+    narrow_none e to p h low high at = elim (lt_or_le p place) [
+      | inl below ↦ so_far.1 p h low below at
+      | inr above ↦
+          let d = dropped hs place p h above at in
+          lacks_one (state h.card.dates t) h (position_none (has_name n.value n.kind) (drop place hs) place e d.0 h d.2)
+    ]
+
+    pub narrow_more : (to : ℕ) → next_named n.value n.kind place hs ≡ Some to → NextCandidate hs t q from (Some to)
+    narrow_more to e =
+        let r = position_some (has_name n.value n.kind) (drop place hs) place to e in
+        let on : place ≤ to = r.0 in
+        let past : from ≤ place = so_far.0 in (
+          omega (arith, on, past),
+          λ p h low high at. elim (lt_or_le p place) [
+            | inl below ↦ so_far.1 p h low below at
+            | inr above ↦
+                let d = dropped hs place p h above at in
+                let below : place + d.0 < to = let same : place + d.0 ≡ p = d.1 in omega arith in
+                lacks_one (state h.card.dates t) h (r.1 d.0 h below d.2)
+          ],
+        )
+
+-- THE SCAN
 
 module _ (hs : List Held) (t : ℤ) (q : FilterOf) (places : PlacesListed) (from : ℕ) (covered : CoveredTo hs t q places from) where
   pub scan_end : NextCandidate hs t q from None → LeavesOut hs t q places false
@@ -386,10 +394,35 @@ module _ (hs : List Held) (t : ℤ) (q : FilterOf) (places : PlacesListed) (from
 pub any_next : (hs : List Held) (t : ℤ) (q : FilterOf) (from : ℕ) → NextCandidate hs t q from (Some from)
 any_next hs t q from = (omega arith, λ p h low high at. absurd (omega arith))
 
--- by the filter's first name
-pub named_candidate : (hs : List Held) (t : ℤ) (q : FilterOf) (n : NameOf) (ns : List NameOf) (from : ℕ) (o : Option ℕ) → q.names ≡ n ∷ ns → o ≡ next_named n.value n.kind from hs → NextCandidate hs t q from o
-named_candidate hs t q n ns from None first e = λ to. named_none q n ns first hs t from (sym e) to
-named_candidate hs t q n ns from (Some p) first e = named_next q n ns first hs t from p (sym e)
+-- THE NAMES OF THE OBJECT AT A PLACE
+
+is_here : {X : Type 0} (f : X → Bool) (i : ℕ) (x : X) (xs : List X) → is_place i (position_from f i (x ∷ xs)) ≡ f x
+is_here f i x xs =
+    (elim (f x) as (λ b. is_place i (cond b (Some i) (position_from f (i + 1) xs)) ≡ b) [
+      | true ↦ (Decides-eqb i i).1 refl
+      | false ↦ not_before (position_from f (i + 1) xs) refl
+    ])
+  where
+    not_before : (o : Option ℕ) → position_from f (i + 1) xs ≡ o → is_place i o ≡ false
+    not_before None e = refl
+    not_before (Some n) e =
+        let on : i + 1 ≤ n = (position_some f xs (i + 1) n e).0 in
+        false_if (i == n) (λ h. let same : i ≡ n = (Decides-eqb i n).0 h in absurd (omega (arith, on, same)))
+
+here_at : {X : Type 0} (f : X → Bool) (i : ℕ) (xs : List X) (p : ℕ) (x : X) → slice_get xs p ≡ Some x → is_place i (position_from f i (drop p xs)) ≡ f x
+here_at f i [] p x e = cc
+here_at f i (y ∷ ys) zero x e = let same : y ≡ x = cc in is_here f i y ys ∙ ap f same
+here_at f i (y ∷ ys) (suc p) x e = here_at f i ys p x e
+
+-- a name of the object at a place is found there
+pub lacks_is : (hs : List Held) (names : List Name) (p : ℕ) (h : Held) → slice_get hs p ≡ Some h
+    → list_any (λ (name : Name). not (is_place p (next_named (name_of name).value name.kind p hs))) names ≡ has_stranger h.card.given.names (map name_of names)
+lacks_is hs names p h at =
+    let own : List NameOf = h.card.given.names in
+    any_same (λ (name : Name). not (is_place p (next_named (name_of name).value name.kind p hs))) (λ (name : Name). not (list_any (λ (k : NameOf). same_name k (name_of name)) own))
+    (λ name. ap not (here_at (has_name (name_of name).value (name_of name).kind) p hs p h at
+    ∙ any_same (λ (k : NameOf). same_name (name_of name) k) (λ (k : NameOf). same_name k (name_of name)) (λ k. same_both (name_of name) k) own)) names
+    ∙ sym (any_map (λ (n : NameOf). not (list_any (λ (k : NameOf). same_name k n) own)) name_of names)
 
 -- an object at a place
 pub missing_if : (hs : List Held) (t : ℤ) (q : FilterOf) (places : PlacesListed) (p : ℕ) (f : Fit) → FitsAt hs t q p f → must_of f ≡ true → is_among places p ≡ false → IsMissing hs t q places p true
@@ -428,10 +461,6 @@ listed_absent hs t q id none = ap (λ (o : Option ℕ). fits_here q t (option_an
 
 pub listed_is : (cs : List Card) (t : ℤ) (q : FilterOf) (id : List ℕ) (o p : Option ℕ) → PlaceListed cs t q id o → o ≡ p → PlaceListed cs t q id p
 listed_is cs t q id o p h e = subst (PlaceListed cs t q id) e h
-
-pub first_name : (xs : List Name) (x : Name) → Some x ≡ slice_get xs 0 → (ns : List NameOf) × (map name_of xs ≡ name_of x ∷ ns)
-first_name [] x e = let bad : ⊥ = cc in absurd bad
-first_name (y ∷ ys) x e = let same : y ≡ x = cc in (map name_of ys, ap (λ (z : Name). name_of z ∷ map name_of ys) same)
 
 pub mapped_at : {X Y : Type 0} (f : X → Y) (xs : List X) (i : ℕ) (d : X) → i < length xs → slice_get (map f xs) i ≡ Some (f (get_or xs i d))
 mapped_at f [] i d h = absurd (omega arith)

@@ -3,9 +3,11 @@ use Rattle.std.specs.Prelude.{◌≡◌, ◌<◌, ◌≤◌, ◌||◌, ◌==◌,
 use Rattle.std.specs.List.{list_any}
 use Rattle.indexmap.specs.IndexSet.{contains}
 use Rattle.kmipa_attrs.specs.Filters.{FilterOf}
+use Rattle.kmipa_attrs.specs.Sets.{NameOf}
 use Rattle.kmipa_object.specs.Inventory.{Card, place_of}
 use Rattle.kmipa_object.specs.Life.{state}
 use Rattle.kmipa_store.specs.Ledger.{Held}
+use Rattle.kmipa_ops.specs.GetAttributes.{has_stranger}
 use Rattle.kmipa_ops.specs.Objects.{card_meant}
 use Rattle.kmipa_ops.specs.declared.fit.Fit.{Fit}
 use Rattle.kmipa_ops.specs.declared.fit.Fit.TheVariants as fit
@@ -19,6 +21,10 @@ is_among l p = contains nat_eq l.places p
 abbrev pub is_place : ℕ → Option ℕ → Bool
 is_place p None = false
 is_place p (Some n) = p == n
+
+-- whether the object at a place lacks one of these names
+abbrev pub LacksAt : List Held → List NameOf → ℕ → Bool → Type 0
+LacksAt objects names p lacks = (h : Held) → slice_get objects p ≡ Some h → lacks ≡ has_stranger h.card.given.names names
 
 -- the place of an identifier that is listed rightly
 abbrev pub PlaceListed : List Card → ℤ → FilterOf → List ℕ → Option ℕ → Type 0
@@ -40,7 +46,7 @@ Placed cs t q listed (Some places) = ArePlaced cs t q listed places
 abbrev pub NoneMust : List Held → ℤ → FilterOf → ℕ → ℕ → Type 0
 NoneMust objects t q from to = (p : ℕ) (h : Held) → from ≤ p → p < to → slice_get objects p ≡ Some h → must_fit q (state h.card.dates t) h.card ≡ false
 
--- the next place of an object that a filter's first name allows
+-- the next place of an object that may have all the names that a filter asks for
 abbrev pub NextCandidate : List Held → ℤ → FilterOf → ℕ → Option ℕ → Type 0
 NextCandidate objects t q from None = (to : ℕ) → NoneMust objects t q from to
 NextCandidate objects t q from (Some p) = (from ≤ p) × NoneMust objects t q from p

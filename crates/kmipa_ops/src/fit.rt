@@ -1,17 +1,16 @@
 //! Which objects fit a Locate's filter.
 
-ghost use Rattle.std.specs.Prelude.{◌≡◌, IfOk};
+ghost use Rattle.std.specs.Prelude.{◌≡◌};
 ghost use Rattle.kmipa_attrs.specs.Filters.{filter_of};
 ghost use Rattle.kmipa_object.specs.Inventory.{card_of};
 ghost use Rattle.kmipa_ops.specs.GetAttributes.{has_stranger};
 ghost use Rattle.kmipa_ops.specs.Locate.{IsFit, is_doubtful, says_no};
 
 use crate::echo::{clash_lengths, clash_numbers, is_other_number};
-use crate::names::{finds_stranger, has_stranger};
+use crate::names::has_stranger;
 use crate::objects::is_live;
 use kmipa_attrs::Filter;
 use kmipa_object::{Object, State};
-use std::alloc::{AllocError, Global};
 
 /// How an object fits a filter.
 #[derive(Clone, Copy, Debug, PartialEq, Eq)]
@@ -32,25 +31,8 @@ pub fn matches(object: &Object, filter: &Filter, state: State) -> Fit
     fit_of(object, filter, state, lacks_name)
 }
 
-/// The same, where many names are looked up in a set.
-pub(crate) fn matches_in_set(
-    alloc: Global,
-    object: &Object,
-    filter: &Filter,
-    state: State,
-) -> Result<Fit, AllocError>
-    ensures { IfOk result (λ fit. IsFit (filter_of filter.now) state (card_of object.now) fit) }
-{
-    let lacks_name = finds_stranger(
-        alloc,
-        object.given.names.as_slice(),
-        filter.names.as_slice(),
-    )?;
-    Ok(fit_of(object, filter, state, lacks_name))
-}
-
 /// The same, where it is known whether the object lacks a name that is asked for.
-fn fit_of(object: &Object, filter: &Filter, state: State, lacks_name: bool) -> Fit
+pub(crate) fn fit_of(object: &Object, filter: &Filter, state: State, lacks_name: bool) -> Fit
     requires { lacks_name ≡ has_stranger (card_of object.now).given.names (filter_of filter.now).names }
     ensures { IsFit (filter_of filter.now) state (card_of object.now) result }
 {

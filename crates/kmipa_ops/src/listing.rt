@@ -10,7 +10,8 @@ ghost use Rattle.kmipa_ops.specs.Listing.{FitsAt, IsMissing, LeavesOut, NextCand
 ghost use Rattle.kmipa_ops.specs.Locate.{is_full, is_over, locate_speaks};
 ghost use Rattle.kmipa_ops.specs.Whys.{whys};
 
-use crate::fit::{Fit, matches_in_set};
+use crate::fit::{Fit, fit_of};
+use crate::names::lacks_at;
 use crate::places_listed::PlacesListed;
 use crate::why::Why;
 use kmipa_attrs::Filter;
@@ -37,8 +38,7 @@ pub(crate) fn why_not_listed<L: Ledger>(
     if is_full(filter.maximum, listed.len()) {
         return Ok(None);
     }
-    let is_short = leaves_out(alloc, ledger, filter, &places)?;
-    if is_short {
+    if leaves_out(ledger, filter, &places) {
         return Ok(Some(Why::ListedTooFew));
     }
     Ok(None)
@@ -75,10 +75,8 @@ fn places_listed<L: Ledger>(
 {
     let mut places = PlacesListed::new(alloc);
     for id in listed {
-        let rightly = place_listed(alloc, ledger, filter, id)?;
-        let place = match rightly {
-            Some(place) => place,
-            None => return Ok(None),
+        let Some(place) = place_listed(ledger, filter, id) else {
+            return Ok(None);
         };
         let is_new = places.add(place)?;
         if !is_new {
@@ -89,89 +87,69 @@ fn places_listed<L: Ledger>(
 }
 
 /// The place of an identifier that is listed rightly: its object is there, and may be listed.
-fn place_listed<L: Ledger>(
-    alloc: Global,
-    ledger: &L,
-    filter: &Filter,
-    id: &str,
-) -> Result<Option<usize>, AllocError>
-    ensures { IfOk result (λ place. PlaceListed (cards_of (L.state ledger.now).now.objects) (L.moment ledger.now) (filter_of filter.now) id.now place) }
+fn place_listed<L: Ledger>(ledger: &L, filter: &Filter, id: &str) -> Option<usize>
+    ensures { PlaceListed (cards_of (L.state ledger.now).now.objects) (L.moment ledger.now) (filter_of filter.now) id.now result }
 {
-    let Some(place) = ledger.find(id) else {
-        return Ok(None);
-    };
-    let fit = fit_at(alloc, ledger, filter, place)?;
-    match fit {
-        Fit::Must => Ok(Some(place)),
-        Fit::May => Ok(Some(place)),
-        Fit::Not => Ok(None),
+    let place = ledger.find(id)?;
+    match fit_at(ledger, filter, place) {
+        Fit::Must => Some(place),
+        Fit::May => Some(place),
+        Fit::Not => None,
     }
 }
 
 /// Whether an object isn't at one of these places that must be.
-fn leaves_out<L: Ledger>(
-    alloc: Global,
-    ledger: &L,
-    filter: &Filter,
-    places: &PlacesListed,
-) -> Result<bool, AllocError>
-    ensures { IfOk result (λ does. LeavesOut (L.state ledger.now).now.objects (L.moment ledger.now) (filter_of filter.now) places.now does) }
+fn leaves_out<L: Ledger>(ledger: &L, filter: &Filter, places: &PlacesListed) -> bool
+    ensures { LeavesOut (L.state ledger.now).now.objects (L.moment ledger.now) (filter_of filter.now) places.now result }
 {
     let end = ledger.len();
     let mut from = 0;
     'scan: while from < end {
         let Some(place) = next_candidate(ledger, filter, from) else {
-            return Ok(false);
+            return false;
         };
-        let is_absent = is_missing(alloc, ledger, filter, places, place)?;
-        if is_absent {
-            return Ok(true);
+        if is_missing(ledger, filter, places, place) {
+            return true;
         }
         from = place + 1;
     }
-    Ok(false)
+    false
 }
 
-/// The next place from this one on of an object that the filter's first name allows.
+/// The next place from this one on of an object that may have all the filter's names. Each name moves the place on to its next bearer, so
+/// that a scan has at most as many candidates as the rarest name has bearers.
 fn next_candidate<L: Ledger>(ledger: &L, filter: &Filter, from: usize) -> Option<usize>
     requires { from < length (L.state ledger.now).now.objects }
     ensures next { NextCandidate (L.state ledger.now).now.objects (L.moment ledger.now) (filter_of filter.now) from result }
     ensures within { IfSome result (λ place. place < length (L.state ledger.now).now.objects) }
 {
-    match filter.names.as_slice().first() {
-        Some(name) => ledger.next_named(name.value.as_str(), name.kind, from),
-        None => Some(from),
+    let mut place = from;
+    'names: for name in filter.names.as_slice() {
+        let Some(next) = ledger.next_named(name.value.as_str(), name.kind, place) else {
+            return None;
+        };
+        place = next;
     }
+    Some(place)
 }
 
 /// Whether the object at a place must be listed, and its place isn't among these.
-fn is_missing<L: Ledger>(
-    alloc: Global,
-    ledger: &L,
-    filter: &Filter,
-    places: &PlacesListed,
-    place: usize,
-) -> Result<bool, AllocError>
+fn is_missing<L: Ledger>(ledger: &L, filter: &Filter, places: &PlacesListed, place: usize) -> bool
     requires { place < length (L.state ledger.now).now.objects }
-    ensures { IfOk result (λ is. IsMissing (L.state ledger.now).now.objects (L.moment ledger.now) (filter_of filter.now) places.now place is) }
+    ensures { IsMissing (L.state ledger.now).now.objects (L.moment ledger.now) (filter_of filter.now) places.now place result }
 {
-    let fit = fit_at(alloc, ledger, filter, place)?;
-    match fit {
-        Fit::Must => Ok(!places.has(place)),
-        Fit::May => Ok(false),
-        Fit::Not => Ok(false),
+    match fit_at(ledger, filter, place) {
+        Fit::Must => !places.has(place),
+        Fit::May => false,
+        Fit::Not => false,
     }
 }
 
-/// How the object at a place fits at the moment.
-fn fit_at<L: Ledger>(
-    alloc: Global,
-    ledger: &L,
-    filter: &Filter,
-    place: usize,
-) -> Result<Fit, AllocError>
+/// How the object at a place fits at the moment. Its names are asked of the ledger, which has them in order.
+fn fit_at<L: Ledger>(ledger: &L, filter: &Filter, place: usize) -> Fit
     requires { place < length (L.state ledger.now).now.objects }
-    ensures { IfOk result (λ fit. FitsAt (L.state ledger.now).now.objects (L.moment ledger.now) (filter_of filter.now) place fit) }
+    ensures { FitsAt (L.state ledger.now).now.objects (L.moment ledger.now) (filter_of filter.now) place result }
 {
-    matches_in_set(alloc, ledger.at(place), filter, ledger.state(place))
+    let lacks_name = lacks_at(ledger, filter.names.as_slice(), place);
+    fit_of(ledger.at(place), filter, ledger.state(place), lacks_name)
 }

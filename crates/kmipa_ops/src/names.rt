@@ -1,11 +1,12 @@
 //! Names beside other names.
 
-ghost use Rattle.std.specs.Prelude.{◌≡◌, IfOk, is_some, map, not};
+ghost use Rattle.std.specs.Prelude.{◌≡◌, ◌<◌, IfOk, is_some, length, map, not};
 ghost use Rattle.std.specs.List.{list_any};
 ghost use Rattle.kmipa_attrs.specs.Sets.{name_of};
 ghost use Rattle.kmipa_store.specs.Ledger.{cards_of};
 ghost use Rattle.kmipa_store.specs.Queries.{any_live_named as any_live_has, next_named};
 ghost use Rattle.kmipa_ops.specs.GetAttributes.{has_stranger};
+ghost use Rattle.kmipa_ops.specs.Listing.{LacksAt, is_place};
 ghost use Rattle.kmipa_ops.specs.Objects.{any_live_named, any_named, same_name};
 
 use crate::known_names::{any_unknown, set_of};
@@ -56,6 +57,30 @@ fn is_had_alive<L: Ledger>(ledger: &L, name: &Name) -> bool
     ensures { result ≡ any_live_has (name_of name.now).value name.now.kind (L.state ledger.now).now.objects }
 {
     ledger.any_live_named(name.value.as_str(), name.kind)
+}
+
+/// Whether the object at a place lacks one of these names.
+pub(crate) fn lacks_at<L: Ledger>(ledger: &L, names: &[Name], place: usize) -> bool
+    requires { place < length (L.state ledger.now).now.objects }
+    ensures { LacksAt (L.state ledger.now).now.objects (map name_of names.now) place result }
+{
+    any_lacks(ledger, names, place)
+}
+
+fn any_lacks<L: Ledger>(ledger: &L, names: &[Name], place: usize) -> bool
+    ensures { result ≡ list_any (λ (name : Name). not (is_place place (next_named (name_of name).value name.kind place (L.state ledger.now).now.objects))) names.now }
+{
+    names.iter().any(|name| !is_had_at(ledger, name, place))
+}
+
+/// Whether the first object from a place on that has this name is the one there.
+fn is_had_at<L: Ledger>(ledger: &L, name: &Name, place: usize) -> bool
+    ensures { result ≡ is_place place (next_named (name_of name.now).value name.now.kind place (L.state ledger.now).now.objects) }
+{
+    match ledger.next_named(name.value.as_str(), name.kind, place) {
+        Some(next) => place == next,
+        None => false,
+    }
 }
 
 /// Whether one of the names isn't among those known; where both are many, they are looked up in a set.

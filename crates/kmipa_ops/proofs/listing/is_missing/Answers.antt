@@ -8,12 +8,12 @@ use Rattle.kmipa_ops.proofs.listing.is_missing.Goals as goal
 
 pub returns-in-Must : goal.returns-in-Must
 returns-in-Must g c =
-    missing_must (g.L.Ledger.state c.args.ledger.now).now.objects (g.L.Ledger.moment c.args.ledger.now) (filter_of c.args.filter.now) c.args.places.now c.args.place c.has.result (subst (λ (f : Fit). FitsAt (g.L.Ledger.state c.args.ledger.now).now.objects (g.L.Ledger.moment c.args.ledger.now) (filter_of c.args.filter.now) c.args.place f) c.in-Must.is c.in_ok-fit.ensures) c.has.ensures
+    missing_must (g.L.Ledger.state c.args.ledger.now).now.objects (g.L.Ledger.moment c.args.ledger.now) (filter_of c.args.filter.now) c.args.places.now c.args.place c.has.result (subst (λ (f : Fit). FitsAt (g.L.Ledger.state c.args.ledger.now).now.objects (g.L.Ledger.moment c.args.ledger.now) (filter_of c.args.filter.now) c.args.place f) c.in-Must.is c.fit_at.ensures) c.has.ensures
 
 pub returns-in-May : goal.returns-in-May
 returns-in-May g c =
-    missing_not (g.L.Ledger.state c.args.ledger.now).now.objects (g.L.Ledger.moment c.args.ledger.now) (filter_of c.args.filter.now) c.args.places.now c.args.place fit.May (subst (λ (f : Fit). FitsAt (g.L.Ledger.state c.args.ledger.now).now.objects (g.L.Ledger.moment c.args.ledger.now) (filter_of c.args.filter.now) c.args.place f) c.in-May.is c.in_ok-fit.ensures) (λ e. cc)
+    missing_not (g.L.Ledger.state c.args.ledger.now).now.objects (g.L.Ledger.moment c.args.ledger.now) (filter_of c.args.filter.now) c.args.places.now c.args.place fit.May (subst (λ (f : Fit). FitsAt (g.L.Ledger.state c.args.ledger.now).now.objects (g.L.Ledger.moment c.args.ledger.now) (filter_of c.args.filter.now) c.args.place f) c.in-May.is c.fit_at.ensures) (λ e. cc)
 
 pub returns-in-Not : goal.returns-in-Not
 returns-in-Not g c =
-    missing_not (g.L.Ledger.state c.args.ledger.now).now.objects (g.L.Ledger.moment c.args.ledger.now) (filter_of c.args.filter.now) c.args.places.now c.args.place fit.Not (subst (λ (f : Fit). FitsAt (g.L.Ledger.state c.args.ledger.now).now.objects (g.L.Ledger.moment c.args.ledger.now) (filter_of c.args.filter.now) c.args.place f) c.in-Not.is c.in_ok-fit.ensures) (λ e. cc)
+    missing_not (g.L.Ledger.state c.args.ledger.now).now.objects (g.L.Ledger.moment c.args.ledger.now) (filter_of c.args.filter.now) c.args.places.now c.args.place fit.Not (subst (λ (f : Fit). FitsAt (g.L.Ledger.state c.args.ledger.now).now.objects (g.L.Ledger.moment c.args.ledger.now) (filter_of c.args.filter.now) c.args.place f) c.in-Not.is c.fit_at.ensures) (λ e. cc)

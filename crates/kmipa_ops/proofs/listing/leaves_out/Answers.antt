@@ -11,7 +11,7 @@ returns-in_default g c =
 pub scan-preserved : goal.scan-preserved
 scan-preserved g c =
     scan_more (g.L.Ledger.state c.args.ledger.now).now.objects (g.L.Ledger.moment c.args.ledger.now) (filter_of c.args.filter.now) c.args.places.now c.scan.from c.scan.invariant c.in-Some.place c.in-Some.ensures.next
-    (subst (IsMissing (g.L.Ledger.state c.args.ledger.now).now.objects (g.L.Ledger.moment c.args.ledger.now) (filter_of c.args.filter.now) c.args.places.now c.in-Some.place) c.if-is_absent.false c.in_ok-is_absent.ensures)
+    (subst (IsMissing (g.L.Ledger.state c.args.ledger.now).now.objects (g.L.Ledger.moment c.args.ledger.now) (filter_of c.args.filter.now) c.args.places.now c.in-Some.place) c.if-is_missing.false c.is_missing.ensures)
 
 pub returns : goal.returns
 returns g c =

@@ -1,15 +1,33 @@
-use Rattle.std.proofs.Common.{◌∙◌, ap, List, ℕ}
-use Rattle.std.specs.List.{slice_get}
+use Rattle.std.proofs.Common.{◌≡◌, ◌∙◌, ap, sym, map, slice_get, List, ℕ, Option, Some, None}
 use Rattle.kmipa_attrs.specs.Sets.{name_of}
 use Rattle.kmipa_attrs.specs.Filters.{filter_of}
 use Rattle.kmipa_attrs.specs.declared.name.Name.{Name}
 use Rattle.kmipa_store.specs.Queries.{next_named}
-use Rattle.kmipa_ops.proofs.ListingLemmas.{named_candidate, first_name}
+use Rattle.kmipa_ops.proofs.ListingLemmas.{mapped_at, narrow_more, narrow_none}
 use Rattle.kmipa_ops.proofs.listing.next_candidate.Goals as goal
 
-pub returns-in-Some-clause-next : goal.returns-in-Some-clause-next
-returns-in-Some-clause-next g c =
+pub returns-in_default-clause-next : goal.returns-in_default-clause-next
+returns-in_default-clause-next g c =
     let hs = (g.L.Ledger.state c.args.ledger.now).now.objects in
-    let first = first_name c.args.filter.now.names.items c.in-Some.name.now (c.in-Some.ensures.value ∙ ap (λ (xs : List Name). slice_get xs 0) c.as_slice.ensures) in
-    named_candidate hs (g.L.Ledger.moment c.args.ledger.now) (filter_of c.args.filter.now) (name_of c.in-Some.name.now) first.0 c.args.from c.next_named.result first.1
-    (c.next_named.ensures.place ∙ ap (λ (v : List ℕ). next_named v c.in-Some.name.now.kind c.args.from hs) c.as_str.ensures.value)
+    let q = filter_of c.args.filter.now in
+    let asked : slice_get q.names c.names.name-index ≡ Some (name_of c.name-item.result)
+    = ap (λ (xs : List Name). slice_get (map name_of xs) c.names.name-index) (sym c.as_slice-name-items.ensures)
+    ∙ mapped_at name_of c.as_slice-name-items.result.now c.names.name-index c.name-item.result c.names-test.true
+    ∙ ap (λ (n : Name). Some (name_of n)) (sym c.name-item.is) in
+    let next : next_named (name_of c.name-item.result).value c.name-item.result.kind c.names.place hs ≡ None
+    = ap (λ (v : List ℕ). next_named v c.name-item.result.kind c.names.place hs) (sym c.as_str.ensures.value) ∙ sym c.in_default.ensures.place in
+    narrow_none q (name_of c.name-item.result) c.names.name-index asked hs (g.L.Ledger.moment c.args.ledger.now) c.args.from c.names.place c.names.invariant.0 next
+
+pub names-preserved : goal.names-preserved
+names-preserved g c =
+    let hs = (g.L.Ledger.state c.args.ledger.now).now.objects in
+    let q = filter_of c.args.filter.now in
+    let asked : slice_get q.names c.names.name-index ≡ Some (name_of c.name-item.result)
+    = ap (λ (xs : List Name). slice_get (map name_of xs) c.names.name-index) (sym c.as_slice-name-items.ensures)
+    ∙ mapped_at name_of c.as_slice-name-items.result.now c.names.name-index c.name-item.result c.names-test.true
+    ∙ ap (λ (n : Name). Some (name_of n)) (sym c.name-item.is) in
+    let next : next_named (name_of c.name-item.result).value c.name-item.result.kind c.names.place hs ≡ Some c.in-Some.next
+    = ap (λ (v : List ℕ). next_named v c.name-item.result.kind c.names.place hs) (sym c.as_str.ensures.value) ∙ sym c.in-Some.ensures.place in (
+      narrow_more q (name_of c.name-item.result) c.names.name-index asked hs (g.L.Ledger.moment c.args.ledger.now) c.args.from c.names.place c.names.invariant.0 c.in-Some.next next,
+      c.in-Some.ensures.within,
+    )

@@ -9,8 +9,8 @@ use Rattle.kmipa_ops.specs.Locate.{is_over, is_full}
 use Rattle.kmipa_ops.proofs.ListingLemmas.{why_few, few_if, few_not}
 use Rattle.kmipa_ops.proofs.listing.why_not_listed.Goals as goal
 
-pub returns-then-is_short : goal.returns-then-is_short
-returns-then-is_short g c =
+pub returns-then-leaves_out : goal.returns-then-leaves_out
+returns-then-leaves_out g c =
     let m = (g.L.Ledger.state c.args.ledger.now).now in
     let t = g.L.Ledger.moment c.args.ledger.now in
     let q = filter_of c.args.filter.now in
@@ -19,7 +19,7 @@ returns-then-is_short g c =
     why_few (cards_of m.objects) t q ids c.in-Some.places true
     (ap (is_over q.maximum) (length-map c.args.listed.now lent) ∙ sym c.is_over.ensures ∙ c.if-is_over.false) placed
     (ap (is_full q.maximum) (length-map c.args.listed.now lent) ∙ sym c.is_full.ensures ∙ c.if-is_full.false)
-    (few_if m t q ids c.in-Some.places c.requires placed (subst (LeavesOut m.objects t q c.in-Some.places) c.if-is_short.true c.in_ok-is_short.ensures))
+    (few_if m t q ids c.in-Some.places c.requires placed (subst (LeavesOut m.objects t q c.in-Some.places) c.if-leaves_out.true c.leaves_out.ensures))
 
 pub returns : goal.returns
 returns g c =
@@ -31,4 +31,4 @@ returns g c =
     why_few (cards_of m.objects) t q ids c.in-Some.places false
     (ap (is_over q.maximum) (length-map c.args.listed.now lent) ∙ sym c.is_over.ensures ∙ c.if-is_over.false) placed
     (ap (is_full q.maximum) (length-map c.args.listed.now lent) ∙ sym c.is_full.ensures ∙ c.if-is_full.false)
-    (few_not m t q ids c.in-Some.places c.requires placed (subst (LeavesOut m.objects t q c.in-Some.places) c.if-is_short.false c.in_ok-is_short.ensures))
+    (few_not m t q ids c.in-Some.places c.requires placed (subst (LeavesOut m.objects t q c.in-Some.places) c.if-leaves_out.false c.leaves_out.ensures))

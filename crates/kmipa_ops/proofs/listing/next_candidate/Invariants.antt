@@ -1,0 +1,9 @@
+use Rattle.std.proofs.Common.{◌<◌, length, Some}
+use Rattle.kmipa_attrs.specs.Filters.{filter_of}
+use Rattle.kmipa_ops.specs.Listing.{NextCandidate}
+use Rattle.kmipa_ops.proofs.listing.next_candidate.Given as goal
+
+abbrev pub invariant-names : goal.invariant-names
+invariant-names g l =
+    let hs = (g.L.Ledger.state l.ledger).now.objects in
+    NextCandidate hs (g.L.Ledger.moment l.ledger) (filter_of l.filter) l.from (Some l.place) × (l.place < length hs)
