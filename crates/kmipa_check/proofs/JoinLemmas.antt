@@ -1,4 +1,4 @@
--- Segments of one recording join.
+-- Marks, calls and steps of two segments, one behind the other.
 use Rattle.std.proofs.Common.{◌≡◌, ◌<◌, ◌⊎◌, inl, inr, ◌+◌, ℕ, zero, suc, ℤ, ◌≤ℤ◌, List, [], ◌∷◌, ◌++◌, map, length, take, drop, get_or, Contains, All, AllPairs, Option, Some, None, option_map, slice_get, refl, sym, ap, ◌∙◌, subst, arith}
 use Rattle.std.proofs.lemmas.List.{length-map, length-append, map-append}
 use Rattle.std.proofs.lemmas.List.Elements.{Contains-append_left, Contains-append_right}
@@ -13,13 +13,13 @@ use Rattle.kmipa_check.specs.Calls.{CallOf, AreCalls, HasBegin, HasEnd, IsEnded,
 use Rattle.kmipa_check.specs.Steps.{StepOf, IsAnswered, recorded, given, IsStep}
 use Rattle.kmipa_check.specs.Described.{Describes}
 use Rattle.kmipa_check.specs.Orders.{NamesAt, IsNamed, IsFormed, IsOrder}
-use Rattle.kmipa_check.specs.Runs.{EndsAhead, Before, IsPlaced, Linked, IsAccepted, rules_declared}
-use Rattle.kmipa_check.specs.Left.{CanEnd, IsLeft, Leads, AreApart, IsAcceptedSince}
+use Rattle.kmipa_check.specs.Runs.{EndsAhead, Before, IsPlaced, Linked, rules_declared}
+use Rattle.kmipa_check.specs.Left.{CanEnd, IsLeft}
+use Rattle.kmipa_check.specs.Segments.{AreApart}
 use Rattle.kmipa_check.proofs.PlaceLemmas.{contains_at, at_contains, get_at, mapped_from, some_at}
 use Rattle.kmipa_check.proofs.RecordedLemmas.{begun_has, cut, recorded_at}
-use Rattle.kmipa_check.proofs.ReplayLemmas.{over}
 use Rattle.kmipa_check.proofs.RunLemmas.{linked_join, linked_split}
-use Rattle.kmipa_check.proofs.WholeOrderLemmas.{number_of, order_takes}
+use Rattle.kmipa_check.proofs.WholeOrderLemmas.{number_of}
 
 -- ---- elements of two lists, one behind the other
 
@@ -108,7 +108,7 @@ step_moves n c t s i = record {
     by response (recorded had none) = recorded had none
     by response (given bytes unended some says) = given bytes unended some says
 
-linked_moved : (rules : RulesOf) (n : ℕ) (V : List Thing) (ss : List StepOf) (W : List Thing) → Linked rules V ss W → Linked rules V (map (step_moved n) ss) W
+pub linked_moved : (rules : RulesOf) (n : ℕ) (V : List Thing) (ss : List StepOf) (W : List Thing) → Linked rules V ss W → Linked rules V (map (step_moved n) ss) W
 linked_moved rules n V [] W l = l
 linked_moved rules n V (s ∷ ss) W l = (l.0, l.1, linked_moved rules n l.0 ss W l.2)
 
@@ -315,7 +315,7 @@ module _ (first second : List MarkOf) (rf : AreRecorded first) (rs : AreRecorded
             subst P m.2 (rise i j x m.0 u m.1)
 
 -- what the second leaves of what the first leaves
-left_join : (n : ℕ) (declared between left : DeclarationOf) (steps ss : List StepOf) → IsLeft declared steps between → IsLeft between ss left → IsLeft declared (steps ++ map (step_moved n) ss) left
+pub left_join : (n : ℕ) (declared between left : DeclarationOf) (steps ss : List StepOf) → IsLeft declared steps between → IsLeft between ss left → IsLeft declared (steps ++ map (step_moved n) ss) left
 left_join n declared between left steps ss a b = record { objects = b.objects; rules = b.rules ∙ a.rules; exactly = λ last. (to last, from last) }
   where
     to : (last : List Thing) → Describes left last → CanEnd declared (steps ++ map (step_moved n) ss) last
@@ -330,55 +330,3 @@ left_join n declared between left steps ss a b = record { objects = b.objects; r
         let p = linked_split (rules_declared declared) e.0 steps (map (step_moved n) ss) last e.2 in
         let P : RulesOf → Type 0 = λ r. Linked r p.0 ss last in
         (b.exactly last).1 (p.0, (a.exactly p.0).1 (e.0, e.1, p.1), subst P (sym a.rules) (linked_back (rules_declared declared) n p.0 ss last p.2))
-
-module _ (first second : List MarkOf) (turns more : List TurnOf) (declared between : DeclarationOf) (since middle : ℤ) (rf : AreRecorded first) (rs : AreRecorded second) (apart : AreApart first second)
-    (l : Leads declared since first turns between middle) where
-  pub segments_join_lem : (left : DeclarationOf) (until : ℤ) → Leads between middle second more left until → Leads declared since (first ++ second) (turns ++ more) left until
-  segments_join_lem left until k = record {
-    run = record {
-      calls = l.run.calls ++ map (moved (length first)) k.run.calls;
-      are = calls_join first second rf rs apart l.run.calls k.run.calls l.run.are k.run.are;
-      steps = l.run.steps ++ map (step_moved (length first)) k.run.steps;
-      order = order_join first second rf rs apart l.run.calls k.run.calls turns more l.run.steps k.run.steps l.run.are k.run.are l.run.order k.run.order;
-      placed = placed_join first second rf rs apart l.run.calls k.run.calls turns more l.run.steps k.run.steps l.run.are k.run.are l.run.order k.run.order l.run.placed k.run.placed
-          (λ i j x y u v. over x.response.stamp middle y.response.stamp (l.within x (contains_at l.run.steps i x u)).1 (k.within y (contains_at k.run.steps j y v)).0);
-      leaves = left_join (length first) declared between left l.run.steps k.run.steps l.run.leaves k.run.leaves;
-    };
-    later = over since middle until l.later k.later;
-    within = λ s has. by s (at_contains (l.run.steps ++ map (step_moved (length first)) k.run.steps) s has);
-  }
-    where
-      by : (s : StepOf) → (i : ℕ) × (slice_get (l.run.steps ++ map (step_moved (length first)) k.run.steps) i ≡ Some s) → (since ≤ℤ s.response.stamp) × (s.response.stamp ≤ℤ until)
-      by s (i, at) = elim (at_either l.run.steps (map (step_moved (length first)) k.run.steps) i s at) [
-        | inl p ↦ let w = l.within s (contains_at l.run.steps i s p) in (w.0, over s.response.stamp middle until w.1 k.later)
-        | inr p ↦
-            let m = mapped_from (step_moved (length first)) k.run.steps p.0 s p.2 in
-            let w = k.within m.0 (contains_at k.run.steps p.0 m.0 m.1) in
-            let P : StepOf → Type 0 = λ x. (since ≤ℤ x.response.stamp) × (x.response.stamp ≤ℤ until) in
-            subst P m.2 (over since middle m.0.response.stamp l.later w.0, w.1)
-      ]
-
-  pub accepted_behind_lem : IsAcceptedSince second between middle more → IsAccepted (first ++ second) declared (turns ++ more)
-  accepted_behind_lem b =
-      let k = b.accepted in
-      let calls = l.run.calls ++ map (moved (length first)) k.calls in
-      let steps = l.run.steps ++ map (step_moved (length first)) k.steps in
-      let order = order_join first second rf rs apart l.run.calls k.calls turns more l.run.steps k.steps l.run.are k.are l.run.order k.order in
-      let e = (l.run.leaves.exactly k.start).0 k.described in
-      let P : RulesOf → Type 0 = λ r. Linked r k.start k.steps k.run.last in
-      record {
-        calls = calls;
-        are = calls_join first second rf rs apart l.run.calls k.calls l.run.are k.are;
-        steps = steps;
-        order = order;
-        start = e.0;
-        described = e.1;
-        run = record {
-          once = order_takes calls (turns ++ more) steps order;
-          placed = placed_join first second rf rs apart l.run.calls k.calls turns more l.run.steps k.steps l.run.are k.are l.run.order k.order l.run.placed k.run.placed
-              (λ i j x y u v. over x.response.stamp middle y.response.stamp (l.within x (contains_at l.run.steps i x u)).1 (b.not_below y (contains_at k.steps j y v)));
-          last = k.run.last;
-          linked = linked_join (rules_declared declared) e.0 l.run.steps (map (step_moved (length first)) k.steps) k.start k.run.last e.2
-              (linked_moved (rules_declared declared) (length first) k.start k.steps k.run.last (subst P l.run.leaves.rules k.run.linked));
-        };
-      }

@@ -24,16 +24,11 @@ use Rattle.kmipa_check.specs.Calls.{CallOf, AreCalls}
 use Rattle.kmipa_check.specs.Orders.{IsOrder}
 use Rattle.kmipa_check.specs.Replays.{Replayed}
 use Rattle.kmipa_check.proofs.ReplayLemmas.{is_placed}
-use Rattle.std.proofs.Common.{Result, Ok, Err, IfOk}
-use Rattle.kmipa_record.specs.Declarations.{declaration_of}
-use Rattle.kmipa_record.specs.declared.declaration.Declaration.{Declaration}
-use Rattle.kmipa_check.specs.declared.checking.Checked.{Checked}
-use Rattle.kmipa_check.specs.declared.fault.CheckFault.{CheckFault}
 use Rattle.kmipa_check.specs.declared.verdict.Verdict.TheVariants.{Yes}
 use Rattle.kmipa_ops.specs.Ascending.{SecretsAscend}
 use Rattle.kmipa_check.specs.declared.verdict.Verdict.{Verdict}
 use Rattle.kmipa_check.specs.declared.verdict.Verdict.TheVariants.{No}
-use Rattle.kmipa_check.specs.Left.{LeavesAtYes, IsLeftBehind, IsLeft, Leaves, attributes_left, bytes_left, entry_left, declaration_left}
+use Rattle.kmipa_check.specs.Left.{LeavesAtYes, IsLeft, Leaves, attributes_left, bytes_left, entry_left, declaration_left}
 use Rattle.kmipa_check.specs.Runs.{Linked, rules_declared}
 use Rattle.kmipa_check.specs.Steps.{StepOf}
 use Rattle.kmipa_check.specs.Verdicts.{AreKnown}
@@ -268,33 +263,23 @@ module _ (declared : DeclarationOf) (m : Meaning) (sound : IsSound m) where
 
 -- a replay to the end leaves what the declaration of its ledger describes
 pub replayed_leaves : (marks : List MarkOf) (declared : DeclarationOf) (turns : List TurnOf) (calls : List CallOf) (order : List StepOf) (m : Meaning) (left : DeclarationOf) → AreCalls marks calls
-    → IsOrder calls turns order → Replayed declared order (length order) m → left ≡ declaration_left declared m → Leaves marks declared turns left
+    → IsOrder calls turns order → Replayed declared order (length order) m → left ≡ declaration_left declared m → (l : Leaves marks declared turns left) × (l.steps ≡ order)
 replayed_leaves marks declared turns calls order m left are o r is =
     let P : List StepOf → Type 0 = λ steps. AreKnown declared steps m in
-    let Q : DeclarationOf → Type 0 = λ d. IsLeft declared order d in
-    record {
-      calls = calls;
-      are = are;
-      steps = order;
-      order = o;
-      placed = is_placed order r.placed;
-      leaves = subst Q (sym is) (is_left_lem declared m r.sound order (subst P (take_all (length order) order (omega arith)) r.known));
-    }
+    let Q : DeclarationOf → Type 0 = λ d. IsLeft declared order d in (
+      record {
+        calls = calls;
+        are = are;
+        steps = order;
+        order = o;
+        placed = is_placed order r.placed;
+        leaves = subst Q (sym is) (is_left_lem declared m r.sound order (subst P (take_all (length order) order (omega arith)) r.known));
+      },
+      refl,
+    )
 
 pub at_yes_map : {D : Type 0} (P Q : D → Type 0) (v : Verdict) (o : Option D) → ((x : D) → P x → Q x) → LeavesAtYes v o P → LeavesAtYes v o Q
 at_yes_map P Q Yes (Some x) f h = f x h
 at_yes_map P Q Yes None f h = h
 at_yes_map P Q (No r) (Some x) f h = h
 at_yes_map P Q (No r) None f h = h
-
--- what is told of what is left
-abbrev pub LeftTold : DeclarationOf → List StepOf → Result Checked CheckFault → Type 0
-LeftTold declared order result = IfOk result (λ checked. LeavesAtYes checked.verdict checked.left (λ left. IsLeftBehind declared order (declaration_of left)))
-
-pub left_reported : (marks : List MarkOf) (declared : DeclarationOf) (turns : List TurnOf) (calls : List CallOf) (order : List StepOf) (result : Result Checked CheckFault) → AreCalls marks calls
-    → IsOrder calls turns order → LeftTold declared order result
-    → IfOk result (λ checked. LeavesAtYes checked.verdict checked.left (λ left. Leaves marks declared turns (declaration_of left)))
-left_reported marks declared turns calls order (Err fault) are o h = tt
-left_reported marks declared turns calls order (Ok checked) are o h =
-    at_yes_map (λ (left : Declaration). IsLeftBehind declared order (declaration_of left)) (λ (left : Declaration). Leaves marks declared turns (declaration_of left))
-    checked.verdict checked.left (λ left p. replayed_leaves marks declared turns calls order p.ledger (declaration_of left) are o p.replayed p.is) h

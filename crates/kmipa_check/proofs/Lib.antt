@@ -35,3 +35,5 @@ pub mod LeftLemmas
 pub mod AscendLemmas
 pub mod JoinLemmas
 pub mod SplitLemmas
+pub mod SinceLemmas
+pub mod SegmentLemmas

@@ -164,18 +164,25 @@ rises order placed i (suc j) d below within =
 pub is_placed : (order : List StepOf) → ArePlaced order (length order) → IsPlaced order
 is_placed order placed = record { kept = all_kept order placed; stamped = rises order placed }
 
-pub replayed_accepts : (marks : List MarkOf) (declared : DeclarationOf) (turns : List TurnOf) (calls : List CallOf) (order : List StepOf) (m : Meaning) → AreCalls marks calls
-    → IsOrder calls turns order → TakeEachOnce calls order → Replayed declared order (length order) m → IsAccepted marks declared turns
-replayed_accepts marks declared turns calls order m are o once r =
+-- a replay to the end is an accepted run by its steps
+pub replayed_run : (marks : List MarkOf) (declared : DeclarationOf) (turns : List TurnOf) (calls : List CallOf) (order : List StepOf) (m : Meaning) → AreCalls marks calls
+    → IsOrder calls turns order → TakeEachOnce calls order → Replayed declared order (length order) m → (a : IsAccepted marks declared turns) × (a.steps ≡ order)
+replayed_run marks declared turns calls order m are o once r =
     let c = r.sound.choice in
     let f = r.known.sound c.0 c.1 in
-    let P : List StepOf → Type 0 = λ o. Linked (rules_declared declared) f.0 o (inv c.0 m.objects) in
-    record {
-      calls = calls;
-      are = are;
-      steps = order;
-      order = o;
-      start = f.0;
-      described = f.1;
-      run = record { once = once; placed = is_placed order r.placed; last = inv c.0 m.objects; linked = subst P (take_all (length order) order (omega arith)) f.2 };
-    }
+    let P : List StepOf → Type 0 = λ o. Linked (rules_declared declared) f.0 o (inv c.0 m.objects) in (
+      record {
+        calls = calls;
+        are = are;
+        steps = order;
+        order = o;
+        start = f.0;
+        described = f.1;
+        run = record { once = once; placed = is_placed order r.placed; last = inv c.0 m.objects; linked = subst P (take_all (length order) order (omega arith)) f.2 };
+      },
+      refl,
+    )
+
+pub replayed_accepts : (marks : List MarkOf) (declared : DeclarationOf) (turns : List TurnOf) (calls : List CallOf) (order : List StepOf) (m : Meaning) → AreCalls marks calls
+    → IsOrder calls turns order → TakeEachOnce calls order → Replayed declared order (length order) m → IsAccepted marks declared turns
+replayed_accepts marks declared turns calls order m are o once r = (replayed_run marks declared turns calls order m are o once r).0

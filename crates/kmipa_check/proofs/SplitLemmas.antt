@@ -12,7 +12,8 @@ use Rattle.kmipa_check.specs.Calls.{CallOf, AreCalls, IsEnded, has_ended, is_ope
 use Rattle.kmipa_check.specs.Steps.{StepOf, IsAnswered, recorded, given, IsStep}
 use Rattle.kmipa_check.specs.Orders.{IsNamed, IsFormed, IsOrder}
 use Rattle.kmipa_check.specs.Runs.{EndsAhead, Before, IsPlaced, Linked, IsAccepted, rules_declared}
-use Rattle.kmipa_check.specs.Left.{Leaves, AreApart, NameOnly}
+use Rattle.kmipa_check.specs.Left.{Leaves}
+use Rattle.kmipa_check.specs.Segments.{AreApart, NameOnly}
 use Rattle.kmipa_check.proofs.PlaceLemmas.{contains_at, at_contains, get_at, mapped_from, some_at, same_elements}
 use Rattle.kmipa_check.proofs.RecordedLemmas.{recorded_at, same_recorded}
 use Rattle.kmipa_check.proofs.RunLemmas.{linked_split}
@@ -59,7 +60,7 @@ cut_list f (x ∷ xs) (y ∷ ys) zs e =
 abbrev back : ℕ → CallOf → CallOf
 back n c = record { number = c.number; begin = c.begin - n; end = option_map (λ (e : ℕ). e - n) c.end; request = c.request; response = c.response }
 
-abbrev step_back : ℕ → StepOf → StepOf
+abbrev pub step_back : ℕ → StepOf → StepOf
 step_back n s = record { number = s.number; begin = s.begin - n; end = option_map (λ (e : ℕ). e - n) s.end; request = s.request; response = s.response; places = s.places }
 
 end_back : (n : ℕ) (o : Option ℕ) (e : ℕ) → option_map (λ (x : ℕ). x - n) o ≡ Some e → (x : ℕ) × (o ≡ Some x)
@@ -176,16 +177,16 @@ module _ (first second : List MarkOf) (rf : AreRecorded first) (rs : AreRecorded
         ]
 
     -- the steps of both, cut
-    abbrev before : List StepOf
+    abbrev pub before : List StepOf
     before = take (length turns) a.steps
 
-    abbrev behind : List StepOf
+    abbrev pub behind : List StepOf
     behind = drop (length turns) a.steps
 
-    abbrev steps : List StepOf
+    abbrev pub steps : List StepOf
     steps = map (step_back n) behind
 
-    whole : before ++ behind ≡ a.steps
+    pub whole : before ++ behind ≡ a.steps
     whole = take-append-drop (length turns) a.steps
 
     counts : length a.steps ≡ length turns + length more
@@ -203,7 +204,7 @@ module _ (first second : List MarkOf) (rf : AreRecorded first) (rs : AreRecorded
         same_place a.steps (length before + i) (length turns + i) s (omega (arith, before_long)) (subst P whole (at_back before behind i s at))
 
     -- the first of them are those of the first segment
-    before_same : before ≡ l.steps
+    pub before_same : before ≡ l.steps
     before_same = same_elements before l.steps (before_long ∙ sym l.order.counted) (λ i s at. by i s at)
       where
         by : (i : ℕ) (s : StepOf) → slice_get before i ≡ Some s → slice_get l.steps i ≡ Some s
@@ -275,23 +276,26 @@ module _ (first second : List MarkOf) (rf : AreRecorded first) (rs : AreRecorded
         cut_of : (R : StepOf → StepOf → Type 0) → Ordered R a.steps → Ordered R behind
         cut_of R h = let P : List StepOf → Type 0 = λ ss. Ordered R ss in ordered_behind R before behind (subst P (sym whole) h)
 
-    pub together_lem : IsAccepted second between more
+    -- the second is accepted by the steps behind
+    pub together_lem : (own : IsAccepted second between more) × (own.steps ≡ steps)
     together_lem =
         let P : List StepOf → Type 0 = λ ss. Linked (rules_declared declared) a.start ss a.run.last in
         let p = linked_split (rules_declared declared) a.start before behind a.run.last (subst P (sym whole) a.run.linked) in
         let Q : List StepOf → Type 0 = λ ss. Linked (rules_declared declared) a.start ss p.0 in
-        let R : RulesOf → Type 0 = λ r. Linked r p.0 behind a.run.last in
-        record {
-          calls = calls;
-          are = calls_cut;
-          steps = steps;
-          order = order_cut;
-          start = p.0;
-          described = (l.leaves.exactly p.0).1 (a.start, a.described, subst Q before_same p.1);
-          run = record {
-            once = order_takes calls more steps order_cut;
-            placed = placed_cut;
-            last = a.run.last;
-            linked = linked_cut (rules_declared between) n p.0 behind a.run.last (subst R (sym l.leaves.rules) p.2);
-          };
-        }
+        let R : RulesOf → Type 0 = λ r. Linked r p.0 behind a.run.last in (
+          record {
+            calls = calls;
+            are = calls_cut;
+            steps = steps;
+            order = order_cut;
+            start = p.0;
+            described = (l.leaves.exactly p.0).1 (a.start, a.described, subst Q before_same p.1);
+            run = record {
+              once = order_takes calls more steps order_cut;
+              placed = placed_cut;
+              last = a.run.last;
+              linked = linked_cut (rules_declared between) n p.0 behind a.run.last (subst R (sym l.leaves.rules) p.2);
+            };
+          },
+          refl,
+        )

@@ -1,11 +1,11 @@
 -- What a run leaves, as a declaration: the objects of a ledger, with their bytes where these are known.
-use Rattle.std.specs.Prelude.{◌≡◌, ◌↔◌, ◌<◌, ◌≤◌, ◌≤ℤ◌, ℕ, ℤ, List, ◌++◌, map, Contains, Option, Some, None, unwrap_or, slice_get, length, Result, Ok, Err}
+use Rattle.std.specs.Prelude.{◌≡◌, ◌↔◌, ℕ, List, map, Option, Some, None, unwrap_or, length}
 use Rattle.kmipa_attrs.specs.Sets.{Attributes}
 use Rattle.kmipa_object.specs.Inventory.{Card, Thing}
 use Rattle.kmipa_object.specs.declared.life.Material.{Material}
 use Rattle.kmipa_object.specs.declared.life.Material.TheVariants.{Gone, Secret}
 use Rattle.kmipa_store.specs.Ledger.{Held, Known, Meaning, bytes_at}
-use Rattle.kmipa_record.specs.Marks.{MarkOf, AreRecorded, begun}
+use Rattle.kmipa_record.specs.Marks.{MarkOf}
 use Rattle.kmipa_record.specs.Entries.{EntryOf}
 use Rattle.kmipa_record.specs.Declarations.{DeclarationOf, AreDeclared}
 use Rattle.kmipa_record.specs.Witnesses.{TurnOf}
@@ -16,11 +16,9 @@ use Rattle.kmipa_check.specs.Orders.{IsOrder}
 use Rattle.kmipa_store.specs.Choices.{IsSound}
 use Rattle.kmipa_check.specs.Verdicts.{AreKnown}
 use Rattle.kmipa_check.specs.Replays.{Replayed}
-use Rattle.kmipa_check.specs.declared.checking.Checked.{Checked}
-use Rattle.kmipa_check.specs.declared.fault.CheckFault.{CheckFault}
 use Rattle.kmipa_check.specs.declared.verdict.Verdict.{Verdict}
 use Rattle.kmipa_check.specs.declared.verdict.Verdict.TheVariants.{Yes, No}
-use Rattle.kmipa_check.specs.Runs.{Linked, IsPlaced, IsAccepted, rules_declared}
+use Rattle.kmipa_check.specs.Runs.{Linked, IsPlaced, rules_declared}
 
 -- ---- the promise
 
@@ -34,10 +32,6 @@ pub record IsLeft (declared : DeclarationOf) (steps : List StepOf) (left : Decla
   pub rules : rules_declared left ≡ rules_declared declared
   pub exactly : (last : List Thing) → Describes left last ↔ CanEnd declared steps last
 
--- no Time Stamp of these steps is below the one moment, or above the other
-abbrev pub AreWithin : ℤ → List StepOf → ℤ → Type 0
-AreWithin since steps until = (s : StepOf) → Contains steps s → (since ≤ℤ s.response.stamp) × (s.response.stamp ≤ℤ until)
-
 -- The witness takes the calls of these marks, and leaves the other declaration. Where that one describes some inventory, the witness is accepted.
 pub record Leaves (marks : List MarkOf) (declared : DeclarationOf) (turns : List TurnOf) (left : DeclarationOf) : Type 0 where
   pub calls : List CallOf
@@ -47,60 +41,12 @@ pub record Leaves (marks : List MarkOf) (declared : DeclarationOf) (turns : List
   pub placed : IsPlaced steps
   pub leaves : IsLeft declared steps left
 
--- The same, each call at its Time Stamp, of which none is below the first moment or above the second.
-pub record Leads (declared : DeclarationOf) (since : ℤ) (marks : List MarkOf) (turns : List TurnOf) (left : DeclarationOf) (until : ℤ) : Type 0 where
-  pub run : Leaves marks declared turns left
-  pub later : since ≤ℤ until
-  pub within : AreWithin since run.steps until
-
--- a declaration is handed out exactly at a yes, and this is said of it
+-- something is handed out exactly at a yes, and this is said of it
 abbrev pub LeavesAtYes : {D : Type 0} → Verdict → Option D → (D → Type 0) → Type 0
 LeavesAtYes Yes (Some left) P = P left
 LeavesAtYes Yes None P = ⊥
 LeavesAtYes (No refused) (Some left) P = ⊥
 LeavesAtYes (No refused) None P = Unit {0}
-
--- what is answered of the verdict
-abbrev pub verdict_told : Result Checked CheckFault → Result Verdict CheckFault
-verdict_told (Ok checked) = Ok checked.verdict
-verdict_told (Err fault) = Err fault
-
--- ---- segments of one recording
-
--- no call number stands in both
-abbrev pub AreApart : List MarkOf → List MarkOf → Type 0
-AreApart first second = (number : ℤ) → Contains (begun first) number → Contains (begun second) number → ⊥
-
--- Segments join: what leads from the first declaration to the second, and from there to the third, leads from the first to the third, the marks
--- of the one behind those of the other, and the turns too.
-abbrev pub SegmentsJoin : Type 0
-SegmentsJoin = (first second : List MarkOf) (turns more : List TurnOf) (declared between left : DeclarationOf) (since middle until : ℤ)
-    → AreRecorded first → AreRecorded second → AreApart first second
-    → Leads declared since first turns between middle → Leads between middle second more left until
-    → Leads declared since (first ++ second) (turns ++ more) left until
-
--- the witness is accepted, and its steps have no stamp below this moment
-pub record IsAcceptedSince (marks : List MarkOf) (declared : DeclarationOf) (since : ℤ) (turns : List TurnOf) : Type 0 where
-  pub accepted : IsAccepted marks declared turns
-  pub not_below : (s : StepOf) → Contains accepted.steps s → since ≤ℤ s.response.stamp
-
--- So a segment that is accepted from what the one before it leaves, and from its last stamp on, is accepted with it.
-abbrev pub AcceptedBehindIsAccepted : Type 0
-AcceptedBehindIsAccepted = (first second : List MarkOf) (turns more : List TurnOf) (declared between : DeclarationOf) (since middle : ℤ)
-    → AreRecorded first → AreRecorded second → AreApart first second
-    → Leads declared since first turns between middle → IsAcceptedSince second between middle more
-    → IsAccepted (first ++ second) declared (turns ++ more)
-
--- these turns name calls of these marks alone
-abbrev pub NameOnly : List MarkOf → List TurnOf → Type 0
-NameOnly marks turns = (t : TurnOf) → Contains turns t → Contains (begun marks) t.call
-
--- And where both together are accepted, the turns behind naming calls of the second segment alone, the second is accepted from what the first leaves.
-abbrev pub AcceptedTogetherIsAccepted : Type 0
-AcceptedTogetherIsAccepted = (first second : List MarkOf) (turns more : List TurnOf) (declared between : DeclarationOf)
-    → AreRecorded first → AreRecorded second → AreApart first second
-    → Leaves first declared turns between → IsAccepted (first ++ second) declared (turns ++ more) → NameOnly second more
-    → IsAccepted second between more
 
 -- ---- how it is made
 

@@ -19,3 +19,6 @@ pub mod Stamps
 pub mod Laws
 pub mod Plain
 pub mod Left
+pub mod Since
+pub mod Segments
+pub mod SegmentReplays

@@ -2,12 +2,19 @@
 
 ghost use Rattle.kmipa_check.specs.Audits.{AcceptedAuditIsYes};
 ghost use Rattle.kmipa_check.specs.Laws.{AcceptedIsExplained, CallsAreTimed, FilledIsCompleted, KnownIsAccepted, OneAnswer, OneListOfCalls, OneOrder, PlacedOneByOne, RefusedIsNever, StepIsReadable, TakenIsKnown};
-ghost use Rattle.kmipa_check.specs.Left.{AcceptedBehindIsAccepted, AcceptedTogetherIsAccepted, LedgerIsLeft, SegmentsJoin};
+ghost use Rattle.kmipa_check.specs.Left.{LedgerIsLeft};
+ghost use Rattle.kmipa_check.specs.Segments.{AcceptedBehindIsAccepted, AcceptedTogetherIsAccepted, SegmentsJoin};
+ghost use Rattle.kmipa_check.specs.Since.{AcceptedSinceIsYes};
 ghost use Rattle.kmipa_check.specs.Verdicts.{AcceptedIsYes};
 
 /// Where a witness is accepted, a check can answer nothing but yes, unless memory runs out.
 pub fn accepted_is_yes()
     ensures { AcceptedIsYes }
+{}
+
+/// Where a witness is accepted since a moment, a check that goes on from it can answer nothing but yes, unless memory runs out.
+pub fn accepted_since_is_yes()
+    ensures { AcceptedSinceIsYes }
 {}
 
 /// Where the bytes of three inputs are accepted, and none of them fails, an audit can answer nothing but yes, unless memory runs out.

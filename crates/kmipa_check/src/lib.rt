@@ -16,6 +16,7 @@ mod places;
 mod plain_laws;
 mod reading;
 mod replay;
+mod segment;
 mod stamp;
 mod step;
 mod turn;
@@ -23,19 +24,20 @@ mod verdict;
 
 pub use auditing::{AuditFault, Audited, audit, audit_with};
 pub use call::Call;
-pub use checking::{Checked, check, check_leaving};
+pub use checking::check;
 pub use fault::{CheckFault, Side, StepFault, WitnessFault, WitnessKind};
 pub use filling::needs_fill;
 pub use laws::{
     accepted_audit_is_yes, accepted_behind_is_accepted, accepted_is_explained, accepted_is_yes,
-    accepted_together_is_accepted, calls_are_timed, filled_is_completed, known_is_accepted,
-    ledger_is_left, one_answer, one_list_of_calls, one_order, placed_one_by_one, refused_is_never,
-    segments_join, step_is_readable, taken_is_known,
+    accepted_since_is_yes, accepted_together_is_accepted, calls_are_timed, filled_is_completed,
+    known_is_accepted, ledger_is_left, one_answer, one_list_of_calls, one_order, placed_one_by_one,
+    refused_is_never, segments_join, step_is_readable, taken_is_known,
 };
 pub use leaving::declaration_left;
 pub use opening::{open_ledger, rules_of_declaration};
 pub use plain_laws::{plain_call_has_one_step, plain_call_is_taken_bare};
 pub use reading::read_calls;
+pub use segment::{Checked, Left, check_segment};
 pub use stamp::stamp_of;
 pub use step::{Given, Step};
 pub use turn::step_of_turn;

@@ -89,7 +89,7 @@ fn take_turn<L: Ledger>(
 }
 
 /// A turn, counted from 0, that is impossible itself.
-fn refused_turn(turn: usize, step: &Step, why: Why) -> Refused
+pub(crate) fn refused_turn(turn: usize, step: &Step, why: Why) -> Refused
     requires { turn < 2 ^ 63 }
     ensures { result ≡ record { turn = turn + 1; call = step.now.number; item = 0; why = why } }
 {
@@ -131,13 +131,7 @@ fn runs_back(steps: &[Step], turn: usize) -> bool
     if turn == 0 {
         return false;
     }
-    let now = stamp_of(&steps[turn]);
-    let last = stamp_of(&steps[turn - 1]);
+    let now = steps[turn].stamp();
+    let last = steps[turn - 1].stamp();
     now < last
-}
-
-fn stamp_of(step: &Step) -> i64
-    ensures { result ≡ (step_of step.now).response.stamp }
-{
-    step.response.response().stamp
 }

@@ -32,6 +32,13 @@ impl<'b, 'a> Step<'b, 'a> {
             None => None,
         }
     }
+
+    /// The Time Stamp of the response that it is to give.
+    pub fn stamp(&self) -> i64
+        ensures { result ≡ (step_of self.now).response.stamp }
+    {
+        self.response.response().stamp
+    }
 }
 
 /// The response that a step is to give.

@@ -1,4 +1,4 @@
-use Rattle.kmipa_check.proofs.JoinLemmas.{accepted_behind_lem}
+use Rattle.kmipa_check.proofs.SegmentLemmas.{accepted_behind_lem}
 use Rattle.kmipa_check.proofs.laws.accepted_behind_is_accepted.Goals as goal
 
 pub returns : goal.returns

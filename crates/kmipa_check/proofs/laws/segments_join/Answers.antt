@@ -1,4 +1,4 @@
-use Rattle.kmipa_check.proofs.JoinLemmas.{segments_join_lem}
+use Rattle.kmipa_check.proofs.SegmentLemmas.{segments_join_lem}
 use Rattle.kmipa_check.proofs.laws.segments_join.Goals as goal
 
 pub returns : goal.returns

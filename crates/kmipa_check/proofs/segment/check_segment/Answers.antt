@@ -9,14 +9,15 @@ use Rattle.kmipa_check.specs.Calls.{call_of, AreCalls}
 use Rattle.kmipa_check.specs.Orders.{IsOrder}
 use Rattle.kmipa_check.specs.Ordering.{AreFormed, OrderFault}
 use Rattle.kmipa_check.specs.Steps.{step_of}
-use Rattle.kmipa_check.specs.Replays.{AllTakable, TellsRun}
+use Rattle.kmipa_check.specs.Replays.{AllTakable}
 use Rattle.kmipa_check.specs.declared.call.Call.{Call}
 use Rattle.kmipa_check.specs.declared.step.Step.{Step}
-use Rattle.kmipa_check.proofs.CheckLemmas.{calls_numbered, calls_once, steps_takable, order_faults, run_reported}
-use Rattle.kmipa_check.specs.Left.{verdict_told}
-use Rattle.kmipa_check.proofs.LeftLemmas.{LeftTold, left_reported}
+use Rattle.kmipa_check.proofs.CheckLemmas.{calls_numbered, calls_once, steps_takable, order_faults}
+use Rattle.kmipa_check.specs.Since.{verdict_told}
+use Rattle.kmipa_check.specs.SegmentReplays.{TellsSegment}
+use Rattle.kmipa_check.proofs.SegmentLemmas.{LeftTold, left_reported, segment_reported}
 use Rattle.kmipa_check.proofs.ReplayLemmas.{replayed_none}
-use Rattle.kmipa_check.proofs.checking.check_leaving.Goals as goal
+use Rattle.kmipa_check.proofs.segment.check_segment.Goals as goal
 
 pub returns-in_err-steps-clause-checks : goal.returns-in_err-steps-clause-checks
 returns-in_err-steps-clause-checks c recorded =
@@ -29,8 +30,8 @@ returns-in_err-steps-clause-checks c recorded =
     let Q : List Turn → Type 0 = λ ts. OrderFault (map call_of calls) (map turn_of ts) c.in_err-steps.field-0.0 in
     rw (p.1, p.2) (order_faults marks (declaration_of c.args.declaration.now) (witness_of c.args.witness.now) (map call_of calls) c.in_err-steps.field-0.0 are (subst Q c.deref-2.ensures.value f))
 
-pub replay_leaving-requires-clause-takable : goal.replay_leaving-requires-clause-takable
-replay_leaving-requires-clause-takable c =
+pub replay_segment-requires-clause-takable : goal.replay_segment-requires-clause-takable
+replay_segment-requires-clause-takable c =
     let calls : List Call = c.in_ok-calls.calls.items in
     let turns : List Turn = c.deref-2.result.now in
     let steps : List Step = c.in_ok-steps.steps.items in
@@ -40,8 +41,8 @@ replay_leaving-requires-clause-takable c =
     (steps_takable (transcript_of c.args.transcript.now) (map call_of calls) (map turn_of turns) (length turns) (map step_of steps) c.in_ok-calls.ensures.each
     (subst F c.deref.ensures.value c.in_ok-steps.ensures.formed))
 
-pub replay_leaving-requires-clause-replayed : goal.replay_leaving-requires-clause-replayed
-replay_leaving-requires-clause-replayed c =
+pub replay_segment-requires-clause-replayed : goal.replay_segment-requires-clause-replayed
+replay_segment-requires-clause-replayed c =
     replayed_none (declaration_of c.args.declaration.now) (map step_of c.deref-3.result.now) (state_of_journal c.in_ok-ledger.ledger).now c.in_ok-ledger.ensures.opened c.in_ok-ledger.ensures.sound
 
 pub returns-clause-checks : goal.returns-clause-checks
@@ -57,11 +58,11 @@ returns-clause-checks c recorded =
     let O : List Call → Type 0 = λ cs. IsOrder (map call_of cs) (map turn_of c.deref-2.result.now) (map step_of steps) in
     let T : List Turn → Type 0 = λ ts. IsOrder (map call_of calls) (map turn_of ts) (map step_of steps) in
     let order : IsOrder (map call_of calls) (witness_of c.args.witness.now) (map step_of steps) = subst T c.deref-2.ensures.value (subst O c.deref.ensures.value o) in
-    let S : List Step → Type 0 = λ ss. TellsRun declared (map step_of ss) (verdict_told c.replay_leaving.result) in
-    run_reported marks declared (witness_of c.args.witness.now) (map call_of calls) (map step_of steps) (verdict_told c.replay_leaving.result) are order (subst S c.deref-3.ensures.value c.replay_leaving.ensures.told)
+    let S : List Step → Type 0 = λ ss. TellsSegment declared c.args.since (map step_of ss) (verdict_told c.replay_segment.result) in
+    segment_reported marks declared c.args.since (witness_of c.args.witness.now) (map call_of calls) (map step_of steps) (verdict_told c.replay_segment.result) are order (subst S c.deref-3.ensures.value c.replay_segment.ensures.told)
 
-pub returns-clause-leaves : goal.returns-clause-leaves
-returns-clause-leaves c recorded =
+pub returns-clause-leads : goal.returns-clause-leads
+returns-clause-leads c recorded =
     let marks = transcript_of c.args.transcript.now in
     let declared = declaration_of c.args.declaration.now in
     let calls : List Call = c.in_ok-calls.calls.items in
@@ -73,5 +74,5 @@ returns-clause-leaves c recorded =
     let O : List Call → Type 0 = λ cs. IsOrder (map call_of cs) (map turn_of c.deref-2.result.now) (map step_of steps) in
     let T : List Turn → Type 0 = λ ts. IsOrder (map call_of calls) (map turn_of ts) (map step_of steps) in
     let order : IsOrder (map call_of calls) (witness_of c.args.witness.now) (map step_of steps) = subst T c.deref-2.ensures.value (subst O c.deref.ensures.value o) in
-    let S : List Step → Type 0 = λ ss. LeftTold declared (map step_of ss) c.replay_leaving.result in
-    left_reported marks declared (witness_of c.args.witness.now) (map call_of calls) (map step_of steps) c.replay_leaving.result are order (subst S c.deref-3.ensures.value c.replay_leaving.ensures.leaves)
+    let S : List Step → Type 0 = λ ss. LeftTold marks declared c.args.since (witness_of c.args.witness.now) (map step_of ss) c.replay_segment.result in
+    left_reported marks declared c.args.since (witness_of c.args.witness.now) (map call_of calls) (map step_of steps) c.replay_segment.result are order (subst S c.deref-3.ensures.value c.replay_segment.ensures.leaves)
