@@ -10,7 +10,7 @@ from typing import Dict, List, NamedTuple, Optional, Tuple
 
 from .message import Side
 from .tags import Tag
-from .ttlv import Kind, front, places_in
+from .ttlv import Kind, NotTtlv, front, places_in
 from .versions import Version
 
 SUCCESS, FAILED, PENDING, UNDONE = range(4)
@@ -108,8 +108,11 @@ def _part(message: bytes, payload_front: int, start: int, stop: int) -> Part:
 
 
 def identifiers(message: bytes, part: Part) -> List[str]:
-    """The Unique Identifiers that are texts at the first level of the payload of an item."""
-    if part.payload is None:
+    """The Unique Identifiers that are texts at the first level of the payload of an item; none of one that is broken
+    within."""
+    try:
+        places = places_in(message, *part.payload) if part.payload else []
+    except NotTtlv:
         return []
     return [message[place:place + length].decode("utf-8", "replace")
-            for number, place, length in places_in(message, *part.payload) if number == UNIQUE_IDENTIFIER]
+            for number, place, length in places if number == UNIQUE_IDENTIFIER]

@@ -116,6 +116,14 @@ class Sifted(InFolder):
         self.assertEqual(self.asked_for_attributes(asked, answer=told(REGISTERED, 1, number(STATE, 5, 2))), twice)
         self.assertEqual(self.sifted()[0], twice + "\n")
 
+    def test_a_message_that_is_broken_within_stays(self) -> None:
+        broken = messages.item(0x42013B, 5, b"\x00\x42")[:-8] + bytes(8)
+        asked = request(asking(ATTRIBUTES, IDENTIFIER, b"\x42\x01\x3b\x05\x00\x00\x0f\xff" + broken[8:]))
+        self.between(begin(3, asked), end(3, response(REGISTERED, told(REGISTERED - 1, 1))))
+        verdict, said = self.sifted("--forget", "Initial Date")
+        self.assertTrue(verdict.startswith("outside: call 3 request "), verdict)
+        self.assertIn(asked, (self.folder / "left").read_bytes())
+
     def test_what_can_not_be_sifted(self) -> None:
         (self.folder / "torn").write_bytes((EXAMPLE / "transcript.ttlv").read_bytes()[:-8])
         shutil.copy(EXAMPLE / "transcript.ttlv", self.folder / "transcript.ttlv")

@@ -9,6 +9,7 @@ from ..recording.calls import calls_in
 from ..recording.rewriting import rewrite
 from ..transcript import Begin, Mark
 from ..trouble import say
+from ..ttlv import NotTtlv
 from .forgetting import places_of, request_without, response_without
 from .sorting import Sorted
 
@@ -37,16 +38,21 @@ class Sifting:
                 self._places[call.number] = places
 
     def mark(self, mark: Mark) -> Optional[Mark]:
-        """The mark as it is to stay, if it is."""
+        """The mark as it is to stay, if it is. A message that is no TTLV within stays, and the auditor tells it."""
         if mark.call in self.calls.dropped:
             return None
         places = self._places.get(mark.call)
         if not places:
             return mark
         without = request_without if isinstance(mark, Begin) else response_without
-        made = mark._replace(message=without(mark.message, places, self._forgotten))
-        self.changed += made != mark
-        return made
+        try:
+            made = without(mark.message, places, self._forgotten)
+        except NotTtlv:
+            return mark
+        if made == mark.message:
+            return mark
+        self.changed += 1
+        return mark._replace(message=made)
 
 
 def run(source: str, target: str, also: FrozenSet[int], forgotten: FrozenSet[int]) -> str:
