@@ -1,11 +1,13 @@
 'use strict';
 /* A timeline of the calls of one recording. Bars are drawn for what is in view alone; where there are too many, they
-   are drawn together, by what matters most. Texts of messages only ever become text nodes. */
+   are drawn together, each kind by its share. Texts of messages only ever become text nodes. */
 
 const SVG = 'http://www.w3.org/2000/svg';
 const KINDS = ['success', 'failed', 'refused', 'undone', 'open', 'fault'];
 const WORDS = ['success', 'failed', 'message refused', 'undone', 'no answer', 'named by the verdict'];
 const ROW = 26, BAR = 18, LABEL = 150, AXIS = 24, MOST_BARS = 1200, CLOSEST = 8;
+// Where bars are drawn together, each kind has its share of a column, the worst at the foot.
+const FROM_THE_FOOT = [4, 2, 1, 3, 0];
 
 function drawn(name, attributes, text) {
   const made = document.createElementNS(SVG, name);
@@ -172,22 +174,31 @@ class Timeline {
   name(index) { return `call-${this.data.recording}-${this.data.number[index]}`; }
 
   together(found) {
-    const width = this.width(), columns = Math.ceil(width / 3), rank = [0, 2, 3, 1, 4, 5];
-    const worst = new Map();
+    const columns = Math.ceil(this.width() / 3), shares = new Map();
     for (const index of found) {
       const kind = this.kind(index), lane = this.data.lane[index];
       const first = Math.max(0, Math.floor(this.x(this.data.begin[index]) / 3));
       const last = Math.min(columns, Math.floor(this.x(this.end(index)) / 3));
       for (let column = first; column <= last; column++) {
-        const at = lane * 10000 + column, before = worst.get(at);
-        if (before === undefined || rank[kind] > rank[before]) worst.set(at, kind);
+        const at = lane * 10000 + column;
+        if (!shares.has(at)) shares.set(at, [0, 0, 0, 0, 0, 0]);
+        shares.get(at)[kind]++;
       }
     }
-    for (const [at, kind] of worst) {
-      const x = (at % 10000) * 3;
-      if (x < LABEL - 4) continue;
-      const y = Math.floor(at / 10000) * ROW + 4;
-      this.rows.append(drawn('rect', { class: KINDS[kind], x, width: 3, y, height: BAR }));
+    for (const [at, counts] of shares) {
+      const x = (at % 10000) * 3, top = Math.floor(at / 10000) * ROW + 4;
+      if (x >= LABEL - 4) this.column(x, top, counts);
+    }
+  }
+
+  column(x, top, counts) {
+    const all = counts.reduce((sum, count) => sum + count, 0);
+    let foot = top + BAR;
+    for (const kind of counts[5] ? [5] : FROM_THE_FOOT) {
+      if (!counts[kind]) continue;
+      const rest = foot - top, height = kind === 5 || kind === 0 ? rest : Math.min(rest, Math.max(3, BAR * counts[kind] / all));
+      this.rows.append(drawn('rect', { class: KINDS[kind], x, width: 3, y: foot - height, height }));
+      foot -= height;
     }
   }
 
