@@ -38,18 +38,20 @@ pub named : (m : ArgMatches) (name word : List ℕ) → name ≡ word → Some n
 named m name word is e = ap (λ (t : List ℕ). Some t) (sym is) ∙ e ∙ names m
 
 -- the files that the getters found are those of the subcommand with this name
-pub check_found : (f : Found) (t d w : Bor (List ℕ)) (o : Option (Text × List Row))
+pub check_found : (f : Found) (t d w : Bor (List ℕ)) (json : Bool) (o : Option (Text × List Row))
     → Some (codes "check") ≡ option_map (λ p. p.0) o → Some (rows_of f) ≡ option_map (λ p. p.1) o
     → Some t.now ≡ first_value f (codes "TRANSCRIPT") → Some d.now ≡ first_value f (codes "DECLARATION")
-    → Some w.now ≡ first_value f (codes "WITNESS") → IsJob (Check t d w) o
-check_found f t d w None n e et ed ew = cc
-check_found f t d w (Some found) n e et ed ew =
+    → Some w.now ≡ first_value f (codes "WITNESS") → IsFlag (codes "json") (rows_of f) json → IsJob (Check t d w json) o
+check_found f t d w json None n e et ed ew ej = cc
+check_found f t d w json (Some found) n e et ed ew ej =
     let name : codes "check" ≡ found.0 = cc in
-    let rows : rows_of f ≡ found.1 = cc in (
+    let rows : rows_of f ≡ found.1 = cc in
+    let J : List Row → Type 0 = λ r. IsFlag (codes "json") r json in (
       sym name,
       ap (first_of (codes "TRANSCRIPT")) (sym rows) ∙ at_row f (codes "TRANSCRIPT") t.now et,
       ap (first_of (codes "DECLARATION")) (sym rows) ∙ at_row f (codes "DECLARATION") d.now ed,
       ap (first_of (codes "WITNESS")) (sym rows) ∙ at_row f (codes "WITNESS") w.now ew,
+      subst J rows ej,
     )
 
 -- a flag that a getter found
@@ -72,13 +74,13 @@ number_found f id n none value = go (one_text f id) refl
 
 pub search_found : (f : Found) (job : Job) (o : Option (Text × List Row))
     → Some (codes "search") ≡ option_map (λ p. p.0) o → Some (rows_of f) ≡ option_map (λ p. p.1) o → IsSearch job (rows_of f) → IsJob job o
-search_found f (Search t d out budget forced quiet) None n e is = cc
-search_found f (Search t d out budget forced quiet) (Some found) n e is =
+search_found f (Search t d out budget forced quiet json) None n e is = cc
+search_found f (Search t d out budget forced quiet json) (Some found) n e is =
     let name : codes "search" ≡ found.0 = cc in
     let rows : rows_of f ≡ found.1 = cc in
-    let P : List Row → Type 0 = λ r. IsSearch (Search t d out budget forced quiet) r in
+    let P : List Row → Type 0 = λ r. IsSearch (Search t d out budget forced quiet json) r in
     (sym name, subst P rows is)
-search_found f (Check t d w) o n e is = absurd is
+search_found f (Check t d w json) o n e is = absurd is
 search_found f (Show file options) o n e is = absurd is
 search_found f (Write hex out) o n e is = absurd is
 

@@ -30,19 +30,20 @@ budget_rule = record (new_rule (codes "budget")) {
   parser = Some (Unsigned 0 1_000_000_000);
 }
 
--- `check TRANSCRIPT DECLARATION WITNESS`
+-- `check TRANSCRIPT DECLARATION WITNESS [--json]`
 abbrev pub check_app : App
-check_app = with_rule (with_rule (with_rule (new_app (codes "check")) (file_rule (codes "TRANSCRIPT")))
-    (file_rule (codes "DECLARATION"))) (file_rule (codes "WITNESS"))
+check_app = with_rule (with_rule (with_rule (with_rule (new_app (codes "check")) (file_rule (codes "TRANSCRIPT")))
+    (file_rule (codes "DECLARATION"))) (file_rule (codes "WITNESS"))) (flag_rule (codes "json"))
 
 -- `search TRANSCRIPT DECLARATION OUT`
 abbrev pub search_files_app : App
 search_files_app = with_rule (with_rule (with_rule (new_app (codes "search")) (file_rule (codes "TRANSCRIPT")))
     (file_rule (codes "DECLARATION"))) (file_rule (codes "OUT"))
 
--- and after it `[--budget N] [--forced] [--quiet]`
+-- and after it `[--budget N] [--forced] [--quiet] [--json]`
 abbrev pub search_app : App
-search_app = with_rule (with_rule (with_rule search_files_app budget_rule) (flag_rule (codes "forced"))) (flag_rule (codes "quiet"))
+search_app = with_rule (with_rule (with_rule (with_rule search_files_app budget_rule) (flag_rule (codes "forced"))) (flag_rule (codes "quiet")))
+    (flag_rule (codes "json"))
 
 -- `show FILE [--messages] [--notes]`
 abbrev pub show_app : App
@@ -75,18 +76,20 @@ pub record IsNumber (name : Text) (rows : List Row) (number : ℕ) : Type 0 wher
 
 -- these values are of this search
 abbrev pub IsSearch : Job → List Row → Type 0
-IsSearch (Search transcript declaration out budget forced quiet) rows = (first_of (codes "TRANSCRIPT") rows ≡ Some transcript.now)
+IsSearch (Search transcript declaration out budget forced quiet json) rows = (first_of (codes "TRANSCRIPT") rows ≡ Some transcript.now)
     × (first_of (codes "DECLARATION") rows ≡ Some declaration.now) × (first_of (codes "OUT") rows ≡ Some out.now)
     × IsNumber (codes "budget") rows budget × IsFlag (codes "forced") rows forced × IsFlag (codes "quiet") rows quiet
+    × IsFlag (codes "json") rows json
 IsSearch job rows = ⊥
 
 -- the subcommand with this name and these values is this job
 abbrev pub IsJob : Job → Option (Text × List Row) → Type 0
 IsJob job None = ⊥
-IsJob (Check transcript declaration witness) (Some found) = (found.0 ≡ codes "check") × (first_of (codes "TRANSCRIPT") found.1 ≡ Some transcript.now)
+IsJob (Check transcript declaration witness json) (Some found) = (found.0 ≡ codes "check") × (first_of (codes "TRANSCRIPT") found.1 ≡ Some transcript.now)
     × (first_of (codes "DECLARATION") found.1 ≡ Some declaration.now) × (first_of (codes "WITNESS") found.1 ≡ Some witness.now)
-IsJob (Search transcript declaration out budget forced quiet) (Some found) = (found.0 ≡ codes "search")
-    × IsSearch (Search transcript declaration out budget forced quiet) found.1
+    × IsFlag (codes "json") found.1 json
+IsJob (Search transcript declaration out budget forced quiet json) (Some found) = (found.0 ≡ codes "search")
+    × IsSearch (Search transcript declaration out budget forced quiet json) found.1
 IsJob (Show file options) (Some found) = (found.0 ≡ codes "show") × (first_of (codes "FILE") found.1 ≡ Some file.now)
     × IsFlag (codes "messages") found.1 options.messages × IsFlag (codes "notes") found.1 options.notes
 IsJob (Write hex out) (Some found) = (found.0 ≡ codes "write") × (first_of (codes "HEX") found.1 ≡ Some hex.now) × (first_of (codes "OUT") found.1 ≡ Some out.now)

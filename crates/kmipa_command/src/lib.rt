@@ -2,6 +2,7 @@
 #![tactic(auto)]
 
 mod files;
+mod objects;
 mod output;
 mod printing;
 mod progress;

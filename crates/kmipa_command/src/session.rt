@@ -5,6 +5,7 @@ ghost use Rattle.kmipa_runs.specs.Lines.{FitsStatus, yes_line};
 ghost use Rattle.kmipa_runs.specs.declared.status.Status.{Status};
 
 use crate::files::{hint_digits, hint_kind, open_input};
+use crate::objects::{check_object, search_object};
 use crate::output::Output;
 use crate::printing::{tell, tell_error, tell_rest, tell_usage, tell_words};
 use crate::progress::Progress;
@@ -47,7 +48,14 @@ fn run_job<R: Files + Clock + AllocGlobal + Print + Eprint>(
             transcript,
             declaration,
             witness,
-        } => check_files(rt, [transcript, declaration, witness], &mut out),
+            json,
+        } => {
+            let names = [transcript, declaration, witness];
+            if json {
+                return check_object(rt, names);
+            }
+            check_files(rt, names, &mut out)
+        }
         Job::Search {
             transcript,
             declaration,
@@ -55,14 +63,15 @@ fn run_job<R: Files + Clock + AllocGlobal + Print + Eprint>(
             budget,
             forced,
             quiet,
-        } => search_files(
-            rt,
-            [transcript, declaration, made],
-            budget,
-            forced,
-            &mut Progress::new(rt, budget, watched && !quiet),
-            &mut out,
-        ),
+            json,
+        } => {
+            let names = [transcript, declaration, made];
+            let mut progress = Progress::new(rt, budget, watched && !quiet);
+            if json {
+                return search_object(rt, names, budget, forced, &mut progress);
+            }
+            search_files(rt, names, budget, forced, &mut progress, &mut out)
+        }
         Job::Show { file, options } => return show_file(rt, file, options),
         Job::Write { hex, out: made } => write_file(rt, hex, made, &mut out),
     };

@@ -9,7 +9,7 @@ ghost use Rattle.kmipa_command.specs.Words.{program_app, check_app, search_app, 
 use clap::builder::ValueParser;
 use clap::error::ErrorKind;
 use clap::{Arg, ArgAction, ArgMatches, Command, Error};
-use kmipa_runs::{ShowOptions, Status};
+use kmipa_runs::{ShowOptions, Status, VERSION};
 use std::alloc::{AllocError, Global};
 use std::convert::AsStr;
 
@@ -30,6 +30,11 @@ const BUDGET: &str = "budget";
 const FORCED: &str = "forced";
 
 const QUIET: &str = "quiet";
+
+const JSON: &str = "json";
+
+/// What the option does in each subcommand that has it.
+const JSON_HELP: &str = "Prints one JSON object in place of the lines";
 
 const MESSAGES: &str = "messages";
 
@@ -88,6 +93,8 @@ pub enum Job<'a> {
         transcript: &'a str,
         declaration: &'a str,
         witness: &'a str,
+        /// Prints one JSON object in place of the lines.
+        json: bool,
     },
     /// An order in which the calls of a transcript are possible, tried with at most so many steps.
     Search {
@@ -100,6 +107,8 @@ pub enum Job<'a> {
         forced: bool,
         /// Tells nothing on standard error while it searches.
         quiet: bool,
+        /// Prints one JSON object in place of the lines.
+        json: bool,
     },
     /// The items of a file as text.
     Show {
@@ -123,8 +132,8 @@ pub struct Usage {
 
 /// The job that the words of a command line name, the first of which is the program's name.
 ///
-/// - `kmip_audit check TRANSCRIPT DECLARATION WITNESS`
-/// - `kmip_audit search TRANSCRIPT DECLARATION OUT [--budget N] [--forced] [--quiet]`, N from 0 to 1,000,000,000
+/// - `kmip_audit check TRANSCRIPT DECLARATION WITNESS [--json]`
+/// - `kmip_audit search TRANSCRIPT DECLARATION OUT [--budget N] [--forced] [--quiet] [--json]`, N from 0 to 1,000,000,000
 /// - `kmip_audit show FILE [--messages] [--notes]`
 /// - `kmip_audit write HEX OUT`
 pub fn read_words<'a, S: AsStr>(alloc: Global, words: &'a [S]) -> Result<Job<'a>, Usage>
@@ -146,7 +155,7 @@ fn command<'a>(alloc: Global) -> Result<Command<'a>, AllocError>
 {
     Command::new(alloc, "kmip_audit")
         .about("Audits recorded KMIP 2.1 traffic")
-        .version("0.1.0")
+        .version(VERSION)
         .after_help(EXAMPLES)
         .subcommand_required(true)
         .arg_required_else_help(true)
@@ -165,7 +174,8 @@ fn check<'a>(alloc: Global) -> Result<Command<'a>, AllocError>
         .after_help(CHECK_HELP)
         .arg(file(alloc, TRANSCRIPT, "The calls, as they were seen"))?
         .arg(file(alloc, DECLARATION, "What the server held at the start"))?
-        .arg(file(alloc, WITNESS, "An order of the calls"))
+        .arg(file(alloc, WITNESS, "An order of the calls"))?
+        .arg(flag(alloc, JSON, JSON_HELP))
 }
 
 fn search<'a>(alloc: Global) -> Result<Command<'a>, AllocError>
@@ -183,7 +193,8 @@ fn search<'a>(alloc: Global) -> Result<Command<'a>, AllocError>
             alloc,
             QUIET,
             "Tells nothing on standard error while it searches",
-        ))
+        ))?
+        .arg(flag(alloc, JSON, JSON_HELP))
 }
 
 /// A search without its options.
@@ -275,6 +286,7 @@ fn job_of<'a>(matches: &ArgMatches<'a>) -> Option<Job<'a>>
             transcript: words.get_str(TRANSCRIPT)?,
             declaration: words.get_str(DECLARATION)?,
             witness: words.get_str(WITNESS)?,
+            json: words.get_flag(JSON),
         }),
         "search" => search_of(words),
         "show" => Some(Job::Show {
@@ -302,6 +314,7 @@ fn search_of<'a>(words: &ArgMatches<'a>) -> Option<Job<'a>>
         budget: words.get_one::<u64>(BUDGET)?,
         forced: words.get_flag(FORCED),
         quiet: words.get_flag(QUIET),
+        json: words.get_flag(JSON),
     })
 }
 

@@ -1,9 +1,14 @@
 mod AppendLemmas
+mod BytesLemmas
+mod DecidingLemmas
 mod FrontLemmas
 mod InputLemmas
+mod JsonLemmas
+mod JudgingLemmas
 mod LawLemmas
 mod LineLemmas
 mod PrintLemmas
 mod SearchLemmas
 mod ShownLemmas
+mod TellingLemmas
 mod YesLemmas

@@ -1,7 +1,11 @@
 pub mod Dates
+pub mod Deciding
 pub mod Inputs
+pub mod JsonSearches
+pub mod Judging
 pub mod Lines
 pub mod Notes
 pub mod Searches
 pub mod Shown
 pub mod Statuses
+pub mod Telling

@@ -1,11 +1,15 @@
 //! The runs of the program, over inputs and outputs that are handed in: each appends its lines and answers its status.
 #![tactic(auto)]
 
+mod bytes;
 mod dates;
+mod deciding;
 mod digits;
 mod flaws;
 mod front;
 mod holding;
+mod json;
+mod json_search;
 mod laws;
 mod lines;
 mod message;
@@ -20,9 +24,12 @@ mod searching;
 mod showing;
 mod shown;
 mod status;
+mod telling;
 mod values;
 mod writing;
 
+pub use json::{VERSION, check_json};
+pub use json_search::search_json;
 pub use laws::items_have_no_fault;
 pub use lines::Lines;
 pub use options::ShowOptions;

@@ -6,9 +6,10 @@ use Rattle.kmipa_command.proofs.words.job_of.Goals as goal
 pub returns-in_ok-get_str-in-check-3 : goal.returns-in_ok-get_str-in-check-3
 returns-in_ok-get_str-in-check-3 c =
     let m = c.args.matches.now in
-    check_found (found_of c.in_ok-name.words.now) c.in_ok-get_str-in-check.field-0 c.in_ok-get_str-in-check-2.field-0 c.in_ok-get_str-in-check-3.field-0 (subcommand_rows_of m)
+    check_found (found_of c.in_ok-name.words.now) c.in_ok-get_str-in-check.field-0 c.in_ok-get_str-in-check-2.field-0 c.in_ok-get_str-in-check-3.field-0 c.get_flag.result (subcommand_rows_of m)
     (named m c.in_ok-name.name.now (codes "check") c.in-check.is c.in_ok-name.ensures.name) c.in_ok-name.ensures.rows
     c.in_ok-get_str-in-check.ensures c.in_ok-get_str-in-check-2.ensures c.in_ok-get_str-in-check-3.ensures
+    (flag_found (found_of c.in_ok-name.words.now) (codes "json") c.get_flag.result c.get_flag.ensures.none c.get_flag.ensures.value c.get_flag.ensures.other)
 
 pub returns-in_ok-get_str-in-show : goal.returns-in_ok-get_str-in-show
 returns-in_ok-get_str-in-show c =

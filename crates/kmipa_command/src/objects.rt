@@ -1,0 +1,122 @@
+//! Sessions that print one JSON object in place of the lines: each file is read whole before any is judged.
+
+ghost use Rattle.std.specs.Prelude.{◌≡◌, ◌≢◌, ◌⊎◌, [], codes, IfOk};
+ghost use Rattle.std.specs.IoError.{error_kind};
+ghost use Rattle.std.specs.declared.io.ErrorKind.{ErrorKind};
+ghost use Rattle.kmipa_runs.specs.Statuses.{IsSilent};
+ghost use Rattle.kmipa_command.specs.Objects.{IsObjectLine, failure_line};
+
+use crate::files::reported;
+use crate::printing::tell;
+use crate::replacing::{is_input, replace_file, test_output};
+use kmipa_runs::{Status, check_json, search_json};
+use kmipa_search::Watch;
+use std::rt::Files;
+use std::{fs, io};
+
+/// What is printed where memory ran out.
+const MEMORY: &[u8] = b"{\"auditor\":\"0.1.0\",\"verdict\":\"memory\"}\n";
+
+/// What is printed where a file can't be opened, read or written.
+const DEVICE: &[u8] = b"{\"auditor\":\"0.1.0\",\"verdict\":\"device\"}\n";
+
+/// Judges three files, prints the object that tells the verdict, and answers the status to end with.
+pub fn check_object<R: Files + AllocGlobal + Print + Eprint>(rt: &R, names: [&str; 3]) -> Status {
+    let mut out = Vec::new(rt.alloc());
+    match check_whole(rt, names, &mut out) {
+        Ok(status) => tell_object(rt, out.as_slice(), status),
+        Err(error) => tell(rt, failure_object(&error), Status::Failed),
+    }
+}
+
+fn check_whole<R: Files + AllocGlobal + Eprint>(
+    rt: &R,
+    names: [&str; 3],
+    out: &mut Vec<u8>,
+) -> io::Result<Status>
+    requires { out.old.items ≡ [] }
+    // What goes on to be printed is one object on a line, or nothing, where memory ran out.
+    ensures { IfOk result (λ status. IsObjectLine out.new.items ⊎ IsSilent status out.new.items) }
+{
+    let transcript = read_whole(rt, names[0])?;
+    let declaration = read_whole(rt, names[1])?;
+    let witness = read_whole(rt, names[2])?;
+    Ok(check_json(rt.alloc(), &transcript, &declaration, &witness, out))
+}
+
+/// Looks for a witness of the first two files, with at most `budget` steps, and makes the third of it; prints the object that tells what
+/// was found, and answers the status to end with. Where the status is not `Done` nothing is made.
+pub fn search_object<R: Files + AllocGlobal + Print + Eprint, W: Watch>(
+    rt: &R,
+    names: [&str; 3],
+    budget: u64,
+    forced: bool,
+    watch: &mut W,
+) -> Status {
+    if is_input(rt, names[2], &names[..2]) {
+        return Status::Usage;
+    }
+    let mut out = Vec::new(rt.alloc());
+    match search_whole(rt, names, budget, forced, watch, &mut out) {
+        Ok(status) => tell_object(rt, out.as_slice(), status),
+        Err(error) => tell(rt, failure_object(&error), Status::Failed),
+    }
+}
+
+fn search_whole<R: Files + AllocGlobal + Eprint, W: Watch>(
+    rt: &R,
+    names: [&str; 3],
+    budget: u64,
+    forced: bool,
+    watch: &mut W,
+    out: &mut Vec<u8>,
+) -> io::Result<Status>
+    requires { out.old.items ≡ [] }
+    ensures { IfOk result (λ status. IsObjectLine out.new.items ⊎ IsSilent status out.new.items) }
+{
+    let transcript = read_whole(rt, names[0])?;
+    let declaration = read_whole(rt, names[1])?;
+    test_output(rt, names[2])?;
+    let mut made = Vec::new(rt.alloc());
+    let status = search_json(
+        rt.alloc(),
+        &transcript,
+        &declaration,
+        budget,
+        forced,
+        watch,
+        out,
+        &mut made,
+    );
+    if status == Status::Done {
+        replace_file(rt, names[2], made.as_slice())?;
+    }
+    Ok(status)
+}
+
+/// All bytes of a file. Why it can't be read is reported on standard error.
+fn read_whole<R: Files + AllocGlobal + Eprint>(rt: &R, name: &str) -> io::Result<Vec<u8>> {
+    reported(rt, name, fs::read(rt, name))
+}
+
+/// Prints an object; none with `Failed` says that memory ran out.
+fn tell_object<R: Print + Eprint>(rt: &R, lines: &[u8], status: Status) -> Status
+    ensures { (result ≡ status) ⊎ (result ≡ Status.Failed) }
+{
+    if lines.is_empty() && status == Status::Failed {
+        tell(rt, MEMORY, status)
+    } else {
+        tell(rt, lines, status)
+    }
+}
+
+/// Want of memory is reported as such, and every other error as that of a device.
+fn failure_object(error: &io::Error) -> &'static [u8]
+    ensures memory { error_kind error.now ≡ ErrorKind.OutOfMemory → result.now ≡ failure_line (codes "memory") }
+    ensures device { error_kind error.now ≢ ErrorKind.OutOfMemory → result.now ≡ failure_line (codes "device") }
+{
+    match error.kind() {
+        io::ErrorKind::OutOfMemory => MEMORY,
+        _ => DEVICE,
+    }
+}
