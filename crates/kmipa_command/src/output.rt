@@ -3,6 +3,7 @@
 ghost use Rattle.std.specs.Prelude.{◌≡◌, [], IsTrue};
 
 use crate::printing::reported;
+use crate::world::Out;
 use kmipa_runs::{Printer, Unprinted};
 use kmipa_ttlv::History;
 
@@ -28,13 +29,6 @@ impl<'a, R: Print> Output<'a, R> {
             went: History::new(),
         }
     }
-
-    /// Whether nothing was printed.
-    pub fn is_empty(&self) -> bool
-        ensures { IsTrue result → self.now.went.bytes ≡ [] }
-    {
-        self.empty
-    }
 }
 
 impl<'a, R: Print + Eprint> Printer for Output<'a, R> {
@@ -54,5 +48,11 @@ impl<'a, R: Print + Eprint> Printer for Output<'a, R> {
                 Err(Unprinted)
             }
         }
+    }
+}
+
+impl<'a, R: Print + Eprint> Out for Output<'a, R> {
+    fn is_empty(&self) -> bool {
+        self.empty
     }
 }

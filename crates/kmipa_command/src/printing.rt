@@ -1,34 +1,59 @@
 //! What is printed, and the status that is left of it.
 
-ghost use Rattle.std.specs.Prelude.{◌≡◌, ◌≢◌, ◌⊎◌, [], codes, Ok, Err, MatchResult};
-ghost use Rattle.std.specs.IoError.{error_kind};
+ghost use Rattle.std.specs.Prelude.{◌≡◌, ◌⊎◌, IfOk, OnErr};
 ghost use Rattle.kmipa_runs.specs.declared.status.Status.{Status};
-ghost use Rattle.std.specs.declared.io.ErrorKind.{ErrorKind};
+ghost use Rattle.kmipa_command.specs.World.{IsTrouble, Tells, TellsRest, TellsTrouble, text_of};
 
-use crate::output::Output;
-use crate::words::Usage;
+use crate::world::{Out, World};
 use kmipa_runs::{Status, Unprinted};
 use std::io;
 
 /// Prints what came of a run, and answers its status, or `Failed` where that can't be printed.
-pub fn tell<R: Print + Eprint>(rt: &R, lines: &[u8], status: Status) -> Status
-    ensures { (result ≡ status) ⊎ (result ≡ Status.Failed) }
+pub fn tell<O: Out>(out: &mut O, lines: &[u8], status: Status) -> Status
+    ensures { Tells lines.now status (O.printed out.old) (O.printed out.new) (O.has_failed out.new) result }
 {
-    let printed = rt.write_all(text_of(lines, status));
-    status_of(&reported(rt, printed), status)
+    match out.print(text_of(lines, status)) {
+        Ok(()) => status,
+        Err(Unprinted) => Status::Failed,
+    }
+}
+
+/// The text of lines: none with `Failed` say that memory ran out.
+fn text_of<'a>(lines: &'a [u8], status: Status) -> &'a [u8]
+    ensures { result.now ≡ text_of lines.now status }
+{
+    match status {
+        Status::Failed if lines.is_empty() => b"memory\n",
+        _ => lines,
+    }
+}
+
+/// Prints the line of something that was refused: a file that could not be opened, read or written.
+pub fn tell_refusal<W: World, O: Out>(world: &W, out: &mut O, refusal: &W::Refusal) -> Status
+    ensures { TellsTrouble (O.printed out.old) (O.printed out.new) (O.has_failed out.new) result }
+{
+    tell(out, refusal_line(world, refusal), Status::Failed)
+}
+
+/// Want of memory is reported as such, and everything else as a device.
+fn refusal_line<W: World>(world: &W, refusal: &W::Refusal) -> &'static [u8]
+    ensures { IsTrouble result.now }
+{
+    if world.lacked_memory(refusal) {
+        b"memory\n"
+    } else {
+        b"device\n"
+    }
 }
 
 /// Tells what is left to tell of a run that printed by itself, and answers its status, or `Failed` where that can't be
 /// printed.
-pub fn tell_rest<R: Print + Eprint>(
-    rt: &R,
-    output: &Output<'_, R>,
-    done: Result<Status, Unprinted>,
-) -> Status
-    ensures { MatchResult done (λ status. (result ≡ status) ⊎ (result ≡ Status.Failed)) (λ _. result ≡ Status.Failed) }
+pub fn tell_rest<O: Out>(out: &mut O, done: Result<Status, Unprinted>) -> Status
+    ensures rest { IfOk done (λ said. TellsRest said (O.printed out.old) (O.printed out.new) (O.has_failed out.new) result) }
+    ensures failed { OnErr done ((result ≡ Status.Failed) × (O.has_failed out.new ≡ O.has_failed out.old)) }
 {
     match done {
-        Ok(Status::Failed) if output.is_empty() => tell(rt, b"", Status::Failed),
+        Ok(Status::Failed) if out.is_empty() => tell(out, b"", Status::Failed),
         Ok(status) => status,
         Err(Unprinted) => Status::Failed,
     }
@@ -48,64 +73,21 @@ pub fn reported<R: Eprint, T>(rt: &R, printed: io::Result<T>) -> io::Result<T>
     printed
 }
 
-/// The text of lines: none with `Failed` say that memory ran out.
-fn text_of<'a>(lines: &'a [u8], status: Status) -> &'a [u8]
-    ensures memory { status ≡ Status.Failed → lines.now ≡ [] → result.now ≡ codes "memory\n" }
-    ensures other { status ≢ Status.Failed → result.now ≡ lines.now }
-    ensures lines { lines.now ≢ [] → result.now ≡ lines.now }
-{
-    match status {
-        Status::Failed if lines.is_empty() => b"memory\n",
-        _ => lines,
-    }
-}
-
-/// The status that is left of one: nothing that can't be printed ends well.
-fn status_of(printed: &io::Result<()>, status: Status) -> Status
-    ensures { MatchResult printed.now (λ _. result ≡ status) (λ _. result ≡ Status.Failed) }
-{
-    match printed {
-        Ok(()) => status,
-        Err(_) => Status::Failed,
-    }
-}
-
-/// Prints the line of a file that could not be opened, read or written.
-pub fn tell_error<R: Print + Eprint>(rt: &R, error: &io::Error) -> Status
-    ensures { result ≡ Status.Failed }
-{
-    tell(rt, error_line(error), Status::Failed)
-}
-
-/// Want of memory is reported as such, and every other error as that of a device.
-fn error_line(error: &io::Error) -> &'static [u8]
-    ensures memory { error_kind error.now ≡ ErrorKind.OutOfMemory → result.now ≡ codes "memory\n" }
-    ensures device { error_kind error.now ≢ ErrorKind.OutOfMemory → result.now ≡ codes "device\n" }
-{
-    match error.kind() {
-        io::ErrorKind::OutOfMemory => b"memory\n",
-        _ => b"device\n",
-    }
-}
-
 /// Tells why the words can't be read. A word that is not UTF-8 is a mistake in the words.
 pub fn tell_words<R: Print + Eprint>(rt: &R, error: &io::Error) -> Status
     ensures { (result ≡ Status.Usage) ⊎ (result ≡ Status.Failed) }
 {
     if error.kind() != io::ErrorKind::InvalidData {
-        return tell_error(rt, error);
+        let line = if error.kind() == io::ErrorKind::OutOfMemory {
+            "memory\n"
+        } else {
+            "device\n"
+        };
+        reported(rt, rt.print(line)).ok();
+        return Status::Failed;
     }
-    let reported = rt.eprintln("error: a word of the command line is not UTF-8");
-    status_of(&reported, Status::Usage)
-}
-
-/// Help goes to standard output, and what is wrong with the words to standard error.
-pub fn tell_usage<R: Print + Eprint>(rt: &R, usage: &Usage) -> Status
-    ensures { (result ≡ usage.now.status) ⊎ (result ≡ Status.Failed) }
-{
-    let text = usage.text.as_str();
-    if usage.status != Status::Usage {
-        return tell(rt, text.as_bytes(), usage.status);
+    match rt.eprintln("error: a word of the command line is not UTF-8") {
+        Ok(()) => Status::Usage,
+        Err(_) => Status::Failed,
     }
-    status_of(&rt.eprint(text), usage.status)
 }

@@ -76,7 +76,11 @@ Status: 0 shown; 2 the file is refused; 3 a device failed or memory ran out; 64 
 
 const WRITE_HELP: &str = "\
 Example:
+  echo '42006A 02 00000004 00000002 00000000' > digits.txt
   kmip_audit write digits.txt items.ttlv
+
+HEX has digits and white space alone. The commented texts of examples are written without their comments:
+  sed 's/#.*//' transcript.txt > digits.txt
 
 Status: 0 written; 2 the digits are refused; 3 a device failed or memory ran out; 64 wrong words";
 

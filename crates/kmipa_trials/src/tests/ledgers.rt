@@ -32,6 +32,18 @@ const ACTIVE: Life = Life {
     ..UNBORN
 };
 
+/// How long the life lasts of an object that is deactivated by its date.
+const LASTS: i64 = 60;
+
+const DATED: Life = Life {
+    deactivation: Some(T + LASTS),
+    ..ACTIVE
+};
+
+const KEY: [u8; 16] = [7; 16];
+
+const OTHER_KEY: [u8; 16] = [8; 16];
+
 const DESTROYED: Life = Life {
     destroy: Some(T),
     ..UNBORN
@@ -75,7 +87,15 @@ fn make<L: Ledger>(rt: &impl Abort, ledger: &mut L) -> SecretNo
     ensures there { result.number < length (L.state ledger.new).now.secrets }
     ensures marks { (L.state ledger.new).marks ≡ (L.state ledger.old).marks }
 {
-    ledger.new_secret(Rule::Any).expect(rt, "memory")
+    make_under(rt, ledger, Rule::Any)
+}
+
+/// A new secret under a rule that some bytes meet.
+fn make_under<L: Ledger>(rt: &impl Abort, ledger: &mut L, rule: Rule) -> SecretNo
+    ensures there { result.number < length (L.state ledger.new).now.secrets }
+    ensures marks { (L.state ledger.new).marks ≡ (L.state ledger.old).marks }
+{
+    ledger.new_secret(rule).expect(rt, "memory")
 }
 
 /// Learns bytes.
@@ -169,6 +189,52 @@ fn moments_in_turn<L: Ledger>(rt: &impl Abort, alloc: Global, ledger: &mut L) ->
     ])
 }
 
+/// An object is deactivated at its date, and is active again where the moment goes back.
+fn deactivations_in_turn<L: Ledger>(rt: &impl Abort, alloc: Global, ledger: &mut L) -> bool {
+    let object = object_of(rt, alloc, "a", "n", DATED);
+    let a = put(ledger, object);
+    let mark = ledger.mark().expect(rt, "memory");
+    let first = state_at(ledger, 0, T);
+    let last = state_at(ledger, 0, T + LASTS - 1);
+    let past = state_at(ledger, 0, T + LASTS);
+    let again = state_at(ledger, 0, T + LASTS - 1);
+    ledger.keep(mark);
+    are_all(&[
+        a == Some(0),
+        (first, last) == (Some(State::Active), Some(State::Active)),
+        past == Some(State::Deactivated),
+        again == Some(State::Active),
+        state_at(ledger, 0, T - 1) == Some(State::PreActive),
+    ])
+}
+
+/// A secret of 128 bits has 16 bytes, and other ones once the ledger went back.
+fn lengths_in_turn<L: Ledger>(rt: &impl Abort, ledger: &mut L) -> bool {
+    let first = make_under(rt, ledger, Rule::Bits(128));
+    let short = teach(ledger, first, &K);
+    let is_unknown = has(ledger, first, None);
+    let mark = ledger.mark().expect(rt, "memory");
+    let learned = teach(ledger, first, &KEY);
+    let again = teach(ledger, first, &KEY);
+    let other = teach(ledger, first, &OTHER_KEY);
+    ledger.back(mark);
+    let second = make(rt, ledger);
+    assert!(rt; first.number < second.number);
+    let is_forgotten = has(ledger, first, None);
+    let anew = teach(ledger, first, &OTHER_KEY);
+    let is_known = has(ledger, first, Some(&OTHER_KEY));
+    let odd = ledger.new_secret(Rule::Bits(100));
+    are_all(&[
+        short == Err(StoreFault::LengthImpossible),
+        learned == Ok(()) && again == Ok(()),
+        other == Err(StoreFault::BytesDiffer),
+        is_unknown && is_forgotten && is_known,
+        anew == Ok(()),
+        (first.number, second.number) == (0, 1),
+        odd.err() == Some(StoreFault::LengthImpossible),
+    ])
+}
+
 /// Names are found, destroyed or not, until they are taken back.
 fn names_in_turn<L: Ledger>(rt: &impl Abort, alloc: Global, ledger: &mut L) -> bool {
     let a = put(ledger, object_of(rt, alloc, "a", "n", UNBORN));
@@ -204,6 +270,11 @@ fn journal_keeps_the_laws(rt: HostRuntime) -> Result<(), Fail> {
         moments_in_turn(&rt, alloc, &mut Journal::new(alloc)),
         "moments",
     )?;
+    check(
+        deactivations_in_turn(&rt, alloc, &mut Journal::new(alloc)),
+        "deactivations",
+    )?;
+    check(lengths_in_turn(&rt, &mut Journal::new(alloc)), "lengths")?;
     check(names_in_turn(&rt, alloc, &mut Journal::new(alloc)), "names")
 }
 
@@ -215,5 +286,10 @@ fn copies_keep_the_laws(rt: HostRuntime) -> Result<(), Fail> {
         moments_in_turn(&rt, alloc, &mut Copies::new(alloc)),
         "moments",
     )?;
+    check(
+        deactivations_in_turn(&rt, alloc, &mut Copies::new(alloc)),
+        "deactivations",
+    )?;
+    check(lengths_in_turn(&rt, &mut Copies::new(alloc)), "lengths")?;
     check(names_in_turn(&rt, alloc, &mut Copies::new(alloc)), "names")
 }
