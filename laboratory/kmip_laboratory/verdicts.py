@@ -1,4 +1,5 @@
-"""Verdicts of the auditor, read from the lines that it prints or from its JSON (docs/PROFILE.md, docs/JSON.md)."""
+"""Verdicts of the auditor, read from the lines that it prints (docs/PROFILE.md), or from JSON where it has an option
+for that."""
 
 from __future__ import annotations
 
@@ -6,6 +7,7 @@ import json
 import re
 from enum import Enum
 from typing import Callable, Dict, List, NamedTuple, Optional, Pattern, Tuple
+
 
 class Outcome(Enum):
     """What the auditor answered."""
