@@ -1,8 +1,5 @@
 -- The entries of a ledger's objects, made one after the other.
-use Rattle.std.proofs.Common.{◌≡◌, ◌<◌, ◌≤◌, inl, inr, ℕ, suc, ◌+◌, List, [], ◌∷◌, ◌++◌, map, take, length, IfSome, Option, Some, None, slice_get, refl, sym, ap, ◌∙◌, subst, arith, add-one}
-use Rattle.std.proofs.lemmas.Option.{slice_get_within}
-use Rattle.kmipa_object.specs.declared.life.Material.TheVariants.{Gone, Secret}
-use Rattle.kmipa_object.specs.declared.life.SecretNo.{SecretNo}
+use Rattle.std.proofs.Common.{◌≡◌, ℕ, ◌+◌, List, [], ◌∷◌, ◌++◌, map, take, Some, slice_get, sym, ap, ◌∙◌, add-one}
 use Rattle.kmipa_store.specs.Ledger.{Held}
 use Rattle.kmipa_store.specs.Ledger.{Known}
 use Rattle.kmipa_object.proofs.ListLemmas.{map-push}
@@ -10,7 +7,6 @@ use Rattle.kmipa_record.specs.Entries.{EntryOf, entry_of}
 use Rattle.kmipa_record.specs.declared.entry.Entry.{Entry}
 use Rattle.kmipa_check.specs.Left.{entry_left}
 use Rattle.kmipa_check.proofs.RunLemmas.{take_next}
-use Rattle.kmipa_check.proofs.PlaceLemmas.{below_suc}
 
 -- one entry more is made
 pub left_next : (entries more : List Entry) (e : Entry) (ss : List Known) (objects : List Held) (n : ℕ) (h : Held) → slice_get objects n ≡ Some h

@@ -3,13 +3,11 @@ use Rattle.std.proofs.Common.{◌≡◌, ℕ, List, Bool, IsTrue, refl, subst, O
 use Rattle.kmipa_ttlv.specs.Input.{came_of, is_ended, IsFileOf}
 use Rattle.kmipa_ttlv.specs.declared.input.Input.{Input}
 use Rattle.kmipa_ttlv.proofs.ReadLemmas.{whole_file}
-use Rattle.kmipa_record.specs.Marks.{AreRecorded}
 use Rattle.kmipa_record.specs.Transcripts.{transcript_of, IsTranscript}
 use Rattle.kmipa_record.specs.Declarations.{declaration_of, IsDeclaration}
 use Rattle.kmipa_record.specs.Witnesses.{witness_of, IsWitness}
 use Rattle.kmipa_record.specs.declared.declaration.Declaration.{Declaration}
 use Rattle.kmipa_record.specs.declared.transcript.Transcript.{Transcript}
-use Rattle.kmipa_record.specs.declared.witness.Witness.{Witness}
 use Rattle.kmipa_check.specs.Audits.{AreAccepted, AreRecords, AreJudged, AreJudgedAs, AreUnjudged, AreATranscript, AreADeclaration, ReadingFails, AuditFails}
 use Rattle.kmipa_check.specs.Verdicts.{Checks, TellsVerdict}
 use Rattle.kmipa_check.specs.declared.auditing.Audited.{Audited}

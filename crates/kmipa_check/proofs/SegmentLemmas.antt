@@ -1,5 +1,5 @@
 -- Segments of one recording join, and what is accepted together is accepted one by one.
-use Rattle.std.proofs.Common.{◌≡◌, ◌⊎◌, inl, inr, ℤ, Option, Some, None, List, ◌++◌, map, length, refl, sym, ◌∙◌, ap, subst, Result, Ok, Err}
+use Rattle.std.proofs.Common.{◌≡◌, ◌⊎◌, inl, inr, ℤ, Option, Some, List, ◌++◌, map, length, refl, sym, ◌∙◌, subst, Result, Ok, Err}
 use Rattle.std.specs.Prelude.{IfOk}
 use Rattle.std.specs.Int.Signed.{clash_ℤ}
 use Rattle.kmipa_record.specs.Marks.{MarkOf, AreRecorded}
@@ -9,7 +9,7 @@ use Rattle.kmipa_msgs.specs.Messages.{RulesOf}
 use Rattle.kmipa_check.specs.Calls.{CallOf, AreCalls}
 use Rattle.kmipa_check.specs.Steps.{StepOf}
 use Rattle.kmipa_check.specs.Orders.{IsOrder}
-use Rattle.kmipa_check.specs.Runs.{Linked, IsAccepted, rules_declared}
+use Rattle.kmipa_check.specs.Runs.{Linked, rules_declared}
 use Rattle.kmipa_check.specs.Left.{LeavesAtYes}
 use Rattle.kmipa_check.specs.Replays.{TellsRun}
 use Rattle.kmipa_check.specs.Since.{AreSince, last_stamp, IsAcceptedSince, at_first, as_ever, IsRefusedFirst, IsRefusedSince, ChecksSince}

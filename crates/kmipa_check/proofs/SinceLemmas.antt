@@ -1,13 +1,12 @@
 -- Moments: the last stamp of steps that rise, and what goes on from there.
-use Rattle.std.proofs.Common.{◌≡◌, ◌<◌, ◌⊎◌, inl, inr, ◌+◌, ◌-◌, ℕ, zero, suc, ℤ, ◌≤ℤ◌, List, [], ◌∷◌, ◌++◌, map, length, Contains, Option, Some, None, option_map, slice_get, refl, sym, ap, ◌∙◌, subst, arith}
-use Rattle.std.specs.Prelude.{AllPairs}
+use Rattle.std.proofs.Common.{◌≡◌, ◌<◌, ◌⊎◌, inl, inr, ◌+◌, ◌-◌, ℕ, zero, suc, ℤ, ◌≤ℤ◌, List, [], ◌∷◌, ◌++◌, map, length, Option, Some, None, option_map, slice_get, refl, sym, ap, subst, arith}
 use Rattle.std.specs.Int.Signed.{≤ℤ_refl}
 use Rattle.std.proofs.lemmas.Int.{by_lt_z}
 use Rattle.std.proofs.lemmas.List.{length-map}
 use Rattle.std.proofs.lemmas.Option.{slice_get_within}
 use Rattle.kmipa_check.specs.Steps.{StepOf, step_of}
 use Rattle.kmipa_check.specs.declared.step.Step.{Step}
-use Rattle.kmipa_check.specs.Since.{AreSince, last_stamp, BeginsBelow}
+use Rattle.kmipa_check.specs.Since.{AreSince, last_stamp}
 use Rattle.kmipa_check.specs.SegmentReplays.{FirstTold}
 use Rattle.kmipa_check.specs.Verdicts.{ArePlaced}
 use Rattle.kmipa_check.proofs.PlaceLemmas.{below_suc, contains_at, at_contains, get_at, mapped_from}

@@ -1,4 +1,4 @@
-use Rattle.std.proofs.Common.{◌≡◌, Ok, map, sym, ap, subst}
+use Rattle.std.proofs.Common.{Ok, map, sym, ap, subst}
 use Rattle.kmipa_record.specs.Declarations.{declaration_of}
 use Rattle.kmipa_check.specs.Replays.{TellsRun}
 use Rattle.kmipa_check.specs.SegmentReplays.{TellsSegment}
