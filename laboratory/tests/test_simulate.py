@@ -57,7 +57,12 @@ def engine(unique_names: bool = False, **dates: int) -> Engine:
 
 def answers(server: Engine, *asks: Ask, option: Optional[Option] = None) -> List[Answer]:
     """The answers to one call."""
-    return list(server.answer(Request((2, 1), asks, option), {}).answers)
+    steps = server.answer(Request((2, 1), asks, option), {})
+    try:
+        while True:
+            next(steps)
+    except StopIteration as end:
+        return list(end.value.answers)
 
 
 class Rules(unittest.TestCase):
