@@ -1,5 +1,5 @@
 -- What the three readers and the check come to together.
-use Rattle.std.proofs.Common.{◌≡◌, ℕ, List, IsTrue, refl, subst, Ok, Err}
+use Rattle.std.proofs.Common.{◌≡◌, ℕ, List, Bool, IsTrue, refl, subst, Ok, Err}
 use Rattle.kmipa_ttlv.specs.Input.{came_of, is_ended, IsFileOf}
 use Rattle.kmipa_ttlv.specs.declared.input.Input.{Input}
 use Rattle.kmipa_ttlv.proofs.ReadLemmas.{whole_file}
@@ -10,44 +10,59 @@ use Rattle.kmipa_record.specs.Witnesses.{witness_of, IsWitness}
 use Rattle.kmipa_record.specs.declared.declaration.Declaration.{Declaration}
 use Rattle.kmipa_record.specs.declared.transcript.Transcript.{Transcript}
 use Rattle.kmipa_record.specs.declared.witness.Witness.{Witness}
-use Rattle.kmipa_check.specs.Audits.{AreAccepted, AreJudged, AreJudgedAs, AreUnjudged, AreATranscript, AreADeclaration}
+use Rattle.kmipa_check.specs.Audits.{AreAccepted, AreRecords, AreJudged, AreJudgedAs, AreUnjudged, AreATranscript, AreADeclaration, ReadingFails, AuditFails}
 use Rattle.kmipa_check.specs.Verdicts.{Checks, TellsVerdict}
 use Rattle.kmipa_check.specs.declared.auditing.Audited.{Audited}
+use Rattle.kmipa_check.specs.declared.auditing.AuditRecords.{AuditRecords}
+use Rattle.kmipa_check.specs.declared.auditing.AuditFault.{AuditFault}
+use Rattle.kmipa_check.specs.declared.auditing.AuditFault.TheVariants as audit
 use Rattle.kmipa_check.specs.declared.fault.CheckFault.{CheckFault}
 use Rattle.kmipa_check.specs.declared.verdict.Verdict.{Verdict}
 use Rattle.kmipa_check.specs.declared.verdict.Verdict.TheVariants.{Yes, No}
 
--- a verdict on the three records that were read
-pub judged : {R : Type 0} (ti di wi : Input R) (t d w : List ℕ) (transcript : Transcript) (declaration : Declaration) (witness : Witness) (verdict : Verdict)
+-- the three records that were read
+pub are_records : {R : Type 0} (ti di wi : Input R) (t d w : List ℕ) (records : AuditRecords)
     → IsFileOf t ti → IsFileOf d di → IsFileOf w wi
-    → IsTranscript (came_of ti) (transcript_of transcript) × IsTrue (is_ended ti) → IsDeclaration (came_of di) (declaration_of declaration) × IsTrue (is_ended di)
-    → IsWitness (came_of wi) (witness_of witness) × IsTrue (is_ended wi)
-    → (AreRecorded (transcript_of transcript) → Checks (transcript_of transcript) (declaration_of declaration) (witness_of witness) (Ok verdict))
-    → AreJudged (record { verdict = verdict; transcript = transcript; witness = witness }) t d w
-judged ti di wi t d w transcript declaration witness verdict tf df wf p q s checks = record {
-  transcript = whole_file t ti (λ bytes. IsTranscript bytes (transcript_of transcript)) p.1 tf p.0;
-  declared = declaration_of declaration;
-  declaration = whole_file d di (λ bytes. IsDeclaration bytes (declaration_of declaration)) q.1 df q.0;
-  witness = whole_file w wi (λ bytes. IsWitness bytes (witness_of witness)) s.1 wf s.0;
-  verdict = checks p.0.recorded;
+    → IsTranscript (came_of ti) (transcript_of records.transcript) × IsTrue (is_ended ti) → IsDeclaration (came_of di) (declaration_of records.declaration) × IsTrue (is_ended di)
+    → IsWitness (came_of wi) (witness_of records.witness) × IsTrue (is_ended wi) → AreRecords records t d w
+are_records ti di wi t d w records tf df wf p q s = record {
+  transcript = whole_file t ti (λ bytes. IsTranscript bytes (transcript_of records.transcript)) p.1 tf p.0;
+  declaration = whole_file d di (λ bytes. IsDeclaration bytes (declaration_of records.declaration)) q.1 df q.0;
+  witness = whole_file w wi (λ bytes. IsWitness bytes (witness_of records.witness)) s.1 wf s.0;
+}
+
+-- a verdict on them
+pub judged : (t d w : List ℕ) (records : AuditRecords) (verdict : Verdict) → AreRecords records t d w
+    → Checks (transcript_of records.transcript) (declaration_of records.declaration) (witness_of records.witness) (Ok verdict)
+    → AreJudged (record { verdict = verdict; transcript = records.transcript; witness = records.witness }) t d w
+judged t d w records verdict are checks = record {
+  transcript = are.transcript;
+  declared = declaration_of records.declaration;
+  declaration = are.declaration;
+  witness = are.witness;
+  verdict = checks;
 }
 
 -- a fault of the check of them
-pub unjudged : {R : Type 0} (ti di wi : Input R) (t d w : List ℕ) (transcript : Transcript) (declaration : Declaration) (witness : Witness) (fault : CheckFault)
-    → IsFileOf t ti → IsFileOf d di → IsFileOf w wi
-    → IsTranscript (came_of ti) (transcript_of transcript) × IsTrue (is_ended ti) → IsDeclaration (came_of di) (declaration_of declaration) × IsTrue (is_ended di)
-    → IsWitness (came_of wi) (witness_of witness) × IsTrue (is_ended wi)
-    → (AreRecorded (transcript_of transcript) → Checks (transcript_of transcript) (declaration_of declaration) (witness_of witness) (Err fault))
+pub unjudged : (t d w : List ℕ) (records : AuditRecords) (fault : CheckFault) → AreRecords records t d w
+    → Checks (transcript_of records.transcript) (declaration_of records.declaration) (witness_of records.witness) (Err fault)
     → AreUnjudged fault t d w
-unjudged ti di wi t d w transcript declaration witness fault tf df wf p q s checks = record {
-  marks = transcript_of transcript;
-  transcript = whole_file t ti (λ bytes. IsTranscript bytes (transcript_of transcript)) p.1 tf p.0;
-  declared = declaration_of declaration;
-  declaration = whole_file d di (λ bytes. IsDeclaration bytes (declaration_of declaration)) q.1 df q.0;
-  turns = witness_of witness;
-  witness = whole_file w wi (λ bytes. IsWitness bytes (witness_of witness)) s.1 wf s.0;
-  checks = checks p.0.recorded;
+unjudged t d w records fault are checks = record {
+  marks = transcript_of records.transcript;
+  transcript = are.transcript;
+  declared = declaration_of records.declaration;
+  declaration = are.declaration;
+  turns = witness_of records.witness;
+  witness = are.witness;
+  checks = checks;
 }
+
+-- a fault of reading is one of the audit
+pub fails : (t d w : List ℕ) (ft fd fw : Bool) (fault : AuditFault) → ReadingFails t d w ft fd fw fault → AuditFails t d w ft fd fw fault
+fails t d w ft fd fw (audit.Transcript f) told = told
+fails t d w ft fd fw (audit.Declaration f) told = told
+fails t d w ft fd fw (audit.Witness f) told = told
+fails t d w ft fd fw (audit.Check f) told = absurd told
 
 -- a yes is accepted
 accepted_at : (verdict : Verdict) → verdict ≡ Yes → (audited : Audited) → audited.verdict ≡ verdict → (t d w : List ℕ) → AreJudged audited t d w → AreAccepted t d w

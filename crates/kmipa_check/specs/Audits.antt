@@ -3,11 +3,12 @@ use Rattle.std.specs.Prelude.{◌≡◌, ℕ, List, Bool, false, Result, Ok, Err
 use Rattle.kmipa_record.specs.Marks.{MarkOf}
 use Rattle.kmipa_record.specs.Files.{Tells}
 use Rattle.kmipa_record.specs.Transcripts.{transcript_of, IsTranscript, TranscriptFault, IsTranscriptUpTo}
-use Rattle.kmipa_record.specs.Declarations.{DeclarationOf, IsDeclaration, DeclarationFault, IsDeclarationUpTo}
+use Rattle.kmipa_record.specs.Declarations.{DeclarationOf, declaration_of, IsDeclaration, DeclarationFault, IsDeclarationUpTo}
 use Rattle.kmipa_record.specs.Witnesses.{TurnOf, witness_of, IsWitness, WitnessFault, IsWitnessUpTo}
 use Rattle.kmipa_check.specs.Runs.{IsAccepted}
 use Rattle.kmipa_check.specs.Verdicts.{Checks, TellsVerdict}
 use Rattle.kmipa_check.specs.declared.auditing.Audited.{Audited}
+use Rattle.kmipa_check.specs.declared.auditing.AuditRecords.{AuditRecords}
 use Rattle.kmipa_check.specs.declared.auditing.AuditFault.{AuditFault}
 use Rattle.kmipa_check.specs.declared.auditing.AuditFault.TheVariants as audit
 use Rattle.kmipa_check.specs.declared.fault.CheckFault.{CheckFault}
@@ -63,13 +64,28 @@ AreATranscript t = (marks : List MarkOf) × IsTranscript t marks
 abbrev pub AreADeclaration : List ℕ → Type 0
 AreADeclaration d = (declared : DeclarationOf) × IsDeclaration d declared
 
--- a fault: the first of the first file that is no record, in the order of the three, or one of the check. The three truths say which inputs
--- failed
+-- a fault of reading: the first of the first file that is no record, in the order of the three. The three truths say which inputs failed
+abbrev pub ReadingFails : List ℕ → List ℕ → List ℕ → Bool → Bool → Bool → AuditFault → Type 0
+ReadingFails t d w failed_t failed_d failed_w (audit.Transcript f) = Tells TranscriptFault IsTranscriptUpTo t failed_t f
+ReadingFails t d w failed_t failed_d failed_w (audit.Declaration f) = AreATranscript t × Tells DeclarationFault IsDeclarationUpTo d failed_d f
+ReadingFails t d w failed_t failed_d failed_w (audit.Witness f) = AreATranscript t × AreADeclaration d × Tells WitnessFault IsWitnessUpTo w failed_w f
+ReadingFails t d w failed_t failed_d failed_w (audit.Check f) = ⊥
+
+-- a fault: one of reading, or one of the check
 abbrev pub AuditFails : List ℕ → List ℕ → List ℕ → Bool → Bool → Bool → AuditFault → Type 0
-AuditFails t d w failed_t failed_d failed_w (audit.Transcript f) = Tells TranscriptFault IsTranscriptUpTo t failed_t f
-AuditFails t d w failed_t failed_d failed_w (audit.Declaration f) = AreATranscript t × Tells DeclarationFault IsDeclarationUpTo d failed_d f
-AuditFails t d w failed_t failed_d failed_w (audit.Witness f) = AreATranscript t × AreADeclaration d × Tells WitnessFault IsWitnessUpTo w failed_w f
 AuditFails t d w failed_t failed_d failed_w (audit.Check f) = AreUnjudged f t d w
+AuditFails t d w failed_t failed_d failed_w fault = ReadingFails t d w failed_t failed_d failed_w fault
+
+-- the bytes are these records
+pub record AreRecords (records : AuditRecords) (t d w : List ℕ) : Type 0 where
+  pub transcript : IsTranscript t (transcript_of records.transcript)
+  pub declaration : IsDeclaration d (declaration_of records.declaration)
+  pub witness : IsWitness w (witness_of records.witness)
+
+-- what is read of these three files
+abbrev pub ReadsRecords : List ℕ → List ℕ → List ℕ → Bool → Bool → Bool → Result AuditRecords AuditFault → Type 0
+ReadsRecords t d w failed_t failed_d failed_w (Ok records) = AreRecords records t d w
+ReadsRecords t d w failed_t failed_d failed_w (Err fault) = ReadingFails t d w failed_t failed_d failed_w fault
 
 -- what an audit of these three files answers
 abbrev pub Audits : List ℕ → List ℕ → List ℕ → Bool → Bool → Bool → Result Audited AuditFault → Type 0

@@ -22,7 +22,7 @@ mod step;
 mod turn;
 mod verdict;
 
-pub use auditing::{AuditFault, Audited, audit, audit_with};
+pub use auditing::{AuditFault, AuditRecords, Audited, audit, audit_with, read_records};
 pub use call::Call;
 pub use checking::check;
 pub use fault::{CheckFault, Side, StepFault, WitnessFault, WitnessKind};
@@ -35,6 +35,7 @@ pub use laws::{
 };
 pub use leaving::declaration_left;
 pub use opening::{open_ledger, rules_of_declaration};
+pub use order::steps_of;
 pub use plain_laws::{plain_call_has_one_step, plain_call_is_taken_bare};
 pub use reading::read_calls;
 pub use segment::{Checked, Left, check_segment};

@@ -1,23 +1,18 @@
-use Rattle.kmipa_check.proofs.AuditLemmas.{judged, unjudged, a_transcript, a_declaration}
+use Rattle.kmipa_ttlv.specs.Input.{is_failed}
+use Rattle.kmipa_check.proofs.AuditLemmas.{judged, unjudged, fails}
 use Rattle.kmipa_check.proofs.auditing.audit_with.Goals as goal
 
 pub returns-in-Ok-check-clause-audits : goal.returns-in-Ok-check-clause-audits
 returns-in-Ok-check-clause-audits g c = λ t d w tf df wf.
-    judged c.read_transcript.new.input c.read_declaration.new.input c.read_witness.new.input t d w c.in-Ok.transcript c.in-Ok-read_declaration.declaration c.in-Ok-read_witness.witness c.in-Ok-check.verdict
-    tf df wf c.in-Ok.ensures.found c.in-Ok-read_declaration.ensures.found c.in-Ok-read_witness.ensures.found c.in-Ok-check.ensures
+    let are = c.in-Ok.ensures.reads t d w tf df wf in
+    judged t d w c.in-Ok.records c.in-Ok-check.verdict are (c.in-Ok-check.ensures are.transcript.recorded)
 
 pub returns-in-Err-check-clause-audits : goal.returns-in-Err-check-clause-audits
 returns-in-Err-check-clause-audits g c = λ t d w tf df wf.
-    unjudged c.read_transcript.new.input c.read_declaration.new.input c.read_witness.new.input t d w c.in-Ok.transcript c.in-Ok-read_declaration.declaration c.in-Ok-read_witness.witness c.in-Err-check.fault
-    tf df wf c.in-Ok.ensures.found c.in-Ok-read_declaration.ensures.found c.in-Ok-read_witness.ensures.found c.in-Err-check.ensures
+    let are = c.in-Ok.ensures.reads t d w tf df wf in
+    unjudged t d w c.in-Ok.records c.in-Err-check.fault are (c.in-Err-check.ensures are.transcript.recorded)
 
-pub returns-in-Err-read_declaration-clause-audits : goal.returns-in-Err-read_declaration-clause-audits
-returns-in-Err-read_declaration-clause-audits g c = λ t d w tf df wf.
-    (a_transcript c.read_transcript.new.input t c.in-Ok.transcript tf c.in-Ok.ensures.found, c.in-Err-read_declaration.ensures.fault d df)
-
-pub returns-in-Err-read_witness-clause-audits : goal.returns-in-Err-read_witness-clause-audits
-returns-in-Err-read_witness-clause-audits g c = λ t d w tf df wf. (
-  a_transcript c.read_transcript.new.input t c.in-Ok.transcript tf c.in-Ok.ensures.found,
-  a_declaration c.read_declaration.new.input d c.in-Ok-read_declaration.declaration df c.in-Ok-read_declaration.ensures.found,
-  c.in-Err-read_witness.ensures.fault w wf,
-)
+pub returns-in-Err-clause-audits : goal.returns-in-Err-clause-audits
+returns-in-Err-clause-audits g c = λ t d w tf df wf.
+    fails t d w (is_failed c.read_records.new.transcript) (is_failed c.read_records.new.declaration) (is_failed c.read_records.new.witness) c.in-Err.fault
+    (c.in-Err.ensures.reads t d w tf df wf)
