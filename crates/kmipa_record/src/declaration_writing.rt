@@ -6,7 +6,7 @@ ghost use Rattle.kmipa_ttlv.specs.ItemTree.{tree};
 ghost use Rattle.kmipa_attrs.specs.Sets.{attributes_of};
 ghost use Rattle.kmipa_msgs.specs.Messages.{row_of};
 ghost use Rattle.kmipa_record.specs.Declarations.{declaration_of, declaration_header, row_item, IsDeclaration};
-ghost use Rattle.kmipa_record.specs.DeclarationWriting.{written_entry, AreSayable, MayStand, MayStandTogether, IsWritableDeclaration};
+ghost use Rattle.kmipa_record.specs.DeclarationWriting.{written_entry, AreSayable, IsTooLong, MayStand, MayStandTogether, IsWritableDeclaration};
 ghost use Rattle.kmipa_record.specs.Entries.{entry_of, items_of, AreBytes};
 ghost use Rattle.kmipa_record.specs.Writing.{Appends, IsWrittenDeclaration, Unwritten, AddsAll, Refused};
 
@@ -20,7 +20,7 @@ use crate::tags::{CAUSE, ENTRY, ROW};
 use kmipa_attrs::tags::{KEY_MATERIAL, OBJECT_TYPE, RESULT_REASON, UNIQUE_IDENTIFIER};
 use kmipa_attrs::{AttrSet, write_short_attrs};
 use kmipa_msgs::Row;
-use kmipa_ttlv::{Item, Tag};
+use kmipa_ttlv::{Item, Tag, spelled_len};
 use std::alloc::{AllocError, Global};
 use std::collections::BTreeSet;
 
@@ -46,6 +46,17 @@ pub fn write_declaration(
             out.truncate(start);
             Err(RecordFault { offset: 0, kind })
         }
+    }
+}
+
+/// Whether an entry is too long for one item, so that no declaration has it.
+pub fn is_too_long(alloc: Global, entry: &Entry) -> Result<bool, AllocError>
+    ensures { IfOk result (λ long. IsTrue long ↔ IsTooLong (entry_of entry.now)) }
+{
+    let item = entry.item(alloc)?;
+    match spelled_len(&item) {
+        Some(_) => Ok(false),
+        None => Ok(true),
     }
 }
 

@@ -30,7 +30,7 @@ mod witness;
 mod witness_writing;
 
 pub use declaration::{Declaration, read_declaration};
-pub use declaration_writing::write_declaration;
+pub use declaration_writing::{is_too_long, write_declaration};
 pub use entry::Entry;
 pub use fault::{RecordFault, RecordKind};
 pub use fill::Fill;
