@@ -1,9 +1,15 @@
 mod AppendLemmas
 mod FrontLemmas
+mod HeldLemmas
 mod InputLemmas
+mod JsonLemmas
 mod LawLemmas
+mod JudgingLemmas
+mod LeavingLemmas
 mod LineLemmas
+mod MomentLemmas
 mod PrintLemmas
 mod SearchLemmas
 mod ShownLemmas
+mod TellingLemmas
 mod YesLemmas
