@@ -1,16 +1,14 @@
 //! A session: words come in, files are read and written, and lines go out.
 
-ghost use Rattle.std.specs.Prelude.{◌≡◌, ◌↔◌, [], IfOk};
-ghost use Rattle.kmipa_runs.specs.Lines.{FitsStatus, yes_line};
-ghost use Rattle.kmipa_runs.specs.declared.status.Status.{Status};
-
+use crate::checking::{Form, check_files, check_segment_files, form_of};
 use crate::files::{hint_digits, hint_kind, open_input};
+use crate::objects::check_object;
 use crate::output::Output;
-use crate::printing::{tell, tell_error, tell_rest, tell_usage, tell_words};
+use crate::printing::{tell, tell_error, tell_forms, tell_rest, tell_usage, tell_words};
 use crate::progress::Progress;
 use crate::replacing::{is_input, replace_file, test_output};
 use crate::words::{Job, read_words};
-use kmipa_runs::{ShowOptions, Status, check_run, search_run, show_run, write_run};
+use kmipa_runs::{ShowOptions, Status, search_run, show_run, write_run};
 use kmipa_search::Watch;
 use std::rt::{Clock, Env, Files};
 use std::{env, io};
@@ -47,7 +45,17 @@ fn run_job<R: Files + Clock + AllocGlobal + Print + Eprint>(
             transcript,
             declaration,
             witness,
-        } => check_files(rt, [transcript, declaration, witness], &mut out),
+            json,
+            segment,
+        } => {
+            let names = [transcript, declaration, witness];
+            match form_of(json, segment) {
+                Some(Form::Lines) => check_files(rt, names, &mut out),
+                Some(Form::Segment) => check_segment_files(rt, names, segment, &mut out),
+                Some(Form::Json) => return check_object(rt, names),
+                None => return tell_forms(rt),
+            }
+        }
         Job::Search {
             transcript,
             declaration,
@@ -70,32 +78,6 @@ fn run_job<R: Files + Clock + AllocGlobal + Print + Eprint>(
         Ok(status) => tell(rt, out.as_slice(), status),
         Err(error) => tell_error(rt, &error),
     }
-}
-
-fn check_files<R: Files + AllocGlobal + Eprint>(
-    rt: &R,
-    names: [&str; 3],
-    out: &mut Vec<u8>,
-) -> io::Result<Status>
-    requires { out.old.items ≡ [] }
-    // What goes on to be printed is what the run made.
-    ensures fits { IfOk result (λ status. FitsStatus status out.new.items) }
-    ensures yes { IfOk result (λ status. (status ≡ Status.Done) ↔ (out.new.items ≡ yes_line)) }
-{
-    let mut transcript = open_input(rt, names[0])?;
-    let mut declaration = open_input(rt, names[1])?;
-    let mut witness = open_input(rt, names[2])?;
-    let status = check_run(
-        rt.alloc(),
-        &mut transcript,
-        &mut declaration,
-        &mut witness,
-        out,
-    );
-    if status == Status::Refused {
-        hint_kind(rt, &names, out);
-    }
-    Ok(status)
 }
 
 /// Looks for a witness of the first two files, with at most `budget` steps, and makes the third of it. Where the
