@@ -148,15 +148,15 @@ call_again rules V W request response V' idle same c = by c.call
 
 -- ---- an element goes to the front
 
-abbrev Pairwise : {X : Type 0} (R : X → X → Type 0) → List X → Type 0
+abbrev pub Pairwise : {X : Type 0} (R : X → X → Type 0) → List X → Type 0
 Pairwise R [] = Unit {0}
 Pairwise R (x ∷ xs) = ((y : _) → Contains xs y → R x y) × Pairwise R xs
 
-pairwise : {X : Type 0} (R : X → X → Type 0) (xs : List X) → AllPairs R xs → Pairwise R xs
+pub pairwise : {X : Type 0} (R : X → X → Type 0) (xs : List X) → AllPairs R xs → Pairwise R xs
 pairwise R [] h = tt
 pairwise R (x ∷ xs) h = ((λ y has. pairs_behind R [] xs x y h has), pairwise R xs (λ i j d below within. h (suc i) (suc j) d (omega (arith, below)) (omega (arith, within))))
 
-all_pairs : {X : Type 0} (R : X → X → Type 0) (xs : List X) → Pairwise R xs → AllPairs R xs
+pub all_pairs : {X : Type 0} (R : X → X → Type 0) (xs : List X) → Pairwise R xs → AllPairs R xs
 all_pairs R [] h i j d below within = absurd (omega (arith, within))
 all_pairs R (x ∷ xs) h zero zero d below within = absurd (omega (arith, below))
 all_pairs R (x ∷ xs) h zero (suc j) d below within = h.0 (get_or xs j d) (Contains-get_or xs j d (omega (arith, within)))

@@ -26,7 +26,7 @@ use Rattle.kmipa_search.proofs.DeadLemmas.{refused_dead, found_run, exhausted}
 use Rattle.kmipa_search.proofs.IdleLemmas.{dead_more, idle_dead}
 use Rattle.kmipa_search.proofs.WeightLemmas.{owed_begins, owed_picked, owed_closed}
 
-knows_now : (declared : DeclarationOf) (calls : List StepOf) (taken : List ℕ) (now : Meaning) (marks : List Meaning) → KnowsAll declared calls taken now marks
+pub knows_now : (declared : DeclarationOf) (calls : List StepOf) (taken : List ℕ) (now : Meaning) (marks : List Meaning) → KnowsAll declared calls taken now marks
     → AreKnown declared (so_far calls taken) now × IsSound now
 knows_now declared calls [] now marks k = k
 knows_now declared calls (p ∷ taken) now [] k = absurd k
