@@ -8,6 +8,7 @@ pub struct TakenCalls {
     flags: Vec<bool>,
     low: usize,
     high: usize,
+    hash: u64,
 }
 
 /// A set of calls: so many, all ahead of a place, and of the others these.
@@ -30,6 +31,7 @@ impl TakenCalls {
             flags: Vec::from_elem(alloc, false, count)?,
             low: 0,
             high: 0,
+            hash: 0,
         })
     }
 
@@ -41,6 +43,7 @@ impl TakenCalls {
         mark(&mut self.flags, place, true);
         self.high = above(self.high, place);
         self.low = first_left(&self.flags, self.low);
+        self.hash = turned(self.hash, place);
     }
 
     /// The call that was taken last is left again.
@@ -50,6 +53,12 @@ impl TakenCalls {
         mark(&mut self.flags, place, false);
         self.low = lower(self.low, place);
         self.high = last_taken(&self.flags, self.high);
+        self.hash = turned(self.hash, place);
+    }
+
+    /// A hash of them: of two different sets it may be the same.
+    pub fn hash(&self) -> u64 {
+        self.hash
     }
 
     /// The set of them, which are so many.
@@ -66,6 +75,12 @@ impl TakenCalls {
 
 ghost use Rattle.std.specs.Prelude.{◌≡◌, ◌<◌, ◌≤◌, ◌^◌, ℕ, true, Contains, IfOk, slice_set};
 ghost use Rattle.kmipa_search.specs.Ends.{flag};
+
+/// The hash with a place more, or less.
+fn turned(hash: u64, place: usize) -> u64 {
+    let number = (place as u64 ^ 0x5851_F42D_4C95_7F2D).wrapping_mul(0x9E37_79B9_7F4A_7C15);
+    hash ^ (number ^ (number >> 32)).wrapping_mul(0xD6E8_FEB8_6659_FD93).rotate_left(29)
+}
 
 /// Sets the mark of a place, if there is one, or takes it away.
 fn mark(flags: &mut Vec<bool>, place: usize, value: bool)
