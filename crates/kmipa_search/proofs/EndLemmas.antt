@@ -1,6 +1,6 @@
 -- Equal is equal, and what a search remembers.
 use Rattle.std.proofs.Common.{◌≡◌, ◌≢◌, ◌<◌, ◌≤◌, ◌⊎◌, inl, inr, ◌==◌, ℕ, zero, suc, ◌≤ℤ◌, ◌+◌, Bool, true, false, List, [], ◌∷◌, ◌++◌, map, length, Option, Some, None, slice_get, Contains, refl, sym, ap, ◌∙◌, subst, arith, rules}
-use Rattle.std.specs.Prelude.{AllPairs, IsPermutation, option_map}
+use Rattle.std.specs.Prelude.{AllPairs, IsPermutation, option_map, unwrap_or}
 use Rattle.std.proofs.lemmas.List.{length-append}
 use Rattle.std.proofs.lemmas.List.Elements.{Contains-append_cases, Contains-append_left, Contains-append_right}
 use Rattle.std.proofs.lemmas.List.Sorted.{Contains-permutation, length_permutation}
@@ -8,17 +8,19 @@ use Rattle.kmipa_object.specs.Inventory.{Thing, rule_of}
 use Rattle.kmipa_object.specs.declared.life.Material.{Material}
 use Rattle.kmipa_object.specs.declared.life.Material.TheVariants.{Gone, Secret}
 use Rattle.kmipa_object.specs.declared.life.SecretNo.{SecretNo}
+use Rattle.kmipa_object.specs.declared.rule.Rule.{Rule}
 use Rattle.kmipa_store.specs.Ledger.{Held, Known, Meaning, bytes_at}
 use Rattle.kmipa_store.specs.Choices.{Choice, Chooses, Suits, IsSound, inv}
 use Rattle.kmipa_store.proofs.InventoryLemmas.{inv-agrees}
 use Rattle.kmipa_record.specs.Declarations.{DeclarationOf}
 use Rattle.kmipa_check.specs.Steps.{StepOf}
 use Rattle.kmipa_check.specs.Described.{Describes}
+use Rattle.kmipa_check.specs.Left.{bytes_left}
 use Rattle.kmipa_check.specs.Runs.{Before, IsPlaced, Linked, rules_declared}
 use Rattle.kmipa_check.specs.Verdicts.{AreKnown}
 use Rattle.kmipa_check.proofs.RunLemmas.{linked_join, linked_split}
 use Rattle.kmipa_search.specs.Progress.{so_far, TakesAll, IsDead, AreNext}
-use Rattle.kmipa_search.specs.Ends.{StillOf, known_or_none, known_bytes, still, stills, AreSame, EqualIsEqual}
+use Rattle.kmipa_search.specs.Ends.{StillOf, still, stills, AreSame, EqualIsEqual}
 use Rattle.kmipa_search.proofs.ElementLemmas.{get_at}
 use Rattle.kmipa_search.proofs.PermutationLemmas.{once_pairs, permuted}
 use Rattle.kmipa_search.proofs.PlaceLemmas.{one_cases, has_head}
@@ -65,10 +67,12 @@ bears (h ∷ objects) number = by h.material refl (bears objects number)
         own true e = inl (record { place = 0; bearer = h; secret = s; stands = refl; material = is; is = equal_of s.number number e })
         own false e = inr (less (λ secret f same. let one : Secret s ≡ Secret secret = sym is ∙ f in let two : s ≡ secret = cc in unequal_of s.number number e (ap (λ (x : SecretNo). x.number) two ∙ same)) none)
 
--- the first of two values, or the second
-abbrev choose : {A B X : Type 0} → A ⊎ B → X → X → X
-choose (inl a) x y = x
-choose (inr b) x y = y
+abbrev known_with : Rule → Option (List ℕ) → Known
+known_with rule bytes = record { rule = rule; bytes = bytes }
+
+-- a secret that is there is told by its number
+told_at : (ss : List Known) (n : ℕ) (k : Known) → slice_get ss n ≡ Some k → unwrap_or (bytes_at ss n) None ≡ k.bytes
+told_at ss n k at = ap (λ (o : Option Known). unwrap_or (option_map (λ (x : Known). x.bytes) o) None) at
 
 held_stills : (secrets : List Known) (objects : List Held) → map (λ (s : StillOf). s.held) (map (still secrets) objects) ≡ objects
 held_stills secrets [] = refl
@@ -81,7 +85,7 @@ module _ (m n : Meaning) (sound : IsSound m) (other : IsSound n) (same : stills 
   at_other : (place : ℕ) (h : Held) → slice_get m.objects place ≡ Some h → slice_get n.objects place ≡ Some h
   at_other place h at = let P : List Held → Type 0 = λ hs. slice_get hs place ≡ Some h in subst P same_objects at
 
-  same_known : (place : ℕ) (h : Held) → slice_get m.objects place ≡ Some h → known_bytes m.secrets h.material ≡ known_bytes n.secrets h.material
+  same_known : (place : ℕ) (h : Held) → slice_get m.objects place ≡ Some h → bytes_left m.secrets h.material ≡ bytes_left n.secrets h.material
   same_known place h at =
       let a : slice_get (stills m) place ≡ Some (still m.secrets h) = get_at (still m.secrets) m.objects place h at in
       let b : slice_get (stills n) place ≡ Some (still n.secrets h) = get_at (still n.secrets) n.objects place h (at_other place h at) in
@@ -90,40 +94,50 @@ module _ (m n : Meaning) (sound : IsSound m) (other : IsSound n) (same : stills 
       ap (λ (s : StillOf). s.bytes) f
 
   module _ (c : Choice) (chooses : Chooses n.secrets c) where
-    abbrev pick : ℕ → List ℕ
-    pick number = choose (bears m.objects number) (c number) (sound.choice.0 number)
+    -- the bytes of a secret that an object has are those of the other choice
+    record Picked (number : ℕ) : Type 0 where
+      bytes : List ℕ
+      borne : Bears m.objects number → bytes ≡ c number
+      free : (Bears m.objects number → ⊥) → bytes ≡ sound.choice.0 number
 
-    pick_suits : (number : ℕ) (secret : Known) → slice_get m.secrets number ≡ Some secret → (x : Bears m.objects number ⊎ (Bears m.objects number → ⊥))
-        → Suits secret (choose x (c number) (sound.choice.0 number))
-    pick_suits number secret at (inr none) = sound.choice.1.suits number secret at
-    pick_suits number secret at (inl b) =
+    picked : (number : ℕ) → Picked number
+    picked number = by (bears m.objects number)
+      where
+        by : Bears m.objects number ⊎ (Bears m.objects number → ⊥) → Picked number
+        by (inl b) = record { bytes = c number; borne = λ x. refl; free = λ none. absurd (none b) }
+        by (inr none) = record { bytes = sound.choice.0 number; borne = λ b. absurd (none b); free = λ x. refl }
+
+    borne_suits : (number : ℕ) (secret : Known) → slice_get m.secrets number ≡ Some secret → Bears m.objects number → Suits secret (c number)
+    borne_suits number secret at b =
         let mine = sound.in_range.there b.place b.bearer b.secret b.stands b.material in
         let its = other.in_range.there b.place b.bearer b.secret (at_other b.place b.bearer b.stands) b.material in
-        let K : List Known → Material → Option (List ℕ) = λ ss z. known_bytes ss z in
-        let e : known_or_none (bytes_at m.secrets b.secret.number) ≡ known_or_none (bytes_at n.secrets b.secret.number)
-            = ap (λ (z : Material). K m.secrets z) (sym b.material) ∙ same_known b.place b.bearer b.stands ∙ ap (λ (z : Material). K n.secrets z) b.material in
-        let known : mine.0 ≡ its.0 = ap (λ (o : Option Known). known_or_none (option_map (λ (k : Known). k.bytes) o)) (sym mine.1) ∙ e ∙ ap (λ (o : Option Known). known_or_none (option_map (λ (k : Known). k.bytes) o)) its.1 in
-        let P : ℕ → Type 0 = λ i. Suits (record { rule = rule_of b.bearer.card; bytes = its.0 }) (c i) in
-        let s = subst P b.is (chooses.suits b.secret.number (record { rule = rule_of b.bearer.card; bytes = its.0 }) its.1) in
-        let Q : Option (List ℕ) → Type 0 = λ o. Suits (record { rule = rule_of b.bearer.card; bytes = o }) (c number) in
-        let t = subst Q (sym known) s in
+        let e : unwrap_or (bytes_at m.secrets b.secret.number) None ≡ unwrap_or (bytes_at n.secrets b.secret.number) None
+            = ap (bytes_left m.secrets) (sym b.material) ∙ same_known b.place b.bearer b.stands ∙ ap (bytes_left n.secrets) b.material in
+        let known : mine.0 ≡ its.0 = sym (told_at m.secrets b.secret.number (record { rule = rule_of b.bearer.card; bytes = mine.0 }) mine.1) ∙ e ∙ told_at n.secrets b.secret.number (record { rule = rule_of b.bearer.card; bytes = its.0 }) its.1 in
+        let suits : Suits (record { rule = rule_of b.bearer.card; bytes = its.0 }) (c b.secret.number) = chooses.suits b.secret.number (record { rule = rule_of b.bearer.card; bytes = its.0 }) its.1 in
+        let Q : Option (List ℕ) → Type 0 = λ o. Suits (record { rule = rule_of b.bearer.card; bytes = o }) (c b.secret.number) in
         let R : ℕ → Type 0 = λ i. slice_get m.secrets i ≡ Some (record { rule = rule_of b.bearer.card; bytes = mine.0 }) in
-        let here = subst R b.is mine.1 in
-        let one : record { rule = rule_of b.bearer.card; bytes = mine.0 } ≡ secret = cc in
+        let here : slice_get m.secrets number ≡ Some (record { rule = rule_of b.bearer.card; bytes = mine.0 }) = subst R b.is mine.1 in
+        let some : Some (known_with (rule_of b.bearer.card) mine.0) ≡ Some secret = sym here ∙ at in
+        let one : known_with (rule_of b.bearer.card) mine.0 ≡ secret = cc in
+        let P : ℕ → Type 0 = λ i. Suits (known_with (rule_of b.bearer.card) mine.0) (c i) in
         let S : Known → Type 0 = λ k. Suits k (c number) in
-        subst S one t
+        subst S one (subst P b.is (subst Q (sym known) suits))
 
-    pick_agrees : (place : ℕ) (h : Held) (secret : SecretNo) → slice_get m.objects place ≡ Some h → h.material ≡ Secret secret
-        → (x : Bears m.objects secret.number ⊎ (Bears m.objects secret.number → ⊥)) → choose x (c secret.number) (sound.choice.0 secret.number) ≡ c secret.number
-    pick_agrees place h secret at material (inl b) = refl
-    pick_agrees place h secret at material (inr none) = absurd (none (record { place = place; bearer = h; secret = secret; stands = at; material = material; is = refl }))
+    picked_suits : (number : ℕ) (secret : Known) → slice_get m.secrets number ≡ Some secret → Suits secret (picked number).bytes
+    picked_suits number secret at = by (bears m.objects number)
+      where
+        by : Bears m.objects number ⊎ (Bears m.objects number → ⊥) → Suits secret (picked number).bytes
+        by (inl b) = let S : List ℕ → Type 0 = λ v. Suits secret v in subst S (sym ((picked number).borne b)) (borne_suits number secret at b)
+        by (inr none) = let S : List ℕ → Type 0 = λ v. Suits secret v in subst S (sym ((picked number).free none)) (sound.choice.1.suits number secret at)
 
     -- what one ledger stands for, the other does too
     pub stands_too : (d : Choice) × Chooses m.secrets d × (inv d m.objects ≡ inv c n.objects)
     stands_too = (
-      pick,
-      record { suits = λ number secret at. pick_suits number secret at (bears m.objects number) },
-      inv-agrees c pick m.objects (λ place h secret at material. pick_agrees place h secret at material (bears m.objects secret.number)) ∙ ap (inv c) same_objects,
+      (λ number. (picked number).bytes),
+      record { suits = picked_suits },
+      inv-agrees c (λ number. (picked number).bytes) m.objects
+      (λ place h secret at material. (picked secret.number).borne (record { place = place; bearer = h; secret = secret; stands = at; material = material; is = refl })) ∙ ap (inv c) same_objects,
     )
 
 -- ---- pairs

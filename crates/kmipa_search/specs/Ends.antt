@@ -1,12 +1,12 @@
 -- Dead ends that are remembered: which calls were taken, and what the ledger stood for. Not promised.
-use Rattle.std.specs.Prelude.{◌≡◌, ◌≢◌, ◌<◌, ◌⊎◌, ℕ, Vec, Bool, true, false, List, length, map, slice_index_or, AllPairs, Contains, Option, Some, None, option_map}
+use Rattle.std.specs.Prelude.{◌≡◌, ◌≢◌, ◌<◌, ◌⊎◌, ℕ, Vec, Bool, true, false, List, length, map, slice_index_or, AllPairs, Contains, Option, option_map}
 use Rattle.std.specs.declared.alloc.Global.{Global}
-use Rattle.kmipa_object.specs.declared.life.Material.{Material}
-use Rattle.kmipa_object.specs.declared.life.Material.TheVariants.{Gone, Secret}
-use Rattle.kmipa_store.specs.Ledger.{Held, Known, Meaning, LedgerState, bytes_at, held}
+use Rattle.kmipa_store.specs.Ledger.{Held, Known, Meaning, held}
 use Rattle.kmipa_store.specs.Choices.{IsSound}
 use Rattle.kmipa_record.specs.Declarations.{DeclarationOf}
+use Rattle.kmipa_record.specs.Entries.{items_of}
 use Rattle.kmipa_msgs.specs.Messages.{RulesOf}
+use Rattle.kmipa_check.specs.Left.{bytes_left}
 use Rattle.kmipa_check.specs.Steps.{StepOf}
 use Rattle.kmipa_check.specs.Verdicts.{AreKnown}
 use Rattle.kmipa_search.specs.Progress.{so_far, AreNext, IsDead, Opens}
@@ -24,16 +24,8 @@ pub record StillOf : Type 0 where
   pub held : Held
   pub bytes : Option (List ℕ)
 
-abbrev pub known_or_none : Option (Option (List ℕ)) → Option (List ℕ)
-known_or_none None = None
-known_or_none (Some bytes) = bytes
-
-abbrev pub known_bytes : List Known → Material → Option (List ℕ)
-known_bytes secrets Gone = None
-known_bytes secrets (Secret secret) = known_or_none (bytes_at secrets secret.number)
-
 abbrev pub still : List Known → Held → StillOf
-still secrets h = record { held = h; bytes = known_bytes secrets h.material }
+still secrets h = record { held = h; bytes = bytes_left secrets h.material }
 
 -- all objects of a ledger as they stand, in the order of arrival
 abbrev pub stills : Meaning → List StillOf
@@ -41,7 +33,7 @@ stills m = map (still m.secrets) m.objects
 
 -- what the program's copy of an object means
 abbrev pub still_of : Still → StillOf
-still_of s = record { held = held s.object; bytes = option_map (λ (v : Vec ℕ Global). v.items) s.bytes }
+still_of s = record { held = held s.object; bytes = option_map items_of s.bytes }
 
 -- WHICH CALLS ARE TAKEN
 

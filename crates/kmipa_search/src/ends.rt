@@ -1,9 +1,10 @@
 //! Dead ends that are remembered.
 
-use crate::stills::{Still, copy_all, known_at, stand_so};
+use crate::stills::{Still, copy_all, known_of, stand_so};
 use crate::taken::{CallSet, TakenCalls};
 use crate::tried::Tried;
 use kmipa_attrs::Name;
+use kmipa_object::Object;
 use kmipa_store::Ledger;
 use std::alloc::{AllocError, Global};
 
@@ -20,7 +21,7 @@ const OBJECT_BYTES: usize = 512;
 const NAME_BYTES: usize = 64;
 
 /// How many chains of ends there are.
-const CHAINS: usize = 1 << 16;
+const CHAINS: usize = 1 << 18;
 
 /// A dead end: the calls that were taken, and the objects as they stood. No run begins with these calls from such a ledger, in whatever order
 /// they were taken.
@@ -28,11 +29,12 @@ const CHAINS: usize = 1 << 16;
 pub struct End {
     pub set: CallSet,
     pub objects: Vec<Still>,
+    hash: u64,
     /// One more than the number of the end before it in its chain, or 0.
     older: usize,
 }
 
-/// Dead ends, in chains by a hash of their calls. A chain only says which ends are looked at: what is equal is compared in full.
+/// Dead ends, in chains by a hash of their calls. It only says which ends are looked at: what is equal is compared in full.
 #[derive(Drop)]
 pub struct Ends {
     ends: Vec<End>,
@@ -73,17 +75,13 @@ impl Ends {
         if !late {
             return Ok(Tried::none());
         }
-        if self.ends.is_empty() {
-            return Ok(Tried::none());
-        }
-        let set = taken.set(alloc, count)?;
-        if self.has(ledger, &set) {
+        if self.has(alloc, ledger, taken, count)? {
             return Ok(Tried::all());
         }
         Ok(Tried::none())
     }
 
-    /// These calls, which are so many, lead to no run: it is noted, if it is late and there is room.
+    /// These calls, which are so many, lead to no run: it is noted, if it is late, not known yet, and there is room.
     pub fn note<L: Ledger>(
         &mut self,
         alloc: Global,
@@ -99,31 +97,61 @@ impl Ends {
         if !late {
             return Ok(());
         }
-        if self.ends.len() >= MOST {
+        if self.has(alloc, ledger, taken, count)? {
             return Ok(());
         }
         let set = taken.set(alloc, count)?;
-        let bytes = self.bytes.saturating_add(cost(ledger, &set));
-        if bytes > MOST_BYTES {
-            return Ok(());
-        }
-        if self.has(ledger, &set) {
-            return Ok(());
-        }
-        self.bytes = bytes;
-        let objects = copy_all(alloc, ledger)?;
-        self.add(alloc, set, objects)
+        self.keep(alloc, ledger, set, taken.hash())
     }
 
     /// Whether an end of these calls is known, over a ledger whose objects stand as they do here.
-    fn has<L: Ledger>(&self, ledger: &L, set: &CallSet) -> bool
+    fn has<L: Ledger>(
+        &self,
+        alloc: Global,
+        ledger: &L,
+        taken: &TakenCalls,
+        count: usize,
+    ) -> Result<bool, AllocError>
         requires { IsSound (L.state ledger.now).now }
-        ensures { (places : List ℕ) → IsSetOf places set.now → result ≡ true → HasEnd self.now.ends.items places (L.state ledger.now).now }
+        ensures { (all : ℕ) (places : List ℕ) → AreFlagged all places taken.now → length places ≡ count
+            → IfOk result (λ known. known ≡ true → HasEnd self.now.ends.items places (L.state ledger.now).now) }
     {
-        let mut number = match self.newest.get(chain_of(set)) {
+        let number = self.alike(taken.hash());
+        if number == 0 {
+            return Ok(false);
+        }
+        let set = taken.set(alloc, count)?;
+        Ok(self.has_from(ledger, &set, number))
+    }
+
+    /// The number of the newest end of this hash, and one more; or 0, where there is none.
+    fn alike(&self, hash: u64) -> usize {
+        let mut number = match self.newest.get(chain_of(hash)) {
             Some(number) => *number,
             None => 0,
         };
+        'chain: while number > 0 {
+            if number > self.ends.len() {
+                return 0;
+            }
+            let end = &self.ends[number - 1];
+            if end.hash == hash {
+                return number;
+            }
+            if end.older >= number {
+                return 0;
+            }
+            number = end.older;
+        }
+        0
+    }
+
+    /// Whether an end of these calls is in a chain from a number on, over a ledger whose objects stand as they do here.
+    fn has_from<L: Ledger>(&self, ledger: &L, set: &CallSet, newest: usize) -> bool
+        requires { IsSound (L.state ledger.now).now }
+        ensures { (places : List ℕ) → IsSetOf places set.now → result ≡ true → HasEnd self.now.ends.items places (L.state ledger.now).now }
+    {
+        let mut number = newest;
         'chain: while number > 0 {
             if number > self.ends.len() {
                 return false;
@@ -140,19 +168,45 @@ impl Ends {
         false
     }
 
+    /// An end of these calls is noted, if there is room. Where there was none once, none is looked for again.
+    fn keep<L: Ledger>(
+        &mut self,
+        alloc: Global,
+        ledger: &L,
+        set: CallSet,
+        hash: u64,
+    ) -> Result<(), AllocError>
+        requires { IsSound (L.state ledger.now).now }
+        ensures { (places : List ℕ) → IsSetOf places set → IsNoted self.old.ends.items places (L.state ledger.now).now self.new.ends.items }
+    {
+        if self.ends.len() >= MOST {
+            return Ok(());
+        }
+        if self.bytes > MOST_BYTES {
+            return Ok(());
+        }
+        self.bytes = self.bytes.saturating_add(cost(ledger, &set));
+        if self.bytes > MOST_BYTES {
+            return Ok(());
+        }
+        let objects = copy_all(alloc, ledger)?;
+        self.add(alloc, set, objects, hash)
+    }
+
     /// Adds an end to its chain.
     fn add(
         &mut self,
         alloc: Global,
         set: CallSet,
         objects: Vec<Still>,
+        hash: u64,
     ) -> Result<(), AllocError>
         ensures { IsAdded self.old.ends.items set objects self.new.ends.items }
     {
         if self.newest.is_empty() {
             self.newest = Vec::from_elem(alloc, 0, CHAINS)?;
         }
-        let chain = chain_of(&set);
+        let chain = chain_of(hash);
         let older = match self.newest.get(chain) {
             Some(number) => *number,
             None => 0,
@@ -160,18 +214,27 @@ impl Ends {
         self.ends.push(End {
             set,
             objects,
+            hash,
             older,
         })?;
-        if chain < self.newest.len() {
-            self.newest[chain] = self.ends.len();
-        }
+        let number = self.ends.len();
+        point(&mut self.newest, chain, number);
         Ok(())
     }
 }
 
 ghost use Rattle.std.specs.Prelude.{◌≡◌, ◌<◌, ℕ, List, true, length};
+ghost use Rattle.kmipa_object.specs.declared.life.SecretNo.{SecretNo};
+ghost use Rattle.kmipa_object.specs.declared.life.Material.TheVariants.{Secret};
 ghost use Rattle.kmipa_store.specs.Choices.{IsSound};
 ghost use Rattle.kmipa_search.specs.Ends.{IsEndAt, IsSameSet, IsSetOf};
+
+/// Writes the number of a chain's newest end, if there is such a chain.
+fn point(newest: &mut Vec<usize>, chain: usize, number: usize) {
+    if chain < newest.len() {
+        newest[chain] = number;
+    }
+}
 
 /// Whether an end is that of these calls, over a ledger whose objects stand as they do here.
 fn is_end<L: Ledger>(ledger: &L, end: &End, set: &CallSet) -> bool
@@ -185,20 +248,18 @@ fn is_end<L: Ledger>(ledger: &L, end: &End, set: &CallSet) -> bool
 fn is_same_set(one: &CallSet, other: &CallSet) -> bool
     ensures { result ≡ true → IsSameSet one.now other.now }
 {
-    one.count == other.count && one.low == other.low && one.rest.as_slice() == other.rest.as_slice()
-}
-
-/// The chain of a set: a hash of it.
-fn chain_of(set: &CallSet) -> usize {
-    let mut hash = mixed(set.count as u64, set.low as u64);
-    'calls: for place in &set.rest {
-        hash = mixed(hash, *place as u64);
+    if one.count != other.count {
+        return false;
     }
-    (hash >> 40) as usize % CHAINS
+    if one.low != other.low {
+        return false;
+    }
+    one.rest.as_slice() == other.rest.as_slice()
 }
 
-fn mixed(hash: u64, number: u64) -> u64 {
-    (hash ^ number).wrapping_mul(0x9E37_79B9_7F4A_7C15).rotate_left(29)
+/// The chain of a hash.
+fn chain_of(hash: u64) -> usize {
+    (hash >> 32) as usize % CHAINS
 }
 
 /// More bytes than an end of this set over this ledger takes.
@@ -208,19 +269,18 @@ fn cost<L: Ledger>(ledger: &L, set: &CallSet) -> usize
     let mut bytes = set.rest.len().saturating_mul(8).saturating_add(END_BYTES);
     let mut place = 0;
     'objects: while place < ledger.len() {
-        bytes = bytes.saturating_add(cost_at(ledger, place));
+        let object = ledger.at(place);
+        bytes = bytes.saturating_add(cost_of(ledger, object));
         place += 1;
     }
     bytes
 }
 
 /// More bytes than the copy of an object takes.
-fn cost_at<L: Ledger>(ledger: &L, place: usize) -> usize
-    requires sound { IsSound (L.state ledger.now).now }
-    requires there { place < length (L.state ledger.now).now.objects }
+fn cost_of<L: Ledger>(ledger: &L, object: &Object) -> usize
+    requires { (secret : SecretNo) → object.now.life.material ≡ Secret secret → secret.number < length (L.state ledger.now).now.secrets }
 {
-    let object = ledger.at(place);
-    let known = match known_at(ledger, place) {
+    let known = match known_of(ledger, object.life.material) {
         Some(bytes) => bytes.len(),
         None => 0,
     };
