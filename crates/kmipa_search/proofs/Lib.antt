@@ -25,3 +25,4 @@ pub mod EndLemmas
 pub mod StillLemmas
 pub mod RememberLemmas
 pub mod TakenLemmas
+pub mod NotedLemmas

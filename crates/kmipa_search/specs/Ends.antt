@@ -9,7 +9,7 @@ use Rattle.kmipa_msgs.specs.Messages.{RulesOf}
 use Rattle.kmipa_check.specs.Left.{bytes_left}
 use Rattle.kmipa_check.specs.Steps.{StepOf}
 use Rattle.kmipa_check.specs.Verdicts.{AreKnown}
-use Rattle.kmipa_search.specs.Progress.{so_far, AreNext, IsDead, Opens}
+use Rattle.kmipa_search.specs.Progress.{so_far, AreBegun, AreNext, IsDead, Opens}
 use Rattle.kmipa_search.specs.Tries.{none_tried, all_tried}
 use Rattle.kmipa_search.specs.declared.tried.Tried.{Tried}
 use Rattle.kmipa_search.specs.declared.taken.TakenCalls.{TakenCalls}
@@ -107,7 +107,7 @@ EqualIsEqual =
     → AreKnown declared (so_far calls taken) m → IsSound m → AreKnown declared (so_far calls others) n → IsSound n → stills m ≡ stills n
     → IsDead declared calls taken → IsDead declared calls others
 
--- what a search remembers: the calls taken are marked, and each end leads to no run
+-- what a search remembers: the calls taken are marked, where these begin in their order, and each end leads to no run
 pub record Remembers (rules : RulesOf) (calls : List StepOf) (first : Meaning) (taken : List ℕ) (f : TakenCalls) (ends : List End) : Type 0 where
-  pub flagged : AreFlagged (length calls) taken f
+  pub flagged : AreBegun calls → AreFlagged (length calls) taken f
   pub dead : (declared : DeclarationOf) → Opens declared rules calls first → AreDeadEnds declared calls ends

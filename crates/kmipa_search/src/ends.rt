@@ -101,7 +101,7 @@ impl Ends {
             return Ok(());
         }
         let set = taken.set(alloc, count)?;
-        self.keep(alloc, ledger, set, taken.hash())
+        self.keep(alloc, ledger, set, taken.hash)
     }
 
     /// Whether an end of these calls is known, over a ledger whose objects stand as they do here.
@@ -116,7 +116,7 @@ impl Ends {
         ensures { (all : ℕ) (places : List ℕ) → AreFlagged all places taken.now → length places ≡ count
             → IfOk result (λ known. known ≡ true → HasEnd self.now.ends.items places (L.state ledger.now).now) }
     {
-        let number = self.alike(taken.hash());
+        let number = self.alike(taken.hash);
         if number == 0 {
             return Ok(false);
         }
@@ -126,10 +126,7 @@ impl Ends {
 
     /// The number of the newest end of this hash, and one more; or 0, where there is none.
     fn alike(&self, hash: u64) -> usize {
-        let mut number = match self.newest.get(chain_of(hash)) {
-            Some(number) => *number,
-            None => 0,
-        };
+        let mut number = newest_of(&self.newest, chain_of(hash));
         'chain: while number > 0 {
             if number > self.ends.len() {
                 return 0;
@@ -203,14 +200,9 @@ impl Ends {
     ) -> Result<(), AllocError>
         ensures { IsAdded self.old.ends.items set objects self.new.ends.items }
     {
-        if self.newest.is_empty() {
-            self.newest = Vec::from_elem(alloc, 0, CHAINS)?;
-        }
+        open_chains(alloc, &mut self.newest)?;
         let chain = chain_of(hash);
-        let older = match self.newest.get(chain) {
-            Some(number) => *number,
-            None => 0,
-        };
+        let older = newest_of(&self.newest, chain);
         self.ends.push(End {
             set,
             objects,
@@ -228,6 +220,22 @@ ghost use Rattle.kmipa_object.specs.declared.life.SecretNo.{SecretNo};
 ghost use Rattle.kmipa_object.specs.declared.life.Material.TheVariants.{Secret};
 ghost use Rattle.kmipa_store.specs.Choices.{IsSound};
 ghost use Rattle.kmipa_search.specs.Ends.{IsEndAt, IsSameSet, IsSetOf};
+
+/// All chains, empty; unless they are there.
+fn open_chains(alloc: Global, newest: &mut Vec<usize>) -> Result<(), AllocError> {
+    if newest.is_empty() {
+        *newest = Vec::from_elem(alloc, 0, CHAINS)?;
+    }
+    Ok(())
+}
+
+/// One more than the number of a chain's newest end, or 0.
+fn newest_of(newest: &[usize], chain: usize) -> usize {
+    match newest.get(chain) {
+        Some(number) => *number,
+        None => 0,
+    }
+}
 
 /// Writes the number of a chain's newest end, if there is such a chain.
 fn point(newest: &mut Vec<usize>, chain: usize, number: usize) {

@@ -8,7 +8,8 @@ pub struct TakenCalls {
     flags: Vec<bool>,
     low: usize,
     high: usize,
-    hash: u64,
+    /// A hash of them, which may be that of other calls too.
+    pub hash: u64,
 }
 
 /// A set of calls: so many, all ahead of a place, and of the others these.
@@ -54,11 +55,6 @@ impl TakenCalls {
         self.low = lower(self.low, place);
         self.high = last_taken(&self.flags, self.high);
         self.hash = turned(self.hash, place);
-    }
-
-    /// A hash of them: of two different sets it may be the same.
-    pub fn hash(&self) -> u64 {
-        self.hash
     }
 
     /// The set of them, which are so many.
