@@ -82,7 +82,7 @@ module _ (rules : RulesOf) (calls : List StepOf) (first : Meaning) where
             let P : Tried → Type 0 = λ x. Searching declared calls wishes visits x steps u.now u.marks in
             let s = g.searching declared o in
             let k = knows_now declared calls (places visits) u.now u.marks s.knows in
-            subst P (sym h.0) (searching_closed declared visits steps u o s (r.dead declared o h.1 h.2 (places visits) u.now s.nexts k.0 k.1 h.3))
+            subst P (sym h.0) (searching_closed declared visits steps u o s (r.dead declared o h.1.0 h.1.1 (places visits) u.now s.nexts k.0 k.1 h.1.2))
 
         cursor : IsArrival ends (places visits) u.now t → IsCursor calls (places visits) t.from
         cursor (inl is) = inl (ap (λ (z : Tried). z.from) is)

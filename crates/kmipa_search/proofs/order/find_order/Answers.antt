@@ -81,15 +81,14 @@ tries-preserved-in-Some-2 g c =
     (let few = c.tries.invariant.progress.few in let differ = c.if-steps-budget.false in omega (arith, few, differ))
     (subst Q c.in-Some-2.is c.in_ok-mark-in-Some.ensures)
     (λ b. c.take.ensures (places visits) (c.tries.invariant.progress.remaining b) (f b).next) in
-    let F = c.take-2.new.self in
+    let F = c.take-in-Some-2.new.self in
     let E = c.tries.ends.ends.items in
     let memory : Remembers rules calls first (places (visit ∷ visits)) F E =
     remembers_taken rules calls first (places visits) place c.tries.taken F E c.tries.invariant.memory
-    (λ b. c.take-2.ensures (length calls) (places visits) (c.tries.invariant.memory.flagged b) (omega (arith, c.in-Some.ensures.within, length-map c.args.calls.now candidate_step))) in
-    let count : length c.push.new.self.items ≡ vec_len c.push.new.self = search rules in
+    (λ b. c.take-in-Some-2.ensures (length calls) (places visits) (c.tries.invariant.memory.flagged b) (omega (arith, c.in-Some.ensures.within, length-map c.args.calls.now candidate_step))) in
     let longer : reverse c.push.new.self.items ≡ visit ∷ visits = popped c.push.new.self.items c.tries.path.items visit c.in_ok-push-in-Some-2.ensures.items in
-    let long : length (places (visit ∷ visits)) ≡ c.len-2.result =
-    length-map (visit ∷ visits) (λ (x : Visit). x.place) ∙ ap length (sym longer) ∙ length-reverse c.push.new.self.items ∙ count ∙ sym c.len-2.ensures in
+    let long : length (places (visit ∷ visits)) ≡ c.len-in-Some-2.result =
+    length-map (visit ∷ visits) (λ (x : Visit). x.place) ∙ ap length (sym longer) ∙ length-reverse c.push.new.self.items ∙ sym c.push.new.self.ok.0 ∙ sym c.len-in-Some-2.ensures in
     let P : List Visit → Type 0 = λ xs. Progress rules calls W.rank.items c.args.budget first c.take.new.self xs c.in_ok-tried-in-Some-2.field-0 c.in-Some-2.mark (c.tries.steps + 1) v in
     let M : List Visit → Type 0 = λ xs. Remembers rules calls first (places xs) F E in
     record {
@@ -154,8 +153,7 @@ tries-preserved g c =
     let m = subst M is c.tries.invariant.memory in
     let none : AreBegun calls → IsPicked calls (places (visit ∷ visits)) W.rank.items c.tries.tried None = λ b. c.in-None.ensures.picked (places (visit ∷ visits)) b (t.remaining b) (t.cursor b) wishes in
     let few : suc (length visits) < length calls = omega (arith, c.tries-test.true, c.len.ensures, length-reverse c.tries.path.items, ap length is, length-map c.args.calls.now candidate_step) in
-    let count : length c.pop.new.self.items ≡ vec_len c.pop.new.self = search rules in
-    let long : length (places (visit ∷ visits)) ≡ c.len-2.result + 1 = omega (arith, length-map (visit ∷ visits) (λ (x : Visit). x.place), length-reverse c.pop.new.self.items, count, c.len-2.ensures) in
+    let long : length (places (visit ∷ visits)) ≡ c.len-in-None.result + 1 = omega (arith, length-map (visit ∷ visits) (λ (x : Visit). x.place), length-reverse c.pop.new.self.items, c.pop.new.self.ok.0, c.len-in-None.ensures) in
     record {
       progress =
           progress_back rules calls W.rank.items ranks c.args.budget first c.tries.remaining c.give_back.new.self visit visits c.tries.tried c.behind-tried.result c.tries.depth c.tries.steps
@@ -163,9 +161,9 @@ tries-preserved g c =
           (λ b. c.give_back.ensures.remaining (places visits) (t.remaining b))
           c.behind-tried.ensures;
       memory =
-          remembers_back rules calls first W.rank.items c.args.budget c.tries.remaining visit visits c.tries.tried c.tries.depth c.tries.steps u c.tries.taken c.give_back-2.new.self c.tries.ends.ends.items c.note.new.self.ends.items
+          remembers_back rules calls first W.rank.items c.args.budget c.tries.remaining visit visits c.tries.tried c.tries.depth c.tries.steps u c.tries.taken c.give_back-in-None.new.self c.tries.ends.ends.items c.note.new.self.ends.items
           t none few m (λ b. c.note.ensures (length calls) (places (visit ∷ visits)) (m.flagged b) long)
-          (λ b. c.give_back-2.ensures (length calls) (places visits) (m.flagged b) (c.give_back.ensures.cursor (places visits) (t.remaining b)).left);
+          (λ b. c.give_back-in-None.ensures (length calls) (places visits) (m.flagged b) (c.give_back.ensures.cursor (places visits) (t.remaining b)).left);
     }
 
 pub returns-clause-tells : goal.returns-clause-tells
