@@ -89,12 +89,12 @@ tries-preserved-in-Some-2 g c =
     let longer : reverse c.push.new.self.items ≡ visit ∷ visits = popped c.push.new.self.items c.tries.path.items visit c.in_ok-push-in-Some-2.ensures.items in
     let long : length (places (visit ∷ visits)) ≡ c.len-in-Some-2.result =
     length-map (visit ∷ visits) (λ (x : Visit). x.place) ∙ ap length (sym longer) ∙ length-reverse c.push.new.self.items ∙ sym c.push.new.self.ok.0 ∙ sym c.len-in-Some-2.ensures in
-    let P : List Visit → Type 0 = λ xs. Progress rules calls W.rank.items c.args.budget first c.take.new.self xs c.in_ok-tried-in-Some-2.field-0 c.in-Some-2.mark (c.tries.steps + 1) v in
+    let P : List Visit → Type 0 = λ xs. Progress rules calls W.rank.items c.args.budget first c.take.new.self xs c.in_ok-tried-in-Some-2.tried c.in-Some-2.mark (c.tries.steps + 1) v in
     let M : List Visit → Type 0 = λ xs. Remembers rules calls first (places xs) F E in
     record {
       progress =
           subst P (sym longer)
-          (progress_arrived rules calls first W.rank.items c.args.budget c.take.new.self (visit ∷ visits) c.in_ok-tried-in-Some-2.field-0 c.in-Some-2.mark (c.tries.steps + 1) v F E taken memory
+          (progress_arrived rules calls first W.rank.items c.args.budget c.take.new.self (visit ∷ visits) c.in_ok-tried-in-Some-2.tried c.in-Some-2.mark (c.tries.steps + 1) v F E taken memory
           (λ b. c.in_ok-tried-in-Some-2.ensures (length calls) (places (visit ∷ visits)) (memory.flagged b) long));
       memory = subst M (sym longer) memory;
     }
