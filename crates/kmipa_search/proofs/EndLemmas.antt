@@ -1,6 +1,6 @@
 -- Equal is equal, and what a search remembers.
-use Rattle.std.proofs.Common.{◌≡◌, ◌≢◌, ◌<◌, ◌≤◌, ◌⊎◌, inl, inr, ◌==◌, ℕ, zero, suc, ◌≤ℤ◌, ◌+◌, Bool, true, false, List, [], ◌∷◌, ◌++◌, map, length, Option, Some, None, slice_get, Contains, refl, sym, ap, ◌∙◌, subst, arith, rules}
-use Rattle.std.specs.Prelude.{AllPairs, IsPermutation, option_map, unwrap_or}
+use Rattle.std.proofs.Common.{◌≡◌, ◌≢◌, ◌⊎◌, inl, inr, ◌==◌, ℕ, zero, suc, ◌≤ℤ◌, Bool, true, false, List, [], ◌∷◌, ◌++◌, map, Option, Some, None, slice_get, Contains, refl, sym, ap, ◌∙◌, subst, arith, rules}
+use Rattle.std.specs.Prelude.{AllPairs, option_map, unwrap_or}
 use Rattle.std.proofs.lemmas.List.{length-append}
 use Rattle.std.proofs.lemmas.List.Elements.{Contains-append_cases, Contains-append_left, Contains-append_right}
 use Rattle.std.proofs.lemmas.List.Sorted.{Contains-permutation, length_permutation}
@@ -12,15 +12,12 @@ use Rattle.kmipa_object.specs.declared.rule.Rule.{Rule}
 use Rattle.kmipa_store.specs.Ledger.{Held, Known, Meaning, bytes_at}
 use Rattle.kmipa_store.specs.Choices.{Choice, Chooses, Suits, IsSound, inv}
 use Rattle.kmipa_store.proofs.InventoryLemmas.{inv-agrees}
-use Rattle.kmipa_record.specs.Declarations.{DeclarationOf}
 use Rattle.kmipa_check.specs.Steps.{StepOf}
-use Rattle.kmipa_check.specs.Described.{Describes}
 use Rattle.kmipa_check.specs.Left.{bytes_left}
-use Rattle.kmipa_check.specs.Runs.{Before, IsPlaced, Linked, rules_declared}
-use Rattle.kmipa_check.specs.Verdicts.{AreKnown}
+use Rattle.kmipa_check.specs.Runs.{Before, Linked, rules_declared}
 use Rattle.kmipa_check.proofs.RunLemmas.{linked_join, linked_split}
-use Rattle.kmipa_search.specs.Progress.{so_far, TakesAll, IsDead, AreNext}
-use Rattle.kmipa_search.specs.Ends.{StillOf, still, stills, AreSame, EqualIsEqual}
+use Rattle.kmipa_search.specs.Progress.{so_far, TakesAll}
+use Rattle.kmipa_search.specs.Ends.{StillOf, still, stills, EqualIsEqual}
 use Rattle.kmipa_search.proofs.ElementLemmas.{get_at}
 use Rattle.kmipa_search.proofs.PermutationLemmas.{once_pairs, permuted}
 use Rattle.kmipa_search.proofs.PlaceLemmas.{one_cases, has_head}
@@ -112,7 +109,7 @@ module _ (m n : Meaning) (sound : IsSound m) (other : IsSound n) (same : stills 
         let mine = sound.in_range.there b.place b.bearer b.secret b.stands b.material in
         let its = other.in_range.there b.place b.bearer b.secret (at_other b.place b.bearer b.stands) b.material in
         let e : unwrap_or (bytes_at m.secrets b.secret.number) None ≡ unwrap_or (bytes_at n.secrets b.secret.number) None
-            = ap (bytes_left m.secrets) (sym b.material) ∙ same_known b.place b.bearer b.stands ∙ ap (bytes_left n.secrets) b.material in
+        = ap (bytes_left m.secrets) (sym b.material) ∙ same_known b.place b.bearer b.stands ∙ ap (bytes_left n.secrets) b.material in
         let known : mine.0 ≡ its.0 = sym (told_at m.secrets b.secret.number (record { rule = rule_of b.bearer.card; bytes = mine.0 }) mine.1) ∙ e ∙ told_at n.secrets b.secret.number (record { rule = rule_of b.bearer.card; bytes = its.0 }) its.1 in
         let suits : Suits (record { rule = rule_of b.bearer.card; bytes = its.0 }) (c b.secret.number) = chooses.suits b.secret.number (record { rule = rule_of b.bearer.card; bytes = its.0 }) its.1 in
         let Q : Option (List ℕ) → Type 0 = λ o. Suits (record { rule = rule_of b.bearer.card; bytes = o }) (c b.secret.number) in
@@ -137,7 +134,7 @@ module _ (m n : Meaning) (sound : IsSound m) (other : IsSound n) (same : stills 
       (λ number. (picked number).bytes),
       record { suits = picked_suits },
       inv-agrees c (λ number. (picked number).bytes) m.objects
-      (λ place h secret at material. (picked secret.number).borne (record { place = place; bearer = h; secret = secret; stands = at; material = material; is = refl })) ∙ ap (inv c) same_objects,
+          (λ place h secret at material. (picked secret.number).borne (record { place = place; bearer = h; secret = secret; stands = at; material = material; is = refl })) ∙ ap (inv c) same_objects,
     )
 
 -- ---- pairs
@@ -185,8 +182,15 @@ equal_is_equal declared calls taken others m n apart nexts other_nexts same know
       once =
           permuted calls (so_far calls taken ++ rest) (once_pairs calls apart)
           (λ y has. to_taken y (Contains-permutation calls (so_far calls others ++ rest) y r.once has))
-          (omega (arith, length_permutation calls (so_far calls others ++ rest) r.once, length-append (so_far calls others) rest, length-append (so_far calls taken) rest,
-          length_so_far calls taken, length_so_far calls others, same.long));
+          (omega (
+            arith,
+            length_permutation calls (so_far calls others ++ rest) r.once,
+            length-append (so_far calls others) rest,
+            length-append (so_far calls taken) rest,
+            length_so_far calls taken,
+            length_so_far calls others,
+            same.long,
+          ));
       placed = record {
         kept = pairs_other (λ (x y : StepOf). ¬ (Before y x)) rest (so_far calls others) (so_far calls taken) r.placed.kept before.kept to_others;
         stamped = pairs_other (λ (x y : StepOf). x.response.stamp ≤ℤ y.response.stamp) rest (so_far calls others) (so_far calls taken) r.placed.stamped before.stamped to_others;

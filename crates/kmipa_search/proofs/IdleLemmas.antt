@@ -1,5 +1,5 @@
 -- Calls without effect can come first.
-use Rattle.std.proofs.Common.{◌≡◌, ◌≤◌, ◌<◌, ◌⊎◌, inl, inr, ℕ, zero, suc, ℤ, ◌≤ℤ◌, ◌+◌, ◌-◌, Bool, true, false, List, [], ◌∷◌, ◌++◌, map, length, take, drop, Option, Some, None, IfSome, MatchOption, slice_get, get_or, Contains, refl, sym, ap, ◌∙◌, subst, arith}
+use Rattle.std.proofs.Common.{◌≡◌, ◌≤◌, ◌<◌, inl, inr, ℕ, zero, suc, ℤ, ◌≤ℤ◌, ◌-◌, Bool, true, false, List, [], ◌∷◌, ◌++◌, length, take, drop, Option, Some, None, IfSome, MatchOption, slice_get, get_or, Contains, refl, sym, ap, ◌∙◌, subst, arith}
 use Rattle.std.specs.Prelude.{AllPairs, IsPermutation}
 use Rattle.std.specs.List.{zip}
 use Rattle.std.proofs.lemmas.List.{length-append, append_assoc}
@@ -19,9 +19,9 @@ use Rattle.kmipa_ops.specs.Locate.{Lists, locate_deed, names_only}
 use Rattle.kmipa_ops.specs.GetAttributes.{GetsAttributes, IsOwnAt, HasRequired, get_attributes_deed}
 use Rattle.kmipa_ops.specs.Objects.{HasObject}
 use Rattle.kmipa_object.specs.Inventory.{place_of}
-use Rattle.kmipa_ops.specs.Does.{Succeeds, Fails, Outcome, Does}
+use Rattle.kmipa_ops.specs.Does.{Succeeds, Outcome, Does}
 use Rattle.kmipa_ops.specs.Chains.{Chain}
-use Rattle.kmipa_batch.specs.Calls.{pairs_of, Leaves, goes_back, goes_on, Batch, CallAlong, CompletesAnswers, CallSomeAlong}
+use Rattle.kmipa_batch.specs.Calls.{pairs_of, Leaves, goes_back, goes_on, CallAlong, CompletesAnswers, CallSomeAlong}
 use Rattle.kmipa_batch.specs.Refusals.{CallExplainsAlong}
 use Rattle.kmipa_check.specs.Steps.{StepOf, order_of}
 use Rattle.kmipa_check.specs.Described.{Describes}

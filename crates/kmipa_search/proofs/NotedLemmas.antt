@@ -1,9 +1,9 @@
 -- Ends, as they are noted and found.
-use Rattle.std.proofs.Common.{◌≡◌, ◌<◌, ◌⊎◌, inl, inr, ℕ, List, [], ◌∷◌, ◌++◌, map, length, get_or, Contains, Vec, sym, ap, ◌∙◌, subst, arith}
+use Rattle.std.proofs.Common.{◌≡◌, ◌<◌, ◌⊎◌, inl, inr, ℕ, List, [], ◌∷◌, ◌++◌, map, Contains, Vec, sym, ap, ◌∙◌, subst, arith}
 use Rattle.std.specs.declared.alloc.Global.{Global}
 use Rattle.std.proofs.lemmas.List.Elements.{Contains-append_cases}
 use Rattle.kmipa_store.specs.Ledger.{Meaning}
-use Rattle.kmipa_search.specs.Ends.{still_of, stills, IsSetOf, IsSameSet, IsEndAt, IsAdded, IsNoted, HasEnd}
+use Rattle.kmipa_search.specs.Ends.{still_of, stills, IsSetOf, IsSameSet, IsEndAt, IsAdded, IsNoted}
 use Rattle.kmipa_search.specs.declared.ends.End.{End}
 use Rattle.kmipa_search.specs.declared.stills.Still.{Still}
 use Rattle.kmipa_search.specs.declared.taken.CallSet.{CallSet}
@@ -45,6 +45,6 @@ pub noted : (old new : List End) (set : CallSet) (objects : Vec Still Global) (p
 noted old new set objects places m added s is e has = elim (added e has) as (λ q. Contains old e ⊎ IsEndAt places m e) [
   | inl o ↦ inl o
   | inr h ↦
-    let P : CallSet → Type 0 = λ k. IsSetOf places k in
-    inr (record { set = subst P (sym h.0) s; stands = ap (λ (v : Vec Still Global). map still_of v.items) h.1 ∙ is })
+      let P : CallSet → Type 0 = λ k. IsSetOf places k in
+      inr (record { set = subst P (sym h.0) s; stands = ap (λ (v : Vec Still Global). map still_of v.items) h.1 ∙ is })
 ]

@@ -1,7 +1,6 @@
 -- What a search remembers, event by event.
-use Rattle.std.proofs.Common.{◌≡◌, ◌<◌, ◌⊎◌, inl, inr, ℕ, suc, List, [], ◌∷◌, length, None, Contains, refl, sym, ap, ◌∙◌, subst, arith}
+use Rattle.std.proofs.Common.{◌≡◌, ◌<◌, inl, inr, ℕ, suc, List, [], ◌∷◌, length, None, Contains, refl, sym, ap, ◌∙◌, subst, arith}
 use Rattle.kmipa_store.specs.Ledger.{Meaning, LedgerState}
-use Rattle.kmipa_store.specs.Choices.{IsSound}
 use Rattle.kmipa_record.specs.Declarations.{DeclarationOf}
 use Rattle.kmipa_msgs.specs.Messages.{RulesOf}
 use Rattle.kmipa_check.specs.Steps.{StepOf}

@@ -1,5 +1,5 @@
 -- A search, event by event.
-use Rattle.std.proofs.Common.{◌≡◌, ◌<◌, ◌≤◌, ◌⊎◌, inl, inr, ℕ, suc, ◌+◌, ◌-◌, true, List, [], ◌∷◌, ◌++◌, length, Some, None, refl, sym, ap, subst, arith}
+use Rattle.std.proofs.Common.{◌≡◌, ◌<◌, ◌≤◌, inl, inr, ℕ, suc, ◌+◌, ◌-◌, true, List, [], ◌∷◌, ◌++◌, length, None, refl, sym, ap, subst, arith}
 use Rattle.std.specs.Prelude.{AllPairs, Bool}
 use Rattle.std.proofs.lemmas.Option.{slice_get_within}
 use Rattle.std.proofs.lemmas.List.{length-map}
@@ -14,8 +14,8 @@ use Rattle.kmipa_check.specs.Runs.{rules_declared}
 use Rattle.kmipa_check.specs.Laws.{TakenIsKnown, RefusedIsNever}
 use Rattle.kmipa_check.specs.Verdicts.{AreKnown}
 use Rattle.kmipa_search.proofs.PermutationLemmas.{once_pairs}
-use Rattle.kmipa_search.specs.Next.{IsNext, weigh, weight}
-use Rattle.kmipa_search.specs.Tries.{IsTried, closed, ahead, wished, IsPick, IsPicked, IsBehind, none_tried, all_tried}
+use Rattle.kmipa_search.specs.Next.{weigh, weight}
+use Rattle.kmipa_search.specs.Tries.{IsTried, closed, ahead, wished, IsPick, IsPicked, IsBehind, none_tried}
 use Rattle.kmipa_search.specs.Links.{at}
 use Rattle.kmipa_search.specs.Idle.{IsIdleStep}
 use Rattle.kmipa_search.specs.Progress.{so_far, CanBeTaken, IsDead, Cleared, places, KnowsAll, Searching, IsOwed, Opens}

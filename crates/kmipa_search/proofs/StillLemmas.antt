@@ -1,5 +1,5 @@
 -- Copies of objects, place by place.
-use Rattle.std.proofs.Common.{◌≡◌, ◌≢◌, ◌≤◌, ◌<◌, ◌⊎◌, inl, inr, ℕ, ◌+◌, ◌-◌, List, [], ◌∷◌, ◌++◌, map, length, take, get_or, Some, slice_get, refl, sym, ap, ◌∙◌, subst, arith}
+use Rattle.std.proofs.Common.{◌≡◌, ◌≤◌, ◌<◌, inl, inr, ℕ, ◌+◌, ◌-◌, List, [], ◌∷◌, ◌++◌, map, length, take, get_or, Some, slice_get, refl, sym, ap, ◌∙◌, subst, arith}
 use Rattle.std.proofs.lemmas.List.{length-map, map-append, take_more}
 use Rattle.std.proofs.lemmas.Option.{slice_get_within, slice_get_read, get_or_from_slice_get}
 use Rattle.kmipa_attrs.specs.Sets.{NameOf, name_of}
@@ -29,13 +29,13 @@ pub stand_on : (objects : List Still) (m : Meaning) (place : ℕ) (h : Held) (s 
     → (k : ℕ) (t : Still) → place - 1 ≤ k → slice_get objects k ≡ Some t → slice_get (stills m) k ≡ Some (still_of t)
 stand_on objects m place h s some within there read is before k t from at = elim (same_or k (place - 1)) [
   | inl e ↦
-    let own : slice_get objects (place - 1) ≡ Some s = slice_get_read objects (length objects) (place - 1) s refl (omega (arith, some, within)) read in
-    let P : ℕ → Type 0 = λ i. slice_get objects i ≡ Some t in
-    let here : slice_get objects (place - 1) ≡ Some t = subst P e at in
-    let both : Some s ≡ Some t = sym own ∙ here in
-    let same : s ≡ t = cc in
-    let Q : ℕ → Type 0 = λ i. slice_get (stills m) i ≡ Some (still_of t) in
-    subst Q (sym e) (get_at (still m.secrets) m.objects (place - 1) h there ∙ ap Some (sym is ∙ ap still_of same))
+      let own : slice_get objects (place - 1) ≡ Some s = slice_get_read objects (length objects) (place - 1) s refl (omega (arith, some, within)) read in
+      let P : ℕ → Type 0 = λ i. slice_get objects i ≡ Some t in
+      let here : slice_get objects (place - 1) ≡ Some t = subst P e at in
+      let both : Some s ≡ Some t = sym own ∙ here in
+      let same : s ≡ t = cc in
+      let Q : ℕ → Type 0 = λ i. slice_get (stills m) i ≡ Some (still_of t) in
+      subst Q (sym e) (get_at (still m.secrets) m.objects (place - 1) h there ∙ ap Some (sym is ∙ ap still_of same))
   | inr d ↦ before k t (omega (arith, from, d, some)) at
 ]
 
@@ -48,7 +48,7 @@ pub all_names : (names others : List Name) → length names ≡ length others �
 all_names names others long h =
     same_elements (map name_of names) (map name_of others) (length-map names name_of ∙ long ∙ sym (length-map others name_of))
     (λ i x at.
-        let a = mapped_from name_of names i x at in
-        let b = some_at others i (let w = slice_get_within names i a.0 a.1 in omega (arith, w, long)) in
-        let P : NameOf → Type 0 = λ z. slice_get (map name_of others) i ≡ Some z in
-        subst P (sym (h i a.0 b.0 (omega arith) a.1 b.1) ∙ a.2) (get_at name_of others i b.0 b.1))
+    let a = mapped_from name_of names i x at in
+    let b = some_at others i (let w = slice_get_within names i a.0 a.1 in omega (arith, w, long)) in
+    let P : NameOf → Type 0 = λ z. slice_get (map name_of others) i ≡ Some z in
+    subst P (sym (h i a.0 b.0 (omega arith) a.1 b.1) ∙ a.2) (get_at name_of others i b.0 b.1))

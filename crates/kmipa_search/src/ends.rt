@@ -301,7 +301,9 @@ fn cost_of<L: Ledger>(ledger: &L, object: &Object) -> usize
 fn cost_of_names(names: &[Name]) -> usize {
     let mut bytes: usize = 0;
     'names: for name in names {
-        bytes = bytes.saturating_add(NAME_BYTES).saturating_add(name.value.len());
+        bytes = bytes
+            .saturating_add(NAME_BYTES)
+            .saturating_add(name.value.len());
     }
     bytes
 }

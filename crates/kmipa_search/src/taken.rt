@@ -75,7 +75,9 @@ ghost use Rattle.kmipa_search.specs.Ends.{flag};
 /// The hash with a place more, or less.
 fn turned(hash: u64, place: usize) -> u64 {
     let number = (place as u64 ^ 0x5851_F42D_4C95_7F2D).wrapping_mul(0x9E37_79B9_7F4A_7C15);
-    hash ^ (number ^ (number >> 32)).wrapping_mul(0xD6E8_FEB8_6659_FD93).rotate_left(29)
+    hash ^ (number ^ (number >> 32))
+        .wrapping_mul(0xD6E8_FEB8_6659_FD93)
+        .rotate_left(29)
 }
 
 /// Sets the mark of a place, if there is one, or takes it away.

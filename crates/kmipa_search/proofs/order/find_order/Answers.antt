@@ -1,12 +1,12 @@
-use Rattle.std.proofs.Common.{◌≡◌, ◌<◌, ◌∙◌, ◌+◌, Bool, true, ℕ, suc, List, [], ◌∷◌, map, length, reverse, Contains, Option, Some, None, Ok, sym, ap, subst, refl, arith, rules}
+use Rattle.std.proofs.Common.{◌≡◌, ◌<◌, ◌∙◌, ◌+◌, ℕ, suc, List, [], ◌∷◌, map, length, reverse, Contains, Option, Some, None, Ok, sym, ap, subst, refl, arith, rules}
 use Rattle.std.proofs.lemmas.List.{length-map, length-reverse, reverse-reverse}
 use Rattle.std.specs.Prelude.{vec_len}
 use Rattle.std.proofs.lemmas.Option.{get_or_from_slice_get}
 use Rattle.kmipa_check.specs.Steps.{StepOf}
-use Rattle.kmipa_msgs.specs.Messages.{rules_of, request_of, response_of}
+use Rattle.kmipa_msgs.specs.Messages.{rules_of}
 use Rattle.kmipa_search.specs.Candidates.{candidate_step}
 use Rattle.kmipa_search.specs.Progress.{no_step, AreBegun, CallTried, ComesTo, places}
-use Rattle.kmipa_search.specs.Tries.{IsPick, IsPicked, IsBehind, none_tried}
+use Rattle.kmipa_search.specs.Tries.{IsPick, IsPicked, none_tried}
 use Rattle.kmipa_search.specs.Ends.{AreFlagged, Remembers}
 use Rattle.kmipa_search.specs.Idle.{IsIdleStep}
 use Rattle.kmipa_search.specs.declared.tried.Tried.{Tried}
