@@ -13,7 +13,8 @@ const MOST: usize = 1_000_000;
 
 const MOST_BYTES: usize = 256 << 20;
 
-/// What an end costs besides its objects, and an object besides its texts, its names and its bytes. They are more than it takes.
+/// What an end costs besides its objects, and an object besides its texts, its names and its bytes. They are more than
+/// it takes.
 const END_BYTES: usize = 256;
 
 const OBJECT_BYTES: usize = 512;
@@ -23,8 +24,8 @@ const NAME_BYTES: usize = 64;
 /// How many chains of ends there are.
 const CHAINS: usize = 1 << 18;
 
-/// A dead end: the calls that were taken, and the objects as they stood. No run begins with these calls from such a ledger, in whatever order
-/// they were taken.
+/// A dead end: the calls that were taken, and the objects as they stood. No run begins with these calls from such a
+/// ledger, in whatever order they were taken.
 #[derive(Drop)]
 pub struct End {
     pub set: CallSet,
@@ -34,7 +35,8 @@ pub struct End {
     older: usize,
 }
 
-/// Dead ends, in chains by a hash of their calls. It only says which ends are looked at: what is equal is compared in full.
+/// Dead ends, in chains by a hash of their calls. It only says which ends are looked at: what is equal is compared in
+/// full.
 #[derive(Drop)]
 pub struct Ends {
     ends: Vec<End>,

@@ -23,7 +23,8 @@ pub fn next_is_tested()
     ensures { NextIsTested }
 {}
 
-/// The same calls taken in two orders, over ledgers whose objects stand alike: where the one begins no run, nor does the other.
+/// The same calls taken in two orders, over ledgers whose objects stand alike: where the one begins no run, nor does the
+/// other.
 pub fn equal_is_equal()
     ensures { EqualIsEqual }
 {}
