@@ -1,0 +1,5 @@
+pub mod Calls
+pub mod Causes
+pub mod Explainable
+pub mod Explanations
+pub mod Places
