@@ -1,3 +1,4 @@
 pub mod BehindLemmas
 pub mod QuietLemmas
 pub mod RefusedLemmas
+pub mod FailedLemmas

@@ -2,6 +2,7 @@
 
 ghost use Rattle.std.specs.Prelude.{◌≡◌, ◌<◌, ◌≤◌, IfOk, Some, length, map, slice_get};
 ghost use Rattle.kmipa_msgs.specs.Messages.{answer_of};
+ghost use Rattle.kmipa_batch.specs.Shapes.{is_failed};
 ghost use Rattle.kmipa_check.specs.Steps.{StepOf, step_of};
 ghost use Rattle.kmipa_explain.specs.Causes.{AreOperations, FailsFirst, IsShape, IsTurnBefore, TellsCause};
 ghost use Rattle.kmipa_explain.specs.Explainable.{HasPair, IsRefusedHere};
@@ -71,12 +72,22 @@ fn first_failed(answers: &[Answer]) -> Option<usize>
 {
     let mut place = 0;
     'answers: while place < answers.len() {
-        if answers[place].status == Status::Failed {
+        if has_failed(&answers[place]) {
             return Some(place + 1);
         }
         place += 1;
     }
     None
+}
+
+/// Whether an answer is one of a failure.
+fn has_failed(answer: &Answer) -> bool
+    ensures { result ≡ is_failed (answer_of answer.now).status }
+{
+    match answer.status {
+        Status::Failed => true,
+        Status::Success | Status::Undone => false,
+    }
 }
 
 /// The operation of an item, as it was asked for and as it was answered.
