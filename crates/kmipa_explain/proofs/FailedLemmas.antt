@@ -9,7 +9,7 @@ use Rattle.kmipa_msgs.specs.declared.response.Status.TheVariants.{Success, Faile
 use Rattle.kmipa_batch.specs.Shapes.{is_failed, NoneFailed}
 use Rattle.kmipa_check.proofs.PlaceLemmas.{below_suc}
 use Rattle.kmipa_explain.specs.Causes.{FailsFirst}
-use Rattle.kmipa_explain.proofs.BehindLemmas.{read_at}
+use Rattle.kmipa_explain.proofs.KeptLemmas.{read_at}
 
 -- none of the first so many failed
 abbrev pub NoneBelow : List AnswerOf → ℕ → Type 0

@@ -1,5 +1,5 @@
 -- The calls behind a turn of an order, by when they began and ended.
-use Rattle.std.specs.Prelude.{ℕ, ◌+◌, ℤ, Bool, true, false, not, ◌&&◌, nat_lt, filter, List, [], ◌∷◌, map, drop, Option, Some, None}
+use Rattle.std.specs.Prelude.{ℕ, ◌+◌, ℤ, Bool, false, not, ◌&&◌, nat_lt, filter, List, map, drop, Option, Some, None}
 use Rattle.kmipa_check.specs.Steps.{StepOf}
 
 -- there is an end, and it stands before the place
@@ -18,19 +18,10 @@ overlaps a b = not (is_before a b) && not (is_before b a)
 abbrev pub number_of : StepOf → ℤ
 number_of s = s.number
 
--- the numbers of the calls from a place of the order on that pass a test
-abbrev pub numbers_from : (StepOf → Bool) → List StepOf → ℕ → List ℤ
-numbers_from test order place = map number_of (filter test (drop place order))
-
 -- the numbers of the calls behind a turn, counted from 0, that ended before this call began
 abbrev pub earlier_calls : List StepOf → ℕ → StepOf → List ℤ
-earlier_calls order turn c = numbers_from (λ (d : StepOf). is_before d c) order (turn + 1)
+earlier_calls order turn c = map number_of (filter (λ (d : StepOf). is_before d c) (drop (turn + 1) order))
 
 -- the numbers of those that overlap it
 abbrev pub overlapping_calls : List StepOf → ℕ → StepOf → List ℤ
-overlapping_calls order turn c = numbers_from (λ (d : StepOf). overlaps d c) order (turn + 1)
-
--- what is noted of one call; not promised
-abbrev pub noted : ℤ → Bool → List ℤ
-noted number true = number ∷ []
-noted number false = []
+overlapping_calls order turn c = map number_of (filter (λ (d : StepOf). overlaps d c) (drop (turn + 1) order))

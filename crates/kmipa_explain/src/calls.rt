@@ -2,7 +2,8 @@
 
 ghost use Rattle.std.specs.Prelude.{◌≡◌, ◌<◌, ◌++◌, IfOk, OnOk, Some, length, map, slice_get};
 ghost use Rattle.kmipa_check.specs.Steps.{StepOf, step_of};
-ghost use Rattle.kmipa_explain.specs.Calls.{earlier_calls, is_before, noted, overlapping_calls, overlaps};
+ghost use Rattle.kmipa_explain.specs.Calls.{earlier_calls, is_before, overlapping_calls, overlaps};
+ghost use Rattle.kmipa_explain.specs.Kept.{one_if};
 
 use kmipa_check::Step;
 use std::alloc::{AllocError, Global};
@@ -43,7 +44,7 @@ pub fn overlapping_calls(alloc: Global, steps: &[Step], turn: usize) -> Result<V
 
 /// Notes the number of a call, where it counts.
 fn note(numbers: &mut Vec<i32>, step: &Step, counts: bool) -> Result<(), AllocError>
-    ensures { OnOk result (numbers.new.items ≡ numbers.old.items ++ noted (step_of step.now).number counts) }
+    ensures { OnOk result (numbers.new.items ≡ numbers.old.items ++ one_if (step_of step.now).number counts) }
 {
     if counts {
         numbers.push(step.number)?;

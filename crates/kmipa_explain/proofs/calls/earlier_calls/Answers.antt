@@ -1,7 +1,11 @@
-use Rattle.std.proofs.Common.{arith}
+use Rattle.std.proofs.Common.{map, arith}
+use Rattle.kmipa_check.specs.Steps.{step_of}
 use Rattle.kmipa_explain.specs.Calls.{is_before}
-use Rattle.kmipa_explain.proofs.BehindLemmas.{found_more, found_all}
+use Rattle.kmipa_explain.proofs.BehindLemmas.{found_none, found_more, found_all}
 use Rattle.kmipa_explain.proofs.calls.earlier_calls.Goals as goal
+
+pub steps-init : goal.steps-init
+steps-init c = found_none is_before (map step_of c.args.steps.now) c.args.turn c.new-numbers.result.items c.new-numbers.ensures.items
 
 pub steps-preserved : goal.steps-preserved
 steps-preserved c =
