@@ -1,5 +1,5 @@
 -- A no that a check gives can be explained.
-use Rattle.std.proofs.Common.{◌≡◌, ◌≤◌, ℕ, ◌+◌, suc, List, map, Some, Ok, slice_get, refl, sym, ap, ◌∙◌, subst, arith}
+use Rattle.std.proofs.Common.{◌≡◌, ◌≤◌, ℕ, ◌+◌, suc, List, map, Some, Ok, Err, slice_get, refl, sym, ap, ◌∙◌, subst, arith}
 use Rattle.kmipa_msgs.specs.Messages.{AskOf, AnswerOf}
 use Rattle.kmipa_ops.specs.declared.why.Why.{Why}
 use Rattle.kmipa_ops.specs.declared.why.Why.TheVariants.{EarlierCallLate, StampRunsBack, BatchShape, OperationDiffers}
@@ -11,11 +11,14 @@ use Rattle.kmipa_batch.specs.Refusals.{in_shape, in_item, SpeaksAtAlong}
 use Rattle.kmipa_check.specs.Calls.{CallOf, AreCalls}
 use Rattle.kmipa_check.specs.Orders.{IsOrder}
 use Rattle.kmipa_check.specs.Steps.{StepOf, order_of}
-use Rattle.kmipa_check.specs.Verdicts.{TellsVerdict, IsRefused, RefusedAt, RefusedPlace, late, runs_back}
+use Rattle.kmipa_check.specs.Verdicts.{Checks, TellsVerdict, IsRefused, RefusedAt, RefusedPlace, late, runs_back}
 use Rattle.kmipa_check.specs.Verdicts
+use Rattle.kmipa_check.specs.declared.fault.CheckFault.{CheckFault}
+use Rattle.kmipa_check.specs.declared.fault.CheckFault.TheVariants.{Outside, Witness, Memory}
 use Rattle.kmipa_check.specs.declared.verdict.Refused.{Refused}
 use Rattle.kmipa_check.specs.declared.verdict.Verdict.TheVariants.{No}
 use Rattle.kmipa_check.proofs.CheckLemmas.{calls_once}
+use Rattle.kmipa_check.proofs.OneAnswerLemmas.{one_answer_lem}
 use Rattle.kmipa_check.proofs.OnceLemmas.{once_pairs}
 use Rattle.kmipa_check.proofs.PlaceLemmas.{at_contains}
 use Rattle.kmipa_check.proofs.RecordedLemmas.{recorded_at, same_calls}
@@ -84,3 +87,9 @@ module _ (marks : List MarkOf) (declared : DeclarationOf) (turns : List TurnOf) 
           pair = operations_there declared order its.turn its.call r.item r.why its.refused;
         };
       }
+
+  -- a check that gives a no gives no fault, unless memory runs out
+  pub only_memory : (f : CheckFault) → Checks marks declared turns (Err f) → f ≡ Memory
+  only_memory (Outside number side o) h = absurd (one_answer_lem marks declared turns recorded (Err (Outside number side o)) (Ok (No r)) h told)
+  only_memory (Witness f) h = absurd (one_answer_lem marks declared turns recorded (Err (Witness f)) (Ok (No r)) h told)
+  only_memory Memory h = refl
