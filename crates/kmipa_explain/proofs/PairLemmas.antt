@@ -1,5 +1,5 @@
 -- An item and its answer, by their place.
-use Rattle.std.proofs.Common.{◌≡◌, ◌≢◌, ◌≤◌, ◌<◌, ℕ, ◌-◌, zero, suc, List, length, Option, Some, None, slice_get, refl, sym, ap, ◌∙◌, subst, arith}
+use Rattle.std.proofs.Common.{◌≡◌, ◌≢◌, ◌≤◌, ◌<◌, ℕ, ◌-◌, zero, suc, List, length, Option, Some, None, option_map, slice_get, refl, sym, ap, ◌∙◌, subst, arith}
 use Rattle.std.specs.List.{zip}
 use Rattle.std.proofs.lemmas.Option.{slice_get_within}
 use Rattle.kmipa_batch.proofs.PlaceLemmas.{both, zip_get}
@@ -18,12 +18,12 @@ item_some xs (suc place) x at = omega arith
 left_of : {A B : Type 0} (a : Option A) (b : Option B) (x : A) (y : B) → both a b ≡ Some (x, y) → a ≡ Some x
 left_of None b x y e = absurd cc
 left_of (Some a) None x y e = absurd cc
-left_of (Some a) (Some b) x y e = cc
+left_of {A} {B} (Some a) (Some b) x y e = ap (λ (o : Option (A × B)). option_map (λ (p : A × B). p.0) o) e
 
 right_of : {A B : Type 0} (a : Option A) (b : Option B) (x : A) (y : B) → both a b ≡ Some (x, y) → b ≡ Some y
 right_of None b x y e = absurd cc
 right_of (Some a) None x y e = absurd cc
-right_of (Some a) (Some b) x y e = cc
+right_of {A} {B} (Some a) (Some b) x y e = ap (λ (o : Option (A × B)). option_map (λ (p : A × B). p.1) o) e
 
 module _ {A B : Type 0} (xs : List A) (ys : List B) (item : ℕ) (x : A) (y : B) (at : at_item (zip xs ys) item ≡ Some (x, y)) where
   there : both (slice_get xs (item - 1)) (slice_get ys (item - 1)) ≡ Some (x, y)
