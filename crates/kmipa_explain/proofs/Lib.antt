@@ -5,3 +5,4 @@ pub mod PairLemmas
 pub mod QuietLemmas
 pub mod RefusedLemmas
 pub mod CauseLemmas
+pub mod ItemLemmas

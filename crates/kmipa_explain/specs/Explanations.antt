@@ -11,6 +11,7 @@ use Rattle.kmipa_check.specs.declared.verdict.Refused.{Refused}
 use Rattle.kmipa_explain.specs.Calls.{overlapping_calls}
 use Rattle.kmipa_explain.specs.Causes.{number_asked, TellsCause}
 use Rattle.kmipa_explain.specs.Places.{at_item}
+use Rattle.kmipa_explain.specs.Stories.{TellsStory}
 use Rattle.kmipa_explain.specs.declared.explanation.Explanation.{Explanation}
 
 -- the begin mark of the call names this client
@@ -21,8 +22,8 @@ IsClient marks c client = (asked : List ℕ) × (slice_get marks c.begin ≡ Som
 abbrev pub operation_at : StepOf → ℕ → Option ℕ
 operation_at c item = option_map number_asked (at_item c.request.items item)
 
--- each claim holds of the call that the refused turn takes in this order
-pub record ExplainsIn (marks : List MarkOf) (order : List StepOf) (r : Refused) (e : Explanation) : Type 0 where
+-- each claim holds of the call that the refused turn takes in this order, from this declaration
+pub record ExplainsIn (marks : List MarkOf) (declared : DeclarationOf) (order : List StepOf) (r : Refused) (e : Explanation) : Type 0 where
   pub turn : ℕ
   pub reported : r.turn ≡ turn + 1
   pub call : StepOf
@@ -32,6 +33,7 @@ pub record ExplainsIn (marks : List MarkOf) (order : List StepOf) (r : Refused) 
   pub operation : e.operation ≡ operation_at call r.item
   pub overlapping : e.overlapping.items ≡ overlapping_calls order turn call
   pub cause : TellsCause order turn call r.item r.why e.cause
+  pub story : TellsStory declared order r e.story
 
 -- it is an explanation of this no, in the order that the witness gives to the calls of the transcript
 pub record Explains (marks : List MarkOf) (declared : DeclarationOf) (turns : List TurnOf) (r : Refused) (e : Explanation) : Type 0 where
@@ -39,4 +41,4 @@ pub record Explains (marks : List MarkOf) (declared : DeclarationOf) (turns : Li
   pub are : AreCalls marks calls
   pub order : List StepOf
   pub formed : IsOrder calls turns order
-  pub explains : ExplainsIn marks order r e
+  pub explains : ExplainsIn marks declared order r e

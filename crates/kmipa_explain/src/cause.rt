@@ -95,8 +95,7 @@ fn operations_at(step: &Step, item: usize) -> Operations
     requires { HasPair (step_of step.now) item }
     ensures { AreOperations (step_of step.now) item result }
 {
-    Operations {
-        asked: step.request.items[item - 1].number(),
-        answered: step.response.response().items[item - 1].operation,
-    }
+    let asked = step.request.items[item - 1].number();
+    let answered = step.response.response().items[item - 1].operation;
+    Operations { asked, answered }
 }

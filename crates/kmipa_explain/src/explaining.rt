@@ -15,6 +15,7 @@ use crate::calls::overlapping_calls;
 use crate::cause::cause_of;
 use crate::explanation::Explanation;
 use crate::places::ask_at;
+use crate::story::story_of;
 use kmipa_check::{CheckFault, Refused, Step, Verdict, read_calls, steps_of};
 use kmipa_record::{Declaration, Mark, Transcript, Witness};
 use std::alloc::{AllocError, Global};
@@ -34,19 +35,19 @@ pub fn explain(
 {
     let calls = read_calls(alloc, transcript)?;
     let steps = steps_of(alloc, &calls, &witness.turns)?;
-    let _ = declaration;
-    Ok(explained(alloc, &transcript.marks, &steps, refused)?)
+    Ok(explained(alloc, &transcript.marks, declaration, &steps, refused)?)
 }
 
 /// What a refusal means in the order of these steps.
 fn explained(
     alloc: Global,
     marks: &[Mark],
+    declaration: &Declaration,
     steps: &[Step],
     refused: Refused,
 ) -> Result<Explanation, AllocError>
     requires { IsExplainable (map mark_of marks.now) (map step_of steps.now) refused }
-    ensures { IfOk result (ExplainsIn (map mark_of marks.now) (map step_of steps.now) refused) }
+    ensures { IfOk result (ExplainsIn (map mark_of marks.now) (declaration_of declaration.now) (map step_of steps.now) refused) }
 {
     let turn = refused.turn - 1;
     let step = &steps[turn];
@@ -56,6 +57,7 @@ fn explained(
         operation: operation_at(step, refused.item),
         overlapping: overlapping_calls(alloc, steps, turn)?,
         cause: cause_of(alloc, steps, turn, refused.item, refused.why)?,
+        story: story_of(alloc, declaration, steps, refused)?,
     })
 }
 

@@ -14,6 +14,8 @@ pub struct Explanation {
     /// The numbers of the calls that stand behind it in the order and overlap it: neither of the two ended before the other began.
     pub overlapping: Vec<i32>,
     pub cause: Cause,
+    /// The story of the object that the item is about; none where the item has no answer, or is about no identifier.
+    pub story: Option<Story>,
 }
 
 /// What the reason of a no rests on.
@@ -61,4 +63,33 @@ pub struct Operations {
     pub asked: u32,
     /// The one that the answer names.
     pub answered: Option<u32>,
+}
+
+/// What happened to the object of an identifier up to a refused item.
+#[derive(Debug, Drop)]
+pub struct Story {
+    pub identifier: String,
+    /// Whether the declaration has an object of this identifier.
+    pub declared: bool,
+    /// The items that were done ahead of the refused one, and that are about the identifier.
+    pub events: Vec<Event>,
+    /// The first item behind the refused one that made an object of this identifier.
+    pub born_later: Option<Event>,
+}
+
+/// An item that was done.
+#[derive(Clone, Copy, Debug, PartialEq, Eq)]
+pub struct Event {
+    /// Its turn, counted from 1.
+    pub turn: usize,
+    /// The number of its call.
+    pub call: i32,
+    /// Its place in the call, counted from 1.
+    pub item: usize,
+    /// The Time Stamp of the response, in seconds since 1970.
+    pub stamp: i64,
+    /// The operation that was asked for, by its number.
+    pub operation: u32,
+    /// Whether it was undone afterwards, with its batch.
+    pub undone: bool,
 }

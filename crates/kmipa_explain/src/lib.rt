@@ -5,7 +5,10 @@ mod calls;
 mod cause;
 mod explaining;
 mod explanation;
+mod item;
+mod items;
 mod places;
+mod story;
 
 pub use explaining::explain;
-pub use explanation::{Cause, Explanation, Operations, Shape, TurnBefore};
+pub use explanation::{Cause, Event, Explanation, Operations, Shape, Story, TurnBefore};

@@ -31,7 +31,14 @@ fn a_no_is_explained(rt: HostRuntime) -> Result<(), Fail> {
     check(told.operation == Some(10), "another operation")?;
     check(told.overlapping.is_empty(), "another call overlaps")?;
     match told.cause {
-        Cause::Object => Ok(()),
-        _ => Err(Fail::new("another cause")),
+        Cause::Object => {}
+        _ => return Err(Fail::new("another cause")),
     }
+    let Some(story) = told.story else {
+        return Err(Fail::new("no story"));
+    };
+    check(story.identifier.as_str() == "k1", "another identifier")?;
+    check(story.declared, "not declared")?;
+    check(story.events.is_empty(), "something happened before")?;
+    check(story.born_later.is_none(), "born later")
 }

@@ -44,6 +44,6 @@ returns c =
       ask = c.requires.0;
       answer = c.requires.1;
       there = pair;
-      asked = c.number.ensures ∙ ap number_asked its_ask;
+      asked = c.number-asked.ensures ∙ ap number_asked its_ask;
       answered = ap (λ (a : AnswerOf). a.operation) its_answer;
     }

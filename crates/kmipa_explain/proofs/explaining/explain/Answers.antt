@@ -79,8 +79,8 @@ returns c =
     let O : List Call → Type 0 = λ cs. IsOrder (map call_of cs) (map turn_of c.deref-2.result.now) (map step_of steps) in
     let T : List Turn → Type 0 = λ ts. IsOrder (map call_of calls) (map turn_of ts) (map step_of steps) in
     let order : IsOrder (map call_of calls) (witness_of c.args.witness.now) (map step_of steps) = subst T c.deref-2.ensures.value (subst O c.deref.ensures.value o) in
-    let M : List Mark → Type 0 = λ ms. ExplainsIn (map mark_of ms) (map step_of c.deref-4.result.now) c.args.refused c.in_ok-explained.field-0 in
-    let S : List Step → Type 0 = λ ss. ExplainsIn marks (map step_of ss) c.args.refused c.in_ok-explained.field-0 in
+    let M : List Mark → Type 0 = λ ms. ExplainsIn (map mark_of ms) (declaration_of c.args.declaration.now) (map step_of c.deref-4.result.now) c.args.refused c.in_ok-explained.field-0 in
+    let S : List Step → Type 0 = λ ss. ExplainsIn marks (declaration_of c.args.declaration.now) (map step_of ss) c.args.refused c.in_ok-explained.field-0 in
     record {
       explains = record {
         calls = map call_of calls;

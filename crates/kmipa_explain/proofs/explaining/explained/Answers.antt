@@ -35,4 +35,5 @@ returns c =
       operation = c.operation_at.ensures ∙ ap (λ (s : StepOf). operation_at s c.args.refused.item) (sym its);
       overlapping = c.in_ok-overlapping_calls.ensures call at;
       cause = c.in_ok-cause_of.ensures call at;
+      story = c.in_ok-story_of.ensures;
     }
