@@ -1,5 +1,5 @@
 -- The items of an order, one at a time.
-use Rattle.std.proofs.Common.{◌≡◌, ◌<◌, ◌≤◌, ℕ, ◌+◌, suc, ℤ, List, [], ◌∷◌, ◌++◌, map, drop, length, slice_get, Option, Some, None, refl, sym, ap, ◌∙◌, subst, arith}
+use Rattle.std.proofs.Common.{◌≡◌, ◌<◌, ◌≤◌, ℕ, ◌+◌, suc, ℤ, Bool, List, [], ◌∷◌, ◌++◌, map, drop, length, slice_get, Option, Some, None, refl, sym, ap, ◌∙◌, subst, arith}
 use Rattle.std.proofs.lemmas.List.{append_assoc, append-nil, map-append}
 use Rattle.kmipa_msgs.specs.Messages.{AskOf, AnswerOf}
 use Rattle.kmipa_ops.specs.After.{placeholder_after}
@@ -7,12 +7,20 @@ use Rattle.kmipa_batch.specs.Calls.{pairs_of}
 use Rattle.kmipa_batch.specs.Orders.{order_given}
 use Rattle.kmipa_batch.proofs.OrderLemmas.{from_within, length_from}
 use Rattle.kmipa_check.specs.Steps.{StepOf, order_of}
-use Rattle.kmipa_explain.specs.Items.{ItemOf, item_of, item_then, items_along, places_taken, items_of_call, items_from, items_of}
+use Rattle.kmipa_explain.specs.Causes.{number_asked}
+use Rattle.kmipa_explain.specs.Items.{ItemOf, about, makes_object, item_of, item_then, items_along, places_taken, items_of_call, items_from, items_of}
 use Rattle.kmipa_explain.specs.Reading.{seen_item}
 use Rattle.kmipa_explain.specs.declared.item.Item.{Item}
 use Rattle.kmipa_explain.proofs.KeptLemmas.{drop_at, drop_all}
 
 module _ (turn : ℕ) (s : StepOf) (place : ℕ) (before : Option (List ℕ)) where
+  -- an item with these fields is the item of the place
+  pub fields_are : (ask : AskOf) (answer : AnswerOf) (call stamp : ℤ) (operation : ℕ) (makes : Bool) (id : Option (List ℕ))
+      → call ≡ s.number → stamp ≡ s.response.stamp → operation ≡ number_asked ask → makes ≡ makes_object ask.asked → id ≡ about before ask.asked answer.payload
+      → record { turn = turn; call = call; item = place + 1; stamp = stamp; operation = operation; status = answer.status; makes = makes; about = id }
+      ≡ item_of turn s place before ask answer
+  fields_are ask answer call stamp operation makes id a b d e f = rw (a, b, d, e, f) refl
+
   -- nothing stands there
   pub item_absent : (xs : List ItemOf) (pair : Option (AskOf × AnswerOf)) (behind : Option (List ℕ) → List ItemOf) → pair ≡ None
       → xs ++ item_then turn s place before pair behind ≡ xs ++ behind before

@@ -6,3 +6,4 @@ pub mod QuietLemmas
 pub mod RefusedLemmas
 pub mod CauseLemmas
 pub mod ItemLemmas
+pub mod StoryLemmas

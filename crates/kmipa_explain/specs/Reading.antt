@@ -1,12 +1,15 @@
 -- What the program reads of items. Not promised.
-use Rattle.std.specs.Prelude.{ℕ, ◌==◌, ◌&&◌, Bool, String, List, Option, is_some, option_map, option_and_then}
+use Rattle.std.specs.Prelude.{◌≡◌, ℕ, ◌+◌, ◌==◌, ◌&&◌, Bool, String, List, map, take, drop, filter, find, Option, is_some, option_map, option_and_then}
 use Rattle.std.specs.String.{string_bytes}
 use Rattle.kmipa_msgs.specs.Messages.{PayloadOf}
 use Rattle.kmipa_ops.specs.Create.{seen_created}
 use Rattle.kmipa_ops.specs.Locate.{seen_located}
 use Rattle.kmipa_ops.specs.Register.{seen_registered}
+use Rattle.kmipa_record.specs.Declarations.{DeclarationOf}
 use Rattle.kmipa_check.specs.declared.verdict.Refused.{Refused}
 use Rattle.kmipa_explain.specs.Items.{ItemOf, id_made}
+use Rattle.kmipa_explain.specs.Stories.{event_of, happens_to, is_declared, makes_it}
+use Rattle.kmipa_explain.specs.declared.explanation.Story.{Story}
 use Rattle.kmipa_explain.specs.declared.item.Item.{Item}
 
 -- a text, if there is one
@@ -30,3 +33,10 @@ listed_in payload = option_and_then seen_located payload
 -- the item is the refused one, and is about an identifier
 abbrev pub is_that : Refused → ItemOf → Bool
 is_that r i = (i.turn == r.turn) && (i.item == r.item) && is_some i.about
+
+-- the story of the object of this identifier, where the refused item stands at this place
+pub record IsStoryAt (declared : DeclarationOf) (items : List ItemOf) (place : ℕ) (id : List ℕ) (s : Story) : Type 0 where
+  pub identifier : string_bytes s.identifier ≡ id
+  pub at_start : s.declared ≡ is_declared declared id
+  pub events : s.events.items ≡ map event_of (filter (happens_to id) (take place items))
+  pub born_later : s.born_later ≡ option_map event_of (find (makes_it id) (drop (place + 1) items))

@@ -44,13 +44,13 @@ event_of i = record { turn = i.turn; call = i.call; item = i.item; stamp = i.sta
 abbrev pub is_declared : DeclarationOf → List ℕ → Bool
 is_declared declared id = list_any (λ (e : EntryOf). bytes_eq e.id id) declared.entries
 
--- The items are those of the order, cut at the refused one: what happened ahead of it to the object of its identifier is told, and the first time
--- behind it that one is made.
-pub record IsStory (declared : DeclarationOf) (order : List StepOf) (r : Refused) (s : Story) : Type 0 where
+-- The items of an order are cut at the refused one: what happened ahead of it to the object of its identifier is told, and the first time behind
+-- it that one is made.
+pub record IsStory (declared : DeclarationOf) (items : List ItemOf) (r : Refused) (s : Story) : Type 0 where
   pub ahead : List ItemOf
   pub here : ItemOf
   pub behind : List ItemOf
-  pub cut : items_of order ≡ ahead ++ here ∷ behind
+  pub cut : items ≡ ahead ++ here ∷ behind
   pub turn : here.turn ≡ r.turn
   pub item : here.item ≡ r.item
   pub about : here.about ≡ Some (string_bytes s.identifier)
@@ -59,10 +59,14 @@ pub record IsStory (declared : DeclarationOf) (order : List StepOf) (r : Refused
   pub born_later : s.born_later ≡ option_map event_of (find (makes_it (string_bytes s.identifier)) behind)
 
 -- the refused item has no answer, or is about no identifier
-abbrev pub HasNoStory : List StepOf → Refused → Type 0
-HasNoStory order r = (here : ItemOf) → Contains (items_of order) here → here.turn ≡ r.turn → here.item ≡ r.item → here.about ≡ None
+abbrev pub HasNoStory : List ItemOf → Refused → Type 0
+HasNoStory items r = (here : ItemOf) → Contains items here → here.turn ≡ r.turn → here.item ≡ r.item → here.about ≡ None
 
--- the story of the object that a refused item is about, where it is about one
+-- the story among these items of the object that the refused one is about, where it is about one
+abbrev pub TellsStoryIn : DeclarationOf → List ItemOf → Refused → Option Story → Type 0
+TellsStoryIn declared items r None = HasNoStory items r
+TellsStoryIn declared items r (Some s) = IsStory declared items r s
+
+-- the same among the items of an order
 abbrev pub TellsStory : DeclarationOf → List StepOf → Refused → Option Story → Type 0
-TellsStory declared order r None = HasNoStory order r
-TellsStory declared order r (Some s) = IsStory declared order r s
+TellsStory declared order r story = TellsStoryIn declared (items_of order) r story

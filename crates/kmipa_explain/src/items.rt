@@ -79,7 +79,7 @@ fn add_item(
     held: Option<String>,
 ) -> Result<Option<String>, AllocError>
     ensures { IfOk result (λ after. (behind : Option (List ℕ) → List ItemOf)
-        → map seen_item items.old.items ++ item_then turn (step_of step.now) place (text_of held.entry) (slice_get (pairs_of (step_of step.now).request (step_of step.now).response) place) behind
+        → map seen_item items.old.items ++ item_then turn (step_of step.now) place (text_of held) (slice_get (pairs_of (step_of step.now).request (step_of step.now).response) place) behind
         ≡ map seen_item items.new.items ++ behind (text_of after)) }
 {
     let Some(ask) = step.request.items.get(place) else {
@@ -143,7 +143,7 @@ fn held_after(
     answer: &Answer,
     held: Option<String>,
 ) -> Result<Option<String>, AllocError>
-    ensures { IfOk result (λ after. text_of after ≡ placeholder_after (answer_of answer.now).status (text_of held.entry) (ask_of ask.now).asked (answer_of answer.now).payload) }
+    ensures { IfOk result (λ after. text_of after ≡ placeholder_after (answer_of answer.now).status (text_of held) (ask_of ask.now).asked (answer_of answer.now).payload) }
 {
     match answer.status {
         Status::Success => held_done(alloc, ask, answer, held),
@@ -159,7 +159,7 @@ fn held_done(
     answer: &Answer,
     held: Option<String>,
 ) -> Result<Option<String>, AllocError>
-    ensures { IfOk result (λ after. text_of after ≡ placeholder_done (text_of held.entry) (ask_of ask.now).asked (answer_of answer.now).payload) }
+    ensures { IfOk result (λ after. text_of after ≡ placeholder_done (text_of held) (ask_of ask.now).asked (answer_of answer.now).payload) }
 {
     match &ask.asked {
         Asked::Create(_) => newest(alloc, id_created(answer), held),
@@ -207,7 +207,7 @@ fn only_listed(
     answer: &Answer,
     held: Option<String>,
 ) -> Result<Option<String>, AllocError>
-    ensures { IfOk result (λ after. text_of after ≡ names_only (text_of held.entry) (listed_in (answer_of answer.now).payload)) }
+    ensures { IfOk result (λ after. text_of after ≡ names_only (text_of held) (listed_in (answer_of answer.now).payload)) }
 {
     let Some(payload) = &answer.payload else {
         return Ok(held);
@@ -234,7 +234,7 @@ fn newest(
     id: Option<&str>,
     held: Option<String>,
 ) -> Result<Option<String>, AllocError>
-    ensures { IfOk result (λ after. text_of after ≡ meant (maybe_lent id.entry) (text_of held.entry)) }
+    ensures { IfOk result (λ after. text_of after ≡ meant (maybe_lent id.entry) (text_of held)) }
 {
     match id {
         Some(id) => Ok(Some(String::from_str(alloc, id)?)),

@@ -1,12 +1,12 @@
 //! The story of an object up to a refused item.
 
-ghost use Rattle.std.specs.Prelude.{◌≡◌, ◌≤◌, ◌++◌, IfOk, MatchOption, OnOk, bytes_eq, drop, filter, find, length, map, option_map, take};
+ghost use Rattle.std.specs.Prelude.{◌≡◌, ◌<◌, ◌≤◌, ◌++◌, IfOk, IfSome, MatchOption, OnOk, bytes_eq, drop, filter, find, length, map, option_map, take};
 ghost use Rattle.kmipa_record.specs.Declarations.{declaration_of};
 ghost use Rattle.kmipa_record.specs.Entries.{entry_of};
 ghost use Rattle.kmipa_check.specs.Steps.{step_of};
 ghost use Rattle.kmipa_explain.specs.Kept.{AreNone, PassesAt, one_if};
-ghost use Rattle.kmipa_explain.specs.Reading.{is_that, seen_item};
-ghost use Rattle.kmipa_explain.specs.Stories.{TellsStory, event_of, happens_to, is_about, is_declared, is_done, is_undone, makes_it};
+ghost use Rattle.kmipa_explain.specs.Reading.{IsStoryAt, is_that, seen_item};
+ghost use Rattle.kmipa_explain.specs.Stories.{TellsStory, TellsStoryIn, event_of, happens_to, is_about, is_declared, is_done, is_undone, makes_it};
 
 use crate::explanation::{Event, Story};
 use crate::item::Item;
@@ -26,23 +26,50 @@ pub fn story_of(
     ensures { IfOk result (TellsStory (declaration_of declaration.now) (map step_of steps.now) refused) }
 {
     let items = items_of(alloc, steps)?;
-    let Some(at) = place_of(&items, refused) else {
+    story_in(alloc, declaration, &items, refused)
+}
+
+/// The same, among these items.
+fn story_in(
+    alloc: Global,
+    declaration: &Declaration,
+    items: &[Item],
+    refused: Refused,
+) -> Result<Option<Story>, AllocError>
+    ensures { IfOk result (TellsStoryIn (declaration_of declaration.now) (map seen_item items.now) refused) }
+{
+    let Some(at) = place_of(items, refused) else {
         return Ok(None);
     };
-    let Some(id) = &items[at].about else {
-        return Ok(None);
-    };
-    Ok(Some(Story {
-        identifier: id.clone()?,
-        declared: is_declared(declaration, id.as_str()),
-        events: events_ahead(alloc, &items, at, id.as_str())?,
-        born_later: birth_behind(&items, at + 1, id.as_str()),
-    }))
+    match &items[at].about {
+        Some(id) => Ok(Some(story_at(alloc, declaration, items, at, id.as_str())?)),
+        None => Ok(None),
+    }
+}
+
+/// The story of the object of this identifier, where the refused item stands at this place.
+fn story_at(
+    alloc: Global,
+    declaration: &Declaration,
+    items: &[Item],
+    at: usize,
+    id: &str,
+) -> Result<Story, AllocError>
+    requires { at < length items.now }
+    ensures { IfOk result (IsStoryAt (declaration_of declaration.now) (map seen_item items.now) at id.now) }
+{
+    Ok(Story {
+        identifier: String::from_str(alloc, id)?,
+        declared: is_declared(declaration, id),
+        events: events_ahead(alloc, items, at, id)?,
+        born_later: birth_behind(items, at + 1, id),
+    })
 }
 
 /// The place of the refused item among these, where it is there and is about an identifier.
 fn place_of(items: &[Item], refused: Refused) -> Option<usize>
-    ensures { MatchOption result (AreNone (is_that refused) (map seen_item items.now)) (PassesAt (is_that refused) (map seen_item items.now)) }
+    ensures found { MatchOption result (AreNone (is_that refused) (map seen_item items.now)) (PassesAt (is_that refused) (map seen_item items.now)) }
+    ensures within { IfSome result (λ place. place < length items.now) }
 {
     let mut place = 0;
     'items: while place < items.len() {
@@ -96,8 +123,9 @@ fn birth_behind(items: &[Item], first: usize, id: &str) -> Option<Event>
 {
     let mut place = first;
     'items: while place < items.len() {
-        if makes_it(&items[place], id) {
-            return Some(event_of(&items[place]));
+        let item = &items[place];
+        if makes_it(item, id) {
+            return Some(event_of(item));
         }
         place += 1;
     }

@@ -15,11 +15,17 @@ items-preserved c =
     (sym c.if-is_that.false ∙ c.is_that.ensures) c.items.invariant
 
 pub returns-then-is_that : goal.returns-then-is_that
-returns-then-is_that c = (
-  seen_item c.index-items-place.result,
-  mapped_at seen_item c.args.items.now c.items.place c.index-items-place.result c.items-test.true c.index-items-place.is,
-  sym c.is_that.ensures ∙ c.if-is_that.true,
-)
+returns-then-is_that c = record {
+  found = (
+    seen_item c.index-items-place.result,
+    mapped_at seen_item c.args.items.now c.items.place c.index-items-place.result c.items-test.true c.index-items-place.is,
+    sym c.is_that.ensures ∙ c.if-is_that.true,
+  );
+  within = c.items-test.true;
+}
 
 pub returns : goal.returns
-returns c = none_all (is_that c.args.refused) (map seen_item c.args.items.now) c.items.place (omega (arith, c.items-test.false, length-map c.args.items.now seen_item)) c.items.invariant
+returns c = record {
+  found = none_all (is_that c.args.refused) (map seen_item c.args.items.now) c.items.place (omega (arith, c.items-test.false, length-map c.args.items.now seen_item)) c.items.invariant;
+  within = tt;
+}
