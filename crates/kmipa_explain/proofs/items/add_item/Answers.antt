@@ -1,4 +1,4 @@
-use Rattle.std.proofs.Common.{rules, ◌≡◌, ◌∙◌, FitsSigned, w32, w64, List, Some, None, map, slice_get, sym, ap}
+use Rattle.std.proofs.Common.{rules, ◌∙◌, FitsSigned, w32, w64, map, slice_get, sym, ap}
 use Rattle.std.proofs.lemmas.Int.{to_z-of_z}
 use Rattle.kmipa_msgs.specs.Messages.{ResponseOf, answer_of, ask_of}
 use Rattle.kmipa_batch.specs.Calls.{pairs_of}

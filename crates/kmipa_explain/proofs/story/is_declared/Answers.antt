@@ -1,6 +1,5 @@
 use Rattle.std.proofs.Common.{◌∙◌, map, refl, sym, bytes_eq, vec_len, arith, length, rules, ◌≡◌}
 use Rattle.std.proofs.lemmas.List.{length-map}
-use Rattle.kmipa_record.specs.Declarations.{declaration_of}
 use Rattle.kmipa_record.specs.Entries.{EntryOf, entry_of}
 use Rattle.kmipa_check.proofs.PlaceLemmas.{mapped_at}
 use Rattle.kmipa_explain.proofs.KeptLemmas.{any_found, any_more, any_none}

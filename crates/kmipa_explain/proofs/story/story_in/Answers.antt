@@ -1,4 +1,4 @@
-use Rattle.std.proofs.Common.{◌≡◌, ◌∙◌, ℕ, List, Some, None, map, refl, sym, ap, subst}
+use Rattle.std.proofs.Common.{◌≡◌, ◌∙◌, ℕ, List, None, map, refl, ap, subst}
 use Rattle.std.specs.String.{string_bytes}
 use Rattle.kmipa_record.specs.Declarations.{declaration_of}
 use Rattle.kmipa_check.proofs.PlaceLemmas.{mapped_at}
