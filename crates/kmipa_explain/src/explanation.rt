@@ -9,7 +9,8 @@ pub struct Explanation {
     pub client: String,
     /// The Time Stamp of the response that it was to give, in seconds since 1970.
     pub stamp: i64,
-    /// The operation that is asked for at the refused item, by its number; none where the turn itself is refused, or an answer is one too many.
+    /// The operation that is asked for at the refused item, by its number; none where the turn itself is refused, or where an answer is
+    /// one too many.
     pub operation: Option<u32>,
     /// The numbers of the calls that stand behind it in the order and overlap it: neither of the two ended before the other began.
     pub overlapping: Vec<i32>,

@@ -69,7 +69,8 @@ fn place_at(step: &Step, position: usize) -> usize
     }
 }
 
-/// Adds the item of a call at a place, counted from 0, if one stands there, where the ID Placeholder holds this; and says what it holds then.
+/// Adds the item of a call at a place, counted from 0, if one stands there, where the ID Placeholder holds this; and tells what it holds
+/// then.
 fn add_item(
     alloc: Global,
     items: &mut Vec<Item>,

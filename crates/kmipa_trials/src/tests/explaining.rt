@@ -30,11 +30,11 @@ fn a_no_is_explained(rt: HostRuntime) -> Result<(), Fail> {
     check(told.stamp == 1_700_000_000, "another stamp")?;
     check(told.operation == Some(10), "another operation")?;
     check(told.overlapping.is_empty(), "another call overlaps")?;
-    match told.cause {
+    match &told.cause {
         Cause::Object => {}
         _ => return Err(Fail::new("another cause")),
     }
-    let Some(story) = told.story else {
+    let Some(story) = &told.story else {
         return Err(Fail::new("no story"));
     };
     check(story.identifier.as_str() == "k1", "another identifier")?;
