@@ -13,7 +13,7 @@ use Rattle.clap.specs.declared.parser.matches.Found.{Found}
 use Rattle.clap.specs.declared.error.Error.{Error}
 use Rattle.clap.specs.declared.error.kind.ErrorKind.TheVariants.{OutOfMemory}
 use Rattle.kmipa_runs.specs.Statuses.{IsSilent}
-use Rattle.kmipa_command.specs.Words.{IsFlag, IsJob, IsNumber, IsSearch, IsTold, status_of, program_app, with_settings, check_app, search_app, show_app, write_app}
+use Rattle.kmipa_command.specs.Words.{IsCheck, IsFlag, IsJob, IsNumber, IsSearch, IsText, IsTold, status_of, program_app, with_settings, check_app, search_app, show_app, write_app}
 use Rattle.kmipa_command.specs.declared.words.Job.{Job}
 use Rattle.kmipa_command.specs.declared.words.Job.TheVariants.{Check, Search, Show, Write}
 use Rattle.kmipa_runs.specs.declared.options.ShowOptions.{ShowOptions}
@@ -37,20 +37,27 @@ names m = elim (out-ArgMatches m).subcommand as (λ o. option_map (λ b. (out-Su
 pub named : (m : ArgMatches) (name word : List ℕ) → name ≡ word → Some name ≡ subcommand_name_of m → Some word ≡ option_map (λ (p : Text × List Row). p.0) (subcommand_rows_of m)
 named m name word is e = ap (λ (t : List ℕ). Some t) (sym is) ∙ e ∙ names m
 
--- the files that the getters found are those of the subcommand with this name
-pub check_found : (f : Found) (t d w : Bor (List ℕ)) (o : Option (Text × List Row))
-    → Some (codes "check") ≡ option_map (λ p. p.0) o → Some (rows_of f) ≡ option_map (λ p. p.1) o
-    → Some t.now ≡ first_value f (codes "TRANSCRIPT") → Some d.now ≡ first_value f (codes "DECLARATION")
-    → Some w.now ≡ first_value f (codes "WITNESS") → IsJob (Check t d w) o
-check_found f t d w None n e et ed ew = cc
-check_found f t d w (Some found) n e et ed ew =
+-- what a getter found of an option is what its row has
+pub text_found : (f : Found) (id : Text) (given : Option (Bor (List ℕ))) → option_map (λ t. t.now) given ≡ first_value f id → IsText id (rows_of f) given
+text_found f id given e = e ∙ first_value-rows f id
+
+-- the values that the getters found are those of the subcommand with this name
+pub check_found : (f : Found) (job : Job) (o : Option (Text × List Row))
+    → Some (codes "check") ≡ option_map (λ p. p.0) o → Some (rows_of f) ≡ option_map (λ p. p.1) o → IsCheck job (rows_of f) → IsJob job o
+check_found f (Check t d w segment) None n e is = cc
+check_found f (Check t d w segment) (Some found) n e is =
     let name : codes "check" ≡ found.0 = cc in
-    let rows : rows_of f ≡ found.1 = cc in (
-      sym name,
-      ap (first_of (codes "TRANSCRIPT")) (sym rows) ∙ at_row f (codes "TRANSCRIPT") t.now et,
-      ap (first_of (codes "DECLARATION")) (sym rows) ∙ at_row f (codes "DECLARATION") d.now ed,
-      ap (first_of (codes "WITNESS")) (sym rows) ∙ at_row f (codes "WITNESS") w.now ew,
-    )
+    let rows : rows_of f ≡ found.1 = cc in
+    let P : List Row → Type 0 = λ r. IsCheck (Check t d w segment) r in
+    (sym name, subst P rows is)
+check_found f (Search t d out budget forced quiet) o n e is = absurd is
+check_found f (Show file options) o n e is = absurd is
+check_found f (Write hex out) o n e is = absurd is
+
+pub check_found_some : (f : Found) (found : Option Job) (o : Option (Text × List Row))
+    → Some (codes "check") ≡ option_map (λ p. p.0) o → Some (rows_of f) ≡ option_map (λ p. p.1) o → IfSome found (λ job. IsCheck job (rows_of f)) → IfSome found (λ job. IsJob job o)
+check_found_some f None o n e is = tt
+check_found_some f (Some job) o n e is = check_found f job o n e is
 
 -- a flag that a getter found
 pub flag_found : (f : Found) (id : Text) (given : Bool) → (one_text f id ≡ None → given ≡ false) → (one_text f id ≡ Some (codes "true") → given ≡ true)
@@ -78,7 +85,7 @@ search_found f (Search t d out budget forced quiet) (Some found) n e is =
     let rows : rows_of f ≡ found.1 = cc in
     let P : List Row → Type 0 = λ r. IsSearch (Search t d out budget forced quiet) r in
     (sym name, subst P rows is)
-search_found f (Check t d w) o n e is = absurd is
+search_found f (Check t d w segment) o n e is = absurd is
 search_found f (Show file options) o n e is = absurd is
 search_found f (Write hex out) o n e is = absurd is
 

@@ -1,6 +1,7 @@
 -- The command line: which words name which job, and what is reported where they name none.
-use Rattle.std.specs.Prelude.{◌≡◌, ◌⊎◌, ℕ, List, [], ◌∷◌, codes, string_bytes, Bool, true, false, Option, Some, None}
+use Rattle.std.specs.Prelude.{◌≡◌, ◌⊎◌, ℕ, List, [], ◌∷◌, codes, option_map, string_bytes, Bool, true, false, Option, Some, None}
 use Rattle.std.specs.Str.Parse.{IsNumeral, digits_value, without_leading_plus}
+use denote.Bor.{Bor}
 use Rattle.clap.specs.Words.{App, Row, Rule, Text, Kinds, IsAmong, new_app, new_rule, with_rule, with_subcommand, first_of, one_of}
 use Rattle.clap.specs.declared.builder.action.ArgAction.TheVariants.{Set, SetTrue}
 use Rattle.clap.specs.declared.builder.value_parser.ValueParser.TheVariants.{Unsigned}
@@ -21,6 +22,10 @@ file_rule name = record (new_rule name) { action = Some Set; required = true }
 abbrev pub flag_rule : Text → Rule
 flag_rule name = record (new_rule name) { long = Some name; action = Some SetTrue }
 
+-- an option that has a value
+abbrev pub option_rule : Text → Rule
+option_rule name = record (new_rule name) { long = Some name; value_names = 1 }
+
 -- `--budget N`, from 0 to 1,000,000,000; 1,000,000 where it isn't given
 abbrev pub budget_rule : Rule
 budget_rule = record (new_rule (codes "budget")) {
@@ -31,9 +36,13 @@ budget_rule = record (new_rule (codes "budget")) {
 }
 
 -- `check TRANSCRIPT DECLARATION WITNESS`
-abbrev pub check_app : App
-check_app = with_rule (with_rule (with_rule (new_app (codes "check")) (file_rule (codes "TRANSCRIPT")))
+abbrev pub check_files_app : App
+check_files_app = with_rule (with_rule (with_rule (new_app (codes "check")) (file_rule (codes "TRANSCRIPT")))
     (file_rule (codes "DECLARATION"))) (file_rule (codes "WITNESS"))
+
+-- and after it `[--leaves OUT] [--not-before DATE]`
+abbrev pub check_app : App
+check_app = with_rule (with_rule check_files_app (option_rule (codes "leaves"))) (option_rule (codes "not-before"))
 
 -- `search TRANSCRIPT DECLARATION OUT`
 abbrev pub search_files_app : App
@@ -73,6 +82,17 @@ pub record IsNumber (name : Text) (rows : List Row) (number : ℕ) : Type 0 wher
   pub numeral : IsNumeral 10 (without_leading_plus text)
   pub reads : number ≡ digits_value 10 (without_leading_plus text)
 
+-- the text that the option has, where it is given
+abbrev pub IsText : Text → List Row → Option (Bor Text) → Type 0
+IsText name rows given = option_map (λ text. text.now) given ≡ first_of name rows
+
+-- these values are of this check
+abbrev pub IsCheck : Job → List Row → Type 0
+IsCheck (Check transcript declaration witness segment) rows = (first_of (codes "TRANSCRIPT") rows ≡ Some transcript.now)
+    × (first_of (codes "DECLARATION") rows ≡ Some declaration.now) × (first_of (codes "WITNESS") rows ≡ Some witness.now)
+    × IsText (codes "leaves") rows segment.leaves × IsText (codes "not-before") rows segment.not_before
+IsCheck job rows = ⊥
+
 -- these values are of this search
 abbrev pub IsSearch : Job → List Row → Type 0
 IsSearch (Search transcript declaration out budget forced quiet) rows = (first_of (codes "TRANSCRIPT") rows ≡ Some transcript.now)
@@ -83,8 +103,8 @@ IsSearch job rows = ⊥
 -- the subcommand with this name and these values is this job
 abbrev pub IsJob : Job → Option (Text × List Row) → Type 0
 IsJob job None = ⊥
-IsJob (Check transcript declaration witness) (Some found) = (found.0 ≡ codes "check") × (first_of (codes "TRANSCRIPT") found.1 ≡ Some transcript.now)
-    × (first_of (codes "DECLARATION") found.1 ≡ Some declaration.now) × (first_of (codes "WITNESS") found.1 ≡ Some witness.now)
+IsJob (Check transcript declaration witness segment) (Some found) = (found.0 ≡ codes "check")
+    × IsCheck (Check transcript declaration witness segment) found.1
 IsJob (Search transcript declaration out budget forced quiet) (Some found) = (found.0 ≡ codes "search")
     × IsSearch (Search transcript declaration out budget forced quiet) found.1
 IsJob (Show file options) (Some found) = (found.0 ≡ codes "show") × (first_of (codes "FILE") found.1 ≡ Some file.now)

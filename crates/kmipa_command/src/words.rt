@@ -4,7 +4,7 @@ ghost use Rattle.std.specs.Prelude.{◌≡◌, ◌≢◌, ◌⊎◌, false, [], 
 ghost use Rattle.clap.specs.Words.{app_of, rule_of, rows_of, found_of, kind_of, subcommand_of, subcommand_rows_of, fault_of};
 ghost use Rattle.clap.specs.declared.builder.command.Command.TheViews.{out-Command};
 ghost use Rattle.kmipa_runs.specs.Statuses.{IsSilent};
-ghost use Rattle.kmipa_command.specs.Words.{program_app, check_app, search_app, search_files_app, show_app, write_app, budget_rule, file_rule, flag_rule, status_of, IsJob, IsSearch, IsTold};
+ghost use Rattle.kmipa_command.specs.Words.{program_app, check_app, check_files_app, search_app, search_files_app, show_app, write_app, budget_rule, file_rule, flag_rule, option_rule, status_of, IsCheck, IsJob, IsSearch, IsTold};
 
 use clap::builder::ValueParser;
 use clap::error::ErrorKind;
@@ -31,9 +31,20 @@ const FORCED: &str = "forced";
 
 const QUIET: &str = "quiet";
 
+const LEAVES: &str = "leaves";
+
+const NOT_BEFORE: &str = "not-before";
+
 const MESSAGES: &str = "messages";
 
 const NOTES: &str = "notes";
+
+/// The version, the commit that the program was built of, and the kit that it was proved with. The program can't know its own commit:
+/// what makes a package writes it over the forty characters behind the word, in the program that was built.
+const VERSION: &str = "\
+0.1.0
+commit unknown, since this build has no package
+kit rattle-kit-13f logic dac8208d650f15bf";
 
 /// The most steps that a search may be given.
 const MOST_STEPS: u64 = 1_000_000_000;
@@ -52,6 +63,11 @@ Status: 0 yes, found, shown or written; 1 no; 2 a file is refused; 3 a device fa
 const CHECK_HELP: &str = "\
 Example:
   kmip_audit check transcript.ttlv declaration.ttlv witness.ttlv
+  kmip_audit check monday.ttlv declaration.ttlv witness.ttlv --leaves tuesday_declaration.ttlv
+
+At a yes, and only then, --leaves writes the declaration with which the audit of the next segment goes on, and prints
+'left: N entries, last stamp DATE'. That DATE is the --not-before of the next segment: a first turn that is earlier is
+a no by reason 2. A date is written as 2023-11-14T22:13:20Z or as a number of seconds since 1970.
 
 Status: 0 yes; 1 no; 2 a file is refused; 3 a device failed or memory ran out; 64 wrong words";
 
@@ -80,6 +96,15 @@ Example:
 
 Status: 0 written; 2 the digits are refused; 3 a device failed or memory ran out; 64 wrong words";
 
+/// What is asked of a segment of an audit that goes on from file to file.
+#[derive(Clone, Copy, Debug, PartialEq, Eq)]
+pub struct SegmentWords<'a> {
+    /// The declaration that is written of what the run leaves.
+    pub leaves: Option<&'a str>,
+    /// The moment that no Time Stamp may lie before, as it is written in the words.
+    pub not_before: Option<&'a str>,
+}
+
 /// What the words ask for, with the names of the files that it reads.
 #[derive(Clone, Copy, Debug, PartialEq, Eq)]
 pub enum Job<'a> {
@@ -88,6 +113,7 @@ pub enum Job<'a> {
         transcript: &'a str,
         declaration: &'a str,
         witness: &'a str,
+        segment: SegmentWords<'a>,
     },
     /// An order in which the calls of a transcript are possible, tried with at most so many steps.
     Search {
@@ -123,7 +149,7 @@ pub struct Usage {
 
 /// The job that the words of a command line name, the first of which is the program's name.
 ///
-/// - `kmip_audit check TRANSCRIPT DECLARATION WITNESS`
+/// - `kmip_audit check TRANSCRIPT DECLARATION WITNESS [--leaves OUT] [--not-before DATE]`
 /// - `kmip_audit search TRANSCRIPT DECLARATION OUT [--budget N] [--forced] [--quiet]`, N from 0 to 1,000,000,000
 /// - `kmip_audit show FILE [--messages] [--notes]`
 /// - `kmip_audit write HEX OUT`
@@ -146,7 +172,7 @@ fn command<'a>(alloc: Global) -> Result<Command<'a>, AllocError>
 {
     Command::new(alloc, "kmip_audit")
         .about("Audits recorded KMIP 2.1 traffic")
-        .version("0.1.0")
+        .version(VERSION)
         .after_help(EXAMPLES)
         .subcommand_required(true)
         .arg_required_else_help(true)
@@ -158,6 +184,26 @@ fn command<'a>(alloc: Global) -> Result<Command<'a>, AllocError>
 
 fn check<'a>(alloc: Global) -> Result<Command<'a>, AllocError>
     ensures app { IfOk result (λ command. app_of command ≡ check_app) }
+    ensures local { IfOk result (λ command. (out-Command command).has_globals ≡ false) }
+{
+    check_of_files(alloc)?
+        .arg(option(
+            alloc,
+            LEAVES,
+            OUT,
+            "At a yes, the declaration that is written of what the run leaves",
+        ))?
+        .arg(option(
+            alloc,
+            NOT_BEFORE,
+            "DATE",
+            "The last stamp of the segment before, that no stamp may be earlier than",
+        ))
+}
+
+/// A check without its options.
+fn check_of_files<'a>(alloc: Global) -> Result<Command<'a>, AllocError>
+    ensures app { IfOk result (λ command. app_of command ≡ check_files_app) }
     ensures local { IfOk result (λ command. (out-Command command).has_globals ≡ false) }
 {
     Command::new(alloc, "check")
@@ -254,6 +300,17 @@ fn budget<'a>(alloc: Global) -> Arg<'a>
         .help("The most steps that are made, from 0 to 1000000000")
 }
 
+/// An option that has a value where it is given.
+fn option<'a>(alloc: Global, name: &'a str, value: &'a str, about: &'a str) -> Arg<'a>
+    ensures rule { rule_of result ≡ option_rule name.entry.now }
+    ensures local { result.global ≡ false }
+{
+    Arg::new(alloc, name)
+        .long(name)
+        .value_name(value)
+        .help(about)
+}
+
 /// An option without a value.
 fn flag<'a>(alloc: Global, name: &'a str, about: &'a str) -> Arg<'a>
     ensures rule { rule_of result ≡ flag_rule name.entry.now }
@@ -271,11 +328,7 @@ fn job_of<'a>(matches: &ArgMatches<'a>) -> Option<Job<'a>>
 {
     let (name, words) = matches.subcommand()?;
     match name {
-        "check" => Some(Job::Check {
-            transcript: words.get_str(TRANSCRIPT)?,
-            declaration: words.get_str(DECLARATION)?,
-            witness: words.get_str(WITNESS)?,
-        }),
+        "check" => check_of(words),
         "search" => search_of(words),
         "show" => Some(Job::Show {
             file: words.get_str(FILE)?,
@@ -290,6 +343,20 @@ fn job_of<'a>(matches: &ArgMatches<'a>) -> Option<Job<'a>>
         }),
         _ => None,
     }
+}
+
+fn check_of<'a>(words: &ArgMatches<'a>) -> Option<Job<'a>>
+    ensures { IfSome result (λ job. IsCheck job (rows_of (found_of words.now))) }
+{
+    Some(Job::Check {
+        transcript: words.get_str(TRANSCRIPT)?,
+        declaration: words.get_str(DECLARATION)?,
+        witness: words.get_str(WITNESS)?,
+        segment: SegmentWords {
+            leaves: words.get_str(LEAVES),
+            not_before: words.get_str(NOT_BEFORE),
+        },
+    })
 }
 
 fn search_of<'a>(words: &ArgMatches<'a>) -> Option<Job<'a>>

@@ -3,6 +3,7 @@ mod FrontLemmas
 mod InputLemmas
 mod LawLemmas
 mod LineLemmas
+mod MomentLemmas
 mod PrintLemmas
 mod SearchLemmas
 mod ShownLemmas

@@ -1,6 +1,7 @@
 pub mod Dates
 pub mod Inputs
 pub mod Lines
+pub mod Moments
 pub mod Notes
 pub mod Searches
 pub mod Shown

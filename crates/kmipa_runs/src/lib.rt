@@ -9,6 +9,7 @@ mod holding;
 mod laws;
 mod lines;
 mod message;
+mod moments;
 mod notes;
 mod options;
 mod pieces;
@@ -25,6 +26,7 @@ mod writing;
 
 pub use laws::items_have_no_fault;
 pub use lines::Lines;
+pub use moments::read_moment;
 pub use options::ShowOptions;
 pub use printer::{Printer, Unprinted};
 pub use reporting::report;

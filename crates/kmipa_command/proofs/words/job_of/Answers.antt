@@ -1,14 +1,13 @@
 use Rattle.std.proofs.Common.{codes}
 use Rattle.clap.specs.Words.{found_of, subcommand_rows_of}
-use Rattle.kmipa_command.proofs.WordLemmas.{named, check_found, flag_found, search_found_some, show_found, write_found}
+use Rattle.kmipa_command.proofs.WordLemmas.{named, check_found_some, flag_found, search_found_some, show_found, write_found}
 use Rattle.kmipa_command.proofs.words.job_of.Goals as goal
 
-pub returns-in_ok-get_str-in-check-3 : goal.returns-in_ok-get_str-in-check-3
-returns-in_ok-get_str-in-check-3 c =
+pub returns-in-check : goal.returns-in-check
+returns-in-check c =
     let m = c.args.matches.now in
-    check_found (found_of c.in_ok-name.words.now) c.in_ok-get_str-in-check.field-0 c.in_ok-get_str-in-check-2.field-0 c.in_ok-get_str-in-check-3.field-0 (subcommand_rows_of m)
-    (named m c.in_ok-name.name.now (codes "check") c.in-check.is c.in_ok-name.ensures.name) c.in_ok-name.ensures.rows
-    c.in_ok-get_str-in-check.ensures c.in_ok-get_str-in-check-2.ensures c.in_ok-get_str-in-check-3.ensures
+    check_found_some (found_of c.in_ok-name.words.now) c.check_of.result (subcommand_rows_of m)
+    (named m c.in_ok-name.name.now (codes "check") c.in-check.is c.in_ok-name.ensures.name) c.in_ok-name.ensures.rows c.check_of.ensures
 
 pub returns-in_ok-get_str-in-show : goal.returns-in_ok-get_str-in-show
 returns-in_ok-get_str-in-show c =
