@@ -130,6 +130,12 @@ handed_out verdict.Yes None left P e h = absurd h
 handed_out (verdict.No refused) (Some other) left P e h = absurd h
 handed_out (verdict.No refused) None left P e h = absurd cc
 
+-- something is handed out at a yes
+handed_at_yes : (v : Verdict) (handed : Option Left) (left : Left) (P : Left → Type 0) → handed ≡ Some left → LeavesAtYes v handed P → v ≡ verdict.Yes
+handed_at_yes verdict.Yes handed left P e h = refl
+handed_at_yes (verdict.No refused) (Some other) left P e h = absurd h
+handed_at_yes (verdict.No refused) None left P e h = absurd cc
+
 yes_hands_out : (v : Verdict) (handed : Option Left) (P : Left → Type 0) → v ≡ verdict.Yes → handed ≡ None → LeavesAtYes v handed P → ⊥
 yes_hands_out verdict.Yes None P e f h = h
 yes_hands_out verdict.Yes (Some left) P e f h = absurd cc
@@ -137,16 +143,21 @@ yes_hands_out (verdict.No refused) handed P e f h = absurd cc
 
 lead_of : (segment : Segment) (t d w : List ℕ) (moment : Option ℤ) → AreChecked segment t d w moment → (left : Left) → segment.checked.left ≡ Some left
     → Lead t d w moment (declaration_of left.declaration)
-lead_of segment t d w moment a left handed = record {
-  marks = transcript_of segment.records.transcript;
-  transcript = a.records.transcript;
-  declared = declaration_of segment.records.declaration;
-  declaration = a.records.declaration;
-  turns = witness_of segment.records.witness;
-  witness = a.records.witness;
-  until = left.until;
-  leads = handed_out segment.checked.verdict segment.checked.left left (λ (l : Left). RecordsLead segment.records moment l) handed a.leads;
-}
+lead_of segment t d w moment a left handed =
+    let H : Left → Type 0 = λ (l : Left). RecordsLead segment.records moment l in
+    let P : Verdict → Type 0 =
+      λ v. ChecksSince (transcript_of segment.records.transcript) (declaration_of segment.records.declaration) moment (witness_of segment.records.witness) (Ok v) in
+    record {
+      marks = transcript_of segment.records.transcript;
+      transcript = a.records.transcript;
+      declared = declaration_of segment.records.declaration;
+      declaration = a.records.declaration;
+      turns = witness_of segment.records.witness;
+      witness = a.records.witness;
+      accepted = subst P (handed_at_yes segment.checked.verdict segment.checked.left left H handed a.leads) a.verdict;
+      until = left.until;
+      leads = handed_out segment.checked.verdict segment.checked.left left H handed a.leads;
+    }
 
 made_of : (answer : List ℕ) (left : Left) (said : Status) (lines made : List ℕ) → said ≡ status.Done → TellsLeft answer left said lines made
     → IsDeclaration made (declaration_of left.declaration)

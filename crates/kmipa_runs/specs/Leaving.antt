@@ -10,7 +10,7 @@ use Rattle.kmipa_record.specs.Witnesses.{TurnOf, witness_of, IsWitness}
 use Rattle.kmipa_check.specs.Audits.{AreRecords, AreUnjudged, ReadingFails}
 use Rattle.kmipa_check.specs.Left.{LeavesAtYes}
 use Rattle.kmipa_check.specs.Segments.{Leads}
-use Rattle.kmipa_check.specs.Since.{ChecksSince}
+use Rattle.kmipa_check.specs.Since.{ChecksSince, IsAcceptedSince}
 use Rattle.kmipa_check.specs.declared.auditing.AuditFault.{AuditFault}
 use Rattle.kmipa_check.specs.declared.auditing.AuditFault.TheVariants as audit
 use Rattle.kmipa_check.specs.declared.auditing.AuditRecords.{AuditRecords}
@@ -106,7 +106,7 @@ PrintsSegment leaves (Err fault) said lines made = PrintsFault fault said lines 
 
 -- ---- what status 0 tells
 
--- The bytes are a transcript, a declaration and a witness whose turns lead, from the moment on, to this declaration.
+-- The bytes are a transcript, a declaration and a witness that is accepted from the moment on, and leads to this declaration.
 pub record Lead (t d w : List ℕ) (since : Option ℤ) (left : DeclarationOf) : Type 0 where
   pub marks : List MarkOf
   pub transcript : IsTranscript t marks
@@ -114,6 +114,7 @@ pub record Lead (t d w : List ℕ) (since : Option ℤ) (left : DeclarationOf) :
   pub declaration : IsDeclaration d declared
   pub turns : List TurnOf
   pub witness : IsWitness w turns
+  pub accepted : IsAcceptedSince marks declared since turns
   pub until : Option ℤ
   pub leads : Leads declared since marks turns left until
 
@@ -122,6 +123,6 @@ abbrev pub IsMade : Bool → DeclarationOf → List ℕ → Type 0
 IsMade true left made = IsDeclaration made left
 IsMade false left made = made ≡ []
 
--- they lead to some declaration, which is made where it is asked for
+-- some declaration is led to, and made where it is asked for
 abbrev pub LeadsAsAsked : Bool → List ℕ → List ℕ → List ℕ → Option ℤ → List ℕ → Type 0
 LeadsAsAsked leaves t d w since made = (left : DeclarationOf) × Lead t d w since left × IsMade leaves left made

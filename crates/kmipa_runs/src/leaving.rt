@@ -50,7 +50,8 @@ pub fn segment_run<R: Read>(
         → ChecksSegment t d w (is_failed transcript.new) (is_failed declaration.new) (is_failed witness.new) since outcome)
         × (PrintsSegment leaves outcome result (appended_bytes out.old.items out.new.items) (appended_bytes made.old.items made.new.items)
         ⊎ (IsSilent result (appended_bytes out.old.items out.new.items) × (appended_bytes made.old.items made.new.items ≡ []))) }
-    // Status 0 is answered only where the bytes that came, to the ends that were seen, lead to a declaration, which is made where it is asked for.
+    // Status 0 is answered only where the bytes that came, to the ends that were seen, are accepted from the moment on; and where it is asked
+    // for, what they lead to is made.
     ensures leads { result ≡ Status.Done
         → LeadsAsAsked leaves (came_of transcript.new) (came_of declaration.new) (came_of witness.new) since (appended_bytes made.old.items made.new.items)
         × IsTrue (is_ended transcript.new) × IsTrue (is_ended declaration.new) × IsTrue (is_ended witness.new) }
