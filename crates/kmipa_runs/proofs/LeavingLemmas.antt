@@ -5,11 +5,12 @@ use Rattle.std.proofs.lemmas.Option.{slice_get-map, slice_get_read}
 use Rattle.std.specs.Prelude.{option_map, slice_get}
 use Rattle.std.specs.Io.{appended_bytes}
 use borrow.Author.Count.{below_more}
+use Rattle.kmipa_record.specs.Marks.{MarkOf}
 use Rattle.kmipa_record.specs.Transcripts.{transcript_of}
 use Rattle.kmipa_record.specs.Declarations.{DeclarationOf, declaration_of, IsDeclaration}
 use Rattle.kmipa_record.specs.DeclarationWriting.{IsTooLong}
 use Rattle.kmipa_record.specs.Entries.{EntryOf, entry_of}
-use Rattle.kmipa_record.specs.Witnesses.{witness_of}
+use Rattle.kmipa_record.specs.Witnesses.{TurnOf, witness_of}
 use Rattle.kmipa_record.specs.Writing.{Appends, IsWrittenDeclaration, Unwritten, no_memory, no_file}
 use Rattle.kmipa_record.specs.declared.entry.Entry.{Entry}
 use Rattle.kmipa_record.specs.declared.fault.RecordFault.{RecordFault}
@@ -27,7 +28,7 @@ use Rattle.kmipa_check.specs.declared.segment.Left.{Left}
 use Rattle.kmipa_check.specs.declared.verdict.Verdict.{Verdict}
 use Rattle.kmipa_check.specs.declared.verdict.Verdict.TheVariants as verdict
 use Rattle.kmipa_runs.specs.Leaving.{AreChecked, IsTooLongAt, Lead, LeadsAsAsked, NoneTooLongBefore, PrintsLeft, PrintsUnwritten, RecordsLead, SegmentFails, TellsChecked, TellsLeft, TellsSegment, if_asked, made_whole, not_made}
-use Rattle.kmipa_runs.specs.Lines.{PrintsVerdict}
+use Rattle.kmipa_runs.specs.Lines.{PrintsVerdict, yes_line}
 use Rattle.kmipa_runs.specs.Statuses.{IsSilent}
 use Rattle.kmipa_runs.specs.declared.leaving.Segment.{Segment}
 use Rattle.kmipa_runs.specs.declared.status.Status.{Status}
@@ -121,22 +122,53 @@ pub left_refused : (answer : List ℕ) (left : Left) (f : RecordFault) (said : S
 left_refused answer left f said lines made u (inl p) nothing = inl (not_made p.1.0 (no_bytes (declaration_of left.declaration) f u p.0) p.1.1 nothing)
 left_refused answer left f said lines made u (inr silent) nothing = inr (silent, nothing)
 
+-- ---- what is told of a verdict
+
+-- where something is left
+pub some_told : (marks : List MarkOf) (turns : List TurnOf) (v : Verdict) (handed : Option Left) (left : Left) (said : Status) (lines made : List ℕ) → handed ≡ Some left
+    → TellsLeft yes_line left said lines made ⊎ (IsSilent said lines × (made ≡ [])) → TellsChecked marks turns v handed said lines made ⊎ (IsSilent said lines × (made ≡ []))
+some_told marks turns v handed left said lines made is tells =
+    let P : Option Left → Type 0 = λ o. TellsChecked marks turns v o said lines made ⊎ (IsSilent said lines × (made ≡ [])) in
+    subst P (sym is) tells
+
+-- and where nothing is
+pub none_told : (marks : List MarkOf) (turns : List TurnOf) (v : Verdict) (handed : Option Left) (said : Status) (lines made : List ℕ) → handed ≡ None
+    → PrintsVerdict marks turns v said lines ⊎ IsSilent said lines → made ≡ [] → TellsChecked marks turns v handed said lines made ⊎ (IsSilent said lines × (made ≡ []))
+none_told marks turns v handed said lines made is (inl prints) nothing =
+    let P : Option Left → Type 0 = λ o. TellsChecked marks turns v o said lines made in
+    inl (subst P (sym is) (prints, nothing))
+none_told marks turns v handed said lines made is (inr silent) nothing = inr (silent, nothing)
+
+-- where it is asked for
+pub asked_told : (leaves : Bool) (segment : Segment) (said : Status) (lines made : List ℕ) → leaves ≡ true
+    → TellsChecked (transcript_of segment.records.transcript) (witness_of segment.records.witness) segment.checked.verdict segment.checked.left said lines made
+    ⊎ (IsSilent said lines × (made ≡ [])) → TellsSegment leaves segment said lines made ⊎ (IsSilent said lines × (made ≡ []))
+asked_told true segment said lines made is tells = tells
+asked_told false segment said lines made is tells = absurd cc
+
+pub unasked_told : (leaves : Bool) (segment : Segment) (said : Status) (lines made : List ℕ) → leaves ≡ false
+    → PrintsVerdict (transcript_of segment.records.transcript) (witness_of segment.records.witness) segment.checked.verdict said lines ⊎ IsSilent said lines → made ≡ []
+    → TellsSegment leaves segment said lines made ⊎ (IsSilent said lines × (made ≡ []))
+unasked_told true segment said lines made is tells nothing = absurd cc
+unasked_told false segment said lines made is (inl prints) nothing = inl (prints, nothing)
+unasked_told false segment said lines made is (inr silent) nothing = inr (silent, nothing)
+
 -- ---- status 0
 
 -- what is said of what is handed out
-handed_out : (v : Verdict) (handed : Option Left) (left : Left) (P : Left → Type 0) → handed ≡ Some left → LeavesAtYes v handed P → P left
+pub handed_out : (v : Verdict) (handed : Option Left) (left : Left) (P : Left → Type 0) → handed ≡ Some left → LeavesAtYes v handed P → P left
 handed_out verdict.Yes (Some other) left P e h = let same : other ≡ left = cc in subst P same h
 handed_out verdict.Yes None left P e h = absurd h
 handed_out (verdict.No refused) (Some other) left P e h = absurd h
 handed_out (verdict.No refused) None left P e h = absurd cc
 
 -- something is handed out at a yes
-handed_at_yes : (v : Verdict) (handed : Option Left) (left : Left) (P : Left → Type 0) → handed ≡ Some left → LeavesAtYes v handed P → v ≡ verdict.Yes
+pub handed_at_yes : (v : Verdict) (handed : Option Left) (left : Left) (P : Left → Type 0) → handed ≡ Some left → LeavesAtYes v handed P → v ≡ verdict.Yes
 handed_at_yes verdict.Yes handed left P e h = refl
 handed_at_yes (verdict.No refused) (Some other) left P e h = absurd h
 handed_at_yes (verdict.No refused) None left P e h = absurd cc
 
-yes_hands_out : (v : Verdict) (handed : Option Left) (P : Left → Type 0) → v ≡ verdict.Yes → handed ≡ None → LeavesAtYes v handed P → ⊥
+pub yes_hands_out : (v : Verdict) (handed : Option Left) (P : Left → Type 0) → v ≡ verdict.Yes → handed ≡ None → LeavesAtYes v handed P → ⊥
 yes_hands_out verdict.Yes None P e f h = h
 yes_hands_out verdict.Yes (Some left) P e f h = absurd cc
 yes_hands_out (verdict.No refused) handed P e f h = absurd cc

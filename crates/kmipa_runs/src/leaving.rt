@@ -8,6 +8,7 @@ ghost use Rattle.kmipa_record.specs.Entries.{entry_of};
 ghost use Rattle.kmipa_record.specs.Transcripts.{transcript_of};
 ghost use Rattle.kmipa_record.specs.Witnesses.{witness_of};
 ghost use Rattle.kmipa_runs.specs.Leaving.{ChecksSegment, IsMomentText, IsTooLongAt, LeadsAsAsked, NoneTooLongBefore, PrintsLeft, PrintsSegment, PrintsUnwritten, TellsLeft, TellsSegment, TellsChecked};
+ghost use Rattle.kmipa_runs.specs.Lines.{PrintsVerdict};
 ghost use Rattle.kmipa_runs.specs.Statuses.{IsSilent};
 
 use crate::dates::date_text;
@@ -114,13 +115,7 @@ fn tell_segment(
     if leaves {
         tell_checked(alloc, segment, out, made)
     } else {
-        report(
-            alloc,
-            &segment.checked.verdict,
-            &segment.records.transcript,
-            &segment.records.witness,
-            out,
-        )
+        tell_verdict(alloc, segment, out)
     }
 }
 
@@ -140,14 +135,24 @@ fn tell_checked(
 {
     match &segment.checked.left {
         Some(left) => tell_left(alloc, "yes\n", left, out, made),
-        None => report(
-            alloc,
-            &segment.checked.verdict,
-            &segment.records.transcript,
-            &segment.records.witness,
-            out,
-        ),
+        None => tell_verdict(alloc, segment, out),
     }
+}
+
+/// Appends the lines of the verdict.
+fn tell_verdict(alloc: Global, segment: &Segment, out: &mut Vec<u8>) -> Status
+    ensures prints { PrintsVerdict (transcript_of segment.now.records.transcript) (witness_of segment.now.records.witness) segment.now.checked.verdict
+        result (appended_bytes out.old.items out.new.items)
+        ⊎ IsSilent result (appended_bytes out.old.items out.new.items) }
+    ensures appends { StartsWith out.new.items out.old.items }
+{
+    report(
+        alloc,
+        &segment.checked.verdict,
+        &segment.records.transcript,
+        &segment.records.witness,
+        out,
+    )
 }
 
 /// Appends the declaration that is left to `made`, and to `out` the lines of the answer and, behind them, the line that tells of it; where no
