@@ -15,19 +15,15 @@ use Rattle.kmipa_record.specs.Writing.{Appends, IsWrittenDeclaration, Unwritten,
 use Rattle.kmipa_record.specs.declared.entry.Entry.{Entry}
 use Rattle.kmipa_record.specs.declared.fault.RecordFault.{RecordFault}
 use Rattle.kmipa_record.specs.declared.fault.RecordKind.TheVariants as kind
-use Rattle.kmipa_check.specs.Audits.{AreRecords, AreUnjudged, ReadingFails}
+use Rattle.kmipa_check.specs.Audits.{AreRecords}
 use Rattle.kmipa_check.specs.Left.{LeavesAtYes}
 use Rattle.kmipa_check.specs.Since.{ChecksSince}
-use Rattle.kmipa_check.specs.Verdicts.{Checks}
-use Rattle.kmipa_check.specs.declared.auditing.AuditFault.{AuditFault}
-use Rattle.kmipa_check.specs.declared.auditing.AuditFault.TheVariants as audit
 use Rattle.kmipa_check.specs.declared.auditing.AuditRecords.{AuditRecords}
-use Rattle.kmipa_check.specs.declared.fault.CheckFault.{CheckFault}
 use Rattle.kmipa_check.specs.declared.segment.Checked.{Checked}
 use Rattle.kmipa_check.specs.declared.segment.Left.{Left}
 use Rattle.kmipa_check.specs.declared.verdict.Verdict.{Verdict}
 use Rattle.kmipa_check.specs.declared.verdict.Verdict.TheVariants as verdict
-use Rattle.kmipa_runs.specs.Leaving.{AreChecked, IsTooLongAt, Lead, LeadsAsAsked, NoneTooLongBefore, PrintsLeft, PrintsUnwritten, RecordsLead, SegmentFails, TellsChecked, TellsLeft, TellsSegment, if_asked, made_whole, not_made}
+use Rattle.kmipa_runs.specs.Leaving.{AreChecked, IsTooLongAt, Lead, LeadsAsAsked, NoneTooLongBefore, PrintsLeft, PrintsUnwritten, RecordsLead, TellsChecked, TellsLeft, TellsSegment, if_asked, made_whole, not_made}
 use Rattle.kmipa_runs.specs.Lines.{PrintsVerdict, yes_line}
 use Rattle.kmipa_runs.specs.Statuses.{IsSilent}
 use Rattle.kmipa_runs.specs.declared.leaving.Segment.{Segment}
@@ -43,26 +39,6 @@ pub checked_files : (t d w : List ℕ) (records : AuditRecords) (checked : Check
     → ChecksSince (transcript_of records.transcript) (declaration_of records.declaration) moment (witness_of records.witness) (Ok checked.verdict)
     → LeavesAtYes checked.verdict checked.left (λ (left : Left). RecordsLead records moment left) → AreChecked (record { records = records; checked = checked }) t d w moment
 checked_files t d w records checked moment are right leads = record { records = are; verdict = right; leads = leads }
-
--- a fault of them
-pub unchecked_files : (t d w : List ℕ) (records : AuditRecords) (fault : CheckFault) → AreRecords records t d w
-    → Checks (transcript_of records.transcript) (declaration_of records.declaration) (witness_of records.witness) (Err fault) → AreUnjudged fault t d w
-unchecked_files t d w records fault are checks = record {
-  marks = transcript_of records.transcript;
-  transcript = are.transcript;
-  declared = declaration_of records.declaration;
-  declaration = are.declaration;
-  turns = witness_of records.witness;
-  witness = are.witness;
-  checks = checks;
-}
-
--- a fault of reading
-pub unread_files : (t d w : List ℕ) (ft fd fw : Bool) (fault : AuditFault) → ReadingFails t d w ft fd fw fault → SegmentFails t d w ft fd fw fault
-unread_files t d w ft fd fw (audit.Transcript f) told = told
-unread_files t d w ft fd fw (audit.Declaration f) told = told
-unread_files t d w ft fd fw (audit.Witness f) told = told
-unread_files t d w ft fd fw (audit.Check f) told = absurd told
 
 -- ---- which entry is too long
 
@@ -191,7 +167,7 @@ lead_of segment t d w moment a left handed =
       leads = handed_out segment.checked.verdict segment.checked.left left H handed a.leads;
     }
 
-made_of : (answer : List ℕ) (left : Left) (said : Status) (lines made : List ℕ) → said ≡ status.Done → TellsLeft answer left said lines made
+pub made_of : (answer : List ℕ) (left : Left) (said : Status) (lines made : List ℕ) → said ≡ status.Done → TellsLeft answer left said lines made
     → IsDeclaration made (declaration_of left.declaration)
 made_of answer left said lines made done (made_whole e told prints reads written) = written
 made_of answer left said lines made done (not_made e none prints nothing) =

@@ -7,12 +7,11 @@ use Rattle.kmipa_record.specs.Declarations.{DeclarationOf, declaration_of, IsDec
 use Rattle.kmipa_record.specs.DeclarationWriting.{IsTooLong}
 use Rattle.kmipa_record.specs.Entries.{EntryOf}
 use Rattle.kmipa_record.specs.Witnesses.{TurnOf, witness_of, IsWitness}
-use Rattle.kmipa_check.specs.Audits.{AreRecords, AreUnjudged, ReadingFails}
+use Rattle.kmipa_check.specs.Audits.{AreRecords, AuditFails}
 use Rattle.kmipa_check.specs.Left.{LeavesAtYes}
 use Rattle.kmipa_check.specs.Segments.{Leads}
 use Rattle.kmipa_check.specs.Since.{ChecksSince, IsAcceptedSince}
 use Rattle.kmipa_check.specs.declared.auditing.AuditFault.{AuditFault}
-use Rattle.kmipa_check.specs.declared.auditing.AuditFault.TheVariants as audit
 use Rattle.kmipa_check.specs.declared.auditing.AuditRecords.{AuditRecords}
 use Rattle.kmipa_check.specs.declared.segment.Left.{Left}
 use Rattle.kmipa_check.specs.declared.verdict.Verdict.{Verdict}
@@ -35,15 +34,10 @@ pub record AreChecked (segment : Segment) (t d w : List ℕ) (since : Option ℤ
   pub verdict : ChecksSince (transcript_of segment.records.transcript) (declaration_of segment.records.declaration) since (witness_of segment.records.witness) (Ok segment.checked.verdict)
   pub leads : LeavesAtYes segment.checked.verdict segment.checked.left (λ (left : Left). RecordsLead segment.records since left)
 
--- a fault: the first of the first file that is no record, in the order of the three, or one of the check
-abbrev pub SegmentFails : List ℕ → List ℕ → List ℕ → Bool → Bool → Bool → AuditFault → Type 0
-SegmentFails t d w failed_t failed_d failed_w (audit.Check f) = AreUnjudged f t d w
-SegmentFails t d w failed_t failed_d failed_w fault = ReadingFails t d w failed_t failed_d failed_w fault
-
--- what the check of a segment of these three files answers
+-- what the check of a segment of these three files answers; its faults are those of an audit
 abbrev pub ChecksSegment : List ℕ → List ℕ → List ℕ → Bool → Bool → Bool → Option ℤ → Result Segment AuditFault → Type 0
 ChecksSegment t d w failed_t failed_d failed_w since (Ok segment) = AreChecked segment t d w since
-ChecksSegment t d w failed_t failed_d failed_w since (Err fault) = SegmentFails t d w failed_t failed_d failed_w fault
+ChecksSegment t d w failed_t failed_d failed_w since (Err fault) = AuditFails t d w failed_t failed_d failed_w fault
 
 -- ---- what is made and printed
 
