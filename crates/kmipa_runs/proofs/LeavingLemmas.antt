@@ -1,18 +1,13 @@
 -- What is made and printed of a segment.
-use Rattle.std.proofs.Common.{◌≡◌, ◌⊎◌, inl, inr, ◌<◌, ◌≤◌, ◌+◌, ℕ, ℤ, List, [], ◌++◌, Bool, true, false, Option, Some, None, Ok, Err, map, length, get_or, refl, sym, ap, ◌∙◌, subst, arith}
+use Rattle.std.proofs.Common.{◌≡◌, ◌⊎◌, inl, inr, ℕ, ℤ, List, [], ◌++◌, Bool, true, false, Option, Some, None, Result, Ok, Err, is_ok, if◌then◌else◌, refl, sym, ap, ◌∙◌, subst}
 use Rattle.std.proofs.lemmas.List.{append-nil}
-use Rattle.std.proofs.lemmas.Option.{slice_get-map, slice_get_read}
-use Rattle.std.specs.Prelude.{option_map, slice_get}
+use Rattle.std.specs.Result.{is_err}
 use Rattle.std.specs.Io.{appended_bytes}
-use borrow.Author.Count.{below_more}
 use Rattle.kmipa_record.specs.Marks.{MarkOf}
 use Rattle.kmipa_record.specs.Transcripts.{transcript_of}
 use Rattle.kmipa_record.specs.Declarations.{DeclarationOf, declaration_of, IsDeclaration}
-use Rattle.kmipa_record.specs.DeclarationWriting.{IsTooLong}
-use Rattle.kmipa_record.specs.Entries.{EntryOf, entry_of}
 use Rattle.kmipa_record.specs.Witnesses.{TurnOf, witness_of}
 use Rattle.kmipa_record.specs.Writing.{Appends, IsWrittenDeclaration, Unwritten, no_memory, no_file}
-use Rattle.kmipa_record.specs.declared.entry.Entry.{Entry}
 use Rattle.kmipa_record.specs.declared.fault.RecordFault.{RecordFault}
 use Rattle.kmipa_record.specs.declared.fault.RecordKind.TheVariants as kind
 use Rattle.kmipa_check.specs.Audits.{AreRecords}
@@ -23,7 +18,7 @@ use Rattle.kmipa_check.specs.declared.segment.Checked.{Checked}
 use Rattle.kmipa_check.specs.declared.segment.Left.{Left}
 use Rattle.kmipa_check.specs.declared.verdict.Verdict.{Verdict}
 use Rattle.kmipa_check.specs.declared.verdict.Verdict.TheVariants as verdict
-use Rattle.kmipa_runs.specs.Leaving.{AreChecked, IsTooLongAt, Lead, LeadsAsAsked, NoneTooLongBefore, PrintsLeft, PrintsUnwritten, RecordsLead, TellsChecked, TellsLeft, TellsSegment, if_asked, made_whole, not_made}
+use Rattle.kmipa_runs.specs.Leaving.{AreChecked, Lead, LeadsAsAsked, PrintsLeft, PrintsUnwritten, RecordsLead, TellsChecked, TellsLeft, TellsSegment, if_asked, made_whole, not_made}
 use Rattle.kmipa_runs.specs.Lines.{PrintsVerdict, yes_line}
 use Rattle.kmipa_runs.specs.Statuses.{IsSilent}
 use Rattle.kmipa_runs.specs.declared.leaving.Segment.{Segment}
@@ -40,40 +35,16 @@ pub checked_files : (t d w : List ℕ) (records : AuditRecords) (checked : Check
     → LeavesAtYes checked.verdict checked.left (λ (left : Left). RecordsLead records moment left) → AreChecked (record { records = records; checked = checked }) t d w moment
 checked_files t d w records checked moment are right leads = record { records = are; verdict = right; leads = leads }
 
--- ---- which entry is too long
-
-entry_at : (entries : List Entry) (place : ℕ) (x : Entry) → place < length entries → x ≡ get_or entries place x → slice_get (map entry_of entries) place ≡ Some (entry_of x)
-entry_at entries place x h is = slice_get-map entry_of entries place ∙ ap (option_map entry_of) (slice_get_read entries (length entries) place x refl h is)
-
--- this one is
-pub long_at : (entries : List Entry) (place : ℕ) (x : Entry) → place < length entries → x ≡ get_or entries place x → IsTooLong (entry_of x)
-    → IsTooLongAt (map entry_of entries) place
-long_at entries place x h is long = (entry_of x, entry_at entries place x h is, long)
-
-short_at : (entries : List Entry) (place : ℕ) (x : Entry) → place < length entries → x ≡ get_or entries place x → (IsTooLong (entry_of x) → ⊥)
-    → IsTooLongAt (map entry_of entries) place → ⊥
-short_at entries place x h is short l =
-    let there = l.1.0 in
-    let same : entry_of x ≡ l.0 = let e = sym (entry_at entries place x h is) ∙ there in cc in
-    let P : EntryOf → Type 0 = λ e. IsTooLong e in
-    short (subst P (sym same) l.1.1)
-
--- this one isn't either
-pub none_more : (entries : List Entry) (place : ℕ) (x : Entry) → place < length entries → x ≡ get_or entries place x → (IsTooLong (entry_of x) → ⊥)
-    → NoneTooLongBefore (map entry_of entries) place → NoneTooLongBefore (map entry_of entries) (place + 1)
-none_more entries place x h is short none =
-    let P : ℕ → Type 0 = λ at. IsTooLongAt (map entry_of entries) at → ⊥ in
-    below_more P place none (short_at entries place x h is short)
-
--- and none of all
-pub none_of_all : (entries : List Entry) (place : ℕ) → length entries ≤ place → NoneTooLongBefore (map entry_of entries) place
-    → NoneTooLongBefore (map entry_of entries) (length entries)
-none_of_all entries place h none = λ at below. none at (omega arith)
-
 -- ---- what is made
 
 pub nothing_appended : (old new : List ℕ) → new ≡ old → appended_bytes old new ≡ []
 nothing_appended old new e = since old [] new (e ∙ sym (append-nil old))
+
+-- all was appended where that was no error
+pub appended_whole : {T E : Type 0} (r : Result T E) (failed : Bool) (old new x : List ℕ) → new ≡ (if is_ok r then old ++ x else old) → failed ≡ is_err r → failed ≡ false
+    → appended_bytes old new ≡ x
+appended_whole (Ok u) failed old new x e is none = since old x new e
+appended_whole (Err u) failed old new x e is none = absurd cc
 
 -- the declaration that was appended
 appended_declaration : (old new : List ℕ) (declared : DeclarationOf) → Appends (IsWrittenDeclaration declared) old new → IsDeclaration (appended_bytes old new) declared
@@ -84,7 +55,7 @@ appended_declaration old new declared a =
 pub left_made : (answer : List ℕ) (left : Left) (text lines old new : List ℕ) → (told : List ℕ) × PrintsLeft left told × (text ≡ answer ++ told) → lines ≡ text
     → Appends (IsWrittenDeclaration (declaration_of left.declaration)) old new → TellsLeft answer left status.Done lines (appended_bytes old new)
 left_made answer left text lines old new told same a =
-    made_whole refl told.0 told.1.0 (same ∙ told.1.1) (appended_declaration old new (declaration_of left.declaration) a)
+    made_whole refl told.0 told.1 (same ∙ told.2) (appended_declaration old new (declaration_of left.declaration) a)
 
 -- no bytes are the declaration that was refused as an entry
 no_bytes : (declared : DeclarationOf) (f : RecordFault) → Unwritten (λ bytes. IsDeclaration bytes declared) f → f.kind ≡ kind.Entry
@@ -95,7 +66,7 @@ no_bytes declared f (no_file at is none) entry = none
 pub left_refused : (answer : List ℕ) (left : Left) (f : RecordFault) (said : Status) (lines made : List ℕ) → Unwritten (λ bytes. IsDeclaration bytes (declaration_of left.declaration)) f
     → ((f.kind ≡ kind.Entry) × (said ≡ status.Refused) × PrintsUnwritten (declaration_of left.declaration).entries lines) ⊎ IsSilent said lines
     → made ≡ [] → TellsLeft answer left said lines made ⊎ (IsSilent said lines × (made ≡ []))
-left_refused answer left f said lines made u (inl p) nothing = inl (not_made p.1.0 (no_bytes (declaration_of left.declaration) f u p.0) p.1.1 nothing)
+left_refused answer left f said lines made u (inl p) nothing = inl (not_made p.1 (no_bytes (declaration_of left.declaration) f u p.0) p.2 nothing)
 left_refused answer left f said lines made u (inr silent) nothing = inr (silent, nothing)
 
 -- ---- what is told of a verdict
