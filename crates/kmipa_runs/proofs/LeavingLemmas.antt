@@ -78,28 +78,6 @@ some_told marks turns v handed left said lines made is tells =
     let P : Option Left → Type 0 = λ o. TellsChecked marks turns v o said lines made ⊎ (IsSilent said lines × (made ≡ [])) in
     subst P (sym is) tells
 
--- and where nothing is
-pub none_told : (marks : List MarkOf) (turns : List TurnOf) (v : Verdict) (handed : Option Left) (said : Status) (lines made : List ℕ) → handed ≡ None
-    → PrintsVerdict marks turns v said lines ⊎ IsSilent said lines → made ≡ [] → TellsChecked marks turns v handed said lines made ⊎ (IsSilent said lines × (made ≡ []))
-none_told marks turns v handed said lines made is (inl prints) nothing =
-    let P : Option Left → Type 0 = λ o. TellsChecked marks turns v o said lines made in
-    inl (subst P (sym is) (prints, nothing))
-none_told marks turns v handed said lines made is (inr silent) nothing = inr (silent, nothing)
-
--- where it is asked for
-pub asked_told : (leaves : Bool) (segment : Segment) (said : Status) (lines made : List ℕ) → leaves ≡ true
-    → TellsChecked (transcript_of segment.records.transcript) (witness_of segment.records.witness) segment.checked.verdict segment.checked.left said lines made
-    ⊎ (IsSilent said lines × (made ≡ [])) → TellsSegment leaves segment said lines made ⊎ (IsSilent said lines × (made ≡ []))
-asked_told true segment said lines made is tells = tells
-asked_told false segment said lines made is tells = absurd cc
-
-pub unasked_told : (leaves : Bool) (segment : Segment) (said : Status) (lines made : List ℕ) → leaves ≡ false
-    → PrintsVerdict (transcript_of segment.records.transcript) (witness_of segment.records.witness) segment.checked.verdict said lines ⊎ IsSilent said lines → made ≡ []
-    → TellsSegment leaves segment said lines made ⊎ (IsSilent said lines × (made ≡ []))
-unasked_told true segment said lines made is tells nothing = absurd cc
-unasked_told false segment said lines made is (inl prints) nothing = inl (prints, nothing)
-unasked_told false segment said lines made is (inr silent) nothing = inr (silent, nothing)
-
 -- ---- status 0
 
 -- what is said of what is handed out
