@@ -103,7 +103,7 @@ lead_of : (segment : Segment) (t d w : List ℕ) (moment : Option ℤ) → AreCh
 lead_of segment t d w moment a left handed =
     let H : Left → Type 0 = λ (l : Left). RecordsLead segment.records moment l in
     let P : Verdict → Type 0 =
-      λ v. ChecksSince (transcript_of segment.records.transcript) (declaration_of segment.records.declaration) moment (witness_of segment.records.witness) (Ok v) in
+    λ v. ChecksSince (transcript_of segment.records.transcript) (declaration_of segment.records.declaration) moment (witness_of segment.records.witness) (Ok v) in
     record {
       marks = transcript_of segment.records.transcript;
       transcript = a.records.transcript;

@@ -120,12 +120,7 @@ fn tell_segment(
 }
 
 /// The same where what is left is asked for.
-fn tell_checked(
-    alloc: Global,
-    segment: &Segment,
-    out: &mut Vec<u8>,
-    made: &mut Vec<u8>,
-) -> Status
+fn tell_checked(alloc: Global, segment: &Segment, out: &mut Vec<u8>, made: &mut Vec<u8>) -> Status
     ensures tells { TellsChecked (transcript_of segment.now.records.transcript) (witness_of segment.now.records.witness) segment.now.checked.verdict segment.now.checked.left
         result (appended_bytes out.old.items out.new.items) (appended_bytes made.old.items made.new.items)
         ⊎ (IsSilent result (appended_bytes out.old.items out.new.items) × (appended_bytes made.old.items made.new.items ≡ [])) }

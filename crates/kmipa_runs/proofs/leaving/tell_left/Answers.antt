@@ -14,6 +14,6 @@ pub returns-clause-tells : goal.returns-clause-tells
 returns-clause-tells c =
     let lines = appended_bytes c.args.out.now.items c.extend_from_slice.new.self.items in
     let same = appended_whole c.extend_from_slice.result c.is_err.result c.args.out.now.items c.extend_from_slice.new.self.items c.as_bytes.result.now
-      c.extend_from_slice.ensures.items c.is_err.ensures.value c.if-is_err.false ∙ c.as_bytes.ensures.value in
+    c.extend_from_slice.ensures.items c.is_err.ensures.value c.if-is_err.false ∙ c.as_bytes.ensures.value in
     inl (left_made c.args.answer.now c.args.left.now (string_bytes c.in-Ok.text) lines c.args.made.now.items c.write_declaration.new.out.items
     c.in-Ok.ensures same c.in_default-write_declaration.ensures.written)
