@@ -2,6 +2,7 @@ mod AppendLemmas
 mod FrontLemmas
 mod InputLemmas
 mod LawLemmas
+mod LeavingLemmas
 mod LineLemmas
 mod MomentLemmas
 mod PrintLemmas

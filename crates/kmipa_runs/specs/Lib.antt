@@ -1,5 +1,6 @@
 pub mod Dates
 pub mod Inputs
+pub mod Leaving
 pub mod Lines
 pub mod Moments
 pub mod Notes

@@ -7,6 +7,7 @@ mod flaws;
 mod front;
 mod holding;
 mod laws;
+mod leaving;
 mod lines;
 mod message;
 mod moments;
@@ -25,6 +26,7 @@ mod values;
 mod writing;
 
 pub use laws::items_have_no_fault;
+pub use leaving::{Segment, segment_run};
 pub use lines::Lines;
 pub use moments::read_moment;
 pub use options::ShowOptions;
