@@ -3,6 +3,8 @@
 
 mod dates;
 mod digits;
+mod explained;
+mod explaining;
 mod flaws;
 mod front;
 mod holding;
@@ -25,6 +27,7 @@ mod status;
 mod values;
 mod writing;
 
+pub use explaining::{Explained, explain_run};
 pub use laws::items_have_no_fault;
 pub use leaving::{Segment, segment_run};
 pub use lines::Lines;
