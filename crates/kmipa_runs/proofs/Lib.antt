@@ -1,9 +1,12 @@
 mod AppendLemmas
 mod FrontLemmas
+mod HeldLemmas
 mod InputLemmas
+mod JsonLemmas
 mod LawLemmas
 mod LineLemmas
 mod PrintLemmas
 mod SearchLemmas
 mod ShownLemmas
+mod TellingLemmas
 mod YesLemmas

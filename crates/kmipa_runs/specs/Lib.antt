@@ -1,7 +1,10 @@
 pub mod Dates
+pub mod Held
 pub mod Inputs
+pub mod Judging
 pub mod Lines
 pub mod Notes
 pub mod Searches
 pub mod Shown
 pub mod Statuses
+pub mod Telling

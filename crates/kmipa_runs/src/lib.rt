@@ -1,11 +1,15 @@
 //! The runs of the program, over inputs and outputs that are handed in: each appends its lines and answers its status.
 #![tactic(auto)]
 
+mod bytes;
 mod dates;
 mod digits;
 mod flaws;
 mod front;
+mod held;
 mod holding;
+mod json;
+mod judging;
 mod laws;
 mod lines;
 mod message;
@@ -13,6 +17,7 @@ mod notes;
 mod options;
 mod pieces;
 mod printer;
+mod reading;
 mod reporting;
 mod runs;
 mod searched;
@@ -20,9 +25,11 @@ mod searching;
 mod showing;
 mod shown;
 mod status;
+mod telling;
 mod values;
 mod writing;
 
+pub use json::{VERSION, check_json};
 pub use laws::items_have_no_fault;
 pub use lines::Lines;
 pub use options::ShowOptions;
