@@ -70,8 +70,11 @@ fn records_held<R: Read>(
         Ok(first) => first,
         Err(fault) => return Ok(Err(AuditFault::Transcript(fault))),
     };
-    let read: Result<Declaration, RecordFault> =
-        read_held(alloc, declaration, &mut held.declaration)?;
+    let read: Result<Declaration, RecordFault> = read_held(
+        alloc,
+        declaration,
+        &mut held.declaration,
+    )?;
     let second = match read {
         Ok(second) => second,
         Err(fault) => return Ok(Err(AuditFault::Declaration(fault))),
