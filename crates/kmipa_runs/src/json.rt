@@ -9,7 +9,8 @@ ghost use Rattle.kmipa_runs.specs.Judging.{AreEnded, AuditsInputs};
 ghost use Rattle.kmipa_runs.specs.Statuses.{IsSilent};
 ghost use Rattle.kmipa_runs.specs.Telling.{PrintsJson, TellsOutcome, input_members, opened};
 
-use crate::judging::{Held, audit_held};
+use crate::held::Held;
+use crate::judging::audit_held;
 use crate::lines::Lines;
 use crate::reporting::append;
 use crate::status::Status;
