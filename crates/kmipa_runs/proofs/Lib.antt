@@ -1,7 +1,9 @@
 mod AppendLemmas
 mod ExplainedLemmas
 mod FrontLemmas
+mod HeldLemmas
 mod InputLemmas
+mod JsonLemmas
 mod LawLemmas
 mod LeavingLemmas
 mod LineLemmas
@@ -9,4 +11,5 @@ mod MomentLemmas
 mod PrintLemmas
 mod SearchLemmas
 mod ShownLemmas
+mod TellingLemmas
 mod YesLemmas

@@ -1,6 +1,8 @@
 pub mod Dates
 pub mod Explained
+pub mod Held
 pub mod Inputs
+pub mod Judging
 pub mod Leaving
 pub mod Lines
 pub mod Moments
@@ -8,3 +10,4 @@ pub mod Notes
 pub mod Searches
 pub mod Shown
 pub mod Statuses
+pub mod Telling

@@ -1,13 +1,17 @@
 //! The runs of the program, over inputs and outputs that are handed in: each appends its lines and answers its status.
 #![tactic(auto)]
 
+mod bytes;
 mod dates;
 mod digits;
 mod explained;
 mod explaining;
 mod flaws;
 mod front;
+mod held;
 mod holding;
+mod json;
+mod judging;
 mod laws;
 mod leaving;
 mod lines;
@@ -17,6 +21,7 @@ mod notes;
 mod options;
 mod pieces;
 mod printer;
+mod reading;
 mod reporting;
 mod runs;
 mod searched;
@@ -24,10 +29,12 @@ mod searching;
 mod showing;
 mod shown;
 mod status;
+mod telling;
 mod values;
 mod writing;
 
 pub use explaining::{Explained, explain_run};
+pub use json::{VERSION, check_json};
 pub use laws::items_have_no_fault;
 pub use leaving::{Segment, segment_run};
 pub use lines::Lines;

@@ -134,7 +134,7 @@ fn check_lines(alloc: Global, fault: &CheckFault) -> Result<Lines, AllocError>
 }
 
 /// Which of its two messages a call's fault is of.
-fn message_name(side: Side) -> &'static str
+pub fn message_name(side: Side) -> &'static str
     ensures { result.now ≡ side_name side }
 {
     match side {
