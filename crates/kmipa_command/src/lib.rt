@@ -1,7 +1,9 @@
 //! The command line: words come in, files are read and written, and lines go out.
 #![tactic(auto)]
 
+mod checking;
 mod files;
+mod objects;
 mod output;
 mod printing;
 mod progress;

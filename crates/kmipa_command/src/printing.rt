@@ -99,6 +99,15 @@ pub fn tell_words<R: Print + Eprint>(rt: &R, error: &io::Error) -> Status
     status_of(&reported, Status::Usage)
 }
 
+/// Tells that options were given that don't go together.
+pub fn tell_forms<R: Eprint>(rt: &R) -> Status
+    ensures { (result ≡ Status.Usage) ⊎ (result ≡ Status.Failed) }
+{
+    let reported =
+        rt.eprintln("error: --json, --explain, and --leaves or --not-before don't go together");
+    status_of(&reported, Status::Usage)
+}
+
 /// Help goes to standard output, and what is wrong with the words to standard error.
 pub fn tell_usage<R: Print + Eprint>(rt: &R, usage: &Usage) -> Status
     ensures { (result ≡ usage.now.status) ⊎ (result ≡ Status.Failed) }

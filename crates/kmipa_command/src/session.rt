@@ -1,18 +1,14 @@
 //! A session: words come in, files are read and written, and lines go out.
 
-ghost use Rattle.std.specs.Prelude.{◌≡◌, ◌↔◌, [], IfOk};
-ghost use Rattle.kmipa_runs.specs.Lines.{FitsStatus, yes_line};
-ghost use Rattle.kmipa_runs.specs.declared.status.Status.{Status};
-
+use crate::checking::{Form, check_files, check_segment_files, explain_files, form_of};
 use crate::files::{hint_digits, hint_kind, open_input};
+use crate::objects::check_object;
 use crate::output::Output;
-use crate::printing::{tell, tell_error, tell_rest, tell_usage, tell_words};
+use crate::printing::{tell, tell_error, tell_forms, tell_rest, tell_usage, tell_words};
 use crate::progress::Progress;
 use crate::replacing::{is_input, replace_file, test_output};
-use crate::words::{Job, SegmentWords, read_words};
-use kmipa_runs::{
-    ShowOptions, Status, check_run, read_moment, search_run, segment_run, show_run, write_run,
-};
+use crate::words::{Job, read_words};
+use kmipa_runs::{ShowOptions, Status, search_run, show_run, write_run};
 use kmipa_search::Watch;
 use std::rt::{Clock, Env, Files};
 use std::{env, io};
@@ -49,17 +45,19 @@ fn run_job<R: Files + Clock + AllocGlobal + Print + Eprint>(
             transcript,
             declaration,
             witness,
-            segment: SegmentWords {
-                leaves: None,
-                not_before: None,
-            },
-        } => check_files(rt, [transcript, declaration, witness], &mut out),
-        Job::Check {
-            transcript,
-            declaration,
-            witness,
+            json,
+            explain,
             segment,
-        } => check_segment_files(rt, [transcript, declaration, witness], segment, &mut out),
+        } => {
+            let names = [transcript, declaration, witness];
+            match form_of(json, explain, segment) {
+                Some(Form::Lines) => check_files(rt, names, &mut out),
+                Some(Form::Explained) => explain_files(rt, names, &mut out),
+                Some(Form::Segment) => check_segment_files(rt, names, segment, &mut out),
+                Some(Form::Json) => return check_object(rt, names),
+                None => return tell_forms(rt),
+            }
+        }
         Job::Search {
             transcript,
             declaration,
@@ -81,93 +79,6 @@ fn run_job<R: Files + Clock + AllocGlobal + Print + Eprint>(
     match done {
         Ok(status) => tell(rt, out.as_slice(), status),
         Err(error) => tell_error(rt, &error),
-    }
-}
-
-fn check_files<R: Files + AllocGlobal + Eprint>(
-    rt: &R,
-    names: [&str; 3],
-    out: &mut Vec<u8>,
-) -> io::Result<Status>
-    requires { out.old.items ≡ [] }
-    // What goes on to be printed is what the run made.
-    ensures fits { IfOk result (λ status. FitsStatus status out.new.items) }
-    ensures yes { IfOk result (λ status. (status ≡ Status.Done) ↔ (out.new.items ≡ yes_line)) }
-{
-    let mut transcript = open_input(rt, names[0])?;
-    let mut declaration = open_input(rt, names[1])?;
-    let mut witness = open_input(rt, names[2])?;
-    let status = check_run(
-        rt.alloc(),
-        &mut transcript,
-        &mut declaration,
-        &mut witness,
-        out,
-    );
-    if status == Status::Refused {
-        hint_kind(rt, &names, out);
-    }
-    Ok(status)
-}
-
-/// Checks a segment: from a moment on, where one is given, and with the declaration that its run leaves, where that is asked for. Where the
-/// status is not `Done` nothing is made.
-fn check_segment_files<R: Files + AllocGlobal + Eprint>(
-    rt: &R,
-    names: [&str; 3],
-    segment: SegmentWords<'_>,
-    out: &mut Vec<u8>,
-) -> io::Result<Status> {
-    let since = match moment_of(rt, segment.not_before) {
-        Ok(since) => since,
-        Err(mistake) => return Ok(mistake),
-    };
-    if segment.leaves.is_some_and(|left| is_input(rt, left, &names)) {
-        return Ok(Status::Usage);
-    }
-    let mut transcript = open_input(rt, names[0])?;
-    let mut declaration = open_input(rt, names[1])?;
-    let mut witness = open_input(rt, names[2])?;
-    if let Some(left) = segment.leaves {
-        test_output(rt, left)?;
-    }
-    let mut made = Vec::new(rt.alloc());
-    let status = segment_run(
-        rt.alloc(),
-        &mut transcript,
-        &mut declaration,
-        &mut witness,
-        since,
-        segment.leaves.is_some(),
-        out,
-        &mut made,
-    );
-    drop(transcript);
-    drop(declaration);
-    drop(witness);
-    if status == Status::Refused {
-        hint_kind(rt, &names, out);
-    }
-    match segment.leaves {
-        Some(left) if status == Status::Done => replace_file(rt, left, made.as_slice())?,
-        _ => {}
-    }
-    Ok(status)
-}
-
-/// The moment that a word tells, where there is one. A word that tells none is a mistake, which is told on standard error.
-fn moment_of<R: Eprint>(rt: &R, word: Option<&str>) -> Result<Option<i64>, Status> {
-    let Some(text) = word else {
-        return Ok(None);
-    };
-    match read_moment(text) {
-        Some(second) => Ok(Some(second)),
-        None => {
-            rt.eprintln(format_args!(
-                "error: --not-before {text}: is neither a date as 2023-11-14T22:13:20Z nor a number of seconds since 1970"
-            )).ok();
-            Err(Status::Usage)
-        }
     }
 }
 

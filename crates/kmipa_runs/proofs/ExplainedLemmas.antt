@@ -1,6 +1,8 @@
 -- Of what is printed of an explanation.
 use Rattle.std.proofs.Common.{◌≡◌, ◌∙◌, ap, refl, List, [], ◌∷◌, ◌++◌, ℕ, ℤ, Bool, true, false, codes, take, length}
 use Rattle.std.specs.List.{flat_map}
+use Rattle.std.specs.String.{string_bytes}
+use Rattle.kmipa_runs.specs.Shown.{quoted}
 use Rattle.kmipa_runs.specs.Explained.{calls_text, more_text, numbered, operation_line, PrintsCause, PrintsExplanation}
 use Rattle.kmipa_explain.specs.declared.explanation.Explanation.{Explanation}
 
@@ -12,8 +14,10 @@ calls_told (n ∷ numbers) named more text some en em et =
     et ∙ ap (λ (t : List ℕ). codes "calls" ++ t ++ more) en ∙ ap (λ (t : List ℕ). codes "calls" ++ flat_map numbered (take 20 (n ∷ numbers)) ++ t) em
 
 -- an explanation is told by its parts
-pub explanation_told : (e : Explanation) (operation overlapping rest text : List ℕ) → operation ≡ operation_line e.operation → overlapping ≡ calls_text e.overlapping.items
-    → PrintsCause e.cause rest → text ≡ operation ++ (codes "overlapping, and later: " ++ (overlapping ++ 10 ∷ rest)) → PrintsExplanation e text
-explanation_told e operation overlapping rest text eo ec told et =
-    (rest, told, et ∙ ap (λ (t : List ℕ). t ++ (codes "overlapping, and later: " ++ (overlapping ++ 10 ∷ rest))) eo
-        ∙ ap (λ (t : List ℕ). operation_line e.operation ++ (codes "overlapping, and later: " ++ (t ++ 10 ∷ rest))) ec)
+pub explanation_told : (e : Explanation) (client operation overlapping rest text : List ℕ) → client ≡ quoted (string_bytes e.client) → operation ≡ operation_line e.operation
+    → overlapping ≡ calls_text e.overlapping.items → PrintsCause e.cause rest
+    → text ≡ codes "client: " ++ (client ++ 10 ∷ (operation ++ (codes "overlapping, and later: " ++ (overlapping ++ 10 ∷ rest)))) → PrintsExplanation e text
+explanation_told e client operation overlapping rest text en eo ec told et =
+    let lines : List ℕ → List ℕ → List ℕ → List ℕ = λ n o c. codes "client: " ++ (n ++ 10 ∷ (o ++ (codes "overlapping, and later: " ++ (c ++ 10 ∷ rest)))) in
+    (rest, told, et ∙ ap (λ n. lines n operation overlapping) en ∙ ap (λ o. lines (quoted (string_bytes e.client)) o overlapping) eo
+        ∙ ap (lines (quoted (string_bytes e.client)) (operation_line e.operation)) ec)

@@ -5,6 +5,7 @@ use Rattle.std.specs.Fmt.{decimal, signed_decimal}
 use Rattle.kmipa_runs.specs.Dates.{HasDate}
 use Rattle.kmipa_runs.specs.Lines.{line, PrintsFault, PrintsVerdict}
 use Rattle.kmipa_runs.specs.Notes.{name_among, operations}
+use Rattle.kmipa_runs.specs.Shown.{quoted}
 use Rattle.kmipa_runs.specs.declared.explaining.Explained.{Explained}
 use Rattle.kmipa_runs.specs.declared.status.Status.{Status}
 use Rattle.kmipa_msgs.specs.declared.request.BatchOption.{BatchOption}
@@ -126,7 +127,7 @@ PrintsCause cause.Object lines = lines ≡ []
 -- what is printed of an explanation
 abbrev pub PrintsExplanation : Explanation → List ℕ → Type 0
 PrintsExplanation e lines = (rest : List ℕ) × PrintsCause e.cause rest
-    × (lines ≡ operation_line e.operation ++ (codes "overlapping, and later: " ++ (calls_text e.overlapping.items ++ 10 ∷ rest)))
+    × (lines ≡ codes "client: " ++ (quoted (string_bytes e.client) ++ 10 ∷ (operation_line e.operation ++ (codes "overlapping, and later: " ++ (calls_text e.overlapping.items ++ 10 ∷ rest)))))
 
 -- of a yes nothing more is printed
 abbrev pub PrintsMore : Option Explanation → List ℕ → Type 0

@@ -5,6 +5,7 @@ ghost use Rattle.kmipa_runs.specs.Explained.{PrintsBefore, PrintsCause, PrintsEx
 
 use crate::dates::date_text;
 use crate::notes::operation_name;
+use crate::quoting::quoted_text;
 use kmipa_explain::{Cause, Explanation, Operations, Shape, TurnBefore};
 use kmipa_msgs::{BatchOption, Status as ItemStatus};
 use std::alloc::{AllocError, Global};
@@ -16,10 +17,11 @@ const MOST_CALLS: usize = 20;
 pub fn explanation_text(alloc: Global, explanation: &Explanation) -> Result<String, AllocError>
     ensures { IfOk result (λ text. PrintsExplanation explanation.now (string_bytes text)) }
 {
+    let client = quoted_text(alloc, explanation.client.as_str())?;
     let operation = operation_line(alloc, explanation.operation)?;
     let overlapping = calls_text(alloc, &explanation.overlapping)?;
     let cause = cause_lines(alloc, &explanation.cause)?;
-    format!(in alloc; "{operation}overlapping, and later: {overlapping}\n{cause}")
+    format!(in alloc; "client: {client}\n{operation}overlapping, and later: {overlapping}\n{cause}")
 }
 
 /// The line of the operation that is asked for, where there is one.

@@ -21,6 +21,7 @@ mod notes;
 mod options;
 mod pieces;
 mod printer;
+mod quoting;
 mod reading;
 mod reporting;
 mod runs;

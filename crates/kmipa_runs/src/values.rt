@@ -211,8 +211,10 @@ fn are_plain(text: &[u8]) -> bool
     true
 }
 
-fn is_plain(byte: u8) -> bool
-    ensures { escaped byte ≡ (if result then byte ∷ [] else codes "\\x" ++ encode_lower (byte ∷ [])) }
+/// Whether a byte of a text stands for itself.
+pub fn is_plain(byte: u8) -> bool
+    ensures escaped { escaped byte ≡ (if result then byte ∷ [] else codes "\\x" ++ encode_lower (byte ∷ [])) }
+    ensures bounded { IsTrue result → byte < 128 }
 {
     b' ' <= byte && byte <= b'~' && byte != b'"' && byte != b'\\'
 }
