@@ -79,7 +79,7 @@ pub fn explain_files<R: Files + AllocGlobal + Eprint>(
         out,
     );
     if status == Status::Refused {
-        hint_kind(rt, &names, out);
+        hint_kind(rt, names.as_slice(), out);
     }
     Ok(status)
 }
@@ -120,7 +120,7 @@ pub fn check_segment_files<R: Files + AllocGlobal + Eprint>(
     drop(declaration);
     drop(witness);
     if status == Status::Refused {
-        hint_kind(rt, &names, out);
+        hint_kind(rt, names.as_slice(), out);
     }
     match segment.leaves {
         Some(left) if status == Status::Done => replace_file(rt, left, made.as_slice())?,

@@ -103,9 +103,9 @@ pub fn tell_words<R: Print + Eprint>(rt: &R, error: &io::Error) -> Status
 pub fn tell_forms<R: Eprint>(rt: &R) -> Status
     ensures { (result ≡ Status.Usage) ⊎ (result ≡ Status.Failed) }
 {
-    let reported =
+    let told =
         rt.eprintln("error: --json, --explain, and --leaves or --not-before don't go together");
-    status_of(&reported, Status::Usage)
+    status_of(&told, Status::Usage)
 }
 
 /// Help goes to standard output, and what is wrong with the words to standard error.
