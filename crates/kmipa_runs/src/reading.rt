@@ -1,6 +1,6 @@
 //! Files that are held in memory as they are read.
 
-ghost use Rattle.std.specs.Prelude.{◌≡◌, ℕ, List, [], true, false, IsTrue, IfOk, IfErr, OnOk};
+ghost use Rattle.std.specs.Prelude.{◌≡◌, ℕ, List, [], Err, true, false, IsTrue, IfOk, IfErr, IfSome, OnOk};
 ghost use Rattle.kmipa_ttlv.specs.Input.{came_of, is_ended, is_failed, IsFileOf};
 ghost use Rattle.kmipa_record.specs.Files.{Tells};
 
