@@ -47,6 +47,12 @@ const drive = () => {
     seen.push(panel.querySelector('h3').textContent);
   }
   for (const button of document.querySelectorAll('.tools button')) button.click();
+  bars[0].dispatchEvent(new MouseEvent('click', { bubbles: true }));
+  for (const link of document.querySelectorAll('.verdict button.call')) {
+    link.click();
+    seen.push(link.textContent + ' shows ' + panel.querySelector('h3').textContent);
+  }
+  seen.push(document.documentElement.scrollWidth <= document.documentElement.clientWidth);
   const told = document.createElement('output');
   told.id = 'seen';
   told.textContent = JSON.stringify(seen);
@@ -144,6 +150,8 @@ class Report(unittest.TestCase):
         (data,) = page.data["recordings"]
         self.assertEqual((data["fault"], len(data["number"]), data["turn"][:3]), (53, 86, [1, 2, 3]))
         self.assertIn(7, data["story"], "the call that registered the key which was shown")
+        links = [found.get("data-number") for found in page.attributes["button"] if found.get("class") == "call"]
+        self.assertEqual(links[:3], ["53", "53", "53"], "the turn, the call, and the call in the sentence below")
 
     def test_texts_stay_texts_and_keys_are_hidden(self) -> None:
         page = self.page(self.strange())
@@ -311,6 +319,8 @@ class Report(unittest.TestCase):
             self.assertIsNotNone(found, "no script broke off")
             seen = json.loads(found.group(1))
             self.assertEqual(seen[:6], [dark, 6, "Call 1: Get", "Call 2: Get", "Call 6: Get", "Call 6: Get"])
+            self.assertEqual(seen[-3:-1], ["turn 6 shows Call 6: Get", "call 6 shows Call 6: Get"])
+            self.assertTrue(seen[-1], "it is no wider than the window")
 
     def browse(self, page: Path, *more: str) -> Tuple[str, str]:
         """What a browser makes of a page, and what it says. A browser that doesn't come to its end shows nothing of the page."""
