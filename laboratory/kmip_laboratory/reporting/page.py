@@ -188,7 +188,7 @@ def _cross(head: str, counts: Counter[tuple[str, str]]) -> Markup:
 
 def _evidence(judged: Judged) -> Markup:
     rows: List[List[Part]] = [[path, element("code", sha256), f"{length:,}"] for path, length, sha256 in judged.files]
-    read = "as the auditor judged it" if judged.verdict.files else "as the report read it"
+    read = "as the auditor judged it" if judged.has_the_auditors_digests() else "as the report read it"
     return together([
         table(["File", f"SHA-256, {read}", "Bytes"], rows, 1),
         element("p", f"Judged in {judged.seconds:.1f} seconds. Anybody can repeat the verdict:"),
