@@ -15,7 +15,7 @@ from typing import Set
 
 from made import COMMANDS, IS_BUILT, PROGRAM, TOP, packages, run
 
-from kmip_package import completions, contents
+from kmip_package import completions, contents, repository, statement
 
 C_LIBRARY = {"linux-vdso.so.1", "libc.so.6", "libm.so.6", "ld-linux-x86-64.so.2"}
 MOST_MILLISECONDS = 5
@@ -65,11 +65,19 @@ class Bytes(unittest.TestCase):
         digest = run("sha256sum", PROGRAM).stdout.split()[0]
         self.assertIn(f"program  kmip_audit, SHA-256 {digest}\n", stated)
         self.assertEqual("NOT PROVED" in stated, not IS_BUILT)
-        below: Set[str] = {path.name for path in (TOP / "crates").iterdir() if path.name != "kmipa_trials"}
+
+    def test_the_crates_are_those_that_the_program_stands_on(self) -> None:
+        stated = statement.text("0", repository.commit(), "", b"", proved=True)
         rows = re.findall(r"^  (\w+) +([\d,]+)$", stated, re.MULTILINE)
-        self.assertEqual({name for name, _ in rows} - {"together"}, below if IS_BUILT else set())
         counts = [int(count.replace(",", "")) for _, count in rows]
-        self.assertEqual(sum(counts[:-1]), counts[-1] if counts else 0)
+        self.assertEqual(sum(counts[:-1]), counts[-1])
+        lines = [line.split(":") for line in (TOP / "crates.txt").read_text("utf-8").splitlines() if ":" in line]
+        needs = {name: rest.split() for name, rest in lines}
+        named: Set[str] = {name for name, _ in rows} - {"together"}
+        self.assertIn("kmip_audit", named)
+        for each in named:
+            self.assertLessEqual(set(needs[each]) & set(needs), named)
+            self.assertTrue(each == "kmip_audit" or any(each in needs[other] for other in named), each)
 
     def test_whom_files_belong_to_and_when_they_were_made(self) -> None:
         moment = int(run("git", "show", "--no-patch", "--format=%ct", "HEAD", cwd=TOP).stdout)
