@@ -31,10 +31,13 @@ SHORT_NUMBERS = (Kind.INTEGER, Kind.ENUMERATION, Kind.INTERVAL)
 LONG_NUMBERS = (Kind.LONG_INTEGER, Kind.BOOLEAN, Kind.DATE_TIME, Kind.DATE_TIME_EXTENDED)
 
 HEADER = struct.Struct(">II")
+# Whole items of numbers: header, value, and for those of 4 bytes the padding.
+WHOLE_INTEGER, WHOLE_ENUMERATION, WHOLE_LONG = struct.Struct(">IIi4x"), struct.Struct(">III4x"), struct.Struct(">IIq")
 PADDINGS = tuple(bytes(-length % 8) for length in range(8))
 # The members that are met most, since a look into an enumeration takes its time.
-STRUCTURE, INTEGER, BIG_INTEGER, ENUMERATION, BOOLEAN, TEXT, BYTES = (
-    Kind.STRUCTURE, Kind.INTEGER, Kind.BIG_INTEGER, Kind.ENUMERATION, Kind.BOOLEAN, Kind.TEXT, Kind.BYTES)
+STRUCTURE, INTEGER, BIG_INTEGER, ENUMERATION, BOOLEAN, TEXT, BYTES, DATE_TIME = (
+    Kind.STRUCTURE, Kind.INTEGER, Kind.BIG_INTEGER, Kind.ENUMERATION, Kind.BOOLEAN, Kind.TEXT, Kind.BYTES,
+    Kind.DATE_TIME)
 # By the plain numbers of types, for the same reason.
 KINDS: Dict[int, Kind] = {kind.value: kind for kind in Kind}
 LENGTHS: Dict[int, int] = {kind.value: 4 if kind in SHORT_NUMBERS else 8 for kind in SHORT_NUMBERS + LONG_NUMBERS}
@@ -79,17 +82,22 @@ def structure(tag: int, *children: bytes) -> bytes:
 
 def integer(tag: int, number: int) -> bytes:
     """A signed number of 32 bits."""
-    return _item(tag, INTEGER, number.to_bytes(4, "big", signed=True))
+    return WHOLE_INTEGER.pack(tag << 8 | INTEGER, 4, number)
 
 
 def enumeration(tag: int, number: int) -> bytes:
     """An unsigned number of 32 bits that stands for something."""
-    return _item(tag, ENUMERATION, number.to_bytes(4, "big"))
+    return WHOLE_ENUMERATION.pack(tag << 8 | ENUMERATION, 4, number)
+
+
+def date_time(tag: int, seconds: int) -> bytes:
+    """A moment in whole seconds."""
+    return WHOLE_LONG.pack(tag << 8 | DATE_TIME, 8, seconds)
 
 
 def boolean(tag: int, value: bool) -> bytes:
     """True or false."""
-    return _item(tag, BOOLEAN, int(value).to_bytes(8, "big"))
+    return WHOLE_LONG.pack(tag << 8 | BOOLEAN, 8, value)
 
 
 def text(tag: int, value: str) -> bytes:
@@ -134,10 +142,10 @@ def outermost_length(header: bytes) -> int:
     return whole
 
 
-def read_item(data: bytes) -> Item:
-    """The one item that these bytes are."""
+def read_item(data: bytes, level: int = 1) -> Item:
+    """The one item that these bytes are, which stands on this level."""
     _see_outermost(data)
-    return _read_items(data, 0, len(data), 1)[0]
+    return _read_items(data, 0, len(data), level)[0]
 
 
 def see_item(data: bytes) -> None:

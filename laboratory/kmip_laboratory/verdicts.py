@@ -37,11 +37,12 @@ PATTERNS: Dict[Outcome, Pattern[str]] = {
 
 
 class Digest(NamedTuple):
-    """A file that was judged: its part in the run, its length, and its SHA-256 in hexadecimal digits."""
+    """A file that was judged: its part in the run, its length, and its SHA-256 in hexadecimal digits. The last two are
+    not there of a file that was not read to its end."""
 
     role: str
-    length: int
-    sha256: str
+    length: Optional[int]
+    sha256: Optional[str]
 
 
 class Verdict(NamedTuple):
@@ -115,7 +116,7 @@ def read_json(printed: str, status: int) -> Optional[Verdict]:
     try:
         told = json.loads(printed)
         verdict = read_verdict(LINES[told["verdict"]](told), status)
-        files = tuple(Digest(file["role"], file["length"], file["sha256"]) for file in told.get("files", []))
+        files = tuple(Digest(file["role"], file.get("length"), file.get("sha256")) for file in told.get("files", []))
         return verdict and verdict._replace(version=f"kmip_audit {told['auditor']}", files=files,
                                             decided=told.get("decided"))
     except (ValueError, KeyError, TypeError, AttributeError):

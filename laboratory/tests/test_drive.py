@@ -51,6 +51,8 @@ class Plans(unittest.TestCase):
         self.assertEqual(asked, {Operation.CREATE, Operation.REGISTER, Operation.LOCATE, Operation.GET,
                                  Operation.GET_ATTRIBUTES, Operation.ACTIVATE, Operation.REVOKE, Operation.DESTROY})
         self.assertEqual({call.option for call in calls if len(call.items) > 1}, {None, 1, 2, 3})
+        codes = {item.ask.code for call in calls for item in call.items if item.ask.operation == Operation.REVOKE}
+        self.assertEqual(codes, set(range(1, 8)), "a Revoke with each sort of code")
 
 
 class Mixes(unittest.TestCase):
@@ -148,8 +150,9 @@ class OnTheWire(Laboratory):
 
     def test_one_command_convicts_a_server_that_is_wrong(self) -> None:
         out = self.folder / "out"
+        # One client's calls never overlap, so they fail in the order of their answers for the fault's own reason.
         done = self.drive(self.simulated("--pace", "10", "--fault", "flipped-bit", "--rate", "1"), "--calls", "60",
-                          "--clients", "2", "--pause", "0.005", "--out", out, "--auditor", AUDITOR, "--budget", "3000",
+                          "--clients", "1", "--pause", "0.005", "--out", out, "--auditor", AUDITOR, "--budget", "3000",
                           "--empty", word="audit")
         self.assertEqual(done.returncode, 1, done.stdout + done.stderr)
         self.assertIn("no order explains what was recorded", done.stdout)

@@ -47,6 +47,12 @@ const drive = () => {
     seen.push(panel.querySelector('h3').textContent);
   }
   for (const button of document.querySelectorAll('.tools button')) button.click();
+  bars[0].dispatchEvent(new MouseEvent('click', { bubbles: true }));
+  for (const link of document.querySelectorAll('.verdict button.call')) {
+    link.click();
+    seen.push(link.textContent + ' shows ' + panel.querySelector('h3').textContent);
+  }
+  seen.push(document.documentElement.scrollWidth <= document.documentElement.clientWidth);
   const told = document.createElement('output');
   told.id = 'seen';
   told.textContent = JSON.stringify(seen);
@@ -144,6 +150,8 @@ class Report(unittest.TestCase):
         (data,) = page.data["recordings"]
         self.assertEqual((data["fault"], len(data["number"]), data["turn"][:3]), (53, 86, [1, 2, 3]))
         self.assertIn(7, data["story"], "the call that registered the key which was shown")
+        links = [found.get("data-number") for found in page.attributes["button"] if found.get("class") == "call"]
+        self.assertEqual(links[:3], ["53", "53", "53"], "the turn, the call, and the call in the sentence below")
 
     def test_texts_stay_texts_and_keys_are_hidden(self) -> None:
         page = self.page(self.strange())
@@ -225,6 +233,9 @@ class Report(unittest.TestCase):
             self.assertIsNotNone(found, members)
             self.assertEqual(found._replace(version="", files=(), decided=None), plain)
             self.assertEqual((found.version, found.files[0]), ("kmip_audit 9.9", ("transcript", 5, "ab")))
+        torn = read_json('{"verdict":"malformed","file":"transcript","offset":9,"kind":{"name":"Torn","number":2},'
+                         '"auditor":"9.9","files":[{"role":"transcript"},{"role":"declaration"}]}', 2)
+        self.assertEqual([file.sha256 for file in torn.files], [None, None], "files that were not read to their ends")
         self.assertIsNone(read_json('{"verdict":"perhaps","auditor":"1"}', 0))
         self.assertIsNone(read_json("yes\n", 0))
 
@@ -235,6 +246,7 @@ class Report(unittest.TestCase):
         digests = [{"role": name, "length": (folder / f"{name}.ttlv").stat().st_size, "sha256": hashlib.sha256(
             (folder / f"{name}.ttlv").read_bytes()).hexdigest()} for name in names]
         told = {"verdict": "no", "turn": 2, "call": 2, "item": 1, "why": {"number": 6, "name": "WrongState"},
+                "kind": {"number": 6, "name": "WrongState"},
                 "date": "2023-11-14T22:13:21Z", "auditor": "7.6.5", "files": digests}
         program = self.folder / "kmip_audit"
         program.write_text(f"#!{sys.executable}\nimport os, sys\nif '--json' in sys.argv:\n    print({json.dumps(told)!r}"
@@ -250,6 +262,11 @@ class Report(unittest.TestCase):
             done = report(self.folder / "other.html", folder)
             self.assertEqual((done.returncode, done.stdout), (1, ""))
             self.assertIn("witness.ttlv is not what was judged", done.stderr)
+            told.update(verdict="malformed", file="witness", offset=0, files=[{"role": name} for name in names])
+            program.write_text(f"#!{sys.executable}\nprint({json.dumps(told)!r})\nraise SystemExit(2)\n")
+            text = "".join(self.page(folder, "--force").texts)
+            self.assertIn("malformed: witness offset 0 kind 6 WrongState", text)
+            self.assertIn("SHA-256, as the report read it", text)
 
     def test_colours_have_the_contrast_of_wcag_aa(self) -> None:
         style = (FOLDER / "kmip_laboratory/reporting/page/style.css").read_text("utf-8")
@@ -311,6 +328,8 @@ class Report(unittest.TestCase):
             self.assertIsNotNone(found, "no script broke off")
             seen = json.loads(found.group(1))
             self.assertEqual(seen[:6], [dark, 6, "Call 1: Get", "Call 2: Get", "Call 6: Get", "Call 6: Get"])
+            self.assertEqual(seen[-3:-1], ["turn 6 shows Call 6: Get", "call 6 shows Call 6: Get"])
+            self.assertTrue(seen[-1], "it is no wider than the window")
 
     def browse(self, page: Path, *more: str) -> Tuple[str, str]:
         """What a browser makes of a page, and what it says. A browser that doesn't come to its end shows nothing of the page."""

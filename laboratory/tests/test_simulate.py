@@ -2,6 +2,7 @@
 
 from __future__ import annotations
 
+import time
 import unittest
 from typing import Dict, List, Optional
 
@@ -9,7 +10,8 @@ import messages
 from laboratory import FOLDER  # noqa: F401 (puts the laboratory on the path)
 
 from kmip_laboratory.driving import requests, responses, simulate, store
-from kmip_laboratory.driving.engine import Engine
+from kmip_laboratory.driving.engine import Engine, Steps
+from kmip_laboratory.driving.faults import races
 from kmip_laboratory.driving.messages import Answer, Ask, Attribute, Material, Name, Request, Response
 from kmip_laboratory.driving.numbers import Operation, Option, Reason, State, Status, Tag
 
@@ -55,9 +57,25 @@ def engine(unique_names: bool = False, **dates: int) -> Engine:
     return made
 
 
+def begun(server: Engine, *asks: Ask, option: Optional[Option] = None) -> Steps:
+    """A call under way: up to where it lets others go ahead for the first time."""
+    steps = server.answer(Request((2, 1), asks, option), {})
+    next(steps)
+    return steps
+
+
+def ended(steps: Steps) -> List[Answer]:
+    """The answers to a call, once it is done."""
+    try:
+        while True:
+            next(steps)
+    except StopIteration as end:
+        return list(end.value.answers)
+
+
 def answers(server: Engine, *asks: Ask, option: Optional[Option] = None) -> List[Answer]:
     """The answers to one call."""
-    return list(server.answer(Request((2, 1), asks, option), {}).answers)
+    return ended(server.answer(Request((2, 1), asks, option), {}))
 
 
 class Rules(unittest.TestCase):
@@ -193,6 +211,71 @@ class Faults(unittest.TestCase):
         made, = answers(server, CREATE)
         answers(server, Ask(Operation.DESTROY, made.identifiers[0]))
         self.assertEqual(answers(server, Ask(Operation.GET, made.identifiers[0]))[0].status, Status.FAILED)
+
+
+class Races(unittest.TestCase):
+    """Faults that need calls at once: what one call does while another waits in the midst."""
+
+    def faulty(self, *names: str) -> Engine:
+        """A server with these faults, which always come about, and with the active key k."""
+        made = simulate.make(simulate.find(list(names)), 1, 1, 1.0, False)
+        made.store.put(store.Thing("k", 2, KEY, (Name("n"),), 3, 128, 12, NOW - 9, activation=NOW - 5))
+        return made
+
+    def state(self, server: Engine) -> State:
+        """The state in which k is held."""
+        return server.store.find("k").state(server.clock.now())
+
+    def test_lost_update(self) -> None:
+        server = self.faulty("lost-update")
+        revoke = begun(server, Ask(Operation.REVOKE, "k", code=1))
+        other = begun(server, Ask(Operation.DESTROY, "k"))
+        self.assertEqual(ended(other)[0].status, Status.SUCCESS)
+        self.assertEqual(self.state(server), State.DESTROYED)
+        self.assertEqual(ended(revoke)[0].status, Status.SUCCESS)
+        self.assertEqual(self.state(server), State.DEACTIVATED, "the Destroy is lost")
+
+    def test_racing_names(self) -> None:
+        named = Ask(Operation.CREATE, attributes=(*SIZES, Attribute(Tag.NAME, Name("new"))), object_type=2)
+        server = self.faulty("racing-names")
+        first, second = begun(server, named), begun(server, named)
+        self.assertEqual([ended(each)[0].status for each in (first, second)], [Status.SUCCESS] * 2)
+        self.assertEqual(answers(server, named)[0].reason, Reason.NAME_NOT_UNIQUE)
+
+    def test_answer_ahead_of_effect(self) -> None:
+        server = self.faulty("answer-ahead-of-effect")
+        self.assertEqual(answers(server, Ask(Operation.DESTROY, "k"))[0].status, Status.SUCCESS)
+        self.assertEqual(answers(server, Ask(Operation.GET, "k"))[0].status, Status.SUCCESS)
+        time.sleep(2 * races.SECONDS_OF_RACE)
+        self.assertEqual(answers(server, Ask(Operation.GET, "k"))[0].status, Status.FAILED)
+
+    def test_mixed_batches(self) -> None:
+        server = self.faulty("mixed-batches")
+        batch = begun(server, Ask(Operation.GET, "k"), Ask(Operation.GET, "k"))
+        answers(server, Ask(Operation.DESTROY, "k"))
+        self.assertEqual([answer.status for answer in ended(batch)], [Status.SUCCESS, Status.FAILED])
+        with self.assertRaises(StopIteration, msg="a batch under Undo is done at once"):
+            begun(server, Ask(Operation.GET_ATTRIBUTES, "k"), Ask(Operation.GET, "k"), option=Option.UNDO)
+
+    def test_half_a_revoke(self) -> None:
+        server = self.faulty("half-a-revoke")
+        revoke = begun(server, Ask(Operation.REVOKE, "k", code=2))
+        self.assertEqual(self.state(server), State.DEACTIVATED)
+        ended(revoke)
+        self.assertEqual(self.state(server), State.COMPROMISED)
+
+    def test_several_faults_at_once(self) -> None:
+        for names in (("half-a-revoke", "lost-update"), ("racing-names", "half-a-revoke")):
+            server = self.faulty(*names)
+            with self.subTest(names=names):
+                revoke = begun(server, Ask(Operation.REVOKE, "k", code=2))
+                self.assertEqual(self.state(server), State.DEACTIVATED)
+                self.assertEqual(ended(revoke)[0].status, Status.SUCCESS)
+
+    def test_a_server_without_faults_never_waits(self) -> None:
+        steps = engine().answer(Request((2, 1), (Ask(Operation.GET, "k"),)), {})
+        with self.assertRaises(StopIteration):
+            next(steps)
 
 
 if __name__ == "__main__":

@@ -1,15 +1,15 @@
-"""The key server's rules, as docs/PROFILE.md has them: one call at a time, under one lock.
+"""The key server's rules, as docs/PROFILE.md has them: one call at a time.
 
-Each fault of the server (faults/) is a class that stands ahead of this one and turns a method or two of it.
+Each fault of the server (faults/) is a class that stands ahead of this one and turns a method or two of it. All calls
+are made by one thread; a fault that needs calls at once waits in the midst of one, while the server does others.
 """
 
 from __future__ import annotations
 
 import itertools
 import random
-import threading
 from dataclasses import dataclass, field, replace
-from typing import Dict, List, Optional, Tuple
+from typing import Dict, Generator, List, Optional, Tuple
 
 from .messages import Answer, Ask, Attribute, Material, Name, Refused, Request, Response
 from .numbers import AES, COMPROMISES, ObjectType, Operation, Option, Reason, State, Status, Tag
@@ -17,7 +17,8 @@ from .store import Clock, Store, Thing
 
 # The reason for the wrong state, by version: below 2.0 there is none of its own.
 FIRST_WITH_REASONS = (2, 0)
-
+# A call under way: it yields the seconds that it waits, and ends with its response.
+Steps = Generator[float, None, Response]
 
 # Which method does an operation.
 WAYS: Dict[int, str] = {
@@ -45,7 +46,6 @@ class Engine:
     """Answers requests. `strikes` is asked by faults alone."""
 
     def __init__(self, clock: Clock, unique_names: bool = False, seed: int = 1, rate: float = 0.0) -> None:
-        self.lock = threading.RLock()
         self.store = Store()
         self.clock = clock
         self.unique_names = unique_names
@@ -60,13 +60,14 @@ class Engine:
         self.struck += strikes
         return strikes
 
-    def answer(self, request: Request, session: Dict[str, Optional[str]]) -> Response:
-        """The response to a request, whose effects are there when it is."""
-        with self.lock:
-            return self.take(request, session)
+    def answer(self, request: Request, session: Dict[str, Optional[str]]) -> Steps:
+        """The response to a request, whose effects are there when it is. It yields the seconds for which it lets
+        other calls go ahead: none, but for faults."""
+        yield from ()
+        return self.take(request, session)
 
     def take(self, request: Request, session: Dict[str, Optional[str]]) -> Response:
-        """The call, done under the lock at the moment of its Time Stamp."""
+        """The call, done at the moment of its Time Stamp."""
         call = Call(self.clock.now(), request, session=session)
         return Response(request.version, self.stamp(call), tuple(self.batch(request, call)))
 
@@ -97,7 +98,7 @@ class Engine:
             answer = self.perform(ask, call)
         except Refused as refused:
             answer = Answer(ask.operation, Status.FAILED, self.told(refused.reason, call))
-        return replace(answer, batch_id=ask.batch_id)
+        return answer if ask.batch_id is None else replace(answer, batch_id=ask.batch_id)
 
     def told(self, reason: Reason, call: Call) -> Reason:
         """The reason, as the version of the call has it."""
@@ -163,9 +164,9 @@ class Engine:
 
     def locate(self, ask: Ask, call: Call) -> Answer:
         """The live objects that fit, the newest first, at most as many as are wanted."""
-        found = [thing.identifier for thing in self.candidates(call) if self.fits(thing, ask, call)]
-        if ask.maximum is not None and ask.maximum > 0:
-            found = found[:ask.maximum]
+        fitting = (thing.identifier for thing in self.candidates(call) if self.fits(thing, ask, call))
+        most = ask.maximum if ask.maximum is not None and ask.maximum > 0 else None
+        found = list(itertools.islice(fitting, most))
         call.placeholder = found[0] if len(found) == 1 else None
         return Answer(ask.operation, identifiers=tuple(found))
 
@@ -268,7 +269,10 @@ def first_of(one: Optional[int], other: Optional[int]) -> Optional[int]:
 
 def value_of(ask: Ask, tag: Tag) -> Optional[int]:
     """The number of an attribute that the client gives."""
-    return next((each.value for each in ask.attributes if each.tag == tag), None)
+    for each in ask.attributes:
+        if each[0] == tag:
+            return each[1]
+    return None
 
 
 def names_in(ask: Ask) -> Tuple[Name, ...]:

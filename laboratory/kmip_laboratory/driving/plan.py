@@ -15,7 +15,8 @@ from .mixes import Mix
 from .numbers import AES, ObjectType, Operation, Option, State, Tag
 
 LENGTHS = (128, 192, 256)
-CODES = (1, 2, 3, 5, 6)
+# Each Revocation Reason Code: two are compromises.
+CODES = (1, 2, 3, 4, 5, 6, 7)
 STATES = (State.PRE_ACTIVE, State.ACTIVE, State.DEACTIVATED, State.COMPROMISED)
 MOST_LOCATED = 5
 DATES = (Tag.INITIAL_DATE, Tag.ACTIVATION_DATE, Tag.DEACTIVATION_DATE, Tag.DESTROY_DATE, Tag.COMPROMISE_DATE)

@@ -2,7 +2,8 @@
 
 from __future__ import annotations
 
-from typing import List, Optional
+from functools import lru_cache
+from typing import Dict, List, Optional, Tuple
 
 from .. import ttlv
 from ..ttlv import Item, Kind
@@ -10,6 +11,13 @@ from . import wire
 from .messages import Ask, Request, Version
 from .numbers import ATTRIBUTE_NAMES, ATTRIBUTE_TAGS, Operation, Option, Tag
 from .wire import FIRST_WITH_ATTRIBUTES, NotUnderstood, need
+
+HEADER = ttlv.front(Tag.REQUEST_HEADER, Kind.STRUCTURE)
+BATCH_ITEM = ttlv.front(Tag.BATCH_ITEM, Kind.STRUCTURE)
+# Headers and Batch Items stand on the second level of a message.
+LEVEL = 2
+# Items that are longer are not kept.
+LONGEST_KEPT = 1024
 
 
 def write_request(request: Request) -> bytes:
@@ -55,24 +63,54 @@ def _reference(version: Version, tag: Tag) -> bytes:
 
 def read_request(message: bytes) -> Request:
     """The request that these bytes are."""
-    item = ttlv.read_item(message)
-    header = need(item.first(Tag.REQUEST_HEADER, Kind.STRUCTURE))
+    header, items = _frame(message)
+    version, option, ordered, count = _read_header(header)
+    if len(items) != count or not items:
+        raise NotUnderstood("the Batch Count is not the number of items")
+    return Request(version, tuple(_item(version, each) for each in items), option, ordered)
+
+
+def _frame(message: bytes) -> Tuple[bytes, List[bytes]]:
+    """The bytes of the header, and of each Batch Item."""
+    found: Dict[int, List[bytes]] = {HEADER: [], BATCH_ITEM: []}
+    for _, start, length in ttlv.places_in(message, 0, len(message)):
+        for number, place, size in ttlv.places_in(message, start, start + length):
+            if number in found:
+                found[number].append(message[place - ttlv.HEADER_LENGTH:place + size])
+    if not found[HEADER]:
+        raise NotUnderstood("the header is missing")
+    return found[HEADER][0], found[BATCH_ITEM]
+
+
+# The same headers and items come again and again: there are few versions, and the hot objects are asked for often.
+@lru_cache(maxsize=64)
+def _read_header(spelled: bytes) -> Tuple[Version, Optional[Option], Optional[bool], int]:
+    """The version, what is said of batches, and the Batch Count."""
+    header = ttlv.read_item(spelled, LEVEL)
     version = wire.version_of(header)
     if f"{version[0]}.{version[1]}" not in wire.VERSIONS:
         raise NotUnderstood(f"version {version[0]}.{version[1]} is not spoken")
     option = header.first(Tag.BATCH_ERROR_CONTINUATION_OPTION, Kind.ENUMERATION)
     ordered = header.first(Tag.BATCH_ORDER_OPTION, Kind.BOOLEAN)
-    items = item.every(Tag.BATCH_ITEM, Kind.STRUCTURE)
-    if len(items) != need(header.first(Tag.BATCH_COUNT, Kind.INTEGER)).value or not items:
-        raise NotUnderstood("the Batch Count is not the number of items")
+    count = need(header.first(Tag.BATCH_COUNT, Kind.INTEGER)).value
     try:
-        return Request(version, tuple(_read_item(version, each) for each in items),
-                       Option(option.value) if option else None, bool(ordered.value) if ordered else None)
+        return version, Option(option.value) if option else None, bool(ordered.value) if ordered else None, count
     except ValueError as error:
         raise NotUnderstood(str(error)) from None
 
 
-def _read_item(version: Version, item: Item) -> Ask:
+def _item(version: Version, spelled: bytes) -> Ask:
+    """The item that these bytes are, kept or read."""
+    return _kept_item(version, spelled) if len(spelled) <= LONGEST_KEPT else _read_item(version, spelled)
+
+
+@lru_cache(maxsize=1024)
+def _kept_item(version: Version, spelled: bytes) -> Ask:
+    return _read_item(version, spelled)
+
+
+def _read_item(version: Version, spelled: bytes) -> Ask:
+    item = ttlv.read_item(spelled, LEVEL)
     operation = need(item.first(Tag.OPERATION, Kind.ENUMERATION)).value
     batch_id = item.first(Tag.UNIQUE_BATCH_ITEM_ID, Kind.BYTES)
     payload = item.first(Tag.REQUEST_PAYLOAD, Kind.STRUCTURE) or Item(Tag.REQUEST_PAYLOAD, Kind.STRUCTURE, [], 0)

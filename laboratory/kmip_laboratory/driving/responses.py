@@ -17,7 +17,7 @@ FIRST_WITH_LOCATED_ITEMS = (1, 3)
 def write_response(response: Response) -> bytes:
     """The bytes of a response."""
     header = ttlv.structure(
-        Tag.RESPONSE_HEADER, wire.version_item(response.version), wire.date_time(Tag.TIME_STAMP, response.stamp),
+        Tag.RESPONSE_HEADER, wire.version_item(response.version), ttlv.date_time(Tag.TIME_STAMP, response.stamp),
         ttlv.integer(Tag.BATCH_COUNT, len(response.answers)))
     items = [_write_item(response.version, answer) for answer in response.answers]
     return ttlv.structure(Tag.RESPONSE_MESSAGE, header, *items)

@@ -1,18 +1,25 @@
-"""The key server on its socket: a thread for each connection, over TLS."""
+"""The key server on its socket: all connections in one thread, over TLS.
+
+One thread does all calls one after the other, so none waits for another's lock; a call that lets others go ahead (a
+fault's) is gone on with when its time has come.
+"""
 
 from __future__ import annotations
 
-import contextlib
+import heapq
+import itertools
+import selectors
 import socket
 import ssl
 import threading
-from typing import Dict, Optional, Set
+import time
+import traceback
+from typing import List, Optional, Tuple
 
-from .. import message, ttlv
-from ..message import Side
+from .. import ttlv
 from ..trouble import ConnectionTrouble
-from .engine import Engine
-from .incoming import Incoming
+from .connection import READ, Connection
+from .engine import Engine, Steps
 from .messages import Answer, Response
 from .numbers import Reason, Status
 from .requests import read_request
@@ -20,7 +27,6 @@ from .responses import write_response
 from .wire import NotUnderstood
 
 WAITING_CLIENTS = 256
-SECONDS_FOR_TLS = 20
 SECONDS_TO_CLOSE = 5
 NEWEST = (2, 1)
 
@@ -33,25 +39,21 @@ class Server:
         self._context = context
         family = socket.AF_INET6 if ":" in host else socket.AF_INET
         self._listener = socket.create_server((host, port), family=family, backlog=WAITING_CLIENTS)
+        self._listener.setblocking(False)
         self.port: int = self._listener.getsockname()[1]
-        self._connections: Set[socket.socket] = set()
-        self._lock = threading.Lock()
-        self._closed = False
-        self._threads: Set[threading.Thread] = set()
-        self._accepting = threading.Thread(target=self._accept, daemon=True)
-        self._accepting.start()
+        self._waker, self._woken = socket.socketpair()
+        self._selector = selectors.DefaultSelector()
+        for each in (self._listener, self._woken):
+            self._selector.register(each, READ)
+        self._waiting: List[Tuple[float, int, Steps, Connection]] = []
+        self._numbers = itertools.count()
+        self._thread = threading.Thread(target=self._run, daemon=True)
+        self._thread.start()
 
     def close(self) -> None:
-        """Ends all connections, and listens no more. Each connection is closed by its own thread, and waited for: a
-        socket that another thread closes is a number that the next file gets, while TLS still writes to it."""
-        with self._lock:
-            self._closed = True
-            left, threads = list(self._connections), list(self._threads)
-        for each in [self._listener, *left]:
-            with contextlib.suppress(OSError):
-                each.shutdown(socket.SHUT_RDWR)
-        for thread in [self._accepting, *threads]:
-            thread.join(SECONDS_TO_CLOSE)
+        """Ends all connections, and listens no more."""
+        self._waker.close()
+        self._thread.join(SECONDS_TO_CLOSE)
 
     def __enter__(self) -> Server:
         return self
@@ -59,53 +61,83 @@ class Server:
     def __exit__(self, *_: object) -> None:
         self.close()
 
-    def _accept(self) -> None:
-        with self._listener:
-            while not self._closed:
-                try:
-                    plain, _ = self._listener.accept()
-                except OSError:
-                    continue
-                thread = threading.Thread(target=self._serve, args=(plain,), daemon=True)
-                with self._lock:
-                    self._threads = {each for each in self._threads if each.is_alive()} | {thread}
-                    thread.start()
-
-    def _serve(self, plain: socket.socket) -> None:
-        """One connection, from its handshake to its end."""
-        with contextlib.suppress(OSError, ConnectionTrouble), plain:
-            plain.setsockopt(socket.IPPROTO_TCP, socket.TCP_NODELAY, 1)
-            plain.settimeout(SECONDS_FOR_TLS)
-            with self._context.wrap_socket(plain, server_side=True) as client:
-                client.settimeout(None)
-                with self._lock:
-                    if self._closed:
-                        return
-                    self._connections.add(client)
-                try:
-                    self._answer(client)
-                finally:
-                    with self._lock:
-                        self._connections.discard(client)
-
-    def _answer(self, client: ssl.SSLSocket) -> None:
-        session: Dict[str, Optional[str]] = {}
-        incoming = Incoming(client)
+    def _run(self) -> None:
+        """Serves until the waker is closed."""
         while True:
-            header = incoming.receive(ttlv.HEADER_LENGTH)
-            if header is None:
-                return
-            rest = incoming.receive(message.announced_length(header, Side.CLIENT) - ttlv.HEADER_LENGTH)
-            if rest is None:
-                return
-            client.sendall(self._respond(header + rest, session))
+            for key, _ in self._selector.select(self._seconds_left()):
+                if key.fileobj is self._woken:
+                    self._end()
+                    return
+                if key.fileobj is self._listener:
+                    self._accept()
+                else:
+                    self._serve(key.data)
+            while self._waiting and self._waiting[0][0] <= time.monotonic():
+                _, _, steps, connection = heapq.heappop(self._waiting)
+                self._serve(connection, steps)
 
-    def _respond(self, request: bytes, session: Dict[str, Optional[str]]) -> bytes:
-        """The response; a request that is not understood is refused whole, in the newest version."""
+    def _seconds_left(self) -> Optional[float]:
+        """Until the first call that waits is gone on with."""
+        return max(0.0, self._waiting[0][0] - time.monotonic()) if self._waiting else None
+
+    def _end(self) -> None:
+        for key in list(self._selector.get_map().values()):
+            key.fileobj.close()
+        self._selector.close()
+
+    def _accept(self) -> None:
         try:
-            asked = read_request(request)
-        except (ttlv.NotTtlv, NotUnderstood):
-            with self.engine.lock:
-                refusal = Answer(None, Status.FAILED, Reason.INVALID_MESSAGE)
-                return write_response(Response(NEWEST, self.engine.clock.now(), (refusal,)))
-        return write_response(self.engine.answer(asked, session))
+            connection = Connection(self._listener.accept()[0], self._context)
+        except OSError:
+            return
+        self._selector.register(connection.socket, connection.wants, connection)
+
+    def _serve(self, connection: Connection, steps: Optional[Steps] = None) -> None:
+        """Goes on with a connection, or with a call of it that waited, as far as can be done without waiting. Trouble
+        ends this connection and no other."""
+        before, was_there = connection.wants, connection.is_there
+        try:
+            if steps is None:
+                connection.go_on()
+            else:
+                self._step(steps, connection)
+            self._answer(connection)
+        except (OSError, ConnectionTrouble):
+            connection.is_there = False
+        except Exception:
+            traceback.print_exc()
+            connection.is_there = False
+        if not connection.is_there and was_there:
+            self._selector.unregister(connection.socket)
+            connection.socket.close()
+        elif connection.is_there and connection.wants != before:
+            self._selector.modify(connection.socket, connection.wants, connection)
+
+    def _answer(self, connection: Connection) -> None:
+        """Answers the whole requests that came."""
+        request = connection.take()
+        while request is not None:
+            try:
+                steps = self.engine.answer(read_request(request), connection.session)
+            except (ttlv.NotTtlv, NotUnderstood):
+                connection.send(self._refusal())
+            else:
+                connection.is_busy = True
+                self._step(steps, connection)
+            request = connection.take()
+
+    def _refusal(self) -> bytes:
+        """A request that is not understood is refused whole, in the newest version."""
+        refused = Answer(None, Status.FAILED, Reason.INVALID_MESSAGE)
+        return write_response(Response(NEWEST, self.engine.clock.now(), (refused,)))
+
+    def _step(self, steps: Steps, connection: Connection) -> None:
+        """Goes on with a call, up to where it waits, or to its answer."""
+        try:
+            seconds = next(steps)
+        except StopIteration as end:
+            connection.is_busy = False
+            if connection.is_there:
+                connection.send(write_response(end.value))
+        else:
+            heapq.heappush(self._waiting, (time.monotonic() + seconds, next(self._numbers), steps, connection))

@@ -98,6 +98,6 @@ class Clock:
         self._last = 0
 
     def now(self) -> int:
-        """The second that it is; asked for under the server's lock."""
+        """The second that it is."""
         self._last = max(self._last, int(self._start + (time.monotonic() - self._begun) * self._pace))
         return self._last

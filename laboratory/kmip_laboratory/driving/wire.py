@@ -2,7 +2,8 @@
 
 from __future__ import annotations
 
-from typing import Iterable, List, Optional
+from functools import lru_cache
+from typing import Callable, Dict, Iterable, List, Optional
 
 from .. import ttlv
 from ..ttlv import Item, Kind
@@ -12,11 +13,12 @@ from .numbers import ATTRIBUTE_NAMES, ATTRIBUTE_TAGS, OPAQUE, PASSWORD, RAW, Obj
 VERSIONS = ("1.0", "1.1", "1.2", "1.3", "1.4", "2.0", "2.1")
 FIRST_WITH_ATTRIBUTES = (2, 0)
 
-KINDS = {
-    Tag.OBJECT_TYPE: Kind.ENUMERATION, Tag.CRYPTOGRAPHIC_ALGORITHM: Kind.ENUMERATION, Tag.STATE: Kind.ENUMERATION,
-    Tag.CRYPTOGRAPHIC_LENGTH: Kind.INTEGER, Tag.CRYPTOGRAPHIC_USAGE_MASK: Kind.INTEGER,
-    Tag.INITIAL_DATE: Kind.DATE_TIME, Tag.ACTIVATION_DATE: Kind.DATE_TIME, Tag.DEACTIVATION_DATE: Kind.DATE_TIME,
-    Tag.DESTROY_DATE: Kind.DATE_TIME, Tag.COMPROMISE_DATE: Kind.DATE_TIME, Tag.LAST_CHANGE_DATE: Kind.DATE_TIME,
+# How the number of each attribute is spelled.
+SPELLED: Dict[int, Callable[[int, int], bytes]] = {
+    Tag.OBJECT_TYPE: ttlv.enumeration, Tag.CRYPTOGRAPHIC_ALGORITHM: ttlv.enumeration, Tag.STATE: ttlv.enumeration,
+    Tag.CRYPTOGRAPHIC_LENGTH: ttlv.integer, Tag.CRYPTOGRAPHIC_USAGE_MASK: ttlv.integer,
+    Tag.INITIAL_DATE: ttlv.date_time, Tag.ACTIVATION_DATE: ttlv.date_time, Tag.DEACTIVATION_DATE: ttlv.date_time,
+    Tag.DESTROY_DATE: ttlv.date_time, Tag.COMPROMISE_DATE: ttlv.date_time, Tag.LAST_CHANGE_DATE: ttlv.date_time,
 }
 OBJECT_TAGS = {ObjectType.SYMMETRIC_KEY: Tag.SYMMETRIC_KEY, ObjectType.SECRET_DATA: Tag.SECRET_DATA}
 
@@ -33,6 +35,7 @@ def read_version(words: str) -> Version:
     return int(major), int(minor)
 
 
+@lru_cache(maxsize=16)
 def version_item(version: Version) -> bytes:
     """A Protocol Version."""
     return ttlv.structure(Tag.PROTOCOL_VERSION, ttlv.integer(Tag.PROTOCOL_VERSION_MAJOR, version[0]),
@@ -53,11 +56,6 @@ def need(item: Optional[Item]) -> Item:
     return item
 
 
-def date_time(tag: int, seconds: int) -> bytes:
-    """A moment in whole seconds."""
-    return ttlv.spell(Item(tag, Kind.DATE_TIME, seconds, 0))
-
-
 def identifiers_of(payload: Item) -> List[str]:
     """The Unique Identifiers in a payload."""
     return [item.value for item in payload.every(Tag.UNIQUE_IDENTIFIER, Kind.TEXT)]
@@ -75,7 +73,7 @@ def _value(tag: int, given: Attribute) -> bytes:
     if isinstance(given.value, Name):
         return ttlv.structure(tag, ttlv.text(Tag.NAME_VALUE, given.value.value),
                               ttlv.enumeration(Tag.NAME_TYPE, given.value.kind))
-    return ttlv.spell(Item(tag, KINDS[given.tag], given.value, 0))
+    return SPELLED[given.tag](tag, given.value)
 
 
 def attributes(version: Version, given: Iterable[Attribute], always: bool = False) -> List[bytes]:
@@ -101,7 +99,7 @@ def read_attributes(version: Version, payload: Item) -> List[Attribute]:
     else:
         holder = payload.first(Tag.TEMPLATE_ATTRIBUTE, Kind.STRUCTURE) or payload
         pairs = [pair for child in holder.every(Tag.ATTRIBUTE, Kind.STRUCTURE) for pair in _named(child)]
-    return [Attribute(Tag(tag), _read_value(item)) for tag, item in pairs if tag == Tag.NAME or tag in KINDS]
+    return [Attribute(Tag(tag), _read_value(item)) for tag, item in pairs if tag == Tag.NAME or tag in SPELLED]
 
 
 def _named(item: Item) -> List[tuple[int, Item]]:

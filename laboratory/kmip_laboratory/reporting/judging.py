@@ -38,6 +38,11 @@ class Judged(NamedTuple):
     messages: Messages
     seconds: float
 
+    def has_the_auditors_digests(self) -> bool:
+        """Whether the auditor told the digest of each file."""
+        told = [judged for judged in self.verdict.files if judged.sha256 is not None]
+        return len(told) >= len(self.files)
+
     def refused(self) -> Optional[Call]:
         """The call that the verdict names."""
         return next((call for call in self.calls if call.number == self.verdict.call), None)
@@ -95,7 +100,7 @@ def judge(folder: str, budget: Optional[int]) -> Judged:
 def _see_that_they_are_the_judged(files: List[Tuple[str, int, str]], verdict: Verdict) -> None:
     """Holds the digests that the auditor told against those of the files."""
     for (path, length, sha256), judged in zip(files, verdict.files):
-        if (length, sha256) != (judged.length, judged.sha256):
+        if judged.sha256 is not None and (length, sha256) != (judged.length, judged.sha256):
             raise Trouble(f"{path} is not what was judged: it has changed since, or the auditor is not one; make the "
                           "report again")
 

@@ -2,6 +2,7 @@
 
 from __future__ import annotations
 
+import re
 from collections import Counter
 from datetime import datetime, timedelta, timezone
 from pathlib import Path
@@ -22,6 +23,8 @@ KEYS = ("Keys, once the timeline has the focus: left and right for the call befo
         "above and below, Home and End, + and - to zoom, Page Up and Page Down to move, 0 for the whole recording, f for "
         "the verdict's call. Drag to move; Ctrl and the wheel zoom.")
 MOST_OF_STORY = 20
+# What a line of the auditor's names of a recording.
+NAMED = re.compile(r"\b(call|turn) (\d+)\b")
 
 
 def page(recordings: List[Judged], made: datetime) -> str:
@@ -87,7 +90,7 @@ def _recording(judged: Judged, number: int, heading: str) -> Markup:
     outcome = judged.verdict.outcome.value.replace(" ", "-")
     parts = [
         element("h2", heading),
-        element("div", element("p", in_words(judged.verdict)), element("pre", "\n".join(judged.verdict.lines)),
+        element("div", element("p", in_words(judged.verdict)), element("pre", *_lines(judged)),
                 of=f"verdict {outcome}")]
     refused = judged.refused()
     if refused is not None:
@@ -100,8 +103,25 @@ def _recording(judged: Judged, number: int, heading: str) -> Markup:
     return element("section", *parts, of="recording", id=f"recording-{number}")
 
 
-def _link(number: int) -> Markup:
-    return element("button", f"call {number}", type="button", of="call", data_number=number)
+def _lines(judged: Judged) -> List[Part]:
+    """The auditor's lines, in which each call and each turn of the recording leads to its bar."""
+    text = "\n".join(judged.verdict.lines)
+    calls = {call.number for call in judged.calls}
+    of_turn = {turn: call for call, turn in judged.turns.items()}
+    parts: List[Part] = []
+    told = 0
+    for found in NAMED.finditer(text):
+        number = int(found[2])
+        call = number if found[1] == "call" else of_turn.get(number)
+        if call in calls:
+            parts += [text[told:found.start()], _link(call, found[0])]
+            told = found.end()
+    return [*parts, text[told:]]
+
+
+def _link(number: int, words: Optional[str] = None) -> Markup:
+    """What leads to the bar of a call, by its name or by other words."""
+    return element("button", words or f"call {number}", type="button", of="call", data_number=number)
 
 
 def _timeline(judged: Judged) -> Markup:
@@ -168,7 +188,7 @@ def _cross(head: str, counts: Counter[tuple[str, str]]) -> Markup:
 
 def _evidence(judged: Judged) -> Markup:
     rows: List[List[Part]] = [[path, element("code", sha256), f"{length:,}"] for path, length, sha256 in judged.files]
-    read = "as the auditor judged it" if judged.verdict.files else "as the report read it"
+    read = "as the auditor judged it" if judged.has_the_auditors_digests() else "as the report read it"
     return together([
         table(["File", f"SHA-256, {read}", "Bytes"], rows, 1),
         element("p", f"Judged in {judged.seconds:.1f} seconds. Anybody can repeat the verdict:"),

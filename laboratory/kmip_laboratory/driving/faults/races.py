@@ -2,13 +2,12 @@
 
 from __future__ import annotations
 
-import threading
 import time
 from dataclasses import replace
 from typing import Dict, List, Optional, Tuple
 
-from ..engine import Call
-from ..messages import Answer, Ask, Name, Request, Response
+from ..engine import Call, Steps
+from ..messages import Answer, Name, Request, Response
 from ..numbers import COMPROMISES, Operation, Option, Status
 from ..store import Thing
 from .base import Fault
@@ -23,18 +22,13 @@ class LostUpdate(Fault):
     mix = "hot-keys"
     rate_usual = 0.8
 
-    def answer(self, request: Request, session: Dict[str, Optional[str]]) -> Response:
-        if len(request.asks) != 1 or request.asks[0].operation not in CHANGES:
-            return super().answer(request, session)
-        with self.lock:
+    def answer(self, request: Request, session: Dict[str, Optional[str]]) -> Steps:
+        if len(request.asks) == 1 and request.asks[0].operation in CHANGES:
             seen = self.store.find(request.asks[0].identifier)
-            late = seen is not None and seen.destroyed is None and self.strikes()
-        if late:
-            time.sleep(SECONDS_OF_RACE)
-        with self.lock:
-            if late and self.store.find(seen.identifier) != seen:
+            if seen is not None and seen.destroyed is None and self.strikes():
+                yield SECONDS_OF_RACE
                 self.store.put(seen)
-            return self.take(request, session)
+        return (yield from super().answer(request, session))
 
 
 class RacingNames(Fault):
@@ -44,21 +38,16 @@ class RacingNames(Fault):
     unique_names_usual = True
     rate_usual = 1.0
 
-    def answer(self, request: Request, session: Dict[str, Optional[str]]) -> Response:
+    def answer(self, request: Request, session: Dict[str, Optional[str]]) -> Steps:
         names = tuple(each.value for ask in request.asks for each in ask.attributes
                       if isinstance(each.value, Name) and ask.operation in (Operation.CREATE, Operation.REGISTER))
-        if len(request.asks) != 1 or not names:
-            return super().answer(request, session)
-        with self.lock:
-            free = not super().is_taken(names, Call(0, request)) and self.strikes()
-        if free:
-            time.sleep(SECONDS_OF_RACE)
-        with self.lock:
-            session["free"] = "yes" if free else None
-            try:
-                return self.take(request, session)
-            finally:
-                session.pop("free", None)
+        if len(request.asks) == 1 and names and not super().is_taken(names, Call(0, request)) and self.strikes():
+            yield SECONDS_OF_RACE
+            session["free"] = "yes"
+        try:
+            return (yield from super().answer(request, session))
+        finally:
+            session.pop("free", None)
 
     def is_taken(self, names: Tuple[Name, ...], call: Call) -> bool:
         return call.session.get("free") is None and super().is_taken(names, call)
@@ -70,20 +59,28 @@ class AnswerAheadOfEffect(Fault):
     mix = "hot-keys"
     rate_usual = 0.5
 
+    def __init__(self, *words: object, **more: object) -> None:
+        super().__init__(*words, **more)
+        self._late: List[Tuple[float, Thing, Thing]] = []
+
     def take(self, request: Request, session: Dict[str, Optional[str]]) -> Response:
+        self._catch_up()
         asked = request.asks[0]
         before = self.store.find(asked.identifier)
         response = super().take(request, session)
         alone = len(request.asks) == 1 and asked.operation in CHANGES and before is not None
         if alone and response.answers[0].status is Status.SUCCESS and self.strikes():
             after = self.store.find(asked.identifier)
-            self.store.put(before)
-            threading.Timer(SECONDS_OF_RACE, self._catch_up, (before, after)).start()
+            if after is not None:
+                self.store.put(before)
+                self._late.append((time.monotonic() + SECONDS_OF_RACE, before, after))
         return response
 
-    def _catch_up(self, before: Thing, after: Optional[Thing]) -> None:
-        with self.lock:
-            if after is not None and self.store.find(before.identifier) == before:
+    def _catch_up(self) -> None:
+        """The effects whose time has come, where nothing else changed the object meanwhile."""
+        while self._late and self._late[0][0] <= time.monotonic():
+            _, before, after = self._late.pop(0)
+            if self.store.find(before.identifier) == before:
                 self.store.put(after)
 
 
@@ -93,20 +90,17 @@ class MixedBatches(Fault):
     mix = "batches"
     rate_usual = 0.8
 
-    def answer(self, request: Request, session: Dict[str, Optional[str]]) -> Response:
-        with self.lock:
-            torn = len(request.asks) > 1 and request.option is not Option.UNDO and self.strikes()
-        if not torn:
-            return super().answer(request, session)
+    def answer(self, request: Request, session: Dict[str, Optional[str]]) -> Steps:
+        if len(request.asks) == 1 or request.option is Option.UNDO or not self.strikes():
+            return (yield from super().answer(request, session))
         call = Call(0, request, session=session)
         answers: List[Answer] = []
         for ask in request.asks:
-            with self.lock:
-                call.now = self.clock.now()
-                answers.append(self.item(ask, call))
+            call.now = self.clock.now()
+            answers.append(self.item(ask, call))
             if answers[-1].status is Status.FAILED and request.option is not Option.CONTINUE:
                 break
-            time.sleep(SECONDS_OF_RACE / 4)
+            yield SECONDS_OF_RACE / 4
         return Response(request.version, self.stamp(call), tuple(answers))
 
 
@@ -116,19 +110,15 @@ class HalfARevoke(Fault):
     mix = "hot-keys"
     rate_usual = 1.0
 
-    def answer(self, request: Request, session: Dict[str, Optional[str]]) -> Response:
+    def answer(self, request: Request, session: Dict[str, Optional[str]]) -> Steps:
         ask = request.asks[0]
-        if len(request.asks) != 1 or not self._is_compromise(ask):
-            return super().answer(request, session)
-        with self.lock:
+        if len(request.asks) == 1 and ask.operation == Operation.REVOKE and ask.code in COMPROMISES:
             thing = self.store.find(ask.identifier)
-            torn = thing is not None and thing.destroyed is None and thing.compromised is None and self.strikes()
-            if torn:
+            if self._is_sound(thing) and self.strikes():
                 now = self.clock.now()
                 self.store.put(replace(thing, activation=now, deactivation=now))
-        if torn:
-            time.sleep(SECONDS_OF_RACE)
-        return super().answer(request, session)
+                yield SECONDS_OF_RACE
+        return (yield from super().answer(request, session))
 
-    def _is_compromise(self, ask: Ask) -> bool:
-        return ask.operation == Operation.REVOKE and ask.code in COMPROMISES
+    def _is_sound(self, thing: Optional[Thing]) -> bool:
+        return thing is not None and thing.destroyed is None and thing.compromised is None

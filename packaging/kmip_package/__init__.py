@@ -1,0 +1,1 @@
+"""Makes the packages: what is in them, whether the check passed it, and their bytes."""

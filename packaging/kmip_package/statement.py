@@ -1,0 +1,76 @@
+"""The statement that goes with a package: what was proved, of which commit, by which kit."""
+
+from __future__ import annotations
+
+import re
+import time
+from typing import Dict, Iterator, List, NamedTuple, Set
+
+from . import repository
+from .proof import CRATE, digest
+from .repository import TOP, Commit
+
+FUNCTION = re.compile(r"^ *(?:pub(?:\(\w+\))? )?(?:const )?(?:unsafe )?fn \w", re.MULTILINE)
+UNPROVED = """\
+NOT PROVED. This package was made to try how packages are made and installed, with a program of which nothing says
+that the check passed it. What it prints means nothing. Do not use it.
+"""
+PROVED = """\
+The kit's compiler builds a crate only where it proves that each of its functions is safe, ends, and meets its contract:
+what holds of what it is given, and of what it answers. It did so for all crates of which the program is made, as this
+commit has them, and the program of this package is what it built of them.
+"""
+REST = """\
+What the contracts promise is said in docs/PROOFS.md, and what a yes means in README.md, each in
+/usr/share/doc/kmip-audit. Trusted are the kit and the statements of its own crates, the C compiler, the C library, and
+that the definitions say what is meant. Nothing is proved of kmip_record, kmip_drive and kmip_report: each verdict that
+they tell is the program's.
+"""
+
+
+class Crate(NamedTuple):
+    """A crate, and how many functions its source has."""
+
+    name: str
+    functions: int
+
+
+def text(version: str, commit: Commit, kit: str, program: bytes, proved: bool) -> str:
+    """The whole statement."""
+    crates = list(crates_of_program())
+    moment = time.strftime("%Y-%m-%dT%H:%M:%SZ", time.gmtime(commit.moment))
+    head = [f"kmip-audit {version}: {'what was proved' if proved else 'NOT PROVED'}", "",
+            f"commit   {commit.name}, of {moment}", f"kit      {kit}",
+            f"program  kmip_audit, SHA-256 {digest(program)}", ""]
+    rows = [f"  {crate.name:<16}{crate.functions:>6,}" for crate in crates]
+    total = sum(crate.functions for crate in crates)
+    body = [PROVED, "Crates, with the functions that are written in each:", "", *rows,
+            f"  {'together':<16}{total:>6,}", ""]
+    return "\n".join([*head, *(body if proved else [UNPROVED]), REST])
+
+
+def crates_of_program() -> Iterator[Crate]:
+    """The program's crate, and all below it, in the order of crates.txt."""
+    named = _dependencies()
+    needed: Set[str] = set()
+    waiting = [CRATE]
+    while waiting:
+        name = waiting.pop()
+        if name in named and name not in needed:
+            needed.add(name)
+            waiting += named[name]
+    for name in named:
+        if name in needed:
+            yield Crate(name, _functions(name))
+
+
+def _dependencies() -> Dict[str, List[str]]:
+    """Of each crate those that its line in crates.txt names."""
+    lines = (TOP / "crates.txt").read_text("utf-8").splitlines()
+    pairs = (line.partition("#")[0].partition(":") for line in lines)
+    return {name.split()[0]: rest.split() for name, _, rest in pairs if name.strip()}
+
+
+def _functions(crate: str) -> int:
+    sources = [path for path in repository.files_below(f"crates/{crate}/src") if path.endswith(".rt")]
+    return sum(len(FUNCTION.findall((TOP / path).read_text("utf-8"))) for path in sources)
