@@ -1,5 +1,4 @@
 mod AppendLemmas
-mod ExplainedLemmas
 mod FrontLemmas
 mod HeldLemmas
 mod InputLemmas

@@ -1,5 +1,4 @@
 pub mod Dates
-pub mod Explained
 pub mod Held
 pub mod Inputs
 pub mod Judging

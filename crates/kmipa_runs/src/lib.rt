@@ -4,8 +4,6 @@
 mod bytes;
 mod dates;
 mod digits;
-mod explained;
-mod explaining;
 mod flaws;
 mod front;
 mod held;
@@ -21,7 +19,6 @@ mod notes;
 mod options;
 mod pieces;
 mod printer;
-mod quoting;
 mod reading;
 mod reporting;
 mod runs;
@@ -34,7 +31,6 @@ mod telling;
 mod values;
 mod writing;
 
-pub use explaining::{Explained, explain_run};
 pub use json::{VERSION, check_json};
 pub use laws::items_have_no_fault;
 pub use leaving::{Segment, segment_run};

@@ -1,5 +1,0 @@
-pub mod KeptLemmas
-pub mod BehindLemmas
-pub mod FailedLemmas
-pub mod QuietLemmas
-pub mod RefusedLemmas
