@@ -128,6 +128,9 @@ class DeactivationMistaken(Fault):
 class NameLost(Fault):
     """A second name that a client gives is not kept."""
 
+    mix = "locate"
+    rate_usual = 1.0
+
     def add(self, ask: Ask, call: Call, object_type: ObjectType, value: bytes) -> Answer:
         answer = super().add(ask, call, object_type, value)
         thing = self.store.find(answer.identifiers[0])
