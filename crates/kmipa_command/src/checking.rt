@@ -1,4 +1,4 @@
-//! Checks of files: the lines alone, or of a segment.
+//! Checks of files: the lines alone, with what a no means, or of a segment.
 
 ghost use Rattle.std.specs.Prelude.{◌≡◌, ◌↔◌, [], IfOk};
 ghost use Rattle.kmipa_runs.specs.Lines.{FitsStatus, yes_line};
@@ -7,7 +7,7 @@ ghost use Rattle.kmipa_runs.specs.declared.status.Status.{Status};
 use crate::files::{hint_kind, open_input};
 use crate::replacing::{is_input, replace_file, test_output};
 use crate::words::SegmentWords;
-use kmipa_runs::{Status, check_run, read_moment, segment_run};
+use kmipa_runs::{Status, check_run, explain_run, read_moment, segment_run};
 use std::io;
 use std::rt::Files;
 
@@ -16,6 +16,8 @@ use std::rt::Files;
 pub enum Form {
     /// Nothing.
     Lines,
+    /// What a no means.
+    Explained,
     /// What a segment leaves, or from which moment on it is judged.
     Segment,
     /// One JSON object in place of the lines.
@@ -23,12 +25,13 @@ pub enum Form {
 }
 
 /// The form that the options ask for; `None` where they ask for two.
-pub fn form_of(json: bool, segment: SegmentWords<'_>) -> Option<Form> {
-    match (json, segment.is_asked()) {
-        (false, false) => Some(Form::Lines),
-        (true, false) => Some(Form::Json),
-        (false, true) => Some(Form::Segment),
-        (true, true) => None,
+pub fn form_of(json: bool, explain: bool, segment: SegmentWords<'_>) -> Option<Form> {
+    match (json, explain, segment.is_asked()) {
+        (false, false, false) => Some(Form::Lines),
+        (true, false, false) => Some(Form::Json),
+        (false, true, false) => Some(Form::Explained),
+        (false, false, true) => Some(Form::Segment),
+        _ => None,
     }
 }
 
@@ -55,6 +58,28 @@ pub fn check_files<R: Files + AllocGlobal + Eprint>(
     );
     if status == Status::Refused {
         hint_kind(rt, &names, out);
+    }
+    Ok(status)
+}
+
+/// Checks three files, and appends the lines of the verdict with what a no means.
+pub fn explain_files<R: Files + AllocGlobal + Eprint>(
+    rt: &R,
+    names: [&str; 3],
+    out: &mut Vec<u8>,
+) -> io::Result<Status> {
+    let mut transcript = open_input(rt, names[0])?;
+    let mut declaration = open_input(rt, names[1])?;
+    let mut witness = open_input(rt, names[2])?;
+    let status = explain_run(
+        rt.alloc(),
+        &mut transcript,
+        &mut declaration,
+        &mut witness,
+        out,
+    );
+    if status == Status::Refused {
+        hint_kind(rt, names.as_slice(), out);
     }
     Ok(status)
 }

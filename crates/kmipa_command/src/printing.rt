@@ -104,7 +104,7 @@ pub fn tell_forms<R: Eprint>(rt: &R) -> Status
     ensures { (result ≡ Status.Usage) ⊎ (result ≡ Status.Failed) }
 {
     let told =
-        rt.eprintln("error: --json and --leaves or --not-before don't go together");
+        rt.eprintln("error: --json, --explain, and --leaves or --not-before don't go together");
     status_of(&told, Status::Usage)
 }
 

@@ -1,6 +1,6 @@
 //! A session: words come in, files are read and written, and lines go out.
 
-use crate::checking::{Form, check_files, check_segment_files, form_of};
+use crate::checking::{Form, check_files, check_segment_files, explain_files, form_of};
 use crate::files::{hint_digits, hint_kind, open_input};
 use crate::objects::check_object;
 use crate::output::Output;
@@ -46,11 +46,13 @@ fn run_job<R: Files + Clock + AllocGlobal + Print + Eprint>(
             declaration,
             witness,
             json,
+            explain,
             segment,
         } => {
             let names = [transcript, declaration, witness];
-            match form_of(json, segment) {
+            match form_of(json, explain, segment) {
                 Some(Form::Lines) => check_files(rt, names, &mut out),
+                Some(Form::Explained) => explain_files(rt, names, &mut out),
                 Some(Form::Segment) => check_segment_files(rt, names, segment, &mut out),
                 Some(Form::Json) => return check_object(rt, names),
                 None => return tell_forms(rt),

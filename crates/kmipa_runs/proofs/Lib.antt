@@ -1,4 +1,5 @@
 mod AppendLemmas
+mod ExplainedLemmas
 mod FrontLemmas
 mod HeldLemmas
 mod InputLemmas

@@ -1,4 +1,5 @@
 pub mod Dates
+pub mod Explained
 pub mod Held
 pub mod Inputs
 pub mod Judging

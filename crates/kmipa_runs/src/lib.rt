@@ -4,6 +4,8 @@
 mod bytes;
 mod dates;
 mod digits;
+mod explained;
+mod explaining;
 mod flaws;
 mod front;
 mod held;
@@ -19,6 +21,7 @@ mod notes;
 mod options;
 mod pieces;
 mod printer;
+mod quoting;
 mod reading;
 mod reporting;
 mod runs;
@@ -31,6 +34,7 @@ mod telling;
 mod values;
 mod writing;
 
+pub use explaining::{Explained, explain_run};
 pub use json::{VERSION, check_json};
 pub use laws::items_have_no_fault;
 pub use leaving::{Segment, segment_run};
