@@ -1,8 +1,11 @@
 -- A no that a check gives can be explained.
-use Rattle.std.proofs.Common.{◌≡◌, ◌≤◌, ℕ, ◌+◌, suc, List, map, Some, Ok, Err, slice_get, refl, sym, ap, ◌∙◌, subst, arith}
-use Rattle.kmipa_msgs.specs.Messages.{AskOf, AnswerOf}
+use Rattle.std.proofs.Common.{◌≡◌, ◌≤◌, ℕ, ◌+◌, ◌-◌, ◌<◌, suc, List, map, length, get_or, Option, Some, Ok, Err, slice_get, refl, sym, ap, ◌∙◌, subst, arith}
+use Rattle.kmipa_store.specs.Ledger.{Meaning}
+use Rattle.kmipa_msgs.specs.Messages.{RulesOf, AskOf, AnswerOf, RequestOf, ResponseOf}
 use Rattle.kmipa_ops.specs.declared.why.Why.{Why}
 use Rattle.kmipa_ops.specs.declared.why.Why.TheVariants.{EarlierCallLate, StampRunsBack, BatchShape, OperationDiffers}
+use Rattle.std.proofs.lemmas.List.{length-map}
+use Rattle.std.proofs.lemmas.Option.{slice_get_within}
 use Rattle.kmipa_record.specs.Declarations.{DeclarationOf}
 use Rattle.kmipa_record.specs.Marks.{MarkOf, AreRecorded, begins}
 use Rattle.kmipa_record.specs.Witnesses.{TurnOf}
@@ -10,8 +13,10 @@ use Rattle.kmipa_batch.specs.Calls.{pairs_of}
 use Rattle.kmipa_batch.specs.Refusals.{in_shape, in_item, SpeaksAtAlong}
 use Rattle.kmipa_check.specs.Calls.{CallOf, AreCalls}
 use Rattle.kmipa_check.specs.Orders.{IsOrder}
-use Rattle.kmipa_check.specs.Steps.{StepOf, order_of}
-use Rattle.kmipa_check.specs.Verdicts.{Checks, TellsVerdict, IsRefused, RefusedAt, RefusedPlace, late, runs_back}
+use Rattle.kmipa_check.specs.Runs.{rules_declared}
+use Rattle.kmipa_check.specs.Steps.{StepOf, order_of, step_of}
+use Rattle.kmipa_check.specs.declared.step.Step.{Step}
+use Rattle.kmipa_check.specs.Verdicts.{Checks, TellsVerdict, IsRefused, RefusedAt, RefusedPlace, late, runs_back, in_place}
 use Rattle.kmipa_check.specs.Verdicts
 use Rattle.kmipa_check.specs.declared.fault.CheckFault.{CheckFault}
 use Rattle.kmipa_check.specs.declared.fault.CheckFault.TheVariants.{Outside, Witness, Memory}
@@ -20,38 +25,42 @@ use Rattle.kmipa_check.specs.declared.verdict.Verdict.TheVariants.{No}
 use Rattle.kmipa_check.proofs.CheckLemmas.{calls_once}
 use Rattle.kmipa_check.proofs.OneAnswerLemmas.{one_answer_lem}
 use Rattle.kmipa_check.proofs.OnceLemmas.{once_pairs}
-use Rattle.kmipa_check.proofs.PlaceLemmas.{at_contains}
+use Rattle.kmipa_check.proofs.PlaceLemmas.{at_contains, mapped_at}
 use Rattle.kmipa_check.proofs.RecordedLemmas.{recorded_at, same_calls}
 use Rattle.kmipa_check.proofs.WholeOrderLemmas.{number_of, one_order_lem}
-use Rattle.kmipa_explain.specs.Explainable.{IsBegun, HasPair, IsExplainable}
+use Rattle.kmipa_explain.specs.Explainable.{IsBegun, HasPair, IsRefusedHere, IsExplainable}
 use Rattle.kmipa_explain.specs.Places.{at_item}
 use Rattle.kmipa_explain.proofs.QuietLemmas.{no_stamp}
 
 at_next : {A : Type 0} (xs : List A) (place : ℕ) → at_item xs (place + 1) ≡ slice_get xs place
 at_next xs place = let e : suc place ≡ place + 1 = omega arith in let P : ℕ → Type 0 = λ n. at_item xs n ≡ slice_get xs place in subst P e refl
 
+module _ (rules : RulesOf) (m : Meaning) (request : RequestOf) (response : ResponseOf) (order : Option (List ℕ)) (count item : ℕ) (why : Why) where
+  -- no item is refused for a stamp
+  no_stamp_speaks : SpeaksAtAlong rules m request response order count item why → why ≡ StampRunsBack → ⊥
+  no_stamp_speaks (in_shape place at judged first is) stamp = absurd cc
+  no_stamp_speaks (in_item place at shaped its between placeholder ask answer so sound there refuted) stamp =
+      no_stamp rules between placeholder response.stamp ask answer (refuted.named ∙ ap Some stamp)
+
+  -- and for its operation one that has an answer
+  pair_speaks : SpeaksAtAlong rules m request response order count item why → why ≡ OperationDiffers → (ask : AskOf) × (answer : AnswerOf) × (at_item (pairs_of request response) item ≡ Some (ask, answer))
+  pair_speaks (in_shape place at judged first is) differs = absurd cc
+  pair_speaks (in_item place at shaped its between placeholder ask answer so sound there refuted) differs =
+      (ask, answer, ap (at_item (pairs_of request response)) at ∙ at_next (pairs_of request response) place ∙ there)
+
 -- a stamp runs back only behind another turn
 stamp_behind : (declared : DeclarationOf) (order : List StepOf) (turn : ℕ) (c : StepOf) (item : ℕ) (why : Why) → RefusedAt declared order turn c item why → why ≡ StampRunsBack → 1 ≤ turn
-stamp_behind declared order turn c item why (Verdicts.in_place e (late l is)) stamp = absurd cc
-stamp_behind declared order turn c item why (Verdicts.in_place e (runs_back kept back is)) stamp = omega (arith, back.2)
-stamp_behind declared order turn c item why (Verdicts.in_item count h) stamp = by h.speaks
-  where
-    by : SpeaksAtAlong _ _ c.request c.response (order_of c) count item why → 1 ≤ turn
-    by (in_shape place at judged first is) = absurd cc
-    by (in_item place at shaped its between placeholder ask answer so sound there refuted) =
-        let P : Why → Type 0 = λ w. _ in
-        absurd (no_stamp _ _ _ _ ask answer (refuted.named ∙ ap Some stamp))
+stamp_behind declared order turn c item why (in_place e (late l is)) stamp = absurd cc
+stamp_behind declared order turn c item why (in_place e (runs_back kept back is)) stamp = omega (arith, back.2)
+stamp_behind declared order turn c item why (Verdicts.in_item count h) stamp =
+    absurd (no_stamp_speaks (rules_declared declared) h.known c.request c.response (order_of c) count item why h.speaks stamp)
 
 -- operations differ only where there are two
 operations_there : (declared : DeclarationOf) (order : List StepOf) (turn : ℕ) (c : StepOf) (item : ℕ) (why : Why) → RefusedAt declared order turn c item why → why ≡ OperationDiffers → HasPair c item
-operations_there declared order turn c item why (Verdicts.in_place e (late l is)) differs = absurd cc
-operations_there declared order turn c item why (Verdicts.in_place e (runs_back kept back is)) differs = absurd cc
-operations_there declared order turn c item why (Verdicts.in_item count h) differs = by h.speaks
-  where
-    by : SpeaksAtAlong _ _ c.request c.response (order_of c) count item why → HasPair c item
-    by (in_shape place at judged first is) = absurd cc
-    by (in_item place at shaped its between placeholder ask answer so sound there refuted) =
-        (ask, answer, ap (at_item (pairs_of c.request c.response)) at ∙ at_next (pairs_of c.request c.response) place ∙ there)
+operations_there declared order turn c item why (in_place e (late l is)) differs = absurd cc
+operations_there declared order turn c item why (in_place e (runs_back kept back is)) differs = absurd cc
+operations_there declared order turn c item why (Verdicts.in_item count h) differs =
+    pair_speaks (rules_declared declared) h.known c.request c.response (order_of c) count item why h.speaks differs
 
 -- the begin mark of a step
 begun_at : (marks : List MarkOf) (calls : List CallOf) (turns : List TurnOf) (order : List StepOf) (turn : ℕ) (c : StepOf)
@@ -93,3 +102,21 @@ module _ (marks : List MarkOf) (declared : DeclarationOf) (turns : List TurnOf) 
   only_memory (Outside number side o) h = absurd (one_answer_lem marks declared turns recorded (Err (Outside number side o)) (Ok (No r)) h told)
   only_memory (Witness f) h = absurd (one_answer_lem marks declared turns recorded (Err (Witness f)) (Ok (No r)) h told)
   only_memory Memory h = refl
+
+-- ---- the refused step, as it is read
+
+module _ (marks : List MarkOf) (steps : List Step) (r : Refused) (e : IsExplainable marks (map step_of steps) r) where
+  pub turn_is : e.turn ≡ r.turn - 1
+  turn_is = omega (arith, e.reported)
+
+  pub turn_within : r.turn - 1 < length steps
+  turn_within = omega (arith, e.reported, slice_get_within (map step_of steps) e.turn e.call e.refused.there, length-map steps step_of)
+
+  pub stands : slice_get (map step_of steps) (r.turn - 1) ≡ Some e.call
+  stands = let P : ℕ → Type 0 = λ n. slice_get (map step_of steps) n ≡ Some e.call in subst P turn_is e.refused.there
+
+  pub its_call : (s : Step) → s ≡ get_or steps (r.turn - 1) s → e.call ≡ step_of s
+  its_call s is = let at = mapped_at step_of steps (r.turn - 1) s turn_within is in let there = stands in cc
+
+  pub refused_here : IsRefusedHere (map step_of steps) (r.turn - 1) e.call r.item r.why
+  refused_here = let P : ℕ → Type 0 = λ n. IsRefusedHere (map step_of steps) n e.call r.item r.why in subst P turn_is e.refused

@@ -10,7 +10,7 @@ use Rattle.kmipa_check.specs.Steps.{StepOf}
 use Rattle.kmipa_explain.specs.Calls.{earlier_calls}
 use Rattle.kmipa_explain.specs.Places.{at_item}
 use Rattle.kmipa_explain.specs.declared.explanation.Cause.{Cause}
-use Rattle.kmipa_explain.specs.declared.explanation.Cause.TheVariants as cause
+use Rattle.kmipa_explain.specs.declared.explanation.Cause.TheVariants as told
 use Rattle.kmipa_explain.specs.declared.explanation.TurnBefore.{TurnBefore}
 use Rattle.kmipa_explain.specs.declared.explanation.Shape.{Shape}
 use Rattle.kmipa_explain.specs.declared.explanation.Operations.{Operations}
@@ -50,19 +50,19 @@ pub record AreOperations (c : StepOf) (item : ℕ) (o : Operations) : Type 0 whe
   pub answered : o.answered ≡ answer.operation
 
 abbrev pub TellsEarlier : List StepOf → ℕ → StepOf → Cause → Type 0
-TellsEarlier order turn c (cause.EarlierCalls numbers) = numbers.items ≡ earlier_calls order turn c
+TellsEarlier order turn c (told.EarlierCalls numbers) = numbers.items ≡ earlier_calls order turn c
 TellsEarlier order turn c other = ⊥
 
 abbrev pub TellsBefore : List StepOf → ℕ → Cause → Type 0
-TellsBefore order turn (cause.StampBefore b) = IsTurnBefore order turn b
+TellsBefore order turn (told.StampBefore b) = IsTurnBefore order turn b
 TellsBefore order turn other = ⊥
 
 abbrev pub TellsShape : StepOf → ℕ → Cause → Type 0
-TellsShape c item (cause.BatchShape s) = IsShape c item s
+TellsShape c item (told.BatchShape s) = IsShape c item s
 TellsShape c item other = ⊥
 
 abbrev pub TellsOperations : StepOf → ℕ → Cause → Type 0
-TellsOperations c item (cause.Operations o) = AreOperations c item o
+TellsOperations c item (told.Operations o) = AreOperations c item o
 TellsOperations c item other = ⊥
 
 -- what the reason rests on that is told at this item of this call, which stands at this turn; of the other reasons the story of the object tells more
@@ -71,4 +71,4 @@ TellsCause order turn c item EarlierCallLate cause = TellsEarlier order turn c c
 TellsCause order turn c item StampRunsBack cause = TellsBefore order turn cause
 TellsCause order turn c item BatchShape cause = TellsShape c item cause
 TellsCause order turn c item OperationDiffers cause = TellsOperations c item cause
-TellsCause order turn c item why cause = cause ≡ cause.Object
+TellsCause order turn c item why cause = cause ≡ told.Object

@@ -15,7 +15,10 @@ pub fn ask_at<'b, 'a>(step: &Step<'b, 'a>, item: usize) -> Option<&'b Ask<'a>>
     if item == 0 {
         return None;
     }
-    step.request.items.get(item - 1)
+    match step.request.items.get(item - 1) {
+        Some(ask) => Some(ask),
+        None => None,
+    }
 }
 
 /// The answer of an item; none where the turn itself is meant, or the response has no such item.
@@ -25,5 +28,8 @@ pub fn answer_at<'c, 'b, 'a>(step: &'c Step<'b, 'a>, item: usize) -> Option<&'c 
     if item == 0 {
         return None;
     }
-    step.response.response().items.get(item - 1)
+    match step.response.response().items.get(item - 1) {
+        Some(answer) => Some(answer),
+        None => None,
+    }
 }
