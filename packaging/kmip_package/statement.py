@@ -9,6 +9,7 @@ from typing import Dict, Iterator, List, NamedTuple, Set
 from . import repository
 from .proof import CRATE, digest
 from .repository import TOP, Commit
+from .trouble import Trouble
 
 FUNCTION = re.compile(r"^ *(?:pub(?:\(\w+\))? )?(?:const )?(?:unsafe )?fn \w", re.MULTILINE)
 UNPROVED = """\
@@ -28,6 +29,17 @@ they tell is the program's.
 """
 
 
+# What the program tells in the place of its commit, which it can't know while it is built: as long as a commit's name.
+NO_COMMIT = b"unknown, since this build has no package"
+
+
+class Program(NamedTuple):
+    """The program as it is packaged, and as it was built, without its commit."""
+
+    packaged: bytes
+    built: bytes
+
+
 class Crate(NamedTuple):
     """A crate, and how many functions its source has."""
 
@@ -35,13 +47,22 @@ class Crate(NamedTuple):
     functions: int
 
 
-def text(version: str, commit: Commit, kit: str, program: bytes, proved: bool) -> str:
+def with_commit(built: bytes, commit: str) -> bytes:
+    """The program that was built, with this commit in the place that it has for it."""
+    found = built.count(NO_COMMIT)
+    if found > 1 or len(commit) != len(NO_COMMIT):
+        raise Trouble(f"the program has {found} places for a commit of {len(NO_COMMIT)} characters, and {commit} is the commit")
+    return built.replace(NO_COMMIT, commit.encode())
+
+
+def text(version: str, commit: Commit, kit: str, program: Program, proved: bool) -> str:
     """The whole statement."""
     crates = list(crates_of_program())
     moment = time.strftime("%Y-%m-%dT%H:%M:%SZ", time.gmtime(commit.moment))
     head = [f"kmip-audit {version}: {'what was proved' if proved else 'NOT PROVED'}", "",
             f"commit   {commit.name}, of {moment}", f"kit      {kit}",
-            f"program  kmip_audit, SHA-256 {digest(program)}", ""]
+            f"program  kmip_audit, SHA-256 {digest(program.packaged)}",
+            f"built    SHA-256 {digest(program.built)}, without the commit that --version tells", ""]
     rows = [f"  {crate.name:<16}{crate.functions:>6,}" for crate in crates]
     total = sum(crate.functions for crate in crates)
     body = [PROVED, "Crates, with the functions that are written in each:", "", *rows,

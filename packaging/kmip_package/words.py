@@ -82,8 +82,9 @@ def _see_that_version(program: Path, version: str) -> None:
 
 def _packages(program: Path, version: str, proved: bool) -> Dict[str, bytes]:
     """All files that are made, by their names."""
-    commit, binary = repository.commit(), program.read_bytes()
-    stated = statement.text(version, commit, proof.kit(), binary, proved)
+    commit, built = repository.commit(), program.read_bytes()
+    binary = statement.with_commit(built, commit.name)
+    stated = statement.text(version, commit, proof.kit(), statement.Program(binary, built), proved)
     day = time.strftime("%Y-%m-%d", time.gmtime(commit.moment))
     made = Made(version, day, binary, stated, list(contents.completions_of(program)))
     of_debian, of_archive = contents.files(made, of_debian=True), contents.files(made, of_debian=False)
