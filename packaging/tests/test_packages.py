@@ -63,11 +63,11 @@ class Bytes(unittest.TestCase):
         self.assertIn(f"commit   {commit}, of 20", stated)
         self.assertRegex(stated, r"kit      rattle-kit-\w+ logic [0-9a-f]{16}\n")
         digest = run("sha256sum", PROGRAM).stdout.split()[0]
-        self.assertIn(f"program  kmip_audit, SHA-256 {digest}\n", stated)
+        self.assertIn(f"built    SHA-256 {digest}, without the commit", stated)
         self.assertEqual("NOT PROVED" in stated, not IS_BUILT)
 
     def test_the_crates_are_those_that_the_program_stands_on(self) -> None:
-        stated = statement.text("0", repository.commit(), "", b"", proved=True)
+        stated = statement.text("0", repository.commit(), "", statement.Program(b"", b""), proved=True)
         rows = re.findall(r"^  (\w+) +([\d,]+)$", stated, re.MULTILINE)
         counts = [int(count.replace(",", "")) for _, count in rows]
         self.assertEqual(sum(counts[:-1]), counts[-1])
