@@ -1,5 +1,5 @@
 -- The calls behind a turn, one at a time.
-use Rattle.std.proofs.Common.{◌≡◌, ◌<◌, ◌≤◌, ℕ, ◌+◌, ℤ, Bool, List, [], ◌++◌, map, length, get_or, slice_get, Some, refl, ap, ◌∙◌, arith}
+use Rattle.std.proofs.Common.{◌≡◌, ◌≤◌, ℕ, ◌+◌, ℤ, Bool, List, [], ◌++◌, map, length, slice_get, Some, ap, ◌∙◌, arith}
 use Rattle.std.proofs.lemmas.List.{length-map}
 use Rattle.kmipa_check.specs.Steps.{StepOf, step_of}
 use Rattle.kmipa_check.specs.declared.step.Step.{Step}

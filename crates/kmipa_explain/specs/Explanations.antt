@@ -1,7 +1,6 @@
 -- What an explanation of a no claims.
 use Rattle.std.specs.Prelude.{◌≡◌, ℕ, ◌+◌, List, Option, Some, option_map, slice_get}
 use Rattle.std.specs.String.{string_bytes}
-use Rattle.kmipa_msgs.specs.Messages.{AskOf}
 use Rattle.kmipa_record.specs.Declarations.{DeclarationOf}
 use Rattle.kmipa_record.specs.Marks.{MarkOf, begins}
 use Rattle.kmipa_record.specs.Witnesses.{TurnOf}

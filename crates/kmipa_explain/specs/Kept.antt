@@ -1,5 +1,5 @@
 -- What a loop keeps of the elements of a list. Not promised.
-use Rattle.std.specs.Prelude.{◌≡◌, ℕ, Bool, true, false, filter, List, [], ◌∷◌, map, drop, slice_get, Option, Some}
+use Rattle.std.specs.Prelude.{◌≡◌, ℕ, Bool, true, false, filter, List, [], ◌∷◌, map, drop, slice_get, Some}
 
 -- of the elements from a place on those that pass a test, each read
 abbrev pub kept : {X Y : Type 0} → (X → Bool) → (X → Y) → List X → ℕ → List Y

@@ -1,4 +1,4 @@
-use Rattle.std.proofs.Common.{ℕ, ◌-◌, length, map}
+use Rattle.std.proofs.Common.{◌-◌, length, map}
 use Rattle.kmipa_check.specs.Steps.{step_of}
 use Rattle.kmipa_explain.specs.Calls.{is_before}
 use Rattle.kmipa_explain.proofs.BehindLemmas.{Found}

@@ -1,7 +1,7 @@
-use Rattle.std.proofs.Common.{rules, ◌≡◌, ◌∙◌, ◌-◌, ◌<◌, map, length, Some, slice_get, sym, ap, subst, arith}
+use Rattle.std.proofs.Common.{rules, ◌≡◌, ◌∙◌, ◌-◌, ◌<◌, length, Some, slice_get, sym, ap, subst, arith}
 use Rattle.std.specs.Vec.{vec_len}
 use Rattle.std.proofs.lemmas.List.{length-map}
-use Rattle.kmipa_msgs.specs.Messages.{AnswerOf, AskOf, ResponseOf, ask_of, answer_of, request_of, response_of}
+use Rattle.kmipa_msgs.specs.Messages.{AnswerOf, ResponseOf, ask_of, answer_of, request_of}
 use Rattle.kmipa_check.specs.Steps.{given_of}
 use Rattle.kmipa_check.proofs.PlaceLemmas.{mapped_at}
 use Rattle.kmipa_explain.specs.Causes.{number_asked}

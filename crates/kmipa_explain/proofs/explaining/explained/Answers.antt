@@ -2,10 +2,10 @@ use Rattle.std.proofs.Common.{rules, ◌∙◌, ◌-◌, FitsSigned, w64, map, s
 use Rattle.std.proofs.lemmas.Int.{to_z-of_z}
 use Rattle.std.specs.String.{string_bytes}
 use Rattle.kmipa_record.specs.Marks.{mark_of}
-use Rattle.kmipa_check.specs.Steps.{StepOf, step_of}
+use Rattle.kmipa_check.specs.Steps.{StepOf}
 use Rattle.kmipa_explain.specs.Explainable.{IsBegun}
 use Rattle.kmipa_explain.specs.Explanations.{IsClient, operation_at}
-use Rattle.kmipa_explain.proofs.RefusedLemmas.{its_call, refused_here, stands, turn_within}
+use Rattle.kmipa_explain.proofs.RefusedLemmas.{its_call, stands, turn_within}
 use Rattle.kmipa_explain.proofs.explaining.explained.Goals as goal
 
 pub client_of-requires : goal.client_of-requires
