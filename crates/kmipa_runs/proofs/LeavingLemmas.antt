@@ -6,6 +6,7 @@ use Rattle.std.specs.Prelude.{IfOk, IsOkAnd, String, option_map, slice_get, stri
 use Rattle.std.specs.Result.{is_err}
 use Rattle.std.specs.Io.{appended_bytes}
 use Rattle.std.specs.declared.alloc.AllocError.{AllocError}
+use Rattle.std.specs.declared.alloc.Global.{Global}
 use borrow.Author.Count.{below_more}
 use Rattle.kmipa_record.specs.Marks.{MarkOf}
 use Rattle.kmipa_record.specs.Transcripts.{transcript_of}
@@ -51,7 +52,7 @@ entry_at entries place x h is = slice_get-map entry_of entries place ∙ ap (opt
 
 -- what a test refutes
 pub refuted : {P : Type 0} (test : Bool) → test ≡ false → (P → test ≡ true) → P → ⊥
-refuted test no yes p = let clash : true ≡ false = sym (yes p) ∙ no in absurd cc
+refuted test fails passes p = let clash : true ≡ false = sym (passes p) ∙ fails in absurd cc
 
 -- this one is
 pub long_at : (entries : List Entry) (place : ℕ) (x : Entry) → place < length entries → x ≡ get_or entries place x → IsTooLong (entry_of x)
@@ -61,10 +62,10 @@ long_at entries place x h is long = (entry_of x, entry_at entries place x h is, 
 short_at : (entries : List Entry) (place : ℕ) (x : Entry) → place < length entries → x ≡ get_or entries place x → (IsTooLong (entry_of x) → ⊥)
     → IsTooLongAt (map entry_of entries) place → ⊥
 short_at entries place x h is short l =
-    let there = l.1.0 in
-    let same : entry_of x ≡ l.0 = let e = sym (entry_at entries place x h is) ∙ there in cc in
-    let P : EntryOf → Type 0 = λ e. IsTooLong e in
-    short (subst P (sym same) l.1.1)
+    let e = sym (entry_at entries place x h is) ∙ l.1 in
+    let same : entry_of x ≡ l.0 = cc in
+    let P : EntryOf → Type 0 = λ y. IsTooLong y in
+    short (subst P (sym same) l.2)
 
 -- this one isn't either
 pub none_more : (entries : List Entry) (place : ℕ) (x : Entry) → place < length entries → x ≡ get_or entries place x → (IsTooLong (entry_of x) → ⊥)
@@ -79,7 +80,7 @@ pub none_of_all : (entries : List Entry) (place : ℕ) → length entries ≤ pl
 none_of_all entries place h none = λ at below. none at (omega arith)
 
 -- the line of it, or that none is
-pub entry_told : (entries : List EntryOf) (count : ℕ) (found : Option ℕ) (place : ℕ) (text : Result String AllocError)
+pub entry_told : (entries : List EntryOf) (count : ℕ) (found : Option ℕ) (place : ℕ) (text : Result (String Global) AllocError)
     → MatchOption found (NoneTooLongBefore entries count) (λ (p : ℕ). NoneTooLongBefore entries p × IsTooLongAt entries p) → found ≡ Some place
     → IfOk text (λ t. string_bytes t ≡ entry_line (place + 1)) → IfOk text (λ t. PrintsUnwritten entries (string_bytes t))
 entry_told entries count found place (Err e) first is reads = tt
@@ -88,7 +89,7 @@ entry_told entries count found place (Ok t) first is reads =
     let here = subst P is first in
     too_long place here.0 here.1 reads
 
-pub none_told : (entries : List EntryOf) (count : ℕ) (found : Option ℕ) (text : Result String AllocError)
+pub none_told : (entries : List EntryOf) (count : ℕ) (found : Option ℕ) (text : Result (String Global) AllocError)
     → MatchOption found (NoneTooLongBefore entries count) (λ (p : ℕ). NoneTooLongBefore entries p × IsTooLongAt entries p) → found ≡ None → count ≡ length entries
     → IfOk text (λ t. string_bytes t ≡ unwritable_line) → IfOk text (λ t. PrintsUnwritten entries (string_bytes t))
 none_told entries count found (Err e) first is all reads = tt
