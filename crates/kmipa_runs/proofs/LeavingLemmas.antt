@@ -1,14 +1,23 @@
 -- What is made and printed of a segment.
-use Rattle.std.proofs.Common.{◌≡◌, ◌⊎◌, inl, inr, ℕ, ℤ, List, [], ◌++◌, Bool, true, false, Option, Some, None, Result, Ok, Err, is_ok, if◌then◌else◌, refl, sym, ap, ◌∙◌, subst}
+use Rattle.std.proofs.Common.{◌≡◌, ◌⊎◌, inl, inr, ◌<◌, ◌≤◌, ◌+◌, ℕ, ℤ, List, [], ◌++◌, Bool, true, false, Option, Some, None, Result, Ok, Err, is_ok, if◌then◌else◌, map, length, get_or, MatchOption, refl, sym, ap, ◌∙◌, subst, arith}
 use Rattle.std.proofs.lemmas.List.{append-nil}
+use Rattle.std.proofs.lemmas.Option.{slice_get-map, slice_get_read}
+use Rattle.std.specs.Prelude.{IfOk, IsOkAnd, String, option_map, slice_get, string_bytes}
 use Rattle.std.specs.Result.{is_err}
 use Rattle.std.specs.Io.{appended_bytes}
+use Rattle.std.specs.declared.alloc.AllocError.{AllocError}
+use Rattle.std.specs.declared.alloc.Global.{Global}
+use borrow.Author.Count.{below_more}
 use Rattle.kmipa_record.specs.Marks.{MarkOf}
 use Rattle.kmipa_record.specs.Transcripts.{transcript_of}
 use Rattle.kmipa_record.specs.Declarations.{DeclarationOf, declaration_of, IsDeclaration}
+use Rattle.kmipa_record.specs.DeclarationWriting.{IsTooLong}
+use Rattle.kmipa_record.specs.Entries.{EntryOf, entry_of}
 use Rattle.kmipa_record.specs.Witnesses.{TurnOf, witness_of}
 use Rattle.kmipa_record.specs.Writing.{Appends, IsWrittenDeclaration, Unwritten, no_memory, no_file}
+use Rattle.kmipa_record.specs.declared.entry.Entry.{Entry}
 use Rattle.kmipa_record.specs.declared.fault.RecordFault.{RecordFault}
+use Rattle.kmipa_record.specs.declared.fault.RecordKind.{RecordKind}
 use Rattle.kmipa_record.specs.declared.fault.RecordKind.TheVariants as kind
 use Rattle.kmipa_check.specs.Audits.{AreRecords}
 use Rattle.kmipa_check.specs.Left.{LeavesAtYes}
@@ -18,10 +27,11 @@ use Rattle.kmipa_check.specs.declared.segment.Checked.{Checked}
 use Rattle.kmipa_check.specs.declared.segment.Left.{Left}
 use Rattle.kmipa_check.specs.declared.verdict.Verdict.{Verdict}
 use Rattle.kmipa_check.specs.declared.verdict.Verdict.TheVariants as verdict
-use Rattle.kmipa_runs.specs.Leaving.{AreChecked, Lead, LeadsAsAsked, PrintsLeft, PrintsUnwritten, RecordsLead, TellsChecked, TellsLeft, TellsSegment, if_asked, made_whole, not_made}
+use Rattle.kmipa_runs.specs.Leaving.{AreChecked, IsTooLongAt, Lead, LeadsAsAsked, NoneTooLongBefore, PrintsLeft, PrintsUnwritten, RecordsLead, TellsChecked, TellsLeft, TellsSegment, entry_line, if_asked, made_whole, not_made, otherwise, too_long, unwritable_line}
 use Rattle.kmipa_runs.specs.Lines.{PrintsVerdict, yes_line}
 use Rattle.kmipa_runs.specs.Statuses.{IsSilent}
 use Rattle.kmipa_runs.specs.declared.leaving.Segment.{Segment}
+use Rattle.kmipa_runs.specs.declared.lines.Lines.{Lines}
 use Rattle.kmipa_runs.specs.declared.status.Status.{Status}
 use Rattle.kmipa_runs.specs.declared.status.Status.TheVariants as status
 use Rattle.kmipa_runs.proofs.AppendLemmas.{since}
@@ -34,6 +44,70 @@ pub checked_files : (t d w : List ℕ) (records : AuditRecords) (checked : Check
     → ChecksSince (transcript_of records.transcript) (declaration_of records.declaration) moment (witness_of records.witness) (Ok checked.verdict)
     → LeavesAtYes checked.verdict checked.left (λ (left : Left). RecordsLead records moment left) → AreChecked (record { records = records; checked = checked }) t d w moment
 checked_files t d w records checked moment are right leads = record { records = are; verdict = right; leads = leads }
+
+-- ---- which entry is too long
+
+entry_at : (entries : List Entry) (place : ℕ) (x : Entry) → place < length entries → x ≡ get_or entries place x → slice_get (map entry_of entries) place ≡ Some (entry_of x)
+entry_at entries place x h is = slice_get-map entry_of entries place ∙ ap (option_map entry_of) (slice_get_read entries (length entries) place x refl h is)
+
+-- what a test refutes
+pub refuted : {P : Type 0} (test : Bool) → test ≡ false → (P → test ≡ true) → P → ⊥
+refuted test fails passes p = let clash : true ≡ false = sym (passes p) ∙ fails in absurd cc
+
+-- this one is
+pub long_at : (entries : List Entry) (place : ℕ) (x : Entry) → place < length entries → x ≡ get_or entries place x → IsTooLong (entry_of x)
+    → IsTooLongAt (map entry_of entries) place
+long_at entries place x h is long = (entry_of x, entry_at entries place x h is, long)
+
+short_at : (entries : List Entry) (place : ℕ) (x : Entry) → place < length entries → x ≡ get_or entries place x → (IsTooLong (entry_of x) → ⊥)
+    → IsTooLongAt (map entry_of entries) place → ⊥
+short_at entries place x h is short l =
+    let e = sym (entry_at entries place x h is) ∙ l.1 in
+    let same : entry_of x ≡ l.0 = cc in
+    let P : EntryOf → Type 0 = λ y. IsTooLong y in
+    short (subst P (sym same) l.2)
+
+-- this one isn't either
+pub none_more : (entries : List Entry) (place : ℕ) (x : Entry) → place < length entries → x ≡ get_or entries place x → (IsTooLong (entry_of x) → ⊥)
+    → NoneTooLongBefore (map entry_of entries) place → NoneTooLongBefore (map entry_of entries) (place + 1)
+none_more entries place x h is short none =
+    let P : ℕ → Type 0 = λ at. IsTooLongAt (map entry_of entries) at → ⊥ in
+    below_more P place none (short_at entries place x h is short)
+
+-- and none of all
+pub none_of_all : (entries : List Entry) (place : ℕ) → length entries ≤ place → NoneTooLongBefore (map entry_of entries) place
+    → NoneTooLongBefore (map entry_of entries) (length entries)
+none_of_all entries place h none = λ at below. none at (omega arith)
+
+-- the line of it, or that none is
+pub entry_told : (entries : List EntryOf) (count : ℕ) (found : Option ℕ) (place : ℕ) (text : Result (String Global) AllocError)
+    → MatchOption found (NoneTooLongBefore entries count) (λ (p : ℕ). NoneTooLongBefore entries p × IsTooLongAt entries p) → found ≡ Some place
+    → IfOk text (λ t. string_bytes t ≡ entry_line (place + 1)) → IfOk text (λ t. PrintsUnwritten entries (string_bytes t))
+entry_told entries count found place (Err e) first is reads = tt
+entry_told entries count found place (Ok t) first is reads =
+    let P : Option ℕ → Type 0 = λ o. MatchOption o (NoneTooLongBefore entries count) (λ (p : ℕ). NoneTooLongBefore entries p × IsTooLongAt entries p) in
+    let here = subst P is first in
+    too_long place here.0 here.1 reads
+
+pub none_told : (entries : List EntryOf) (count : ℕ) (found : Option ℕ) (text : Result (String Global) AllocError)
+    → MatchOption found (NoneTooLongBefore entries count) (λ (p : ℕ). NoneTooLongBefore entries p × IsTooLongAt entries p) → found ≡ None → count ≡ length entries
+    → IfOk text (λ t. string_bytes t ≡ unwritable_line) → IfOk text (λ t. PrintsUnwritten entries (string_bytes t))
+none_told entries count found (Err e) first is all reads = tt
+none_told entries count found (Ok t) first is all reads =
+    let P : Option ℕ → Type 0 = λ o. MatchOption o (NoneTooLongBefore entries count) (λ (p : ℕ). NoneTooLongBefore entries p × IsTooLongAt entries p) in
+    let Q : ℕ → Type 0 = λ n. NoneTooLongBefore entries n in
+    otherwise (subst Q all (subst P is first)) reads
+
+-- the lines of it, where it is appended
+pub refused_told : (k : RecordKind) (made : Result Lines AllocError) (entries : List EntryOf) (said : Status) (lines : List ℕ) → k ≡ kind.Entry
+    → IfOk made (λ l. (l.status ≡ status.Refused) × PrintsUnwritten entries (string_bytes l.text))
+    → IsOkAnd made (λ l. (said ≡ l.status) × (lines ≡ string_bytes l.text)) ⊎ IsSilent said lines
+    → ((k ≡ kind.Entry) × (said ≡ status.Refused) × PrintsUnwritten entries lines) ⊎ IsSilent said lines
+refused_told k made entries said lines is reads (inr silent) = inr silent
+refused_told k (Err e) entries said lines is reads (inl p) = absurd p
+refused_told k (Ok l) entries said lines is reads (inl p) =
+    let P : List ℕ → Type 0 = λ t. PrintsUnwritten entries t in
+    inl (is, p.0 ∙ reads.0, subst P (sym p.1) reads.1)
 
 -- ---- what is made
 

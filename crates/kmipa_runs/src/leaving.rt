@@ -7,7 +7,7 @@ ghost use Rattle.kmipa_record.specs.Declarations.{declaration_of};
 ghost use Rattle.kmipa_record.specs.Entries.{entry_of};
 ghost use Rattle.kmipa_record.specs.Transcripts.{transcript_of};
 ghost use Rattle.kmipa_record.specs.Witnesses.{witness_of};
-ghost use Rattle.kmipa_runs.specs.Leaving.{ChecksSegment, IsMomentText, IsTooLongAt, LeadsAsAsked, NoneTooLongBefore, PrintsLeft, PrintsSegment, PrintsUnwritten, TellsLeft, TellsSegment, TellsChecked};
+ghost use Rattle.kmipa_runs.specs.Leaving.{ChecksSegment, IsMomentText, IsTooLongAt, LeadsAsAsked, NoneTooLongBefore, PrintsLeft, PrintsSegment, PrintsUnwritten, TellsLeft, TellsSegment, TellsChecked, entry_line, unwritable_line};
 ghost use Rattle.kmipa_runs.specs.Lines.{PrintsVerdict};
 ghost use Rattle.kmipa_runs.specs.Statuses.{IsSilent};
 
@@ -239,12 +239,21 @@ fn unwritten_text(alloc: Global, entries: &[Entry]) -> Result<String, AllocError
     ensures { IfOk result (λ text. PrintsUnwritten (map entry_of entries.now) (string_bytes text)) }
 {
     match first_too_long(alloc, entries)? {
-        Some(place) => {
-            let number = place + 1;
-            format!(in alloc; "left: entry {number} is too long to be declared\n")
-        }
-        None => String::from_str(alloc, "left: it can't be declared\n"),
+        Some(place) => entry_text(alloc, place + 1),
+        None => unwritable_text(alloc),
     }
+}
+
+fn entry_text(alloc: Global, number: usize) -> Result<String, AllocError>
+    ensures { IfOk result (λ text. string_bytes text ≡ entry_line number) }
+{
+    format!(in alloc; "left: entry {number} is too long to be declared\n")
+}
+
+fn unwritable_text(alloc: Global) -> Result<String, AllocError>
+    ensures { IfOk result (λ text. string_bytes text ≡ unwritable_line) }
+{
+    String::from_str(alloc, "left: it can't be declared\n")
 }
 
 /// The place of the first of these entries that is too long for a declaration.
