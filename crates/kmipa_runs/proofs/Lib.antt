@@ -5,6 +5,7 @@ mod HeldLemmas
 mod InputLemmas
 mod JsonLemmas
 mod LawLemmas
+mod JudgingLemmas
 mod LeavingLemmas
 mod LineLemmas
 mod MomentLemmas
