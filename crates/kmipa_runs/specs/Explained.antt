@@ -40,10 +40,10 @@ IsExplained records (verdict.No refused) (Some e) =
     Explains (transcript_of records.transcript) (declaration_of records.declaration) (witness_of records.witness) refused e
 
 -- these records are the bytes, the verdict is right for them, and it is explained
-pub record AreExplained (explained : Explained) (t d w : List ℕ) : Type 0 where
-  pub records : AreRecords explained.records t d w
-  pub verdict : TellsVerdict (transcript_of explained.records.transcript) (declaration_of explained.records.declaration) (witness_of explained.records.witness) explained.verdict
-  pub explained : IsExplained explained.records explained.verdict explained.explanation
+pub record AreExplained (judged : Explained) (t d w : List ℕ) : Type 0 where
+  pub records : AreRecords judged.records t d w
+  pub verdict : TellsVerdict (transcript_of judged.records.transcript) (declaration_of judged.records.declaration) (witness_of judged.records.witness) judged.verdict
+  pub explained : IsExplained judged.records judged.verdict judged.explanation
 
 -- what an audit with explanations answers of these three files: its faults are those of an audit
 abbrev pub AuditsExplained : List ℕ → List ℕ → List ℕ → Bool → Bool → Bool → Result Explained AuditFault → Type 0

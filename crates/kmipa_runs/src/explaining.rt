@@ -124,13 +124,13 @@ fn explained_lines(alloc: Global, explained: &Explained) -> Result<Lines, AllocE
         &explained.records.transcript,
         &explained.records.witness,
     )?;
-    let more = more_text(alloc, &explained.explanation)?;
+    let more = explanation_lines(alloc, &explained.explanation)?;
     let text = format!(in alloc; "{front}{more}")?;
     Ok(Lines { text, status })
 }
 
 /// The lines of an explanation, where there is one.
-fn more_text(alloc: Global, explanation: &Option<Explanation>) -> Result<String, AllocError>
+fn explanation_lines(alloc: Global, explanation: &Option<Explanation>) -> Result<String, AllocError>
     ensures { IfOk result (λ text. PrintsMore explanation.now (string_bytes text)) }
 {
     match explanation {

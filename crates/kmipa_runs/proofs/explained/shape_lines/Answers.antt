@@ -1,6 +1,7 @@
 use Rattle.std.proofs.Common.{◌≡◌, ◌∙◌, ap, string_bytes, List, ℕ, ◌++◌, ◌∷◌, [], codes}
 use Rattle.std.proofs.lemmas.Result.{IfOk-weaker}
-use Rattle.kmipa_runs.specs.Explained.{answered_text, asked_text, failed_text, line, option_text}
+use Rattle.kmipa_runs.specs.Explained.{answered_text, asked_text, failed_text, option_text}
+use Rattle.kmipa_runs.specs.Lines.{line}
 use Rattle.kmipa_runs.proofs.explained.shape_lines.Goals as goal
 
 pub returns : goal.returns
