@@ -96,7 +96,10 @@ pub fn check_segment_files<R: Files + AllocGlobal + Eprint>(
         Ok(since) => since,
         Err(mistake) => return Ok(mistake),
     };
-    if segment.leaves.is_some_and(|left| is_input(rt, left, &names)) {
+    if segment
+        .leaves
+        .is_some_and(|left| is_input(rt, left, &names))
+    {
         return Ok(Status::Usage);
     }
     let mut transcript = open_input(rt, names[0])?;

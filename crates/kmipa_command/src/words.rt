@@ -229,11 +229,7 @@ fn check_with_texts<'a>(alloc: Global) -> Result<Command<'a>, AllocError>
 {
     check_of_files(alloc)?
         .arg(flag(alloc, EXPLAIN, "Prints behind a no what it means"))?
-        .arg(flag(
-            alloc,
-            JSON,
-            "Prints one JSON object in place of the lines",
-        ))
+        .arg(flag(alloc, JSON, "Prints one JSON object in place of the lines"))
 }
 
 /// A check without its options.
