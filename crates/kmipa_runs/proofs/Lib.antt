@@ -1,8 +1,10 @@
 mod AppendLemmas
+mod DecidingLemmas
 mod FrontLemmas
 mod HeldLemmas
 mod InputLemmas
 mod JsonLemmas
+mod JsonSearchLemmas
 mod LawLemmas
 mod LineLemmas
 mod PrintLemmas

@@ -1,6 +1,8 @@
 pub mod Dates
+pub mod Deciding
 pub mod Held
 pub mod Inputs
+pub mod JsonSearches
 pub mod Judging
 pub mod Lines
 pub mod Notes

@@ -3,12 +3,15 @@
 
 mod bytes;
 mod dates;
+mod deciding;
 mod digits;
 mod flaws;
 mod front;
 mod held;
 mod holding;
 mod json;
+mod json_search;
+mod judged;
 mod judging;
 mod laws;
 mod lines;
@@ -26,10 +29,12 @@ mod showing;
 mod shown;
 mod status;
 mod telling;
+mod telling_found;
 mod values;
 mod writing;
 
 pub use json::{VERSION, check_json};
+pub use json_search::search_json;
 pub use laws::items_have_no_fault;
 pub use lines::Lines;
 pub use options::ShowOptions;

@@ -89,7 +89,7 @@ fn search_inputs<R: Read, W: Watch>(
     }
 }
 
-fn search_records<W: Watch>(
+pub fn search_records<W: Watch>(
     alloc: Global,
     transcript: &Transcript,
     declaration: &Declaration,
