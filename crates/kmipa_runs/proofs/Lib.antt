@@ -6,5 +6,6 @@ mod LeavingLemmas
 mod LineLemmas
 mod PrintLemmas
 mod SearchLemmas
+mod SegmentSearchLemmas
 mod ShownLemmas
 mod YesLemmas

@@ -4,5 +4,6 @@ pub mod Leaving
 pub mod Lines
 pub mod Notes
 pub mod Searches
+pub mod SegmentSearches
 pub mod Shown
 pub mod Statuses
