@@ -122,6 +122,11 @@ class InTheArchive(unittest.TestCase):
             self.assertEqual(run(self.top / "bin" / name, "--help").returncode, 0, name)
         self.assertTrue((self.top / "share/doc/kmip-audit/examples/register_then_get/transcript.ttlv").exists())
 
+    @unittest.skipUnless(IS_BUILT, "a program of another build may have no place for a commit")
+    def test_the_program_tells_its_commit(self) -> None:
+        commit = run("git", "rev-parse", "HEAD", cwd=TOP).stdout.strip()
+        self.assertIn(f"\ncommit {commit}\n", run(self.top / "bin/kmip_audit", "--version").stdout)
+
     def test_the_manuals_have_each_word_and_option(self) -> None:
         asking = completions.Asked()
         self.addCleanup(asking.__exit__)
