@@ -10,7 +10,7 @@ use Rattle.kmipa_search.specs.Candidates.{AreOfCalls, own_call}
 use Rattle.kmipa_search.specs.Guessing.{AreSoundMarks, AreRecordedCalls}
 use Rattle.kmipa_search.specs.declared.candidate.Candidate.{Candidate}
 use Rattle.kmipa_search.proofs.PermutationLemmas.{contains_mapped}
-use Rattle.kmipa_search.proofs.PlaceLemmas.{one_cases, has_head}
+use Rattle.kmipa_search.proofs.PlaceLemmas.{one_cases}
 
 -- the places that are taken, their turns, the depth of the newest mark, and the steps
 pub record Guessing {T : Type 0} (count budget : ℕ) (path : List ℕ) (turns : List T) (depth steps : ℕ) (u : LedgerState) : Type 0 where

@@ -1,5 +1,5 @@
 -- Calls without effect can come first.
-use Rattle.std.proofs.Common.{◌≡◌, ◌≤◌, ◌<◌, ◌⊎◌, inl, inr, ℕ, zero, suc, ℤ, ◌≤ℤ◌, ◌+◌, ◌-◌, Bool, true, false, List, [], ◌∷◌, ◌++◌, map, length, take, drop, Option, Some, None, IfSome, MatchOption, slice_get, get_or, Contains, refl, sym, ap, ◌∙◌, subst, arith}
+use Rattle.std.proofs.Common.{◌≡◌, ◌≤◌, ◌<◌, inl, inr, ℕ, zero, suc, ℤ, ◌≤ℤ◌, ◌-◌, Bool, true, false, List, [], ◌∷◌, ◌++◌, length, take, drop, Option, Some, None, IfSome, MatchOption, slice_get, get_or, Contains, refl, sym, ap, ◌∙◌, subst, arith}
 use Rattle.std.specs.Prelude.{AllPairs, IsPermutation}
 use Rattle.std.specs.List.{zip}
 use Rattle.std.proofs.lemmas.List.{length-append, append_assoc}
@@ -19,9 +19,9 @@ use Rattle.kmipa_ops.specs.Locate.{Lists, locate_deed, names_only}
 use Rattle.kmipa_ops.specs.GetAttributes.{GetsAttributes, IsOwnAt, HasRequired, get_attributes_deed}
 use Rattle.kmipa_ops.specs.Objects.{HasObject}
 use Rattle.kmipa_object.specs.Inventory.{place_of}
-use Rattle.kmipa_ops.specs.Does.{Succeeds, Fails, Outcome, Does}
+use Rattle.kmipa_ops.specs.Does.{Succeeds, Outcome, Does}
 use Rattle.kmipa_ops.specs.Chains.{Chain}
-use Rattle.kmipa_batch.specs.Calls.{pairs_of, Leaves, goes_back, goes_on, Batch, CallAlong, CompletesAnswers, CallSomeAlong}
+use Rattle.kmipa_batch.specs.Calls.{pairs_of, Leaves, goes_back, goes_on, CallAlong, CompletesAnswers, CallSomeAlong}
 use Rattle.kmipa_batch.specs.Refusals.{CallExplainsAlong}
 use Rattle.kmipa_check.specs.Steps.{StepOf, order_of}
 use Rattle.kmipa_check.specs.Described.{Describes}
@@ -148,15 +148,15 @@ call_again rules V W request response V' idle same c = by c.call
 
 -- ---- an element goes to the front
 
-abbrev Pairwise : {X : Type 0} (R : X → X → Type 0) → List X → Type 0
+abbrev pub Pairwise : {X : Type 0} (R : X → X → Type 0) → List X → Type 0
 Pairwise R [] = Unit {0}
 Pairwise R (x ∷ xs) = ((y : _) → Contains xs y → R x y) × Pairwise R xs
 
-pairwise : {X : Type 0} (R : X → X → Type 0) (xs : List X) → AllPairs R xs → Pairwise R xs
+pub pairwise : {X : Type 0} (R : X → X → Type 0) (xs : List X) → AllPairs R xs → Pairwise R xs
 pairwise R [] h = tt
 pairwise R (x ∷ xs) h = ((λ y has. pairs_behind R [] xs x y h has), pairwise R xs (λ i j d below within. h (suc i) (suc j) d (omega (arith, below)) (omega (arith, within))))
 
-all_pairs : {X : Type 0} (R : X → X → Type 0) (xs : List X) → Pairwise R xs → AllPairs R xs
+pub all_pairs : {X : Type 0} (R : X → X → Type 0) (xs : List X) → Pairwise R xs → AllPairs R xs
 all_pairs R [] h i j d below within = absurd (omega (arith, within))
 all_pairs R (x ∷ xs) h zero zero d below within = absurd (omega (arith, below))
 all_pairs R (x ∷ xs) h zero (suc j) d below within = h.0 (get_or xs j d) (Contains-get_or xs j d (omega (arith, within)))

@@ -21,3 +21,8 @@ pub mod ApartLemmas
 pub mod GuessLemmas
 pub mod PickLemmas
 pub mod IdleLemmas
+pub mod EndLemmas
+pub mod StillLemmas
+pub mod RememberLemmas
+pub mod TakenLemmas
+pub mod NotedLemmas

@@ -11,10 +11,9 @@ use Rattle.kmipa_msgs.specs.Messages.{RulesOf}
 use Rattle.kmipa_batch.specs.Refusals.{CallExplainsAlong, CallRefutedAlong}
 use Rattle.kmipa_check.specs.Steps.{StepOf, order_of}
 use Rattle.kmipa_check.specs.Runs.{rules_declared}
-use Rattle.kmipa_search.specs.Next.{IsNext}
 use Rattle.kmipa_search.specs.Progress.{step_at, so_far, ordered, places, AreBegun, AreCursors, AreSoundBehind, CanBeTaken, Searching, Opens, CallTried, ComesTo}
 use Rattle.kmipa_search.specs.Idle.{IsIdleStep}
-use Rattle.kmipa_search.specs.Tries.{IsPick, IsPicked, IsBehind, none_tried, all_tried}
+use Rattle.kmipa_search.specs.Tries.{IsPick, IsPicked, IsBehind, none_tried}
 use Rattle.kmipa_search.specs.declared.tried.Tried.{Tried}
 use Rattle.kmipa_search.specs.declared.tried.Visit.{Visit}
 use Rattle.kmipa_search.specs.Remaining.{AreRemaining, IsCursor}

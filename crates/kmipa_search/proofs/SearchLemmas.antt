@@ -1,5 +1,5 @@
 -- A search, event by event.
-use Rattle.std.proofs.Common.{◌≡◌, ◌<◌, ◌≤◌, ◌⊎◌, inl, inr, ℕ, suc, ◌+◌, ◌-◌, true, List, [], ◌∷◌, ◌++◌, length, Some, None, refl, sym, ap, subst, arith}
+use Rattle.std.proofs.Common.{◌≡◌, ◌<◌, ◌≤◌, inl, inr, ℕ, suc, ◌+◌, ◌-◌, true, List, [], ◌∷◌, ◌++◌, length, None, refl, sym, ap, subst, arith}
 use Rattle.std.specs.Prelude.{AllPairs, Bool}
 use Rattle.std.proofs.lemmas.Option.{slice_get_within}
 use Rattle.std.proofs.lemmas.List.{length-map}
@@ -14,8 +14,8 @@ use Rattle.kmipa_check.specs.Runs.{rules_declared}
 use Rattle.kmipa_check.specs.Laws.{TakenIsKnown, RefusedIsNever}
 use Rattle.kmipa_check.specs.Verdicts.{AreKnown}
 use Rattle.kmipa_search.proofs.PermutationLemmas.{once_pairs}
-use Rattle.kmipa_search.specs.Next.{IsNext, weigh, weight}
-use Rattle.kmipa_search.specs.Tries.{IsTried, closed, ahead, wished, IsPick, IsPicked, IsBehind, none_tried, all_tried}
+use Rattle.kmipa_search.specs.Next.{weigh, weight}
+use Rattle.kmipa_search.specs.Tries.{IsTried, closed, ahead, wished, IsPick, IsPicked, IsBehind, none_tried}
 use Rattle.kmipa_search.specs.Links.{at}
 use Rattle.kmipa_search.specs.Idle.{IsIdleStep}
 use Rattle.kmipa_search.specs.Progress.{so_far, CanBeTaken, IsDead, Cleared, places, KnowsAll, Searching, IsOwed, Opens}
@@ -26,7 +26,7 @@ use Rattle.kmipa_search.proofs.DeadLemmas.{refused_dead, found_run, exhausted}
 use Rattle.kmipa_search.proofs.IdleLemmas.{dead_more, idle_dead}
 use Rattle.kmipa_search.proofs.WeightLemmas.{owed_begins, owed_picked, owed_closed}
 
-knows_now : (declared : DeclarationOf) (calls : List StepOf) (taken : List ℕ) (now : Meaning) (marks : List Meaning) → KnowsAll declared calls taken now marks
+pub knows_now : (declared : DeclarationOf) (calls : List StepOf) (taken : List ℕ) (now : Meaning) (marks : List Meaning) → KnowsAll declared calls taken now marks
     → AreKnown declared (so_far calls taken) now × IsSound now
 knows_now declared calls [] now marks k = k
 knows_now declared calls (p ∷ taken) now [] k = absurd k

@@ -1,12 +1,12 @@
 -- How many tries are owed.
-use Rattle.std.proofs.Common.{◌≡◌, ◌≢◌, ◌<◌, ◌≤◌, ◌⊎◌, inl, inr, ◌==◌, ℕ, zero, suc, ◌+◌, ◌-◌, Bool, true, false, cond, List, ◌∷◌, length, refl, sym, ap, ◌∙◌, subst, arith, rules}
+use Rattle.std.proofs.Common.{◌≡◌, ◌≢◌, ◌<◌, ◌≤◌, inl, inr, ◌==◌, ℕ, zero, suc, ◌+◌, ◌-◌, Bool, true, false, cond, List, ◌∷◌, length, refl, sym, ap, subst, arith, rules}
 use Rattle.std.proofs.lemmas.Option.{slice_get_within}
 use Rattle.kmipa_check.specs.Steps.{StepOf}
-use Rattle.kmipa_search.specs.Next.{IsNext, is_next, sum_from, weigh}
+use Rattle.kmipa_search.specs.Next.{IsNext, sum_from, weigh}
 use Rattle.kmipa_search.specs.Tries.{IsTried, IsPick, none_tried}
 use Rattle.kmipa_search.specs.Progress.{cost, IsOwed}
 use Rattle.kmipa_search.specs.declared.tried.Tried.{Tried}
-use Rattle.kmipa_search.proofs.NextTestLemmas.{next_of, of_next}
+use Rattle.kmipa_search.proofs.NextTestLemmas.{of_next}
 use Rattle.kmipa_search.proofs.PickLemmas.{lower}
 
 same_of : (a b : ℕ) → (a == b) ≡ true → a ≡ b

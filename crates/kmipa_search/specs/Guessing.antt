@@ -1,5 +1,5 @@
 -- A search that guesses payloads: how far it may go. Not promised: that its witness is right is reported by a check.
-use Rattle.std.specs.Prelude.{◌≡◌, ◌≤◌, ℕ, zero, suc, List, ◌∷◌, [], length, map, Contains, Option, Some, None, IfSome, Result, Ok, Err}
+use Rattle.std.specs.Prelude.{◌≡◌, ◌≤◌, ℕ, zero, suc, List, ◌∷◌, [], length, Contains, Option, Some, None, IfSome, Result, Ok, Err}
 use Rattle.kmipa_store.specs.Ledger.{LedgerState, Meaning}
 use Rattle.kmipa_store.specs.Choices.{IsSound}
 use Rattle.kmipa_record.specs.Marks.{MarkOf}

@@ -15,3 +15,4 @@ pub mod Remaining
 pub mod Guessing
 pub mod Tries
 pub mod Idle
+pub mod Ends

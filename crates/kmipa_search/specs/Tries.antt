@@ -1,5 +1,5 @@
 -- How far the tries at a place of a search have come, and which call is tried next. Not promised.
-use Rattle.std.specs.Prelude.{◌≡◌, ◌<◌, ◌≤◌, ◌⊎◌, ℕ, Bool, true, false, List, length, Option, Some, None}
+use Rattle.std.specs.Prelude.{◌≡◌, ◌<◌, ◌≤◌, ◌⊎◌, ℕ, true, false, List, length, Option, Some, None}
 use Rattle.kmipa_check.specs.Steps.{StepOf}
 use Rattle.kmipa_search.specs.Next.{IsNext}
 use Rattle.kmipa_search.specs.Links.{at}

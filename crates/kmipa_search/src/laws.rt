@@ -1,5 +1,6 @@
 //! Laws of the definitions.
 
+ghost use Rattle.kmipa_search.specs.Ends.{EqualIsEqual};
 ghost use Rattle.kmipa_search.specs.Laws.{EnoughDecides, ForcedIsLight, NextIsTested};
 
 use kmipa_check::one_list_of_calls;
@@ -20,4 +21,10 @@ pub fn forced_is_light()
 /// The test by which tries are counted is true of exactly the steps that may be next.
 pub fn next_is_tested()
     ensures { NextIsTested }
+{}
+
+/// The same calls taken in two orders, over ledgers whose objects stand alike: where the one begins no run, nor does the
+/// other.
+pub fn equal_is_equal()
+    ensures { EqualIsEqual }
 {}

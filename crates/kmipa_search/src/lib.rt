@@ -3,6 +3,7 @@
 
 mod candidate;
 mod check_laws;
+mod ends;
 mod forced;
 mod found;
 mod guesses;
@@ -16,11 +17,13 @@ mod plain;
 mod ranks;
 mod remaining;
 mod searching;
+mod stills;
+mod taken;
 mod tried;
 mod watch;
 
 pub use forced::is_forced;
 pub use found::Found;
-pub use laws::{enough_decides, forced_is_light, next_is_tested};
+pub use laws::{enough_decides, equal_is_equal, forced_is_light, next_is_tested};
 pub use searching::{search, search_watched};
 pub use watch::{Unwatched, Watch};

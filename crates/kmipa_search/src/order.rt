@@ -10,10 +10,12 @@ ghost use Rattle.kmipa_search.specs.Progress.{AllReadable, CallTried, Opens};
 ghost use Rattle.kmipa_search.specs.Outcomes.{TellsOutcome, not_taken};
 
 use crate::candidate::Candidate;
+use crate::ends::Ends;
 use crate::idle::is_idle_place;
 use crate::picking::pick;
 use crate::ranks::Ranks;
 use crate::remaining::Remaining;
+use crate::taken::TakenCalls;
 use crate::tried::{Tried, Visit};
 use crate::watch::Watch;
 use kmipa_batch::{CallRefusal, take_call};
@@ -51,6 +53,8 @@ pub fn find_order<L: Ledger, W: Watch>(
 {
     let mut remaining = Remaining::new(alloc, calls)?;
     let wishes = Ranks::by_wish(alloc, calls)?;
+    let mut taken = TakenCalls::new(alloc, calls.len())?;
+    let mut ends = Ends::new(alloc);
     let mut path = Vec::new(alloc);
     let mut tried = Tried::none();
     let mut depth = 0;
@@ -72,8 +76,9 @@ pub fn find_order<L: Ledger, W: Watch>(
                             idle: is_idle_place(calls, place),
                         })?;
                         remaining.take(calls, place);
+                        taken.take(place);
                         depth = mark;
-                        tried = Tried::none();
+                        tried = ends.arrive(alloc, ledger, &taken, path.len(), steps >= EARLY)?;
                     }
                     None => tried = pick.tried,
                 }
@@ -82,9 +87,11 @@ pub fn find_order<L: Ledger, W: Watch>(
                 let Some(visit) = path.pop() else {
                     return Ok(Outcome { order: None, steps });
                 };
+                ends.note(alloc, ledger, &taken, path.len() + 1, steps >= EARLY)?;
                 ledger.back(Mark { depth });
                 depth -= 1;
                 remaining.give_back(calls, visit.place);
+                taken.give_back(visit.place);
                 tried = visit.behind(steps >= EARLY);
             }
         }

@@ -33,8 +33,8 @@ use std::alloc::{AllocError, Global};
 /// A call is tried only where its stamp is least among the calls not yet taken and none of these ended before it. Such calls are tried in
 /// the order of their begin marks, depth first. Of plain calls that is so for the first 1,000 steps; from then on, in the places that are
 /// open and in those to come, those without effect are tried first, and each by its end mark; where more than 64 may be next, they go on
-/// in the order of their begin marks. And coming back from a call without effect, the search goes back at once. Where a call waits for
-/// payloads, each of them has one guess.
+/// in the order of their begin marks. And coming back from a call without effect, the search goes back at once, and so it does where the
+/// same calls were taken before over the same ledger, and led to nothing. Where a call waits for payloads, each of them has one guess.
 pub fn search(
     alloc: Global,
     transcript: &Transcript,

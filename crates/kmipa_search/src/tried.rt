@@ -11,7 +11,7 @@ pub struct Tried {
 
 impl Tried {
     ghost use Rattle.std.specs.Prelude.{◌≡◌};
-    ghost use Rattle.kmipa_search.specs.Tries.{none_tried};
+    ghost use Rattle.kmipa_search.specs.Tries.{all_tried, none_tried};
 
     /// No call was tried.
     pub fn none() -> Tried
@@ -21,6 +21,17 @@ impl Tried {
             from: 0,
             done: 0,
             closed: false,
+        }
+    }
+
+    /// None is left to try.
+    pub fn all() -> Tried
+        ensures { result ≡ all_tried }
+    {
+        Tried {
+            from: 0,
+            done: 0,
+            closed: true,
         }
     }
 }

@@ -1,4 +1,4 @@
-use Rattle.std.proofs.Common.{◌≤◌, ◌-◌, length}
+use Rattle.std.proofs.Common.{◌≤◌, ◌-◌}
 use Rattle.kmipa_search.proofs.guesses.guessed_turn.Given as goal
 
 abbrev pub invariant-items : goal.invariant-items

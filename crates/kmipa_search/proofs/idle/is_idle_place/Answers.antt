@@ -1,4 +1,4 @@
-use Rattle.std.proofs.Common.{map, length, sym, subst, arith}
+use Rattle.std.proofs.Common.{map, sym, subst, arith}
 use Rattle.std.proofs.lemmas.Option.{get_or_from_slice_get}
 use Rattle.kmipa_check.specs.Steps.{StepOf}
 use Rattle.kmipa_search.specs.Candidates.{candidate_step}

@@ -1,4 +1,4 @@
-use Rattle.std.proofs.Common.{ℕ, map, length, arith, subst, sym}
+use Rattle.std.proofs.Common.{ℕ, map, arith, subst, sym}
 use Rattle.std.proofs.lemmas.List.{length-map}
 use Rattle.kmipa_search.specs.Candidates.{candidate_step}
 use Rattle.kmipa_search.specs.Tries.{IsBetter}

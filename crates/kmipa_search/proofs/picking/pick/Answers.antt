@@ -1,4 +1,4 @@
-use Rattle.std.proofs.Common.{ℕ, map, length, refl, arith, subst, sym}
+use Rattle.std.proofs.Common.{ℕ, map, refl, arith, subst, sym}
 use Rattle.std.proofs.lemmas.List.{length-map}
 use Rattle.kmipa_search.specs.Candidates.{candidate_step}
 use Rattle.kmipa_search.specs.Tries.{IsPick, IsPreferred}

@@ -1,5 +1,4 @@
-use Rattle.std.proofs.Common.{◌≡◌, ◌∙◌, sym}
-use Rattle.kmipa_msgs.specs.Messages.{request_of}
+use Rattle.std.proofs.Common.{◌∙◌, sym}
 use Rattle.kmipa_check.specs.Calls.{call_of}
 use Rattle.kmipa_search.proofs.CandidateLemmas.{plain_of, waits}
 use Rattle.kmipa_search.proofs.plain.candidate_of.Goals as goal

@@ -1,9 +1,9 @@
-use Rattle.std.proofs.Common.{◌≡◌, ◌≤◌, ◌∙◌, map, length, Option, Some, Vec, IfSome, subst, arith}
+use Rattle.std.proofs.Common.{◌≤◌, map, length, Option, Vec, IfSome, subst, arith}
 use Rattle.std.specs.declared.alloc.Global.{Global}
 use Rattle.std.proofs.lemmas.List.{length-map}
 use Rattle.kmipa_record.specs.Declarations.{declaration_of}
 use Rattle.kmipa_record.specs.Transcripts.{transcript_of}
-use Rattle.kmipa_record.specs.Witnesses.{TurnOf, turn_of}
+use Rattle.kmipa_record.specs.Witnesses.{turn_of}
 use Rattle.kmipa_record.specs.declared.turn.Turn.{Turn}
 use Rattle.kmipa_check.specs.Calls.{call_of}
 use Rattle.kmipa_search.proofs.AnswerLemmas.{tried}

@@ -1,0 +1,113 @@
+-- Dead ends that are remembered: which calls were taken, and what the ledger stood for. Not promised.
+use Rattle.std.specs.Prelude.{◌≡◌, ◌≢◌, ◌<◌, ◌⊎◌, ℕ, Vec, Bool, true, false, List, length, map, slice_index_or, AllPairs, Contains, Option, option_map}
+use Rattle.std.specs.declared.alloc.Global.{Global}
+use Rattle.kmipa_store.specs.Ledger.{Held, Known, Meaning, held}
+use Rattle.kmipa_store.specs.Choices.{IsSound}
+use Rattle.kmipa_record.specs.Declarations.{DeclarationOf}
+use Rattle.kmipa_record.specs.Entries.{items_of}
+use Rattle.kmipa_msgs.specs.Messages.{RulesOf}
+use Rattle.kmipa_check.specs.Left.{bytes_left}
+use Rattle.kmipa_check.specs.Steps.{StepOf}
+use Rattle.kmipa_check.specs.Verdicts.{AreKnown}
+use Rattle.kmipa_search.specs.Progress.{so_far, AreBegun, AreNext, IsDead, Opens}
+use Rattle.kmipa_search.specs.Tries.{none_tried, all_tried}
+use Rattle.kmipa_search.specs.declared.tried.Tried.{Tried}
+use Rattle.kmipa_search.specs.declared.taken.TakenCalls.{TakenCalls}
+use Rattle.kmipa_search.specs.declared.taken.CallSet.{CallSet}
+use Rattle.kmipa_search.specs.declared.stills.Still.{Still}
+use Rattle.kmipa_search.specs.declared.ends.End.{End}
+
+-- WHAT A LEDGER STANDS FOR
+
+-- an object as it stands: itself with the number of its secret, and its bytes where they are known
+pub record StillOf : Type 0 where
+  pub held : Held
+  pub bytes : Option (List ℕ)
+
+abbrev pub still : List Known → Held → StillOf
+still secrets h = record { held = h; bytes = bytes_left secrets h.material }
+
+-- all objects of a ledger as they stand, in the order of arrival
+abbrev pub stills : Meaning → List StillOf
+stills m = map (still m.secrets) m.objects
+
+-- what the program's copy of an object means
+abbrev pub still_of : Still → StillOf
+still_of s = record { held = held s.object; bytes = option_map items_of s.bytes }
+
+-- WHICH CALLS ARE TAKEN
+
+-- whether a place is marked
+abbrev pub flag : List Bool → ℕ → Bool
+flag flags p = slice_index_or flags p false
+
+-- each taken call is marked, and no other; all ahead of `low` are, and none from `high` on
+pub record AreFlagged (count : ℕ) (taken : List ℕ) (f : TakenCalls) : Type 0 where
+  pub long : length f.flags.items ≡ count
+  pub marked : (p : ℕ) → Contains taken p → flag f.flags.items p ≡ true
+  pub only : (p : ℕ) → flag f.flags.items p ≡ true → Contains taken p
+  pub low : (p : ℕ) → p < f.low → flag f.flags.items p ≡ true
+  pub high : (p : ℕ) → flag f.flags.items p ≡ true → p < f.high
+
+-- these are the calls taken: so many, all ahead of a place, and of the others these
+pub record IsSetOf (taken : List ℕ) (k : CallSet) : Type 0 where
+  pub count : length taken ≡ k.count
+  pub are : (p : ℕ) → Contains taken p → (p < k.low) ⊎ Contains k.rest.items p
+  pub only : (p : ℕ) → (p < k.low) ⊎ Contains k.rest.items p → Contains taken p
+
+-- two lists of calls have the same calls
+pub record AreSame (taken others : List ℕ) : Type 0 where
+  pub long : length others ≡ length taken
+  pub each : (p : ℕ) → Contains taken p → Contains others p
+  pub back : (p : ℕ) → Contains others p → Contains taken p
+
+-- ENDS
+
+-- an end is that of these calls over this ledger
+pub record IsEndAt (taken : List ℕ) (m : Meaning) (e : End) : Type 0 where
+  pub set : IsSetOf taken e.set
+  pub stands : map still_of e.objects.items ≡ stills m
+
+-- However these calls were taken, if the ledger stands for this, no run begins so.
+abbrev pub IsDeadEnd : DeclarationOf → List StepOf → End → Type 0
+IsDeadEnd declared calls e = (taken : List ℕ) (m : Meaning) → AreNext calls taken → AreKnown declared (so_far calls taken) m → IsSound m → IsEndAt taken m e → IsDead declared calls taken
+
+abbrev pub AreDeadEnds : DeclarationOf → List StepOf → List End → Type 0
+AreDeadEnds declared calls ends = (e : End) → Contains ends e → IsDeadEnd declared calls e
+
+-- one of the ends is that of these calls over this ledger
+abbrev pub HasEnd : List End → List ℕ → Meaning → Type 0
+HasEnd ends taken m = (e : End) × Contains ends e × IsEndAt taken m e
+
+-- where a call was taken: all is left to try, or nothing, since this end is known
+abbrev pub IsArrival : List End → List ℕ → Meaning → Tried → Type 0
+IsArrival ends taken m t = (t ≡ none_tried) ⊎ ((t ≡ all_tried) × HasEnd ends taken m)
+
+-- two sets are equal
+pub record IsSameSet (a b : CallSet) : Type 0 where
+  pub count : a.count ≡ b.count
+  pub low : a.low ≡ b.low
+  pub rest : a.rest.items ≡ b.rest.items
+
+-- no end is there but the old ones and one of this set and these objects
+abbrev pub IsAdded : List End → CallSet → Vec Still Global → List End → Type 0
+IsAdded old set objects new = (e : End) → Contains new e → Contains old e ⊎ ((e.set ≡ set) × (e.objects ≡ objects))
+
+-- no end is there but the old ones and this one
+abbrev pub IsNoted : List End → List ℕ → Meaning → List End → Type 0
+IsNoted old taken m new = (e : End) → Contains new e → Contains old e ⊎ IsEndAt taken m e
+
+-- THE LAW
+
+-- Equal is equal: the same calls taken, and ledgers whose objects stand alike: where the one leads to no run, nor does the other.
+abbrev pub EqualIsEqual : Type 0
+EqualIsEqual =
+    (declared : DeclarationOf) (calls : List StepOf) (taken others : List ℕ) (m n : Meaning) → AllPairs (λ (a b : StepOf). a ≢ b) calls
+    → AreNext calls taken → AreNext calls others → AreSame taken others
+    → AreKnown declared (so_far calls taken) m → IsSound m → AreKnown declared (so_far calls others) n → IsSound n → stills m ≡ stills n
+    → IsDead declared calls taken → IsDead declared calls others
+
+-- what a search remembers: the calls taken are marked, where these begin in their order, and each end leads to no run
+pub record Remembers (rules : RulesOf) (calls : List StepOf) (first : Meaning) (taken : List ℕ) (f : TakenCalls) (ends : List End) : Type 0 where
+  pub flagged : AreBegun calls → AreFlagged (length calls) taken f
+  pub dead : (declared : DeclarationOf) → Opens declared rules calls first → AreDeadEnds declared calls ends

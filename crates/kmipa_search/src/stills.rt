@@ -1,0 +1,218 @@
+//! The objects of a ledger as they stand.
+
+ghost use Rattle.std.specs.Prelude.{◌≡◌, ◌<◌, true, IfOk, length, map, option_map};
+ghost use Rattle.kmipa_attrs.specs.Sets.{attributes_of, name_of};
+ghost use Rattle.kmipa_object.specs.Inventory.{given_of};
+ghost use Rattle.kmipa_object.specs.Life.{dates_of};
+ghost use Rattle.kmipa_object.specs.declared.life.SecretNo.{SecretNo};
+ghost use Rattle.kmipa_object.specs.declared.life.Material.TheVariants.{Secret};
+ghost use Rattle.kmipa_store.specs.Ledger.{held};
+ghost use Rattle.kmipa_store.specs.Choices.{IsSound};
+ghost use Rattle.kmipa_record.specs.Entries.{items_of};
+ghost use Rattle.kmipa_check.specs.Left.{bytes_left};
+ghost use Rattle.kmipa_search.specs.Ends.{still, still_of, stills};
+
+use kmipa_attrs::{AttrSet, Name};
+use kmipa_object::{Life, Material, Object};
+use kmipa_store::Ledger;
+use std::alloc::{AllocError, Global};
+
+/// An object as it stands: a copy of it, and of its bytes where they are known.
+#[derive(Drop)]
+pub struct Still {
+    pub object: Object,
+    pub bytes: Option<Vec<u8>>,
+}
+
+/// Copies of all objects of a ledger, as they stand.
+pub fn copy_all<L: Ledger>(alloc: Global, ledger: &L) -> Result<Vec<Still>, AllocError>
+    requires { IsSound (L.state ledger.now).now }
+    ensures { IfOk result (λ objects. map still_of objects.items ≡ stills (L.state ledger.now).now) }
+{
+    let mut objects = Vec::new(alloc);
+    let mut place = 0;
+    'objects: while place < ledger.len() {
+        let object = ledger.at(place);
+        objects.push(copy_of(alloc, ledger, object)?)?;
+        place += 1;
+    }
+    Ok(objects)
+}
+
+/// A copy of an object, as it stands.
+fn copy_of<L: Ledger>(alloc: Global, ledger: &L, object: &Object) -> Result<Still, AllocError>
+    requires { (secret : SecretNo) → object.now.life.material ≡ Secret secret → secret.number < length (L.state ledger.now).now.secrets }
+    ensures { IfOk result (λ s. still_of s ≡ still (L.state ledger.now).now.secrets (held object.now)) }
+{
+    Ok(Still {
+        object: object.copy(alloc)?,
+        bytes: copy_known(alloc, ledger, object.life.material)?,
+    })
+}
+
+fn copy_known<L: Ledger>(
+    alloc: Global,
+    ledger: &L,
+    material: Material,
+) -> Result<Option<Vec<u8>>, AllocError>
+    requires { (secret : SecretNo) → material ≡ Secret secret → secret.number < length (L.state ledger.now).now.secrets }
+    ensures { IfOk result (λ bytes. option_map items_of bytes ≡ bytes_left (L.state ledger.now).now.secrets material) }
+{
+    match known_of(ledger, material) {
+        Some(bytes) => Ok(Some(Vec::from_slice(alloc, bytes)?)),
+        None => Ok(None),
+    }
+}
+
+/// The bytes of this material, where they are known.
+pub fn known_of<L: Ledger>(ledger: &L, material: Material) -> Option<&[u8]>
+    requires { (secret : SecretNo) → material ≡ Secret secret → secret.number < length (L.state ledger.now).now.secrets }
+    ensures { option_map (λ bytes. bytes.now) result ≡ bytes_left (L.state ledger.now).now.secrets material }
+{
+    match material {
+        Material::Gone => None,
+        Material::Secret(secret) => ledger.secret(secret),
+    }
+}
+
+/// Whether the objects of a ledger stand as these do.
+pub fn stand_so<L: Ledger>(ledger: &L, objects: &[Still]) -> bool
+    requires { IsSound (L.state ledger.now).now }
+    ensures { result ≡ true → map still_of objects.now ≡ stills (L.state ledger.now).now }
+{
+    if objects.len() != ledger.len() {
+        return false;
+    }
+    let mut place = objects.len();
+    'objects: while place > 0 {
+        place -= 1;
+        let object = ledger.at(place);
+        if !stands_so(ledger, object, &objects[place]) {
+            return false;
+        }
+    }
+    true
+}
+
+/// Whether an object of a ledger stands as this one does.
+fn stands_so<L: Ledger>(ledger: &L, object: &Object, kept: &Still) -> bool
+    requires { (secret : SecretNo) → object.now.life.material ≡ Secret secret → secret.number < length (L.state ledger.now).now.secrets }
+    ensures { result ≡ true → still_of kept.now ≡ still (L.state ledger.now).now.secrets (held object.now) }
+{
+    if !is_equal(&kept.object, object) {
+        return false;
+    }
+    are_known(&kept.bytes, known_of(ledger, object.life.material))
+}
+
+/// Whether known bytes are the same, or unknown both times.
+fn are_known(kept: &Option<Vec<u8>>, known: Option<&[u8]>) -> bool
+    ensures { result ≡ true → option_map items_of kept.now ≡ option_map (λ bytes. bytes.now) known.entry }
+{
+    match kept {
+        Some(kept) => match known {
+            Some(known) => kept.as_slice() == known,
+            None => false,
+        },
+        None => match known {
+            Some(_) => false,
+            None => true,
+        },
+    }
+}
+
+/// Whether two objects are equal, the numbers of their secrets included.
+fn is_equal(one: &Object, other: &Object) -> bool
+    ensures { result ≡ true → held one.now ≡ held other.now }
+{
+    if one.kind != other.kind {
+        return false;
+    }
+    if one.id.as_str() != other.id.as_str() {
+        return false;
+    }
+    if !is_same_life(&one.life, &other.life) {
+        return false;
+    }
+    gives_same(&one.given, &other.given)
+}
+
+/// Whether two lives are equal.
+fn is_same_life(one: &Life, other: &Life) -> bool
+    ensures dates { result ≡ true → dates_of one.now ≡ dates_of other.now }
+    ensures material { result ≡ true → one.now.material ≡ other.now.material }
+{
+    if one.initial != other.initial {
+        return false;
+    }
+    if one.activation != other.activation {
+        return false;
+    }
+    if one.deactivation != other.deactivation {
+        return false;
+    }
+    if one.destroy != other.destroy {
+        return false;
+    }
+    if one.compromise != other.compromise {
+        return false;
+    }
+    is_same_material(one.material, other.material)
+}
+
+fn is_same_material(one: Material, other: Material) -> bool
+    ensures { result ≡ true → one ≡ other }
+{
+    match one {
+        Material::Gone => match other {
+            Material::Gone => true,
+            Material::Secret(_) => false,
+        },
+        Material::Secret(one) => match other {
+            Material::Gone => false,
+            Material::Secret(other) => one.number == other.number,
+        },
+    }
+}
+
+/// Whether names, algorithm, length and mask are the same.
+fn gives_same(one: &AttrSet, other: &AttrSet) -> bool
+    ensures { result ≡ true → given_of (attributes_of one.now) ≡ given_of (attributes_of other.now) }
+{
+    if one.algorithm != other.algorithm {
+        return false;
+    }
+    if one.length != other.length {
+        return false;
+    }
+    if one.mask != other.mask {
+        return false;
+    }
+    are_same_names(one.names.as_slice(), other.names.as_slice())
+}
+
+/// Whether names are the same, in the same order.
+fn are_same_names(names: &[Name], others: &[Name]) -> bool
+    ensures { result ≡ true → map name_of names.now ≡ map name_of others.now }
+{
+    if names.len() != others.len() {
+        return false;
+    }
+    let mut place = names.len();
+    'names: while place > 0 {
+        place -= 1;
+        if !is_same_name(&names[place], &others[place]) {
+            return false;
+        }
+    }
+    true
+}
+
+fn is_same_name(name: &Name, other: &Name) -> bool
+    ensures { result ≡ true → name_of name.now ≡ name_of other.now }
+{
+    if name.kind != other.kind {
+        return false;
+    }
+    name.value.as_str() == other.value.as_str()
+}
