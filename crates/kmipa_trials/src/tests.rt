@@ -3,6 +3,7 @@
 mod attributes;
 mod audits;
 mod calls;
+mod explaining;
 mod files;
 mod leaving;
 mod ledgers;

@@ -1,0 +1,90 @@
+-- The items of an order, one after the other as they are taken, and which identifier each is about.
+use Rattle.std.specs.Prelude.{ℕ, ◌+◌, ℤ, Bool, true, false, List, [], ◌∷◌, ◌++◌, length, Option, Some, None, option_map, option_and_then, slice_get}
+use Rattle.kmipa_msgs.specs.Messages.{AskedOf, AskOf, PayloadOf, RegisteredOf, AnswerOf, creates, registers, locates, gets, gets_attributes, activates, revokes, destroys, idles, does_other}
+use Rattle.kmipa_msgs.specs.declared.response.Status.{Status}
+use Rattle.kmipa_ops.specs.After.{placeholder_after}
+use Rattle.kmipa_ops.specs.Create.{seen_created}
+use Rattle.kmipa_ops.specs.Objects.{meant}
+use Rattle.kmipa_ops.specs.Register.{seen_registered}
+use Rattle.kmipa_batch.specs.Calls.{pairs_of}
+use Rattle.kmipa_batch.specs.Orders.{places_from}
+use Rattle.kmipa_check.specs.Steps.{StepOf, order_of}
+use Rattle.kmipa_explain.specs.Causes.{number_asked}
+
+-- An item that was asked and answered: its turn, its call and its place in the call, turn and place counted from 1; the Time Stamp; the operation,
+-- the status, whether it makes an object; and the identifier that it is about, if it is about one.
+pub record ItemOf : Type 0 where
+  pub turn : ℕ
+  pub call : ℤ
+  pub item : ℕ
+  pub stamp : ℤ
+  pub operation : ℕ
+  pub status : Status
+  pub makes : Bool
+  pub about : Option (List ℕ)
+
+-- a Create or a Register makes an object
+abbrev pub makes_object : AskedOf → Bool
+makes_object (creates a) = true
+makes_object (registers r) = true
+makes_object asked = false
+
+-- the identifier of the new object, where it is answered
+abbrev pub id_made : Option RegisteredOf → Option (List ℕ)
+id_made = option_map (λ (x : RegisteredOf). x.id)
+
+-- The identifier that an item is about, where the ID Placeholder holds `before`: of a Create and a Register the one that is answered; of the
+-- others on an object the one that they name, or else the placeholder's. A Locate and an operation that isn't read are about none.
+abbrev pub about : Option (List ℕ) → AskedOf → Option PayloadOf → Option (List ℕ)
+about before (creates a) payload = id_made (option_and_then seen_created payload)
+about before (registers r) payload = id_made (option_and_then seen_registered payload)
+about before (locates q) payload = None
+about before (gets id) payload = meant id before
+about before (gets_attributes g) payload = meant g.id before
+about before (activates id) payload = meant id before
+about before (revokes r) payload = meant r.id before
+about before (destroys id) payload = meant id before
+about before (idles number) payload = None
+about before (does_other number) payload = None
+
+-- the item of a call at a place, counted from 0, where the placeholder holds `before`
+abbrev pub item_of : ℕ → StepOf → ℕ → Option (List ℕ) → AskOf → AnswerOf → ItemOf
+item_of turn s place before ask answer = record {
+  turn = turn;
+  call = s.number;
+  item = place + 1;
+  stamp = s.response.stamp;
+  operation = number_asked ask;
+  status = answer.status;
+  makes = makes_object ask.asked;
+  about = about before ask.asked answer.payload;
+}
+
+-- what stands at a place, if something does, with the items behind it
+abbrev pub item_then : ℕ → StepOf → ℕ → Option (List ℕ) → Option (AskOf × AnswerOf) → (Option (List ℕ) → List ItemOf) → List ItemOf
+item_then turn s place before None behind = behind before
+item_then turn s place before (Some (ask, answer)) behind =
+    item_of turn s place before ask answer ∷ behind (placeholder_after answer.status before ask.asked answer.payload)
+
+-- the items at these places of a call, in this order, where the placeholder holds `before` at the first
+abbrev pub items_along : ℕ → StepOf → List ℕ → Option (List ℕ) → List ItemOf
+items_along turn s [] before = []
+items_along turn s (place ∷ places) before =
+    item_then turn s place before (slice_get (pairs_of s.request s.response) place) (λ (after : Option (List ℕ)). items_along turn s places after)
+
+-- the places of a call in the order in which its items are taken
+abbrev pub places_taken : Option (List ℕ) → ℕ → List ℕ
+places_taken None count = places_from 0 count
+places_taken (Some order) count = order
+
+-- the items of a call: the placeholder is empty at its begin
+abbrev pub items_of_call : ℕ → StepOf → List ItemOf
+items_of_call turn s = items_along turn s (places_taken (order_of s) (length s.request.items)) None
+
+-- the items of these calls, the first of which has this turn
+abbrev pub items_from : ℕ → List StepOf → List ItemOf
+items_from turn [] = []
+items_from turn (s ∷ order) = items_of_call turn s ++ items_from (turn + 1) order
+
+abbrev pub items_of : List StepOf → List ItemOf
+items_of order = items_from 1 order

@@ -1,0 +1,9 @@
+pub mod Calls
+pub mod Causes
+pub mod Explainable
+pub mod Explanations
+pub mod Items
+pub mod Kept
+pub mod Places
+pub mod Reading
+pub mod Stories

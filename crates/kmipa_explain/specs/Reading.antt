@@ -1,0 +1,42 @@
+-- What the program reads of items. Not promised.
+use Rattle.std.specs.Prelude.{◌≡◌, ℕ, ◌+◌, ◌==◌, ◌&&◌, Bool, String, List, map, take, drop, filter, find, Option, is_some, option_map, option_and_then}
+use Rattle.std.specs.String.{string_bytes}
+use Rattle.kmipa_msgs.specs.Messages.{PayloadOf}
+use Rattle.kmipa_ops.specs.Create.{seen_created}
+use Rattle.kmipa_ops.specs.Locate.{seen_located}
+use Rattle.kmipa_ops.specs.Register.{seen_registered}
+use Rattle.kmipa_record.specs.Declarations.{DeclarationOf}
+use Rattle.kmipa_check.specs.declared.verdict.Refused.{Refused}
+use Rattle.kmipa_explain.specs.Items.{ItemOf, id_made}
+use Rattle.kmipa_explain.specs.Stories.{event_of, happens_to, is_declared, makes_it}
+use Rattle.kmipa_explain.specs.declared.explanation.Story.{Story}
+use Rattle.kmipa_explain.specs.declared.item.Item.{Item}
+
+-- a text, if there is one
+abbrev pub text_of : {Z : Type 0} → Option (String Z) → Option (List ℕ)
+text_of = option_map string_bytes
+
+-- the item that a value of the program is
+abbrev pub seen_item : Item → ItemOf
+seen_item i = record { turn = i.turn; call = i.call; item = i.item; stamp = i.stamp; operation = i.operation; status = i.status; makes = i.makes; about = text_of i.about }
+
+-- the identifier that a payload names as the answer of a Create, of a Register, and those that it lists as that of a Locate
+abbrev pub id_created : Option PayloadOf → Option (List ℕ)
+id_created payload = id_made (option_and_then seen_created payload)
+
+abbrev pub id_registered : Option PayloadOf → Option (List ℕ)
+id_registered payload = id_made (option_and_then seen_registered payload)
+
+abbrev pub listed_in : Option PayloadOf → Option (List (List ℕ))
+listed_in payload = option_and_then seen_located payload
+
+-- the item is the refused one, and is about an identifier
+abbrev pub is_that : Refused → ItemOf → Bool
+is_that r i = (i.turn == r.turn) && (i.item == r.item) && is_some i.about
+
+-- the story of the object of this identifier, where the refused item stands at this place
+pub record IsStoryAt (declared : DeclarationOf) (items : List ItemOf) (place : ℕ) (id : List ℕ) (s : Story) : Type 0 where
+  pub identifier : string_bytes s.identifier ≡ id
+  pub at_start : s.declared ≡ is_declared declared id
+  pub events : s.events.items ≡ map event_of (filter (happens_to id) (take place items))
+  pub born_later : s.born_later ≡ option_map event_of (find (makes_it id) (drop (place + 1) items))
