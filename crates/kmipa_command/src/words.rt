@@ -41,12 +41,12 @@ const MESSAGES: &str = "messages";
 
 const NOTES: &str = "notes";
 
-/// The version, the commit that the program was built of, and the kit that it was proved with. The program can't know its own commit:
+/// The version, the commit that the program was built of, and the logic of the kit that it was proved with. The program can't know its own commit:
 /// what makes a package writes it over the forty characters behind the word, in the program that was built.
 const VERSION: &str = "\
 0.1.0
 commit unknown, since this build has no package
-kit rattle-kit-13f logic dac8208d650f15bf";
+kit logic dac8208d650f15bf";
 
 /// The most steps that a search may be given.
 const MOST_STEPS: u64 = 1_000_000_000;
