@@ -13,15 +13,12 @@ from typing import Dict, List, NamedTuple, Optional, Tuple
 from ..auditor import Auditor
 from ..calls import Call, Status, read_transcript
 from ..operations import operation_name as standard_name
+from ..recording.order import turns
 from ..recordings import DECLARATION, TRANSCRIPT, WITNESS
-from ..records import read_file, records
-from ..transcript import CALL
+from ..records import read_file
 from ..trouble import Trouble
-from ..ttlv import Kind
 from ..verdicts import Outcome, Verdict
 from .messages import Messages, read_messages
-
-TURN = 0x540041
 
 
 class Judged(NamedTuple):
@@ -112,9 +109,7 @@ def _digest(path: str) -> Tuple[str, int, str]:
 
 def _turns(path: str) -> Dict[int, int]:
     """The turn of each call in a witness."""
-    numbers = [record.item.first(CALL, Kind.INTEGER) for record in records(path, read_file(path))
-               if record.item.tag == TURN]
-    return {number.value: place for place, number in enumerate(numbers, 1) if number}
+    return {call: turn for turn, call in enumerate(turns(path), 1)}
 
 
 def identifiers(call: Call) -> frozenset[str]:
