@@ -43,7 +43,7 @@ def run(job: Job, words: argparse.Namespace, auditor: Auditor, tell: Callable[[s
 
 def _report(recording: Path, page: Path, auditor: Auditor, budget: int) -> None:
     """The page of what was decided, by `kmip_report`: of the calls that convict, where there are such."""
-    words = [str(page), str(recording), "--budget", str(min(budget, STEPS_OF_REPORT))]
+    words = [str(page), str(recording), "--others", "--budget", str(min(budget, STEPS_OF_REPORT))]
     done = subprocess.run([sys.executable, str(REPORTER), *words], stdout=subprocess.PIPE, text=True, check=False,
                           env={**os.environ, VARIABLE: auditor.program})
     print(f"{page} shows it" if done.returncode == 0 else "no page was made of it")
