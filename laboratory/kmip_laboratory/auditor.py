@@ -6,14 +6,15 @@ import os
 import shutil
 import subprocess
 from pathlib import Path
-from typing import Callable, Iterator, Optional
+from typing import Callable, Iterator, Optional, Sequence
 
 from .trouble import Trouble
-from .verdicts import Verdict, read_json, read_verdict
+from .verdicts import Verdict, read_explained, read_json, read_verdict
 
 BUILT = Path(__file__).resolve().parents[2] / "crates/kmip_audit/out/kmip_audit"
 VARIABLE = "KMIP_AUDIT"
 USAGE = 64
+Reader = Callable[[str, int], Optional[Verdict]]
 
 
 class Auditor:
@@ -33,6 +34,11 @@ class Auditor:
         """What a check of these files says."""
         return self._verdict("check", transcript, declaration, witness)
 
+    def explained(self, transcript: str, declaration: str, witness: str) -> Verdict:
+        """What a check of these files says, and why, where the program knows that."""
+        words = ("check", transcript, declaration, witness)
+        return self._or_plain(words, self._run(*words, "--explain"), read_explained)
+
     def search(self, transcript: str, declaration: str, out: str, budget: Optional[int] = None) -> Verdict:
         """What a search says; the witness that it finds goes into the new file."""
         more = [] if budget is None else ["--budget", str(budget)]
@@ -41,10 +47,7 @@ class Auditor:
     def told(self, *words: str) -> Verdict:
         """What these words say, in JSON where the program knows that: then its version and the files' digests are
         told too."""
-        done = self._run(*words, "--json")
-        if done.returncode == USAGE and not done.stdout:
-            return self._verdict(*words)
-        return self._read(words[0], done, read_json)
+        return self._or_plain(words, self._run(*words, "--json"), read_json)
 
     def show_each(self, path: str, *words: str) -> Iterator[str]:
         """The lines of a file's items, one after the other."""
@@ -58,11 +61,16 @@ class Auditor:
         if running.returncode != 0:
             raise Trouble(f"kmip_audit show {path} ended with status {running.returncode}; run it to see why")
 
+    def _or_plain(self, words: Sequence[str], done: subprocess.CompletedProcess[str], read: Reader) -> Verdict:
+        """The verdict that was read; of a program that does not know the option, what it says without."""
+        if done.returncode == USAGE and not done.stdout:
+            return self._verdict(*words)
+        return self._read(words[0], done, read)
+
     def _verdict(self, *words: str) -> Verdict:
         return self._read(words[0], self._run(*words), read_verdict)
 
-    def _read(self, word: str, done: subprocess.CompletedProcess[str], read: Callable[[str, int], Optional[Verdict]]
-              ) -> Verdict:
+    def _read(self, word: str, done: subprocess.CompletedProcess[str], read: Reader) -> Verdict:
         verdict = read(done.stdout, done.returncode)
         if verdict is None:
             told = " ".join((done.stdout + done.stderr).split())

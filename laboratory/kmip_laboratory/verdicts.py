@@ -36,6 +36,10 @@ PATTERNS: Dict[Outcome, Pattern[str]] = {
 }
 
 
+# The others explain it.
+LINES_OF_A_NO = 2
+
+
 class Digest(NamedTuple):
     """A file that was judged: its part in the run, its length, and its SHA-256 in hexadecimal digits. The last two are
     not there of a file that was not read to its end."""
@@ -48,7 +52,7 @@ class Digest(NamedTuple):
 class Verdict(NamedTuple):
     """An answer: the lines as they were printed, the status, and what the lines name. A number that they do not name
     is None. Of an answer in JSON there are besides the auditor's version, the files that it judged, and of a search that
-    gave up whether that says that no order explains the transcript."""
+    gave up whether that says that no order explains the transcript. A `no` that is explained has the lines of that."""
 
     outcome: Outcome
     lines: List[str]
@@ -64,6 +68,7 @@ class Verdict(NamedTuple):
     version: str = ""
     files: Tuple[Digest, ...] = ()
     decided: Optional[bool] = None
+    explanation: Tuple[str, ...] = ()
 
     def decides(self, budget: int) -> bool:
         """Whether a search with this budget has decided. Giving up with steps left is a decision, where no call is
@@ -86,6 +91,14 @@ def read_verdict(printed: str, status: int) -> Optional[Verdict]:
             texts = {name: told[name] for name in ("name", "side", "date") if name in told}
             return Verdict(outcome, printed.splitlines(), status, **numbers, **texts)
     return None
+
+
+def read_explained(printed: str, status: int) -> Optional[Verdict]:
+    """The verdict that the first of these lines are, with the others, which explain it."""
+    lines = printed.splitlines()
+    told = LINES_OF_A_NO if printed.startswith("no: ") else len(lines)
+    verdict = read_verdict("\n".join(lines[:told]), status)
+    return verdict and verdict._replace(explanation=tuple(lines[told:]))
 
 
 Members = Dict[str, object]

@@ -13,12 +13,12 @@ from typing import List
 from laboratory import AUDITOR, FOLDER, SECONDS, Begin, End, Laboratory, read_marks, wait_until
 
 from kmip_laboratory.auditor import Auditor
-from kmip_laboratory.driving import calibrate, mixes, plan
-from kmip_laboratory.driving.decide import decide
+from kmip_laboratory.driving import audit, calibrate, mixes, plan
+from kmip_laboratory.driving.decide import PART, decide
 from kmip_laboratory.driving.faults import FAULTS, description
 from kmip_laboratory.driving.numbers import Operation
-from kmip_laboratory.driving.recorded import read
 from kmip_laboratory.trouble import Trouble
+from kmip_laboratory.verdicts import Outcome
 
 DRIVER = FOLDER / "kmip_drive"
 NAMED = ("batches", "everything", "hot-keys", "lifecycle", "locate")
@@ -156,7 +156,7 @@ class OnTheWire(Laboratory):
                           "--empty", word="audit")
         self.assertEqual(done.returncode, 1, done.stdout + done.stderr)
         self.assertIn("no order explains what was recorded", done.stdout)
-        self.assertRegex(done.stdout, r"in the order of their answers: no: .* why 9 BytesDiffer")
+        self.assertRegex(done.stdout, r"in one order of them, that of .*, kmip_audit check says:\n  no: .* why 9 BytesDiffer\n  at ")
         searched = subprocess.run([AUDITOR, "search", "transcript.ttlv", "declaration.ttlv", "none"], cwd=out / "part",
                                   capture_output=True, text=True, timeout=SECONDS * 3)
         self.assertEqual(searched.returncode, 4)
@@ -185,7 +185,7 @@ class Convictions(Laboratory):
     """The simulated server without a fault, and with some."""
 
     def calibration(self, **more: object) -> calibrate.Calibration:
-        scale = calibrate.Scale(**{"calls": 60, "budget": 3_000, "part_budget": 300, **more})
+        scale = calibrate.Scale(**{"calls": 60, "budget": 3_000, **more})
         return calibrate.Calibration(Auditor(AUDITOR), scale, self.folder)
 
     def test_without_a_fault_it_is_yes(self) -> None:
@@ -203,22 +203,24 @@ class Convictions(Laboratory):
                 self.assertTrue(row.right, row)
                 self.assertLessEqual(row.calls, 2_000)
 
-    def test_a_part_of_what_is_explained_is_explained(self) -> None:
+    def test_a_search_that_gives_up_convicts_nothing(self) -> None:
         calibration = self.calibration()
         folder = calibration.record(calibrate.simulate.make([], 10, 3, None, False), "hot-keys", 3)
-        # With no step for the whole, parts alone are searched.
-        self.assertEqual(decide(folder, Auditor(AUDITOR), 1, 300).status, 4)
+        decision = decide(folder, Auditor(AUDITOR), 1)
+        self.assertEqual((decision.status, decision.convicted), (4, False))
+        self.assertFalse((folder / PART).exists())
 
-    def test_open_calls_have_no_parts(self) -> None:
-        calibration = self.calibration(calls=10)
-        folder = calibration.record(calibrate.simulate.make([], 10, 3, None, False), "hot-keys", 3)
-        transcript = folder / "transcript.ttlv"
-        self.assertEqual(len(read(str(transcript))), 10)
-        last = read_marks(str(transcript))[-1]
-        self.assertIsInstance(last, End)
-        data = transcript.read_bytes()
-        transcript.write_bytes(data[:data.rindex(bytes.fromhex("54002001"))])
-        self.assertIsNone(read(str(transcript)))
+    def test_what_convicts_is_explained_by_one_order_of_it(self) -> None:
+        calibration = self.calibration()
+        folder = calibration.record(calibrate.simulate.make([FAULTS["flipped-bit"]], 10, 1, 1.0, False), "everything", 1)
+        decision = decide(folder, Auditor(AUDITOR), 3_000)
+        self.assertEqual((decision.status, decision.why.outcome, decision.why.name), (1, Outcome.NO, "BytesDiffer"))
+        calls = {mark.call for mark in read_marks(str(folder / PART / "transcript.ttlv"))}
+        self.assertEqual(calls, set(decision.part))
+        self.assertLess(len(calls), 60)
+        told = audit.explained(folder, decision)
+        self.assertIn("no order explains what was recorded", told)
+        self.assertIn(f"  {decision.why.lines[0]}", told)
 
 
 class Faults(unittest.TestCase):

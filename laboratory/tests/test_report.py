@@ -268,6 +268,55 @@ class Report(unittest.TestCase):
             self.assertIn("malformed: witness offset 0 kind 6 WrongState", text)
             self.assertIn("SHA-256, as the report read it", text)
 
+    def explaining(self, lines: List[str]) -> Path:
+        """An auditor that explains each no by these lines, and is else the one that is there."""
+        program = self.folder / "explaining"
+        told = "".join(f"{line}\n" for line in lines)
+        program.write_text(
+            f"#!{sys.executable}\nimport subprocess, sys\nwords = [word for word in sys.argv[1:] if word != '--explain']\n"
+            f"done = subprocess.run([{AUDITOR!r}, *words], stdout=subprocess.PIPE, text=True)\n"
+            f"more = {told!r} if '--explain' in sys.argv and done.returncode == 1 else ''\n"
+            "print(done.stdout + more, end='')\nsys.exit(done.returncode)\n")
+        program.chmod(0o700)
+        return program
+
+    def test_an_explanation_is_the_auditors_and_each_call_in_it_leads_to_its_bar(self) -> None:
+        folder = EXAMPLES / "recorded" / "register_get_other_byte"
+        program = self.explaining([
+            'client: "call 9 <b>"', "operation: Get", "overlapping, and later: calls 54 55 and 7 more",
+            'object: "turn 3", not declared', "before: 2 more",
+            "before: turn 7 call 7 item 1 at 2026-11-24T11:42:08Z: Register",
+            "before: turn 8 call 8 item 1 at 2026-11-24T11:42:09Z: Activate, undone",
+            "made later: turn 60 call 60 item 2 at 2026-11-24T11:42:11Z: Create"])
+        with unittest.mock.patch.dict(os.environ, {"KMIP_AUDIT": str(program)}):
+            page = self.page(folder, "--text", "--junit", self.folder / "junit.xml")
+        links = [found.get("data-number") for found in page.attributes["button"] if found.get("class") == "call"]
+        self.assertEqual(links, ["53", "53", "53", "54", "55", "7", "7", "8", "8", "60", "60", "7", "8", "60"],
+                         "two of the verdict, one of the sentence, those of the lines, those of the table")
+        text = "".join(page.texts)
+        for words in ('client: "call 9 <b>"\noperation: Get\noverlapping, and later: calls 54 55 and 7 more',
+                      "The object turn 3 is not declared.", "The 2 before these are left out.", "Activate, undone",
+                      "Create, behind the refused item", " --explain\n"):
+            self.assertIn(words, text)
+        self.assertEqual(page.data["recordings"][0]["story"], [7, 8, 54, 55, 60], "what stands out on the timeline")
+        self.assertIn("operation: Get", (self.folder / "junit.xml").read_text("utf-8"))
+
+    def test_an_auditor_that_does_not_explain(self) -> None:
+        program = self.folder / "plain"
+        program.write_text(f"#!/bin/sh\nfor word; do [ \"$word\" = --explain ] && exit 64; done\nexec {AUDITOR} \"$@\"\n")
+        program.chmod(0o700)
+        with unittest.mock.patch.dict(os.environ, {"KMIP_AUDIT": str(program)}):
+            text = "".join(self.page(EXAMPLES / "destroy_twice").texts)
+        self.assertIn("This auditor does not explain it: it has no --explain.", text)
+        self.assertIn("this is the report's reading of the transcript, and not the auditor's word", text)
+
+    def test_other_orders_are_searched_where_that_is_asked(self) -> None:
+        for name, told in (("destroy_twice", "No other order explains the answers either"),
+                           ("witness_against_order", "Another order does explain every answer")):
+            text = "".join(self.page(EXAMPLES / name, "--others", "--force").texts)
+            self.assertIn(told, text)
+        self.assertNotIn("nother order", "".join(self.page(EXAMPLES / "destroy_twice", "--force").texts))
+
     def test_colours_have_the_contrast_of_wcag_aa(self) -> None:
         style = (FOLDER / "kmip_laboratory/reporting/page/style.css").read_text("utf-8")
         light, dark = (dict(re.findall(r"--(\w+): (#[0-9a-f]{6});", part)) for part in style.split("@media", 1))

@@ -10,10 +10,11 @@ from typing import List, Optional, Tuple
 
 import messages
 import sessions
-from laboratory import FOLDER
+from laboratory import AUDITOR, FOLDER
 from sessions import Server
 from test_blind import record, verdict
 
+from kmip_laboratory.auditor import Auditor
 from kmip_laboratory.calls import Call, Transcript, read_transcript
 from kmip_laboratory.shrinking import smallest
 from kmip_laboratory.shrinking.parts import has_effect, read_declaration
@@ -54,7 +55,8 @@ class Shrink(unittest.TestCase):
 
     def trials(self, whole: bool) -> Trials:
         """Searches of what was written."""
-        return Trials(read_transcript(str(self.transcript)), read_declaration(str(self.declaration)), whole, 2_000)
+        return Trials(read_transcript(str(self.transcript)), read_declaration(str(self.declaration)), whole, 2_000,
+                      Auditor(AUDITOR))
 
     def test_a_changed_answer_of_a_recording_is_two_calls(self) -> None:
         folder = EXAMPLES / "recorded" / "register_get_other_byte"

@@ -13,12 +13,12 @@ from ..auditor import VARIABLE, Auditor
 from ..recordings import DECLARATION, WITNESS
 from ..trouble import Trouble
 from . import record
-from .decide import Decision, decide, why_of, write_part
+from .decide import PART, Decision, decide
 from .drive import Job, drive
 
 PROGRAMS = Path(__file__).resolve().parents[2]
 RECORDER, REPORTER = PROGRAMS / "kmip_record", PROGRAMS / "kmip_report"
-PART, REPORT = "part", "report.html"
+REPORT = "report.html"
 # The report of what no search decided asks for so many steps at most, since it searches once more.
 STEPS_OF_REPORT = 10_000
 
@@ -35,16 +35,15 @@ def run(job: Job, words: argparse.Namespace, auditor: Auditor, tell: Callable[[s
         done = drive(job, transcript, progress=True)
         print(transcript.summary())
     print("\n".join(done.lines()), flush=True)
-    decision = decide(folder, auditor, words.budget, words.budget)
-    for line in explained(folder, decision, auditor):
-        print(line, flush=True)
-    _report(folder / PART if decision.part else folder, folder / REPORT, auditor, words.budget)
+    decision = decide(folder, auditor, words.budget)
+    print("\n".join(explained(folder, decision)), flush=True)
+    _report(folder / PART if decision.convicted else folder, folder / REPORT, auditor, words.budget)
     return decision.status
 
 
 def _report(recording: Path, page: Path, auditor: Auditor, budget: int) -> None:
     """The page of what was decided, by `kmip_report`: of the calls that convict, where there are such."""
-    words = [str(page), str(recording), "--budget", str(min(budget, STEPS_OF_REPORT))]
+    words = [str(page), str(recording), "--others", "--budget", str(min(budget, STEPS_OF_REPORT))]
     done = subprocess.run([sys.executable, str(REPORTER), *words], stdout=subprocess.PIPE, text=True, check=False,
                           env={**os.environ, VARIABLE: auditor.program})
     print(f"{page} shows it" if done.returncode == 0 else "no page was made of it")
@@ -64,20 +63,15 @@ def _ask_the_server(folder: Path, words: argparse.Namespace) -> None:
     print(f"declaration: {done.stdout.strip()}")
 
 
-def explained(folder: Path, decision: Decision, auditor: Auditor) -> List[str]:
+def explained(folder: Path, decision: Decision) -> List[str]:
     """The lines that tell what came out, and where to look."""
     if decision.explained:
         return [decision.line, f"{folder / WITNESS} is an order that explains every answer"]
-    if decision.status != 1:
+    if decision.why is None:
         return [decision.line]
-    lines = [decision.line, "no order explains what was recorded"]
-    if decision.part:
-        (folder / PART).mkdir()
-        write_part(folder, folder / PART, set(decision.part))
-        numbers = ", ".join(map(str, sorted(decision.part)))
-        lines += [f"already these {len(decision.part)} calls can't be explained: {numbers}; they are in "
-                  f"{folder / PART}",
-                  f"in the order of their answers: {why_of(folder / PART, auditor)}"]
-    elif decision.why:
-        lines.append(f"in the order of the answers: {decision.why}")
-    return [" ".join(line.splitlines()) for line in lines]
+    numbers = ", ".join(map(str, decision.part))
+    lines = [decision.line, "no order explains what was recorded",
+             f"already these {len(decision.part)} calls can't be explained: {numbers}; they are in {folder / PART}",
+             f"in one order of them, that of {folder / PART / WITNESS}, kmip_audit check says:"]
+    lines += [f"  {line}" for line in (*decision.why.lines, *decision.why.explanation)]
+    return lines if decision.why.explanation else [*lines, "this auditor does not explain it: it has no --explain"]

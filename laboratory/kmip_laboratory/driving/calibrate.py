@@ -2,7 +2,6 @@
 
 from __future__ import annotations
 
-import re
 import ssl
 import tempfile
 import time
@@ -15,6 +14,7 @@ from ..address import Address
 from ..auditor import Auditor
 from ..recordings import TRANSCRIPT
 from ..transcript import TranscriptWriter
+from ..verdicts import Verdict
 from . import certificates, mixes, record, simulate
 from .decide import Decision, decide
 from .drive import Job, drive
@@ -24,7 +24,6 @@ from .faults.base import Fault
 from .server import Server
 
 ROWS = ["1=NotFound", "0x43=WrongState", "0x35=TakenName"]
-REASON = re.compile(r"why (\d+) (\w+)")
 
 
 @dataclass(frozen=True)
@@ -39,7 +38,6 @@ class Scale:
     pace: float = 10
     pause: float = 0.01
     budget: int = 20_000
-    part_budget: int = 2_000
 
 
 class Row(NamedTuple):
@@ -86,7 +84,7 @@ class Calibration:
 
     def decide(self, folder: Path) -> Decision:
         """What the auditor decides of a recording."""
-        return decide(folder, self._auditor, self._scale.budget, self._scale.part_budget)
+        return decide(folder, self._auditor, self._scale.budget)
 
     def without(self, mix: str, seed: int) -> Row:
         """The server without a fault."""
@@ -105,8 +103,8 @@ class Calibration:
             folder = self.record(engine, mix, seed)
             if engine.struck:
                 decision = self.decide(folder)
-                if decision.convicted:
-                    return Row(name, mix, seed, calls + self._until(folder, decision), told(decision),
+                if decision.why is not None:
+                    return Row(name, mix, seed, calls + max(decision.part), told(decision.why),
                                time.monotonic() - begun, not fault.unseen)
                 left = decision.line
             calls += self._scale.calls
@@ -114,15 +112,10 @@ class Calibration:
         seen = f"can't be seen: {fault.unseen}" if fault.unseen else f"not convicted: {left}"
         return Row(name, mix, seed - 1, calls, seen, time.monotonic() - begun, bool(fault.unseen))
 
-    def _until(self, folder: Path, decision: Decision) -> int:
-        """How many calls had begun when the last one ended that convicts."""
-        return max(decision.part) if decision.part else self._scale.calls
 
-
-def told(decision: Decision) -> str:
-    """The reason that a check gives, in the order of the answers; in that order all may be well."""
-    found = REASON.search(decision.why)
-    return f"{found[1]} {found[2]}" if found else "no order"
+def told(verdict: Verdict) -> str:
+    """The reason that a check gives."""
+    return f"{verdict.number} {verdict.name}"
 
 
 def run(names: List[str], mixes_without: List[str], seed: int, auditor: Auditor, scale: Scale) -> Iterator[Row]:

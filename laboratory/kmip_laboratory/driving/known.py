@@ -15,7 +15,7 @@ from .plan import Pick, Planned
 TELLING = frozenset({Operation.CREATE.value, Operation.REGISTER.value, Operation.LOCATE.value})
 DESTROY, NOT_FOUND = Operation.DESTROY.value, Reason.ITEM_NOT_FOUND.value
 MOST_LIVE = 200
-MOST_GONE = 12
+MOST_GONE = 4
 UNKNOWN = ("nobody-1", "nobody-2", "nobody-3")
 
 

@@ -61,8 +61,7 @@ class Request:
 
 @dataclass(frozen=True)
 class Answer:
-    """One item of a response; `operation` is None where a whole message is refused. A payload without children is
-    read as none."""
+    """One item of a response; `operation` is None where a whole message is refused."""
 
     operation: Optional[int]
     status: Status = Status.SUCCESS
@@ -72,7 +71,6 @@ class Answer:
     object_type: Optional[int] = None
     material: Optional[Material] = None
     batch_id: Optional[bytes] = None
-    has_payload: bool = True
 
 
 @dataclass(frozen=True)

@@ -99,14 +99,14 @@ class Plan:
         nothing has set, what a Locate lists, or an object's life."""
         dice = self._dice
         draw = dice.random()
-        if draw < 0.4:
+        if draw < 0.35:
             first = self._item(dice.choice(["create", "register-key", "register-secret"]))
             rest = [Planned(Ask(Operation.GET)), Planned(Ask(Operation.GET_ATTRIBUTES, references=(Tag.STATE,))),
                     Planned(Ask(Operation.ACTIVATE)), Planned(Ask(Operation.DESTROY))]
             return [first] + dice.sample(rest, dice.randint(1, len(rest)))
-        if draw < 0.48:
+        if draw < 0.45:
             return [Planned(Ask(dice.choice([Operation.GET, Operation.GET_ATTRIBUTES]))), self._item()]
-        if draw < 0.6:
+        if draw < 0.65:
             return [self._item("locate"), Planned(Ask(dice.choice([Operation.GET, Operation.GET_ATTRIBUTES])))]
         pick = self._pick()
         steps = [Ask(Operation.ACTIVATE), Ask(Operation.GET_ATTRIBUTES, references=(Tag.STATE,)), Ask(Operation.GET),
@@ -120,7 +120,8 @@ class Plan:
         if kind == "locate":
             return Planned(self._locate())
         if kind in ON_OBJECTS:
-            return Planned(self._on_object(kind), self._pick())
+            pick = self._pick()
+            return Planned(self._on_object(kind, pick.kind == "gone"), pick)
         return self._new(kind)
 
     def _pick(self) -> Pick:
@@ -131,12 +132,14 @@ class Plan:
                 return Pick(kind, self._dice.random())
         return Pick("hot", self._dice.random())
 
-    def _on_object(self, kind: str) -> Ask:
+    def _on_object(self, kind: str, gone: bool) -> Ask:
+        """What is asked of an object; of a destroyed one mostly its dates, which is what is left of its life."""
         dice = self._dice
         references: List[Tag] = []
         if kind == "get-attributes" and not self._happens("all"):
-            asked = OTHERS + (DATES if self._happens("referenced") else ())
-            references = [Tag.STATE] + dice.sample(asked, dice.randint(0, 3))
+            dated = self._happens("referenced")
+            asked = DATES if dated and gone else OTHERS + DATES if dated else OTHERS
+            references = [Tag.STATE] + dice.sample(asked, 3 if gone else dice.randint(0, 3))
         return Ask(ON_OBJECTS[kind], references=tuple(references), code=dice.choice(CODES))
 
     def _name(self) -> Attribute:

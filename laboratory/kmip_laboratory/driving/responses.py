@@ -1,15 +1,13 @@
-"""Responses on the wire: written by the key server, read by clients."""
+"""Responses on the wire, as the key server writes them; clients read what they need of them by glimpses."""
 
 from __future__ import annotations
 
 from typing import List
 
 from .. import ttlv
-from ..ttlv import Item, Kind
 from . import wire
 from .messages import Answer, Response, Version
 from .numbers import Operation, Status, Tag
-from .wire import need
 
 FIRST_WITH_LOCATED_ITEMS = (1, 3)
 
@@ -45,27 +43,3 @@ def _payload(version: Version, answer: Answer) -> List[bytes]:
     if answer.material is not None:
         made.append(wire.material(answer.material))
     return made
-
-
-def read_response(message: bytes) -> Response:
-    """The response that these bytes are."""
-    item = ttlv.read_item(message)
-    header = need(item.first(Tag.RESPONSE_HEADER, Kind.STRUCTURE))
-    version = wire.version_of(header)
-    stamp = need(header.first(Tag.TIME_STAMP, Kind.DATE_TIME)).value
-    return Response(version, stamp, tuple(
-        _read_item(version, each) for each in item.every(Tag.BATCH_ITEM, Kind.STRUCTURE)))
-
-
-def _read_item(version: Version, item: Item) -> Answer:
-    operation = item.first(Tag.OPERATION, Kind.ENUMERATION)
-    batch_id = item.first(Tag.UNIQUE_BATCH_ITEM_ID, Kind.BYTES)
-    status = need(item.first(Tag.RESULT_STATUS, Kind.ENUMERATION)).value
-    reason = item.first(Tag.RESULT_REASON, Kind.ENUMERATION)
-    payload = item.first(Tag.RESPONSE_PAYLOAD, Kind.STRUCTURE) or Item(Tag.RESPONSE_PAYLOAD, Kind.STRUCTURE, [], 0)
-    object_type = payload.first(Tag.OBJECT_TYPE, Kind.ENUMERATION)
-    return Answer(
-        operation.value if operation else None, Status(status), reason.value if reason else None,
-        tuple(wire.identifiers_of(payload)), tuple(wire.read_attributes(version, payload)),
-        object_type.value if object_type else None, wire.read_material(payload), batch_id.value if batch_id else None,
-        bool(payload.children()))

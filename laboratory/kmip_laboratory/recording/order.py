@@ -6,8 +6,10 @@ from typing import List
 
 from .. import message, ttlv
 from ..files import write_file
+from ..records import read_file, records
 from ..transcript import CALL, VERSION, End, read_marks
 from ..trouble import say
+from ..ttlv import Kind
 
 HEADER = 0x540040
 TURN = 0x540041
@@ -25,6 +27,13 @@ def witness(calls: List[int]) -> bytes:
     """The witness with these calls as turns."""
     turns = [ttlv.structure(TURN, ttlv.integer(CALL, call)) for call in calls]
     return ttlv.structure(HEADER, ttlv.integer(VERSION, 1)) + b"".join(turns)
+
+
+def turns(path: str) -> List[int]:
+    """The calls of a witness, in the order of its turns."""
+    numbers = [record.item.first(CALL, Kind.INTEGER) for record in records(path, read_file(path))
+               if record.item.tag == TURN]
+    return [number.value for number in numbers if number]
 
 
 def run(transcript: str, out: str, force: bool) -> str:

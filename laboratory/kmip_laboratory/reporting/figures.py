@@ -21,7 +21,7 @@ def figures(judged: Judged, recording: int, lines: Dict[str, int]) -> Dict[str, 
     numbers = [lines.setdefault(line, len(lines)) for line in judged.messages.lines]
     shown = [judged.messages.of_call.get(call.number, ([], [])) for call in calls]
     return {
-        "recording": recording, "fault": judged.verdict.call, "story": [call.number for call in judged.story()],
+        "recording": recording, "fault": judged.verdict.call, "story": judged.named(),
         "marks": len(marks), "clients": clients, "lanes": [clients.index(client) for client in lanes], "what": does,
         "number": [call.number for call in calls], "begin": [marks[call.begin] for call in calls],
         "end": [-1 if call.end is None else marks[call.end] for call in calls],

@@ -13,20 +13,23 @@ from typing import Dict, List, NamedTuple, Optional, Tuple
 from ..auditor import Auditor
 from ..calls import Call, Status, read_transcript
 from ..operations import operation_name as standard_name
+from ..recording.order import turns
 from ..recordings import DECLARATION, TRANSCRIPT, WITNESS
-from ..records import read_file, records
-from ..transcript import CALL
+from ..records import read_file
+from ..shrinking.parts import is_plain
 from ..trouble import Trouble
-from ..ttlv import Kind
 from ..verdicts import Outcome, Verdict
+from .explanation import Mention, mentions
 from .messages import Messages, read_messages
 
-TURN = 0x540041
+# Of a search where no other is given.
+USUAL_BUDGET = 1_000_000
 
 
 class Judged(NamedTuple):
     """A recording: its folder, the verdict with the command that repeats it, its files with their digests, its calls,
-    and the turn of each call in the order that was judged or found."""
+    and the turn of each call in the order that was judged or found; and of an order that is refused what a search for
+    others says, where that was asked."""
 
     folder: str
     verdict: Verdict
@@ -37,6 +40,7 @@ class Judged(NamedTuple):
     turns: Dict[int, int]
     messages: Messages
     seconds: float
+    searched: Optional[Verdict] = None
 
     def has_the_auditors_digests(self) -> bool:
         """Whether the auditor told the digest of each file."""
@@ -46,6 +50,16 @@ class Judged(NamedTuple):
     def refused(self) -> Optional[Call]:
         """The call that the verdict names."""
         return next((call for call in self.calls if call.number == self.verdict.call), None)
+
+    def mentions(self, text: str) -> List[Mention]:
+        """The places in a text of the auditor's that lead to calls."""
+        return list(mentions(text, {call.number for call in self.calls}, self.turns))
+
+    def named(self) -> List[int]:
+        """The calls that stand out beside the refused one: those that the explanation names, or else the story's."""
+        if self.verdict.explanation:
+            return sorted({place.call for place in self.mentions("\n".join(self.verdict.explanation))})
+        return [call.number for call in self.story()]
 
     def story(self) -> List[Call]:
         """The calls that name an object of the refused call, up to it: by turns, or else by begin marks."""
@@ -72,8 +86,9 @@ def find(paths: List[str]) -> List[str]:
     return found
 
 
-def judge(folder: str, budget: Optional[int]) -> Judged:
-    """Asks the auditor: a check where there is a witness, else a search."""
+def judge(folder: str, budget: Optional[int], others: bool = False) -> Judged:
+    """Asks the auditor: a check where there is a witness, else a search; and of a witness that is refused a search
+    too, where other orders are asked for."""
     auditor = Auditor()
     transcript, declaration, witness = (os.path.join(folder, name) for name in (TRANSCRIPT, DECLARATION, WITNESS))
     files = [_digest(path) for path in (transcript, declaration, witness) if path != witness or os.path.exists(path)]
@@ -87,14 +102,34 @@ def judge(folder: str, budget: Optional[int]) -> Judged:
             more = [] if budget is None else ["--budget", str(budget)]
             verdict = auditor.told("search", transcript, declaration, witness, *more, "--quiet")
             words = ["search", transcript, declaration, WITNESS, *more]
+        searched = (auditor.search(transcript, declaration, os.path.join(made, "other"), budget)
+                    if others and verdict.outcome is Outcome.NO else None)
         seconds = time.monotonic() - started
         _see_that_they_are_the_judged(files, verdict)
+        if verdict.outcome is Outcome.NO:
+            verdict = _explained(auditor, words[1:], verdict)
+            words += ["--explain"] if verdict.explanation else []
         turns = _turns(witness) if os.path.exists(witness) and verdict.outcome is not Outcome.MALFORMED else {}
     command = " ".join(["kmip_audit", *map(shlex.quote, words)])
     readable = verdict.outcome not in (Outcome.MALFORMED, Outcome.DEVICE, Outcome.MEMORY)
     calls = read_transcript(transcript).calls if readable else []
     messages = read_messages(auditor, transcript) if readable else Messages([], {})
-    return Judged(folder, verdict, command, verdict.version or auditor.version(), files, calls, turns, messages, seconds)
+    return Judged(folder, verdict, command, verdict.version or auditor.version(), files, calls, turns, messages, seconds,
+                  searched and searched._replace(decided=_decides(searched, budget, calls)))
+
+
+def _decides(searched: Verdict, budget: Optional[int], calls: List[Call]) -> bool:
+    """Whether this search tells whether an order explains the calls."""
+    usual = USUAL_BUDGET if budget is None else budget
+    return searched.outcome is Outcome.YES or (searched.decides(usual) and all(map(is_plain, calls)))
+
+
+def _explained(auditor: Auditor, files: List[str], verdict: Verdict) -> Verdict:
+    """The verdict with the auditor's explanation of it."""
+    again = auditor.explained(*files)
+    if again.lines != verdict.lines:
+        raise Trouble(f"{files[0]} or a file beside it has changed while it was judged; make the report again")
+    return verdict._replace(explanation=again.explanation)
 
 
 def _see_that_they_are_the_judged(files: List[Tuple[str, int, str]], verdict: Verdict) -> None:
@@ -112,9 +147,7 @@ def _digest(path: str) -> Tuple[str, int, str]:
 
 def _turns(path: str) -> Dict[int, int]:
     """The turn of each call in a witness."""
-    numbers = [record.item.first(CALL, Kind.INTEGER) for record in records(path, read_file(path))
-               if record.item.tag == TURN]
-    return {number.value: place for place, number in enumerate(numbers, 1) if number}
+    return {call: turn for turn, call in enumerate(turns(path), 1)}
 
 
 def identifiers(call: Call) -> frozenset[str]:

@@ -27,7 +27,7 @@ def told(recordings: List[Judged]) -> str:
             kind = "failure" if judged.verdict.outcome in JUDGED else "error"
             trouble = ElementTree.SubElement(case, kind, message=in_words(judged.verdict),
                                              type=in_short(judged.verdict))
-            trouble.text = _text("\n".join(judged.verdict.lines) + f"\n$ {judged.command}")
+            trouble.text = _text("\n".join([*judged.verdict.lines, *judged.verdict.explanation]) + f"\n$ {judged.command}")
     return '<?xml version="1.0" encoding="utf-8"?>\n' + ElementTree.tostring(suite, encoding="unicode") + "\n"
 
 

@@ -2,16 +2,17 @@
 
 from __future__ import annotations
 
-import re
 from collections import Counter
 from datetime import datetime, timedelta, timezone
 from pathlib import Path
-from typing import Dict, List, Optional
+from typing import Dict, List, Optional, Sequence
 
+from ..verdicts import Outcome
+from .explanation import Story, split, story
 from .figures import KINDS, figures
 from .judging import Judged, came_to, operation_name, operations, stamps
 from .markup import Markup, Part, data, digest, element, table, together
-from .reasons import PREMISES, in_short, in_words
+from .reasons import PREMISES, in_short, in_words, of_others
 
 SOURCES = Path(__file__).resolve().parent / "page"
 EPOCH = datetime(1970, 1, 1, tzinfo=timezone.utc)
@@ -23,8 +24,6 @@ KEYS = ("Keys, once the timeline has the focus: left and right for the call befo
         "above and below, Home and End, + and - to zoom, Page Up and Page Down to move, 0 for the whole recording, f for "
         "the verdict's call. Drag to move; Ctrl and the wheel zoom.")
 MOST_OF_STORY = 20
-# What a line of the auditor's names of a recording.
-NAMED = re.compile(r"\b(call|turn) (\d+)\b")
 
 
 def page(recordings: List[Judged], made: datetime) -> str:
@@ -90,33 +89,39 @@ def _recording(judged: Judged, number: int, heading: str) -> Markup:
     outcome = judged.verdict.outcome.value.replace(" ", "-")
     parts = [
         element("h2", heading),
-        element("div", element("p", in_words(judged.verdict)), element("pre", *_lines(judged)),
+        element("div", element("p", in_words(judged.verdict)), element("pre", *_linked(judged, judged.verdict.lines)),
                 of=f"verdict {outcome}")]
     refused = judged.refused()
     if refused is not None:
         parts.append(element("p", "The verdict names ", _link(refused.number), f", {operations(refused)}, of client "
                              f"{refused.client}."))
+    if judged.searched is not None:
+        parts.append(element("p", of_others(judged.searched)))
+    if judged.verdict.outcome is Outcome.NO:
+        parts.append(_explanation(judged))
     if judged.calls:
-        parts += [_timeline(judged), _story(judged), element("h3", "Calls"), _counts(judged)]
+        told = story(judged.verdict.explanation)
+        parts += [_timeline(judged), _story(judged) if told is None else _told_story(judged, told),
+                  element("h3", "Calls"), _counts(judged)]
     parts += [element("h3", "Evidence"), _evidence(judged), element("h3", "What a verdict means"),
               element("p", PREMISES)]
     return element("section", *parts, of="recording", id=f"recording-{number}")
 
 
-def _lines(judged: Judged) -> List[Part]:
-    """The auditor's lines, in which each call and each turn of the recording leads to its bar."""
-    text = "\n".join(judged.verdict.lines)
-    calls = {call.number for call in judged.calls}
-    of_turn = {turn: call for call, turn in judged.turns.items()}
-    parts: List[Part] = []
-    told = 0
-    for found in NAMED.finditer(text):
-        number = int(found[2])
-        call = number if found[1] == "call" else of_turn.get(number)
-        if call in calls:
-            parts += [text[told:found.start()], _link(call, found[0])]
-            told = found.end()
-    return [*parts, text[told:]]
+def _linked(judged: Judged, lines: Sequence[str]) -> List[Part]:
+    """Lines of the auditor's, in which each call and each turn of the recording leads to its bar."""
+    text = "\n".join(lines)
+    return [words if call is None else _link(call, words) for words, call in split(text, judged.mentions(text))]
+
+
+def _explanation(judged: Judged) -> Markup:
+    """What the auditor says of a no besides."""
+    if not judged.verdict.explanation:
+        return element("p", "This auditor does not explain it: it has no --explain.", of="soft")
+    return together([
+        element("h3", "Explanation"),
+        element("p", "Each line is a claim of the auditor's, and holds in this order of the calls.", of="soft"),
+        element("pre", *_linked(judged, judged.verdict.explanation), of="explanation")])
 
 
 def _link(number: int, words: Optional[str] = None) -> Markup:
@@ -131,10 +136,10 @@ def _timeline(judged: Judged) -> Markup:
         buttons.append(element("button", "Line of the order", type="button", data_does="order", aria_pressed="false"))
     legend = [element("li", element("svg", element("rect", of=kind, width=26, height=12), viewBox="0 0 26 12",
                                     aria_hidden="true"), words) for kind, words in LEGEND]
-    if len(judged.story()) > 1:
+    if len(judged.named()) > 1:
         sample = element("rect", of="bar success story", x=2, y=2, width=22, height=8)
         legend.append(element("li", element("svg", sample, viewBox="0 0 26 12", aria_hidden="true"),
-                              "names the same object"))
+                              "named by the explanation" if judged.verdict.explanation else "names the same object"))
     order = "Numbers in the bars are turns of the order. " if judged.turns else ""
     lanes = element("div", element("svg", role="presentation"), of="lanes", tabindex=0, role="listbox",
                     aria_label="Calls, a row for each client; arrow keys go from call to call")
@@ -148,6 +153,23 @@ def _timeline(judged: Judged) -> Markup:
         element("div", *buttons, element("span", "", of="soft said", role="status"), of="tools"),
         element("div", element("svg", of="overview", role="presentation"), lanes, of="timeline"),
         element("ul", *legend, of="legend"), element("p", order + KEYS, of="soft"), details])
+
+
+def _told_story(judged: Judged, told: Story) -> Markup:
+    """The story of the refused item's object, as the auditor tells it."""
+    clients = {call.number: call.client for call in judged.calls}
+    rows: List[List[Part]] = [
+        [_link(event.call), clients.get(event.call, ""), event.operation + (", behind the refused item" if event.later
+                                                                            else ""),
+         event.date, event.item, event.turn] for event in told.events]
+    left_out = f" The {told.left_out} before these are left out." if told.left_out else ""
+    declared = "is declared" if told.is_declared else "is not declared"
+    done = "What was done to it ahead of the refused item, the newest last:" if rows else (
+        "Nothing was done to it ahead of the refused item.")
+    parts = [element("h3", "The object's story"),
+             element("p", f"The object {told.identifier} {declared}. {done}{left_out}", of="soft")]
+    return together(parts + ([table(["Call", "Client", "Operation", "Time Stamp", "Item", "Turn"], rows, 2)] if rows
+                             else []))
 
 
 def _story(judged: Judged) -> Markup:

@@ -56,6 +56,16 @@ def in_words(verdict: Verdict) -> str:
     return told
 
 
+def of_others(searched: Verdict) -> str:
+    """What a search says of the orders beside the one that was refused."""
+    line = f"(kmip_audit search: {searched.text})"
+    if searched.outcome is Outcome.YES:
+        return f"Another order does explain every answer {line}."
+    if searched.decided:
+        return f"No other order explains the answers either: the auditor has decided it {line}."
+    return f"Whether another order explains the answers is not decided {line}."
+
+
 def in_short(verdict: Verdict) -> str:
     """The reason alone, by which recordings are counted."""
     if verdict.number is None:

@@ -17,7 +17,7 @@ SIGNS = {"success": "=", "failed": "x", "refused": "r", "undone": "u", "open": "
 
 def told(judged: Judged) -> str:
     """The report of one recording."""
-    parts = [judged.folder, "", *judged.verdict.lines, *_filled(in_words(judged.verdict)), ""]
+    parts = [judged.folder, "", *judged.verdict.lines, *judged.verdict.explanation, *_filled(in_words(judged.verdict)), ""]
     for path, length, sha256 in judged.files:
         parts += [f"{path}, {length:,} bytes", f"  SHA-256 {sha256}"]
     parts += [f"  $ {judged.command}", ""]

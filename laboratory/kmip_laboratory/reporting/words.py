@@ -36,7 +36,7 @@ def main(arguments: List[str]) -> int:
     try:
         if not words.force:
             fresh.refuse_present(outs)
-        recordings = _judged(find(words.recordings), words.jobs, words.budget)
+        recordings = _judged(find(words.recordings), words)
         _write(words, recordings)
         return _tell(recordings, words.text)
     except Trouble as trouble:
@@ -71,6 +71,8 @@ def _parser() -> Parser:
     parser.add_argument("--jobs", type=_jobs, default=os.cpu_count() or 1, metavar="N",
                         help="recordings judged at once")
     parser.add_argument("--force", action="store_true", help="write over files that are there")
+    parser.add_argument("--others", action="store_true",
+                        help="search too where a witness is refused: whether another order explains the calls")
     parser.add_argument("--budget", type=int, metavar="N", help="the most steps of a search")
     return parser
 
@@ -81,11 +83,11 @@ def _jobs(told: str) -> int:
     return int(told)
 
 
-def _judged(folders: List[str], jobs: int, budget: int | None) -> List[Judged]:
+def _judged(folders: List[str], words: argparse.Namespace) -> List[Judged]:
     if len(folders) == 1:
-        return [judge(folders[0], budget)]
-    with ProcessPoolExecutor(min(jobs, len(folders))) as pool:
-        return list(pool.map(partial(judge, budget=budget), folders))
+        return [judge(folders[0], words.budget, words.others)]
+    with ProcessPoolExecutor(min(words.jobs, len(folders))) as pool:
+        return list(pool.map(partial(judge, budget=words.budget, others=words.others), folders))
 
 
 def _write(words: argparse.Namespace, recordings: List[Judged]) -> None:

@@ -10,6 +10,8 @@ from typing import Dict, FrozenSet, Iterable, List, NamedTuple, Optional, Set, T
 
 from ..auditor import Auditor
 from ..calls import Call, Transcript
+from ..recording.order import turns
+from ..recordings import DECLARATION, TRANSCRIPT, WITNESS
 from ..trouble import Trouble
 from ..verdicts import Outcome, Verdict
 from .parts import Declaration, Parts, is_plain
@@ -33,12 +35,13 @@ class Files(NamedTuple):
 class Trials:
     """Searches of calls of one transcript. Each choice of calls is asked of once."""
 
-    def __init__(self, transcript: Transcript, declaration: Declaration, whole: bool, budget: int) -> None:
+    def __init__(self, transcript: Transcript, declaration: Declaration, whole: bool, budget: int,
+                 auditor: Auditor) -> None:
         self._transcript = transcript
         self._declaration = declaration
         self._whole = whole
         self._budget = budget
-        self._auditor = Auditor()
+        self._auditor = auditor
         self._answers: Dict[FrozenSet[int], Tuple[Answer, Verdict]] = {}
         self.parts = Parts(transcript.calls, declaration, whole)
 
@@ -76,12 +79,20 @@ class Trials:
         return Files(self._transcript.header + b"".join(mark for _, mark in sorted(marks)),
                      self._declaration.spelled(named))
 
-    def _asked(self, calls: List[Call]) -> Tuple[Answer, Verdict]:
-        names = [os.path.join(self._folder.name, name) for name in ("transcript", "declaration", "witness")]
+    def order(self, calls: List[Call]) -> Optional[List[int]]:
+        """An order that explains these calls, where a search finds one."""
+        found = self._searched(calls).outcome is Outcome.YES
+        return turns(os.path.join(self._folder.name, WITNESS)) if found else None
+
+    def _searched(self, calls: List[Call]) -> Verdict:
+        names = [os.path.join(self._folder.name, name) for name in (TRANSCRIPT, DECLARATION, WITNESS)]
         for name, data in zip(names, self.files(calls)):
             with open(name, "wb") as file:
                 file.write(data)
-        verdict = self._auditor.search(*names, self._budget)
+        return self._auditor.search(*names, self._budget)
+
+    def _asked(self, calls: List[Call]) -> Tuple[Answer, Verdict]:
+        verdict = self._searched(calls)
         if verdict.outcome is Outcome.YES:
             return Answer.EXPLAINED, verdict
         if verdict.outcome is not Outcome.GAVE_UP:

@@ -6,6 +6,7 @@ import argparse
 from typing import List, Tuple
 
 from .. import fresh
+from ..auditor import Auditor
 from ..calls import Call, read_transcript
 from ..trouble import Trouble, say
 from .parts import has_effect, is_plain, read_declaration
@@ -46,7 +47,7 @@ def run(words: argparse.Namespace) -> None:
     fresh.refuse_present(outs)
     transcript = read_transcript(words.transcript)
     declaration = read_declaration(words.source)
-    with Trials(transcript, declaration, not words.declaration, words.budget) as trials:
+    with Trials(transcript, declaration, not words.declaration, words.budget, Auditor()) as trials:
         answer, verdict = trials.answer(transcript.calls)
         if answer is Answer.EXPLAINED:
             raise Trouble(f"an order explains {words.transcript} as it is (kmip_audit search: {verdict.text}): there "

@@ -40,7 +40,7 @@ class UndoLeavesAnObject(Fault):
 class UndoForgotten(Fault):
     """A batch under Undo fails, says that its items are undone, and undoes nothing."""
 
-    mix = "everything"
+    mix = "batches"
     rate_usual = 1.0
 
     def batch(self, request: Request, call: Call) -> List[Answer]:
@@ -87,6 +87,7 @@ class BackwardBatch(Fault):
     """The items of a batch that is in order are done the last one first."""
 
     mix = "batches"
+    rate_usual = 1.0
 
     def batch(self, request: Request, call: Call) -> List[Answer]:
         if len(request.asks) < 2 or request.option is not Option.CONTINUE or not self.strikes():
@@ -99,6 +100,7 @@ class PlaceholderOutlivesTheCall(Fault):
     """The ID Placeholder of a call is still set in the next one of the connection."""
 
     mix = "batches"
+    rate_usual = 1.0
 
     def batch(self, request: Request, call: Call) -> List[Answer]:
         if len(request.asks) > 1 and self.strikes():

@@ -42,6 +42,7 @@ class MaximumIgnored(Fault):
     """A Locate lists more than Maximum Items."""
 
     mix = "locate"
+    rate_usual = 0.5
 
     def locate(self, ask: Ask, call: Call) -> Answer:
         if ask.maximum is not None and self.strikes():
@@ -76,6 +77,7 @@ class PlaceholderOfSeveral(Fault):
     """A Locate that lists several objects sets the placeholder to the first."""
 
     mix = "batches"
+    rate_usual = 1.0
 
     def locate(self, ask: Ask, call: Call) -> Answer:
         answer = super().locate(ask, call)

@@ -92,6 +92,7 @@ class LateDestroy(Fault):
     """A Destroy is done by a worker that runs some calls later."""
 
     mix = "hot-keys"
+    rate_usual = 1.0
 
     def __init__(self, *words: object, **more: object) -> None:
         super().__init__(*words, **more)

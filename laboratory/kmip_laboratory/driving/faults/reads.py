@@ -16,6 +16,7 @@ class StaleReadAfterDestroy(Fault):
     """A Get still shows the bytes of a key that was destroyed: a cache is not told."""
 
     mix = "hot-keys"
+    rate_usual = 0.5
 
     def __init__(self, *words: object, **more: object) -> None:
         super().__init__(*words, **more)
@@ -95,6 +96,7 @@ class StateOfACache(Fault):
     """Get Attributes shows the state that it showed the time before: the cache is cleared too seldom."""
 
     mix = "hot-keys"
+    rate_usual = 0.5
 
     def __init__(self, *words: object, **more: object) -> None:
         super().__init__(*words, **more)
@@ -114,6 +116,8 @@ class StateOfACache(Fault):
 
 class NameLeftOut(Fault):
     """Get Attributes without references leaves out the object's names."""
+
+    rate_usual = 1.0
 
     def get_attributes(self, ask: Ask, call: Call) -> Answer:
         answer = super().get_attributes(ask, call)

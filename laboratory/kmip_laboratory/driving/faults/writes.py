@@ -78,6 +78,7 @@ class ActivatesTwice(Fault):
     """An Activate of an active object succeeds again."""
 
     mix = "lifecycle"
+    rate_usual = 1.0
 
     def activate(self, ask: Ask, call: Call) -> Answer:
         thing = self.meant(ask, call)
@@ -90,6 +91,7 @@ class RevokesThePreActive(Fault):
     """A Revoke for a reason that is no compromise succeeds on an object that never was active."""
 
     mix = "lifecycle"
+    rate_usual = 1.0
 
     def revoke(self, ask: Ask, call: Call) -> Answer:
         thing = self.meant(ask, call, destroyed=True)
@@ -103,6 +105,7 @@ class CompromiseForgotten(Fault):
     """A Revoke for a compromise deactivates only: the reason is not looked at."""
 
     mix = "lifecycle"
+    rate_usual = 1.0
 
     def revoke(self, ask: Ask, call: Call) -> Answer:
         thing = self.meant(ask, call, destroyed=True)
@@ -153,6 +156,7 @@ class KeyMadeAnew(Fault):
 class NamesTwice(Fault):
     """Names are unique, says the server, and a check that looks only at the newest objects lets one through."""
 
+    mix = "locate"
     unique_names_usual = True
     rate_usual = 1.0
 
