@@ -27,7 +27,8 @@ pub fn check(
     witness: &Witness,
 ) -> Result<Verdict, CheckFault>
     requires { AreDeclared (declaration_of declaration.now) }
-    ensures { AreRecorded (transcript_of transcript.now) → Checks (transcript_of transcript.now) (declaration_of declaration.now) (witness_of witness.now) result }
+    ensures { AreRecorded (transcript_of transcript.now)
+        → Checks (transcript_of transcript.now) (declaration_of declaration.now) (witness_of witness.now) result }
 {
     let calls = read_calls(alloc, transcript)?;
     let steps = steps_of(alloc, &calls, &witness.turns)?;
