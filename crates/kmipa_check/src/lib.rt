@@ -24,7 +24,7 @@ mod verdict;
 
 pub use auditing::{AuditFault, AuditRecords, Audited, audit, audit_with, read_records};
 pub use call::Call;
-pub use checking::check;
+pub use checking::{check, check_calls};
 pub use fault::{CheckFault, Side, StepFault, WitnessFault, WitnessKind};
 pub use filling::needs_fill;
 pub use laws::{

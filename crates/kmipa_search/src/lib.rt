@@ -24,6 +24,6 @@ mod watch;
 
 pub use forced::is_forced;
 pub use found::Found;
-pub use laws::{enough_decides, equal_is_equal, forced_is_light, next_is_tested};
+pub use laws::{enough_decides, equal_is_equal, forced_is_light, idle_first, next_is_tested};
 pub use searching::{search, search_watched};
 pub use watch::{Unwatched, Watch};
