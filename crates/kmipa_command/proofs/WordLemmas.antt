@@ -44,11 +44,11 @@ text_found f id given e = e ∙ first_value-rows f id
 -- the values that the getters found are those of the subcommand with this name
 pub check_found : (f : Found) (job : Job) (o : Option (Text × List Row))
     → Some (codes "check") ≡ option_map (λ p. p.0) o → Some (rows_of f) ≡ option_map (λ p. p.1) o → IsCheck job (rows_of f) → IsJob job o
-check_found f (Check t d w json segment) None n e is = cc
-check_found f (Check t d w json segment) (Some found) n e is =
+check_found f (Check t d w json explain segment) None n e is = cc
+check_found f (Check t d w json explain segment) (Some found) n e is =
     let name : codes "check" ≡ found.0 = cc in
     let rows : rows_of f ≡ found.1 = cc in
-    let P : List Row → Type 0 = λ r. IsCheck (Check t d w json segment) r in
+    let P : List Row → Type 0 = λ r. IsCheck (Check t d w json explain segment) r in
     (sym name, subst P rows is)
 check_found f (Search t d out budget forced quiet) o n e is = absurd is
 check_found f (Show file options) o n e is = absurd is
@@ -85,7 +85,7 @@ search_found f (Search t d out budget forced quiet) (Some found) n e is =
     let rows : rows_of f ≡ found.1 = cc in
     let P : List Row → Type 0 = λ r. IsSearch (Search t d out budget forced quiet) r in
     (sym name, subst P rows is)
-search_found f (Check t d w json segment) o n e is = absurd is
+search_found f (Check t d w json explain segment) o n e is = absurd is
 search_found f (Show file options) o n e is = absurd is
 search_found f (Write hex out) o n e is = absurd is
 

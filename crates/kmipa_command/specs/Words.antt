@@ -40,9 +40,13 @@ abbrev pub check_files_app : App
 check_files_app = with_rule (with_rule (with_rule (new_app (codes "check")) (file_rule (codes "TRANSCRIPT")))
     (file_rule (codes "DECLARATION"))) (file_rule (codes "WITNESS"))
 
--- and after it `[--json] [--leaves OUT] [--not-before DATE]`
+-- and after it `[--explain] [--json]`
+abbrev pub check_texts_app : App
+check_texts_app = with_rule (with_rule check_files_app (flag_rule (codes "explain"))) (flag_rule (codes "json"))
+
+-- and after that `[--leaves OUT] [--not-before DATE]`
 abbrev pub check_app : App
-check_app = with_rule (with_rule (with_rule check_files_app (flag_rule (codes "json"))) (option_rule (codes "leaves"))) (option_rule (codes "not-before"))
+check_app = with_rule (with_rule check_texts_app (option_rule (codes "leaves"))) (option_rule (codes "not-before"))
 
 -- `search TRANSCRIPT DECLARATION OUT`
 abbrev pub search_files_app : App
@@ -88,9 +92,9 @@ IsText name rows given = option_map (λ text. text.now) given ≡ first_of name 
 
 -- these values are of this check
 abbrev pub IsCheck : Job → List Row → Type 0
-IsCheck (Check transcript declaration witness json segment) rows = (first_of (codes "TRANSCRIPT") rows ≡ Some transcript.now)
+IsCheck (Check transcript declaration witness json explain segment) rows = (first_of (codes "TRANSCRIPT") rows ≡ Some transcript.now)
     × (first_of (codes "DECLARATION") rows ≡ Some declaration.now) × (first_of (codes "WITNESS") rows ≡ Some witness.now)
-    × IsFlag (codes "json") rows json × IsText (codes "leaves") rows segment.leaves × IsText (codes "not-before") rows segment.not_before
+    × IsFlag (codes "json") rows json × IsFlag (codes "explain") rows explain × IsText (codes "leaves") rows segment.leaves × IsText (codes "not-before") rows segment.not_before
 IsCheck job rows = ⊥
 
 -- these values are of this search
@@ -103,8 +107,8 @@ IsSearch job rows = ⊥
 -- the subcommand with this name and these values is this job
 abbrev pub IsJob : Job → Option (Text × List Row) → Type 0
 IsJob job None = ⊥
-IsJob (Check transcript declaration witness json segment) (Some found) = (found.0 ≡ codes "check")
-    × IsCheck (Check transcript declaration witness json segment) found.1
+IsJob (Check transcript declaration witness json explain segment) (Some found) = (found.0 ≡ codes "check")
+    × IsCheck (Check transcript declaration witness json explain segment) found.1
 IsJob (Search transcript declaration out budget forced quiet) (Some found) = (found.0 ≡ codes "search")
     × IsSearch (Search transcript declaration out budget forced quiet) found.1
 IsJob (Show file options) (Some found) = (found.0 ≡ codes "show") × (first_of (codes "FILE") found.1 ≡ Some file.now)

@@ -103,7 +103,9 @@ pub fn tell_words<R: Print + Eprint>(rt: &R, error: &io::Error) -> Status
 pub fn tell_forms<R: Eprint>(rt: &R) -> Status
     ensures { (result ≡ Status.Usage) ⊎ (result ≡ Status.Failed) }
 {
-    let told = rt.eprintln("error: --json and --leaves or --not-before don't go together");
+    let told = rt.eprintln(
+        "error: --json, --explain, and --leaves or --not-before don't go together",
+    );
     status_of(&told, Status::Usage)
 }
 

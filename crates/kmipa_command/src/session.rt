@@ -46,11 +46,13 @@ fn run_job<R: Files + Clock + AllocGlobal + Print + Eprint>(
             declaration,
             witness,
             json,
+            explain,
             segment,
         } => {
             let names = [transcript, declaration, witness];
-            match form_of(json, segment) {
-                Some(Form::Lines) => check_files(rt, names, &mut out),
+            match form_of(json, explain, segment) {
+                Some(Form::Lines) => check_files(rt, names, false, &mut out),
+                Some(Form::Explained) => check_files(rt, names, true, &mut out),
                 Some(Form::Segment) => check_segment_files(rt, names, segment, &mut out),
                 Some(Form::Json) => return check_object(rt, names),
                 None => return tell_forms(rt),

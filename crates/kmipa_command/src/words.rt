@@ -4,7 +4,7 @@ ghost use Rattle.std.specs.Prelude.{◌≡◌, ◌≢◌, ◌⊎◌, ◌||◌, i
 ghost use Rattle.clap.specs.Words.{app_of, rule_of, rows_of, found_of, kind_of, subcommand_of, subcommand_rows_of, fault_of};
 ghost use Rattle.clap.specs.declared.builder.command.Command.TheViews.{out-Command};
 ghost use Rattle.kmipa_runs.specs.Statuses.{IsSilent};
-ghost use Rattle.kmipa_command.specs.Words.{program_app, check_app, check_files_app, search_app, search_files_app, show_app, write_app, budget_rule, file_rule, flag_rule, option_rule, status_of, IsCheck, IsJob, IsSearch, IsTold};
+ghost use Rattle.kmipa_command.specs.Words.{program_app, check_app, check_files_app, check_texts_app, search_app, search_files_app, show_app, write_app, budget_rule, file_rule, flag_rule, option_rule, status_of, IsCheck, IsJob, IsSearch, IsTold};
 
 use clap::builder::ValueParser;
 use clap::error::ErrorKind;
@@ -32,6 +32,8 @@ const FORCED: &str = "forced";
 const QUIET: &str = "quiet";
 
 const JSON: &str = "json";
+
+const EXPLAIN: &str = "explain";
 
 const LEAVES: &str = "leaves";
 
@@ -65,10 +67,11 @@ Status: 0 yes, found, shown or written; 1 no; 2 a file is refused; 3 a device fa
 const CHECK_HELP: &str = "\
 Example:
   kmip_audit check transcript.ttlv declaration.ttlv witness.ttlv
-  kmip_audit check transcript.ttlv declaration.ttlv witness.ttlv --json
+  kmip_audit check transcript.ttlv declaration.ttlv witness.ttlv --explain
   kmip_audit check monday.ttlv declaration.ttlv witness.ttlv --leaves tuesday_declaration.ttlv
 
-With --json one JSON object stands in place of the lines; it does not go together with --leaves or --not-before.
+With --explain stands behind the lines of a no what its reason rests on, a line for each claim. With --json one JSON
+object stands in place of all lines. Neither goes together with the other, nor with --leaves or --not-before.
 
 At a yes, and only then, --leaves writes the declaration with which the audit of the next segment goes on, and prints
 'left: N entries, last stamp DATE'. That DATE is the --not-before of the next segment: a first turn that is earlier is
@@ -129,6 +132,8 @@ pub enum Job<'a> {
         witness: &'a str,
         /// Prints one JSON object in place of the lines.
         json: bool,
+        /// Prints behind a no what it means.
+        explain: bool,
         segment: SegmentWords<'a>,
     },
     /// An order in which the calls of a transcript are possible, tried with at most so many steps.
@@ -165,7 +170,7 @@ pub struct Usage {
 
 /// The job that the words of a command line name, the first of which is the program's name.
 ///
-/// - `kmip_audit check TRANSCRIPT DECLARATION WITNESS [--json] [--leaves OUT] [--not-before DATE]`
+/// - `kmip_audit check TRANSCRIPT DECLARATION WITNESS [--explain] [--json] [--leaves OUT] [--not-before DATE]`
 /// - `kmip_audit search TRANSCRIPT DECLARATION OUT [--budget N] [--forced] [--quiet]`, N from 0 to 1,000,000,000
 /// - `kmip_audit show FILE [--messages] [--notes]`
 /// - `kmip_audit write HEX OUT`
@@ -202,8 +207,7 @@ fn check<'a>(alloc: Global) -> Result<Command<'a>, AllocError>
     ensures app { IfOk result (λ command. app_of command ≡ check_app) }
     ensures local { IfOk result (λ command. (out-Command command).has_globals ≡ false) }
 {
-    check_of_files(alloc)?
-        .arg(flag(alloc, JSON, "Prints one JSON object in place of the lines"))?
+    check_with_texts(alloc)?
         .arg(option(
             alloc,
             LEAVES,
@@ -216,6 +220,16 @@ fn check<'a>(alloc: Global) -> Result<Command<'a>, AllocError>
             "DATE",
             "The last stamp of the segment before, that no stamp may be earlier than",
         ))
+}
+
+/// A check with the options of what it prints.
+fn check_with_texts<'a>(alloc: Global) -> Result<Command<'a>, AllocError>
+    ensures app { IfOk result (λ command. app_of command ≡ check_texts_app) }
+    ensures local { IfOk result (λ command. (out-Command command).has_globals ≡ false) }
+{
+    check_of_files(alloc)?
+        .arg(flag(alloc, EXPLAIN, "Prints behind a no what it means"))?
+        .arg(flag(alloc, JSON, "Prints one JSON object in place of the lines"))
 }
 
 /// A check without its options.
@@ -370,6 +384,7 @@ fn check_of<'a>(words: &ArgMatches<'a>) -> Option<Job<'a>>
         declaration: words.get_str(DECLARATION)?,
         witness: words.get_str(WITNESS)?,
         json: words.get_flag(JSON),
+        explain: words.get_flag(EXPLAIN),
         segment: SegmentWords {
             leaves: words.get_str(LEAVES),
             not_before: words.get_str(NOT_BEFORE),

@@ -1,4 +1,7 @@
+pub mod Causes
 pub mod Dates
+pub mod Explained
+pub mod Explaining
 pub mod Held
 pub mod Inputs
 pub mod Judging
@@ -6,7 +9,9 @@ pub mod Leaving
 pub mod Lines
 pub mod Moments
 pub mod Notes
+pub mod Phrases
 pub mod Searches
 pub mod Shown
 pub mod Statuses
+pub mod Stories
 pub mod Telling

@@ -2,8 +2,12 @@
 #![tactic(auto)]
 
 mod bytes;
+mod causes;
 mod dates;
 mod digits;
+mod explained;
+mod explaining;
+mod explanation;
 mod flaws;
 mod front;
 mod held;
@@ -17,8 +21,10 @@ mod message;
 mod moments;
 mod notes;
 mod options;
+mod phrases;
 mod pieces;
 mod printer;
+mod quoting;
 mod reading;
 mod reporting;
 mod runs;
@@ -27,10 +33,13 @@ mod searching;
 mod showing;
 mod shown;
 mod status;
+mod stories;
 mod telling;
 mod values;
 mod writing;
 
+pub use explained::Explained;
+pub use explaining::explain_run;
 pub use json::{VERSION, check_json};
 pub use laws::items_have_no_fault;
 pub use leaving::{Segment, segment_run};

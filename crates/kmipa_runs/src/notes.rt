@@ -26,8 +26,9 @@ pub fn number_name(tag: Tag, number: u32) -> Option<&'static str>
     }
 }
 
+/// The name of an operation's number, or `None` where it has none here.
 #[tactic(auto, unfolding(crate::specs::Notes::operations))]
-fn operation_name(number: u32) -> Option<&'static str>
+pub fn operation_name(number: u32) -> Option<&'static str>
     ensures { option_map (λ name. name.now) result ≡ name_among operations number }
 {
     match number {

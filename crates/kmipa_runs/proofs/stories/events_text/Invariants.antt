@@ -1,0 +1,7 @@
+use Rattle.std.proofs.Common.{take, string_bytes}
+use Rattle.kmipa_runs.specs.Stories.{PrintEvents}
+use Rattle.kmipa_runs.proofs.stories.events_text.Given as goal
+
+-- what is written tells the items up to here
+abbrev pub invariant-events : goal.invariant-events
+invariant-events l = PrintEvents (take l.event-index l.events) (string_bytes l.text)
