@@ -24,6 +24,10 @@ const NAME_BYTES: usize = 64;
 /// How many chains of ends there are.
 const CHAINS: usize = 1 << 18;
 
+/// So many ends of the same calls are compared with a ledger at most, the newest first. Calls that add objects leave as
+/// many ledgers as they have orders, and looking at each would cost more than trying what follows.
+const MOST_COMPARED: usize = 64;
+
 /// A dead end: the calls that were taken, and the objects as they stood. No run begins with these calls from such a
 /// ledger, in whatever order they were taken.
 #[derive(Drop)]
@@ -145,16 +149,22 @@ impl Ends {
         0
     }
 
-    /// Whether an end of these calls is in a chain from a number on, over a ledger whose objects stand as they do here.
+    /// Whether an end of these calls is among the next of a chain from a number on, over a ledger whose objects stand as
+    /// they do here.
     fn has_from<L: Ledger>(&self, ledger: &L, set: &CallSet, newest: usize) -> bool
         requires { IsSound (L.state ledger.now).now }
         ensures { (places : List ℕ) → IsSetOf places set.now → result ≡ true → HasEnd self.now.ends.items places (L.state ledger.now).now }
     {
         let mut number = newest;
+        let mut compared = 0;
         'chain: while number > 0 {
             if number > self.ends.len() {
                 return false;
             }
+            if compared >= MOST_COMPARED {
+                return false;
+            }
+            compared += 1;
             let end = &self.ends[number - 1];
             if is_end(ledger, end, set) {
                 return true;
