@@ -1,23 +1,17 @@
 -- Of a check that says what its no means.
 use Rattle.std.proofs.Common.{◌≡◌, ◌⊎◌, ◌↔◌, inl, inr, ℕ, Bool, List, [], ◌++◌, codes, Option, Some, None, Result, Ok, Err, length, take, refl, sym, ap, subst, ◌∙◌}
-use Rattle.std.specs.Prelude.{IfOk, IsOkAnd, OnOk, string_bytes}
+use Rattle.std.specs.Prelude.{IfOk, IsOkAnd, string_bytes}
 use Rattle.std.specs.Io.{StartsWith}
 use Rattle.std.specs.declared.alloc.AllocError.{AllocError}
-use Rattle.kmipa_ttlv.specs.Input.{came_of}
 use Rattle.kmipa_record.specs.Marks.{MarkOf}
 use Rattle.kmipa_record.specs.Declarations.{declaration_of}
 use Rattle.kmipa_record.specs.Transcripts.{transcript_of}
 use Rattle.kmipa_record.specs.Witnesses.{TurnOf, witness_of}
-use Rattle.kmipa_check.specs.Audits.{AreAccepted, AreRecords}
-use Rattle.kmipa_check.specs.Verdicts.{Checks}
+use Rattle.kmipa_check.specs.Audits.{AreAccepted}
 use Rattle.kmipa_check.specs.declared.auditing.AuditFault.{AuditFault}
-use Rattle.kmipa_check.specs.declared.auditing.AuditFault.TheVariants as audit
 use Rattle.kmipa_check.specs.declared.auditing.AuditRecords.{AuditRecords}
-use Rattle.kmipa_check.specs.declared.fault.CheckFault.{CheckFault}
-use Rattle.kmipa_check.specs.declared.fault.CheckFault.TheVariants as check
 use Rattle.kmipa_check.specs.declared.verdict.Verdict.{Verdict}
 use Rattle.kmipa_check.specs.declared.verdict.Verdict.TheVariants as verdict
-use Rattle.kmipa_check.proofs.AuditLemmas.{unjudged}
 use Rattle.kmipa_explain.specs.declared.explanation.Explanation.{Explanation}
 use Rattle.kmipa_runs.specs.Explaining.{AreExplained, AuditsExplained, IsExplained, PrintsExplained, PrintsMore, TellsRecords}
 use Rattle.kmipa_runs.specs.Lines.{FitsStatus, PrintsVerdict, device_line, yes_line}
@@ -28,26 +22,6 @@ use Rattle.kmipa_runs.specs.declared.status.Status.{Status}
 use Rattle.kmipa_runs.specs.declared.status.Status.TheVariants as status
 use Rattle.kmipa_runs.proofs.JsonLemmas.{fault_not_done}
 use Rattle.kmipa_runs.proofs.LineLemmas.{done_is_yes}
-
--- ---- what is explained
-
--- the records that were read, with a verdict that is explained
-pub explained_files : (t d w : List ℕ) (records : AuditRecords) (v : Verdict) (explanation : Option Explanation) → AreRecords records t d w → TellsRecords records v
-    → IsExplained records v explanation → AreExplained (record { records = records; verdict = v; explanation = explanation }) t d w
-explained_files t d w records v explanation are right explained = record { records = are; verdict = right; explained = explained }
-
--- a fault of the check of them
-pub fault_files : (t d w : List ℕ) (ft fd fw : Bool) (records : AuditRecords) (fault : CheckFault) → AreRecords records t d w
-    → Checks (transcript_of records.transcript) (declaration_of records.declaration) (witness_of records.witness) (Err fault)
-    → AuditsExplained t d w ft fd fw (Err (audit.Check fault))
-fault_files t d w ft fd fw records fault are checks = unjudged t d w records fault are checks
-
--- that memory ran out is a fault of any records
-pub memory_told : (records : AuditRecords) (fault : CheckFault) → fault ≡ check.Memory
-    → Checks (transcript_of records.transcript) (declaration_of records.declaration) (witness_of records.witness) (Err fault)
-memory_told records fault is =
-    let P : CheckFault → Type 0 = λ f. Checks (transcript_of records.transcript) (declaration_of records.declaration) (witness_of records.witness) (Err f) in
-    subst P (sym is) tt
 
 -- ---- status 0
 
@@ -74,13 +48,6 @@ done_accepted t d w ft fd fw (Err fault) said lines audits (inl prints) done = a
 done_accepted t d w ft fd fw (Ok explained) said lines audits (inl prints) done =
     let yes = done_is_yes (transcript_of explained.records.transcript) (witness_of explained.records.witness) explained.verdict said prints.0 (inl prints.2) done in
     yes_explained t d w explained explained.verdict refl yes audits
-
--- and what is said of an outcome that is no fault holds
-pub done_holds : (fact : Type 0) (outcome : Result Explained AuditFault) (said : Status) (lines : List ℕ) → OnOk outcome fact
-    → PrintsExplained outcome said lines ⊎ IsSilent said lines → said ≡ status.Done → fact
-done_holds fact outcome said lines holds (inr silent) done = let clash : status.Failed ≡ status.Done = sym silent.0 ∙ done in absurd cc
-done_holds fact (Err fault) said lines holds (inl prints) done = absurd (fault_not_done fault (sym prints.0 ∙ done))
-done_holds fact (Ok explained) said lines holds (inl prints) done = holds
 
 -- ---- what is appended
 
@@ -121,7 +88,7 @@ fits_at records marks turns verdict.Yes None said front more lines is prints non
 fits_at records marks turns verdict.Yes (Some x) said front more lines is prints none e = absurd is
 fits_at records marks turns (verdict.No r) o said front more lines is prints tells e =
     let P : Status → Type 0 = λ s. FitsStatus s lines in
-    subst P (sym prints.0) (ap (take (length (codes "no: turn "))) (e ∙ ap (λ (l : List ℕ). l ++ more) prints.1.2.2.2))
+    subst P (sym prints.0) (ap (take (length (codes "no: turn "))) (e ∙ ap (λ (l : List ℕ). l ++ more) prints.1.2.2))
 
 pub explained_fits : (explained : Explained) (t d w : List ℕ) (said : Status) (lines : List ℕ) → AreExplained explained t d w
     → PrintsExplained (Ok explained) said lines ⊎ IsSilent said lines → FitsStatus said lines

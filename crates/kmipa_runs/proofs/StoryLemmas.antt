@@ -1,9 +1,9 @@
 -- Of what is printed of a story.
-use Rattle.std.proofs.Common.{◌≡◌, ◌∙◌, ap, sym, refl, subst, List, [], ◌∷◌, ◌++◌, ℕ, ℤ, codes, drop, get_or, length, suc, take, ◌<◌, ◌+◌, ◌-◌, Option, Some, None}
+use Rattle.std.proofs.Common.{◌≡◌, ◌∙◌, ap, sym, refl, subst, List, [], ◌∷◌, ◌++◌, ℕ, ℤ, codes, drop, get_or, length, suc, take, ◌<◌, ◌+◌, ◌-◌}
 use Rattle.std.proofs.lemmas.List.{append_assoc, append-nil, length-drop}
 use Rattle.std.proofs.Math.Seq.{take-length, take-suc}
 use native.Mathlib.Omega.{arith}
-use Rattle.std.specs.Fmt.{decimal, signed_decimal}
+use Rattle.std.specs.Fmt.{signed_decimal}
 use Rattle.std.specs.String.{string_bytes}
 use Rattle.kmipa_runs.specs.Dates.{HasDate}
 use Rattle.kmipa_runs.specs.Lines.{line}
