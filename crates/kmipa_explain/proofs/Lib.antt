@@ -7,3 +7,5 @@ pub mod RefusedLemmas
 pub mod CauseLemmas
 pub mod ItemLemmas
 pub mod StoryLemmas
+pub mod DeclaredLemmas
+pub mod StandingLemmas

@@ -32,7 +32,7 @@ use Rattle.kmipa_explain.specs.Explainable.{IsBegun, HasPair, IsRefusedHere, IsE
 use Rattle.kmipa_explain.specs.Places.{at_item}
 use Rattle.kmipa_explain.proofs.QuietLemmas.{no_stamp}
 
-at_next : {A : Type 0} (xs : List A) (place : ℕ) → at_item xs (place + 1) ≡ slice_get xs place
+pub at_next : {A : Type 0} (xs : List A) (place : ℕ) → at_item xs (place + 1) ≡ slice_get xs place
 at_next xs place = let e : suc place ≡ place + 1 = omega arith in let P : ℕ → Type 0 = λ n. at_item xs n ≡ slice_get xs place in subst P e refl
 
 module _ (rules : RulesOf) (m : Meaning) (request : RequestOf) (response : ResponseOf) (order : Option (List ℕ)) (count item : ℕ) (why : Why) where

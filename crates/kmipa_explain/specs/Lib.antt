@@ -6,4 +6,6 @@ pub mod Items
 pub mod Kept
 pub mod Places
 pub mod Reading
+pub mod Replaying
+pub mod Standing
 pub mod Stories

@@ -8,6 +8,7 @@ mod explanation;
 mod item;
 mod items;
 mod places;
+mod standing;
 mod story;
 
 pub use explaining::explain;
