@@ -2,6 +2,7 @@ pub mod Calls
 pub mod Causes
 pub mod Explainable
 pub mod Explanations
+pub mod Holding
 pub mod Items
 pub mod Kept
 pub mod Places

@@ -1,5 +1,6 @@
 //! Explanations.
 
+use crate::held::{BytesHeld, StateHeld};
 use kmipa_msgs::{BatchOption, Status};
 
 /// What a no means.
@@ -30,7 +31,13 @@ pub enum Cause {
     BatchShape(Shape),
     /// Of `OperationDiffers`: the two operations.
     Operations(Operations),
-    /// Of the other reasons, which speak of what the server held.
+    /// Of `NoSuchObject`: the identifier of which the server held no object; none where the ID Placeholder is meant and holds none.
+    NoObject(Option<String>),
+    /// Of `WrongState`: the object's state and its dates.
+    State(StateHeld),
+    /// Of `BytesDiffer`: where the bytes that are shown differ from those that are known.
+    Bytes(BytesHeld),
+    /// Of the other reasons, of which no more is told.
     Object,
 }
 

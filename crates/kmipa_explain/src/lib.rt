@@ -5,6 +5,8 @@ mod calls;
 mod cause;
 mod explaining;
 mod explanation;
+mod held;
+mod holding;
 mod item;
 mod items;
 mod places;
@@ -12,4 +14,5 @@ mod standing;
 mod story;
 
 pub use explaining::explain;
+pub use held::{BytesHeld, DatesHeld, StateHeld};
 pub use explanation::{Cause, Event, Explanation, Operations, Shape, Story, TurnBefore};
