@@ -9,3 +9,4 @@ pub mod ItemLemmas
 pub mod StoryLemmas
 pub mod DeclaredLemmas
 pub mod StandingLemmas
+pub mod HoldingLemmas

@@ -13,7 +13,6 @@ use Rattle.kmipa_ops.specs.Chains.{ChainSome}
 use Rattle.kmipa_ops.specs.Explains.{Explains, Refuted}
 use Rattle.kmipa_ops.specs.Whys.{whys}
 use Rattle.kmipa_ops.specs.declared.why.Why.{Why}
-use Rattle.kmipa_ops.specs.declared.why.Why.TheVariants.{EarlierCallLate, StampRunsBack, BatchShape}
 use Rattle.kmipa_ops.proofs.AlikeLemmas.{alike_speak_alike, alike_go_alike}
 use Rattle.kmipa_batch.specs.Calls.{MayTake, pairs_of, pairs_taken, RefusesMessage}
 use Rattle.kmipa_batch.specs.Orders.{along, place_at, places_from}
@@ -30,12 +29,13 @@ use Rattle.kmipa_check.specs.Verdicts.{AreKnown, ArePossible, IsRefused, Refused
 use Rattle.kmipa_check.specs.Verdicts
 use Rattle.kmipa_check.specs.declared.verdict.Refused.{Refused}
 use Rattle.kmipa_check.proofs.LeftLemmas.{describes_left, left_declared, left_describes}
+use Rattle.kmipa_explain.specs.Explainable.{IsOfItems, IsRefusedThere}
 use Rattle.kmipa_explain.specs.Items.{places_taken}
 use Rattle.kmipa_explain.specs.Places.{at_item}
 use Rattle.kmipa_explain.specs.Replaying.{IsItemRefused, IsLedAhead, IsRefusedOver, IsStanding}
 use Rattle.kmipa_explain.specs.Standing.{IsHeldAt, StandsAt}
 use Rattle.kmipa_explain.proofs.QuietLemmas.{found_passes}
-use Rattle.kmipa_explain.proofs.RefusedLemmas.{at_next}
+use Rattle.kmipa_explain.proofs.PairLemmas.{at_next}
 
 -- ---- the position of an item
 
@@ -167,13 +167,10 @@ module _ (declared : DeclarationOf) (order : List StepOf) (turn : ℕ) (c : Step
 -- ---- the refused item, of a verdict
 
 module _ (declared : DeclarationOf) (order : List StepOf) (turn : ℕ) (c : StepOf) (item : ℕ) (why : Why) (there : slice_get order turn ≡ Some c) (possible : ArePossible declared order turn)
-    (a : why ≢ EarlierCallLate) (b : why ≢ StampRunsBack) (d : why ≢ BatchShape) where
-  abbrev IsRefusedThere : Type 0
-  IsRefusedThere = (place : ℕ) × (item ≡ place + 1) × IsItemRefused declared order turn c place why
-
+    (o : IsOfItems why) where
   spoken : (count : ℕ) (known : Meaning) → AreKnown declared (take turn order) known → (RefusesMessage c.response → ⊥)
-      → SpeaksAtAlong (rules_declared declared) known c.request c.response (order_of c) count item why → IsRefusedThere
-  spoken count known knows unrefused (in_shape place at judged first is) = absurd (d is)
+      → SpeaksAtAlong (rules_declared declared) known c.request c.response (order_of c) count item why → IsRefusedThere declared order turn c item why
+  spoken count known knows unrefused (in_shape place at judged first is) = absurd (o.shaped is)
   spoken count known knows unrefused (in_item place at shaped its between placeholder ask answer so sound pair refuted) = (
     place,
     at,
@@ -193,9 +190,9 @@ module _ (declared : DeclarationOf) (order : List StepOf) (turn : ℕ) (c : Step
     },
   )
 
-  pub refused_there : RefusedAt declared order turn c item why → IsRefusedThere
-  refused_there (in_place e (late l is)) = absurd (a is)
-  refused_there (in_place e (runs_back kept back is)) = absurd (b is)
+  pub refused_there : RefusedAt declared order turn c item why → IsRefusedThere declared order turn c item why
+  refused_there (in_place e (late l is)) = absurd (o.in_time is)
+  refused_there (in_place e (runs_back kept back is)) = absurd (o.stamped is)
   refused_there (Verdicts.in_item count h) =
       let unrefused : RefusesMessage c.response → ⊥ = λ x. h.never (record {
         placed = h.before.placed;

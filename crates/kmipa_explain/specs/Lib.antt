@@ -7,6 +7,7 @@ pub mod Items
 pub mod Kept
 pub mod Places
 pub mod Reading
+pub mod Reasoned
 pub mod Replaying
 pub mod Standing
 pub mod Stories

@@ -115,7 +115,7 @@ fn makes_object(ask: &Ask) -> bool
 }
 
 /// The identifier that an item is about, where the ID Placeholder holds this.
-fn about_in(
+pub fn about_in(
     alloc: Global,
     ask: &Ask,
     answer: &Answer,

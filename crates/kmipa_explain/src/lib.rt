@@ -14,5 +14,5 @@ mod standing;
 mod story;
 
 pub use explaining::explain;
-pub use held::{BytesHeld, DatesHeld, StateHeld};
 pub use explanation::{Cause, Event, Explanation, Operations, Shape, Story, TurnBefore};
+pub use held::{BytesHeld, DatesHeld, StateHeld};

@@ -52,7 +52,16 @@ pub(crate) fn standing_at(
 {
     let rules = rules_of_declaration(alloc, declaration)?;
     let mut ledger = open_ledger(alloc, declaration)?;
-    standing_over(alloc, &mut ledger, &rules, declaration, steps, turn, place, why)
+    standing_over(
+        alloc,
+        &mut ledger,
+        &rules,
+        declaration,
+        steps,
+        turn,
+        place,
+        why,
+    )
 }
 
 /// The same over a ledger that the declaration opened.
