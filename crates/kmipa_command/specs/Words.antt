@@ -49,9 +49,9 @@ abbrev pub search_files_app : App
 search_files_app = with_rule (with_rule (with_rule (new_app (codes "search")) (file_rule (codes "TRANSCRIPT")))
     (file_rule (codes "DECLARATION"))) (file_rule (codes "OUT"))
 
--- and after it `[--budget N] [--forced] [--quiet]`
+-- and after it `[--budget N] [--forced] [--open] [--quiet]`
 abbrev pub search_app : App
-search_app = with_rule (with_rule (with_rule search_files_app budget_rule) (flag_rule (codes "forced"))) (flag_rule (codes "quiet"))
+search_app = with_rule (with_rule (with_rule (with_rule search_files_app budget_rule) (flag_rule (codes "forced"))) (flag_rule (codes "open"))) (flag_rule (codes "quiet"))
 
 -- `show FILE [--messages] [--notes]`
 abbrev pub show_app : App
@@ -95,9 +95,9 @@ IsCheck job rows = ⊥
 
 -- these values are of this search
 abbrev pub IsSearch : Job → List Row → Type 0
-IsSearch (Search transcript declaration out budget forced quiet) rows = (first_of (codes "TRANSCRIPT") rows ≡ Some transcript.now)
+IsSearch (Search transcript declaration out budget forced open quiet) rows = (first_of (codes "TRANSCRIPT") rows ≡ Some transcript.now)
     × (first_of (codes "DECLARATION") rows ≡ Some declaration.now) × (first_of (codes "OUT") rows ≡ Some out.now)
-    × IsNumber (codes "budget") rows budget × IsFlag (codes "forced") rows forced × IsFlag (codes "quiet") rows quiet
+    × IsNumber (codes "budget") rows budget × IsFlag (codes "forced") rows forced × IsFlag (codes "open") rows open × IsFlag (codes "quiet") rows quiet
 IsSearch job rows = ⊥
 
 -- the subcommand with this name and these values is this job
@@ -105,8 +105,8 @@ abbrev pub IsJob : Job → Option (Text × List Row) → Type 0
 IsJob job None = ⊥
 IsJob (Check transcript declaration witness json segment) (Some found) = (found.0 ≡ codes "check")
     × IsCheck (Check transcript declaration witness json segment) found.1
-IsJob (Search transcript declaration out budget forced quiet) (Some found) = (found.0 ≡ codes "search")
-    × IsSearch (Search transcript declaration out budget forced quiet) found.1
+IsJob (Search transcript declaration out budget forced open quiet) (Some found) = (found.0 ≡ codes "search")
+    × IsSearch (Search transcript declaration out budget forced open quiet) found.1
 IsJob (Show file options) (Some found) = (found.0 ≡ codes "show") × (first_of (codes "FILE") found.1 ≡ Some file.now)
     × IsFlag (codes "messages") found.1 options.messages × IsFlag (codes "notes") found.1 options.notes
 IsJob (Write hex out) (Some found) = (found.0 ≡ codes "write") × (first_of (codes "HEX") found.1 ≡ Some hex.now) × (first_of (codes "OUT") found.1 ≡ Some out.now)

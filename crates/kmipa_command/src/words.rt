@@ -29,6 +29,8 @@ const BUDGET: &str = "budget";
 
 const FORCED: &str = "forced";
 
+const OPEN: &str = "open";
+
 const QUIET: &str = "quiet";
 
 const JSON: &str = "json";
@@ -85,6 +87,9 @@ that is tried. A transcript is plain where no call lacks its end, no message lea
 undone answer hides what a witness would have to give. Where a plain transcript is given up with steps left, no order
 explains it.
 
+With --open a call without its end is taken where an answer needs what it did, and a batch without order in other
+orders than by place. Of a plain transcript nothing changes; of another one nothing is told by giving up.
+
 Where standard error is a terminal, a long search tells there once a second how far it got, unless --quiet is given.
 
 Status: 0 found; 2 a file is refused; 3 a device failed or memory ran out; 4 gave up; 64 wrong words";
@@ -140,6 +145,8 @@ pub enum Job<'a> {
         budget: u64,
         /// Tells first whether the transcript leaves no choice.
         forced: bool,
+        /// Takes calls without an end mark too, and batches without order in other orders than by place.
+        open: bool,
         /// Tells nothing on standard error while it searches.
         quiet: bool,
     },
@@ -166,7 +173,7 @@ pub struct Usage {
 /// The job that the words of a command line name, the first of which is the program's name.
 ///
 /// - `kmip_audit check TRANSCRIPT DECLARATION WITNESS [--json] [--leaves OUT] [--not-before DATE]`
-/// - `kmip_audit search TRANSCRIPT DECLARATION OUT [--budget N] [--forced] [--quiet]`, N from 0 to 1,000,000,000
+/// - `kmip_audit search TRANSCRIPT DECLARATION OUT [--budget N] [--forced] [--open] [--quiet]`, N from 0 to 1,000,000,000
 /// - `kmip_audit show FILE [--messages] [--notes]`
 /// - `kmip_audit write HEX OUT`
 pub fn read_words<'a, S: AsStr>(alloc: Global, words: &'a [S]) -> Result<Job<'a>, Usage>
@@ -241,6 +248,11 @@ fn search<'a>(alloc: Global) -> Result<Command<'a>, AllocError>
             alloc,
             FORCED,
             "Tells first whether stamps and marks leave no choice of the order",
+        ))?
+        .arg(flag(
+            alloc,
+            OPEN,
+            "Takes calls without an end too, where an answer needs them",
         ))?
         .arg(flag(
             alloc,
@@ -386,6 +398,7 @@ fn search_of<'a>(words: &ArgMatches<'a>) -> Option<Job<'a>>
         out: words.get_str(OUT)?,
         budget: words.get_one::<u64>(BUDGET)?,
         forced: words.get_flag(FORCED),
+        open: words.get_flag(OPEN),
         quiet: words.get_flag(QUIET),
     })
 }

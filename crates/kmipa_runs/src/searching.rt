@@ -19,14 +19,15 @@ use kmipa_check::{AuditFault, CheckFault};
 use kmipa_record::{
     Declaration, Transcript, Witness, read_declaration, read_transcript, write_witness,
 };
-use kmipa_search::{Found, Watch, is_forced, search_watched};
+use kmipa_search::{Found, Watch, is_forced, search_open, search_watched};
 use kmipa_ttlv::Input;
 use std::alloc::{AllocError, Global};
 use std::io::Read;
 
 /// `search TRANSCRIPT DECLARATION OUT`: looks for a witness with at most `budget` steps. Appends to `out` the lines of
 /// what was found, with `forced` before them whether the transcript is forced, or the line of the fault that stands
-/// in their place, and answers the status. A witness that was found is appended to `made`, as a file; at every other
+/// in their place, and answers the status. With `open` calls without an end mark are taken too, and batches without
+/// order in other orders. A witness that was found is appended to `made`, as a file; at every other
 /// status than `Done` nothing is. Where memory runs out nothing is appended to either, and the status is `Failed`. The
 /// watcher is reported of each step.
 pub fn search_run<R: Read, W: Watch>(
@@ -35,6 +36,7 @@ pub fn search_run<R: Read, W: Watch>(
     declaration: &mut Input<R>,
     budget: u64,
     forced: bool,
+    open: bool,
     watch: &mut W,
     out: &mut Vec<u8>,
     made: &mut Vec<u8>,
@@ -54,7 +56,7 @@ pub fn search_run<R: Read, W: Watch>(
     ensures appends { StartsWith out.new.items out.old.items }
     ensures makes { StartsWith made.new.items made.old.items }
 {
-    match search_inputs(alloc, transcript, declaration, budget, forced, watch) {
+    match search_inputs(alloc, transcript, declaration, budget, forced, open, watch) {
         Ok(searched) => tell_searched(alloc, &searched, out, made),
         Err(fault) => append(fault_lines(alloc, &fault), out),
     }
@@ -67,6 +69,7 @@ fn search_inputs<R: Read, W: Watch>(
     declaration: &mut Input<R>,
     budget: u64,
     forced: bool,
+    open: bool,
     watch: &mut W,
 ) -> Result<Searched, AuditFault>
     requires transcript { came_of transcript.old ≡ [] }
@@ -83,7 +86,7 @@ fn search_inputs<R: Read, W: Watch>(
         Ok(declaration) => declaration,
         Err(fault) => return Err(AuditFault::Declaration(fault)),
     };
-    match search_records(alloc, &transcript, &declaration, budget, forced, watch) {
+    match search_records(alloc, &transcript, &declaration, budget, forced, open, watch) {
         Ok(searched) => Ok(searched),
         Err(fault) => Err(AuditFault::Check(fault)),
     }
@@ -95,6 +98,7 @@ fn search_records<W: Watch>(
     declaration: &Declaration,
     budget: u64,
     forced: bool,
+    open: bool,
     watch: &mut W,
 ) -> Result<Searched, CheckFault>
     requires { AreDeclared (declaration_of declaration.now) }
@@ -102,7 +106,11 @@ fn search_records<W: Watch>(
         → SearchesRecords (transcript_of transcript.now) (declaration_of declaration.now) budget forced result }
 {
     let forced = if_forced(alloc, transcript, forced)?;
-    let found = search_watched(alloc, transcript, declaration, budget, watch)?;
+    let found = if open {
+        search_open(alloc, transcript, declaration, budget, watch)?
+    } else {
+        search_watched(alloc, transcript, declaration, budget, watch)?
+    };
     Ok(Searched { forced, found })
 }
 

@@ -67,7 +67,7 @@ pub fn search_watched<W: Watch>(
 }
 
 /// Looks for a witness of calls that are plain.
-fn search_plain<W: Watch>(
+pub fn search_plain<W: Watch>(
     alloc: Global,
     transcript: &Transcript,
     declaration: &Declaration,
@@ -127,7 +127,7 @@ fn search_waiting<W: Watch>(
 }
 
 /// Hands a witness out if it is accepted and can be written.
-fn try_witness(
+pub fn try_witness(
     alloc: Global,
     transcript: &Transcript,
     declaration: &Declaration,
