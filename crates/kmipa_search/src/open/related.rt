@@ -57,7 +57,7 @@ pub fn related<'b, 'a, L: Ledger>(
     push_all_changers(&mut tries, tables, standing, &objects)?;
     push_all_left_out(&mut tries, ledger, tables, standing, &next)?;
     if !is_behind_open {
-        push_others(&mut tries, tables, standing)?;
+        push_others(&mut tries, tables, standing, &objects)?;
     }
     tries.reverse();
     Ok(tries)
@@ -243,18 +243,28 @@ fn is_left_out<L: Ledger>(ledger: &L, ask: &Ask, answer: &Answer, id: &str) -> b
         && !located.ids.contains(&id)
 }
 
-/// All calls that change an object.
+/// The calls that change another object than these.
 fn push_others<'b, 'a>(
     tries: &mut Vec<Attempt<'b>>,
     tables: &Tables<'b, 'a>,
     standing: &Standing,
+    objects: &[usize],
 ) -> Result<(), AllocError> {
     'opens: for (number, open) in tables.opens.iter().enumerate() {
         if let Some(id) = open.id() {
-            push_open(tries, tables, standing, number, id, standing.stamp(tables))?;
+            if !is_among(tables, objects, id) {
+                push_open(tries, tables, standing, number, id, standing.stamp(tables))?;
+            }
         }
     }
     Ok(())
+}
+
+fn is_among<'b, 'a>(tables: &Tables<'b, 'a>, objects: &[usize], id: &'b str) -> bool {
+    match tables.stories.find(id) {
+        Some(number) => objects.contains(&number),
+        None => false,
+    }
 }
 
 /// The try of an open call, where it may be taken.

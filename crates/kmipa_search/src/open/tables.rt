@@ -47,13 +47,15 @@ pub struct Attempt<'b> {
 }
 
 impl<'b, 'a> Tables<'b, 'a> {
+    ghost use Rattle.std.specs.Prelude.{◌≡◌, IfOk};
+
     /// Those of these calls.
     pub fn of(
         alloc: Global,
         calls: &'b [Call<'a>],
         declaration: &'b Declaration,
     ) -> Result<Tables<'b, 'a>, AllocError>
-        ensures { IfOk result (λ tables. tables.calls ≡ calls.entry) }
+        ensures { IfOk result (λ tables. tables.calls ≡ calls) }
     {
         let own = every_candidate(alloc, calls)?;
         let wishes = Ranks::by_wish(alloc, &own)?;
