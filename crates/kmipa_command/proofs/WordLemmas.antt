@@ -50,7 +50,7 @@ check_found f (Check t d w json segment) (Some found) n e is =
     let rows : rows_of f ≡ found.1 = cc in
     let P : List Row → Type 0 = λ r. IsCheck (Check t d w json segment) r in
     (sym name, subst P rows is)
-check_found f (Search t d out budget forced quiet) o n e is = absurd is
+check_found f (Search t d out budget forced quiet segment) o n e is = absurd is
 check_found f (Show file options) o n e is = absurd is
 check_found f (Write hex out) o n e is = absurd is
 
@@ -79,11 +79,11 @@ number_found f id n none value = go (one_text f id) refl
 
 pub search_found : (f : Found) (job : Job) (o : Option (Text × List Row))
     → Some (codes "search") ≡ option_map (λ p. p.0) o → Some (rows_of f) ≡ option_map (λ p. p.1) o → IsSearch job (rows_of f) → IsJob job o
-search_found f (Search t d out budget forced quiet) None n e is = cc
-search_found f (Search t d out budget forced quiet) (Some found) n e is =
+search_found f (Search t d out budget forced quiet segment) None n e is = cc
+search_found f (Search t d out budget forced quiet segment) (Some found) n e is =
     let name : codes "search" ≡ found.0 = cc in
     let rows : rows_of f ≡ found.1 = cc in
-    let P : List Row → Type 0 = λ r. IsSearch (Search t d out budget forced quiet) r in
+    let P : List Row → Type 0 = λ r. IsSearch (Search t d out budget forced quiet segment) r in
     (sym name, subst P rows is)
 search_found f (Check t d w json segment) o n e is = absurd is
 search_found f (Show file options) o n e is = absurd is

@@ -12,6 +12,7 @@ use Rattle.kmipa_runs.specs.declared.status.Status.TheVariants.{Done, Failed, Us
 use Rattle.kmipa_runs.specs.Statuses.{IsSilent}
 use Rattle.kmipa_command.specs.declared.words.Job.{Job}
 use Rattle.kmipa_command.specs.declared.words.Job.TheVariants.{Check, Search, Show, Write}
+use Rattle.kmipa_command.specs.declared.words.SegmentWords.{SegmentWords}
 use Rattle.kmipa_command.specs.declared.words.Usage.{Usage}
 
 -- a file that has to be named
@@ -49,9 +50,10 @@ abbrev pub search_files_app : App
 search_files_app = with_rule (with_rule (with_rule (new_app (codes "search")) (file_rule (codes "TRANSCRIPT")))
     (file_rule (codes "DECLARATION"))) (file_rule (codes "OUT"))
 
--- and after it `[--budget N] [--forced] [--quiet]`
+-- and after it `[--budget N] [--forced] [--quiet] [--leaves OUT] [--not-before DATE]`
 abbrev pub search_app : App
-search_app = with_rule (with_rule (with_rule search_files_app budget_rule) (flag_rule (codes "forced"))) (flag_rule (codes "quiet"))
+search_app = with_rule (with_rule (with_rule (with_rule (with_rule search_files_app budget_rule) (flag_rule (codes "forced"))) (flag_rule (codes "quiet")))
+    (option_rule (codes "leaves"))) (option_rule (codes "not-before"))
 
 -- `show FILE [--messages] [--notes]`
 abbrev pub show_app : App
@@ -86,18 +88,23 @@ pub record IsNumber (name : Text) (rows : List Row) (number : ℕ) : Type 0 wher
 abbrev pub IsText : Text → List Row → Option (Bor Text) → Type 0
 IsText name rows given = option_map (λ text. text.now) given ≡ first_of name rows
 
+-- these values ask this of a segment
+abbrev pub IsSegment : SegmentWords → List Row → Type 0
+IsSegment segment rows = IsText (codes "leaves") rows segment.leaves × IsText (codes "not-before") rows segment.not_before
+
 -- these values are of this check
 abbrev pub IsCheck : Job → List Row → Type 0
 IsCheck (Check transcript declaration witness json segment) rows = (first_of (codes "TRANSCRIPT") rows ≡ Some transcript.now)
     × (first_of (codes "DECLARATION") rows ≡ Some declaration.now) × (first_of (codes "WITNESS") rows ≡ Some witness.now)
-    × IsFlag (codes "json") rows json × IsText (codes "leaves") rows segment.leaves × IsText (codes "not-before") rows segment.not_before
+    × IsFlag (codes "json") rows json × IsSegment segment rows
 IsCheck job rows = ⊥
 
 -- these values are of this search
 abbrev pub IsSearch : Job → List Row → Type 0
-IsSearch (Search transcript declaration out budget forced quiet) rows = (first_of (codes "TRANSCRIPT") rows ≡ Some transcript.now)
+IsSearch (Search transcript declaration out budget forced quiet segment) rows = (first_of (codes "TRANSCRIPT") rows ≡ Some transcript.now)
     × (first_of (codes "DECLARATION") rows ≡ Some declaration.now) × (first_of (codes "OUT") rows ≡ Some out.now)
     × IsNumber (codes "budget") rows budget × IsFlag (codes "forced") rows forced × IsFlag (codes "quiet") rows quiet
+    × IsSegment segment rows
 IsSearch job rows = ⊥
 
 -- the subcommand with this name and these values is this job
@@ -105,8 +112,8 @@ abbrev pub IsJob : Job → Option (Text × List Row) → Type 0
 IsJob job None = ⊥
 IsJob (Check transcript declaration witness json segment) (Some found) = (found.0 ≡ codes "check")
     × IsCheck (Check transcript declaration witness json segment) found.1
-IsJob (Search transcript declaration out budget forced quiet) (Some found) = (found.0 ≡ codes "search")
-    × IsSearch (Search transcript declaration out budget forced quiet) found.1
+IsJob (Search transcript declaration out budget forced quiet segment) (Some found) = (found.0 ≡ codes "search")
+    × IsSearch (Search transcript declaration out budget forced quiet segment) found.1
 IsJob (Show file options) (Some found) = (found.0 ≡ codes "show") × (first_of (codes "FILE") found.1 ≡ Some file.now)
     × IsFlag (codes "messages") found.1 options.messages × IsFlag (codes "notes") found.1 options.notes
 IsJob (Write hex out) (Some found) = (found.0 ≡ codes "write") × (first_of (codes "HEX") found.1 ≡ Some hex.now) × (first_of (codes "OUT") found.1 ≡ Some out.now)

@@ -108,7 +108,7 @@ pub fn check_segment_files<R: Files + AllocGlobal + Eprint>(
 }
 
 /// The moment that a word tells, where there is one. A word that tells none is a mistake, which is told on standard error.
-fn moment_of<R: Eprint>(rt: &R, word: Option<&str>) -> Result<Option<i64>, Status> {
+pub fn moment_of<R: Eprint>(rt: &R, word: Option<&str>) -> Result<Option<i64>, Status> {
     let Some(text) = word else {
         return Ok(None);
     };

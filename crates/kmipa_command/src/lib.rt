@@ -8,6 +8,7 @@ mod output;
 mod printing;
 mod progress;
 mod replacing;
+mod searching;
 mod session;
 mod words;
 

@@ -7,9 +7,9 @@ use crate::output::Output;
 use crate::printing::{tell, tell_error, tell_forms, tell_rest, tell_usage, tell_words};
 use crate::progress::Progress;
 use crate::replacing::{is_input, replace_file, test_output};
+use crate::searching::{SearchWords, search_files};
 use crate::words::{Job, read_words};
-use kmipa_runs::{ShowOptions, Status, search_run, show_run, write_run};
-use kmipa_search::Watch;
+use kmipa_runs::{ShowOptions, Status, show_run, write_run};
 use std::rt::{Clock, Env, Files};
 use std::{env, io};
 
@@ -63,11 +63,15 @@ fn run_job<R: Files + Clock + AllocGlobal + Print + Eprint>(
             budget,
             forced,
             quiet,
+            segment,
         } => search_files(
             rt,
             [transcript, declaration, made],
-            budget,
-            forced,
+            SearchWords {
+                budget,
+                forced,
+                segment,
+            },
             &mut Progress::new(rt, budget, watched && !quiet),
             &mut out,
         ),
@@ -78,44 +82,6 @@ fn run_job<R: Files + Clock + AllocGlobal + Print + Eprint>(
         Ok(status) => tell(rt, out.as_slice(), status),
         Err(error) => tell_error(rt, &error),
     }
-}
-
-/// Looks for a witness of the first two files, with at most `budget` steps, and makes the third of it. Where the
-/// status is not `Done` nothing is made.
-fn search_files<R: Files + AllocGlobal + Eprint, W: Watch>(
-    rt: &R,
-    names: [&str; 3],
-    budget: u64,
-    forced: bool,
-    watch: &mut W,
-    out: &mut Vec<u8>,
-) -> io::Result<Status> {
-    if is_input(rt, names[2], &names[..2]) {
-        return Ok(Status::Usage);
-    }
-    let mut transcript = open_input(rt, names[0])?;
-    let mut declaration = open_input(rt, names[1])?;
-    test_output(rt, names[2])?;
-    let mut made = Vec::new(rt.alloc());
-    let status = search_run(
-        rt.alloc(),
-        &mut transcript,
-        &mut declaration,
-        budget,
-        forced,
-        watch,
-        out,
-        &mut made,
-    );
-    drop(transcript);
-    drop(declaration);
-    if status == Status::Refused {
-        hint_kind(rt, &names[..2], out);
-    }
-    if status == Status::Done {
-        replace_file(rt, names[2], made.as_slice())?;
-    }
-    Ok(status)
 }
 
 /// Prints the items of a file, and answers the status to end with.

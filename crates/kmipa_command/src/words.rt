@@ -1,10 +1,10 @@
 //! The words of the command line.
 
-ghost use Rattle.std.specs.Prelude.{◌≡◌, ◌≢◌, ◌⊎◌, ◌||◌, is_some, false, [], IfErr, IfOk, IfSome, OnOk, map, string_bytes};
+ghost use Rattle.std.specs.Prelude.{◌≡◌, ◌≢◌, ◌⊎◌, ◌||◌, is_some, codes, false, [], IfErr, IfOk, IfSome, OnOk, map, string_bytes};
 ghost use Rattle.clap.specs.Words.{app_of, rule_of, rows_of, found_of, kind_of, subcommand_of, subcommand_rows_of, fault_of};
 ghost use Rattle.clap.specs.declared.builder.command.Command.TheViews.{out-Command};
 ghost use Rattle.kmipa_runs.specs.Statuses.{IsSilent};
-ghost use Rattle.kmipa_command.specs.Words.{program_app, check_app, check_files_app, search_app, search_files_app, show_app, write_app, budget_rule, file_rule, flag_rule, option_rule, status_of, IsCheck, IsJob, IsSearch, IsTold};
+ghost use Rattle.kmipa_command.specs.Words.{program_app, check_app, check_files_app, search_app, search_files_app, show_app, write_app, budget_rule, file_rule, flag_rule, option_rule, status_of, IsCheck, IsJob, IsSearch, IsSegment, IsTold};
 
 use clap::builder::ValueParser;
 use clap::error::ErrorKind;
@@ -79,11 +79,16 @@ Status: 0 yes; 1 no; 2 a file is refused; 3 a device failed or memory ran out; 6
 const SEARCH_HELP: &str = "\
 Example:
   kmip_audit search transcript.ttlv declaration.ttlv witness.ttlv --budget 5000000
+  kmip_audit search monday.ttlv declaration.ttlv witness.ttlv --leaves tuesday_declaration.ttlv
 
 It prints 'yes: N steps' and writes the witness to OUT, or 'gave up: N steps' and writes nothing. A step is one call
 that is tried. A transcript is plain where no call lacks its end, no message leaves the order of its items open and no
 undone answer hides what a witness would have to give. Where a plain transcript is given up with steps left, no order
 explains it.
+
+At a yes --leaves also writes the declaration with which the audit of the next segment goes on, and prints 'left: N
+entries, last stamp DATE'; both files are written, or neither is. That DATE is the --not-before of the next segment: no
+order that takes a call at an earlier stamp is one, so an answered call that is earlier has it give up.
 
 Where standard error is a terminal, a long search tells there once a second how far it got, unless --quiet is given.
 
@@ -142,6 +147,7 @@ pub enum Job<'a> {
         forced: bool,
         /// Tells nothing on standard error while it searches.
         quiet: bool,
+        segment: SegmentWords<'a>,
     },
     /// The items of a file as text.
     Show {
@@ -166,7 +172,7 @@ pub struct Usage {
 /// The job that the words of a command line name, the first of which is the program's name.
 ///
 /// - `kmip_audit check TRANSCRIPT DECLARATION WITNESS [--json] [--leaves OUT] [--not-before DATE]`
-/// - `kmip_audit search TRANSCRIPT DECLARATION OUT [--budget N] [--forced] [--quiet]`, N from 0 to 1,000,000,000
+/// - `kmip_audit search TRANSCRIPT DECLARATION OUT [--budget N] [--forced] [--quiet] [--leaves OUT] [--not-before DATE]`, N from 0 to 1,000,000,000
 /// - `kmip_audit show FILE [--messages] [--notes]`
 /// - `kmip_audit write HEX OUT`
 pub fn read_words<'a, S: AsStr>(alloc: Global, words: &'a [S]) -> Result<Job<'a>, Usage>
@@ -204,18 +210,8 @@ fn check<'a>(alloc: Global) -> Result<Command<'a>, AllocError>
 {
     check_of_files(alloc)?
         .arg(flag(alloc, JSON, "Prints one JSON object in place of the lines"))?
-        .arg(option(
-            alloc,
-            LEAVES,
-            OUT,
-            "At a yes, the declaration that is written of what the run leaves",
-        ))?
-        .arg(option(
-            alloc,
-            NOT_BEFORE,
-            "DATE",
-            "The last stamp of the segment before, that no stamp may be earlier than",
-        ))
+        .arg(leaves(alloc))?
+        .arg(not_before(alloc))
 }
 
 /// A check without its options.
@@ -246,7 +242,9 @@ fn search<'a>(alloc: Global) -> Result<Command<'a>, AllocError>
             alloc,
             QUIET,
             "Tells nothing on standard error while it searches",
-        ))
+        ))?
+        .arg(leaves(alloc))?
+        .arg(not_before(alloc))
 }
 
 /// A search without its options.
@@ -317,6 +315,32 @@ fn budget<'a>(alloc: Global) -> Arg<'a>
         .help("The most steps that are made, from 0 to 1000000000")
 }
 
+/// The declaration of what a run leaves.
+fn leaves<'a>(alloc: Global) -> Arg<'a>
+    ensures rule { rule_of result ≡ option_rule (codes "leaves") }
+    ensures local { result.global ≡ false }
+{
+    option(
+        alloc,
+        LEAVES,
+        OUT,
+        "At a yes, the declaration that is written of what the run leaves",
+    )
+}
+
+/// The moment from which a segment goes on.
+fn not_before<'a>(alloc: Global) -> Arg<'a>
+    ensures rule { rule_of result ≡ option_rule (codes "not-before") }
+    ensures local { result.global ≡ false }
+{
+    option(
+        alloc,
+        NOT_BEFORE,
+        "DATE",
+        "The last stamp of the segment before, that no stamp may be earlier than",
+    )
+}
+
 /// An option that has a value where it is given.
 fn option<'a>(alloc: Global, name: &'a str, value: &'a str, about: &'a str) -> Arg<'a>
     ensures rule { rule_of result ≡ option_rule name.entry.now }
@@ -370,11 +394,17 @@ fn check_of<'a>(words: &ArgMatches<'a>) -> Option<Job<'a>>
         declaration: words.get_str(DECLARATION)?,
         witness: words.get_str(WITNESS)?,
         json: words.get_flag(JSON),
-        segment: SegmentWords {
-            leaves: words.get_str(LEAVES),
-            not_before: words.get_str(NOT_BEFORE),
-        },
+        segment: segment_of(words),
     })
+}
+
+fn segment_of<'a>(words: &ArgMatches<'a>) -> SegmentWords<'a>
+    ensures { IsSegment result (rows_of (found_of words.now)) }
+{
+    SegmentWords {
+        leaves: words.get_str(LEAVES),
+        not_before: words.get_str(NOT_BEFORE),
+    }
 }
 
 fn search_of<'a>(words: &ArgMatches<'a>) -> Option<Job<'a>>
@@ -387,6 +417,7 @@ fn search_of<'a>(words: &ArgMatches<'a>) -> Option<Job<'a>>
         budget: words.get_one::<u64>(BUDGET)?,
         forced: words.get_flag(FORCED),
         quiet: words.get_flag(QUIET),
+        segment: segment_of(words),
     })
 }
 

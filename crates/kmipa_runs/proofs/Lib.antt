@@ -10,6 +10,7 @@ mod LineLemmas
 mod MomentLemmas
 mod PrintLemmas
 mod SearchLemmas
+mod SegmentSearchLemmas
 mod ShownLemmas
 mod TellingLemmas
 mod YesLemmas

@@ -7,6 +7,7 @@ pub mod Lines
 pub mod Moments
 pub mod Notes
 pub mod Searches
+pub mod SegmentSearches
 pub mod Shown
 pub mod Statuses
 pub mod Telling

@@ -89,7 +89,8 @@ fn search_inputs<R: Read, W: Watch>(
     }
 }
 
-fn search_records<W: Watch>(
+/// Searches the records.
+pub fn search_records<W: Watch>(
     alloc: Global,
     transcript: &Transcript,
     declaration: &Declaration,
@@ -123,7 +124,7 @@ fn if_forced(
 
 /// Appends the lines of what was found to `out`, and a witness that was found to `made`; nothing to either where
 /// memory runs out.
-fn tell_searched(
+pub fn tell_searched(
     alloc: Global,
     searched: &Searched,
     out: &mut Vec<u8>,
@@ -170,7 +171,7 @@ fn tell_witness(
 }
 
 /// The lines of what a search found, and before them whether the transcript is forced, where that was asked for.
-fn searched_lines(alloc: Global, searched: &Searched) -> Result<Lines, AllocError>
+pub fn searched_lines(alloc: Global, searched: &Searched) -> Result<Lines, AllocError>
     ensures { IfOk result (λ lines. (lines.status ≡ found_status searched.now.found)
         × (string_bytes lines.text ≡ forced_text searched.now.forced ++ found_text searched.now.found)) }
 {
