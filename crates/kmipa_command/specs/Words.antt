@@ -50,7 +50,7 @@ abbrev pub search_files_app : App
 search_files_app = with_rule (with_rule (with_rule (new_app (codes "search")) (file_rule (codes "TRANSCRIPT")))
     (file_rule (codes "DECLARATION"))) (file_rule (codes "OUT"))
 
--- and after it `[--budget N] [--forced] [--quiet] [--leaves OUT] [--not-before DATE]`
+-- and after it `[--budget N] [--forced] [--quiet] [--leaves LEFT] [--not-before DATE]`
 abbrev pub search_app : App
 search_app = with_rule (with_rule (with_rule (with_rule (with_rule search_files_app budget_rule) (flag_rule (codes "forced"))) (flag_rule (codes "quiet")))
     (option_rule (codes "leaves"))) (option_rule (codes "not-before"))

@@ -268,12 +268,7 @@ fn stage_beside<'a, R: Files + AllocGlobal>(
     }
 }
 
-fn fill<R: Files>(
-    rt: &R,
-    beside: &str,
-    bytes: &[u8],
-    there: Option<&Metadata>,
-) -> io::Result<()> {
+fn fill<R: Files>(rt: &R, beside: &str, bytes: &[u8], there: Option<&Metadata>) -> io::Result<()> {
     let mut file = OpenOptions::new().write(true).open(rt, beside)?;
     file.write_all(bytes)?;
     drop(file);

@@ -2,7 +2,9 @@
 
 use crate::checking::moment_of;
 use crate::files::{hint_kind, open_input};
-use crate::replacing::{Content, are_one_output, is_input, replace_both, replace_file, test_output};
+use crate::replacing::{
+    Content, are_one_output, is_input, replace_both, replace_file, test_output,
+};
 use crate::words::SegmentWords;
 use kmipa_runs::{Status, search_run, search_segment_run};
 use kmipa_search::Watch;

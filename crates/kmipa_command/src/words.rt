@@ -25,6 +25,8 @@ const HEX: &str = "HEX";
 
 const OUT: &str = "OUT";
 
+const LEFT: &str = "LEFT";
+
 const BUDGET: &str = "budget";
 
 const FORCED: &str = "forced";
@@ -172,7 +174,7 @@ pub struct Usage {
 /// The job that the words of a command line name, the first of which is the program's name.
 ///
 /// - `kmip_audit check TRANSCRIPT DECLARATION WITNESS [--json] [--leaves OUT] [--not-before DATE]`
-/// - `kmip_audit search TRANSCRIPT DECLARATION OUT [--budget N] [--forced] [--quiet] [--leaves OUT] [--not-before DATE]`, N from 0 to 1,000,000,000
+/// - `kmip_audit search TRANSCRIPT DECLARATION OUT [--budget N] [--forced] [--quiet] [--leaves LEFT] [--not-before DATE]`, N from 0 to 1,000,000,000
 /// - `kmip_audit show FILE [--messages] [--notes]`
 /// - `kmip_audit write HEX OUT`
 pub fn read_words<'a, S: AsStr>(alloc: Global, words: &'a [S]) -> Result<Job<'a>, Usage>
@@ -210,7 +212,7 @@ fn check<'a>(alloc: Global) -> Result<Command<'a>, AllocError>
 {
     check_of_files(alloc)?
         .arg(flag(alloc, JSON, "Prints one JSON object in place of the lines"))?
-        .arg(leaves(alloc))?
+        .arg(leaves(alloc, OUT))?
         .arg(not_before(alloc))
 }
 
@@ -243,7 +245,7 @@ fn search<'a>(alloc: Global) -> Result<Command<'a>, AllocError>
             QUIET,
             "Tells nothing on standard error while it searches",
         ))?
-        .arg(leaves(alloc))?
+        .arg(leaves(alloc, LEFT))?
         .arg(not_before(alloc))
 }
 
@@ -315,15 +317,15 @@ fn budget<'a>(alloc: Global) -> Arg<'a>
         .help("The most steps that are made, from 0 to 1000000000")
 }
 
-/// The declaration of what a run leaves.
-fn leaves<'a>(alloc: Global) -> Arg<'a>
+/// The declaration of what a run leaves, by this name.
+fn leaves<'a>(alloc: Global, value: &'a str) -> Arg<'a>
     ensures rule { rule_of result ≡ option_rule (codes "leaves") }
     ensures local { result.global ≡ false }
 {
     option(
         alloc,
         LEAVES,
-        OUT,
+        value,
         "At a yes, the declaration that is written of what the run leaves",
     )
 }
