@@ -144,7 +144,7 @@ module _ (marks : List MarkOf) (declared : DeclarationOf) (since : Option ℤ) (
       let plain = decided_plain a.calls budget count decided in
       let accepted : IsAcceptedSince marks declared since turns = record { accepted = a; since_then = since_then plain.0 plain.1 e } in
       elim (accepted_since_lem marks declared since turns r accepted (Ok v) checks) [
-        | inl yes ↦ absurd cc
+        | inl said ↦ absurd cc
         | inr memory ↦ absurd cc
       ]
 
@@ -152,7 +152,7 @@ module _ (marks : List MarkOf) (declared : DeclarationOf) (since : Option ℤ) (
   pub stops : (fault : CheckFault) → Checks marks declared turns (Err fault) → SearchStops marks fault
   stops (check.Outside number side o) h = h
   stops (check.Witness f) h = elim (accepted_is_yes_lem marks declared turns r a (Err (check.Witness f)) h) [
-    | inl yes ↦ absurd cc
+    | inl said ↦ absurd cc
     | inr memory ↦ absurd cc
   ]
   stops check.Memory h = tt
@@ -180,6 +180,10 @@ module _ (marks : List MarkOf) (declared : DeclarationOf) (since : Option ℤ) (
       by verdict.Yes is = absurd (yes_hands_out v handed (λ l. LeadsFrom l) is none leads)
       by (verdict.No refused) is =
           (found.2, (found.0.calls, found.0.are, λ decided e. none_since marks declared since (witness_of witness) r found.0 v refused is checks budget count decided e))
+
+-- the same of what was found
+pub found_so : (marks : List MarkOf) (declared : DeclarationOf) (budget : ℕ) (found so : Found) → found ≡ so → Finds marks declared budget found → Finds marks declared budget so
+found_so marks declared budget found so is finds = let P : Found → Type 0 = λ f. Finds marks declared budget f in subst P is finds
 
 -- a search that gives up says so of every moment
 pub gives_up : (marks : List MarkOf) (declared : DeclarationOf) (since : Option ℤ) (count budget : ℕ) → AreRecorded marks → Finds marks declared budget (GaveUp count)
@@ -275,10 +279,10 @@ module _ (segment : FoundSegment) (t d : List ℕ) (since : Option ℤ) (budget 
       }
 
   never : (f : Found) (o : Option Left) → segment.searched.found ≡ f → segment.left ≡ o → (FindsSince a.marks a.declared since budget f o → ⊥) → ⊥
-  never f o found is no =
+  never f o found is none =
       let P : Found → Type 0 = λ x. FindsSince a.marks a.declared since budget x segment.left in
       let Q : Option Left → Type 0 = λ x. FindsSince a.marks a.declared since budget f x in
-      no (subst Q is (subst P found a.found.1))
+      none (subst Q is (subst P found a.found.1))
 
   made_at : (witness : Witness) (count : ℕ) → segment.searched.found ≡ Yes witness count → Makes segment.searched.found made → IsWitness made (witness_of witness)
   made_at witness count found makes = let P : Found → Type 0 = λ f. Makes f made in subst P found makes

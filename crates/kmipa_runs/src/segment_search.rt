@@ -131,14 +131,12 @@ fn search_segment<W: Watch>(
     ensures { AreRecorded (transcript_of transcript.now)
         → SearchesSegment (transcript_of transcript.now) (declaration_of declaration.now) since budget forced result }
 {
-    let Searched { forced, found } = search_records(
-        alloc,
-        transcript,
-        declaration,
-        budget,
-        forced,
-        watch,
-    )?;
+    let searched = match search_records(alloc, transcript, declaration, budget, forced, watch) {
+        Ok(searched) => searched,
+        Err(fault) => return Err(fault),
+    };
+    let forced = searched.forced;
+    let found = searched.found;
     match found {
         Found::Yes(witness, count) => go_on(
             alloc,
@@ -168,8 +166,12 @@ fn go_on(
         → Finds (transcript_of transcript.now) (declaration_of declaration.now) budget (Yes witness count)
         → SearchesSegment (transcript_of transcript.now) (declaration_of declaration.now) since budget asked result }
 {
-    let checked = check_segment(alloc, transcript, declaration, &witness, since)?;
-    match checked.left {
+    let checked = match check_segment(alloc, transcript, declaration, &witness, since) {
+        Ok(checked) => checked,
+        Err(fault) => return Err(fault),
+    };
+    let left = checked.left;
+    match left {
         Some(left) => Ok(FoundSegment {
             searched: Searched {
                 forced,
