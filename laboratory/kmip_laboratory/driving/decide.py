@@ -44,22 +44,30 @@ class Decision(NamedTuple):
 
 def decide(folder: Path, auditor: Auditor, budget: int) -> Decision:
     """Searches an order that explains the folder's recording. Where there is none, the folder `part` in it gets the few
-    calls that convict already, and the order of them that is checked."""
-    found = auditor.search(*_files(folder), budget)
-    undecided = Decision(found.text, found.status, [])
+    calls that convict already, and the order of them that is checked. A long search comes last: where a short one finds
+    no order, a few of the calls mostly convict soon."""
+    short = min(budget, STEPS_OF_A_PART)
+    found = auditor.search(*_files(folder), short)
     if found.outcome is not Outcome.GAVE_UP:
-        return undecided
+        return Decision(found.text, found.status, [])
     transcript = read_transcript(str(folder / TRANSCRIPT))
     declaration = read_declaration(str(folder / DECLARATION))
-    with Trials(transcript, declaration, False, min(budget, STEPS_OF_A_PART), auditor) as trials:
+    with Trials(transcript, declaration, False, short, auditor) as trials:
         left = shrunk(trials, transcript.calls)
-        if left is None and found.decides(budget) and all(map(is_plain, transcript.calls)):
+        if left is None and not found.decides(short) and short < budget:
+            found = auditor.search(*_files(folder), budget)
+        if left is None and _is_decided(found, budget, transcript.calls):
             left = transcript.calls
         if left is None:
-            return undecided
+            return Decision(found.text, found.status, [])
         _write(folder / PART, trials, left)
     numbers = [call.number for call in left]
     return Decision(found.text, 1, numbers, auditor.explained(*_files(folder / PART)))
+
+
+def _is_decided(found: Verdict, budget: int, calls: List[Call]) -> bool:
+    """Whether the search says that no order explains these calls."""
+    return found.outcome is Outcome.GAVE_UP and found.decides(budget) and all(map(is_plain, calls))
 
 
 def _files(folder: Path) -> List[str]:
