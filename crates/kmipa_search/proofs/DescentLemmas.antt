@@ -1,9 +1,14 @@
 -- What a search keeps that takes calls without an end mark.
-use Rattle.std.proofs.Common.{◌≡◌, ◌<◌, ◌≤◌, ℕ, suc, ◌+◌, ◌-◌, List, [], ◌∷◌, ◌++◌, length, refl, sym, ap, ◌∙◌, subst, arith}
+use Rattle.std.proofs.Common.{◌≡◌, ◌<◌, ◌≤◌, ℕ, suc, ◌+◌, ◌-◌, List, [], ◌∷◌, ◌++◌, map, length, All, refl, sym, ap, ◌∙◌, subst, arith}
 use Rattle.std.proofs.lemmas.List.{length-append}
+use Rattle.std.proofs.lemmas.List.Elements.{All-contains}
 use Rattle.kmipa_store.specs.Ledger.{Meaning, LedgerState, gone_back, back_from}
 use Rattle.kmipa_store.specs.Choices.{IsSound}
-use Rattle.kmipa_search.specs.Guessing.{AreSoundMarks}
+use Rattle.kmipa_record.specs.Marks.{MarkOf}
+use Rattle.kmipa_check.specs.Calls.{IsRecorded, call_of}
+use Rattle.kmipa_check.specs.declared.call.Call.{Call}
+use Rattle.kmipa_search.specs.Guessing.{AreAllRecorded, AreSoundMarks}
+use Rattle.kmipa_search.proofs.PermutationLemmas.{contains_mapped}
 
 -- the calls that are taken, their turns, the depth of the newest mark, and the steps
 pub record Descending {V : Type 0} {T : Type 0} (budget : ℕ) (path : List V) (turns : List T) (depth steps : ℕ) (u : LedgerState) : Type 0 where
@@ -29,9 +34,9 @@ module _ {V : Type 0} {T : Type 0} (budget : ℕ) where
       }))
 
   module _ (path : List V) (turns : List T) (depth steps : ℕ) (u : LedgerState) (g : Descending budget path turns depth steps u) where
-    pub descending_taken : (p : V) (t : T) (mark : ℕ) (v : LedgerState) (paths : List V) (more : List T) → steps < budget → IsSound v.now → v.marks ≡ u.now ∷ u.marks
+    pub descending_taken : {p : V} {t : T} (mark : ℕ) (v : LedgerState) (paths : List V) (more : List T) → steps < budget → IsSound v.now → v.marks ≡ u.now ∷ u.marks
         → mark ≡ length v.marks → paths ≡ path ++ p ∷ [] → more ≡ turns ++ t ∷ [] → Descending budget paths more mark (steps + 1) v
-    descending_taken p t mark v paths more left sound marks deep is are =
+    descending_taken {p} {t} mark v paths more left sound marks deep is are =
         let P : List V → Type 0 = λ ps. Descending budget ps more mark (steps + 1) v in
         let Q : List T → Type 0 = λ ts. Descending budget (path ++ p ∷ []) ts mark (steps + 1) v in
         let long : length (path ++ p ∷ []) ≡ suc (length path) = omega (arith, length-append path (p ∷ [])) in
@@ -71,3 +76,7 @@ module _ {V : Type 0} {T : Type 0} (budget : ℕ) where
               paid = omega (arith, g.paid, long);
               turned = omega (arith, g.turned, long, less);
             })
+
+-- the calls are recorded calls
+pub all_recorded : (marks : List MarkOf) (calls : List Call) → All (IsRecorded marks) (map call_of calls) → AreAllRecorded calls
+all_recorded marks calls each c has = (marks, All-contains (IsRecorded marks) (map call_of calls) (call_of c) each (contains_mapped call_of calls c has))

@@ -55,7 +55,7 @@ impl<'b, 'a> Tables<'b, 'a> {
         calls: &'b [Call<'a>],
         declaration: &'b Declaration,
     ) -> Result<Tables<'b, 'a>, AllocError>
-        ensures { IfOk result (λ tables. tables.calls ≡ calls) }
+        ensures { IfOk result (λ tables. tables.calls ≡ calls.entry) }
     {
         let own = every_candidate(alloc, calls)?;
         let wishes = Ranks::by_wish(alloc, &own)?;
