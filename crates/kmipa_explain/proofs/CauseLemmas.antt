@@ -1,9 +1,11 @@
 -- What the reasons of items rest on.
-use Rattle.std.proofs.Common.{◌≢◌, ℕ, List, refl}
+use Rattle.std.proofs.Common.{◌≢◌, ℕ, List, Result, Ok, Err, refl}
+use Rattle.std.specs.Prelude.{IfOk}
 use Rattle.kmipa_record.specs.Declarations.{DeclarationOf}
 use Rattle.kmipa_ops.specs.declared.why.Why.{Why}
 use Rattle.kmipa_ops.specs.declared.why.Why.TheVariants.{EarlierCallLate, StampRunsBack, BatchShape, OperationDiffers}
 use Rattle.kmipa_check.specs.Steps.{StepOf}
+use Rattle.kmipa_check.specs.declared.fault.CheckFault.{CheckFault}
 use Rattle.kmipa_explain.specs.Causes.{TellsCause}
 use Rattle.kmipa_explain.specs.Explainable.{IsOfItems}
 use Rattle.kmipa_explain.specs.Holding.{TellsItem}
@@ -17,3 +19,12 @@ other_cause declared order turn c item StampRunsBack cause o e told = absurd (o.
 other_cause declared order turn c item BatchShape cause o e told = absurd (o.shaped refl)
 other_cause declared order turn c item OperationDiffers cause o e told = absurd (e refl)
 other_cause declared order turn c item why cause o e told = told
+
+pub of_items : (why : Why) → why ≢ EarlierCallLate → why ≢ StampRunsBack → why ≢ BatchShape → IsOfItems why
+of_items why a b d = record { in_time = a; stamped = b; shaped = d }
+
+-- the same of what is answered
+pub other_cause_in : (declared : DeclarationOf) (order : List StepOf) (turn : ℕ) (c : StepOf) (item : ℕ) (why : Why) (result : Result Cause CheckFault) → IsOfItems why → why ≢ OperationDiffers
+    → IfOk result (λ cause. TellsOfHeld declared order turn c item (TellsItem why c.response.stamp cause)) → IfOk result (TellsCause declared order turn c item why)
+other_cause_in declared order turn c item why (Ok cause) o e told = other_cause declared order turn c item why cause o e told
+other_cause_in declared order turn c item why (Err fault) o e told = told

@@ -47,3 +47,10 @@ module _ {A B : Type 0} (xs : List A) (ys : List B) (item : ℕ) (x : A) (y : B)
 
   pub answered_within : item - 1 < length ys
   answered_within = slice_get_within ys (item - 1) y answered_at
+
+  -- what stands at the item's place on each side is of the pair
+  pub pair_is : (a : A) (b : B) → at_item xs item ≡ Some a → at_item ys item ≡ Some b → (a ≡ x) × (b ≡ y)
+  pair_is a b on_left on_right =
+      let p : at_item xs item ≡ Some x = at_before xs item pair_some ∙ asked_at in
+      let q : at_item ys item ≡ Some y = at_before ys item pair_some ∙ answered_at in
+      (cc, cc)

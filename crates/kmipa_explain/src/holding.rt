@@ -236,10 +236,17 @@ fn entry_named<'a>(entries: &'a [Entry], id: &str) -> Option<&'a Entry>
     let mut place = 0;
     'entries: while place < entries.len() {
         let entry = &entries[place];
-        if id == entry.id.as_str() {
+        if is_named(entry, id) {
             return Some(entry);
         }
         place += 1;
     }
     None
+}
+
+/// Whether an object has this identifier.
+fn is_named(entry: &Entry, id: &str) -> bool
+    ensures { result ≡ bytes_eq id.now (entry_of entry.now).id }
+{
+    id == entry.id.as_str()
 }
