@@ -13,17 +13,20 @@ ghost use Rattle.kmipa_attrs.specs.declared.side.Side.{Side};
 
 /// What is read of attributes is said, nothing else is, and the fault is the lowest that holds.
 pub fn attributes_are_read()
-    ensures { (side : Side) (ts : Trees) → Reads attr_number (SaysAttributes ts) (AttributesFault side ts) (attributes_in side ts) }
+    ensures { (side : Side) (ts : Trees)
+        → Reads attr_number (SaysAttributes ts) (AttributesFault side ts) (attributes_in side ts) }
 {}
 
 /// What is read of a filter is said, nothing else is, and the fault is the lowest that holds.
 pub fn filters_are_read()
-    ensures { (ts : Trees) (maximum : Option ℤ) (is_unknown : Bool) → Reads attr_number (SaysFilter ts maximum is_unknown) (FilterFault ts) (filter_in maximum is_unknown ts) }
+    ensures { (ts : Trees) (maximum : Option ℤ) (is_unknown : Bool)
+        → Reads attr_number (SaysFilter ts maximum is_unknown) (FilterFault ts) (filter_in maximum is_unknown ts) }
 {}
 
 /// A filter is loose exactly where it asks something that isn't judged.
 pub fn loose_filters_are_not_all_judged()
-    ensures { (ts : Trees) (maximum : Option ℤ) (is_unknown : Bool) → (is_loose ts maximum is_unknown ≡ true) ↔ IsLoose ts maximum is_unknown }
+    ensures { (ts : Trees) (maximum : Option ℤ) (is_unknown : Bool) → (is_loose ts maximum is_unknown ≡ true)
+        ↔ IsLoose ts maximum is_unknown }
 {}
 
 /// Memory is no fault of attributes.

@@ -24,9 +24,11 @@ use std::alloc::{AllocError, Global};
 /// The Attributes item that says the set: names first, then each other attribute that is there.
 /// A name that stands in the set twice is said once.
 pub fn write_attrs(alloc: Global, set: &AttrSet) -> Result<Item, AllocError>
-    ensures order { IfOk result (λ item. tree item ≡ structure attributes_tag (written_children (attributes_of set.now))) }
+    ensures order { IfOk result
+        (λ item. tree item ≡ structure attributes_tag (written_children (attributes_of set.now))) }
     ensures once { IfOk result (λ item. SaysWhole (tree item) (each_once (attributes_of set.now))) }
-    ensures exact { IfOk result (λ item. HasNoRepeats (attributes_of set.now).names → SaysWhole (tree item) (attributes_of set.now)) }
+    ensures exact { IfOk result
+        (λ item. HasNoRepeats (attributes_of set.now).names → SaysWhole (tree item) (attributes_of set.now)) }
 {
     let mut children = write_names(alloc, set.names.as_slice(), false)?;
     put_singles(&mut children, set)?;
@@ -35,9 +37,12 @@ pub fn write_attrs(alloc: Global, set: &AttrSet) -> Result<Item, AllocError>
 
 /// The shortest Attributes item that says the set: as `write_attrs`, but for names of type 1, whose type is left out.
 pub fn write_short_attrs(alloc: Global, set: &AttrSet) -> Result<Item, AllocError>
-    ensures order { IfOk result (λ item. tree item ≡ structure attributes_tag (short_children (attributes_of set.now))) }
-    ensures exact { IfOk result (λ item. HasNoRepeats (attributes_of set.now).names → SaysWhole (tree item) (attributes_of set.now)) }
-    ensures shortest { IfOk result (λ item. (other : Tree) → SaysWhole other (attributes_of set.now) → size (tree item) ≤ size other) }
+    ensures order { IfOk result
+        (λ item. tree item ≡ structure attributes_tag (short_children (attributes_of set.now))) }
+    ensures exact { IfOk result
+        (λ item. HasNoRepeats (attributes_of set.now).names → SaysWhole (tree item) (attributes_of set.now)) }
+    ensures shortest { IfOk result
+        (λ item. (other : Tree) → SaysWhole other (attributes_of set.now) → size (tree item) ≤ size other) }
 {
     let mut children = write_names(alloc, set.names.as_slice(), true)?;
     put_singles(&mut children, set)?;
@@ -46,7 +51,8 @@ pub fn write_short_attrs(alloc: Global, set: &AttrSet) -> Result<Item, AllocErro
 
 /// One more child for each attribute that has one value.
 fn put_singles(children: &mut Vec<Item>, set: &AttrSet) -> Result<(), AllocError>
-    ensures { OnOk result (trees children.new.items ≡ with_scalars (trees children.old.items) (single_rows (attributes_of set.now))) }
+    ensures { OnOk result
+        (trees children.new.items ≡ with_scalars (trees children.old.items) (single_rows (attributes_of set.now))) }
 {
     put(children, OBJECT_TYPE, set.object_type)?;
     put(children, CRYPTOGRAPHIC_ALGORITHM, set.algorithm)?;
@@ -64,7 +70,8 @@ fn put_singles(children: &mut Vec<Item>, set: &AttrSet) -> Result<(), AllocError
 /// One more child, where the attribute is there.
 fn put<T: Held>(children: &mut Vec<Item>, tag: u32, value: Option<T>) -> Result<(), AllocError>
     requires { tag < 0x100_0000 }
-    ensures { OnOk result (trees children.new.items ≡ with_scalar (trees children.old.items) tag (option_map T.made value)) }
+    ensures { OnOk result
+        (trees children.new.items ≡ with_scalar (trees children.old.items) tag (option_map T.made value)) }
 {
     if let Some(value) = value {
         children.push(value.item(Tag { number: tag }))?;

@@ -30,7 +30,9 @@ pub(crate) fn take_along<L: Ledger>(
     requires readable { AreReadable (pairs_of (request_of request.now) (response_of response.now)) }
     requires counted { length (places_of (order_given (maybe_lent places)) count) ≡ count }
     requires from_one { IfSome (maybe_lent places) (λ ps. All (λ p. 1 ≤ p) ps) }
-    ensures { AlongTaken (rules_of rules.now) response.now.stamp (L.state ledger.old) (pairs_of (request_of request.now) (response_of response.now)) (places_of (order_given (maybe_lent places.entry)) count) result (L.state ledger.new) }
+    ensures { AlongTaken (rules_of rules.now) response.now.stamp (L.state ledger.old)
+        (pairs_of (request_of request.now) (response_of response.now))
+        (places_of (order_given (maybe_lent places.entry)) count) result (L.state ledger.new) }
 {
     let mut placeholder = Placeholder::new();
     for position in 0..count {
@@ -56,7 +58,8 @@ fn place_at(places: Option<&[usize]>, position: usize) -> usize
     requires last { position < usize.MAX }
     requires within { IfSome (maybe_lent places) (λ ps. position < length ps) }
     requires from_one { IfSome (maybe_lent places) (λ ps. All (λ p. 1 ≤ p) ps) }
-    ensures there { slice_get (places_of (order_given (maybe_lent places.entry)) (position + 1)) position ≡ Some result }
+    ensures there { slice_get (places_of (order_given (maybe_lent places.entry)) (position + 1)) position
+        ≡ Some result }
     ensures last { result < usize.MAX }
 {
     match places {
@@ -77,7 +80,9 @@ fn take_pair<L: Ledger>(
 ) -> Result<(), Refusal>
     requires sound { IsSound (L.state ledger.old).now }
     requires readable { AreReadable (pairs_of (request_of request.now) (response_of response.now)) }
-    ensures { PairTaken (rules_of rules.now) (L.state ledger.old) (placeholder_of placeholder.old) response.now.stamp (slice_get (pairs_of (request_of request.now) (response_of response.now)) place) result (L.state ledger.new) (placeholder_of placeholder.new) }
+    ensures { PairTaken (rules_of rules.now) (L.state ledger.old) (placeholder_of placeholder.old) response.now.stamp
+        (slice_get (pairs_of (request_of request.now) (response_of response.now)) place) result (L.state ledger.new)
+        (placeholder_of placeholder.new) }
 {
     let Some(ask) = request.items.get(place) else {
         return Ok(());

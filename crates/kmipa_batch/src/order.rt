@@ -25,7 +25,8 @@ pub fn is_taking_order(
     response: &Response,
     places: &[usize],
 ) -> Result<bool, AllocError>
-    ensures { IfOk result (λ reported. IsTrue reported ↔ AreTakingOrder (request_of request.now) (response_of response.now) places.now) }
+    ensures { IfOk result
+        (λ reported. IsTrue reported ↔ AreTakingOrder (request_of request.now) (response_of response.now) places.now) }
 {
     if !stand_once(alloc, places, answered_count(request, response))? {
         return Ok(false);

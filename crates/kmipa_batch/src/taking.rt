@@ -42,7 +42,8 @@ pub fn take_call<L: Ledger>(
     requires readable { IsReadableCall (request_of request.now) (response_of response.now) }
     requires from_one { IfSome (maybe_lent places) (λ ps. All (λ p. 1 ≤ p) ps) }
     requires order { MayTake (request_of request.now) (response_of response.now) (order_given (maybe_lent places)) }
-    ensures { CallTakenAlong (rules_of rules.now) (L.state ledger.old) (request_of request.now) (response_of response.now) (order_given (maybe_lent places.entry)) result (L.state ledger.new) }
+    ensures { CallTakenAlong (rules_of rules.now) (L.state ledger.old) (request_of request.now)
+        (response_of response.now) (order_given (maybe_lent places.entry)) result (L.state ledger.new) }
 {
     if is_refused_message(response) {
         return Ok(());
@@ -66,7 +67,8 @@ pub fn take_call<L: Ledger>(
 /// Spends the mark of a call whose items were taken.
 fn end<L: Ledger>(ledger: &mut L, mark: Mark, option: BatchOption, failed: Option<usize>)
     requires { mark.depth ≡ length (L.state ledger.old).marks }
-    ensures { L.state ledger.new ≡ (if undoes option failed then undone (L.state ledger.old) else kept (L.state ledger.old)) }
+    ensures { L.state ledger.new
+        ≡ (if undoes option failed then undone (L.state ledger.old) else kept (L.state ledger.old)) }
 {
     if is_undone(option, failed) {
         ledger.undo(mark);
@@ -92,7 +94,8 @@ fn take_items<L: Ledger>(
     requires failed_at { FailedAt (response_of response.now).items failed }
     requires from_one { IfSome (maybe_lent places) (λ ps. All (λ p. 1 ≤ p) ps) }
     requires order { MayTake (request_of request.now) (response_of response.now) (order_given (maybe_lent places)) }
-    ensures { Ran (rules_of rules.now) (L.state ledger.old) (request_of request.now) (response_of response.now) (order_given (maybe_lent places.entry)) result (L.state ledger.new) }
+    ensures { Ran (rules_of rules.now) (L.state ledger.old) (request_of request.now) (response_of response.now)
+        (order_given (maybe_lent places.entry)) result (L.state ledger.new) }
 {
     let Some(unshaped) = first_unshaped(request, response, failed) else {
         let count = taken_count(request, response, places);

@@ -38,7 +38,9 @@ pub(crate) fn why_not_added<L: Ledger>(
     has_bytes: bool,
     answered: &Registered,
 ) -> Option<Why>
-    ensures { result ≡ find (adding_speaks (rules_of rules.now) (cards_of (L.state ledger.now).now.objects) kind (map name_of names.now) has_bytes (registered_of answered.now)) whys }
+    ensures { result ≡ find
+        (adding_speaks (rules_of rules.now) (cards_of (L.state ledger.now).now.objects) kind
+        (map name_of names.now) has_bytes (registered_of answered.now)) whys }
 {
     if ledger.find(answered.id).is_some() {
         return Some(Why::IdentifierTaken);
@@ -56,7 +58,8 @@ pub(crate) fn why_not_added<L: Ledger>(
 }
 
 fn is_name_taken<L: Ledger>(ledger: &L, rules: &Rules, names: &[Name]) -> bool
-    ensures { result ≡ name_taken (rules_of rules.now) (cards_of (L.state ledger.now).now.objects) (map name_of names.now) }
+    ensures { result ≡ name_taken (rules_of rules.now) (cards_of (L.state ledger.now).now.objects)
+        (map name_of names.now) }
 {
     rules.unique_names && any_live_named(ledger, names)
 }
@@ -68,7 +71,11 @@ pub(crate) fn add<L: Ledger>(
     placeholder: &mut Placeholder,
     object: Newborn,
 ) -> Result<(), AllocError>
-    ensures { Leaves (L.state ledger.old) (with_own (L.state ledger.old).now (newborn (L.moment ledger.old) (lent object.entry.id) object.entry.kind (attributes_of object.entry.attributes)) (maybe_lent object.entry.material)) (Some (lent object.entry.id)) result (L.state ledger.new) (placeholder_of placeholder.new) }
+    ensures { Leaves (L.state ledger.old)
+        (with_own (L.state ledger.old).now
+        (newborn (L.moment ledger.old) (lent object.entry.id) object.entry.kind
+        (attributes_of object.entry.attributes)) (maybe_lent object.entry.material))
+        (Some (lent object.entry.id)) result (L.state ledger.new) (placeholder_of placeholder.new) }
 {
     let Newborn {
         id,

@@ -58,7 +58,9 @@ pub(crate) fn why_not_changed<L: Ledger>(
 ) -> Option<Why>
     requires place { place ≡ place_meant (L.state ledger.now).now.objects (maybe_lent about) }
     requires within { IfSome place (λ p. p < length (L.state ledger.now).now.objects) }
-    ensures { result ≡ find (change_speaks (L.state ledger.now).now.objects (maybe_lent about.entry) (L.moment ledger.now) change (maybe_lent shown.entry)) whys }
+    ensures { result ≡ find
+        (change_speaks (L.state ledger.now).now.objects (maybe_lent about.entry) (L.moment ledger.now) change
+        (maybe_lent shown.entry)) whys }
 {
     let Some(place) = place else {
         return Some(Why::NoSuchObject);
@@ -90,7 +92,13 @@ pub(crate) fn change_object<L: Ledger>(
     change: Change,
 ) -> Result<(), AllocError>
     requires { IfSome place (λ p. p < length (L.state ledger.old).now.objects) }
-    ensures { Changes (L.state ledger.old) (record { objects = changed_at (L.state ledger.old).now.objects place (held_left change (L.moment ledger.old)); secrets = (L.state ledger.old).now.secrets }) result (L.state ledger.new) }
+    ensures { Changes (L.state ledger.old)
+        (record {
+          objects = changed_at (L.state ledger.old).now.objects place
+              (held_left change (L.moment ledger.old));
+          secrets = (L.state ledger.old).now.secrets;
+        }) result
+        (L.state ledger.new) }
 {
     let Some(place) = place else {
         return Ok(());

@@ -79,7 +79,8 @@ impl Deed for Create {
 
 /// What a payload shows, if it is one of a Create.
 fn shown<'a>(payload: &'a Option<Payload<'a>>) -> Option<&'a Registered<'a>>
-    ensures { option_map (λ x. registered_of x.now) result ≡ option_and_then seen_created (option_map payload_of payload.now) }
+    ensures { option_map (λ x. registered_of x.now) result
+        ≡ option_and_then seen_created (option_map payload_of payload.now) }
 {
     match payload {
         Some(Payload::Create(created)) => Some(created),
@@ -94,7 +95,9 @@ pub(crate) fn why_not_created<L: Ledger>(
     attributes: &AttrSet,
     created: &Registered,
 ) -> Option<Why>
-    ensures { result ≡ find (create_speaks (rules_of rules.now) (cards_of (L.state ledger.now).now.objects) (attributes_of attributes.now) (registered_of created.now)) whys }
+    ensures { result ≡ find
+        (create_speaks (rules_of rules.now) (cards_of (L.state ledger.now).now.objects) (attributes_of attributes.now)
+        (registered_of created.now)) whys }
 {
     let rule = Rule::of(ObjectType::SymmetricKey, attributes);
     why_not_added(
@@ -115,7 +118,10 @@ pub(crate) fn create<L: Ledger>(
     attributes: &AttrSet,
     id: &str,
 ) -> Result<(), AllocError>
-    ensures { Leaves (L.state ledger.old) (with_own (L.state ledger.old).now (newborn (L.moment ledger.old) id.now SymmetricKey (attributes_of attributes.now)) None) (Some id.now) result (L.state ledger.new) (placeholder_of placeholder.new) }
+    ensures { Leaves (L.state ledger.old)
+        (with_own (L.state ledger.old).now
+        (newborn (L.moment ledger.old) id.now SymmetricKey (attributes_of attributes.now)) None) (Some id.now) result
+        (L.state ledger.new) (placeholder_of placeholder.new) }
 {
     let newborn = Newborn {
         id,

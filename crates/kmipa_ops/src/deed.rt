@@ -68,9 +68,13 @@ pub(crate) trait Deed {
         payload: &Option<Payload>,
     ) -> Result<Option<Why>, AllocError>
         requires sound { IsSound (L.state ledger.now).now }
-        requires place { place ≡ place_about (L.state ledger.now).now.objects (placeholder_of placeholder.now) (row_subject (row_of (asked self.now))) }
+        requires place { place ≡ place_about (L.state ledger.now).now.objects (placeholder_of placeholder.now)
+            (row_subject (row_of (asked self.now))) }
         requires within { IfSome place (λ p. p < length (L.state ledger.now).now.objects) }
-        ensures { IfOk result (λ why. why ≡ find (done_speaks (rules_of rules.now) (L.state ledger.now).now (placeholder_of placeholder.now) (L.moment ledger.now) (asked self.now) (option_map payload_of payload.now)) whys) };
+        ensures { IfOk result
+            (λ why. why
+            ≡ find (done_speaks (rules_of rules.now) (L.state ledger.now).now (placeholder_of placeholder.now)
+            (L.moment ledger.now) (asked self.now) (option_map payload_of payload.now)) whys) };
 
     /// Leaves the ledger and the placeholder as it does where nothing speaks against it.
     fn leave<L: Ledger>(
@@ -82,8 +86,14 @@ pub(crate) trait Deed {
         payload: &Option<Payload>,
     ) -> Result<(), AllocError>
         requires sound { IsSound (L.state ledger.old).now }
-        requires place { place ≡ place_about (L.state ledger.old).now.objects (placeholder_of placeholder.old) (row_subject (row_of (asked self.now))) }
+        requires place { place ≡ place_about (L.state ledger.old).now.objects (placeholder_of placeholder.old)
+            (row_subject (row_of (asked self.now))) }
         requires within { IfSome place (λ p. p < length (L.state ledger.old).now.objects) }
-        requires unopposed { IsUnopposed (L.state ledger.old).now (placeholder_of placeholder.old) (L.moment ledger.old) (asked self.now) (option_map payload_of payload.now) }
-        ensures { Leaves (L.state ledger.old) (after_done (L.state ledger.old).now (placeholder_of placeholder.old) (L.moment ledger.old) (asked self.now) (option_map payload_of payload.now)) (placeholder_done (placeholder_of placeholder.old) (asked self.now) (option_map payload_of payload.now)) result (L.state ledger.new) (placeholder_of placeholder.new) };
+        requires unopposed { IsUnopposed (L.state ledger.old).now (placeholder_of placeholder.old)
+            (L.moment ledger.old) (asked self.now) (option_map payload_of payload.now) }
+        ensures { Leaves (L.state ledger.old)
+            (after_done (L.state ledger.old).now (placeholder_of placeholder.old) (L.moment ledger.old)
+            (asked self.now) (option_map payload_of payload.now))
+            (placeholder_done (placeholder_of placeholder.old) (asked self.now)
+            (option_map payload_of payload.now)) result (L.state ledger.new) (placeholder_of placeholder.new) };
 }

@@ -30,9 +30,11 @@ pub(crate) fn is_founded<L: Ledger>(
     subject: Subject<'_>,
     reason: Option<u32>,
 ) -> bool
-    requires place { place ≡ place_about (L.state ledger.now).now.objects (placeholder_of placeholder.now) (subject_of subject) }
+    requires place { place ≡ place_about (L.state ledger.now).now.objects (placeholder_of placeholder.now)
+        (subject_of subject) }
     requires within { IfSome place (λ p. p < length (L.state ledger.now).now.objects) }
-    ensures { result ≡ founded_of (rules_of rules.now) (cards_of (L.state ledger.now).now.objects) (placeholder_of placeholder.now) (L.moment ledger.now) (subject_of subject.entry) reason }
+    ensures { result ≡ founded_of (rules_of rules.now) (cards_of (L.state ledger.now).now.objects)
+        (placeholder_of placeholder.now) (L.moment ledger.now) (subject_of subject.entry) reason }
 {
     match reason {
         Some(reason) => {
@@ -74,9 +76,11 @@ fn has_cause<L: Ledger>(
     subject: Subject<'_>,
     reason: u32,
 ) -> bool
-    requires place { place ≡ place_about (L.state ledger.now).now.objects (placeholder_of placeholder.now) (subject_of subject) }
+    requires place { place ≡ place_about (L.state ledger.now).now.objects (placeholder_of placeholder.now)
+        (subject_of subject) }
     requires within { IfSome place (λ p. p < length (L.state ledger.now).now.objects) }
-    ensures { result ≡ has_cause (rules_of rules.now) (cards_of (L.state ledger.now).now.objects) (placeholder_of placeholder.now) (L.moment ledger.now) (subject_of subject.entry) reason }
+    ensures { result ≡ has_cause (rules_of rules.now) (cards_of (L.state ledger.now).now.objects)
+        (placeholder_of placeholder.now) (L.moment ledger.now) (subject_of subject.entry) reason }
 {
     any_cause(
         ledger,
@@ -96,9 +100,12 @@ fn any_cause<L: Ledger>(
     subject: Subject<'_>,
     reason: u32,
 ) -> bool
-    requires place { place ≡ place_about (L.state ledger.now).now.objects (placeholder_of placeholder.now) (subject_of subject) }
+    requires place { place ≡ place_about (L.state ledger.now).now.objects (placeholder_of placeholder.now)
+        (subject_of subject) }
     requires within { IfSome place (λ p. p < length (L.state ledger.now).now.objects) }
-    ensures { result ≡ list_any (λ (row : Row). (row.reason == reason) && holds_of (cards_of (L.state ledger.now).now.objects) (placeholder_of placeholder.now) (L.moment ledger.now) (subject_of subject.entry) row.cause) rows.now }
+    ensures { result ≡ list_any
+        (λ (row : Row). (row.reason == reason) && holds_of (cards_of (L.state ledger.now).now.objects)
+        (placeholder_of placeholder.now) (L.moment ledger.now) (subject_of subject.entry) row.cause) rows.now }
 {
     for row in rows {
         if is_cause(ledger, placeholder, place, subject, reason, *row) {
@@ -116,9 +123,11 @@ fn is_cause<L: Ledger>(
     reason: u32,
     row: Row,
 ) -> bool
-    requires place { place ≡ place_about (L.state ledger.now).now.objects (placeholder_of placeholder.now) (subject_of subject) }
+    requires place { place ≡ place_about (L.state ledger.now).now.objects (placeholder_of placeholder.now)
+        (subject_of subject) }
     requires within { IfSome place (λ p. p < length (L.state ledger.now).now.objects) }
-    ensures { result ≡ ((row.reason == reason) && holds_of (cards_of (L.state ledger.now).now.objects) (placeholder_of placeholder.now) (L.moment ledger.now) (subject_of subject.entry) row.cause) }
+    ensures { result ≡ ((row.reason == reason) && holds_of (cards_of (L.state ledger.now).now.objects)
+        (placeholder_of placeholder.now) (L.moment ledger.now) (subject_of subject.entry) row.cause) }
 {
     row.reason == reason && holds_of(ledger, placeholder, place, subject, row.cause)
 }
@@ -131,9 +140,11 @@ fn holds_of<L: Ledger>(
     subject: Subject<'_>,
     cause: Cause,
 ) -> bool
-    requires place { place ≡ place_about (L.state ledger.now).now.objects (placeholder_of placeholder.now) (subject_of subject) }
+    requires place { place ≡ place_about (L.state ledger.now).now.objects (placeholder_of placeholder.now)
+        (subject_of subject) }
     requires within { IfSome place (λ p. p < length (L.state ledger.now).now.objects) }
-    ensures { result ≡ holds_of (cards_of (L.state ledger.now).now.objects) (placeholder_of placeholder.now) (L.moment ledger.now) (subject_of subject.entry) cause }
+    ensures { result ≡ holds_of (cards_of (L.state ledger.now).now.objects) (placeholder_of placeholder.now)
+        (L.moment ledger.now) (subject_of subject.entry) cause }
 {
     match subject {
         Subject::Object(id, act, unjudged) => {
@@ -154,7 +165,8 @@ fn holds_about<L: Ledger>(
 ) -> bool
     requires place { place ≡ place_meant (L.state ledger.now).now.objects (maybe_lent about) }
     requires within { IfSome place (λ p. p < length (L.state ledger.now).now.objects) }
-    ensures { result ≡ holds_about (cards_of (L.state ledger.now).now.objects) (maybe_lent about.entry) (L.moment ledger.now) act cause }
+    ensures { result ≡ holds_about (cards_of (L.state ledger.now).now.objects) (maybe_lent about.entry)
+        (L.moment ledger.now) act cause }
 {
     match cause {
         Cause::NotFound => !is_live_there(ledger, place, about),
@@ -188,7 +200,8 @@ fn is_live_there<L: Ledger>(ledger: &L, place: Option<usize>, about: Option<&str
 fn is_refusable<L: Ledger>(ledger: &L, place: Option<usize>, about: Option<&str>, act: Act) -> bool
     requires place { place ≡ place_meant (L.state ledger.now).now.objects (maybe_lent about) }
     requires within { IfSome place (λ p. p < length (L.state ledger.now).now.objects) }
-    ensures { result ≡ is_refusable act (L.moment ledger.now) (card_meant (cards_of (L.state ledger.now).now.objects) (maybe_lent about.entry)) }
+    ensures { result ≡ is_refusable act (L.moment ledger.now)
+        (card_meant (cards_of (L.state ledger.now).now.objects) (maybe_lent about.entry)) }
 {
     match place {
         Some(place) => is_doubted(act, ledger.state(place)),

@@ -95,7 +95,9 @@ pub(crate) fn why_not_got<L: Ledger>(
     requires sound { IsSound (L.state ledger.now).now }
     requires place { place ≡ place_meant (L.state ledger.now).now.objects (maybe_lent about) }
     requires within { IfSome place (λ p. p < length (L.state ledger.now).now.objects) }
-    ensures { result ≡ find (get_speaks (L.state ledger.now).now (maybe_lent about.entry) (L.moment ledger.now) (option_map (λ got. got_of got.now) shown.entry)) whys }
+    ensures { result ≡ find
+        (get_speaks (L.state ledger.now).now (maybe_lent about.entry) (L.moment ledger.now)
+        (option_map (λ got. got_of got.now) shown.entry)) whys }
 {
     let Some(place) = place else {
         return Some(Why::NoSuchObject);
@@ -119,7 +121,8 @@ fn why_not_live<L: Ledger>(
     shown: Option<&Got>,
 ) -> Option<Why>
     requires { IsSecretOf (L.state ledger.now).now (held object.now) secret }
-    ensures { result ≡ live_speak (L.state ledger.now).now (maybe_lent about.entry) (held object.now) secret (option_map (λ got. got_of got.now) shown.entry) }
+    ensures { result ≡ live_speak (L.state ledger.now).now (maybe_lent about.entry) (held object.now) secret
+        (option_map (λ got. got_of got.now) shown.entry) }
 {
     match shown {
         Some(got) => why_not_shown(ledger, about, object, secret, got),
@@ -136,7 +139,8 @@ fn why_not_shown<L: Ledger>(
     got: &Got,
 ) -> Option<Why>
     requires { IsSecretOf (L.state ledger.now).now (held object.now) secret }
-    ensures { result ≡ shown_speak (L.state ledger.now).now (maybe_lent about.entry) (held object.now) secret (got_of got.now) }
+    ensures { result ≡ shown_speak (L.state ledger.now).now (maybe_lent about.entry) (held object.now) secret
+        (got_of got.now) }
 {
     if let Some(why) = why_not_bytes(ledger, secret, object.rule(), got.block.material) {
         return Some(why);
@@ -198,8 +202,11 @@ pub(crate) fn teach<L: Ledger>(
 ) -> Result<(), AllocError>
     requires sound { IsSound (L.state ledger.old).now }
     requires within { IfSome place (λ p. p < length (L.state ledger.old).now.objects) }
-    requires same { differs_at (L.state ledger.old).now (option_and_then (slice_get (L.state ledger.old).now.objects) place) bytes.now ≡ false }
-    ensures { Changes (L.state ledger.old) (taught (L.state ledger.old).now (option_and_then (slice_get (L.state ledger.old).now.objects) place) bytes.now) result (L.state ledger.new) }
+    requires same { differs_at (L.state ledger.old).now
+        (option_and_then (slice_get (L.state ledger.old).now.objects) place) bytes.now ≡ false }
+    ensures { Changes (L.state ledger.old)
+        (taught (L.state ledger.old).now
+        (option_and_then (slice_get (L.state ledger.old).now.objects) place) bytes.now) result (L.state ledger.new) }
 {
     let Some(place) = place else {
         return Ok(());

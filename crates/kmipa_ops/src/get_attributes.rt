@@ -77,7 +77,8 @@ impl<'a> Deed for GetAttributes<'a> {
 
 /// What a payload shows, if it is one of a Get Attributes.
 fn shown<'a>(payload: &'a Option<Payload<'a>>) -> Option<&'a GotAttributes<'a>>
-    ensures { option_map (λ got. got_attributes_of got.now) result ≡ option_and_then seen_attributes (option_map payload_of payload.now) }
+    ensures { option_map (λ got. got_attributes_of got.now) result
+        ≡ option_and_then seen_attributes (option_map payload_of payload.now) }
 {
     match payload {
         Some(Payload::GetAttributes(got)) => Some(got),
@@ -96,7 +97,11 @@ pub(crate) fn why_not_shown_attributes<L: Ledger>(
 ) -> Result<Option<Why>, AllocError>
     requires place { place ≡ place_meant (L.state ledger.now).now.objects (maybe_lent about) }
     requires within { IfSome place (λ p. p < length (L.state ledger.now).now.objects) }
-    ensures { IfOk result (λ why. why ≡ find (get_attributes_speaks (cards_of (L.state ledger.now).now.objects) (maybe_lent about.entry) (L.moment ledger.now) (get_attributes_of asked.now) (option_map (λ got. got_attributes_of got.now) shown.entry)) whys) }
+    ensures { IfOk result
+        (λ why. why
+        ≡ find (get_attributes_speaks (cards_of (L.state ledger.now).now.objects) (maybe_lent about.entry)
+        (L.moment ledger.now) (get_attributes_of asked.now)
+        (option_map (λ got. got_attributes_of got.now) shown.entry)) whys) }
 {
     let Some(place) = place else {
         return Ok(Some(Why::NoSuchObject));
@@ -120,7 +125,10 @@ fn why_not_attributes(
     asked: &GetAttributes,
     shown: Option<&GotAttributes>,
 ) -> Result<Option<Why>, AllocError>
-    ensures { IfOk result (λ why. why ≡ attributes_speak (card_of object.now) state (maybe_lent about.entry) (get_attributes_of asked.now) (option_map (λ got. got_attributes_of got.now) shown.entry)) }
+    ensures { IfOk result
+        (λ why. why
+        ≡ attributes_speak (card_of object.now) state (maybe_lent about.entry) (get_attributes_of asked.now)
+        (option_map (λ got. got_attributes_of got.now) shown.entry)) }
 {
     let Some(got) = shown else {
         return Ok(None);
@@ -144,7 +152,8 @@ fn shows_foreign(
     state: State,
     shown: &AttrSet,
 ) -> Result<bool, AllocError>
-    ensures { IfOk result (λ is_foreign. is_foreign ≡ shows_foreign (card_of object.now) state (attributes_of shown.now)) }
+    ensures { IfOk result
+        (λ is_foreign. is_foreign ≡ shows_foreign (card_of object.now) state (attributes_of shown.now)) }
 {
     let is_other_named = finds_stranger(
         alloc,

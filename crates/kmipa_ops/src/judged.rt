@@ -2,7 +2,7 @@
 
 /// A judged attribute, by its tag (KMIP 2.1, the Tag enumeration).
 #[derive(Clone, Copy, Debug, PartialEq, Eq)]
-pub(crate) enum Judged {
+pub enum Judged {
     ActivationDate = 0x42_0001,
     CompromiseDate = 0x42_0020,
     CryptographicAlgorithm = 0x42_0028,

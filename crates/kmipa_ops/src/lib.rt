@@ -32,6 +32,7 @@ mod taking;
 mod why;
 
 pub use fit::{Fit, matches};
+pub use judged::Judged;
 pub use laws::{
     alike_go_alike, alike_speak_alike, attributes_are_decided, blame_is_exact, chains_complete,
     fills_are_said, founded_is_decided, lists_are_decided, reasons_are_decided, stands_for_one,

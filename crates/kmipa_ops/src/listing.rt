@@ -26,7 +26,10 @@ pub(crate) fn why_not_listed<L: Ledger>(
     listed: &[&str],
 ) -> Result<Option<Why>, AllocError>
     requires { IsSound (L.state ledger.now).now }
-    ensures { IfOk result (λ why. why ≡ find (locate_speaks (cards_of (L.state ledger.now).now.objects) (L.moment ledger.now) (filter_of filter.now) (Some (map lent listed.now))) whys) }
+    ensures { IfOk result
+        (λ why. why
+        ≡ find (locate_speaks (cards_of (L.state ledger.now).now.objects) (L.moment ledger.now) (filter_of filter.now)
+        (Some (map lent listed.now))) whys) }
 {
     if is_over(filter.maximum, listed.len()) {
         return Ok(Some(Why::ListedWrongly));
@@ -71,7 +74,9 @@ fn places_listed<L: Ledger>(
     filter: &Filter,
     listed: &[&str],
 ) -> Result<Option<PlacesListed>, AllocError>
-    ensures { IfOk result (λ places. Placed (cards_of (L.state ledger.now).now.objects) (L.moment ledger.now) (filter_of filter.now) (map lent listed.now) places) }
+    ensures { IfOk result
+        (λ places. Placed (cards_of (L.state ledger.now).now.objects) (L.moment ledger.now) (filter_of filter.now)
+        (map lent listed.now) places) }
 {
     let mut places = PlacesListed::new(alloc);
     for id in listed {
@@ -88,7 +93,8 @@ fn places_listed<L: Ledger>(
 
 /// The place of an identifier that is listed rightly: its object is there, and may be listed.
 fn place_listed<L: Ledger>(ledger: &L, filter: &Filter, id: &str) -> Option<usize>
-    ensures { PlaceListed (cards_of (L.state ledger.now).now.objects) (L.moment ledger.now) (filter_of filter.now) id.now result }
+    ensures { PlaceListed (cards_of (L.state ledger.now).now.objects) (L.moment ledger.now)
+        (filter_of filter.now) id.now result }
 {
     let place = ledger.find(id)?;
     match fit_at(ledger, filter, place) {
@@ -100,7 +106,8 @@ fn place_listed<L: Ledger>(ledger: &L, filter: &Filter, id: &str) -> Option<usiz
 
 /// Whether an object isn't at one of these places that must be.
 fn leaves_out<L: Ledger>(ledger: &L, filter: &Filter, places: &PlacesListed) -> bool
-    ensures { LeavesOut (L.state ledger.now).now.objects (L.moment ledger.now) (filter_of filter.now) places.now result }
+    ensures { LeavesOut (L.state ledger.now).now.objects (L.moment ledger.now)
+        (filter_of filter.now) places.now result }
 {
     let end = ledger.len();
     let mut from = 0;
@@ -120,7 +127,8 @@ fn leaves_out<L: Ledger>(ledger: &L, filter: &Filter, places: &PlacesListed) -> 
 /// that a scan has at most as many candidates as the rarest name has bearers.
 fn next_candidate<L: Ledger>(ledger: &L, filter: &Filter, from: usize) -> Option<usize>
     requires { from < length (L.state ledger.now).now.objects }
-    ensures next { NextCandidate (L.state ledger.now).now.objects (L.moment ledger.now) (filter_of filter.now) from result }
+    ensures next { NextCandidate (L.state ledger.now).now.objects (L.moment ledger.now)
+        (filter_of filter.now) from result }
     ensures within { IfSome result (λ place. place < length (L.state ledger.now).now.objects) }
 {
     let mut place = from;
@@ -136,7 +144,8 @@ fn next_candidate<L: Ledger>(ledger: &L, filter: &Filter, from: usize) -> Option
 /// Whether the object at a place must be listed, and its place isn't among these.
 fn is_missing<L: Ledger>(ledger: &L, filter: &Filter, places: &PlacesListed, place: usize) -> bool
     requires { place < length (L.state ledger.now).now.objects }
-    ensures { IsMissing (L.state ledger.now).now.objects (L.moment ledger.now) (filter_of filter.now) places.now place result }
+    ensures { IsMissing (L.state ledger.now).now.objects (L.moment ledger.now)
+        (filter_of filter.now) places.now place result }
 {
     match fit_at(ledger, filter, place) {
         Fit::Must => !places.has(place),

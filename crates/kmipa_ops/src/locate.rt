@@ -71,7 +71,8 @@ impl Deed for Locate {
 
 /// What a payload shows, if it is one of a Locate.
 fn shown<'a>(payload: &'a Option<Payload<'a>>) -> Option<&'a Located<'a>>
-    ensures { option_map (λ x. located_of x.now) result ≡ option_and_then seen_located (option_map payload_of payload.now) }
+    ensures { option_map (λ x. located_of x.now) result
+        ≡ option_and_then seen_located (option_map payload_of payload.now) }
 {
     match payload {
         Some(Payload::Locate(located)) => Some(located),

@@ -25,7 +25,9 @@ pub(crate) fn any_named<L: Ledger>(ledger: &L, names: &[Name]) -> bool
 }
 
 fn any_had<L: Ledger>(ledger: &L, names: &[Name]) -> bool
-    ensures { result ≡ list_any (λ (name : Name). is_some (next_named (name_of name).value name.kind 0 (L.state ledger.now).now.objects)) names.now }
+    ensures { result ≡ list_any
+        (λ (name : Name). is_some
+        (next_named (name_of name).value name.kind 0 (L.state ledger.now).now.objects)) names.now }
 {
     names.iter().any(|name| is_had(ledger, name))
 }
@@ -47,7 +49,8 @@ pub(crate) fn any_live_named<L: Ledger>(ledger: &L, names: &[Name]) -> bool
 }
 
 fn any_live_had<L: Ledger>(ledger: &L, names: &[Name]) -> bool
-    ensures { result ≡ list_any (λ (name : Name). any_live_has (name_of name).value name.kind (L.state ledger.now).now.objects) names.now }
+    ensures { result ≡ list_any
+        (λ (name : Name). any_live_has (name_of name).value name.kind (L.state ledger.now).now.objects) names.now }
 {
     names.iter().any(|name| is_had_alive(ledger, name))
 }
@@ -68,14 +71,17 @@ pub(crate) fn lacks_at<L: Ledger>(ledger: &L, names: &[Name], place: usize) -> b
 }
 
 fn any_lacks<L: Ledger>(ledger: &L, names: &[Name], place: usize) -> bool
-    ensures { result ≡ list_any (λ (name : Name). not (is_place place (next_named (name_of name).value name.kind place (L.state ledger.now).now.objects))) names.now }
+    ensures { result ≡ list_any
+        (λ (name : Name). not
+        (is_place place (next_named (name_of name).value name.kind place (L.state ledger.now).now.objects))) names.now }
 {
     names.iter().any(|name| !is_had_at(ledger, name, place))
 }
 
 /// Whether the first object from a place on that has this name is the one there.
 fn is_had_at<L: Ledger>(ledger: &L, name: &Name, place: usize) -> bool
-    ensures { result ≡ is_place place (next_named (name_of name.now).value name.now.kind place (L.state ledger.now).now.objects) }
+    ensures { result ≡ is_place place
+        (next_named (name_of name.now).value name.now.kind place (L.state ledger.now).now.objects) }
 {
     match ledger.next_named(name.value.as_str(), name.kind, place) {
         Some(next) => place == next,
@@ -106,7 +112,8 @@ pub(crate) fn has_stranger(known: &[Name], names: &[Name]) -> bool
 }
 
 fn any_stranger(known: &[Name], names: &[Name]) -> bool
-    ensures { result ≡ list_any (λ (n : Name). not (list_any (λ (k : Name). same_name (name_of k) (name_of n)) known.now)) names.now }
+    ensures { result ≡ list_any
+        (λ (n : Name). not (list_any (λ (k : Name). same_name (name_of k) (name_of n)) known.now)) names.now }
 {
     names.iter().any(|name| !is_among(name, known))
 }

@@ -30,7 +30,8 @@ pub(crate) fn place_about<L: Ledger>(
     placeholder: &Placeholder,
     subject: Subject<'_>,
 ) -> Option<usize>
-    ensures place { result ≡ place_about (L.state ledger.now).now.objects (placeholder_of placeholder.now) (subject_of subject.entry) }
+    ensures place { result ≡ place_about (L.state ledger.now).now.objects (placeholder_of placeholder.now)
+        (subject_of subject.entry) }
     ensures within { IfSome result (λ place. place < length (L.state ledger.now).now.objects) }
 {
     match subject {

@@ -79,7 +79,8 @@ impl<'a> Deed for Register<'a> {
 
 /// What a payload shows, if it is one of a Register.
 fn shown<'a>(payload: &'a Option<Payload<'a>>) -> Option<&'a Registered<'a>>
-    ensures { option_map (λ x. registered_of x.now) result ≡ option_and_then seen_registered (option_map payload_of payload.now) }
+    ensures { option_map (λ x. registered_of x.now) result
+        ≡ option_and_then seen_registered (option_map payload_of payload.now) }
 {
     match payload {
         Some(Payload::Register(registered)) => Some(registered),
@@ -95,7 +96,9 @@ pub(crate) fn why_not_registered<L: Ledger>(
     register: &Register,
     registered: &Registered,
 ) -> Option<Why>
-    ensures { result ≡ find (register_speaks (rules_of rules.now) (cards_of (L.state ledger.now).now.objects) (register_of register.now) (registered_of registered.now)) whys }
+    ensures { result ≡ find
+        (register_speaks (rules_of rules.now) (cards_of (L.state ledger.now).now.objects) (register_of register.now)
+        (registered_of registered.now)) whys }
 {
     let rule = rule_of(alloc, register);
     why_not_added(
@@ -146,7 +149,11 @@ pub(crate) fn register<L: Ledger>(
     register: &Register,
     id: &str,
 ) -> Result<(), AllocError>
-    ensures { Leaves (L.state ledger.old) (with_own (L.state ledger.old).now (newborn (L.moment ledger.old) id.now register.now.object_type (brought (register_of register.now))) (Some (lent register.now.block.material))) (Some id.now) result (L.state ledger.new) (placeholder_of placeholder.new) }
+    ensures { Leaves (L.state ledger.old)
+        (with_own (L.state ledger.old).now
+        (newborn (L.moment ledger.old) id.now register.now.object_type (brought (register_of register.now)))
+        (Some (lent register.now.block.material))) (Some id.now) result (L.state ledger.new)
+        (placeholder_of placeholder.new) }
 {
     let newborn = Newborn {
         id,

@@ -23,7 +23,8 @@ pub(crate) fn lacks_required(
     object: &Object,
     shown: &AttrSet,
 ) -> Result<bool, AllocError>
-    ensures { IfOk result (λ lacks. lacks ≡ lacks_required (get_attributes_of asked.now) (card_of object.now) (attributes_of shown.now)) }
+    ensures { IfOk result
+        (λ lacks. lacks ≡ lacks_required (get_attributes_of asked.now) (card_of object.now) (attributes_of shown.now)) }
 {
     if !is_live(object) || asked.has_others {
         return Ok(false);
@@ -37,7 +38,8 @@ fn lacks_asked(
     object: &Object,
     shown: &AttrSet,
 ) -> Result<bool, AllocError>
-    ensures { IfOk result (λ lacks. lacks ≡ lacks_asked (get_attributes_of asked.now) (card_of object.now) (attributes_of shown.now)) }
+    ensures { IfOk result
+        (λ lacks. lacks ≡ lacks_asked (get_attributes_of asked.now) (card_of object.now) (attributes_of shown.now)) }
 {
     let is_unnamed = lacks_name(alloc, asked, object, shown)?;
     Ok(is_unnamed || lacks_value(asked, object, shown) || lacks_date(asked, &object.life, shown))
@@ -49,7 +51,8 @@ fn lacks_name(
     object: &Object,
     shown: &AttrSet,
 ) -> Result<bool, AllocError>
-    ensures { IfOk result (λ lacks. lacks ≡ lacks_name (get_attributes_of asked.now) (card_of object.now) (attributes_of shown.now)) }
+    ensures { IfOk result
+        (λ lacks. lacks ≡ lacks_name (get_attributes_of asked.now) (card_of object.now) (attributes_of shown.now)) }
 {
     if !asks_for(asked, Judged::Name) {
         return Ok(false);

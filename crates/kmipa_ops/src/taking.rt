@@ -50,7 +50,8 @@ pub fn take<L: Ledger>(
 ) -> Result<(), Refusal>
     requires sound { IsSound (L.state ledger.old).now }
     requires readable { is_readable (ask_of ask.now) (answer_of answer.now) ≡ true }
-    ensures { Taken (rules_of rules.now) (L.state ledger.old) (placeholder_of placeholder.old) t (ask_of ask.now) (answer_of answer.now) result (L.state ledger.new) (placeholder_of placeholder.new) }
+    ensures { Taken (rules_of rules.now) (L.state ledger.old) (placeholder_of placeholder.old) t (ask_of ask.now)
+        (answer_of answer.now) result (L.state ledger.new) (placeholder_of placeholder.new) }
 {
     let frame = Frame {
         batch_id: ask.batch_id,
@@ -72,8 +73,11 @@ fn take_asked<L: Ledger>(
 ) -> Result<(), Refusal>
     requires sound { IsSound (L.state ledger.old).now }
     requires number { frame.number ≡ operation_number (operation_asked (asked_of asked.now)) }
-    requires readable { is_readable (ask_with (maybe_lent frame.batch_id) (asked_of asked.now)) (answer_of answer.now) ≡ true }
-    ensures { Taken (rules_of rules.now) (L.state ledger.old) (placeholder_of placeholder.old) (L.moment ledger.old) (ask_with (maybe_lent frame.entry.batch_id) (asked_of asked.now)) (answer_of answer.now) result (L.state ledger.new) (placeholder_of placeholder.new) }
+    requires readable { is_readable (ask_with (maybe_lent frame.batch_id) (asked_of asked.now)) (answer_of answer.now)
+        ≡ true }
+    ensures { Taken (rules_of rules.now) (L.state ledger.old) (placeholder_of placeholder.old) (L.moment ledger.old)
+        (ask_with (maybe_lent frame.entry.batch_id) (asked_of asked.now)) (answer_of answer.now) result
+        (L.state ledger.new) (placeholder_of placeholder.new) }
 {
     with_deed!(
         asked,
@@ -94,8 +98,11 @@ fn take_deed<D: Deed, L: Ledger>(
 ) -> Result<(), Refusal>
     requires sound { IsSound (L.state ledger.old).now }
     requires number { frame.number ≡ operation_number (operation_asked (D.asked deed.now)) }
-    requires readable { is_readable (ask_with (maybe_lent frame.batch_id) (D.asked deed.now)) (answer_of answer.now) ≡ true }
-    ensures { Taken (rules_of rules.now) (L.state ledger.old) (placeholder_of placeholder.old) (L.moment ledger.old) (ask_with (maybe_lent frame.entry.batch_id) (D.asked deed.now)) (answer_of answer.now) result (L.state ledger.new) (placeholder_of placeholder.new) }
+    requires readable { is_readable (ask_with (maybe_lent frame.batch_id) (D.asked deed.now)) (answer_of answer.now)
+        ≡ true }
+    ensures { Taken (rules_of rules.now) (L.state ledger.old) (placeholder_of placeholder.old) (L.moment ledger.old)
+        (ask_with (maybe_lent frame.entry.batch_id) (D.asked deed.now)) (answer_of answer.now) result
+        (L.state ledger.new) (placeholder_of placeholder.new) }
 {
     let place = place_about(ledger, placeholder, deed.subject());
     let Ok(lowest) = lowest_why(
@@ -136,9 +143,13 @@ fn lowest_why<D: Deed, L: Ledger>(
 ) -> Result<Option<Why>, AllocError>
     requires sound { IsSound (L.state ledger.now).now }
     requires number { frame.number ≡ operation_number (operation_asked (D.asked deed.now)) }
-    requires place { place ≡ place_about (L.state ledger.now).now.objects (placeholder_of placeholder.now) (row_subject (row_of (D.asked deed.now))) }
+    requires place { place ≡ place_about (L.state ledger.now).now.objects (placeholder_of placeholder.now)
+        (row_subject (row_of (D.asked deed.now))) }
     requires within { IfSome place (λ p. p < length (L.state ledger.now).now.objects) }
-    ensures { IfOk result (λ why. why ≡ lowest (rules_of rules.now) (L.state ledger.now).now (placeholder_of placeholder.now) (L.moment ledger.now) (ask_with (maybe_lent frame.entry.batch_id) (D.asked deed.now)) (answer_of answer.now)) }
+    ensures { IfOk result
+        (λ why. why
+        ≡ lowest (rules_of rules.now) (L.state ledger.now).now (placeholder_of placeholder.now) (L.moment ledger.now)
+        (ask_with (maybe_lent frame.entry.batch_id) (D.asked deed.now)) (answer_of answer.now)) }
 {
     if is_other_number(answer.operation, frame.number) {
         return Ok(Some(Why::OperationDiffers));
@@ -151,7 +162,8 @@ fn lowest_why<D: Deed, L: Ledger>(
 }
 
 fn echo_why(frame: Frame<'_>, answer: &Answer) -> Option<Why>
-    ensures { result ≡ cond (clash bytes_eq (answer_of answer.now).batch_id (maybe_lent frame.entry.batch_id)) (Some Why.EchoDiffers) None }
+    ensures { result ≡ cond (clash bytes_eq (answer_of answer.now).batch_id (maybe_lent frame.entry.batch_id))
+        (Some Why.EchoDiffers) None }
 {
     if clash_bytes(answer.batch_id, frame.batch_id) {
         Some(Why::EchoDiffers)
@@ -171,9 +183,14 @@ fn outcome_why<D: Deed, L: Ledger>(
     answer: &Answer,
 ) -> Result<Option<Why>, AllocError>
     requires sound { IsSound (L.state ledger.now).now }
-    requires place { place ≡ place_about (L.state ledger.now).now.objects (placeholder_of placeholder.now) (row_subject (row_of (D.asked deed.now))) }
+    requires place { place ≡ place_about (L.state ledger.now).now.objects (placeholder_of placeholder.now)
+        (row_subject (row_of (D.asked deed.now))) }
     requires within { IfSome place (λ p. p < length (L.state ledger.now).now.objects) }
-    ensures { IfOk result (λ why. why ≡ find (outcome_speaks answer.now.status (rules_of rules.now) (L.state ledger.now).now (placeholder_of placeholder.now) (L.moment ledger.now) (D.asked deed.now) answer.now.reason (answer_of answer.now).payload) whys) }
+    ensures { IfOk result
+        (λ why. why
+        ≡ find (outcome_speaks answer.now.status (rules_of rules.now) (L.state ledger.now).now
+        (placeholder_of placeholder.now) (L.moment ledger.now) (D.asked deed.now) answer.now.reason
+        (answer_of answer.now).payload) whys) }
 {
     match answer.status {
         Status::Success | Status::Undone => {
@@ -191,9 +208,12 @@ fn failure_why<D: Deed, L: Ledger>(
     deed: &D,
     reason: Option<u32>,
 ) -> Option<Why>
-    requires place { place ≡ place_about (L.state ledger.now).now.objects (placeholder_of placeholder.now) (row_subject (row_of (D.asked deed.now))) }
+    requires place { place ≡ place_about (L.state ledger.now).now.objects (placeholder_of placeholder.now)
+        (row_subject (row_of (D.asked deed.now))) }
     requires within { IfSome place (λ p. p < length (L.state ledger.now).now.objects) }
-    ensures { result ≡ find (failure_speaks (rules_of rules.now) (L.state ledger.now).now (placeholder_of placeholder.now) (L.moment ledger.now) (D.asked deed.now) reason) whys }
+    ensures { result ≡ find
+        (failure_speaks (rules_of rules.now) (L.state ledger.now).now (placeholder_of placeholder.now)
+        (L.moment ledger.now) (D.asked deed.now) reason) whys }
 {
     if is_founded(ledger, rules, placeholder, place, deed.subject(), reason) {
         None
@@ -212,10 +232,16 @@ fn leave<D: Deed, L: Ledger>(
     answer: &Answer,
 ) -> Result<(), AllocError>
     requires sound { IsSound (L.state ledger.old).now }
-    requires place { place ≡ place_about (L.state ledger.old).now.objects (placeholder_of placeholder.old) (row_subject (row_of (D.asked deed.now))) }
+    requires place { place ≡ place_about (L.state ledger.old).now.objects (placeholder_of placeholder.old)
+        (row_subject (row_of (D.asked deed.now))) }
     requires within { IfSome place (λ p. p < length (L.state ledger.old).now.objects) }
-    requires unopposed { IsDoneUnopposed answer.now.status (L.state ledger.old).now (placeholder_of placeholder.old) (L.moment ledger.old) (D.asked deed.now) (answer_of answer.now).payload }
-    ensures { Leaves (L.state ledger.old) (after answer.now.status (L.state ledger.old).now (placeholder_of placeholder.old) (L.moment ledger.old) (D.asked deed.now) (answer_of answer.now).payload) (placeholder_after answer.now.status (placeholder_of placeholder.old) (D.asked deed.now) (answer_of answer.now).payload) result (L.state ledger.new) (placeholder_of placeholder.new) }
+    requires unopposed { IsDoneUnopposed answer.now.status (L.state ledger.old).now (placeholder_of placeholder.old)
+        (L.moment ledger.old) (D.asked deed.now) (answer_of answer.now).payload }
+    ensures { Leaves (L.state ledger.old)
+        (after answer.now.status (L.state ledger.old).now (placeholder_of placeholder.old) (L.moment ledger.old)
+        (D.asked deed.now) (answer_of answer.now).payload)
+        (placeholder_after answer.now.status (placeholder_of placeholder.old) (D.asked deed.now)
+        (answer_of answer.now).payload) result (L.state ledger.new) (placeholder_of placeholder.new) }
 {
     match answer.status {
         Status::Success | Status::Undone => {

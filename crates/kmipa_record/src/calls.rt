@@ -38,7 +38,8 @@ impl Calls {
 
     /// Takes a mark, or says what is wrong with it.
     pub fn take(&mut self, mark: &Mark) -> Result<(), RecordKind>
-        ensures { MatchResult result (λ _. Takes self.old self.new (mark_of mark.now)) (Refuses self.old (mark_of mark.now)) }
+        ensures { MatchResult result (λ _. Takes self.old self.new (mark_of mark.now))
+            (Refuses self.old (mark_of mark.now)) }
     {
         match mark {
             Mark::Begin(begin) => self.begin(begin.call),

@@ -37,14 +37,17 @@ pub fn read_declaration<R: Read>(
 ) -> Result<Declaration, RecordFault>
     requires { came_of input.old ≡ [] }
     // What is read is what the bytes are that came, to the end that was seen.
-    ensures found { IfOk result (λ declaration. IsDeclaration (came_of input.new) (declaration_of declaration) × IsTrue (is_ended input.new)) }
+    ensures found { IfOk result
+        (λ declaration. IsDeclaration (came_of input.new) (declaration_of declaration) × IsTrue (is_ended input.new)) }
     // What is read may be declared.
     ensures declared { IfOk result (λ declaration. AreDeclared (declaration_of declaration)) }
     // Else the first fault is reported, whatever follows what came, and nothing where the end was seen; unless a read failed or memory ran out.
-    ensures fault { (file : List ℕ) → IsFileOf file input.new → IfErr result (Tells DeclarationFault IsDeclarationUpTo file (is_failed input.new)) }
+    ensures fault { (file : List ℕ) → IsFileOf file input.new
+        → IfErr result (Tells DeclarationFault IsDeclarationUpTo file (is_failed input.new)) }
     // These two are reported where the item begins that was being read.
     ensures place { IfErr result (TellsItem (came_of input.new)) }
-    ensures sound { MatchResult result (λ _. is_failed input.new ≡ false) (λ f. f.kind ≢ RecordKind.Device → is_failed input.new ≡ false) }
+    ensures sound { MatchResult result (λ _. is_failed input.new ≡ false)
+        (λ f. f.kind ≢ RecordKind.Device → is_failed input.new ≡ false) }
     // Over a reader whose bytes are known what came is their front, and all where the end was seen.
     ensures over { StaysOver R.remaining input.old input.new }
 {
@@ -67,13 +70,15 @@ fn read_record<R: Read>(
     ensures read { (file left after : List ℕ) (unique : Bool) → Leaves input.old input.new left after
         → IsReadSoFar file (declared_by unique records.old) left (taken_of input.old)
         → IfOk result (λ more. IsReadSoFar file (declared_by unique records.new) after (taken_of input.new)) }
-    ensures fault { (file left after : List ℕ) (unique : Bool) → Leaves input.old input.new left after → EndsWith input.new after
+    ensures fault { (file left after : List ℕ) (unique : Bool) → Leaves input.old input.new left after
+        → EndsWith input.new after
         → IsReadSoFar file (declared_by unique records.old) left (taken_of input.old)
         → IfErr result (Tells DeclarationFault IsDeclarationUpTo file (is_failed input.new)) }
     ensures place { IfErr result (TellsItem (came_of input.new)) }
     ensures end { IfOk result (λ more. more ≡ false → IsTrue (is_ended input.new)) }
     ensures nearer { IfOk result (λ more. more ≡ true → taken_of input.old < taken_of input.new) }
-    ensures sound { MatchResult result (λ _. is_failed input.new ≡ false) (λ f. f.kind ≢ RecordKind.Device → is_failed input.new ≡ false) }
+    ensures sound { MatchResult result (λ _. is_failed input.new ≡ false)
+        (λ f. f.kind ≢ RecordKind.Device → is_failed input.new ≡ false) }
     ensures grows { StartsWith (came_of input.new) (came_of input.old) }
     ensures over { StaysOver R.remaining input.old input.new }
 {

@@ -34,7 +34,8 @@ pub fn write_declaration(
     out: &mut Vec<u8>,
 ) -> Result<(), RecordFault>
     // What is appended is a declaration of this, padded with zeros.
-    ensures written { OnOk result (Appends (IsWrittenDeclaration (declaration_of declaration.now)) out.old.items out.new.items) }
+    ensures written { OnOk result
+        (Appends (IsWrittenDeclaration (declaration_of declaration.now)) out.old.items out.new.items) }
     // It is refused where no bytes are one, or where memory ran out.
     ensures refused { IfErr result (Unwritten (λ bytes. IsDeclaration bytes (declaration_of declaration.now))) }
     ensures same { IfErr result (λ _. out.new.items ≡ out.old.items) }
@@ -66,7 +67,9 @@ fn put_declaration(
     out: &mut Vec<u8>,
 ) -> Result<(), RecordKind>
     ensures put { OnOk result (MayStandTogether (declaration_of declaration.now).entries
-        × AddsAll (declaration_header declaration.now.unique_names ∷ (map row_item (declaration_of declaration.now).rows ++ map written_entry (declaration_of declaration.now).entries))
+        × AddsAll (declaration_header declaration.now.unique_names ∷
+        (map row_item (declaration_of declaration.now).rows ++ map written_entry
+        (declaration_of declaration.now).entries))
         out.old.items out.new.items) }
     ensures refused { IfErr result (Refused (IsWritableDeclaration (declaration_of declaration.now))) }
     ensures grows { StartsWith out.new.items out.old.items }

@@ -86,7 +86,8 @@ struct Parts<'a> {
 /// The parts of an entry's record.
 fn parts_in<'a>(item: &View<'a>) -> Option<Parts<'a>>
     ensures { MatchOption result
-        ((id : List ℕ) (kind : ObjectType) (attributes : Trees) (bytes : Option (List ℕ)) → view_tree item.now ≢ entry_item id kind attributes bytes)
+        ((id : List ℕ) (kind : ObjectType) (attributes : Trees) (bytes : Option (List ℕ))
+        → view_tree item.now ≢ entry_item id kind attributes bytes)
         (λ p. view_tree item.now ≡ entry_item p.id.now p.kind (view_trees p.attributes) (option_map lent p.bytes)) }
 {
     let mut children = children_of(item, ENTRY)?;
@@ -120,8 +121,11 @@ fn material_in<'a>(children: Children<'a>) -> Option<Option<&'a [u8]>>
 
 /// The set that the attributes of an entry say, where each is one that an entry may have.
 fn listed_in(alloc: Global, children: Children) -> Result<Option<AttrSet>, AllocError>
-    ensures { IfOk result (λ o. MatchOption o ((a : Attributes) → AreListed (view_trees children.entry) → ¬ (SaysAttributes (view_trees children.entry) a))
-        (λ set. AreListed (view_trees children.entry) × SaysAttributes (view_trees children.entry) (attributes_of set))) }
+    ensures { IfOk result
+        (λ o. MatchOption o
+        ((a : Attributes) → AreListed (view_trees children.entry) → ¬ (SaysAttributes (view_trees children.entry) a))
+        (λ set. AreListed (view_trees children.entry)
+        × SaysAttributes (view_trees children.entry) (attributes_of set))) }
 {
     if !are_listed(children) {
         return Ok(None);

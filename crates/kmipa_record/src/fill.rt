@@ -23,8 +23,11 @@ pub struct Fill {
 
 /// The fills that items are, each of them one.
 pub fn fills_in(alloc: Global, items: Children) -> Result<Option<Vec<Fill>>, AllocError>
-    ensures { IfOk result (λ o. MatchOption o ((fills : List FillOf) → ArePayloads fills → list_of (view_trees items.entry) ≢ map fill_item fills)
-        (λ fills. (list_of (view_trees items.entry) ≡ map fill_item (map fill_of fills.items)) × ArePayloads (map fill_of fills.items))) }
+    ensures { IfOk result
+        (λ o. MatchOption o
+        ((fills : List FillOf) → ArePayloads fills → list_of (view_trees items.entry) ≢ map fill_item fills)
+        (λ fills. (list_of (view_trees items.entry) ≡ map fill_item (map fill_of fills.items))
+        × ArePayloads (map fill_of fills.items))) }
 {
     let mut fills = Vec::new(alloc);
     let mut left = items;
@@ -39,7 +42,8 @@ pub fn fills_in(alloc: Global, items: Children) -> Result<Option<Vec<Fill>>, All
 
 /// The fill that an item is.
 fn fill_in(alloc: Global, item: &View) -> Result<Option<Fill>, AllocError>
-    ensures { IfOk result (λ o. MatchOption o ((fill : FillOf) → IsPayload fill.payload → view_tree item.now ≢ fill_item fill)
+    ensures { IfOk result
+        (λ o. MatchOption o ((fill : FillOf) → IsPayload fill.payload → view_tree item.now ≢ fill_item fill)
         (λ fill. (view_tree item.now ≡ fill_item (fill_of fill)) × IsPayload (fill_of fill).payload)) }
 {
     match parts_in(item) {
@@ -54,7 +58,8 @@ fn fill_in(alloc: Global, item: &View) -> Result<Option<Fill>, AllocError>
 /// The item and the payload of a fill.
 fn parts_in<'a>(item: &View<'a>) -> Option<(i32, View<'a>)>
     ensures { MatchOption result ((fill : FillOf) → IsPayload fill.payload → view_tree item.now ≢ fill_item fill)
-        (λ parts. (view_tree item.now ≡ fill_item (record { item = parts.0; payload = view_tree parts.1 })) × IsPayload (view_tree parts.1)) }
+        (λ parts. (view_tree item.now ≡ fill_item (record { item = parts.0; payload = view_tree parts.1 }))
+        × IsPayload (view_tree parts.1)) }
 {
     let mut children = children_of(item, FILL)?;
     let number = integer_of(&children.next()?, FILLED_ITEM)?;
@@ -68,7 +73,8 @@ fn parts_in<'a>(item: &View<'a>) -> Option<(i32, View<'a>)>
 
 /// Puts the items that say the fills after the others.
 pub fn push_fills(alloc: Global, children: &mut Vec<Item>, fills: &[Fill]) -> Result<(), AllocError>
-    ensures { OnOk result (map tree children.new.items ≡ map tree children.old.items ++ map fill_item (map fill_of fills.now)) }
+    ensures { OnOk result
+        (map tree children.new.items ≡ map tree children.old.items ++ map fill_item (map fill_of fills.now)) }
 {
     for fill in fills {
         children.push(write_fill(alloc, fill)?)?;

@@ -31,7 +31,8 @@ impl Record for TranscriptHeader {
 
 /// The header of a transcript, where the item is one.
 fn transcript_header_in(item: &View) -> Option<TranscriptHeader>
-    ensures { MatchOption result (view_tree item.now ≢ transcript_header) (λ _. view_tree item.now ≡ transcript_header) }
+    ensures { MatchOption result (view_tree item.now ≢ transcript_header)
+        (λ _. view_tree item.now ≡ transcript_header) }
 {
     let mut children = children_of(item, TRANSCRIPT_HEADER)?;
     let version = integer_of(&children.next()?, VERSION)?;

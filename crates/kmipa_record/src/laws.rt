@@ -9,45 +9,54 @@ ghost use Rattle.kmipa_record.specs.declared.fault.RecordKind.{RecordKind};
 
 /// Bytes are a transcript of one list of marks at most.
 pub fn one_transcript()
-    ensures { (bytes : List ℕ) (marks others : List MarkOf) → IsTranscript bytes marks → IsTranscript bytes others → marks ≡ others }
+    ensures { (bytes : List ℕ) (marks others : List MarkOf) → IsTranscript bytes marks → IsTranscript bytes others
+        → marks ≡ others }
 {}
 
 /// The bytes of a transcript have no fault.
 pub fn no_fault_of_transcript()
-    ensures { (bytes : List ℕ) (marks : List MarkOf) (offset : ℕ) (kind : RecordKind) → IsTranscript bytes marks → ¬ (TranscriptFault bytes offset kind) }
+    ensures { (bytes : List ℕ) (marks : List MarkOf) (offset : ℕ) (kind : RecordKind) → IsTranscript bytes marks
+        → ¬ (TranscriptFault bytes offset kind) }
 {}
 
 /// Bytes have one first fault as a transcript at most.
 pub fn one_transcript_fault()
-    ensures { (bytes : List ℕ) (o p : ℕ) (j k : RecordKind) → TranscriptFault bytes o j → TranscriptFault bytes p k → (o ≡ p) × (j ≡ k) }
+    ensures { (bytes : List ℕ) (o p : ℕ) (j k : RecordKind) → TranscriptFault bytes o j → TranscriptFault bytes p k
+        → (o ≡ p) × (j ≡ k) }
 {}
 
 /// Bytes are a declaration of one thing at most.
 pub fn one_declaration()
-    ensures { (bytes : List ℕ) (declared other : DeclarationOf) → IsDeclaration bytes declared → IsDeclaration bytes other → declared ≡ other }
+    ensures { (bytes : List ℕ) (declared other : DeclarationOf) → IsDeclaration bytes declared
+        → IsDeclaration bytes other → declared ≡ other }
 {}
 
 /// The bytes of a declaration have no fault.
 pub fn no_fault_of_declaration()
-    ensures { (bytes : List ℕ) (declared : DeclarationOf) (offset : ℕ) (kind : RecordKind) → IsDeclaration bytes declared → ¬ (DeclarationFault bytes offset kind) }
+    ensures { (bytes : List ℕ) (declared : DeclarationOf) (offset : ℕ) (kind : RecordKind)
+        → IsDeclaration bytes declared → ¬ (DeclarationFault bytes offset kind) }
 {}
 
 /// Bytes have one first fault as a declaration at most.
 pub fn one_declaration_fault()
-    ensures { (bytes : List ℕ) (o p : ℕ) (j k : RecordKind) → DeclarationFault bytes o j → DeclarationFault bytes p k → (o ≡ p) × (j ≡ k) }
+    ensures { (bytes : List ℕ) (o p : ℕ) (j k : RecordKind) → DeclarationFault bytes o j → DeclarationFault bytes p k
+        → (o ≡ p) × (j ≡ k) }
 {}
 
 /// Bytes are a witness of one list of turns at most.
 pub fn one_witness()
-    ensures { (bytes : List ℕ) (turns others : List TurnOf) → IsWitness bytes turns → IsWitness bytes others → turns ≡ others }
+    ensures { (bytes : List ℕ) (turns others : List TurnOf) → IsWitness bytes turns → IsWitness bytes others
+        → turns ≡ others }
 {}
 
 /// The bytes of a witness have no fault.
 pub fn no_fault_of_witness()
-    ensures { (bytes : List ℕ) (turns : List TurnOf) (offset : ℕ) (kind : RecordKind) → IsWitness bytes turns → ¬ (WitnessFault bytes offset kind) }
+    ensures { (bytes : List ℕ) (turns : List TurnOf) (offset : ℕ) (kind : RecordKind) → IsWitness bytes turns
+        → ¬ (WitnessFault bytes offset kind) }
 {}
 
 /// Bytes have one first fault as a witness at most.
 pub fn one_witness_fault()
-    ensures { (bytes : List ℕ) (o p : ℕ) (j k : RecordKind) → WitnessFault bytes o j → WitnessFault bytes p k → (o ≡ p) × (j ≡ k) }
+    ensures { (bytes : List ℕ) (o p : ℕ) (j k : RecordKind) → WitnessFault bytes o j → WitnessFault bytes p k → (o ≡ p)
+        × (j ≡ k) }
 {}

@@ -30,11 +30,13 @@ pub fn read_on<R: Read>(
     begun: bool,
 ) -> Result<Option<PlacedMark>, RecordFault>
     requires { vec_len bytes.old ≤ 0x10_0000 }
-    ensures given { (marks : List MarkOf) → AreGivenOf begun marks input.old → IfOk result (GivesPlaced marks input.new) }
+    ensures given { (marks : List MarkOf) → AreGivenOf begun marks input.old
+        → IfOk result (GivesPlaced marks input.new) }
     ensures fault { (marks : List MarkOf) (file : List ℕ) → AreGivenOf begun marks input.old → IsFileOf file input.new
         → IfErr result (Tells (FaultBehind marks) (IsRightBehind marks) file (is_failed input.new)) }
     ensures place { IfErr result (TellsItem (came_of input.new)) }
-    ensures sound { MatchResult result (λ _. is_failed input.new ≡ false) (λ f. f.kind ≢ RecordKind.Device → is_failed input.new ≡ false) }
+    ensures sound { MatchResult result (λ _. is_failed input.new ≡ false)
+        (λ f. f.kind ≢ RecordKind.Device → is_failed input.new ≡ false) }
     ensures bounded { vec_len bytes.new ≤ 0x10_0000 }
     ensures nearer { IfOk result (λ next. IfSome next (λ given. taken_of input.old < taken_of input.new)) }
     ensures grows { StartsWith (came_of input.new) (came_of input.old) }
@@ -52,7 +54,8 @@ fn read_start<R: Read>(
     begun: bool,
 ) -> Result<(), RecordFault>
     requires { vec_len bytes.old ≤ 0x10_0000 }
-    ensures given { (marks : List MarkOf) → AreGivenOf begun marks input.old → OnOk result (AreGivenOf true marks input.new) }
+    ensures given { (marks : List MarkOf) → AreGivenOf begun marks input.old
+        → OnOk result (AreGivenOf true marks input.new) }
     ensures fault { (marks : List MarkOf) (file : List ℕ) → AreGivenOf begun marks input.old → IsFileOf file input.new
         → IfErr result (Tells (FaultBehind marks) (IsRightBehind marks) file (is_failed input.new)) }
     ensures place { IfErr result (TellsItem (came_of input.new)) }
@@ -74,11 +77,13 @@ fn next_mark<R: Read>(
     input: &mut Input<R>,
     bytes: &mut Vec<u8>,
 ) -> Result<Option<PlacedMark>, RecordFault>
-    ensures given { (marks : List MarkOf) → AreGivenOf true marks input.old → IfOk result (GivesPlaced marks input.new) }
+    ensures given { (marks : List MarkOf) → AreGivenOf true marks input.old
+        → IfOk result (GivesPlaced marks input.new) }
     ensures fault { (marks : List MarkOf) (file : List ℕ) → AreGivenOf true marks input.old → IsFileOf file input.new
         → IfErr result (Tells (FaultBehind marks) (IsRightBehind marks) file (is_failed input.new)) }
     ensures place { IfErr result (TellsItem (came_of input.new)) }
-    ensures sound { MatchResult result (λ _. is_failed input.new ≡ false) (λ f. f.kind ≢ RecordKind.Device → is_failed input.new ≡ false) }
+    ensures sound { MatchResult result (λ _. is_failed input.new ≡ false)
+        (λ f. f.kind ≢ RecordKind.Device → is_failed input.new ≡ false) }
     ensures bounded { vec_len bytes.new ≤ 0x10_0000 }
     ensures nearer { IfOk result (λ next. IfSome next (λ given. taken_of input.old < taken_of input.new)) }
     ensures grows { StartsWith (came_of input.new) (came_of input.old) }

@@ -77,18 +77,23 @@ impl<'a, R: Read> Marks<'a, R> {
         ensures given { (marks : List MarkOf) → HasGiven marks self.old → IfOk result (GivesNext marks self.new) }
         // A mark stands after those, at the place that is then reported.
         ensures placed { (marks : List MarkOf) → HasGiven marks self.old
-            → IfOk result (λ next. IfSome next (λ mark. StandsNext marks (mark_of mark) (place_of self.new) (input_of self.new))) }
-        ensures nearer { IfOk result (λ next. IfSome next (λ mark. taken_of (input_of self.old) < taken_of (input_of self.new))) }
+            → IfOk result
+            (λ next. IfSome next (λ mark. StandsNext marks (mark_of mark) (place_of self.new) (input_of self.new))) }
+        ensures nearer { IfOk result
+            (λ next. IfSome next (λ mark. taken_of (input_of self.old) < taken_of (input_of self.new))) }
         // A fault is the first after the marks that were given, whatever follows what came, unless a read failed or memory ran out.
-        ensures fault { (marks : List MarkOf) (file : List ℕ) → HasGiven marks self.old → reported_of self.old ≡ None → IsFileOf file (input_of self.new)
+        ensures fault { (marks : List MarkOf) (file : List ℕ) → HasGiven marks self.old → reported_of self.old ≡ None
+            → IsFileOf file (input_of self.new)
             → IfErr result (Tells (FaultBehind marks) (IsRightBehind marks) file (is_failed (input_of self.new))) }
         // Device and Memory are reported where the item begins that was being read.
         ensures place { reported_of self.old ≡ None → IfErr result (TellsItem (came_of (input_of self.new))) }
         ensures sound { reported_of self.old ≡ None
-            → MatchResult result (λ _. is_failed (input_of self.new) ≡ false) (λ f. f.kind ≢ RecordKind.Device → is_failed (input_of self.new) ≡ false) }
+            → MatchResult result (λ _. is_failed (input_of self.new) ≡ false)
+            (λ f. f.kind ≢ RecordKind.Device → is_failed (input_of self.new) ≡ false) }
         // It is reported again.
         ensures reported { MatchResult result (λ _. reported_of self.new ≡ None) (λ f. reported_of self.new ≡ Some f) }
-        ensures again { (f : RecordFault) → reported_of self.old ≡ Some f → (result ≡ Err f) × (input_of self.new ≡ input_of self.old) }
+        ensures again { (f : RecordFault) → reported_of self.old ≡ Some f → (result ≡ Err f)
+            × (input_of self.new ≡ input_of self.old) }
         ensures same_reference { reference_of self.new ≡ reference_of self.old }
         // Over a reader whose bytes are known what came is their front.
         ensures over { StaysOver R.remaining (input_of self.old) (input_of self.new) }

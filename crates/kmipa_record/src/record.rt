@@ -23,7 +23,8 @@ pub trait Record: Sized {
 
     /// What the item says, where it is such a header or record.
     fn of(alloc: Global, item: &View) -> Result<Option<Self>, AllocError>
-        ensures { IfOk result (λ o. MatchOption o (¬ (is_record (view_tree item.now))) (λ x. says (view_tree item.now) x)) };
+        ensures { IfOk result
+            (λ o. MatchOption o (¬ (is_record (view_tree item.now))) (λ x. says (view_tree item.now) x)) };
 }
 
 /// What comes next in a file.
@@ -47,7 +48,8 @@ pub fn read_header<R: Read, H: Record + Drop>(
     ensures fault { (left after : List ℕ) → Leaves input.old input.new left after → EndsWith input.new after
         → IfErr result (HeaderFails H.is_record (taken_of input.old) left (is_failed input.new)) }
     ensures place { IfErr result (TellsItem (came_of input.new)) }
-    ensures sound { MatchResult result (λ _. is_failed input.new ≡ false) (λ f. f.kind ≢ RecordKind.Device → is_failed input.new ≡ false) }
+    ensures sound { MatchResult result (λ _. is_failed input.new ≡ false)
+        (λ f. f.kind ≢ RecordKind.Device → is_failed input.new ≡ false) }
     ensures grows { StartsWith (came_of input.new) (came_of input.old) }
     ensures over { StaysOver R.remaining input.old input.new }
     ensures bounded { vec_len bytes.new ≤ 0x10_0000 }
@@ -70,11 +72,13 @@ pub fn read_next<R: Read, T: Record + Drop>(
     bytes: &mut Vec<u8>,
 ) -> Result<Next<T>, RecordFault>
     ensures ok { (left after : List ℕ) → Leaves input.old input.new left after
-        → IfOk result (NextIs T.says T.is_record left after (taken_of input.old) (taken_of input.new) (is_ended input.new)) }
+        → IfOk result
+        (NextIs T.says T.is_record left after (taken_of input.old) (taken_of input.new) (is_ended input.new)) }
     ensures fault { (left after : List ℕ) → Leaves input.old input.new left after → EndsWith input.new after
         → IfErr result (ReadFails (taken_of input.old) left (is_failed input.new)) }
     ensures place { IfErr result (TellsItem (came_of input.new)) }
-    ensures sound { MatchResult result (λ _. is_failed input.new ≡ false) (λ f. f.kind ≢ RecordKind.Device → is_failed input.new ≡ false) }
+    ensures sound { MatchResult result (λ _. is_failed input.new ≡ false)
+        (λ f. f.kind ≢ RecordKind.Device → is_failed input.new ≡ false) }
     ensures grows { StartsWith (came_of input.new) (came_of input.old) }
     ensures over { StaysOver R.remaining input.old input.new }
     ensures bounded { vec_len bytes.new ≤ 0x10_0000 }

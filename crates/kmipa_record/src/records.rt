@@ -48,7 +48,8 @@ pub struct Records {
 impl Records {
     /// No records.
     pub fn new(alloc: Global) -> Records
-        ensures none { (unique : Bool) → declared_by unique result ≡ record { unique_names = unique; rows = []; entries = [] } }
+        ensures none { (unique : Bool)
+            → declared_by unique result ≡ record { unique_names = unique; rows = []; entries = [] } }
         ensures kept { AreKept result }
     {
         Records {
@@ -62,7 +63,8 @@ impl Records {
     pub fn take(&mut self, given: DeclarationRecord) -> Result<(), RecordKind>
         requires kept { AreKept self.old }
         requires fit { IsFit (record_of given) }
-        ensures put { MatchResult result (λ _. Puts self.old self.new (record_of given)) (Refuses self.old (record_of given)) }
+        ensures put { MatchResult result (λ _. Puts self.old self.new (record_of given))
+            (Refuses self.old (record_of given)) }
         ensures kept { IfOk result (λ _. AreKept self.new) }
     {
         match given {
@@ -73,7 +75,8 @@ impl Records {
 
     fn take_row(&mut self, row: Row) -> Result<(), RecordKind>
         requires { AreKept self.old }
-        ensures put { MatchResult result (λ _. Puts self.old self.new (record_of (DeclarationRecord.Row row))) (Refuses self.old (record_of (DeclarationRecord.Row row))) }
+        ensures put { MatchResult result (λ _. Puts self.old self.new (record_of (DeclarationRecord.Row row)))
+            (Refuses self.old (record_of (DeclarationRecord.Row row))) }
         ensures kept { IfOk result (λ _. AreKept self.new) }
     {
         if !self.entries.is_empty() {
@@ -88,7 +91,8 @@ impl Records {
     fn take_entry(&mut self, entry: Entry) -> Result<(), RecordKind>
         requires kept { AreKept self.old }
         requires fit { IsFit (record_of (DeclarationRecord.Entry entry)) }
-        ensures put { MatchResult result (λ _. Puts self.old self.new (record_of (DeclarationRecord.Entry entry))) (Refuses self.old (record_of (DeclarationRecord.Entry entry))) }
+        ensures put { MatchResult result (λ _. Puts self.old self.new (record_of (DeclarationRecord.Entry entry)))
+            (Refuses self.old (record_of (DeclarationRecord.Entry entry))) }
         ensures kept { IfOk result (λ _. AreKept self.new) }
     {
         let Ok(id) = entry.id.clone() else {

@@ -13,7 +13,8 @@ use kmipa_ttlv::View;
 
 /// The row that an item says.
 pub fn row_in(item: &View) -> Option<Row>
-    ensures { MatchOption result ((r : RowOf) → view_tree item.now ≢ row_item r) (λ row. view_tree item.now ≡ row_item (row_of row)) }
+    ensures { MatchOption result ((r : RowOf) → view_tree item.now ≢ row_item r)
+        (λ row. view_tree item.now ≡ row_item (row_of row)) }
 {
     let mut children = children_of(item, ROW)?;
     let reason = enumeration_of(&children.next()?, RESULT_REASON)?;

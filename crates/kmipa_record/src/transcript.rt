@@ -74,8 +74,11 @@ impl Record for Mark {
 
 /// What the children of a begin mark say.
 fn begin_in(alloc: Global, children: Children) -> Result<Option<Begin>, AllocError>
-    ensures { IfOk result (λ o. MatchOption o ((call : ℤ) (client message : List ℕ) → view_trees children.entry ≢ begin_fields call client message)
-        (λ begin. view_trees children.entry ≡ begin_fields begin.call (string_bytes begin.client) begin.message.items)) }
+    ensures { IfOk result
+        (λ o. MatchOption o
+        ((call : ℤ) (client message : List ℕ) → view_trees children.entry ≢ begin_fields call client message)
+        (λ begin. view_trees children.entry
+        ≡ begin_fields begin.call (string_bytes begin.client) begin.message.items)) }
 {
     match begin_parts(children) {
         Some((call, client, message)) => Ok(Some(Begin {
@@ -89,7 +92,8 @@ fn begin_in(alloc: Global, children: Children) -> Result<Option<Begin>, AllocErr
 
 /// The number, the client and the message of a begin mark with these children.
 fn begin_parts<'a>(children: Children<'a>) -> Option<(i32, &'a str, &'a [u8])>
-    ensures { MatchOption result ((call : ℤ) (client message : List ℕ) → view_trees children.entry ≢ begin_fields call client message)
+    ensures { MatchOption result
+        ((call : ℤ) (client message : List ℕ) → view_trees children.entry ≢ begin_fields call client message)
         (λ parts. view_trees children.entry ≡ begin_fields parts.0 parts.1.now parts.2.now) }
 {
     let mut children = children;
@@ -104,7 +108,8 @@ fn begin_parts<'a>(children: Children<'a>) -> Option<(i32, &'a str, &'a [u8])>
 
 /// What the children of an end mark say.
 fn end_in(alloc: Global, children: Children) -> Result<Option<End>, AllocError>
-    ensures { IfOk result (λ o. MatchOption o ((call : ℤ) (message : List ℕ) → view_trees children.entry ≢ end_fields call message)
+    ensures { IfOk result
+        (λ o. MatchOption o ((call : ℤ) (message : List ℕ) → view_trees children.entry ≢ end_fields call message)
         (λ end. view_trees children.entry ≡ end_fields end.call end.message.items)) }
 {
     match end_parts(children) {
@@ -139,14 +144,17 @@ pub fn read_transcript<R: Read>(
 ) -> Result<Transcript, RecordFault>
     requires { came_of input.old ≡ [] }
     // What is read is what the bytes are that came, to the end that was seen.
-    ensures found { IfOk result (λ transcript. IsTranscript (came_of input.new) (transcript_of transcript) × IsTrue (is_ended input.new)) }
+    ensures found { IfOk result
+        (λ transcript. IsTranscript (came_of input.new) (transcript_of transcript) × IsTrue (is_ended input.new)) }
     // Its calls begin and end as those of a transcript do; a call without an end mark is open.
     ensures recorded { IfOk result (λ transcript. AreRecorded (transcript_of transcript)) }
     // Else the first fault is reported, whatever follows what came, and nothing where the end was seen; unless a read failed or memory ran out.
-    ensures fault { (file : List ℕ) → IsFileOf file input.new → IfErr result (Tells TranscriptFault IsTranscriptUpTo file (is_failed input.new)) }
+    ensures fault { (file : List ℕ) → IsFileOf file input.new
+        → IfErr result (Tells TranscriptFault IsTranscriptUpTo file (is_failed input.new)) }
     // These two are reported where the item begins that was being read.
     ensures place { IfErr result (TellsItem (came_of input.new)) }
-    ensures sound { MatchResult result (λ _. is_failed input.new ≡ false) (λ f. f.kind ≢ RecordKind.Device → is_failed input.new ≡ false) }
+    ensures sound { MatchResult result (λ _. is_failed input.new ≡ false)
+        (λ f. f.kind ≢ RecordKind.Device → is_failed input.new ≡ false) }
     // Over a reader whose bytes are known what came is their front, and all where the end was seen.
     ensures over { StaysOver R.remaining input.old input.new }
 {
@@ -168,10 +176,14 @@ fn take_marks<R: Read>(
     marks: &mut Vec<Mark>,
 ) -> Result<(), RecordFault>
     requires { AreTaken (map mark_of marks.old.items) calls.old source.old }
-    ensures found { OnOk result (IsTranscript (came_of (input_of source.new)) (map mark_of marks.new.items) × IsTrue (is_ended (input_of source.new))) }
-    ensures fault { (file : List ℕ) → IsFileOf file (input_of source.new) → IfErr result (Tells TranscriptFault IsTranscriptUpTo file (is_failed (input_of source.new))) }
+    ensures found { OnOk result
+        (IsTranscript (came_of (input_of source.new)) (map mark_of marks.new.items)
+        × IsTrue (is_ended (input_of source.new))) }
+    ensures fault { (file : List ℕ) → IsFileOf file (input_of source.new)
+        → IfErr result (Tells TranscriptFault IsTranscriptUpTo file (is_failed (input_of source.new))) }
     ensures place { IfErr result (TellsItem (came_of (input_of source.new))) }
-    ensures sound { MatchResult result (λ _. is_failed (input_of source.new) ≡ false) (λ f. f.kind ≢ RecordKind.Device → is_failed (input_of source.new) ≡ false) }
+    ensures sound { MatchResult result (λ _. is_failed (input_of source.new) ≡ false)
+        (λ f. f.kind ≢ RecordKind.Device → is_failed (input_of source.new) ≡ false) }
     ensures same_reference { reference_of source.new ≡ reference_of source.old }
     ensures over { StaysOver R.remaining (input_of source.old) (input_of source.new) }
 {
@@ -187,11 +199,16 @@ fn take_mark<R: Read>(
 ) -> Result<bool, RecordFault>
     requires { AreTaken (map mark_of marks.old.items) calls.old source.old }
     ensures taken { OnOk result (AreTaken (map mark_of marks.new.items) calls.new source.new) }
-    ensures end { IfOk result (λ more. more ≡ false → IsTranscript (came_of (input_of source.new)) (map mark_of marks.new.items) × IsTrue (is_ended (input_of source.new))) }
-    ensures fault { (file : List ℕ) → IsFileOf file (input_of source.new) → IfErr result (Tells TranscriptFault IsTranscriptUpTo file (is_failed (input_of source.new))) }
+    ensures end { IfOk result
+        (λ more. more ≡ false → IsTranscript (came_of (input_of source.new)) (map mark_of marks.new.items)
+        × IsTrue (is_ended (input_of source.new))) }
+    ensures fault { (file : List ℕ) → IsFileOf file (input_of source.new)
+        → IfErr result (Tells TranscriptFault IsTranscriptUpTo file (is_failed (input_of source.new))) }
     ensures place { IfErr result (TellsItem (came_of (input_of source.new))) }
-    ensures nearer { IfOk result (λ more. more ≡ true → taken_of (input_of source.old) < taken_of (input_of source.new)) }
-    ensures sound { MatchResult result (λ _. is_failed (input_of source.new) ≡ false) (λ f. f.kind ≢ RecordKind.Device → is_failed (input_of source.new) ≡ false) }
+    ensures nearer { IfOk result
+        (λ more. more ≡ true → taken_of (input_of source.old) < taken_of (input_of source.new)) }
+    ensures sound { MatchResult result (λ _. is_failed (input_of source.new) ≡ false)
+        (λ f. f.kind ≢ RecordKind.Device → is_failed (input_of source.new) ≡ false) }
     ensures same_reference { reference_of source.new ≡ reference_of source.old }
     ensures over { StaysOver R.remaining (input_of source.old) (input_of source.new) }
 {
@@ -211,7 +228,8 @@ fn keep_mark(
     mark: Mark,
     offset: u64,
 ) -> Result<(), RecordFault>
-    ensures { MatchResult result (λ _. Takes calls.old calls.new (mark_of mark) × (marks.new.items ≡ marks.old.items ++ mark ∷ []))
+    ensures { MatchResult result
+        (λ _. Takes calls.old calls.new (mark_of mark) × (marks.new.items ≡ marks.old.items ++ mark ∷ []))
         (λ f. (f.offset ≡ offset) × ((f.kind ≡ RecordKind.Memory) ⊎ Refuses calls.old (mark_of mark) f.kind)) }
 {
     match calls.take(&mark) {

@@ -27,7 +27,8 @@ pub fn write_transcript(
     out: &mut Vec<u8>,
 ) -> Result<(), RecordFault>
     // What is appended is a transcript of these marks, padded with zeros.
-    ensures written { OnOk result (Appends (IsWrittenTranscript (transcript_of transcript.now)) out.old.items out.new.items) }
+    ensures written { OnOk result
+        (Appends (IsWrittenTranscript (transcript_of transcript.now)) out.old.items out.new.items) }
     // It is refused where no bytes are one, or where memory ran out.
     ensures refused { IfErr result (Unwritten (λ bytes. IsTranscript bytes (transcript_of transcript.now))) }
     ensures same { IfErr result (λ _. out.new.items ≡ out.old.items) }
@@ -43,7 +44,9 @@ pub fn write_transcript(
 }
 
 fn put_transcript(alloc: Global, marks: &[Mark], out: &mut Vec<u8>) -> Result<(), RecordKind>
-    ensures put { OnOk result (AddsAll (transcript_header ∷ map mark_item (map mark_of marks.now)) out.old.items out.new.items × AreRecorded (map mark_of marks.now)) }
+    ensures put { OnOk result
+        (AddsAll (transcript_header ∷ map mark_item (map mark_of marks.now)) out.old.items out.new.items
+        × AreRecorded (map mark_of marks.now)) }
     ensures refused { IfErr result (Refused (AreWritable (map mark_of marks.now))) }
     ensures grows { StartsWith out.new.items out.old.items }
 {
@@ -69,7 +72,8 @@ fn test_marks(alloc: Global, marks: &[Mark]) -> Result<(), RecordKind>
 
 /// Why marks are not written of which one has this fault.
 fn refusal(kind: RecordKind) -> RecordKind
-    ensures { ((kind ≡ RecordKind.Memory) × (result ≡ RecordKind.Memory)) ⊎ ((kind ≢ RecordKind.Memory) × (result ≡ RecordKind.Entry)) }
+    ensures { ((kind ≡ RecordKind.Memory) × (result ≡ RecordKind.Memory))
+        ⊎ ((kind ≢ RecordKind.Memory) × (result ≡ RecordKind.Entry)) }
 {
     match kind {
         RecordKind::Memory => RecordKind::Memory,
@@ -89,7 +93,9 @@ impl Written for Mark {
 }
 
 fn write_begin(alloc: Global, begin: &Begin) -> Result<Item, AllocError>
-    ensures { IfOk result (λ item. tree item ≡ mark_item (MarkOf.begins begin.now.call (string_bytes begin.now.client) begin.now.message.items)) }
+    ensures { IfOk result
+        (λ item. tree item
+        ≡ mark_item (MarkOf.begins begin.now.call (string_bytes begin.now.client) begin.now.message.items)) }
 {
     let call = Item::integer(Tag { number: CALL }, begin.call);
     let client = Item::text(alloc, Tag { number: CLIENT }, &begin.client)?;

@@ -57,7 +57,8 @@ impl Record for Turn {
 
 /// The number of an Integer with this tag that the children begin with, and the children after it.
 fn integer_before<'a>(children: Children<'a>, tag: u32) -> Option<(i32, Children<'a>)>
-    ensures { MatchOption result ((number : ℤ) (rest : List Tree) → list_of (view_trees children.entry) ≢ scalar tag (integer number) ∷ rest)
+    ensures { MatchOption result
+        ((number : ℤ) (rest : List Tree) → list_of (view_trees children.entry) ≢ scalar tag (integer number) ∷ rest)
         (λ r. list_of (view_trees children.entry) ≡ scalar tag (integer r.0) ∷ list_of (view_trees r.1)) }
 {
     let mut rest = children;
@@ -67,7 +68,8 @@ fn integer_before<'a>(children: Children<'a>, tag: u32) -> Option<(i32, Children
 
 /// The answer that the children begin with, if any, and the children after it.
 fn answer_before<'a>(children: Children<'a>) -> (Option<&'a [u8]>, Children<'a>)
-    ensures split { list_of (view_trees children.entry) ≡ map answer_item (listed (option_map lent result.0)) ++ list_of (view_trees result.1) }
+    ensures split { list_of (view_trees children.entry)
+        ≡ map answer_item (listed (option_map lent result.0)) ++ list_of (view_trees result.1) }
     ensures first { option_map lent result.0 ≡ None → NotAhead answer_item (list_of (view_trees children.entry)) }
 {
     let mut rest = children;
@@ -85,7 +87,9 @@ fn places_before<'a>(
     alloc: Global,
     children: Children<'a>,
 ) -> Result<(Vec<i32>, Children<'a>), AllocError>
-    ensures { IfOk result (λ r. (list_of (view_trees children.entry) ≡ map place_item r.0.items ++ list_of (view_trees r.1)) × NotAhead place_item (list_of (view_trees r.1))) }
+    ensures { IfOk result
+        (λ r. (list_of (view_trees children.entry) ≡ map place_item r.0.items ++ list_of (view_trees r.1))
+        × NotAhead place_item (list_of (view_trees r.1))) }
 {
     let mut places = Vec::new(alloc);
     let mut left = children;
@@ -113,7 +117,9 @@ fn push_answer(
     children: &mut Vec<Item>,
     answer: &Option<Vec<u8>>,
 ) -> Result<(), AllocError>
-    ensures { OnOk result (map tree children.new.items ≡ map tree children.old.items ++ map answer_item (listed (option_map items_of answer.now))) }
+    ensures { OnOk result
+        (map tree children.new.items
+        ≡ map tree children.old.items ++ map answer_item (listed (option_map items_of answer.now))) }
 {
     if let Some(answer) = answer {
         children.push(Item::bytes(alloc, Tag { number: ANSWER }, answer)?)?;

@@ -29,7 +29,8 @@ impl Version {
 
 /// The newer of two versions.
 pub fn newer(a: Version, b: Version) -> Version
-    ensures { (version_number a ≤ version_number result) × (version_number b ≤ version_number result) × ((result ≡ a) ⊎ (result ≡ b)) }
+    ensures { (version_number a ≤ version_number result) × (version_number b ≤ version_number result)
+        × ((result ≡ a) ⊎ (result ≡ b)) }
 {
     match (a, b) {
         (Version::Third, _) | (_, Version::Third) => Version::Third,
@@ -40,7 +41,8 @@ pub fn newer(a: Version, b: Version) -> Version
 
 /// The version with this number.
 pub fn version_of(number: i32) -> Option<Version>
-    ensures { MatchOption result ((version : Version) → number ≢ pos (version_number version)) (λ version. number ≡ pos (version_number version)) }
+    ensures { MatchOption result ((version : Version) → number ≢ pos (version_number version))
+        (λ version. number ≡ pos (version_number version)) }
 {
     match number {
         1 => Some(Version::First),

@@ -29,12 +29,15 @@ pub struct Witness {
 pub fn read_witness<R: Read>(alloc: Global, input: &mut Input<R>) -> Result<Witness, RecordFault>
     requires { came_of input.old ≡ [] }
     // What is read is what the bytes are that came, to the end that was seen.
-    ensures found { IfOk result (λ witness. IsWitness (came_of input.new) (witness_of witness) × IsTrue (is_ended input.new)) }
+    ensures found { IfOk result
+        (λ witness. IsWitness (came_of input.new) (witness_of witness) × IsTrue (is_ended input.new)) }
     // Else the first fault is reported, whatever follows what came, and nothing where the end was seen; unless a read failed or memory ran out.
-    ensures fault { (file : List ℕ) → IsFileOf file input.new → IfErr result (Tells WitnessFault IsWitnessUpTo file (is_failed input.new)) }
+    ensures fault { (file : List ℕ) → IsFileOf file input.new
+        → IfErr result (Tells WitnessFault IsWitnessUpTo file (is_failed input.new)) }
     // These two are reported where the item begins that was being read.
     ensures place { IfErr result (TellsItem (came_of input.new)) }
-    ensures sound { MatchResult result (λ _. is_failed input.new ≡ false) (λ f. f.kind ≢ RecordKind.Device → is_failed input.new ≡ false) }
+    ensures sound { MatchResult result (λ _. is_failed input.new ≡ false)
+        (λ f. f.kind ≢ RecordKind.Device → is_failed input.new ≡ false) }
     // Over a reader whose bytes are known what came is their front, and all where the end was seen.
     ensures over { StaysOver R.remaining input.old input.new }
 {
@@ -62,7 +65,8 @@ fn read_turn<R: Read>(
     ensures place { IfErr result (TellsItem (came_of input.new)) }
     ensures end { IfOk result (λ more. more ≡ false → IsTrue (is_ended input.new)) }
     ensures nearer { IfOk result (λ more. more ≡ true → taken_of input.old < taken_of input.new) }
-    ensures sound { MatchResult result (λ _. is_failed input.new ≡ false) (λ f. f.kind ≢ RecordKind.Device → is_failed input.new ≡ false) }
+    ensures sound { MatchResult result (λ _. is_failed input.new ≡ false)
+        (λ f. f.kind ≢ RecordKind.Device → is_failed input.new ≡ false) }
     ensures grows { StartsWith (came_of input.new) (came_of input.old) }
     ensures over { StaysOver R.remaining input.old input.new }
 {
@@ -89,7 +93,8 @@ fn keep_turn(
     offset: u64,
 ) -> Result<(), RecordFault>
     requires { ArePayloads (turn_of turn).fills }
-    ensures { MatchResult result (λ _. Admits version (turn_of turn) × IsCallNumber turn.call × (turns.new.items ≡ turns.old.items ++ turn ∷ []))
+    ensures { MatchResult result
+        (λ _. Admits version (turn_of turn) × IsCallNumber turn.call × (turns.new.items ≡ turns.old.items ++ turn ∷ []))
         (λ f. (f.offset ≡ offset) × RefusesTurn version (turn_of turn) f.kind) }
 {
     if !admits(version, &turn) {

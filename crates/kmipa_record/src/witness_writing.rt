@@ -37,7 +37,9 @@ pub fn write_witness(alloc: Global, witness: &Witness, out: &mut Vec<u8>) -> Res
 }
 
 fn put_witness(alloc: Global, turns: &[Turn], out: &mut Vec<u8>) -> Result<(), RecordKind>
-    ensures put { OnOk result ((version : Version) × AddsAll (witness_header version ∷ map turn_item (map turn_of turns.now)) out.old.items out.new.items
+    ensures put { OnOk result
+        ((version : Version)
+        × AddsAll (witness_header version ∷ map turn_item (map turn_of turns.now)) out.old.items out.new.items
         × IsLowest version (map turn_of turns.now) × All IsWritable (map turn_of turns.now)) }
     ensures refused { IfErr result (Refused (All IsWritable (map turn_of turns.now))) }
     ensures grows { StartsWith out.new.items out.old.items }
@@ -48,7 +50,9 @@ fn put_witness(alloc: Global, turns: &[Turn], out: &mut Vec<u8>) -> Result<(), R
 }
 
 fn put_turns(alloc: Global, turns: &[Turn], out: &mut Vec<u8>) -> Result<(), RecordKind>
-    ensures put { OnOk result (AddsAll (map turn_item (map turn_of turns.now)) out.old.items out.new.items × All IsWritable (map turn_of turns.now)) }
+    ensures put { OnOk result
+        (AddsAll (map turn_item (map turn_of turns.now)) out.old.items out.new.items
+        × All IsWritable (map turn_of turns.now)) }
     ensures refused { IfErr result (Refused (All IsWritable (map turn_of turns.now))) }
     ensures grows { StartsWith out.new.items out.old.items }
 {
@@ -59,7 +63,8 @@ fn put_turns(alloc: Global, turns: &[Turn], out: &mut Vec<u8>) -> Result<(), Rec
 }
 
 fn append_turn(alloc: Global, turn: &Turn, out: &mut Vec<u8>) -> Result<(), RecordKind>
-    ensures ok { OnOk result (Adds (turn_item (turn_of turn.now)) out.old.items out.new.items × IsWritable (turn_of turn.now)) }
+    ensures ok { OnOk result
+        (Adds (turn_item (turn_of turn.now)) out.old.items out.new.items × IsWritable (turn_of turn.now)) }
     ensures refused { IfErr result (Refused (IsWritable (turn_of turn.now))) }
     ensures same { IfErr result (λ _. out.new.items ≡ out.old.items) }
 {

@@ -87,7 +87,8 @@ pub fn push_object(
     object: Object,
 ) -> Result<(), StoreFault>
     requires { place_of (string_bytes object.id) (cards_of present.old.dated.objects) ≡ None }
-    ensures { LogsObjects places.now.items present.old changes.old.items (present.old.dated.objects ++ held object ∷ []) result present.new changes.new.items }
+    ensures { LogsObjects places.now.items present.old changes.old.items
+        (present.old.dated.objects ++ held object ∷ []) result present.new changes.new.items }
 {
     let change = present.push(object)?;
     write_down(present, changes, places, change)
@@ -102,7 +103,8 @@ pub fn set_life(
     life: Life,
 ) -> Result<(), StoreFault>
     requires { place < length present.old.dated.objects }
-    ensures { LogsObjects places.now.items present.old changes.old.items (relived present.old.dated.objects place life) result present.new changes.new.items }
+    ensures { LogsObjects places.now.items present.old changes.old.items
+        (relived present.old.dated.objects place life) result present.new changes.new.items }
 {
     let change = present.set_life(place, life)?;
     write_down(present, changes, places, change)
@@ -136,7 +138,8 @@ pub fn push_secret(
     places: &Vec<Place>,
     rule: Rule,
 ) -> Result<(), StoreFault>
-    ensures { Logs secret_unmade places.now.items secrets.old changes.old.items (secrets.old ++ record { rule = rule; bytes = None } ∷ []) result secrets.new changes.new.items }
+    ensures { Logs secret_unmade places.now.items secrets.old changes.old.items
+        (secrets.old ++ record { rule = rule; bytes = None } ∷ []) result secrets.new changes.new.items }
 {
     changes.push(SecretChange::Made)?;
     match secrets.push(rule) {
@@ -161,7 +164,8 @@ pub fn tell_secret(
 ) -> Result<(), StoreFault>
     requires there { number < length secrets.old }
     requires unknown { is_unknown (slice_get secrets.old number) ≡ true }
-    ensures { Logs secret_unmade places.now.items secrets.old changes.old.items (told secrets.old number bytes.items) result secrets.new changes.new.items }
+    ensures { Logs secret_unmade places.now.items secrets.old changes.old.items
+        (told secrets.old number bytes.items) result secrets.new changes.new.items }
 {
     changes.push(SecretChange::Learned(number))?;
     secrets.tell(number, bytes);

@@ -84,7 +84,10 @@ impl Clock {
 
     /// The object at a place leads this life from now on.
     pub fn tell(&mut self, place: usize, life: Life)
-        ensures { self.new ≡ record self.old { states = updated self.old.states place (λ _. state (dates_of life) self.old.moment) } }
+        ensures { self.new ≡ record self.old {
+          states = updated self.old.states place
+              (λ _. state (dates_of life) self.old.moment);
+        } }
     {
         let told = state_at(&life, self.moment);
         put_state(&mut self.states, place, told);
@@ -131,7 +134,11 @@ impl Clock {
 
     /// Takes the last state away, and the dates that the last object brought.
     pub fn remove(&mut self, place: usize, brought: Brought)
-        ensures { self.new ≡ record self.old { states = take (length self.old.states - 1) self.old.states; due = without self.old.due place brought } }
+        ensures { self.new ≡ record self.old {
+          states = take
+              (length self.old.states - 1) self.old.states;
+          due = without self.old.due place brought;
+        } }
     {
         let _ = self.states.pop();
         self.forget(place, brought);

@@ -33,7 +33,8 @@ impl<'a> Children<'a> {
     /// The next child, after which the others are left; `None` where none is left, then and from then on.
     #[inline(always)]
     pub fn next(&mut self) -> Option<View<'a>>
-        ensures { MatchOption result ((view_trees self.old ≡ none) × (view_trees self.new ≡ none)) (λ v. view_trees self.old ≡ more (view_tree v) (view_trees self.new)) }
+        ensures { MatchOption result ((view_trees self.old ≡ none) × (view_trees self.new ≡ none))
+            (λ v. view_trees self.old ≡ more (view_tree v) (view_trees self.new)) }
     {
         match self.source {
             Source::Spelled(bytes) => {
@@ -55,7 +56,8 @@ impl<'a> Children<'a> {
 
     /// The next child with this tag, after which those behind it are left; after `None` none is left.
     pub fn next_of(&mut self, tag: u32) -> Option<View<'a>>
-        ensures next { MatchOption result (every tag (view_trees self.old) ≡ []) (λ v. every tag (view_trees self.old) ≡ view_tree v ∷ every tag (view_trees self.new)) }
+        ensures next { MatchOption result (every tag (view_trees self.old) ≡ [])
+            (λ v. every tag (view_trees self.old) ≡ view_tree v ∷ every tag (view_trees self.new)) }
         ensures tag { IfSome result (λ v. v.tag.number ≡ tag) }
         ensures end { IfNone result (view_trees self.new ≡ none) }
     {

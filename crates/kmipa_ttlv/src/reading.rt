@@ -30,18 +30,26 @@ const CHUNK: usize = 65_536;
 /// from the input's first byte; Device where the input is failed and Memory, with the item's offset.
 pub fn read_item<R: Read>(alloc: Global, input: &mut Input<R>) -> Result<Option<Item>, TtlvFault>
     // What came is the item's spelling, and nothing after it.
-    ensures item { IfOk result (λ o. IfSome o (λ item. (front : List ℕ) × Spells (tree item) front × (came_of input.new ≡ came_of input.old ++ front))) }
+    ensures item { IfOk result
+        (λ o. IfSome o
+        (λ item. (front : List ℕ) × Spells (tree item) front × (came_of input.new ≡ came_of input.old ++ front))) }
     // It is the next of those that came.
-    ensures next { IfOk result (λ o. IfSome o (λ item. (given : List Tree) → AreItems given (came_of input.old) → AreItems (given ++ tree item ∷ []) (came_of input.new))) }
+    ensures next { IfOk result
+        (λ o. IfSome o
+        (λ item. (given : List Tree) → AreItems given (came_of input.old)
+        → AreItems (given ++ tree item ∷ []) (came_of input.new))) }
     // At the end nothing came.
     ensures end { IfOk result (λ o. IfNone o (IsTrue (is_ended input.new) × (came_of input.new ≡ came_of input.old))) }
-    ensures fault { IfErr result (λ f. ReadTells (taken_of input.old) (appended_bytes (came_of input.old) (came_of input.new)) (is_ended input.new) (is_failed input.new) f) }
+    ensures fault { IfErr result
+        (λ f. ReadTells (taken_of input.old) (appended_bytes (came_of input.old) (came_of input.new))
+        (is_ended input.new) (is_failed input.new) f) }
     ensures sound { IfErr result (λ f. f.kind ≢ FaultKind.Device → is_failed input.new ≡ false) }
     ensures grows { StartsWith (came_of input.new) (came_of input.old) }
     ensures over { StaysOver R.remaining input.old input.new }
     ensures works { OnOk result (is_failed input.new ≡ false) }
     // A failed input answers Device, and stays failed.
-    ensures failed { IsTrue (is_failed input.old) → result ≡ Err (record { offset = taken_of input.old; kind = FaultKind.Device }) }
+    ensures failed { IsTrue (is_failed input.old)
+        → result ≡ Err (record { offset = taken_of input.old; kind = FaultKind.Device }) }
     ensures stays { IsTrue (is_failed input.old) → IsTrue (is_failed input.new) }
 {
     let place = input.taken();
@@ -65,18 +73,26 @@ pub fn read_view<'b, R: Read>(
     bytes: &'b mut Vec<u8>,
 ) -> Result<Option<View<'b>>, TtlvFault>
     // What came is the item's spelling, and nothing after it.
-    ensures item { IfOk result (λ o. IfSome o (λ view. (front : List ℕ) × Spells (view_tree view) front × (came_of input.new ≡ came_of input.old ++ front))) }
+    ensures item { IfOk result
+        (λ o. IfSome o
+        (λ view. (front : List ℕ) × Spells (view_tree view) front × (came_of input.new ≡ came_of input.old ++ front))) }
     // It is the next of those that came.
-    ensures next { IfOk result (λ o. IfSome o (λ view. (given : List Tree) → AreItems given (came_of input.old) → AreItems (given ++ view_tree view ∷ []) (came_of input.new))) }
+    ensures next { IfOk result
+        (λ o. IfSome o
+        (λ view. (given : List Tree) → AreItems given (came_of input.old)
+        → AreItems (given ++ view_tree view ∷ []) (came_of input.new))) }
     // At the end nothing came.
     ensures end { IfOk result (λ o. IfNone o (IsTrue (is_ended input.new) × (came_of input.new ≡ came_of input.old))) }
-    ensures fault { IfErr result (λ f. ReadTells (taken_of input.old) (appended_bytes (came_of input.old) (came_of input.new)) (is_ended input.new) (is_failed input.new) f) }
+    ensures fault { IfErr result
+        (λ f. ReadTells (taken_of input.old) (appended_bytes (came_of input.old) (came_of input.new))
+        (is_ended input.new) (is_failed input.new) f) }
     ensures sound { IfErr result (λ f. f.kind ≢ FaultKind.Device → is_failed input.new ≡ false) }
     ensures grows { StartsWith (came_of input.new) (came_of input.old) }
     ensures over { StaysOver R.remaining input.old input.new }
     ensures works { OnOk result (is_failed input.new ≡ false) }
     // A failed input answers Device, and stays failed.
-    ensures failed { IsTrue (is_failed input.old) → result ≡ Err (record { offset = taken_of input.old; kind = FaultKind.Device }) }
+    ensures failed { IsTrue (is_failed input.old)
+        → result ≡ Err (record { offset = taken_of input.old; kind = FaultKind.Device }) }
     ensures stays { IsTrue (is_failed input.old) → IsTrue (is_failed input.new) }
 {
     let place = input.taken();
@@ -94,13 +110,16 @@ pub fn read_spelled<R: Read>(input: &mut Input<R>, bytes: &mut Vec<u8>) -> Resul
     ensures item { IfOk result (λ some. some ≡ true → (t : Tree) × Spells t bytes.new.items) }
     // At the end nothing came.
     ensures end { IfOk result (λ some. some ≡ false → (bytes.new.items ≡ []) × IsTrue (is_ended input.new)) }
-    ensures fault { IfErr result (λ f. ReadTells (taken_of input.old) (appended_bytes (came_of input.old) (came_of input.new)) (is_ended input.new) (is_failed input.new) f) }
+    ensures fault { IfErr result
+        (λ f. ReadTells (taken_of input.old) (appended_bytes (came_of input.old) (came_of input.new))
+        (is_ended input.new) (is_failed input.new) f) }
     ensures sound { IfErr result (λ f. f.kind ≢ FaultKind.Device → is_failed input.new ≡ false) }
     ensures grows { StartsWith (came_of input.new) (came_of input.old) }
     ensures over { StaysOver R.remaining input.old input.new }
     ensures works { OnOk result (is_failed input.new ≡ false) }
     // A failed input answers Device, and stays failed.
-    ensures failed { IsTrue (is_failed input.old) → result ≡ Err (record { offset = taken_of input.old; kind = FaultKind.Device }) }
+    ensures failed { IsTrue (is_failed input.old)
+        → result ≡ Err (record { offset = taken_of input.old; kind = FaultKind.Device }) }
     ensures stays { IsTrue (is_failed input.old) → IsTrue (is_failed input.new) }
 {
     let place = input.taken();
@@ -130,7 +149,9 @@ pub fn read_bytes<R: Read>(input: &mut Input<R>, bytes: &mut Vec<u8>) -> Result<
     ensures came { OnOk result (came_of input.new ≡ came_of input.old ++ bytes.new.items) }
     ensures whole { IfOk result (λ some. some ≡ true → IsWhole bytes.new.items) }
     ensures end { IfOk result (λ some. some ≡ false → (bytes.new.items ≡ []) × IsTrue (is_ended input.new)) }
-    ensures fault { IfErr result (λ f. ReadTells (taken_of input.old) (appended_bytes (came_of input.old) (came_of input.new)) (is_ended input.new) (is_failed input.new) f) }
+    ensures fault { IfErr result
+        (λ f. ReadTells (taken_of input.old) (appended_bytes (came_of input.old) (came_of input.new))
+        (is_ended input.new) (is_failed input.new) f) }
     // Where a read failed or memory ran out, what came is the beginning of an item, as far as it goes.
     ensures inside { IfErr result (λ f. StopsInside f.kind (appended_bytes (came_of input.old) (came_of input.new))) }
     ensures sound { IfErr result (λ f. f.kind ≢ FaultKind.Device → is_failed input.new ≡ false) }
@@ -138,7 +159,8 @@ pub fn read_bytes<R: Read>(input: &mut Input<R>, bytes: &mut Vec<u8>) -> Result<
     ensures over { StaysOver R.remaining input.old input.new }
     ensures works { OnOk result (is_failed input.new ≡ false) }
     // A failed input answers Device, and stays failed.
-    ensures failed { IsTrue (is_failed input.old) → result ≡ Err (record { offset = taken_of input.old; kind = FaultKind.Device }) }
+    ensures failed { IsTrue (is_failed input.old)
+        → result ≡ Err (record { offset = taken_of input.old; kind = FaultKind.Device }) }
     ensures stays { IsTrue (is_failed input.old) → IsTrue (is_failed input.new) }
 {
     let place = input.taken();
@@ -183,9 +205,12 @@ pub fn read_all<R: Read>(input: &mut Input<R>, out: &mut Vec<u8>) -> Result<(), 
     ensures works { OnOk result (is_failed input.new ≡ false) }
     // What was there stays, and what is appended is what came first, also after a fault.
     ensures appends { StartsWith out.new.items out.old.items }
-    ensures front { StartsWith (appended_bytes (came_of input.old) (came_of input.new)) (appended_bytes out.old.items out.new.items) }
+    ensures front { StartsWith (appended_bytes (came_of input.old) (came_of input.new))
+        (appended_bytes out.old.items out.new.items) }
     // All bytes that came are appended, save some where memory ran out.
-    ensures kept { IfErr result (λ fault. fault.kind ≡ FaultKind.Device → came_of input.new ≡ came_of input.old ++ appended_bytes out.old.items out.new.items) }
+    ensures kept { IfErr result
+        (λ fault. fault.kind ≡ FaultKind.Device
+        → came_of input.new ≡ came_of input.old ++ appended_bytes out.old.items out.new.items) }
     ensures sound { IfErr result (λ f. f.kind ≢ FaultKind.Device → is_failed input.new ≡ false) }
     ensures grows { StartsWith (came_of input.new) (came_of input.old) }
     ensures over { StaysOver R.remaining input.old input.new }
@@ -193,7 +218,8 @@ pub fn read_all<R: Read>(input: &mut Input<R>, out: &mut Vec<u8>) -> Result<(), 
     ensures kinds { IfErr result (λ fault. (fault.kind ≡ FaultKind.Device × IsTrue (is_failed input.new))
         ⊎ (fault.kind ≡ FaultKind.Memory)) }
     // A failed input answers Device, and stays failed.
-    ensures failed { IsTrue (is_failed input.old) → (result ≡ Err (record { offset = 0; kind = FaultKind.Device })) × (out.new.items ≡ out.old.items) }
+    ensures failed { IsTrue (is_failed input.old) → (result ≡ Err (record { offset = 0; kind = FaultKind.Device }))
+        × (out.new.items ≡ out.old.items) }
     ensures stays { IsTrue (is_failed input.old) → IsTrue (is_failed input.new) }
 {
     let mut chunk = [0u8; CHUNK];

@@ -16,7 +16,8 @@ use byteorder::{BigEndian, ByteOrder};
 /// The item at the front and the bytes behind it, or `None` where no whole one is there.
 #[inline(always)]
 pub fn front_view(bytes: &[u8]) -> Option<(View<'_>, &[u8])>
-    ensures { MatchOption result (items_at bytes.now ≡ none) (λ x. items_at bytes.now ≡ more (view_tree x.0) (items_at x.1.now)) }
+    ensures { MatchOption result (items_at bytes.now ≡ none)
+        (λ x. items_at bytes.now ≡ more (view_tree x.0) (items_at x.1.now)) }
 {
     let Some((tag, extent)) = whole_front(bytes) else {
         return None;
@@ -80,7 +81,8 @@ fn value_view(kind: Kind, value: &[u8]) -> ViewValue<'_>
 fn allowed_view(kind: Kind, value: &[u8]) -> ViewValue<'_>
     requires { kind ≢ Kind.Structure → IsTrue (allows (number_of_kind kind) (length value.now)) }
     ensures { (tag : ℕ) → view_value_tree tag result
-        ≡ cond (number_of_kind kind == 1) (structure tag (items_at value.now)) (scalar tag (scalar_at (number_of_kind kind) value.now)) }
+        ≡ cond (number_of_kind kind == 1) (structure tag (items_at value.now))
+        (scalar tag (scalar_at (number_of_kind kind) value.now)) }
 {
     match kind {
         Kind::Structure => ViewValue::Structure(Children {

@@ -40,7 +40,9 @@ pub fn read_answers<'a>(
     children: Children<'a>,
     asks: &[Ask],
 ) -> Result<Vec<Answer<'a>>, ReadFault>
-    ensures { Gives answers_of result (from_one (each_in (λ place. answer_in (slice_get (map ask_of asks.now) place)) (every batch_item (view_trees children.entry)))) }
+    ensures { Gives answers_of result
+        (from_one (each_in (λ place. answer_in (slice_get (map ask_of asks.now) place))
+        (every batch_item (view_trees children.entry)))) }
 {
     let mut answers = Vec::with_capacity(alloc, count)?;
     let mut left = children;
@@ -116,7 +118,8 @@ fn shown<'a>(
     status: Status,
     children: Children<'a>,
 ) -> Result<Option<Payload<'a>>, Unread>
-    ensures { Yields (option_map payload_of) result (shown_in own status (first response_payload (view_trees children.entry))) }
+    ensures { Yields (option_map payload_of) result
+        (shown_in own status (first response_payload (view_trees children.entry))) }
 {
     let Some(operation) = own else {
         return Ok(None);
@@ -144,7 +147,8 @@ fn judged<'a>(
     status: Status,
     children: Children<'a>,
 ) -> Result<Option<Payload<'a>>, Unread>
-    ensures { Yields (option_map payload_of) result (judged_in operation status (first response_payload (view_trees children.entry))) }
+    ensures { Yields (option_map payload_of) result
+        (judged_in operation status (first response_payload (view_trees children.entry))) }
 {
     match (status, first(children, RESPONSE_PAYLOAD)) {
         (Status::Failed, _) => Ok(None),

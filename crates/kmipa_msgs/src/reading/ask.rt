@@ -29,7 +29,8 @@ pub fn read_asks<'a>(
     count: usize,
     children: Children<'a>,
 ) -> Result<Vec<Ask<'a>>, ReadFault>
-    ensures { Gives asks_of result (from_one (each_in (λ place. item_in unordered) (every batch_item (view_trees children.entry)))) }
+    ensures { Gives asks_of result
+        (from_one (each_in (λ place. item_in unordered) (every batch_item (view_trees children.entry)))) }
 {
     let mut asks = Vec::with_capacity(alloc, count)?;
     let mut left = children;

@@ -31,7 +31,8 @@ pub fn read_attributes(alloc: Global, given: Field<Children>, side: Side) -> Res
 
 /// That an Object Type attribute has a number of a judged type.
 pub fn type_known(attributes: Children) -> Result<(), OutsideKind>
-    ensures { result ≡ unless_unlisted (at as_enumeration object_type_tag (view_trees attributes.entry)) type_of OutsideKind.ObjectType }
+    ensures { result ≡ unless_unlisted
+        (at as_enumeration object_type_tag (view_trees attributes.entry)) type_of OutsideKind.ObjectType }
 {
     match enumeration_at(attributes, OBJECT_TYPE) {
         Field::There(number) if ObjectType::of(number).is_none() => Err(OutsideKind::ObjectType),

@@ -51,7 +51,9 @@ fn read_new_key(alloc: Global, payload: Children) -> Result<AttrSet, Unread>
 
 /// The Object Type of what is created: a Symmetric Key.
 fn type_created(payload: Children) -> Result<ObjectType, OutsideKind>
-    ensures { result ≡ listed (at as_enumeration object_type_tag (view_trees payload.entry)) created_of OutsideKind.Missing OutsideKind.ObjectType }
+    ensures { result ≡ listed
+        (at as_enumeration object_type_tag
+        (view_trees payload.entry)) created_of OutsideKind.Missing OutsideKind.ObjectType }
 {
     match enumeration_at(payload, OBJECT_TYPE) {
         Field::There(number) if number == ObjectType::SymmetricKey.number() => {

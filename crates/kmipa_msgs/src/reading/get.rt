@@ -50,7 +50,9 @@ pub fn read_got<'a>(payload: Children<'a>) -> Result<Got<'a>, OutsideKind>
 }
 
 fn type_shown(payload: Children) -> Result<Option<ObjectType>, OutsideKind>
-    ensures { result ≡ maybe_listed (at as_enumeration object_type_tag (view_trees payload.entry)) type_of OutsideKind.Missing OutsideKind.ObjectType }
+    ensures { result ≡ maybe_listed
+        (at as_enumeration object_type_tag
+        (view_trees payload.entry)) type_of OutsideKind.Missing OutsideKind.ObjectType }
 {
     match enumeration_at(payload, OBJECT_TYPE) {
         Field::There(number) => {

@@ -51,7 +51,8 @@ pub fn read_key_block<'a>(block: Children<'a>) -> Result<KeyBlock<'a>, OutsideKi
 }
 
 fn format(block: Children) -> Result<KeyFormat, OutsideKind>
-    ensures { result ≡ listed (at as_enumeration key_format_type (view_trees block.entry)) format_of OutsideKind.Missing OutsideKind.Format }
+    ensures { result ≡ listed
+        (at as_enumeration key_format_type (view_trees block.entry)) format_of OutsideKind.Missing OutsideKind.Format }
 {
     match enumeration_at(block, KEY_FORMAT_TYPE) {
         Field::There(number) => KeyFormat::of(number).ok_or(OutsideKind::Format),

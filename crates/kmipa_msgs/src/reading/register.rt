@@ -62,7 +62,9 @@ fn read_brought<'a>(alloc: Global, payload: Children<'a>) -> Result<Brought<'a>,
 }
 
 fn type_brought(payload: Children) -> Result<ObjectType, OutsideKind>
-    ensures { result ≡ listed (at as_enumeration object_type_tag (view_trees payload.entry)) type_of OutsideKind.Missing OutsideKind.ObjectType }
+    ensures { result ≡ listed
+        (at as_enumeration object_type_tag
+        (view_trees payload.entry)) type_of OutsideKind.Missing OutsideKind.ObjectType }
 {
     match enumeration_at(payload, OBJECT_TYPE) {
         Field::There(number) => ObjectType::of(number).ok_or(OutsideKind::ObjectType),

@@ -15,7 +15,8 @@ use std::alloc::{AllocError, Global};
 
 /// The Request Payload of an Activate.
 pub(super) fn write_activate(alloc: Global, activate: &Activate) -> Result<Item, AllocError>
-    ensures { IfOk result (λ item. tree item ≡ structure request_payload (in_order (identifier_fields (activate_of activate.now)))) }
+    ensures { IfOk result
+        (λ item. tree item ≡ structure request_payload (in_order (identifier_fields (activate_of activate.now)))) }
 {
     write_identifier(alloc, REQUEST_PAYLOAD, activate.id)
 }

@@ -17,7 +17,9 @@ use std::alloc::{AllocError, Global};
 
 /// The Request Payload of a Create.
 pub(super) fn write_create(alloc: Global, create: &Create) -> Result<Item, AllocError>
-    ensures { IfOk result (λ item. tree item ≡ structure request_payload (in_order (create_fields (attributes_of create.now.attributes.value)))) }
+    ensures { IfOk result
+        (λ item. tree item
+        ≡ structure request_payload (in_order (create_fields (attributes_of create.now.attributes.value)))) }
 {
     let mut fields = Fields::new(alloc);
     fields.enumeration(OBJECT_TYPE, Some(ObjectType::SymmetricKey.number()))?;

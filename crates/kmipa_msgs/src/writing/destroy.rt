@@ -15,7 +15,8 @@ use std::alloc::{AllocError, Global};
 
 /// The Request Payload of a Destroy.
 pub(super) fn write_destroy(alloc: Global, destroy: &Destroy) -> Result<Item, AllocError>
-    ensures { IfOk result (λ item. tree item ≡ structure request_payload (in_order (identifier_fields (destroy_of destroy.now)))) }
+    ensures { IfOk result
+        (λ item. tree item ≡ structure request_payload (in_order (identifier_fields (destroy_of destroy.now)))) }
 {
     write_identifier(alloc, REQUEST_PAYLOAD, destroy.id)
 }

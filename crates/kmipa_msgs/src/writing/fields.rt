@@ -41,7 +41,8 @@ impl Fields {
     /// An Enumeration.
     pub(super) fn enumeration(&mut self, tag: u32, number: Option<u32>) -> Result<(), AllocError>
         requires { tag < 0x100_0000 }
-        ensures { OnOk result (fields_of self.new ≡ with_field (fields_of self.old) (field Tree.enumeration tag number)) }
+        ensures { OnOk result
+            (fields_of self.new ≡ with_field (fields_of self.old) (field Tree.enumeration tag number)) }
     {
         match number {
             Some(number) => self.item(Item::enumeration(Tag { number: tag }, number)),
@@ -74,7 +75,8 @@ impl Fields {
     /// A Date-Time.
     pub(super) fn date_time(&mut self, tag: u32, seconds: Option<i64>) -> Result<(), AllocError>
         requires { tag < 0x100_0000 }
-        ensures { OnOk result (fields_of self.new ≡ with_field (fields_of self.old) (field Tree.date_time tag seconds)) }
+        ensures { OnOk result
+            (fields_of self.new ≡ with_field (fields_of self.old) (field Tree.date_time tag seconds)) }
     {
         match seconds {
             Some(seconds) => self.item(Item::date_time(Tag { number: tag }, seconds)),
@@ -85,7 +87,8 @@ impl Fields {
     /// A Text String.
     pub(super) fn text(&mut self, tag: u32, text: Option<&str>) -> Result<(), AllocError>
         requires { tag < 0x100_0000 }
-        ensures { OnOk result (fields_of self.new ≡ with_field (fields_of self.old) (field Tree.text tag (maybe_lent text.entry))) }
+        ensures { OnOk result
+            (fields_of self.new ≡ with_field (fields_of self.old) (field Tree.text tag (maybe_lent text.entry))) }
     {
         match text {
             Some(text) => self.item(Item::text(self.alloc, Tag { number: tag }, text)?),
@@ -96,7 +99,9 @@ impl Fields {
     /// A Byte String.
     pub(super) fn bytes(&mut self, tag: u32, bytes: Option<&[u8]>) -> Result<(), AllocError>
         requires { tag < 0x100_0000 }
-        ensures { OnOk result (fields_of self.new ≡ with_field (fields_of self.old) (field Tree.byte_string tag (maybe_lent bytes.entry))) }
+        ensures { OnOk result
+            (fields_of self.new
+            ≡ with_field (fields_of self.old) (field Tree.byte_string tag (maybe_lent bytes.entry))) }
     {
         match bytes {
             Some(bytes) => self.item(Item::bytes(self.alloc, Tag { number: tag }, bytes)?),

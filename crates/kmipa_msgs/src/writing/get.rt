@@ -19,7 +19,8 @@ use std::alloc::{AllocError, Global};
 
 /// The Request Payload of a Get.
 pub(super) fn write_get(alloc: Global, get: &Get) -> Result<Item, AllocError>
-    ensures { IfOk result (λ item. tree item ≡ structure request_payload (in_order (identifier_fields (maybe_lent get.now.id)))) }
+    ensures { IfOk result
+        (λ item. tree item ≡ structure request_payload (in_order (identifier_fields (maybe_lent get.now.id)))) }
 {
     let mut fields = Fields::new(alloc);
     fields.text(UNIQUE_IDENTIFIER, get.id)?;

@@ -20,7 +20,8 @@ use std::alloc::{AllocError, Global};
 
 /// The Request Payload of a Get Attributes, with the references that have a tag.
 pub(super) fn write_get_attributes(alloc: Global, get: &GetAttributes) -> Result<Item, AllocError>
-    ensures { IfOk result (λ item. tree item ≡ structure request_payload (in_order (get_attributes_fields (get_attributes_of get.now)))) }
+    ensures { IfOk result
+        (λ item. tree item ≡ structure request_payload (in_order (get_attributes_fields (get_attributes_of get.now)))) }
 {
     let mut fields = Fields::new(alloc);
     fields.text(UNIQUE_IDENTIFIER, get.id)?;
@@ -32,7 +33,9 @@ pub(super) fn write_get_attributes(alloc: Global, get: &GetAttributes) -> Result
 
 /// The Response Payload of a Get Attributes. Its Attributes are there also where they are empty.
 pub(super) fn write_got_attributes(alloc: Global, got: &GotAttributes) -> Result<Item, AllocError>
-    ensures { IfOk result (λ item. tree item ≡ structure response_payload (in_order (got_attributes_fields (got_attributes_of got.now)))) }
+    ensures { IfOk result
+        (λ item. tree item
+        ≡ structure response_payload (in_order (got_attributes_fields (got_attributes_of got.now)))) }
 {
     let mut fields = Fields::new(alloc);
     fields.text(UNIQUE_IDENTIFIER, got.id)?;

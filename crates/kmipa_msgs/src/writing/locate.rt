@@ -20,7 +20,8 @@ use std::alloc::{AllocError, Global};
 
 /// The Request Payload of a Locate. Its Attributes are there also where they are empty.
 pub(super) fn write_locate(alloc: Global, locate: &Locate) -> Result<Item, AllocError>
-    ensures { IfOk result (λ item. tree item ≡ structure request_payload (in_order (locate_fields (locate_of locate.now)))) }
+    ensures { IfOk result
+        (λ item. tree item ≡ structure request_payload (in_order (locate_fields (locate_of locate.now)))) }
 {
     let mut fields = Fields::new(alloc);
     let attributes = sought(alloc, &locate.filter)?;
@@ -51,7 +52,8 @@ fn sought(alloc: Global, filter: &Filter) -> Result<AttrSet, AllocError>
 
 /// The Response Payload of a Locate, with the identifiers in their order.
 pub(super) fn write_located(alloc: Global, located: &Located) -> Result<Item, AllocError>
-    ensures { IfOk result (λ item. tree item ≡ structure response_payload (in_order (located_fields (located_of located.now)))) }
+    ensures { IfOk result
+        (λ item. tree item ≡ structure response_payload (in_order (located_fields (located_of located.now)))) }
 {
     let mut fields = Fields::new(alloc);
     for id in &located.ids {

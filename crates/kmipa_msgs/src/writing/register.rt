@@ -19,7 +19,8 @@ use std::alloc::{AllocError, Global};
 
 /// The Request Payload of a Register. Its Attributes are there also where they are empty.
 pub(super) fn write_register(alloc: Global, register: &Register) -> Result<Item, AllocError>
-    ensures { IfOk result (λ item. tree item ≡ structure request_payload (in_order (register_fields (register_of register.now)))) }
+    ensures { IfOk result
+        (λ item. tree item ≡ structure request_payload (in_order (register_fields (register_of register.now)))) }
 {
     let mut fields = Fields::new(alloc);
     fields.enumeration(OBJECT_TYPE, Some(register.object_type.number()))?;
@@ -30,7 +31,8 @@ pub(super) fn write_register(alloc: Global, register: &Register) -> Result<Item,
 
 /// The Response Payload of a Create or a Register.
 pub(super) fn write_registered(alloc: Global, registered: &Registered) -> Result<Item, AllocError>
-    ensures { IfOk result (λ item. tree item ≡ structure response_payload (in_order (registered_fields (registered_of registered.now)))) }
+    ensures { IfOk result
+        (λ item. tree item ≡ structure response_payload (in_order (registered_fields (registered_of registered.now)))) }
 {
     let mut fields = Fields::new(alloc);
     fields.enumeration(OBJECT_TYPE, registered.object_type)?;

@@ -27,7 +27,8 @@ use std::alloc::{AllocError, Global};
 pub fn write_request(alloc: Global, request: &Request) -> Result<Item, AllocError>
     requires { length request.now.items.items < 0x8000_0000 }
     ensures order { IfOk result (λ item. tree item ≡ written_request (request_of request.now)) }
-    ensures said { IfOk result (λ item. (t : Tree) → SaysRequest t (request_of request.now) → IsWritable (request_of request.now)
+    ensures said { IfOk result
+        (λ item. (t : Tree) → SaysRequest t (request_of request.now) → IsWritable (request_of request.now)
         → SaysRequest (tree item) (request_of request.now)) }
 {
     let mut fields = Fields::new(alloc);

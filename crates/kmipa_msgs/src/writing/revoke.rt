@@ -18,7 +18,8 @@ use std::alloc::{AllocError, Global};
 
 /// The Request Payload of a Revoke.
 pub(super) fn write_revoke(alloc: Global, revoke: &Revoke) -> Result<Item, AllocError>
-    ensures { IfOk result (λ item. tree item ≡ structure request_payload (in_order (revoke_fields (revoke_of revoke.now)))) }
+    ensures { IfOk result
+        (λ item. tree item ≡ structure request_payload (in_order (revoke_fields (revoke_of revoke.now)))) }
 {
     let mut fields = Fields::new(alloc);
     fields.text(UNIQUE_IDENTIFIER, revoke.id)?;
