@@ -15,7 +15,7 @@ use Rattle.kmipa_check.specs.Described.{Describes}
 use Rattle.kmipa_check.specs.Orders.{NamesAt, IsNamed, IsFormed, IsOrder}
 use Rattle.kmipa_check.specs.Runs.{EndsAhead, Before, IsPlaced, Linked, rules_declared}
 use Rattle.kmipa_check.specs.Left.{CanEnd, IsLeft}
-use Rattle.kmipa_check.specs.Segments.{AreApart}
+use Rattle.kmipa_check.specs.Segments.{AreApart, HaveBegun}
 use Rattle.kmipa_check.proofs.PlaceLemmas.{contains_at, at_contains, get_at, mapped_from, some_at}
 use Rattle.kmipa_check.proofs.RecordedLemmas.{begun_has, cut, recorded_at}
 use Rattle.kmipa_check.proofs.RunLemmas.{linked_join, linked_split}
@@ -138,6 +138,17 @@ end_begun marks number end answered r h =
     let Q : List ℤ → Type 0 = λ ns. Contains ns number in
     subst P (sym e) (subst Q (sym (begun-append (take end marks) (ends number answered ∷ drop (suc end) marks))) (Contains-append_left (begun (take end marks)) (begun (ends number answered ∷ drop (suc end) marks)) number c))
 
+pub recorded_begun_lem : (marks : List MarkOf) → AreRecorded marks → HaveBegun marks
+recorded_begun_lem marks r = λ number end answered h. end_begun marks number end answered r h
+
+pub joined_begun_lem : (first second : List MarkOf) → HaveBegun first → HaveBegun second → HaveBegun (first ++ second)
+joined_begun_lem first second f s = λ number end answered h.
+    let Q : List ℤ → Type 0 = λ ns. Contains ns number in
+    subst Q (sym (begun-append first second)) (elim (at_either first second end (ends number answered) h) [
+      | inl p ↦ Contains-append_left (begun first) (begun second) number (f number end answered p)
+      | inr p ↦ Contains-append_right (begun first) (begun second) number (s number p.0 answered p.2)
+    ])
+
 -- a call of a list has begun, among so many marks
 pub call_begun : (marks : List MarkOf) (calls : List CallOf) (c : CallOf) → AreCalls marks calls → Contains calls c → Contains (begun marks) c.number
 call_begun marks calls c are has =
@@ -163,7 +174,7 @@ named_begun marks calls turns steps place number are o (turn, there, is) =
     let P : ℤ → Type 0 = λ z. Contains (begun marks) z in
     subst P e (call_begun marks calls f.call are f.known)
 
-module _ (first second : List MarkOf) (rf : AreRecorded first) (rs : AreRecorded second) (apart : AreApart first second) where
+module _ (first second : List MarkOf) (rf : HaveBegun first) (rs : HaveBegun second) (apart : AreApart first second) where
   abbrev n : ℕ
   n = length first
 
@@ -180,7 +191,7 @@ module _ (first second : List MarkOf) (rf : AreRecorded first) (rs : AreRecorded
       by x (is_open none close is) =
           is_open (λ e a h. elim (at_either first second e (ends c.number a) h) [
             | inl p ↦ none e a p
-            | inr p ↦ apart c.number (begin_begun first c.number c.begin x.asked x.carried) (end_begun second c.number p.0 a rs p.2)
+            | inr p ↦ apart c.number (begin_begun first c.number c.begin x.asked x.carried) (rs c.number p.0 a p.2)
           ]) close is
 
   recorded_second : (c : CallOf) → IsRecorded second c → IsRecorded (first ++ second) (moved n c)
@@ -195,7 +206,7 @@ module _ (first second : List MarkOf) (rf : AreRecorded first) (rs : AreRecorded
       by x (has_ended e a response h says close is) = has_ended (n + e) a response (at_back first second e (ends c.number a) h) says (ap (option_map (λ (k : ℕ). n + k)) close) is
       by x (is_open none close is) =
           is_open (λ e a h. elim (at_either first second e (ends c.number a) h) [
-            | inl p ↦ apart c.number (end_begun first c.number e a rf p) (begin_begun second c.number c.begin x.asked x.carried)
+            | inl p ↦ apart c.number (rf c.number e a p) (begin_begun second c.number c.begin x.asked x.carried)
             | inr p ↦ none p.0 a p.2
           ]) (ap (option_map (λ (k : ℕ). n + k)) close) is
 

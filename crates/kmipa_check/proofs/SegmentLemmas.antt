@@ -13,7 +13,7 @@ use Rattle.kmipa_check.specs.Runs.{Linked, rules_declared}
 use Rattle.kmipa_check.specs.Left.{LeavesAtYes}
 use Rattle.kmipa_check.specs.Replays.{TellsRun}
 use Rattle.kmipa_check.specs.Since.{AreSince, last_stamp, IsAcceptedSince, at_first, as_ever, IsRefusedFirst, IsRefusedSince, ChecksSince}
-use Rattle.kmipa_check.specs.Segments.{Leads, AreApart, NameOnly}
+use Rattle.kmipa_check.specs.Segments.{Leads, AreApart, HaveBegun, NameOnly}
 use Rattle.kmipa_check.specs.SegmentReplays.{IsLeftSince, TellsSegment}
 use Rattle.kmipa_check.specs.declared.segment.Checked.{Checked}
 use Rattle.kmipa_check.specs.declared.segment.Left.{Left}
@@ -37,7 +37,7 @@ use Rattle.kmipa_check.proofs.SinceLemmas.{Rises, last_join, last_moved, since_j
 
 -- ---- segments
 
-module _ (first second : List MarkOf) (turns more : List TurnOf) (declared between : DeclarationOf) (since middle : Option ℤ) (rf : AreRecorded first) (rs : AreRecorded second) (apart : AreApart first second)
+module _ (first second : List MarkOf) (turns more : List TurnOf) (declared between : DeclarationOf) (since middle : Option ℤ) (rf : HaveBegun first) (rs : HaveBegun second) (apart : AreApart first second)
     (l : Leads declared since first turns between middle) where
   -- what goes on from its last stamp
   from_last : (ss : List StepOf) → AreSince middle ss → AreSince (last_stamp since l.run.steps) ss
@@ -91,6 +91,8 @@ module _ (first second : List MarkOf) (turns more : List TurnOf) (declared betwe
         since_then = joined_since k.steps b.since_then;
       }
 
+module _ (first second : List MarkOf) (turns more : List TurnOf) (declared between : DeclarationOf) (since middle : Option ℤ) (rf : AreRecorded first) (rs : AreRecorded second) (apart : AreApart first second)
+    (l : Leads declared since first turns between middle) where
   pub accepted_together_lem : IsAcceptedSince (first ++ second) declared since (turns ++ more) → NameOnly second more → IsAcceptedSince second between middle more
   accepted_together_lem b only =
       let a = b.accepted in

@@ -1,8 +1,9 @@
 -- Segments of one recording (profile): what one leaves, the next goes on from.
-use Rattle.std.specs.Prelude.{◌≡◌, ℤ, List, ◌++◌, Contains, Option}
+use Rattle.std.specs.Prelude.{◌≡◌, ℕ, ℤ, List, ◌++◌, Contains, Option}
 use Rattle.kmipa_record.specs.Marks.{MarkOf, AreRecorded, begun}
 use Rattle.kmipa_record.specs.Declarations.{DeclarationOf}
 use Rattle.kmipa_record.specs.Witnesses.{TurnOf}
+use Rattle.kmipa_check.specs.Calls.{HasEnd}
 use Rattle.kmipa_check.specs.Left.{Leaves}
 use Rattle.kmipa_check.specs.Since.{AreSince, last_stamp, IsAcceptedSince}
 
@@ -13,6 +14,17 @@ pub record Leads (declared : DeclarationOf) (since : Option ℤ) (marks : List M
   pub since_then : AreSince since run.steps
   pub last : until ≡ last_stamp since run.steps
 
+-- Each call that has ended has begun among these marks. So it is in a transcript; and in the marks of any number of segments, one after the
+-- other, which may have more calls than a transcript.
+abbrev pub HaveBegun : List MarkOf → Type 0
+HaveBegun marks = (number : ℤ) (end : ℕ) (answered : List ℕ) → HasEnd marks number end answered → Contains (begun marks) number
+
+abbrev pub RecordedHaveBegun : Type 0
+RecordedHaveBegun = (marks : List MarkOf) → AreRecorded marks → HaveBegun marks
+
+abbrev pub JoinedHaveBegun : Type 0
+JoinedHaveBegun = (first second : List MarkOf) → HaveBegun first → HaveBegun second → HaveBegun (first ++ second)
+
 -- no call number stands in both
 abbrev pub AreApart : List MarkOf → List MarkOf → Type 0
 AreApart first second = (number : ℤ) → Contains (begun first) number → Contains (begun second) number → ⊥
@@ -21,14 +33,14 @@ AreApart first second = (number : ℤ) → Contains (begun first) number → Con
 -- of the one behind those of the other, and the turns too.
 abbrev pub SegmentsJoin : Type 0
 SegmentsJoin = (first second : List MarkOf) (turns more : List TurnOf) (declared between left : DeclarationOf) (since middle until : Option ℤ)
-    → AreRecorded first → AreRecorded second → AreApart first second
+    → HaveBegun first → HaveBegun second → AreApart first second
     → Leads declared since first turns between middle → Leads between middle second more left until
     → Leads declared since (first ++ second) (turns ++ more) left until
 
 -- So a segment that is accepted from what the one before it leaves, and from its last stamp on, is accepted with it.
 abbrev pub AcceptedBehindIsAccepted : Type 0
 AcceptedBehindIsAccepted = (first second : List MarkOf) (turns more : List TurnOf) (declared between : DeclarationOf) (since middle : Option ℤ)
-    → AreRecorded first → AreRecorded second → AreApart first second
+    → HaveBegun first → HaveBegun second → AreApart first second
     → Leads declared since first turns between middle → IsAcceptedSince second between middle more
     → IsAcceptedSince (first ++ second) declared since (turns ++ more)
 

@@ -64,7 +64,8 @@ pub fn read_records<R: Read>(
     // What is read is recorded, and may be declared.
     ensures recorded { IfOk result (λ records. AreRecorded (transcript_of records.transcript)) }
     ensures declared { IfOk result (λ records. AreDeclared (declaration_of records.declaration)) }
-    ensures ended { OnOk result (IsTrue (is_ended transcript.new) × IsTrue (is_ended declaration.new) × IsTrue (is_ended witness.new)) }
+    ensures ended { OnOk result
+        (IsTrue (is_ended transcript.new) × IsTrue (is_ended declaration.new) × IsTrue (is_ended witness.new)) }
 {
     let transcript = match read_transcript(alloc, transcript) {
         Ok(transcript) => transcript,
@@ -98,7 +99,8 @@ pub fn audit_with<R: Read>(
     // Whatever follows what came, and nothing where the end was seen.
     ensures audits { (t d w : List ℕ) → IsFileOf t transcript.new → IsFileOf d declaration.new → IsFileOf w witness.new
         → Audits t d w (is_failed transcript.new) (is_failed declaration.new) (is_failed witness.new) result }
-    ensures ended { OnOk result (IsTrue (is_ended transcript.new) × IsTrue (is_ended declaration.new) × IsTrue (is_ended witness.new)) }
+    ensures ended { OnOk result
+        (IsTrue (is_ended transcript.new) × IsTrue (is_ended declaration.new) × IsTrue (is_ended witness.new)) }
 {
     let records = match read_records(alloc, transcript, declaration, witness) {
         Ok(records) => records,
@@ -133,8 +135,11 @@ pub fn audit<R: Read>(
     ensures audits { (t d w : List ℕ) → IsFileOf t transcript.new → IsFileOf d declaration.new → IsFileOf w witness.new
         → AuditsAs t d w (is_failed transcript.new) (is_failed declaration.new) (is_failed witness.new) result }
     // So a yes is reported only of accepted bytes.
-    ensures accepted { IfOk result (λ verdict. verdict ≡ Verdict.Yes → AreAccepted (came_of transcript.new) (came_of declaration.new) (came_of witness.new)) }
-    ensures ended { OnOk result (IsTrue (is_ended transcript.new) × IsTrue (is_ended declaration.new) × IsTrue (is_ended witness.new)) }
+    ensures accepted { IfOk result
+        (λ verdict. verdict ≡ Verdict.Yes
+        → AreAccepted (came_of transcript.new) (came_of declaration.new) (came_of witness.new)) }
+    ensures ended { OnOk result
+        (IsTrue (is_ended transcript.new) × IsTrue (is_ended declaration.new) × IsTrue (is_ended witness.new)) }
 {
     match audit_with(alloc, transcript, declaration, witness) {
         Ok(audited) => Ok(audited.verdict),

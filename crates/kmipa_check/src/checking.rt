@@ -1,11 +1,14 @@
 //! The check of a witness.
 
+ghost use Rattle.std.specs.Prelude.{All, List, map};
 ghost use Rattle.kmipa_record.specs.Declarations.{AreDeclared, declaration_of};
-ghost use Rattle.kmipa_record.specs.Marks.{AreRecorded};
+ghost use Rattle.kmipa_record.specs.Marks.{AreRecorded, MarkOf};
 ghost use Rattle.kmipa_record.specs.Transcripts.{transcript_of};
 ghost use Rattle.kmipa_record.specs.Witnesses.{witness_of};
+ghost use Rattle.kmipa_check.specs.Calls.{AreCalls, IsRecorded, call_of};
 ghost use Rattle.kmipa_check.specs.Verdicts.{Checks};
 
+use crate::call::Call;
 use crate::fault::CheckFault;
 use crate::opening::{open_ledger, rules_of_declaration};
 use crate::order::steps_of;
@@ -27,10 +30,26 @@ pub fn check(
     witness: &Witness,
 ) -> Result<Verdict, CheckFault>
     requires { AreDeclared (declaration_of declaration.now) }
-    ensures { AreRecorded (transcript_of transcript.now) → Checks (transcript_of transcript.now) (declaration_of declaration.now) (witness_of witness.now) result }
+    ensures { AreRecorded (transcript_of transcript.now)
+        → Checks (transcript_of transcript.now) (declaration_of declaration.now) (witness_of witness.now) result }
 {
     let calls = read_calls(alloc, transcript)?;
-    let steps = steps_of(alloc, &calls, &witness.turns)?;
+    check_calls(alloc, &calls, declaration, witness)
+}
+
+/// The same of calls that were read of a transcript before, so that none of its messages is read again.
+pub fn check_calls(
+    alloc: Global,
+    calls: &[Call],
+    declaration: &Declaration,
+    witness: &Witness,
+) -> Result<Verdict, CheckFault>
+    requires declared { AreDeclared (declaration_of declaration.now) }
+    requires each { (marks : List MarkOf) × All (IsRecorded marks) (map call_of calls.now) }
+    ensures { (marks : List MarkOf) → AreRecorded marks → AreCalls marks (map call_of calls.now)
+        → Checks marks (declaration_of declaration.now) (witness_of witness.now) result }
+{
+    let steps = steps_of(alloc, calls, &witness.turns)?;
     let rules = rules_of_declaration(alloc, declaration)?;
     let mut ledger = open_ledger(alloc, declaration)?;
     replay(alloc, &mut ledger, &rules, &steps)

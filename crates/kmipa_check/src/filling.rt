@@ -52,7 +52,8 @@ pub fn are_wanted(
     places: &FirstPlaces,
 ) -> bool
     requires { Indexes (map (λ fill. Some fill.item) fills.now) places.now }
-    ensures decided { Decided result (AreWanted (request_of request.now) (response_of response.now) (map fill_of fills.now)) }
+    ensures decided { Decided result
+        (AreWanted (request_of request.now) (response_of response.now) (map fill_of fills.now)) }
     ensures numbered { IsTrue result → AreNumbered (map fill_of fills.now) }
 {
     let mut at = 0;
@@ -132,7 +133,9 @@ pub fn filled<'a>(
 ) -> Result<Response<'a>, StepFault>
     requires wanted { AreWanted (request_of request.now) (response_of response.now) (map fill_of fills.now) }
     requires complete { NoneMissing (request_of request.now) (response_of response.now) (map fill_of fills.now) }
-    ensures { MatchResult result (λ full. IsFilled (request_of request.now) (response_of response.now) (map fill_of fills.now) (response_of full))
+    ensures { MatchResult result
+        (λ full. IsFilled (request_of request.now) (response_of response.now) (map fill_of fills.now)
+        (response_of full))
         (FormFault (request_of request.now) (response_of response.now) (map fill_of fills.now)) }
 {
     let mut full = response.copy(alloc)?;

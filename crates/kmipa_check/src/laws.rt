@@ -3,7 +3,7 @@
 ghost use Rattle.kmipa_check.specs.Audits.{AcceptedAuditIsYes};
 ghost use Rattle.kmipa_check.specs.Laws.{AcceptedIsExplained, CallsAreTimed, FilledIsCompleted, KnownIsAccepted, OneAnswer, OneListOfCalls, OneOrder, PlacedOneByOne, RefusedIsNever, StepIsReadable, TakenIsKnown};
 ghost use Rattle.kmipa_check.specs.Left.{LedgerIsLeft};
-ghost use Rattle.kmipa_check.specs.Segments.{AcceptedBehindIsAccepted, AcceptedTogetherIsAccepted, SegmentsJoin};
+ghost use Rattle.kmipa_check.specs.Segments.{AcceptedBehindIsAccepted, AcceptedTogetherIsAccepted, JoinedHaveBegun, RecordedHaveBegun, SegmentsJoin};
 ghost use Rattle.kmipa_check.specs.Since.{AcceptedSinceIsYes};
 ghost use Rattle.kmipa_check.specs.Verdicts.{AcceptedIsYes};
 
@@ -80,6 +80,16 @@ pub fn accepted_is_explained()
 /// The declaration of a ledger that knows what steps leave describes exactly the inventories in which they can end.
 pub fn ledger_is_left()
     ensures { LedgerIsLeft }
+{}
+
+/// Each call of a transcript that has ended has begun.
+pub fn recorded_have_begun()
+    ensures { RecordedHaveBegun }
+{}
+
+/// So it has in segments one after the other.
+pub fn joined_have_begun()
+    ensures { JoinedHaveBegun }
 {}
 
 /// Segments of one recording join.

@@ -23,7 +23,8 @@ pub fn declaration_left<L: Ledger>(
     declaration: &Declaration,
 ) -> Result<Declaration, AllocError>
     requires { IsSound (L.state ledger.now).now }
-    ensures { IfOk result (λ left. declaration_of left ≡ declaration_left (declaration_of declaration.now) (L.state ledger.now).now) }
+    ensures { IfOk result
+        (λ left. declaration_of left ≡ declaration_left (declaration_of declaration.now) (L.state ledger.now).now) }
 {
     let mut entries = Vec::new(alloc);
     let mut place = 0;
@@ -41,7 +42,8 @@ pub fn declaration_left<L: Ledger>(
 
 /// The entry of an object of the ledger.
 fn entry_left<L: Ledger>(alloc: Global, ledger: &L, object: &Object) -> Result<Entry, AllocError>
-    requires { (secret : SecretNo) → object.now.life.material ≡ Material.Secret secret → secret.number < length (L.state ledger.now).now.secrets }
+    requires { (secret : SecretNo) → object.now.life.material ≡ Material.Secret secret
+        → secret.number < length (L.state ledger.now).now.secrets }
     ensures { IfOk result (λ entry. entry_of entry ≡ entry_left (L.state ledger.now).now.secrets (held object.now)) }
 {
     Ok(Entry {
@@ -73,7 +75,8 @@ fn bytes_left<L: Ledger>(
     ledger: &L,
     material: Material,
 ) -> Result<Option<Vec<u8>>, AllocError>
-    requires { (secret : SecretNo) → material ≡ Material.Secret secret → secret.number < length (L.state ledger.now).now.secrets }
+    requires { (secret : SecretNo) → material ≡ Material.Secret secret
+        → secret.number < length (L.state ledger.now).now.secrets }
     ensures { IfOk result (λ bytes. option_map items_of bytes ≡ bytes_left (L.state ledger.now).now.secrets material) }
 {
     match material {

@@ -24,14 +24,15 @@ mod verdict;
 
 pub use auditing::{AuditFault, AuditRecords, Audited, audit, audit_with, read_records};
 pub use call::Call;
-pub use checking::check;
+pub use checking::{check, check_calls};
 pub use fault::{CheckFault, Side, StepFault, WitnessFault, WitnessKind};
 pub use filling::needs_fill;
 pub use laws::{
     accepted_audit_is_yes, accepted_behind_is_accepted, accepted_is_explained, accepted_is_yes,
     accepted_since_is_yes, accepted_together_is_accepted, calls_are_timed, filled_is_completed,
-    known_is_accepted, ledger_is_left, one_answer, one_list_of_calls, one_order, placed_one_by_one,
-    refused_is_never, segments_join, step_is_readable, taken_is_known,
+    joined_have_begun, known_is_accepted, ledger_is_left, one_answer, one_list_of_calls, one_order,
+    placed_one_by_one, recorded_have_begun, refused_is_never, segments_join, step_is_readable,
+    taken_is_known,
 };
 pub use leaving::declaration_left;
 pub use opening::{open_ledger, rules_of_declaration};

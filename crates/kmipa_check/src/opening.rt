@@ -27,7 +27,8 @@ use std::alloc::{AllocError, Global};
 /// A live object has a secret of its own, which knows the declared bytes.
 pub fn open_ledger(alloc: Global, declaration: &Declaration) -> Result<Journal, CheckFault>
     requires { AreDeclared (declaration_of declaration.now) }
-    ensures opened { IfOk result (λ ledger. AreKnown (declaration_of declaration.now) [] (state_of_journal ledger).now) }
+    ensures opened { IfOk result
+        (λ ledger. AreKnown (declaration_of declaration.now) [] (state_of_journal ledger).now) }
     ensures sound { IfOk result (λ ledger. IsSound (state_of_journal ledger).now) }
     ensures memory { IfErr result (λ fault. fault ≡ CheckFault.Memory) }
 {

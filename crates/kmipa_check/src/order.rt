@@ -23,9 +23,13 @@ pub fn steps_of<'b, 'a>(
     calls: &'b [Call<'a>],
     turns: &'a [Turn],
 ) -> Result<Vec<Step<'b, 'a>>, CheckFault>
-    ensures formed { IfOk result (λ steps. AreFormed (map call_of calls.now) (map turn_of turns.now) (length turns.now) (map step_of steps.items)) }
-    ensures ordered { All (λ call. pos 1 ≤ℤ call.number) calls.now → AllPairs (λ x y. x ≢ y) (map (λ call. call.number) (map call_of calls.now))
-        → MatchResult result (λ steps. IsOrder (map call_of calls.now) (map turn_of turns.now) (map step_of steps.items))
+    ensures formed { IfOk result
+        (λ steps. AreFormed (map call_of calls.now) (map turn_of turns.now) (length turns.now)
+        (map step_of steps.items)) }
+    ensures ordered { All (λ call. pos 1 ≤ℤ call.number) calls.now
+        → AllPairs (λ x y. x ≢ y) (map (λ call. call.number) (map call_of calls.now))
+        → MatchResult result
+        (λ steps. IsOrder (map call_of calls.now) (map turn_of turns.now) (map step_of steps.items))
         (OrderFault (map call_of calls.now) (map turn_of turns.now)) }
 {
     let known = FirstPlaces::of(alloc, calls)?;

@@ -17,7 +17,9 @@ pub fn places_given(
     response: &Response,
     numbers: &[i32],
 ) -> Result<Option<Vec<usize>>, StepFault>
-    ensures { MatchResult result (λ places. AreTaken (request_of request.now) (response_of response.now) numbers.now (option_map items_of places))
+    ensures { MatchResult result
+        (λ places. AreTaken (request_of request.now) (response_of response.now) numbers.now
+        (option_map items_of places))
         (PlacesRefused (request_of request.now) (response_of response.now) numbers.now) }
 {
     if numbers.is_empty() {
@@ -44,7 +46,9 @@ fn wants_order(request: &Request, response: &Response) -> bool
 
 /// The places of these numbers; `None` where one of them is below 0.
 fn places_of(alloc: Global, numbers: &[i32]) -> Result<Option<Vec<usize>>, AllocError>
-    ensures { IfOk result (λ reported. MatchOption reported ((places : List ℕ) → numbers.now ≡ place_numbers places → ⊥) (λ places. numbers.now ≡ place_numbers places.items)) }
+    ensures { IfOk result
+        (λ reported. MatchOption reported ((places : List ℕ) → numbers.now ≡ place_numbers places → ⊥)
+        (λ places. numbers.now ≡ place_numbers places.items)) }
 {
     let mut places = Vec::new(alloc);
     let mut at = 0;

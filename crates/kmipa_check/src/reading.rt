@@ -24,9 +24,11 @@ pub fn read_calls<'a>(
     transcript: &'a Transcript,
 ) -> Result<Vec<Call<'a>>, CheckFault>
     ensures each { IfOk result (λ calls. All (IsRecorded (transcript_of transcript.now)) (map call_of calls.items)) }
-    ensures timed { AreRecorded (transcript_of transcript.now) → IfOk result (λ calls. AreTimed (map call_of calls.items)) }
+    ensures timed { AreRecorded (transcript_of transcript.now)
+        → IfOk result (λ calls. AreTimed (map call_of calls.items)) }
     ensures read { AreRecorded (transcript_of transcript.now)
-        → MatchResult result (λ calls. AreCalls (transcript_of transcript.now) (map call_of calls.items)) (CallsFault (transcript_of transcript.now)) }
+        → MatchResult result (λ calls. AreCalls (transcript_of transcript.now) (map call_of calls.items))
+        (CallsFault (transcript_of transcript.now)) }
 {
     let ends = FirstPlaces::of(alloc, &transcript.marks)?;
     let mut calls = Vec::new(alloc);

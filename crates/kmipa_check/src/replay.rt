@@ -36,7 +36,8 @@ pub fn replay<L: Ledger>(
     // At a yes it is this ledger that knows what they leave.
     ensures leaves { (declared : DeclarationOf) → rules_of rules.now ≡ rules_declared declared
         → Replayed declared (map step_of steps.now) 0 (L.state ledger.old).now
-        → result ≡ Ok Verdict.Yes → Replayed declared (map step_of steps.now) (length (map step_of steps.now)) (L.state ledger.new).now }
+        → result ≡ Ok Verdict.Yes
+        → Replayed declared (map step_of steps.now) (length (map step_of steps.now)) (L.state ledger.new).now }
     ensures sound { IfOk result (λ verdict. verdict ≡ Verdict.Yes → IsSound (L.state ledger.new).now) }
 {
     let late = first_late(steps);
@@ -66,7 +67,8 @@ fn take_turn<L: Ledger>(
     requires sound { IsSound (L.state ledger.old).now }
     requires takable { AllTakable (map step_of steps.now) }
     ensures sound { IfOk result (λ refused. IsSound (L.state ledger.new).now) }
-    ensures taken { TurnTaken (rules_of rules.now) (map step_of steps.now) turn (L.state ledger.old).now result (L.state ledger.new).now }
+    ensures taken { TurnTaken (rules_of rules.now) (map step_of steps.now) turn (L.state ledger.old).now result
+        (L.state ledger.new).now }
 {
     let step = &steps[turn];
     if is_at(late, turn) {
@@ -126,7 +128,8 @@ fn refused_call(
 /// Whether the Time Stamp of a turn's step is less than that of the turn before.
 fn runs_back(steps: &[Step], turn: usize) -> bool
     requires below { turn < length steps.now }
-    ensures { (s : StepOf) → slice_get (map step_of steps.now) turn ≡ Some s → Decided result (RunsBack (map step_of steps.now) turn s) }
+    ensures { (s : StepOf) → slice_get (map step_of steps.now) turn ≡ Some s
+        → Decided result (RunsBack (map step_of steps.now) turn s) }
 {
     if turn == 0 {
         return false;

@@ -58,10 +58,13 @@ pub fn check_segment(
 ) -> Result<Checked, CheckFault>
     requires { AreDeclared (declaration_of declaration.now) }
     ensures checks { AreRecorded (transcript_of transcript.now)
-        → ChecksSince (transcript_of transcript.now) (declaration_of declaration.now) since (witness_of witness.now) (verdict_told result) }
+        → ChecksSince (transcript_of transcript.now) (declaration_of declaration.now) since (witness_of witness.now)
+        (verdict_told result) }
     // What is left describes exactly the inventories in which a run of this witness can end.
-    ensures leads { AreRecorded (transcript_of transcript.now) → IfOk result (λ checked. LeavesAtYes checked.verdict checked.left (λ left.
-        Leads (declaration_of declaration.now) since (transcript_of transcript.now) (witness_of witness.now) (declaration_of left.declaration) left.until)) }
+    ensures leads { AreRecorded (transcript_of transcript.now)
+        → IfOk result (λ checked. LeavesAtYes checked.verdict checked.left (λ left.
+        Leads (declaration_of declaration.now) since (transcript_of transcript.now) (witness_of witness.now)
+        (declaration_of left.declaration) left.until)) }
 {
     let calls = read_calls(alloc, transcript)?;
     let steps = steps_of(alloc, &calls, &witness.turns)?;
@@ -85,7 +88,8 @@ fn replay_segment<L: Ledger>(
     requires replayed { Replayed (declaration_of declaration.now) (map step_of steps.now) 0 (L.state ledger.old).now }
     ensures told { TellsSegment (declaration_of declaration.now) since (map step_of steps.now) (verdict_told result) }
     ensures leaves { IfOk result (λ checked. LeavesAtYes checked.verdict checked.left (λ left.
-        IsLeftSince (declaration_of declaration.now) since (map step_of steps.now) (declaration_of left.declaration) left.until)) }
+        IsLeftSince (declaration_of declaration.now) since (map step_of steps.now)
+        (declaration_of left.declaration) left.until)) }
 {
     match refused_first(steps, since) {
         Some(refused) => return Ok(no(refused)),

@@ -52,7 +52,8 @@ fn begin_of<'a>(marks: &'a [Mark], call: i32) -> Option<&'a Begin>
 
 /// The message that answers the call of this number.
 fn message_of<'a>(marks: &'a [Mark], turns: &'a [Turn], call: i32) -> Option<&'a [u8]>
-    ensures { MatchOption result ((bytes : List ℕ) → ¬ (IsMessage (map mark_of marks.now) (map turn_of turns.now) call bytes))
+    ensures { MatchOption result
+        ((bytes : List ℕ) → ¬ (IsMessage (map mark_of marks.now) (map turn_of turns.now) call bytes))
         (λ bytes. IsMessage (map mark_of marks.now) (map turn_of turns.now) call bytes.now) }
 {
     match end_of(marks, call) {
@@ -63,7 +64,8 @@ fn message_of<'a>(marks: &'a [Mark], turns: &'a [Turn], call: i32) -> Option<&'a
 
 /// The end mark of the call of this number.
 fn end_of<'a>(marks: &'a [Mark], call: i32) -> Option<&'a End>
-    ensures { MatchOption result ((place : ℕ) (answered : List ℕ) → ¬ (EndsAt (map mark_of marks.now) call answered place))
+    ensures { MatchOption result
+        ((place : ℕ) (answered : List ℕ) → ¬ (EndsAt (map mark_of marks.now) call answered place))
         (λ end. (place : ℕ) × EndsAt (map mark_of marks.now) call end.now.message.items place) }
 {
     'marks: for mark in marks {

@@ -27,7 +27,8 @@ pub fn step_of_turn<'b, 'a>(
     turn: &'a Turn,
 ) -> Result<Step<'b, 'a>, StepFault>
     ensures { turn.now.call ≡ call.now.number
-        → MatchResult result (λ step. IsStep (call_of call.now) (turn_of turn.now) (step_of step)) (Refuses (call_of call.now) (turn_of turn.now)) }
+        → MatchResult result (λ step. IsStep (call_of call.now) (turn_of turn.now) (step_of step))
+        (Refuses (call_of call.now) (turn_of turn.now)) }
 {
     let answered = match answered(alloc, call, turn) {
         Ok(given) => given,
@@ -56,7 +57,8 @@ fn answered<'b, 'a>(
     call: &'b Call<'a>,
     turn: &'a Turn,
 ) -> Result<Given<'b, 'a>, StepFault>
-    ensures { MatchResult result (λ given. IsAnswered (call_of call.now) (turn_of turn.now) (given_of given)) (Refuses (call_of call.now) (turn_of turn.now)) }
+    ensures { MatchResult result (λ given. IsAnswered (call_of call.now) (turn_of turn.now) (given_of given))
+        (Refuses (call_of call.now) (turn_of turn.now)) }
 {
     let Some(response) = &call.response else {
         return open_answered(alloc, call, turn);
@@ -74,7 +76,8 @@ fn open_answered<'b, 'a>(
     turn: &'a Turn,
 ) -> Result<Given<'b, 'a>, StepFault>
     requires { (call_of call.now).response ≡ None }
-    ensures { MatchResult result (λ given. IsAnswered (call_of call.now) (turn_of turn.now) (given_of given)) (Refuses (call_of call.now) (turn_of turn.now)) }
+    ensures { MatchResult result (λ given. IsAnswered (call_of call.now) (turn_of turn.now) (given_of given))
+        (Refuses (call_of call.now) (turn_of turn.now)) }
 {
     let Some(answer) = &turn.answer else {
         return Err(StepFault::Unfit(WitnessKind::AnswerMissing));
@@ -92,7 +95,8 @@ fn filled_in<'b, 'a>(
     given: Given<'b, 'a>,
     fills: &'a [Fill],
 ) -> Result<Given<'b, 'a>, StepFault>
-    ensures { MatchResult result (λ full. IsFilled (request_of request.now) (given_of given.entry) (map fill_of fills.now) (given_of full))
+    ensures { MatchResult result
+        (λ full. IsFilled (request_of request.now) (given_of given.entry) (map fill_of fills.now) (given_of full))
         (FillsRefused (request_of request.now) (given_of given.entry) (map fill_of fills.now)) }
 {
     let places = FirstPlaces::of(alloc, fills)?;

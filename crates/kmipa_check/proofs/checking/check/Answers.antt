@@ -1,57 +1,17 @@
-use Rattle.std.proofs.Common.{sym, subst, List, map, length}
-use Rattle.std.proofs.lemmas.Result.{err_from_is_err_and}
-use Rattle.kmipa_store.specs.States.{state_of_journal}
-use Rattle.kmipa_record.specs.Declarations.{declaration_of}
+use Rattle.std.proofs.Common.{All, List, map, subst, sym}
 use Rattle.kmipa_record.specs.Transcripts.{transcript_of}
-use Rattle.kmipa_record.specs.Witnesses.{turn_of, witness_of}
-use Rattle.kmipa_record.specs.declared.turn.Turn.{Turn}
-use Rattle.kmipa_check.specs.Calls.{call_of, AreCalls}
-use Rattle.kmipa_check.specs.Orders.{IsOrder}
-use Rattle.kmipa_check.specs.Ordering.{AreFormed, OrderFault}
-use Rattle.kmipa_check.specs.Steps.{step_of}
-use Rattle.kmipa_check.specs.Replays.{AllTakable, TellsRun}
+use Rattle.kmipa_check.specs.Calls.{call_of, AreCalls, IsRecorded}
 use Rattle.kmipa_check.specs.declared.call.Call.{Call}
-use Rattle.kmipa_check.specs.declared.step.Step.{Step}
-use Rattle.kmipa_check.proofs.CheckLemmas.{calls_numbered, calls_once, steps_takable, order_faults, run_reported}
-use Rattle.kmipa_check.proofs.ReplayLemmas.{replayed_none}
 use Rattle.kmipa_check.proofs.checking.check.Goals as goal
 
-pub returns-in_err-steps : goal.returns-in_err-steps
-returns-in_err-steps c recorded =
-    let p = err_from_is_err_and c.from_residual-in_err-steps.result c.from_residual-in_err-steps.ensures.1 in
+pub check_calls-requires-clause-each : goal.check_calls-requires-clause-each
+check_calls-requires-clause-each c =
     let marks = transcript_of c.args.transcript.now in
-    let calls : List Call = c.deref.result.now in
-    let P : List Call → Type 0 = λ cs. AreCalls marks (map call_of cs) in
-    let are : AreCalls marks (map call_of calls) = subst P (sym c.deref.ensures.value) (c.in_ok-calls.ensures.read recorded) in
-    let f = c.in_err-steps.ensures.ordered (calls_numbered marks calls recorded are) (calls_once marks (map call_of calls) recorded are) in
-    let Q : List Turn → Type 0 = λ ts. OrderFault (map call_of calls) (map turn_of ts) c.in_err-steps.field-0.0 in
-    rw (p.1, p.2) (order_faults marks (declaration_of c.args.declaration.now) (witness_of c.args.witness.now) (map call_of calls) c.in_err-steps.field-0.0 are (subst Q c.deref-2.ensures.value f))
-
-pub replay-requires-clause-takable : goal.replay-requires-clause-takable
-replay-requires-clause-takable c =
-    let calls : List Call = c.in_ok-calls.calls.items in
-    let turns : List Turn = c.deref-2.result.now in
-    let steps : List Step = c.in_ok-steps.steps.items in
-    let F : List Call → Type 0 = λ cs. AreFormed (map call_of cs) (map turn_of turns) (length turns) (map step_of steps) in
-    let R : List Step → Type 0 = λ ss. AllTakable (map step_of ss) in
-    subst R (sym c.deref-3.ensures.value)
-    (steps_takable (transcript_of c.args.transcript.now) (map call_of calls) (map turn_of turns) (length turns) (map step_of steps) c.in_ok-calls.ensures.each
-    (subst F c.deref.ensures.value c.in_ok-steps.ensures.formed))
+    let P : List Call → Type 0 = λ cs. All (IsRecorded marks) (map call_of cs) in
+    (marks, subst P (sym c.deref.ensures.value) c.in_ok-calls.ensures.each)
 
 pub returns : goal.returns
 returns c recorded =
     let marks = transcript_of c.args.transcript.now in
-    let declared = declaration_of c.args.declaration.now in
-    let calls : List Call = c.in_ok-calls.calls.items in
-    let steps : List Step = c.in_ok-steps.steps.items in
-    let are : AreCalls marks (map call_of calls) = c.in_ok-calls.ensures.read recorded in
     let P : List Call → Type 0 = λ cs. AreCalls marks (map call_of cs) in
-    let there = subst P (sym c.deref.ensures.value) are in
-    let o = c.in_ok-steps.ensures.ordered (calls_numbered marks c.deref.result.now recorded there) (calls_once marks (map call_of c.deref.result.now) recorded there) in
-    let O : List Call → Type 0 = λ cs. IsOrder (map call_of cs) (map turn_of c.deref-2.result.now) (map step_of steps) in
-    let T : List Turn → Type 0 = λ ts. IsOrder (map call_of calls) (map turn_of ts) (map step_of steps) in
-    let order : IsOrder (map call_of calls) (witness_of c.args.witness.now) (map step_of steps) = subst T c.deref-2.ensures.value (subst O c.deref.ensures.value o) in
-    let reported = c.replay.ensures.told declared c.in_ok-rules.ensures
-    (replayed_none declared (map step_of c.deref-3.result.now) (state_of_journal c.in_ok-ledger.ledger).now c.in_ok-ledger.ensures.opened c.in_ok-ledger.ensures.sound) in
-    let S : List Step → Type 0 = λ ss. TellsRun declared (map step_of ss) c.replay.result in
-    run_reported marks declared (witness_of c.args.witness.now) (map call_of calls) (map step_of steps) c.replay.result are order (subst S c.deref-3.ensures.value reported)
+    c.check_calls.ensures marks recorded (subst P (sym c.deref.ensures.value) (c.in_ok-calls.ensures.read recorded))
