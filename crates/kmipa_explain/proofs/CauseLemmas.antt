@@ -1,15 +1,30 @@
--- What the other reasons rest on is told by the story alone.
-use Rattle.std.proofs.Common.{◌≢◌, ℕ, List, refl}
+-- What the reasons of items rest on.
+use Rattle.std.proofs.Common.{◌≢◌, ℕ, List, Result, Ok, Err, refl}
+use Rattle.std.specs.Prelude.{IfOk}
+use Rattle.kmipa_record.specs.Declarations.{DeclarationOf}
 use Rattle.kmipa_ops.specs.declared.why.Why.{Why}
 use Rattle.kmipa_ops.specs.declared.why.Why.TheVariants.{EarlierCallLate, StampRunsBack, BatchShape, OperationDiffers}
 use Rattle.kmipa_check.specs.Steps.{StepOf}
+use Rattle.kmipa_check.specs.declared.fault.CheckFault.{CheckFault}
 use Rattle.kmipa_explain.specs.Causes.{TellsCause}
-use Rattle.kmipa_explain.specs.declared.explanation.Cause.TheVariants as told
+use Rattle.kmipa_explain.specs.Explainable.{IsOfItems}
+use Rattle.kmipa_explain.specs.Holding.{TellsItem}
+use Rattle.kmipa_explain.specs.Standing.{TellsOfHeld}
+use Rattle.kmipa_explain.specs.declared.explanation.Cause.{Cause}
 
-pub other_cause : (order : List StepOf) (turn : ℕ) (c : StepOf) (item : ℕ) (why : Why) → why ≢ EarlierCallLate → why ≢ StampRunsBack → why ≢ BatchShape → why ≢ OperationDiffers
-    → TellsCause order turn c item why told.Object
-other_cause order turn c item EarlierCallLate a b d e = absurd (a refl)
-other_cause order turn c item StampRunsBack a b d e = absurd (b refl)
-other_cause order turn c item BatchShape a b d e = absurd (d refl)
-other_cause order turn c item OperationDiffers a b d e = absurd (e refl)
-other_cause order turn c item why a b d e = refl
+pub other_cause : (declared : DeclarationOf) (order : List StepOf) (turn : ℕ) (c : StepOf) (item : ℕ) (why : Why) (cause : Cause) → IsOfItems why → why ≢ OperationDiffers
+    → TellsOfHeld declared order turn c item (TellsItem why c.response.stamp cause) → TellsCause declared order turn c item why cause
+other_cause declared order turn c item EarlierCallLate cause o e told = absurd (o.in_time refl)
+other_cause declared order turn c item StampRunsBack cause o e told = absurd (o.stamped refl)
+other_cause declared order turn c item BatchShape cause o e told = absurd (o.shaped refl)
+other_cause declared order turn c item OperationDiffers cause o e told = absurd (e refl)
+other_cause declared order turn c item why cause o e told = told
+
+pub of_items : (why : Why) → why ≢ EarlierCallLate → why ≢ StampRunsBack → why ≢ BatchShape → IsOfItems why
+of_items why a b d = record { in_time = a; stamped = b; shaped = d }
+
+-- the same of what is answered
+pub other_cause_in : (declared : DeclarationOf) (order : List StepOf) (turn : ℕ) (c : StepOf) (item : ℕ) (why : Why) (result : Result Cause CheckFault) → IsOfItems why → why ≢ OperationDiffers
+    → IfOk result (λ cause. TellsOfHeld declared order turn c item (TellsItem why c.response.stamp cause)) → IfOk result (TellsCause declared order turn c item why)
+other_cause_in declared order turn c item why (Ok cause) o e told = other_cause declared order turn c item why cause o e told
+other_cause_in declared order turn c item why (Err fault) o e told = told

@@ -7,8 +7,7 @@ use Rattle.kmipa_batch.specs.Calls.{pairs_of}
 use Rattle.kmipa_batch.specs.Orders.{order_given}
 use Rattle.kmipa_batch.proofs.OrderLemmas.{from_within, length_from}
 use Rattle.kmipa_check.specs.Steps.{StepOf, order_of}
-use Rattle.kmipa_explain.specs.Causes.{number_asked}
-use Rattle.kmipa_explain.specs.Items.{ItemOf, about, makes_object, item_of, item_then, items_along, places_taken, items_of_call, items_from, items_of}
+use Rattle.kmipa_explain.specs.Items.{number_asked, ItemOf, about, makes_object, item_of, item_then, items_along, places_taken, items_of_call, items_from, items_of}
 use Rattle.kmipa_explain.specs.Reading.{seen_item}
 use Rattle.kmipa_explain.specs.declared.item.Item.{Item}
 use Rattle.kmipa_explain.proofs.KeptLemmas.{drop_at, drop_all}

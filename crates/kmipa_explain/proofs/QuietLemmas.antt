@@ -19,7 +19,7 @@ use Rattle.kmipa_ops.specs.Revoke.{revoke_deed}
 use Rattle.kmipa_ops.specs.Destroy.{destroy_deed}
 
 -- what is found passes
-found_passes : {X : Type 0} (p : X → Bool) (xs : List X) (x : X) → find p xs ≡ Some x → p x ≡ true
+pub found_passes : {X : Type 0} (p : X → Bool) (xs : List X) (x : X) → find p xs ≡ Some x → p x ≡ true
 found_passes p [] x e = absurd cc
 found_passes {X} p (y ∷ xs) x e = by (p y) refl (λ (rest : find p xs ≡ Some x). found_passes p xs x rest)
   where

@@ -1,5 +1,5 @@
 -- A no that a check gives can be explained.
-use Rattle.std.proofs.Common.{◌≡◌, ◌≤◌, ℕ, ◌+◌, ◌-◌, ◌<◌, suc, List, map, length, get_or, Option, Some, Ok, Err, slice_get, refl, sym, ap, ◌∙◌, subst, arith}
+use Rattle.std.proofs.Common.{◌≡◌, ◌≤◌, ℕ, ◌-◌, ◌<◌, List, map, length, get_or, Option, Some, Ok, Err, slice_get, refl, sym, ap, ◌∙◌, subst, arith}
 use Rattle.kmipa_store.specs.Ledger.{Meaning}
 use Rattle.kmipa_msgs.specs.Messages.{RulesOf, AskOf, AnswerOf, RequestOf, ResponseOf}
 use Rattle.kmipa_ops.specs.declared.why.Why.{Why}
@@ -30,10 +30,9 @@ use Rattle.kmipa_check.proofs.RecordedLemmas.{recorded_at, same_calls}
 use Rattle.kmipa_check.proofs.WholeOrderLemmas.{number_of, one_order_lem}
 use Rattle.kmipa_explain.specs.Explainable.{IsBegun, HasPair, IsRefusedHere, IsExplainable}
 use Rattle.kmipa_explain.specs.Places.{at_item}
+use Rattle.kmipa_explain.proofs.PairLemmas.{at_next}
 use Rattle.kmipa_explain.proofs.QuietLemmas.{no_stamp}
-
-at_next : {A : Type 0} (xs : List A) (place : ℕ) → at_item xs (place + 1) ≡ slice_get xs place
-at_next xs place = let e : suc place ≡ place + 1 = omega arith in let P : ℕ → Type 0 = λ n. at_item xs n ≡ slice_get xs place in subst P e refl
+use Rattle.kmipa_explain.proofs.StandingLemmas.{refused_there}
 
 module _ (rules : RulesOf) (m : Meaning) (request : RequestOf) (response : ResponseOf) (order : Option (List ℕ)) (count item : ℕ) (why : Why) where
   -- no item is refused for a stamp
@@ -82,7 +81,7 @@ module _ (marks : List MarkOf) (declared : DeclarationOf) (turns : List TurnOf) 
       let Q : List StepOf → Type 0 = λ ss. IsRefused declared ss r in
       subst Q o told.2.2
 
-  pub explainable : (calls : List CallOf) (order : List StepOf) → AreCalls marks calls → IsOrder calls turns order → IsExplainable marks order r
+  pub explainable : (calls : List CallOf) (order : List StepOf) → AreCalls marks calls → IsOrder calls turns order → IsExplainable marks declared order r
   explainable calls order are formed =
       let its = its_order calls order are formed in
       record {
@@ -94,6 +93,7 @@ module _ (marks : List MarkOf) (declared : DeclarationOf) (turns : List TurnOf) 
           there = its.there;
           behind = stamp_behind declared order its.turn its.call r.item r.why its.refused;
           pair = operations_there declared order its.turn its.call r.item r.why its.refused;
+          refused_item = λ o. refused_there declared order its.turn its.call r.item r.why its.there its.before o its.refused;
         };
       }
 
@@ -105,7 +105,7 @@ module _ (marks : List MarkOf) (declared : DeclarationOf) (turns : List TurnOf) 
 
 -- ---- the refused step, as it is read
 
-module _ (marks : List MarkOf) (steps : List Step) (r : Refused) (e : IsExplainable marks (map step_of steps) r) where
+module _ (marks : List MarkOf) (declared : DeclarationOf) (steps : List Step) (r : Refused) (e : IsExplainable marks declared (map step_of steps) r) where
   pub turn_is : e.turn ≡ r.turn - 1
   turn_is = omega (arith, e.reported)
 
@@ -118,5 +118,5 @@ module _ (marks : List MarkOf) (steps : List Step) (r : Refused) (e : IsExplaina
   pub its_call : (s : Step) → s ≡ get_or steps (r.turn - 1) s → e.call ≡ step_of s
   its_call s is = let at = mapped_at step_of steps (r.turn - 1) s turn_within is in let there = stands in cc
 
-  pub refused_here : IsRefusedHere (map step_of steps) (r.turn - 1) e.call r.item r.why
-  refused_here = let P : ℕ → Type 0 = λ n. IsRefusedHere (map step_of steps) n e.call r.item r.why in subst P turn_is e.refused
+  pub refused_here : IsRefusedHere declared (map step_of steps) (r.turn - 1) e.call r.item r.why
+  refused_here = let P : ℕ → Type 0 = λ n. IsRefusedHere declared (map step_of steps) n e.call r.item r.why in subst P turn_is e.refused

@@ -1,23 +1,23 @@
--- What the reason of a no rests on, where that is told of the calls alone: who ended before, whose stamp is higher, which shape, which operation.
+-- What the reason of a no rests on: of the calls alone who ended before, whose stamp is higher, which shape, which operation; of the others what was
+-- held where the item was refused.
 use Rattle.std.specs.Prelude.{◌≡◌, ℕ, ◌+◌, List, Option, Some, None, option_map, is_some, slice_get}
-use Rattle.kmipa_msgs.specs.Messages.{AskOf, AnswerOf, operation_asked}
-use Rattle.kmipa_msgs.specs.Operations.{operation_number}
+use Rattle.kmipa_msgs.specs.Messages.{AskOf, AnswerOf}
+use Rattle.kmipa_record.specs.Declarations.{DeclarationOf}
 use Rattle.kmipa_ops.specs.declared.why.Why.{Why}
 use Rattle.kmipa_ops.specs.declared.why.Why.TheVariants.{EarlierCallLate, StampRunsBack, BatchShape, OperationDiffers}
 use Rattle.kmipa_batch.specs.Shapes.{IsFirstFailed, NoneFailed}
 use Rattle.kmipa_batch.specs.Calls.{pairs_of}
 use Rattle.kmipa_check.specs.Steps.{StepOf}
 use Rattle.kmipa_explain.specs.Calls.{earlier_calls}
+use Rattle.kmipa_explain.specs.Items.{number_asked}
+use Rattle.kmipa_explain.specs.Holding.{TellsItem}
 use Rattle.kmipa_explain.specs.Places.{at_item}
+use Rattle.kmipa_explain.specs.Standing.{TellsOfHeld}
 use Rattle.kmipa_explain.specs.declared.explanation.Cause.{Cause}
 use Rattle.kmipa_explain.specs.declared.explanation.Cause.TheVariants as told
 use Rattle.kmipa_explain.specs.declared.explanation.TurnBefore.{TurnBefore}
 use Rattle.kmipa_explain.specs.declared.explanation.Shape.{Shape}
 use Rattle.kmipa_explain.specs.declared.explanation.Operations.{Operations}
-
--- the number of the operation that an item asks for
-abbrev pub number_asked : AskOf → ℕ
-number_asked ask = operation_number (operation_asked ask.asked)
 
 -- this is the turn before, counted from 1, with its call and its stamp; turns are counted from 0 here
 pub record IsTurnBefore (order : List StepOf) (turn : ℕ) (b : TurnBefore) : Type 0 where
@@ -65,10 +65,10 @@ abbrev pub TellsOperations : StepOf → ℕ → Cause → Type 0
 TellsOperations c item (told.Operations o) = AreOperations c item o
 TellsOperations c item other = ⊥
 
--- what the reason rests on that is told at this item of this call, which stands at this turn; of the other reasons the story of the object tells more
-abbrev pub TellsCause : List StepOf → ℕ → StepOf → ℕ → Why → Cause → Type 0
-TellsCause order turn c item EarlierCallLate cause = TellsEarlier order turn c cause
-TellsCause order turn c item StampRunsBack cause = TellsBefore order turn cause
-TellsCause order turn c item BatchShape cause = TellsShape c item cause
-TellsCause order turn c item OperationDiffers cause = TellsOperations c item cause
-TellsCause order turn c item why cause = cause ≡ told.Object
+-- what the reason rests on that is told at this item of this call, which stands at this turn
+abbrev pub TellsCause : DeclarationOf → List StepOf → ℕ → StepOf → ℕ → Why → Cause → Type 0
+TellsCause declared order turn c item EarlierCallLate cause = TellsEarlier order turn c cause
+TellsCause declared order turn c item StampRunsBack cause = TellsBefore order turn cause
+TellsCause declared order turn c item BatchShape cause = TellsShape c item cause
+TellsCause declared order turn c item OperationDiffers cause = TellsOperations c item cause
+TellsCause declared order turn c item why cause = TellsOfHeld declared order turn c item (TellsItem why c.response.stamp cause)

@@ -9,7 +9,8 @@ use Rattle.kmipa_check.specs.Steps.{StepOf}
 use Rattle.kmipa_check.specs.Orders.{IsOrder}
 use Rattle.kmipa_check.specs.declared.verdict.Refused.{Refused}
 use Rattle.kmipa_explain.specs.Calls.{overlapping_calls}
-use Rattle.kmipa_explain.specs.Causes.{number_asked, TellsCause}
+use Rattle.kmipa_explain.specs.Causes.{TellsCause}
+use Rattle.kmipa_explain.specs.Items.{number_asked}
 use Rattle.kmipa_explain.specs.Places.{at_item}
 use Rattle.kmipa_explain.specs.Stories.{TellsStory}
 use Rattle.kmipa_explain.specs.declared.explanation.Explanation.{Explanation}
@@ -32,7 +33,7 @@ pub record ExplainsIn (marks : List MarkOf) (declared : DeclarationOf) (order : 
   pub stamp : e.stamp ≡ call.response.stamp
   pub operation : e.operation ≡ operation_at call r.item
   pub overlapping : e.overlapping.items ≡ overlapping_calls order turn call
-  pub cause : TellsCause order turn call r.item r.why e.cause
+  pub cause : TellsCause declared order turn call r.item r.why e.cause
   pub story : TellsStory declared order r e.story
 
 -- it is an explanation of this no, in the order that the witness gives to the calls of the transcript

@@ -1,6 +1,7 @@
 -- The items of an order, one after the other as they are taken, and which identifier each is about.
 use Rattle.std.specs.Prelude.{ℕ, ◌+◌, ℤ, Bool, true, false, List, [], ◌∷◌, ◌++◌, length, Option, Some, None, option_map, option_and_then, slice_get}
-use Rattle.kmipa_msgs.specs.Messages.{AskedOf, AskOf, PayloadOf, RegisteredOf, AnswerOf, creates, registers, locates, gets, gets_attributes, activates, revokes, destroys, idles, does_other}
+use Rattle.kmipa_msgs.specs.Messages.{AskedOf, AskOf, PayloadOf, RegisteredOf, AnswerOf, operation_asked, creates, registers, locates, gets, gets_attributes, activates, revokes, destroys, idles, does_other}
+use Rattle.kmipa_msgs.specs.Operations.{operation_number}
 use Rattle.kmipa_msgs.specs.declared.response.Status.{Status}
 use Rattle.kmipa_ops.specs.After.{placeholder_after}
 use Rattle.kmipa_ops.specs.Create.{seen_created}
@@ -9,7 +10,6 @@ use Rattle.kmipa_ops.specs.Register.{seen_registered}
 use Rattle.kmipa_batch.specs.Calls.{pairs_of}
 use Rattle.kmipa_batch.specs.Orders.{places_from}
 use Rattle.kmipa_check.specs.Steps.{StepOf, order_of}
-use Rattle.kmipa_explain.specs.Causes.{number_asked}
 
 -- An item that was asked and answered: its turn, its call and its place in the call, turn and place counted from 1; the Time Stamp; the operation,
 -- the status, whether it makes an object; and the identifier that it is about, if it is about one.
@@ -22,6 +22,10 @@ pub record ItemOf : Type 0 where
   pub status : Status
   pub makes : Bool
   pub about : Option (List ℕ)
+
+-- the number of the operation that an item asks for
+abbrev pub number_asked : AskOf → ℕ
+number_asked ask = operation_number (operation_asked ask.asked)
 
 -- a Create or a Register makes an object
 abbrev pub makes_object : AskedOf → Bool

@@ -1,37 +1,46 @@
 //! What the reason of a no rests on.
 
-ghost use Rattle.std.specs.Prelude.{◌≡◌, ◌<◌, ◌≤◌, IfOk, Some, length, map, slice_get};
+ghost use Rattle.std.specs.Prelude.{◌≡◌, ◌<◌, ◌≤◌, IfErr, IfOk, Some, length, map, slice_get};
 ghost use Rattle.kmipa_msgs.specs.Messages.{answer_of};
+ghost use Rattle.kmipa_record.specs.Declarations.{declaration_of};
 ghost use Rattle.kmipa_batch.specs.Shapes.{is_failed};
+ghost use Rattle.kmipa_check.specs.Replays.{AllTakable};
 ghost use Rattle.kmipa_check.specs.Steps.{StepOf, step_of};
 ghost use Rattle.kmipa_explain.specs.Causes.{AreOperations, FailsFirst, IsShape, IsTurnBefore, TellsCause};
 ghost use Rattle.kmipa_explain.specs.Explainable.{HasPair, IsRefusedHere};
 
 use crate::calls::earlier_calls;
 use crate::explanation::{Cause, Operations, Shape, TurnBefore};
+use crate::holding::held_cause;
 use crate::places::{answer_at, ask_at};
-use kmipa_check::Step;
+use kmipa_check::{CheckFault, Step};
 use kmipa_msgs::{Answer, Status};
 use kmipa_ops::Why;
-use std::alloc::{AllocError, Global};
+use kmipa_record::Declaration;
+use std::alloc::Global;
 
 /// What the reason rests on for which an item of a turn's call is refused. Turns are counted from 0 here, items from 1.
 pub fn cause_of(
     alloc: Global,
+    declaration: &Declaration,
     steps: &[Step],
     turn: usize,
     item: usize,
     why: Why,
-) -> Result<Cause, AllocError>
-    requires { (c : StepOf) × IsRefusedHere (map step_of steps.now) turn c item why }
-    ensures { (c : StepOf) → slice_get (map step_of steps.now) turn ≡ Some c → IfOk result (TellsCause (map step_of steps.now) turn c item why) }
+) -> Result<Cause, CheckFault>
+    requires takable { AllTakable (map step_of steps.now) }
+    requires refused { (c : StepOf) × IsRefusedHere (declaration_of declaration.now) (map step_of steps.now) turn c item
+        why }
+    ensures tells { (c : StepOf) → slice_get (map step_of steps.now) turn ≡ Some c
+        → IfOk result (TellsCause (declaration_of declaration.now) (map step_of steps.now) turn c item why) }
+    ensures memory { IfErr result (λ fault. fault ≡ CheckFault.Memory) }
 {
     match why {
         Why::EarlierCallLate => Ok(Cause::EarlierCalls(earlier_calls(alloc, steps, turn)?)),
         Why::StampRunsBack => Ok(Cause::StampBefore(turn_before(steps, turn))),
         Why::BatchShape => Ok(Cause::BatchShape(shape_at(&steps[turn], item))),
         Why::OperationDiffers => Ok(Cause::Operations(operations_at(&steps[turn], item))),
-        _ => Ok(Cause::Object),
+        _ => held_cause(alloc, declaration, steps, turn, item, why),
     }
 }
 

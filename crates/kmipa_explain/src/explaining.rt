@@ -6,6 +6,7 @@ ghost use Rattle.kmipa_record.specs.Declarations.{declaration_of};
 ghost use Rattle.kmipa_record.specs.Marks.{AreRecorded, mark_of};
 ghost use Rattle.kmipa_record.specs.Transcripts.{transcript_of};
 ghost use Rattle.kmipa_record.specs.Witnesses.{witness_of};
+ghost use Rattle.kmipa_check.specs.Replays.{AllTakable};
 ghost use Rattle.kmipa_check.specs.Steps.{StepOf, step_of};
 ghost use Rattle.kmipa_check.specs.Verdicts.{TellsVerdict};
 ghost use Rattle.kmipa_explain.specs.Explainable.{IsBegun, IsExplainable};
@@ -29,13 +30,15 @@ pub fn explain(
     refused: Refused,
 ) -> Result<Explanation, CheckFault>
     requires recorded { AreRecorded (transcript_of transcript.now) }
-    requires refused { TellsVerdict (transcript_of transcript.now) (declaration_of declaration.now) (witness_of witness.now) (Verdict.No refused) }
-    ensures explains { IfOk result (Explains (transcript_of transcript.now) (declaration_of declaration.now) (witness_of witness.now) refused) }
+    requires refused { TellsVerdict (transcript_of transcript.now) (declaration_of declaration.now)
+        (witness_of witness.now) (Verdict.No refused) }
+    ensures explains { IfOk result (Explains (transcript_of transcript.now) (declaration_of declaration.now)
+        (witness_of witness.now) refused) }
     ensures memory { IfErr result (λ fault. fault ≡ CheckFault.Memory) }
 {
     let calls = read_calls(alloc, transcript)?;
     let steps = steps_of(alloc, &calls, &witness.turns)?;
-    Ok(explained(alloc, &transcript.marks, declaration, &steps, refused)?)
+    explained(alloc, &transcript.marks, declaration, &steps, refused)
 }
 
 /// What a refusal means in the order of these steps.
@@ -45,9 +48,13 @@ fn explained(
     declaration: &Declaration,
     steps: &[Step],
     refused: Refused,
-) -> Result<Explanation, AllocError>
-    requires { IsExplainable (map mark_of marks.now) (map step_of steps.now) refused }
-    ensures { IfOk result (ExplainsIn (map mark_of marks.now) (declaration_of declaration.now) (map step_of steps.now) refused) }
+) -> Result<Explanation, CheckFault>
+    requires takable { AllTakable (map step_of steps.now) }
+    requires explainable { IsExplainable (map mark_of marks.now) (declaration_of declaration.now)
+        (map step_of steps.now) refused }
+    ensures explains { IfOk result (ExplainsIn (map mark_of marks.now) (declaration_of declaration.now)
+        (map step_of steps.now) refused) }
+    ensures memory { IfErr result (λ fault. fault ≡ CheckFault.Memory) }
 {
     let turn = refused.turn - 1;
     let step = &steps[turn];
@@ -56,7 +63,7 @@ fn explained(
         stamp: step.stamp(),
         operation: operation_at(step, refused.item),
         overlapping: overlapping_calls(alloc, steps, turn)?,
-        cause: cause_of(alloc, steps, turn, refused.item, refused.why)?,
+        cause: cause_of(alloc, declaration, steps, turn, refused.item, refused.why)?,
         story: story_of(alloc, declaration, steps, refused)?,
     })
 }

@@ -1,5 +1,9 @@
 //! Explanations.
 
+use crate::held::{
+    AttributesHeld, BytesHeld, EchoHeld, LeftOutHeld, LengthHeld, ListHeld, NameHeld, ReasonHeld,
+    StateHeld,
+};
 use kmipa_msgs::{BatchOption, Status};
 
 /// What a no means.
@@ -30,7 +34,31 @@ pub enum Cause {
     BatchShape(Shape),
     /// Of `OperationDiffers`: the two operations.
     Operations(Operations),
-    /// Of the other reasons, which speak of what the server held.
+    /// Of `NoSuchObject`: the identifier of which the server held no object; none where the ID Placeholder is meant and holds none.
+    NoObject(Option<String>),
+    /// Of `WrongState`: the object's state and its dates.
+    State(StateHeld),
+    /// Of `BytesDiffer`: where the bytes that are shown differ from those that are known.
+    Bytes(BytesHeld),
+    /// Of `IdentifierTaken`: the identifier that the answer gives to the new object, of which the server held one.
+    Identifier(String),
+    /// Of `NameTaken`: a name that is asked for, and who has it.
+    Name(NameHeld),
+    /// Of `LengthImpossible`: the bytes, and what they can't be the key of.
+    Length(LengthHeld),
+    /// Of `AttributeDiffers`: the attributes that are shown and that the object doesn't have so.
+    Differing(AttributesHeld),
+    /// Of `AttributeMissing`: the required attributes that aren't shown.
+    Missing(AttributesHeld),
+    /// Of `ListedWrongly`: what is wrong in the list.
+    Listed(ListHeld),
+    /// Of `ListedTooFew`: the objects that must be listed and aren't, in the order of their arrival.
+    LeftOut(Vec<LeftOutHeld>),
+    /// Of `ReasonUnfounded`: the reason, and what may be behind it.
+    Reason(ReasonHeld),
+    /// Of `EchoDiffers`: what was asked, and what is repeated.
+    Echo(EchoHeld),
+    /// Of a reason of which no more is told.
     Object,
 }
 

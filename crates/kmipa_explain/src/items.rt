@@ -49,7 +49,7 @@ fn add_items(
 }
 
 /// How many places of a call are taken.
-fn count_of(step: &Step) -> usize
+pub fn count_of(step: &Step) -> usize
     ensures { result ≡ length (places_taken (order_of (step_of step.now)) (length (step_of step.now).request.items)) }
 {
     match step.places() {
@@ -59,7 +59,7 @@ fn count_of(step: &Step) -> usize
 }
 
 /// The place, counted from 0, that is taken at a position.
-fn place_at(step: &Step, position: usize) -> usize
+pub fn place_at(step: &Step, position: usize) -> usize
     requires { position < length (places_taken (order_of (step_of step.now)) (length (step_of step.now).request.items)) }
     ensures { slice_get (places_taken (order_of (step_of step.now)) (length (step_of step.now).request.items)) position ≡ Some result }
 {
@@ -115,7 +115,7 @@ fn makes_object(ask: &Ask) -> bool
 }
 
 /// The identifier that an item is about, where the ID Placeholder holds this.
-fn about_in(
+pub fn about_in(
     alloc: Global,
     ask: &Ask,
     answer: &Answer,

@@ -1,8 +1,9 @@
 //! Items of a call, counted from 1.
 
-ghost use Rattle.std.specs.Prelude.{◌≡◌, option_map};
+ghost use Rattle.std.specs.Prelude.{◌≡◌, Some, option_map};
 ghost use Rattle.kmipa_msgs.specs.Messages.{answer_of, ask_of};
 ghost use Rattle.kmipa_check.specs.Steps.{step_of};
+ghost use Rattle.kmipa_explain.specs.Explainable.{HasPair};
 ghost use Rattle.kmipa_explain.specs.Places.{at_item};
 
 use kmipa_check::Step;
@@ -32,4 +33,20 @@ pub fn answer_at<'c, 'b, 'a>(step: &'c Step<'b, 'a>, item: usize) -> Option<&'c 
         Some(answer) => Some(answer),
         None => None,
     }
+}
+
+/// What an item asks for that has its answer.
+pub fn ask_there<'b, 'a>(step: &Step<'b, 'a>, item: usize) -> &'b Ask<'a>
+    requires { HasPair (step_of step.now) item }
+    ensures { at_item (step_of step.now).request.items item ≡ Some (ask_of result.now) }
+{
+    &step.request.items[item - 1]
+}
+
+/// The answer of an item that is asked.
+pub fn answer_there<'c, 'b, 'a>(step: &'c Step<'b, 'a>, item: usize) -> &'c Answer<'a>
+    requires { HasPair (step_of step.now) item }
+    ensures { at_item (step_of step.now).response.items item ≡ Some (answer_of result.now) }
+{
+    &step.response.response().items[item - 1]
 }

@@ -4,7 +4,7 @@ use Rattle.std.proofs.lemmas.List.{length-map}
 use Rattle.kmipa_msgs.specs.Messages.{AnswerOf, ResponseOf, ask_of, answer_of, request_of}
 use Rattle.kmipa_check.specs.Steps.{given_of}
 use Rattle.kmipa_check.proofs.PlaceLemmas.{mapped_at}
-use Rattle.kmipa_explain.specs.Causes.{number_asked}
+use Rattle.kmipa_explain.specs.Items.{number_asked}
 use Rattle.kmipa_explain.proofs.PairLemmas.{answered_at, answered_within, asked_at, asked_within}
 use Rattle.kmipa_explain.proofs.cause.operations_at.Goals as goal
 

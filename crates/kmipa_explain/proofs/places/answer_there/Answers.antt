@@ -1,0 +1,29 @@
+use Rattle.std.proofs.Common.{rules, ◌≡◌, ◌∙◌, ◌-◌, ◌<◌, length, slice_get, sym, ap, subst, arith}
+use Rattle.std.specs.Vec.{vec_len}
+use Rattle.std.proofs.lemmas.List.{length-map}
+use Rattle.kmipa_msgs.specs.Messages.{ResponseOf, answer_of, request_of}
+use Rattle.kmipa_check.specs.Steps.{given_of}
+use Rattle.kmipa_check.proofs.PlaceLemmas.{mapped_at}
+use Rattle.kmipa_explain.proofs.PairLemmas.{answered_within, at_before, pair_some}
+use Rattle.kmipa_explain.proofs.places.answer_there.Goals as goal
+
+pub index-requires : goal.index-requires
+index-requires c =
+    let items = c.response.result.now.items in
+    let within = answered_within (request_of c.args.step.now.request.now).items (given_of c.args.step.now.response).items c.args.item c.requires.0 c.requires.1 c.requires.2 in
+    let P : ResponseOf → Type 0 = λ r. c.args.item - 1 < length r.items in
+    let here = subst P (sym c.response.ensures) within in
+    let long : length items.items ≡ vec_len items = search rules in
+    omega (arith, here, length-map items.items answer_of, long)
+
+pub returns : goal.returns
+returns c =
+    let asks = (request_of c.args.step.now.request.now).items in
+    let answers = (given_of c.args.step.now.response).items in
+    let given = c.response.result.now.items.items in
+    let within = answered_within asks answers c.args.item c.requires.0 c.requires.1 c.requires.2 in
+    let P : ResponseOf → Type 0 = λ r. c.args.item - 1 < length r.items in
+    let here = subst P (sym c.response.ensures) within in
+    let there = mapped_at answer_of given (c.args.item - 1) c.index.result.now (omega (arith, here, length-map given answer_of)) c.index.ensures in
+    at_before answers c.args.item (pair_some asks answers c.args.item c.requires.0 c.requires.1 c.requires.2)
+    ∙ ap (λ (r : ResponseOf). slice_get r.items (c.args.item - 1)) (sym c.response.ensures) ∙ there

@@ -1,0 +1,40 @@
+-- The object that is meant, of what was held.
+use Rattle.std.specs.Prelude.{ℕ, List, find, bytes_eq, Option, Some, None, option_and_then, option_map}
+use Rattle.kmipa_object.specs.Life.{Dates}
+use Rattle.kmipa_object.specs.Table.{revoke_act}
+use Rattle.kmipa_object.specs.declared.allow.Act.{Act}
+use Rattle.kmipa_object.specs.declared.allow.Act.TheVariants as act
+use Rattle.kmipa_msgs.specs.Messages.{AskedOf, creates, registers, locates, gets, gets_attributes, activates, revokes, destroys, idles, does_other}
+use Rattle.kmipa_record.specs.Declarations.{DeclarationOf}
+use Rattle.kmipa_record.specs.Entries.{EntryOf}
+use Rattle.kmipa_check.specs.Described.{dates_in}
+use Rattle.kmipa_explain.specs.declared.held.DatesHeld.{DatesHeld}
+
+-- the object of this identifier, where an identifier is meant and an object has it
+abbrev pub object_held : DeclarationOf → Option (List ℕ) → Option EntryOf
+object_held held None = None
+object_held held (Some id) = find (λ (e : EntryOf). bytes_eq id e.id) held.entries
+
+-- its dates
+abbrev pub dates_held : DeclarationOf → Option (List ℕ) → Option Dates
+dates_held held id = option_map (λ (e : EntryOf). dates_in e.attributes) (object_held held id)
+
+-- its bytes, where they are known: where the object has the same ones in every inventory that stands there
+abbrev pub bytes_held : DeclarationOf → Option (List ℕ) → Option (List ℕ)
+bytes_held held id = option_and_then (λ (e : EntryOf). e.bytes) (object_held held id)
+
+-- the row of the table of states by which an operation on an object is judged
+abbrev pub act_asked : AskedOf → Option Act
+act_asked (creates a) = None
+act_asked (registers r) = None
+act_asked (locates q) = None
+act_asked (gets id) = Some act.Get
+act_asked (gets_attributes g) = Some act.GetAttributes
+act_asked (activates id) = Some act.Activate
+act_asked (revokes r) = Some (revoke_act r.code)
+act_asked (destroys id) = Some act.Destroy
+act_asked (idles number) = None
+act_asked (does_other number) = None
+
+abbrev pub dates_told : DatesHeld → Dates
+dates_told d = record { initial = d.initial; activation = d.activation; deactivation = d.deactivation; destroy = d.destroy; compromise = d.compromise }
