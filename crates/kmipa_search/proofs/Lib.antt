@@ -19,6 +19,7 @@ pub mod RemainingLemmas
 pub mod SortLemmas
 pub mod ApartLemmas
 pub mod GuessLemmas
+pub mod DescentLemmas
 pub mod PickLemmas
 pub mod IdleLemmas
 pub mod EndLemmas

@@ -4,6 +4,7 @@ use Rattle.kmipa_store.specs.Ledger.{LedgerState, Meaning}
 use Rattle.kmipa_store.specs.Choices.{IsSound}
 use Rattle.kmipa_record.specs.Marks.{MarkOf}
 use Rattle.kmipa_check.specs.Calls.{CallOf, IsRecorded, call_of}
+use Rattle.kmipa_check.specs.declared.call.Call.{Call}
 use Rattle.kmipa_check.specs.declared.fault.CheckFault.{CheckFault}
 use Rattle.kmipa_search.specs.declared.candidate.Candidate.{Candidate}
 use Rattle.kmipa_search.specs.declared.guessing.Guessed.{Guessed}
@@ -15,6 +16,9 @@ IsRecordedCall c = (marks : List MarkOf) × IsRecorded marks c
 
 abbrev pub AreRecordedCalls : List Candidate → Type 0
 AreRecordedCalls calls = (c : Candidate) → Contains calls c → IsRecordedCall (call_of c.call.now)
+
+abbrev pub AreAllRecorded : List Call → Type 0
+AreAllRecorded calls = (c : Call) → Contains calls c → IsRecordedCall (call_of c)
 
 -- each turn was tried, and no more than the budget
 abbrev pub IsBounded : ℕ → Guessed → Type 0

@@ -1,13 +1,19 @@
 -- Laws: where a search decides, and what the words of its promise come to.
-use Rattle.std.specs.Prelude.{◌≡◌, ◌≤◌, ◌⊎◌, ◌↔◌, ℕ, Bool, true, false, List, length}
+use Rattle.std.specs.Prelude.{◌≡◌, ◌≢◌, ◌≤◌, ◌⊎◌, ◌↔◌, ℕ, Bool, true, false, List, ◌∷◌, length, AllPairs}
+use Rattle.kmipa_store.specs.Choices.{IsSound}
+use Rattle.kmipa_store.specs.Ledger.{Meaning}
 use Rattle.kmipa_record.specs.Marks.{MarkOf, AreRecorded}
 use Rattle.kmipa_record.specs.Declarations.{DeclarationOf}
 use Rattle.kmipa_check.specs.Calls.{CallOf, AreCalls}
-use Rattle.kmipa_check.specs.Steps.{StepOf}
-use Rattle.kmipa_check.specs.Runs.{IsExplained}
+use Rattle.kmipa_batch.specs.Refusals.{CallExplainsAlong}
+use Rattle.kmipa_check.specs.Steps.{StepOf, order_of}
+use Rattle.kmipa_check.specs.Runs.{IsExplained, rules_declared}
+use Rattle.kmipa_check.specs.Verdicts.{AreKnown}
 use Rattle.kmipa_check.specs.Ordering.{Decided}
+use Rattle.kmipa_search.specs.Idle.{IsIdleStep}
 use Rattle.kmipa_search.specs.Plain.{ArePlain, IsForced}
 use Rattle.kmipa_search.specs.Next.{IsNext, is_next, weight}
+use Rattle.kmipa_search.specs.Progress.{so_far, AreNext, IsDead}
 use Rattle.kmipa_search.specs.Found.{Finds}
 use Rattle.kmipa_search.specs.declared.found.Found.{Found}
 use Rattle.kmipa_search.specs.declared.found.Found.TheVariants.{Yes, GaveUp}
@@ -32,3 +38,11 @@ ForcedIsLight = (calls : List CallOf) (f : IsForced calls) → weight f.steps �
 -- the test by which tries are counted is true exactly of what may be next
 abbrev pub NextIsTested : Type 0
 NextIsTested = (steps : List StepOf) (taken : List ℕ) (place : ℕ) → IsNext steps taken place ↔ (is_next steps taken place ≡ true)
+
+-- Idle first: where a call without effect may be next, and is possible over what is known, it comes first in some run that goes on from here, if
+-- there is any.
+abbrev pub IdleFirst : Type 0
+IdleFirst = (declared : DeclarationOf) (calls : List StepOf) (taken : List ℕ) (p : ℕ) (n : IsNext calls taken p) (m k : Meaning)
+    → AllPairs (λ (a b : StepOf). a ≢ b) calls → AreNext calls taken → AreKnown declared (so_far calls taken) m
+    → CallExplainsAlong (rules_declared declared) m n.call.request n.call.response (order_of n.call) k → IsSound k → IsIdleStep n.call
+    → IsDead declared calls (p ∷ taken) → IsDead declared calls taken

@@ -111,7 +111,7 @@ fn try_guess<L: Ledger>(
 }
 
 /// Takes a call as a turn makes its step, after a new mark, and answers the mark's depth; or the ledger is as before.
-fn take_turn<L: Ledger>(
+pub fn take_turn<L: Ledger>(
     alloc: Global,
     ledger: &mut L,
     rules: &Rules,
@@ -138,7 +138,7 @@ fn take_turn<L: Ledger>(
         rules,
         step.request,
         step.response.response(),
-        None,
+        step.places(),
     ) {
         Ok(()) => {
             let Mark { depth } = mark;

@@ -1,7 +1,7 @@
 //! Laws of the definitions.
 
 ghost use Rattle.kmipa_search.specs.Ends.{EqualIsEqual};
-ghost use Rattle.kmipa_search.specs.Laws.{EnoughDecides, ForcedIsLight, NextIsTested};
+ghost use Rattle.kmipa_search.specs.Laws.{EnoughDecides, ForcedIsLight, IdleFirst, NextIsTested};
 
 use kmipa_check::one_list_of_calls;
 
@@ -21,6 +21,12 @@ pub fn forced_is_light()
 /// The test by which tries are counted is true of exactly the steps that may be next.
 pub fn next_is_tested()
     ensures { NextIsTested }
+{}
+
+/// A call without effect that may be next and is possible comes first in some run that goes on from here, if there is
+/// any.
+pub fn idle_first()
+    ensures { IdleFirst }
 {}
 
 /// The same calls taken in two orders, over ledgers whose objects stand alike: where the one begins no run, nor does the

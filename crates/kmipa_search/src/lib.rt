@@ -11,6 +11,8 @@ mod guessing;
 mod idle;
 mod laws;
 mod links;
+mod open;
+mod open_searching;
 mod order;
 mod picking;
 mod plain;
@@ -24,6 +26,7 @@ mod watch;
 
 pub use forced::is_forced;
 pub use found::Found;
-pub use laws::{enough_decides, equal_is_equal, forced_is_light, next_is_tested};
+pub use laws::{enough_decides, equal_is_equal, forced_is_light, idle_first, next_is_tested};
+pub use open_searching::search_open;
 pub use searching::{search, search_watched};
 pub use watch::{Unwatched, Watch};

@@ -60,6 +60,21 @@ impl Remaining {
         }
     }
 
+    /// Whether no call remains.
+    pub fn is_empty(&self, calls: &[Candidate]) -> bool {
+        self.by_stamp.after(0) > calls.len()
+    }
+
+    /// The place of the call with the least stamp.
+    pub fn least(&self) -> usize {
+        self.stamps.place(self.by_stamp.after(0))
+    }
+
+    /// The place of the call with the least end.
+    pub fn soonest(&self) -> usize {
+        self.ends.place(self.by_end.after(0))
+    }
+
     /// A next call is taken.
     pub fn take(&mut self, calls: &[Candidate], place: usize)
         ensures { (taken : List ℕ) → AreRemaining (map candidate_step calls.now) taken self.old → IsNext (map candidate_step calls.now) taken place

@@ -2,10 +2,10 @@
 
 ghost use Rattle.std.specs.Prelude.{◌≡◌, ◌<◌, ◌⊎◌, All, IfErr, IfOk, Err, List, Ok, length, map, true, ℕ};
 ghost use Rattle.kmipa_record.specs.Declarations.{AreDeclared, declaration_of};
-ghost use Rattle.kmipa_record.specs.Marks.{AreRecorded};
+ghost use Rattle.kmipa_record.specs.Marks.{AreRecorded, MarkOf};
 ghost use Rattle.kmipa_record.specs.Transcripts.{transcript_of};
 ghost use Rattle.kmipa_record.specs.Witnesses.{IsWitness, turn_of, witness_of};
-ghost use Rattle.kmipa_check.specs.Calls.{CallOf, AreCalls, IsRecorded, call_of};
+ghost use Rattle.kmipa_check.specs.Calls.{AreCalls, IsRecorded, call_of};
 ghost use Rattle.kmipa_check.specs.Plain.{bare_turn};
 ghost use Rattle.kmipa_check.specs.Runs.{IsAccepted};
 ghost use Rattle.kmipa_search.specs.Candidates.{AreNotPlain, candidate_step};
@@ -22,7 +22,7 @@ use crate::order::find_order;
 use crate::plain::{candidates, every_candidate};
 use crate::watch::{Unwatched, Watch};
 use kmipa_check::{
-    Call, CheckFault, Verdict, check, open_ledger, read_calls, rules_of_declaration,
+    Call, CheckFault, Verdict, check, check_calls, open_ledger, read_calls, rules_of_declaration,
 };
 use kmipa_record::{Declaration, RecordKind, Transcript, Turn, Witness, write_witness};
 use std::alloc::{AllocError, Global};
@@ -61,37 +61,39 @@ pub fn search_watched<W: Watch>(
     check_laws();
     let calls = read_calls(alloc, transcript)?;
     match candidates(alloc, &calls)? {
-        Some(own) => search_plain(alloc, transcript, declaration, &own, budget, watch),
+        Some(own) => search_plain(alloc, &calls, declaration, &own, budget, watch),
         None => search_waiting(alloc, transcript, declaration, &calls, budget, watch),
     }
 }
 
-/// Looks for a witness of calls that are plain.
-fn search_plain<W: Watch>(
+/// Looks for a witness of calls that are plain, each as a search takes it.
+pub fn search_plain<W: Watch>(
     alloc: Global,
-    transcript: &Transcript,
+    calls: &[Call],
     declaration: &Declaration,
-    calls: &[Candidate],
+    own: &[Candidate],
     budget: u64,
     watch: &mut W,
 ) -> Result<Found, CheckFault>
     requires declared { AreDeclared (declaration_of declaration.now) }
-    requires readable { AllReadable (map candidate_step calls.now) }
-    ensures { (all : List CallOf) → AreRecorded (transcript_of transcript.now) → AreCalls (transcript_of transcript.now) all → ArePlain all (map candidate_step calls.now)
-        → Searches (transcript_of transcript.now) (declaration_of declaration.now) budget result }
+    requires each { (marks : List MarkOf) × All (IsRecorded marks) (map call_of calls.now) }
+    requires readable { AllReadable (map candidate_step own.now) }
+    ensures { (marks : List MarkOf) → AreRecorded marks → AreCalls marks (map call_of calls.now)
+        → ArePlain (map call_of calls.now) (map candidate_step own.now)
+        → Searches marks (declaration_of declaration.now) budget result }
 {
     check_laws();
     let rules = rules_of_declaration(alloc, declaration)?;
     let mut ledger = open_ledger(alloc, declaration)?;
-    let Ok(outcome) = find_order(alloc, &mut ledger, &rules, calls, budget, watch) else {
+    let Ok(outcome) = find_order(alloc, &mut ledger, &rules, own, budget, watch) else {
         return Err(CheckFault::Memory);
     };
     let steps = outcome.steps;
     let order = outcome.order;
     match order {
         Some(order) => {
-            let witness = witness_at(alloc, calls, &order)?;
-            confirm(alloc, transcript, declaration, witness, steps)
+            let witness = witness_at(alloc, own, &order)?;
+            confirm(alloc, calls, declaration, witness, steps)
         }
         None => Ok(Found::GaveUp(steps)),
     }
@@ -127,7 +129,7 @@ fn search_waiting<W: Watch>(
 }
 
 /// Hands a witness out if it is accepted and can be written.
-fn try_witness(
+pub fn try_witness(
     alloc: Global,
     transcript: &Transcript,
     declaration: &Declaration,
@@ -195,17 +197,18 @@ fn bare_turn(alloc: Global, call: i32) -> Turn
 /// Hands a witness out that is accepted.
 fn confirm(
     alloc: Global,
-    transcript: &Transcript,
+    calls: &[Call],
     declaration: &Declaration,
     witness: Witness,
     steps: u64,
 ) -> Result<Found, CheckFault>
-    requires { AreDeclared (declaration_of declaration.now) }
-    ensures { AreRecorded (transcript_of transcript.now)
-        → IsAccepted (transcript_of transcript.now) (declaration_of declaration.now) (witness_of witness) → Confirms witness steps result }
+    requires declared { AreDeclared (declaration_of declaration.now) }
+    requires each { (marks : List MarkOf) × All (IsRecorded marks) (map call_of calls.now) }
+    ensures { (marks : List MarkOf) → AreRecorded marks → AreCalls marks (map call_of calls.now)
+        → IsAccepted marks (declaration_of declaration.now) (witness_of witness) → Confirms witness steps result }
 {
     check_laws();
-    match check(alloc, transcript, declaration, &witness) {
+    match check_calls(alloc, calls, declaration, &witness) {
         Ok(Verdict::Yes) => Ok(Found::Yes(witness, steps)),
         Ok(Verdict::No(_)) => Ok(Found::GaveUp(steps)),
         Err(fault) => unconfirmed(fault, steps),

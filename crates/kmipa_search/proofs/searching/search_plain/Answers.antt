@@ -2,9 +2,9 @@ use Rattle.std.proofs.Common.{◌≡◌, ℕ, List, map, Option, Some, Vec, subs
 use Rattle.std.specs.declared.alloc.Global.{Global}
 use Rattle.kmipa_store.specs.States.{state_of_journal}
 use Rattle.kmipa_record.specs.Declarations.{declaration_of}
-use Rattle.kmipa_record.specs.Transcripts.{transcript_of}
 use Rattle.kmipa_record.specs.Witnesses.{witness_of}
 use Rattle.kmipa_msgs.specs.Messages.{rules_of}
+use Rattle.kmipa_check.specs.Calls.{call_of}
 use Rattle.kmipa_search.specs.Candidates.{candidate_step}
 use Rattle.kmipa_search.specs.Progress.{ComesTo}
 use Rattle.kmipa_search.specs.Confirming.{turns_at}
@@ -12,22 +12,22 @@ use Rattle.kmipa_search.proofs.AnswerLemmas.{opens, gave_up, found}
 use Rattle.kmipa_search.proofs.searching.search_plain.Goals as goal
 
 pub returns-in-Some : goal.returns-in-Some
-returns-in-Some g c = λ all r are plain.
-    let marks = transcript_of c.args.transcript.now in
+returns-in-Some g c = λ marks r are plain.
+    let all = map call_of c.args.calls.now in
     let declared = declaration_of c.args.declaration.now in
-    let calls = map candidate_step c.args.calls.now in
+    let calls = map candidate_step c.args.own.now in
     let o = opens marks declared all calls c.check_laws.ensures r are plain (rules_of c.in_ok-rules.rules) (state_of_journal c.in_ok-ledger.ledger).now c.in_ok-rules.ensures c.in_ok-ledger.ensures.opened in
     let P : Option (Vec ℕ Global) → Type 0 = λ v. ComesTo declared calls c.args.budget (option_map (λ (x : Vec ℕ Global). x.items) v) c.in-Ok.outcome.steps in
     let l : ComesTo declared calls c.args.budget (Some c.in-Some.order.items) c.in-Ok.outcome.steps = subst P c.in-Some.is (c.in-Ok.ensures.tells declared o) in
     let W : List ℕ → Type 0 = λ ps. witness_of c.in_ok-witness-in-Some.witness ≡ turns_at calls ps in
     found marks declared all calls c.check_laws.ensures r are plain c.in-Some.order.items l.2 c.args.budget c.in-Ok.outcome.steps c.in_ok-witness-in-Some.witness c.confirm.result l.0 l.1
-    (subst W c.deref.ensures.value c.in_ok-witness-in-Some.ensures) (λ a. c.confirm.ensures r a)
+    (subst W c.deref.ensures.value c.in_ok-witness-in-Some.ensures) (λ a. c.confirm.ensures marks r are a)
 
 pub returns : goal.returns
-returns g c = λ all r are plain.
-    let marks = transcript_of c.args.transcript.now in
+returns g c = λ marks r are plain.
+    let all = map call_of c.args.calls.now in
     let declared = declaration_of c.args.declaration.now in
-    let calls = map candidate_step c.args.calls.now in
+    let calls = map candidate_step c.args.own.now in
     let o = opens marks declared all calls c.check_laws.ensures r are plain (rules_of c.in_ok-rules.rules) (state_of_journal c.in_ok-ledger.ledger).now c.in_ok-rules.ensures c.in_ok-ledger.ensures.opened in
     let P : Option (Vec ℕ Global) → Type 0 = λ v. ComesTo declared calls c.args.budget (option_map (λ (x : Vec ℕ Global). x.items) v) c.in-Ok.outcome.steps in
     gave_up marks declared all calls c.check_laws.ensures r are plain c.args.budget c.in-Ok.outcome.steps (subst P c.in-None.is (c.in-Ok.ensures.tells declared o))

@@ -1,0 +1,17 @@
+//! The search that also tries calls without an end mark, and the items of a batch without order in other orders.
+
+mod answer;
+mod call;
+mod descent;
+mod due;
+mod identifiers;
+mod orders;
+mod place;
+mod related;
+mod standing;
+mod stories;
+mod tables;
+mod turns;
+
+pub use descent::find_turns;
+pub use tables::Tables;

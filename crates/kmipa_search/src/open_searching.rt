@@ -1,0 +1,81 @@
+//! The search for a witness that also takes calls without an end mark.
+
+ghost use Rattle.std.specs.Prelude.{All, map};
+ghost use Rattle.kmipa_record.specs.Declarations.{AreDeclared, declaration_of};
+ghost use Rattle.kmipa_record.specs.Marks.{AreRecorded};
+ghost use Rattle.kmipa_record.specs.Transcripts.{transcript_of};
+ghost use Rattle.kmipa_check.specs.Calls.{AreCalls, IsRecorded, call_of};
+ghost use Rattle.kmipa_search.specs.Candidates.{AreNotPlain};
+ghost use Rattle.kmipa_search.specs.Found.{Searches};
+
+use crate::check_laws::check_laws;
+use crate::found::Found;
+use crate::open::{Tables, find_turns};
+use crate::plain::candidates;
+use crate::searching::{search_plain, try_witness};
+use crate::watch::Watch;
+use kmipa_check::{Call, CheckFault, open_ledger, read_calls, rules_of_declaration};
+use kmipa_record::{Declaration, Transcript, Witness};
+use std::alloc::Global;
+
+/// The same as `search_watched`, but of a transcript that isn't plain more is tried: calls without an end mark are taken, or left out, and the
+/// items of a batch without order are taken in other orders than by place.
+///
+/// # Order of tries
+/// At each place of the order the ended calls that may be next come first, those without effect ahead of the others, and each by its end mark;
+/// and where one without effect is possible, nothing else is tried there. A batch without order is tried by place, and then in each other
+/// order that its shape allows.
+///
+/// An open call is taken only where its request has one item that adds or changes an object, at its success, and where no call that remains ended before it
+/// began. It is tried where no ended call is possible, at the least Time Stamp of those that remain: first a Create or Register, as an
+/// object that a call names which may be next, and that nothing declares or answers; then the calls that change such an object, or one that a
+/// Locate leaves out; and, unless an open call was taken just before, the others. And where an answer shows a date that it can have left,
+/// it is tried at that date, ahead of all that is answered later.
+pub fn search_open<W: Watch>(
+    alloc: Global,
+    transcript: &Transcript,
+    declaration: &Declaration,
+    budget: u64,
+    watch: &mut W,
+) -> Result<Found, CheckFault>
+    requires { AreDeclared (declaration_of declaration.now) }
+    ensures { AreRecorded (transcript_of transcript.now)
+        → Searches (transcript_of transcript.now) (declaration_of declaration.now) budget result }
+{
+    check_laws();
+    let calls = read_calls(alloc, transcript)?;
+    match candidates(alloc, &calls)? {
+        Some(own) => search_plain(alloc, &calls, declaration, &own, budget, watch),
+        None => search_other(alloc, transcript, declaration, &calls, budget, watch),
+    }
+}
+
+/// Looks for a witness of calls of which some aren't plain.
+fn search_other<W: Watch>(
+    alloc: Global,
+    transcript: &Transcript,
+    declaration: &Declaration,
+    calls: &[Call],
+    budget: u64,
+    watch: &mut W,
+) -> Result<Found, CheckFault>
+    requires declared { AreDeclared (declaration_of declaration.now) }
+    requires each { All (IsRecorded (transcript_of transcript.now)) (map call_of calls.now) }
+    ensures { AreRecorded (transcript_of transcript.now) → AreCalls (transcript_of transcript.now) (map call_of calls.now)
+        → AreNotPlain (map call_of calls.now)
+        → Searches (transcript_of transcript.now) (declaration_of declaration.now) budget result }
+{
+    check_laws();
+    let rules = rules_of_declaration(alloc, declaration)?;
+    let mut ledger = open_ledger(alloc, declaration)?;
+    let tables = Tables::of(alloc, calls, declaration)?;
+    let Ok(guessed) = find_turns(alloc, &mut ledger, &rules, &tables, budget, watch) else {
+        return Err(CheckFault::Memory);
+    };
+    let steps = guessed.steps;
+    let turns = guessed.turns;
+    match turns {
+        Some(turns) => try_witness(alloc, transcript, declaration, Witness { turns }, steps),
+        None => Ok(Found::GaveUp(steps)),
+    }
+}
