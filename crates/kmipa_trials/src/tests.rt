@@ -3,7 +3,6 @@
 mod attributes;
 mod audits;
 mod calls;
-mod explaining;
 mod files;
 mod leaving;
 mod ledgers;
