@@ -5,9 +5,10 @@ ghost use Rattle.std.specs.Io.{StartsWith, appended_bytes};
 ghost use Rattle.kmipa_ttlv.specs.Input.{came_of};
 ghost use Rattle.kmipa_json.specs.Told.{items_of, members_of};
 ghost use Rattle.kmipa_check.specs.Audits.{AreAccepted};
+ghost use Rattle.kmipa_runs.specs.Held.{HoldsAll};
 ghost use Rattle.kmipa_runs.specs.Judging.{AreEnded, AuditsInputs};
 ghost use Rattle.kmipa_runs.specs.Statuses.{IsSilent};
-ghost use Rattle.kmipa_runs.specs.Telling.{PrintsJson, TellsOutcome, input_members, opened};
+ghost use Rattle.kmipa_runs.specs.Telling.{PrintsJson, TellsOutcome, check_files, input_members, opened};
 
 use crate::held::Held;
 use crate::judging::audit_held;
@@ -63,16 +64,31 @@ fn check_object<R: Read>(
 {
     let mut held = Held::new(alloc);
     let outcome = audit_held(alloc, transcript, declaration, witness, &mut held)?;
-    let mut files = JsonList::new(alloc);
-    files.push_object(read_object(alloc, "transcript", transcript, &held.transcript)?)?;
-    files.push_object(read_object(alloc, "declaration", declaration, &held.declaration)?)?;
-    files.push_object(read_object(alloc, "witness", witness, &held.witness)?)?;
-    let mut told = open_object(alloc, files)?;
+    let mut told = open_files(alloc, transcript, declaration, witness, &held)?;
     let status = tell_outcome(alloc, &mut told, &outcome)?;
     Ok(Lines {
         text: told.into_line()?,
         status,
     })
+}
+
+/// An object that has what every one has, where these files were read whose bytes are held.
+pub fn open_files<R>(
+    alloc: Global,
+    transcript: &Input<R>,
+    declaration: &Input<R>,
+    witness: &Input<R>,
+    held: &Held,
+) -> Result<JsonObject, AllocError>
+    requires { HoldsAll held.now transcript.now declaration.now witness.now }
+    ensures { IfOk result (λ told.
+        members_of told ≡ opened (check_files transcript.now declaration.now witness.now)) }
+{
+    let mut files = JsonList::new(alloc);
+    files.push_object(read_object(alloc, "transcript", transcript, &held.transcript)?)?;
+    files.push_object(read_object(alloc, "declaration", declaration, &held.declaration)?)?;
+    files.push_object(read_object(alloc, "witness", witness, &held.witness)?)?;
+    open_object(alloc, files)
 }
 
 /// What is told of a file that was read, whose bytes are held.

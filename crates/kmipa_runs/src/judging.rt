@@ -50,7 +50,7 @@ pub fn audit_held<R: Read>(
 
 /// Reads the three inputs, of which nothing was read, one after the other: the records that they are, or the first fault of the first that
 /// is none. What came of them is held.
-fn records_held<R: Read>(
+pub fn records_held<R: Read>(
     alloc: Global,
     transcript: &mut Input<R>,
     declaration: &mut Input<R>,

@@ -152,7 +152,7 @@ fn tell_verdict(alloc: Global, segment: &Segment, out: &mut Vec<u8>) -> Status
 
 /// Appends the declaration that is left to `made`, and to `out` the lines of the answer and, behind them, the line that tells of it; where no
 /// bytes are that declaration, the line that says so alone; nothing to either where memory runs out.
-fn tell_left(
+pub fn tell_left(
     alloc: Global,
     answer: &str,
     left: &Left,
@@ -180,7 +180,7 @@ fn tell_left(
 }
 
 /// The lines of an answer, and behind them the line of what is left.
-fn left_lines(alloc: Global, answer: &str, left: &Left) -> Result<String, AllocError>
+pub fn left_lines(alloc: Global, answer: &str, left: &Left) -> Result<String, AllocError>
     ensures { IfOk result (λ text. (told : List ℕ) × PrintsLeft left.now told × (string_bytes text ≡ answer.now ++ told)) }
 {
     let line = left_line(alloc, left)?;

@@ -26,8 +26,9 @@ pub fn number_name(tag: Tag, number: u32) -> Option<&'static str>
     }
 }
 
+/// The name of an operation's number, or `None` where it has none here.
 #[tactic(auto, unfolding(crate::specs::Notes::operations))]
-fn operation_name(number: u32) -> Option<&'static str>
+pub fn operation_name(number: u32) -> Option<&'static str>
     ensures { option_map (λ name. name.now) result ≡ name_among operations number }
 {
     match number {
@@ -102,7 +103,7 @@ fn result_status_name(number: u32) -> Option<&'static str>
 }
 
 #[tactic(auto, unfolding(crate::specs::Notes::result_reasons))]
-fn result_reason_name(number: u32) -> Option<&'static str>
+pub fn result_reason_name(number: u32) -> Option<&'static str>
     ensures { option_map (λ name. name.now) result ≡ name_among result_reasons number }
 {
     match number {
@@ -188,7 +189,7 @@ fn state_name(number: u32) -> Option<&'static str>
 }
 
 #[tactic(auto, unfolding(crate::specs::Notes::object_types))]
-fn object_type_name(number: u32) -> Option<&'static str>
+pub fn object_type_name(number: u32) -> Option<&'static str>
     ensures { option_map (λ name. name.now) result ≡ name_among object_types number }
 {
     match number {
@@ -232,7 +233,7 @@ fn key_format_name(number: u32) -> Option<&'static str>
 }
 
 #[tactic(auto, unfolding(crate::specs::Notes::name_types))]
-fn name_type_name(number: u32) -> Option<&'static str>
+pub fn name_type_name(number: u32) -> Option<&'static str>
     ensures { option_map (λ name. name.now) result ≡ name_among name_types number }
 {
     match number {
@@ -243,7 +244,7 @@ fn name_type_name(number: u32) -> Option<&'static str>
 }
 
 #[tactic(auto, unfolding(crate::specs::Notes::cryptographic_algorithms))]
-fn algorithm_name(number: u32) -> Option<&'static str>
+pub fn algorithm_name(number: u32) -> Option<&'static str>
     ensures { option_map (λ name. name.now) result ≡ name_among cryptographic_algorithms number }
 {
     match number {

@@ -8,6 +8,7 @@ ghost use Rattle.kmipa_record.specs.Marks.{AreRecorded};
 ghost use Rattle.kmipa_record.specs.Transcripts.{transcript_of};
 ghost use Rattle.kmipa_record.specs.Witnesses.{witness_of, IsWitness};
 ghost use Rattle.kmipa_check.specs.Audits.{AreAccepted};
+ghost use Rattle.kmipa_search.specs.Found.{Searches};
 ghost use Rattle.kmipa_runs.specs.Searches.{found_status, found_text, forced_text, PrintsSearch, SearchesFiles, SearchesRecords, TellsIfForced};
 ghost use Rattle.kmipa_runs.specs.Statuses.{IsSilent};
 
@@ -19,14 +20,15 @@ use kmipa_check::{AuditFault, CheckFault};
 use kmipa_record::{
     Declaration, Transcript, Witness, read_declaration, read_transcript, write_witness,
 };
-use kmipa_search::{Found, Watch, is_forced, search_watched};
+use kmipa_search::{Found, Watch, is_forced, search_open, search_watched};
 use kmipa_ttlv::Input;
 use std::alloc::{AllocError, Global};
 use std::io::Read;
 
 /// `search TRANSCRIPT DECLARATION OUT`: looks for a witness with at most `budget` steps. Appends to `out` the lines of
 /// what was found, with `forced` before them whether the transcript is forced, or the line of the fault that stands
-/// in their place, and answers the status. A witness that was found is appended to `made`, as a file; at every other
+/// in their place, and answers the status. With `open` calls without an end mark are taken too, and batches without
+/// order in other orders. A witness that was found is appended to `made`, as a file; at every other
 /// status than `Done` nothing is. Where memory runs out nothing is appended to either, and the status is `Failed`. The
 /// watcher is reported of each step.
 pub fn search_run<R: Read, W: Watch>(
@@ -35,6 +37,7 @@ pub fn search_run<R: Read, W: Watch>(
     declaration: &mut Input<R>,
     budget: u64,
     forced: bool,
+    open: bool,
     watch: &mut W,
     out: &mut Vec<u8>,
     made: &mut Vec<u8>,
@@ -54,7 +57,7 @@ pub fn search_run<R: Read, W: Watch>(
     ensures appends { StartsWith out.new.items out.old.items }
     ensures makes { StartsWith made.new.items made.old.items }
 {
-    match search_inputs(alloc, transcript, declaration, budget, forced, watch) {
+    match search_inputs(alloc, transcript, declaration, budget, forced, open, watch) {
         Ok(searched) => tell_searched(alloc, &searched, out, made),
         Err(fault) => append(fault_lines(alloc, &fault), out),
     }
@@ -67,6 +70,7 @@ fn search_inputs<R: Read, W: Watch>(
     declaration: &mut Input<R>,
     budget: u64,
     forced: bool,
+    open: bool,
     watch: &mut W,
 ) -> Result<Searched, AuditFault>
     requires transcript { came_of transcript.old ≡ [] }
@@ -83,18 +87,28 @@ fn search_inputs<R: Read, W: Watch>(
         Ok(declaration) => declaration,
         Err(fault) => return Err(AuditFault::Declaration(fault)),
     };
-    match search_records(alloc, &transcript, &declaration, budget, forced, watch) {
+    match search_records(
+        alloc,
+        &transcript,
+        &declaration,
+        budget,
+        forced,
+        open,
+        watch,
+    ) {
         Ok(searched) => Ok(searched),
         Err(fault) => Err(AuditFault::Check(fault)),
     }
 }
 
-fn search_records<W: Watch>(
+/// Searches the records.
+pub fn search_records<W: Watch>(
     alloc: Global,
     transcript: &Transcript,
     declaration: &Declaration,
     budget: u64,
     forced: bool,
+    open: bool,
     watch: &mut W,
 ) -> Result<Searched, CheckFault>
     requires { AreDeclared (declaration_of declaration.now) }
@@ -102,8 +116,28 @@ fn search_records<W: Watch>(
         → SearchesRecords (transcript_of transcript.now) (declaration_of declaration.now) budget forced result }
 {
     let forced = if_forced(alloc, transcript, forced)?;
-    let found = search_watched(alloc, transcript, declaration, budget, watch)?;
+    let found = search_as_asked(alloc, transcript, declaration, budget, open, watch)?;
     Ok(Searched { forced, found })
+}
+
+/// Looks for a witness, with `open` of calls without an end mark too.
+fn search_as_asked<W: Watch>(
+    alloc: Global,
+    transcript: &Transcript,
+    declaration: &Declaration,
+    budget: u64,
+    open: bool,
+    watch: &mut W,
+) -> Result<Found, CheckFault>
+    requires { AreDeclared (declaration_of declaration.now) }
+    ensures { AreRecorded (transcript_of transcript.now)
+        → Searches (transcript_of transcript.now) (declaration_of declaration.now) budget result }
+{
+    if open {
+        search_open(alloc, transcript, declaration, budget, watch)
+    } else {
+        search_watched(alloc, transcript, declaration, budget, watch)
+    }
 }
 
 /// Whether a transcript is forced, where that is asked for.
@@ -123,7 +157,7 @@ fn if_forced(
 
 /// Appends the lines of what was found to `out`, and a witness that was found to `made`; nothing to either where
 /// memory runs out.
-fn tell_searched(
+pub fn tell_searched(
     alloc: Global,
     searched: &Searched,
     out: &mut Vec<u8>,
@@ -145,7 +179,7 @@ fn tell_searched(
 }
 
 /// Appends a witness to `made`, and the lines that tell of it to `out`; nothing to either where memory runs out.
-fn tell_witness(
+pub fn tell_witness(
     alloc: Global,
     witness: &Witness,
     lines: &Lines,
@@ -170,7 +204,7 @@ fn tell_witness(
 }
 
 /// The lines of what a search found, and before them whether the transcript is forced, where that was asked for.
-fn searched_lines(alloc: Global, searched: &Searched) -> Result<Lines, AllocError>
+pub fn searched_lines(alloc: Global, searched: &Searched) -> Result<Lines, AllocError>
     ensures { IfOk result (λ lines. (lines.status ≡ found_status searched.now.found)
         × (string_bytes lines.text ≡ forced_text searched.now.forced ++ found_text searched.now.found)) }
 {

@@ -64,7 +64,7 @@ pub fn named(alloc: Global, number: u8, name: &str) -> Result<JsonObject, AllocE
 }
 
 /// The moment in seconds, and its date.
-fn tell_date(alloc: Global, told: &mut JsonObject, stamp: Option<i64>) -> Result<(), AllocError>
+pub fn tell_date(alloc: Global, told: &mut JsonObject, stamp: Option<i64>) -> Result<(), AllocError>
     ensures { OnOk result (TellsDate stamp (members_of told.old) (members_of told.new)) }
 {
     let Some(stamp) = stamp else {

@@ -1,6 +1,6 @@
 //! The texts of values.
 
-ghost use Rattle.std.specs.Prelude.{◌≡◌, ◌≤◌, ◌*◌, ◌++◌, ◌∷◌, [], ℕ, length, IsTrue, codes, if◌then◌else◌, OnErr, OnOk, option_map};
+ghost use Rattle.std.specs.Prelude.{◌≡◌, ◌≤◌, ◌<◌, ◌*◌, ◌++◌, ◌∷◌, [], ℕ, length, IsTrue, codes, if◌then◌else◌, OnErr, OnOk, option_map};
 ghost use Rattle.std.specs.List.{flat_map};
 ghost use Rattle.std.specs.Fmt.{signed_decimal};
 ghost use Rattle.std.specs.Io.{StartsWith, appended_bytes};
@@ -211,8 +211,10 @@ fn are_plain(text: &[u8]) -> bool
     true
 }
 
-fn is_plain(byte: u8) -> bool
-    ensures { escaped byte ≡ (if result then byte ∷ [] else codes "\\x" ++ encode_lower (byte ∷ [])) }
+/// Whether a byte of a text stands for itself.
+pub fn is_plain(byte: u8) -> bool
+    ensures escaped { escaped byte ≡ (if result then byte ∷ [] else codes "\\x" ++ encode_lower (byte ∷ [])) }
+    ensures bounded { IsTrue result → byte < 128 }
 {
     b' ' <= byte && byte <= b'~' && byte != b'"' && byte != b'\\'
 }
