@@ -1,1 +1,2 @@
+mod ChainingLemmas
 mod WordLemmas

@@ -1,11 +1,12 @@
 -- From what the parser says of its matches and errors to the words of the program.
 use Rattle.std.proofs.Common.{refl, ◌≡◌, ◌⊎◌, List, [], ℕ, Some, None, Option, inl, inr, Bool, true, false, subst, ap, sym, ◌∙◌}
-use Rattle.std.specs.Prelude.{codes, option_map, string_bytes, IfSome, OnOk, Result, Ok, Err}
+use Rattle.std.specs.Prelude.{codes, option_map, string_bytes, IfOk, IfSome, OnOk, Result, Ok, Err}
 use Rattle.std.specs.Str.Parse.{IsNumeral, digits_value, without_leading_plus}
-use Rattle.clap.specs.Words.{Row, Text, Kinds, first_value, first_of, rows_of, kind_of, is_simple_and_free, fault_of, subcommand_name_of, subcommand_rows, subcommand_rows_of}
+use Rattle.clap.specs.Words.{HasMatchesOf, Row, Text, Kinds, first_value, first_of, rows_of, kind_of, is_simple, is_simple_and_free, fault_of, subcommand_name_of, subcommand_of, subcommand_rows, subcommand_rows_of}
 use Rattle.clap.specs.declared.parser.matches.ArgMatches.{ArgMatches}
 use Rattle.clap.specs.declared.parser.matches.ArgMatches.TheViews.{out-ArgMatches, out-SubCommand}
 use Rattle.std.specs.Box.{box_value}
+use Rattle.std.specs.Result.{result_ok}
 use Rattle.clap.specs.Kinds.{HasKind}
 use Rattle.clap.proofs.WalkLemmas.{first_value-rows, one_text-rows}
 use Rattle.clap.specs.Matches.{one_text}
@@ -13,9 +14,9 @@ use Rattle.clap.specs.declared.parser.matches.Found.{Found}
 use Rattle.clap.specs.declared.error.Error.{Error}
 use Rattle.clap.specs.declared.error.kind.ErrorKind.TheVariants.{OutOfMemory}
 use Rattle.kmipa_runs.specs.Statuses.{IsSilent}
-use Rattle.kmipa_command.specs.Words.{IsCheck, IsFlag, IsJob, IsNumber, IsSearch, IsText, IsTold, status_of, program_app, with_settings, check_app, search_app, show_app, write_app}
+use Rattle.kmipa_command.specs.Words.{IsCheck, IsChain, IsFlag, IsJob, IsNumber, IsSearch, IsText, IsTold, status_of, program_app, with_settings, check_app, search_app, chain_app, show_app, write_app}
 use Rattle.kmipa_command.specs.declared.words.Job.{Job}
-use Rattle.kmipa_command.specs.declared.words.Job.TheVariants.{Check, Search, Show, Write}
+use Rattle.kmipa_command.specs.declared.words.Job.TheVariants.{Chain, Check, Search, Show, Write}
 use Rattle.kmipa_runs.specs.declared.options.ShowOptions.{ShowOptions}
 use Rattle.kmipa_command.specs.declared.words.Usage.{Usage}
 use Rattle.clap.specs.Simple.{App, app_of_fields, new_app, with_subcommand}
@@ -44,13 +45,14 @@ text_found f id given e = e ∙ first_value-rows f id
 -- the values that the getters found are those of the subcommand with this name
 pub check_found : (f : Found) (job : Job) (o : Option (Text × List Row))
     → Some (codes "check") ≡ option_map (λ p. p.0) o → Some (rows_of f) ≡ option_map (λ p. p.1) o → IsCheck job (rows_of f) → IsJob job o
-check_found f (Check t d w json segment) None n e is = cc
-check_found f (Check t d w json segment) (Some found) n e is =
+check_found f (Check t d w form segment) None n e is = cc
+check_found f (Check t d w form segment) (Some found) n e is =
     let name : codes "check" ≡ found.0 = cc in
     let rows : rows_of f ≡ found.1 = cc in
-    let P : List Row → Type 0 = λ r. IsCheck (Check t d w json segment) r in
+    let P : List Row → Type 0 = λ r. IsCheck (Check t d w form segment) r in
     (sym name, subst P rows is)
-check_found f (Search t d out budget forced quiet) o n e is = absurd is
+check_found f (Search t d out budget forced opened quiet form segment) o n e is = absurd is
+check_found f (Chain folder budget quiet leaves) o n e is = absurd is
 check_found f (Show file options) o n e is = absurd is
 check_found f (Write hex out) o n e is = absurd is
 
@@ -79,13 +81,14 @@ number_found f id n none value = go (one_text f id) refl
 
 pub search_found : (f : Found) (job : Job) (o : Option (Text × List Row))
     → Some (codes "search") ≡ option_map (λ p. p.0) o → Some (rows_of f) ≡ option_map (λ p. p.1) o → IsSearch job (rows_of f) → IsJob job o
-search_found f (Search t d out budget forced quiet) None n e is = cc
-search_found f (Search t d out budget forced quiet) (Some found) n e is =
+search_found f (Search t d out budget forced opened quiet form segment) None n e is = cc
+search_found f (Search t d out budget forced opened quiet form segment) (Some found) n e is =
     let name : codes "search" ≡ found.0 = cc in
     let rows : rows_of f ≡ found.1 = cc in
-    let P : List Row → Type 0 = λ r. IsSearch (Search t d out budget forced quiet) r in
+    let P : List Row → Type 0 = λ r. IsSearch (Search t d out budget forced opened quiet form segment) r in
     (sym name, subst P rows is)
-search_found f (Check t d w json segment) o n e is = absurd is
+search_found f (Check t d w form segment) o n e is = absurd is
+search_found f (Chain folder budget quiet leaves) o n e is = absurd is
 search_found f (Show file options) o n e is = absurd is
 search_found f (Write hex out) o n e is = absurd is
 
@@ -93,6 +96,24 @@ pub search_found_some : (f : Found) (found : Option Job) (o : Option (Text × Li
     → Some (codes "search") ≡ option_map (λ p. p.0) o → Some (rows_of f) ≡ option_map (λ p. p.1) o → IfSome found (λ job. IsSearch job (rows_of f)) → IfSome found (λ job. IsJob job o)
 search_found_some f None o n e is = tt
 search_found_some f (Some job) o n e is = search_found f job o n e is
+
+pub chain_found : (f : Found) (job : Job) (o : Option (Text × List Row))
+    → Some (codes "chain") ≡ option_map (λ p. p.0) o → Some (rows_of f) ≡ option_map (λ p. p.1) o → IsChain job (rows_of f) → IsJob job o
+chain_found f (Chain folder budget quiet leaves) None n e is = cc
+chain_found f (Chain folder budget quiet leaves) (Some found) n e is =
+    let name : codes "chain" ≡ found.0 = cc in
+    let rows : rows_of f ≡ found.1 = cc in
+    let P : List Row → Type 0 = λ r. IsChain (Chain folder budget quiet leaves) r in
+    (sym name, subst P rows is)
+chain_found f (Check t d w form segment) o n e is = absurd is
+chain_found f (Search t d out budget forced opened quiet form segment) o n e is = absurd is
+chain_found f (Show file options) o n e is = absurd is
+chain_found f (Write hex out) o n e is = absurd is
+
+pub chain_found_some : (f : Found) (found : Option Job) (o : Option (Text × List Row))
+    → Some (codes "chain") ≡ option_map (λ p. p.0) o → Some (rows_of f) ≡ option_map (λ p. p.1) o → IfSome found (λ job. IsChain job (rows_of f)) → IfSome found (λ job. IsJob job o)
+chain_found_some f None o n e is = tt
+chain_found_some f (Some job) o n e is = chain_found f job o n e is
 
 pub show_found : (f : Found) (file : Bor (List ℕ)) (options : ShowOptions) (o : Option (Text × List Row))
     → Some (codes "show") ≡ option_map (λ p. p.0) o → Some (rows_of f) ≡ option_map (λ p. p.1) o → Some file.now ≡ first_value f (codes "FILE")
@@ -135,21 +156,24 @@ settings about version examples bare reported versioned explained named helped e
     (ex ∙ ap (λ (f : Command-F Command). record f { after_help = Some examples }) (ev ∙ ap (λ (f : Command-F Command). record f { version = Some version }) et))))
 
 -- the whole command line, from its settings and its subcommands
-pub whole : (bare check search show write one two three app : App) → bare ≡ new_app (codes "kmip_audit") → check ≡ check_app → search ≡ search_app → show ≡ show_app
-    → write ≡ write_app → one ≡ with_subcommand (with_settings bare) check.top → two ≡ with_subcommand one search.top → three ≡ with_subcommand two show.top
-    → app ≡ with_subcommand three write.top → app ≡ program_app
-whole bare check search show write one two three app eb ec es eh ew e1 e2 e3 e4 =
+pub whole : (bare check search chain show write one two three four app : App) → bare ≡ new_app (codes "kmip_audit") → check ≡ check_app → search ≡ search_app
+    → chain ≡ chain_app → show ≡ show_app → write ≡ write_app → one ≡ with_subcommand (with_settings bare) check.top → two ≡ with_subcommand one search.top
+    → three ≡ with_subcommand two chain.top → four ≡ with_subcommand three show.top → app ≡ with_subcommand four write.top → app ≡ program_app
+whole bare check search chain show write one two three four app eb ec es en eh ew e1 e2 e3 e4 e5 =
     let set = with_settings (new_app (codes "kmip_audit")) in
     let checks = with_subcommand set check_app.top in
     let searches = with_subcommand checks search_app.top in
-    let shows = with_subcommand searches show_app.top in
+    let chains = with_subcommand searches chain_app.top in
+    let shows = with_subcommand chains show_app.top in
     let first : one ≡ checks
     = e1 ∙ ap (λ (a : App). with_subcommand (with_settings a) check.top) eb ∙ ap (λ (a : App). with_subcommand set a.top) ec in
     let second : two ≡ searches
     = e2 ∙ ap (λ (a : App). with_subcommand a search.top) first ∙ ap (λ (a : App). with_subcommand checks a.top) es in
-    let third : three ≡ shows
-    = e3 ∙ ap (λ (a : App). with_subcommand a show.top) second ∙ ap (λ (a : App). with_subcommand searches a.top) eh in
-    e4 ∙ ap (λ (a : App). with_subcommand a write.top) third ∙ ap (λ (a : App). with_subcommand shows a.top) ew
+    let third : three ≡ chains
+    = e3 ∙ ap (λ (a : App). with_subcommand a chain.top) second ∙ ap (λ (a : App). with_subcommand searches a.top) en in
+    let fourth : four ≡ shows
+    = e4 ∙ ap (λ (a : App). with_subcommand a show.top) third ∙ ap (λ (a : App). with_subcommand chains a.top) eh in
+    e5 ∙ ap (λ (a : App). with_subcommand a write.top) fourth ∙ ap (λ (a : App). with_subcommand shows a.top) ew
 
 -- a parse of the command line that succeeds has no fault
 pub fits : {T E : Type 0} (r : Result T E) (app : App) (words : List Text) → app ≡ program_app → (is_simple_and_free app ≡ true → fault_of app words ≡ [])
@@ -158,6 +182,17 @@ fits (Err e) app words is none = tt
 fits (Ok x) app words is none =
     let P : App → Type 0 = λ a. fault_of a words ≡ [] in
     subst P is (none (ap is_simple_and_free is))
+
+-- the job of a parse of the command line that succeeds is that of the words
+pub parsed : {E : Type 0} (found : Option Job) (r : Result Job E) (app : App) (words : List Text) (m : ArgMatches) → app ≡ program_app → HasMatchesOf app words m
+    → IfSome found (λ job. IsJob job (subcommand_rows_of m)) → found ≡ result_ok r → IfOk r (λ job. IsJob job (subcommand_of program_app words))
+parsed found (Err e) app words m is has job ok = tt
+parsed None (Ok x) app words m is has job ok = absurd cc
+parsed (Some j) (Ok x) app words m is has job ok =
+    let same : j ≡ x = cc in
+    let P : Job → Type 0 = λ y. IsJob y (subcommand_rows_of m) in
+    let R : Option (Text × List Row) → Type 0 = λ rows. IsJob x rows in
+    subst R ((has (ap is_simple is)).1 ∙ ap (λ (a : App). subcommand_of a words) is) (subst P same job)
 
 -- the kinds of a parse of the command line that failed
 pub has_kind : (app : App) (words : List Text) (e : Error) → app ≡ program_app

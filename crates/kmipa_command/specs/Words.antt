@@ -10,8 +10,10 @@ use Rattle.clap.specs.declared.error.kind.ErrorKind.TheVariants.{DisplayHelp, Di
 use Rattle.kmipa_runs.specs.declared.status.Status.{Status}
 use Rattle.kmipa_runs.specs.declared.status.Status.TheVariants.{Done, Failed, Usage as Mistake}
 use Rattle.kmipa_runs.specs.Statuses.{IsSilent}
+use Rattle.kmipa_command.specs.declared.words.FormWords.{FormWords}
 use Rattle.kmipa_command.specs.declared.words.Job.{Job}
-use Rattle.kmipa_command.specs.declared.words.Job.TheVariants.{Check, Search, Show, Write}
+use Rattle.kmipa_command.specs.declared.words.Job.TheVariants.{Chain, Check, Search, Show, Write}
+use Rattle.kmipa_command.specs.declared.words.SegmentWords.{SegmentWords}
 use Rattle.kmipa_command.specs.declared.words.Usage.{Usage}
 
 -- a file that has to be named
@@ -40,18 +42,38 @@ abbrev pub check_files_app : App
 check_files_app = with_rule (with_rule (with_rule (new_app (codes "check")) (file_rule (codes "TRANSCRIPT")))
     (file_rule (codes "DECLARATION"))) (file_rule (codes "WITNESS"))
 
--- and after it `[--json] [--leaves OUT] [--not-before DATE]`
+-- and after it `[--explain] [--json]`
+abbrev pub check_texts_app : App
+check_texts_app = with_rule (with_rule check_files_app (flag_rule (codes "explain"))) (flag_rule (codes "json"))
+
+-- and after that `[--leaves OUT] [--not-before DATE]`
 abbrev pub check_app : App
-check_app = with_rule (with_rule (with_rule check_files_app (flag_rule (codes "json"))) (option_rule (codes "leaves"))) (option_rule (codes "not-before"))
+check_app = with_rule (with_rule check_texts_app (option_rule (codes "leaves"))) (option_rule (codes "not-before"))
 
 -- `search TRANSCRIPT DECLARATION OUT`
 abbrev pub search_files_app : App
 search_files_app = with_rule (with_rule (with_rule (new_app (codes "search")) (file_rule (codes "TRANSCRIPT")))
     (file_rule (codes "DECLARATION"))) (file_rule (codes "OUT"))
 
--- and after it `[--budget N] [--forced] [--quiet]`
+-- and after it `[--budget N] [--forced] [--open] [--quiet]`
+abbrev pub search_steps_app : App
+search_steps_app = with_rule (with_rule (with_rule (with_rule search_files_app budget_rule) (flag_rule (codes "forced"))) (flag_rule (codes "open"))) (flag_rule (codes "quiet"))
+
+-- and after that `[--explain] [--json]`
+abbrev pub search_texts_app : App
+search_texts_app = with_rule (with_rule search_steps_app (flag_rule (codes "explain"))) (flag_rule (codes "json"))
+
+-- and after that `[--leaves LEFT] [--not-before DATE]`
 abbrev pub search_app : App
-search_app = with_rule (with_rule (with_rule search_files_app budget_rule) (flag_rule (codes "forced"))) (flag_rule (codes "quiet"))
+search_app = with_rule (with_rule search_texts_app (option_rule (codes "leaves"))) (option_rule (codes "not-before"))
+
+-- `chain DIR [--budget N] [--quiet]`
+abbrev pub chain_steps_app : App
+chain_steps_app = with_rule (with_rule (with_rule (new_app (codes "chain")) (file_rule (codes "DIR"))) budget_rule) (flag_rule (codes "quiet"))
+
+-- and after that `[--leaves OUT]`
+abbrev pub chain_app : App
+chain_app = with_rule chain_steps_app (option_rule (codes "leaves"))
 
 -- `show FILE [--messages] [--notes]`
 abbrev pub show_app : App
@@ -66,8 +88,8 @@ abbrev pub with_settings : App → App
 with_settings app = record app { top = record app.top { has_version = true; subcommand_required = true; arg_required_else_help = true } }
 
 abbrev pub program_app : App
-program_app = with_subcommand (with_subcommand (with_subcommand (with_subcommand (with_settings (new_app (codes "kmip_audit"))) check_app.top) search_app.top)
-    show_app.top) write_app.top
+program_app = with_subcommand (with_subcommand (with_subcommand (with_subcommand (with_subcommand (with_settings (new_app (codes "kmip_audit"))) check_app.top)
+    search_app.top) chain_app.top) show_app.top) write_app.top
 
 -- the option is given or it isn't
 pub record IsFlag (name : Text) (rows : List Row) (given : Bool) : Type 0 where
@@ -86,27 +108,43 @@ pub record IsNumber (name : Text) (rows : List Row) (number : ℕ) : Type 0 wher
 abbrev pub IsText : Text → List Row → Option (Bor Text) → Type 0
 IsText name rows given = option_map (λ text. text.now) given ≡ first_of name rows
 
+-- these values ask this of a segment
+abbrev pub IsSegment : SegmentWords → List Row → Type 0
+IsSegment segment rows = IsText (codes "leaves") rows segment.leaves × IsText (codes "not-before") rows segment.not_before
+
+-- these values ask for this form
+abbrev pub IsForm : FormWords → List Row → Type 0
+IsForm form rows = IsFlag (codes "json") rows form.json × IsFlag (codes "explain") rows form.explain
+
 -- these values are of this check
 abbrev pub IsCheck : Job → List Row → Type 0
-IsCheck (Check transcript declaration witness json segment) rows = (first_of (codes "TRANSCRIPT") rows ≡ Some transcript.now)
+IsCheck (Check transcript declaration witness form segment) rows = (first_of (codes "TRANSCRIPT") rows ≡ Some transcript.now)
     × (first_of (codes "DECLARATION") rows ≡ Some declaration.now) × (first_of (codes "WITNESS") rows ≡ Some witness.now)
-    × IsFlag (codes "json") rows json × IsText (codes "leaves") rows segment.leaves × IsText (codes "not-before") rows segment.not_before
+    × IsForm form rows × IsSegment segment rows
 IsCheck job rows = ⊥
 
 -- these values are of this search
 abbrev pub IsSearch : Job → List Row → Type 0
-IsSearch (Search transcript declaration out budget forced quiet) rows = (first_of (codes "TRANSCRIPT") rows ≡ Some transcript.now)
+IsSearch (Search transcript declaration out budget forced opened quiet form segment) rows = (first_of (codes "TRANSCRIPT") rows ≡ Some transcript.now)
     × (first_of (codes "DECLARATION") rows ≡ Some declaration.now) × (first_of (codes "OUT") rows ≡ Some out.now)
-    × IsNumber (codes "budget") rows budget × IsFlag (codes "forced") rows forced × IsFlag (codes "quiet") rows quiet
+    × IsNumber (codes "budget") rows budget × IsFlag (codes "forced") rows forced × IsFlag (codes "open") rows opened × IsFlag (codes "quiet") rows quiet
+    × IsForm form rows × IsSegment segment rows
 IsSearch job rows = ⊥
+
+-- these values are of this chain
+abbrev pub IsChain : Job → List Row → Type 0
+IsChain (Chain folder budget quiet leaves) rows = (first_of (codes "DIR") rows ≡ Some folder.now) × IsNumber (codes "budget") rows budget
+    × IsFlag (codes "quiet") rows quiet × IsText (codes "leaves") rows leaves
+IsChain job rows = ⊥
 
 -- the subcommand with this name and these values is this job
 abbrev pub IsJob : Job → Option (Text × List Row) → Type 0
 IsJob job None = ⊥
-IsJob (Check transcript declaration witness json segment) (Some found) = (found.0 ≡ codes "check")
-    × IsCheck (Check transcript declaration witness json segment) found.1
-IsJob (Search transcript declaration out budget forced quiet) (Some found) = (found.0 ≡ codes "search")
-    × IsSearch (Search transcript declaration out budget forced quiet) found.1
+IsJob (Check transcript declaration witness form segment) (Some found) = (found.0 ≡ codes "check")
+    × IsCheck (Check transcript declaration witness form segment) found.1
+IsJob (Search transcript declaration out budget forced opened quiet form segment) (Some found) = (found.0 ≡ codes "search")
+    × IsSearch (Search transcript declaration out budget forced opened quiet form segment) found.1
+IsJob (Chain folder budget quiet leaves) (Some found) = (found.0 ≡ codes "chain") × IsChain (Chain folder budget quiet leaves) found.1
 IsJob (Show file options) (Some found) = (found.0 ≡ codes "show") × (first_of (codes "FILE") found.1 ≡ Some file.now)
     × IsFlag (codes "messages") found.1 options.messages × IsFlag (codes "notes") found.1 options.notes
 IsJob (Write hex out) (Some found) = (found.0 ≡ codes "write") × (first_of (codes "HEX") found.1 ≡ Some hex.now) × (first_of (codes "OUT") found.1 ≡ Some out.now)

@@ -1,4 +1,4 @@
-//! Checks of files: the lines alone, or of a segment.
+//! Checks of files: the lines alone, with what a no means, or of a segment.
 
 ghost use Rattle.std.specs.Prelude.{◌≡◌, ◌↔◌, [], IfOk};
 ghost use Rattle.kmipa_runs.specs.Lines.{FitsStatus, yes_line};
@@ -6,36 +6,43 @@ ghost use Rattle.kmipa_runs.specs.declared.status.Status.{Status};
 
 use crate::files::{hint_kind, open_input};
 use crate::replacing::{is_input, replace_file, test_output};
-use crate::words::SegmentWords;
-use kmipa_runs::{Status, check_run, read_moment, segment_run};
+use crate::words::{FormWords, SegmentWords};
+use kmipa_runs::{Status, check_run, explain_run, read_moment, segment_run};
 use std::io;
 use std::rt::Files;
 
-/// What a check prints besides its verdict.
+/// What a check or a search prints besides its verdict.
 #[derive(Clone, Copy, Debug, PartialEq, Eq)]
 pub enum Form {
     /// Nothing.
     Lines,
+    /// What a no, or a giving up, means.
+    Explained,
     /// What a segment leaves, or from which moment on it is judged.
     Segment,
     /// One JSON object in place of the lines.
     Json,
+    /// The same with what a no, or a giving up, means.
+    ExplainedJson,
 }
 
-/// The form that the options ask for; `None` where they ask for two.
-pub fn form_of(json: bool, segment: SegmentWords<'_>) -> Option<Form> {
-    match (json, segment.is_asked()) {
-        (false, false) => Some(Form::Lines),
-        (true, false) => Some(Form::Json),
-        (false, true) => Some(Form::Segment),
-        (true, true) => None,
+/// The form that the options ask for; `None` where they don't go together.
+pub fn form_of(form: FormWords, segment: SegmentWords<'_>) -> Option<Form> {
+    match (form.json, form.explain, segment.is_asked()) {
+        (false, false, false) => Some(Form::Lines),
+        (true, false, false) => Some(Form::Json),
+        (false, true, false) => Some(Form::Explained),
+        (true, true, false) => Some(Form::ExplainedJson),
+        (false, false, true) => Some(Form::Segment),
+        _ => None,
     }
 }
 
-/// Checks three files, and appends the lines of the verdict.
+/// Checks three files, and appends the lines of the verdict, and where it is asked for those of what a no means.
 pub fn check_files<R: Files + AllocGlobal + Eprint>(
     rt: &R,
     names: [&str; 3],
+    explain: bool,
     out: &mut Vec<u8>,
 ) -> io::Result<Status>
     requires { out.old.items ≡ [] }
@@ -46,13 +53,12 @@ pub fn check_files<R: Files + AllocGlobal + Eprint>(
     let mut transcript = open_input(rt, names[0])?;
     let mut declaration = open_input(rt, names[1])?;
     let mut witness = open_input(rt, names[2])?;
-    let status = check_run(
-        rt.alloc(),
-        &mut transcript,
-        &mut declaration,
-        &mut witness,
-        out,
-    );
+    let alloc = rt.alloc();
+    let status = if explain {
+        explain_run(alloc, &mut transcript, &mut declaration, &mut witness, out)
+    } else {
+        check_run(alloc, &mut transcript, &mut declaration, &mut witness, out)
+    };
     if status == Status::Refused {
         hint_kind(rt, &names, out);
     }
@@ -108,7 +114,7 @@ pub fn check_segment_files<R: Files + AllocGlobal + Eprint>(
 }
 
 /// The moment that a word tells, where there is one. A word that tells none is a mistake, which is told on standard error.
-fn moment_of<R: Eprint>(rt: &R, word: Option<&str>) -> Result<Option<i64>, Status> {
+pub fn moment_of<R: Eprint>(rt: &R, word: Option<&str>) -> Result<Option<i64>, Status> {
     let Some(text) = word else {
         return Ok(None);
     };

@@ -103,7 +103,9 @@ pub fn tell_words<R: Print + Eprint>(rt: &R, error: &io::Error) -> Status
 pub fn tell_forms<R: Eprint>(rt: &R) -> Status
     ensures { (result ≡ Status.Usage) ⊎ (result ≡ Status.Failed) }
 {
-    let told = rt.eprintln("error: --json and --leaves or --not-before don't go together");
+    let told = rt.eprintln(
+        "error: --json and --explain don't go together with --leaves or --not-before",
+    );
     status_of(&told, Status::Usage)
 }
 

@@ -4,6 +4,7 @@ use crate::files::reported;
 use std::fs::{Metadata, OpenOptions};
 use std::io::Write;
 use std::os::unix::fs::{MetadataExt, OpenOptionsExt, chown};
+use std::path::{Path, PathBuf};
 use std::rt::Files;
 use std::{fs, io};
 
@@ -22,6 +23,35 @@ pub fn is_input<R: Files + Eprint>(rt: &R, output: &str, inputs: &[&str]) -> boo
         )).ok();
     }
     is_one
+}
+
+/// Whether two outputs are one file, which is there or would be made; then it is told on standard error.
+pub fn are_one_output<R: Files + AllocGlobal + Eprint>(rt: &R, one: &str, other: &str) -> bool {
+    let are_one = one == other || are_one_file(rt, one, other) || are_one_name(rt, one, other);
+    if are_one {
+        rt.eprintln(format_args!(
+            "kmip_audit: {other}: is named for two outputs; name another file for one of them"
+        )).ok();
+    }
+    are_one
+}
+
+/// Whether these are one name in one folder.
+fn are_one_name<R: Files + AllocGlobal>(rt: &R, one: &str, other: &str) -> bool {
+    let (one, other) = (Path::new(one), Path::new(other));
+    match (folder_of(rt, one), folder_of(rt, other)) {
+        (Some(folder), Some(same)) => folder == same && one.file_name() == other.file_name(),
+        _ => false,
+    }
+}
+
+/// The folder that a file is in, or would be made in, behind all links.
+fn folder_of<R: Files + AllocGlobal>(rt: &R, file: Path<'_>) -> Option<PathBuf> {
+    let folder = match file.parent() {
+        Some(parent) if parent != Path::new("") => parent,
+        _ => Path::new("."),
+    };
+    fs::canonicalize(rt, folder).ok()
 }
 
 fn are_one_file<R: Files>(rt: &R, one: &str, other: &str) -> bool {
@@ -74,44 +104,171 @@ pub fn replace_file<R: Files + AllocGlobal + Eprint>(
     name: &str,
     bytes: &[u8],
 ) -> io::Result<()> {
-    reported(rt, name, replaced(rt, name, bytes))
+    let mut staged = reported(rt, name, stage(rt, Content { name, bytes }))?;
+    let done = reported(rt, name, staged.place(rt));
+    staged.let_go(rt);
+    done
 }
 
-fn replaced<R: Files + AllocGlobal>(rt: &R, name: &str, bytes: &[u8]) -> io::Result<()> {
-    let Ok(there) = fs::metadata(rt, name) else {
-        leads_somewhere(rt, name)?;
-        return write_beside(rt, name, bytes, None);
-    };
-    if !there.is_file() {
-        return fs::write(rt, name, bytes);
-    }
-    may_be_replaced(&there)?;
-    let real = fs::canonicalize(rt, name)?;
-    write_beside(rt, real.as_str(), bytes, Some(&there))
-}
-
-/// Writes the new file under a name that nothing had, and gives it the other's. What can't be done whole is removed.
-fn write_beside<R: Files + AllocGlobal>(
+/// Writes two files so, both or neither: where the second can't take its name, the first has again what it held.
+pub fn replace_both<R: Files + AllocGlobal + Eprint>(
     rt: &R,
-    name: &str,
-    bytes: &[u8],
-    there: Option<&Metadata>,
+    one: Content<'_>,
+    other: Content<'_>,
 ) -> io::Result<()> {
-    let beside = new_beside(rt, name)?;
-    let done = fill_and_rename(rt, beside.as_str(), name, bytes, there);
+    let mut first = reported(rt, one.name, stage(rt, one))?;
+    let done = replace_behind(rt, &mut first, other);
+    first.let_go(rt);
+    done
+}
+
+/// Writes the second of two files behind one that is staged.
+fn replace_behind<R: Files + AllocGlobal + Eprint>(
+    rt: &R,
+    first: &mut Staged<'_>,
+    other: Content<'_>,
+) -> io::Result<()> {
+    let mut second = reported(rt, other.name, stage(rt, other))?;
+    let done = place_both(rt, first, &mut second);
+    second.let_go(rt);
+    done
+}
+
+/// Gives two files their names, with what the first held staged beside it.
+fn place_both<R: Files + AllocGlobal + Eprint>(
+    rt: &R,
+    first: &mut Staged<'_>,
+    second: &mut Staged<'_>,
+) -> io::Result<()> {
+    let name = first.content.name;
+    let Some(held) = reported(rt, name, held_bytes(rt, name))? else {
+        return place_in_turn(rt, first, second, None);
+    };
+    let before = Content {
+        name,
+        bytes: held.as_slice(),
+    };
+    let mut before = reported(rt, name, stage(rt, before))?;
+    let done = place_in_turn(rt, first, second, Some(&mut before));
+    before.let_go(rt);
+    done
+}
+
+/// Gives two files their names one after the other. Where the second can't have its own, the first has what it held `before`, or is removed.
+fn place_in_turn<R: Files + Eprint>(
+    rt: &R,
+    first: &mut Staged<'_>,
+    second: &mut Staged<'_>,
+    before: Option<&mut Staged<'_>>,
+) -> io::Result<()> {
+    reported(rt, first.content.name, first.place(rt))?;
+    let done = reported(rt, second.content.name, second.place(rt));
     if done.is_err() {
-        fs::remove_file(rt, beside.as_str()).ok();
+        match before {
+            Some(before) => before.place(rt).ok(),
+            None => first.take_away(rt).ok(),
+        };
     }
     done
 }
 
-fn fill_and_rename<R: Files>(
+/// The bytes of a plain file, where one is there.
+fn held_bytes<R: Files + AllocGlobal>(rt: &R, name: &str) -> io::Result<Option<Vec<u8>>> {
+    match fs::metadata(rt, name) {
+        Ok(there) if there.is_file() => Ok(Some(fs::read(rt, name)?)),
+        _ => Ok(None),
+    }
+}
+
+/// What is to stand in a file.
+#[derive(Clone, Copy)]
+pub struct Content<'a> {
+    pub name: &'a str,
+    pub bytes: &'a [u8],
+}
+
+/// An output that is ready to be made: a new file with its bytes stands beside it, or it is no plain file, and is written as it stands.
+#[derive(Drop)]
+struct Staged<'a> {
+    content: Content<'a>,
+    // The file itself, behind all links; none where it is no plain file.
+    real: Option<String>,
+    // The new file, until it takes its name.
+    beside: Option<String>,
+}
+
+impl Staged<'_> {
+    /// Gives the new file its name, or writes what is no plain file.
+    fn place<R: Files>(&mut self, rt: &R) -> io::Result<()> {
+        match (&self.beside, &self.real) {
+            (Some(beside), Some(real)) => fs::rename(rt, beside.as_str(), real.as_str())?,
+            _ => return fs::write(rt, self.content.name, self.content.bytes),
+        }
+        self.beside = None;
+        Ok(())
+    }
+
+    /// Removes a file that was made under its name.
+    fn take_away<R: Files>(&self, rt: &R) -> io::Result<()> {
+        match &self.real {
+            Some(real) => fs::remove_file(rt, real.as_str()),
+            None => Ok(()),
+        }
+    }
+
+    /// Removes the new file, where it did not take its name.
+    fn let_go<R: Files>(&mut self, rt: &R) {
+        if let Some(beside) = &self.beside {
+            fs::remove_file(rt, beside.as_str()).ok();
+        }
+        self.beside = None;
+    }
+}
+
+/// Makes ready what is to stand in a file.
+fn stage<'a, R: Files + AllocGlobal>(rt: &R, content: Content<'a>) -> io::Result<Staged<'a>> {
+    let Ok(there) = fs::metadata(rt, content.name) else {
+        leads_somewhere(rt, content.name)?;
+        let real = String::from_str(rt.alloc(), content.name)?;
+        return stage_beside(rt, content, real, None);
+    };
+    may_be_replaced(&there)?;
+    if !there.is_file() {
+        return Ok(Staged {
+            content,
+            real: None,
+            beside: None,
+        });
+    }
+    let real = fs::canonicalize(rt, content.name)?;
+    let real = String::from_str(rt.alloc(), real.as_str())?;
+    stage_beside(rt, content, real, Some(&there))
+}
+
+/// Writes the new file under a name that nothing had, with the mode and the owner of what was there. What can't be done whole is removed.
+fn stage_beside<'a, R: Files + AllocGlobal>(
     rt: &R,
-    beside: &str,
-    name: &str,
-    bytes: &[u8],
+    content: Content<'a>,
+    real: String,
     there: Option<&Metadata>,
-) -> io::Result<()> {
+) -> io::Result<Staged<'a>> {
+    let beside = new_beside(rt, real.as_str())?;
+    let done = fill(rt, beside.as_str(), content.bytes, there);
+    let mut staged = Staged {
+        content,
+        real: Some(real),
+        beside: Some(beside),
+    };
+    match done {
+        Ok(()) => Ok(staged),
+        Err(error) => {
+            staged.let_go(rt);
+            Err(error)
+        }
+    }
+}
+
+fn fill<R: Files>(rt: &R, beside: &str, bytes: &[u8], there: Option<&Metadata>) -> io::Result<()> {
     let mut file = OpenOptions::new().write(true).open(rt, beside)?;
     file.write_all(bytes)?;
     drop(file);
@@ -119,7 +276,7 @@ fn fill_and_rename<R: Files>(
         keep_owner(rt, beside, there)?;
         fs::set_permissions(rt, beside, there.permissions())?;
     }
-    fs::rename(rt, beside, name)
+    Ok(())
 }
 
 /// Gives a new file to the owner of the one whose place it takes.

@@ -1,21 +1,23 @@
 //! A session: words come in, files are read and written, and lines go out.
 
+use crate::chaining::{ChainWords, chain_folder};
 use crate::checking::{Form, check_files, check_segment_files, form_of};
 use crate::files::{hint_digits, hint_kind, open_input};
-use crate::objects::check_object;
+use crate::objects::{check_object, search_object};
 use crate::output::Output;
 use crate::printing::{tell, tell_error, tell_forms, tell_rest, tell_usage, tell_words};
 use crate::progress::Progress;
 use crate::replacing::{is_input, replace_file, test_output};
-use crate::words::{Job, read_words};
-use kmipa_runs::{ShowOptions, Status, search_run, show_run, write_run};
+use crate::searching::{SearchWords, search_files, search_segment_files};
+use crate::words::{FormWords, Job, read_words};
+use kmipa_runs::{ShowOptions, Status, show_run, write_run};
 use kmipa_search::Watch;
 use std::rt::{Clock, Env, Files};
 use std::{env, io};
 
 /// Does what the words of the command line ask for, and answers the status to end with. Where standard error is watched
 /// by somebody, a long search tells there how far it got.
-pub fn run_session<R: Env + Files + Clock + AllocGlobal + Print + Eprint>(
+pub fn run_session<R: Env + Files + Clock + AllocGlobal + Print + Eprint + Clone + Drop>(
     rt: &R,
     watched: bool,
 ) -> Status {
@@ -34,7 +36,7 @@ fn words_of<R: Env + AllocGlobal>(rt: &R) -> io::Result<Vec<String>> {
 }
 
 /// Opens the files of a job, in the order in which they were named, and prints its lines.
-fn run_job<R: Files + Clock + AllocGlobal + Print + Eprint>(
+fn run_job<R: Files + Clock + AllocGlobal + Print + Eprint + Clone + Drop>(
     rt: &R,
     job: &Job<'_>,
     watched: bool,
@@ -45,14 +47,16 @@ fn run_job<R: Files + Clock + AllocGlobal + Print + Eprint>(
             transcript,
             declaration,
             witness,
-            json,
+            form,
             segment,
         } => {
             let names = [transcript, declaration, witness];
-            match form_of(json, segment) {
-                Some(Form::Lines) => check_files(rt, names, &mut out),
+            match form_of(form, segment) {
+                Some(Form::Lines) => check_files(rt, names, false, &mut out),
+                Some(Form::Explained) => check_files(rt, names, true, &mut out),
                 Some(Form::Segment) => check_segment_files(rt, names, segment, &mut out),
-                Some(Form::Json) => return check_object(rt, names),
+                Some(Form::Json) => return check_object(rt, names, false),
+                Some(Form::ExplainedJson) => return check_object(rt, names, true),
                 None => return tell_forms(rt),
             }
         }
@@ -62,15 +66,37 @@ fn run_job<R: Files + Clock + AllocGlobal + Print + Eprint>(
             out: made,
             budget,
             forced,
+            open,
             quiet,
-        } => search_files(
-            rt,
-            [transcript, declaration, made],
+            form,
+            segment,
+        } => {
+            let names = [transcript, declaration, made];
+            let words = SearchWords {
+                budget,
+                forced,
+                open,
+                segment,
+            };
+            let mut progress = Progress::new(rt, budget, watched && !quiet);
+            return run_search(rt, names, words, form, &mut progress);
+        }
+        Job::Chain {
+            folder,
             budget,
-            forced,
-            &mut Progress::new(rt, budget, watched && !quiet),
-            &mut out,
-        ),
+            quiet,
+            leaves,
+        } => {
+            let words = ChainWords {
+                budget,
+                watched: watched && !quiet,
+                leaves,
+            };
+            return match chain_folder(rt, folder, words) {
+                Ok(status) => status,
+                Err(error) => tell_error(rt, &error),
+            };
+        }
         Job::Show { file, options } => return show_file(rt, file, options),
         Job::Write { hex, out: made } => write_file(rt, hex, made, &mut out),
     };
@@ -80,42 +106,26 @@ fn run_job<R: Files + Clock + AllocGlobal + Print + Eprint>(
     }
 }
 
-/// Looks for a witness of the first two files, with at most `budget` steps, and makes the third of it. Where the
-/// status is not `Done` nothing is made.
-fn search_files<R: Files + AllocGlobal + Eprint, W: Watch>(
+/// Looks for a witness, prints what is found in the form that is asked for, and answers the status to end with.
+fn run_search<R: Files + AllocGlobal + Print + Eprint, W: Watch>(
     rt: &R,
     names: [&str; 3],
-    budget: u64,
-    forced: bool,
+    words: SearchWords<'_>,
+    form: FormWords,
     watch: &mut W,
-    out: &mut Vec<u8>,
-) -> io::Result<Status> {
-    if is_input(rt, names[2], &names[..2]) {
-        return Ok(Status::Usage);
+) -> Status {
+    let mut out = Vec::new(rt.alloc());
+    let done = match form_of(form, words.segment) {
+        Some(Form::Lines) => search_files(rt, names, words, false, watch, &mut out),
+        Some(Form::Explained) => search_files(rt, names, words, true, watch, &mut out),
+        Some(Form::Segment) => search_segment_files(rt, names, words, watch, &mut out),
+        Some(Form::Json | Form::ExplainedJson) => return search_object(rt, names, words, watch),
+        None => return tell_forms(rt),
+    };
+    match done {
+        Ok(status) => tell(rt, out.as_slice(), status),
+        Err(error) => tell_error(rt, &error),
     }
-    let mut transcript = open_input(rt, names[0])?;
-    let mut declaration = open_input(rt, names[1])?;
-    test_output(rt, names[2])?;
-    let mut made = Vec::new(rt.alloc());
-    let status = search_run(
-        rt.alloc(),
-        &mut transcript,
-        &mut declaration,
-        budget,
-        forced,
-        watch,
-        out,
-        &mut made,
-    );
-    drop(transcript);
-    drop(declaration);
-    if status == Status::Refused {
-        hint_kind(rt, &names[..2], out);
-    }
-    if status == Status::Done {
-        replace_file(rt, names[2], made.as_slice())?;
-    }
-    Ok(status)
 }
 
 /// Prints the items of a file, and answers the status to end with.

@@ -1,10 +1,10 @@
 //! The words of the command line.
 
-ghost use Rattle.std.specs.Prelude.{◌≡◌, ◌≢◌, ◌⊎◌, ◌||◌, is_some, false, [], IfErr, IfOk, IfSome, OnOk, map, string_bytes};
+ghost use Rattle.std.specs.Prelude.{◌≡◌, ◌≢◌, ◌⊎◌, ◌||◌, is_some, codes, false, [], IfErr, IfOk, IfSome, OnOk, map, string_bytes};
 ghost use Rattle.clap.specs.Words.{app_of, rule_of, rows_of, found_of, kind_of, subcommand_of, subcommand_rows_of, fault_of};
 ghost use Rattle.clap.specs.declared.builder.command.Command.TheViews.{out-Command};
 ghost use Rattle.kmipa_runs.specs.Statuses.{IsSilent};
-ghost use Rattle.kmipa_command.specs.Words.{program_app, check_app, check_files_app, search_app, search_files_app, show_app, write_app, budget_rule, file_rule, flag_rule, option_rule, status_of, IsCheck, IsJob, IsSearch, IsTold};
+ghost use Rattle.kmipa_command.specs.Words.{program_app, check_app, check_files_app, check_texts_app, search_app, search_files_app, search_steps_app, search_texts_app, show_app, write_app, chain_app, chain_steps_app, budget_rule, file_rule, flag_rule, option_rule, status_of, IsChain, IsCheck, IsForm, IsJob, IsSearch, IsSegment, IsTold};
 
 use clap::builder::ValueParser;
 use clap::error::ErrorKind;
@@ -19,19 +19,27 @@ const DECLARATION: &str = "DECLARATION";
 
 const WITNESS: &str = "WITNESS";
 
+const DIR: &str = "DIR";
+
 const FILE: &str = "FILE";
 
 const HEX: &str = "HEX";
 
 const OUT: &str = "OUT";
 
+const LEFT: &str = "LEFT";
+
 const BUDGET: &str = "budget";
 
 const FORCED: &str = "forced";
 
+const OPEN: &str = "open";
+
 const QUIET: &str = "quiet";
 
 const JSON: &str = "json";
+
+const EXPLAIN: &str = "explain";
 
 const LEAVES: &str = "leaves";
 
@@ -56,6 +64,7 @@ const EXAMPLES: &str = "\
 Examples:
   kmip_audit check transcript.ttlv declaration.ttlv witness.ttlv
   kmip_audit search transcript.ttlv declaration.ttlv witness.ttlv
+  kmip_audit chain days
   kmip_audit show transcript.ttlv
   kmip_audit write digits.txt items.ttlv
 
@@ -65,10 +74,12 @@ Status: 0 yes, found, shown or written; 1 no; 2 a file is refused; 3 a device fa
 const CHECK_HELP: &str = "\
 Example:
   kmip_audit check transcript.ttlv declaration.ttlv witness.ttlv
-  kmip_audit check transcript.ttlv declaration.ttlv witness.ttlv --json
+  kmip_audit check transcript.ttlv declaration.ttlv witness.ttlv --explain
   kmip_audit check monday.ttlv declaration.ttlv witness.ttlv --leaves tuesday_declaration.ttlv
 
-With --json one JSON object stands in place of the lines; it does not go together with --leaves or --not-before.
+With --explain stands behind the lines of a no what its reason rests on, a line for each claim. With --json one JSON
+object stands in place of all lines, and with both it has the claims as members. Neither goes together with --leaves or
+--not-before.
 
 At a yes, and only then, --leaves writes the declaration with which the audit of the next segment goes on, and prints
 'left: N entries, last stamp DATE'. That DATE is the --not-before of the next segment: a first turn that is earlier is
@@ -79,15 +90,45 @@ Status: 0 yes; 1 no; 2 a file is refused; 3 a device failed or memory ran out; 6
 const SEARCH_HELP: &str = "\
 Example:
   kmip_audit search transcript.ttlv declaration.ttlv witness.ttlv --budget 5000000
+  kmip_audit search transcript.ttlv declaration.ttlv witness.ttlv --explain
+  kmip_audit search monday.ttlv declaration.ttlv witness.ttlv --leaves tuesday_declaration.ttlv
 
 It prints 'yes: N steps' and writes the witness to OUT, or 'gave up: N steps' and writes nothing. A step is one call
 that is tried. A transcript is plain where no call lacks its end, no message leaves the order of its items open and no
 undone answer hides what a witness would have to give. Where a plain transcript is given up with steps left, no order
 explains it.
 
+With --explain stands behind the line of a giving up whether that has decided, and if not, why: the budget is used up, or
+which calls are not plain. With --json one JSON object stands in place of all lines, and has the same as members, with or
+without --explain. Neither goes together with --leaves or --not-before.
+
+With --open a call without its end is taken where an answer needs what it did, and a batch without order in other
+orders than by place. Of a plain transcript nothing changes; of another one nothing is told by giving up.
+
+At a yes --leaves also writes the declaration with which the audit of the next segment goes on, and prints 'left: N
+entries, last stamp DATE'; both files are written, or neither is. That DATE is the --not-before of the next segment: no
+order that takes a call at an earlier stamp is one, so an answered call that is earlier has it give up.
+
 Where standard error is a terminal, a long search tells there once a second how far it got, unless --quiet is given.
 
 Status: 0 found; 2 a file is refused; 3 a device failed or memory ran out; 4 gave up; 64 wrong words";
+
+const CHAIN_HELP: &str = "\
+Example:
+  kmip_audit chain days
+  kmip_audit chain days --budget 5000000 --leaves next-declaration.ttlv
+
+The segments of DIR are its files transcript*.ttlv, in the order of their names, byte by byte. The first goes on from
+declaration.ttlv, and each other one from what those before it leave and from their last stamp on. A segment is checked
+by its witness, the file witness*.ttlv with the same text in the place of *, and where there is none it is searched, with
+at most N steps. For each it prints the name of the transcript and the lines that check or search print; the first that
+is no yes ends it. A declaration that the server was asked for, declaration*.ttlv with the text of the segment that it
+stands ahead of, is held against what is left by then, and the first object that differs ends it too. Behind the last it
+prints 'chain: N segments, N calls; left: N entries, last stamp DATE', and only then --leaves writes the declaration of
+what the whole leaves.
+
+Status: 0 all yes; 1 no, or an object differs; 2 a file is refused; 3 a device failed or memory ran out;
+  4 a search gave up; 64 wrong words";
 
 const SHOW_HELP: &str = "\
 Example:
@@ -100,6 +141,15 @@ Example:
   kmip_audit write digits.txt items.ttlv
 
 Status: 0 written; 2 the digits are refused; 3 a device failed or memory ran out; 64 wrong words";
+
+/// What is asked of the form of an answer.
+#[derive(Clone, Copy, Debug, PartialEq, Eq)]
+pub struct FormWords {
+    /// Prints one JSON object in place of the lines.
+    pub json: bool,
+    /// Prints behind a no, or a giving up, what it means.
+    pub explain: bool,
+}
 
 /// What is asked of a segment of an audit that goes on from file to file.
 #[derive(Clone, Copy, Debug, PartialEq, Eq)]
@@ -127,8 +177,7 @@ pub enum Job<'a> {
         transcript: &'a str,
         declaration: &'a str,
         witness: &'a str,
-        /// Prints one JSON object in place of the lines.
-        json: bool,
+        form: FormWords,
         segment: SegmentWords<'a>,
     },
     /// An order in which the calls of a transcript are possible, tried with at most so many steps.
@@ -140,8 +189,21 @@ pub enum Job<'a> {
         budget: u64,
         /// Tells first whether the transcript leaves no choice.
         forced: bool,
+        /// Takes calls without an end mark too, and batches without order in other orders than by place.
+        open: bool,
         /// Tells nothing on standard error while it searches.
         quiet: bool,
+        form: FormWords,
+        segment: SegmentWords<'a>,
+    },
+    /// The segments of a folder, one after the other.
+    Chain {
+        folder: &'a str,
+        budget: u64,
+        /// Tells nothing on standard error while it searches.
+        quiet: bool,
+        /// The declaration that is written of what the whole leaves.
+        leaves: Option<&'a str>,
     },
     /// The items of a file as text.
     Show {
@@ -165,8 +227,9 @@ pub struct Usage {
 
 /// The job that the words of a command line name, the first of which is the program's name.
 ///
-/// - `kmip_audit check TRANSCRIPT DECLARATION WITNESS [--json] [--leaves OUT] [--not-before DATE]`
-/// - `kmip_audit search TRANSCRIPT DECLARATION OUT [--budget N] [--forced] [--quiet]`, N from 0 to 1,000,000,000
+/// - `kmip_audit check TRANSCRIPT DECLARATION WITNESS [--explain] [--json] [--leaves OUT] [--not-before DATE]`
+/// - `kmip_audit search TRANSCRIPT DECLARATION OUT [--budget N] [--forced] [--open] [--quiet] [--explain] [--json] [--leaves LEFT] [--not-before DATE]`, N from 0 to 1,000,000,000
+/// - `kmip_audit chain DIR [--budget N] [--quiet] [--leaves OUT]`
 /// - `kmip_audit show FILE [--messages] [--notes]`
 /// - `kmip_audit write HEX OUT`
 pub fn read_words<'a, S: AsStr>(alloc: Global, words: &'a [S]) -> Result<Job<'a>, Usage>
@@ -194,6 +257,7 @@ fn command<'a>(alloc: Global) -> Result<Command<'a>, AllocError>
         .arg_required_else_help(true)
         .subcommand(check(alloc)?)?
         .subcommand(search(alloc)?)?
+        .subcommand(chain(alloc)?)?
         .subcommand(show(alloc)?)?
         .subcommand(write(alloc)?)
 }
@@ -202,20 +266,19 @@ fn check<'a>(alloc: Global) -> Result<Command<'a>, AllocError>
     ensures app { IfOk result (λ command. app_of command ≡ check_app) }
     ensures local { IfOk result (λ command. (out-Command command).has_globals ≡ false) }
 {
+    check_with_texts(alloc)?
+        .arg(leaves(alloc, OUT))?
+        .arg(not_before(alloc))
+}
+
+/// A check with the options of what it prints.
+fn check_with_texts<'a>(alloc: Global) -> Result<Command<'a>, AllocError>
+    ensures app { IfOk result (λ command. app_of command ≡ check_texts_app) }
+    ensures local { IfOk result (λ command. (out-Command command).has_globals ≡ false) }
+{
     check_of_files(alloc)?
-        .arg(flag(alloc, JSON, "Prints one JSON object in place of the lines"))?
-        .arg(option(
-            alloc,
-            LEAVES,
-            OUT,
-            "At a yes, the declaration that is written of what the run leaves",
-        ))?
-        .arg(option(
-            alloc,
-            NOT_BEFORE,
-            "DATE",
-            "The last stamp of the segment before, that no stamp may be earlier than",
-        ))
+        .arg(flag(alloc, EXPLAIN, "Prints behind a no what it means"))?
+        .arg(flag(alloc, JSON, "Prints one JSON object in place of the lines"))
 }
 
 /// A check without its options.
@@ -235,12 +298,41 @@ fn search<'a>(alloc: Global) -> Result<Command<'a>, AllocError>
     ensures app { IfOk result (λ command. app_of command ≡ search_app) }
     ensures local { IfOk result (λ command. (out-Command command).has_globals ≡ false) }
 {
+    search_with_texts(alloc)?
+        .arg(leaves(alloc, LEFT))?
+        .arg(not_before(alloc))
+}
+
+/// A search with the options of how it searches, and of what it prints.
+fn search_with_texts<'a>(alloc: Global) -> Result<Command<'a>, AllocError>
+    ensures app { IfOk result (λ command. app_of command ≡ search_texts_app) }
+    ensures local { IfOk result (λ command. (out-Command command).has_globals ≡ false) }
+{
+    search_with_steps(alloc)?
+        .arg(flag(
+            alloc,
+            EXPLAIN,
+            "Prints behind a giving up whether it has decided",
+        ))?
+        .arg(flag(alloc, JSON, "Prints one JSON object in place of the lines"))
+}
+
+/// A search with the options of how it searches.
+fn search_with_steps<'a>(alloc: Global) -> Result<Command<'a>, AllocError>
+    ensures app { IfOk result (λ command. app_of command ≡ search_steps_app) }
+    ensures local { IfOk result (λ command. (out-Command command).has_globals ≡ false) }
+{
     search_of_files(alloc)?
         .arg(budget(alloc))?
         .arg(flag(
             alloc,
             FORCED,
             "Tells first whether stamps and marks leave no choice of the order",
+        ))?
+        .arg(flag(
+            alloc,
+            OPEN,
+            "Takes calls without an end too, where an answer needs them",
         ))?
         .arg(flag(
             alloc,
@@ -260,6 +352,30 @@ fn search_of_files<'a>(alloc: Global) -> Result<Command<'a>, AllocError>
         .arg(file(alloc, TRANSCRIPT, "The calls, as they were seen"))?
         .arg(file(alloc, DECLARATION, "What the server held at the start"))?
         .arg(file(alloc, OUT, "The witness that is written"))
+}
+
+fn chain<'a>(alloc: Global) -> Result<Command<'a>, AllocError>
+    ensures app { IfOk result (λ command. app_of command ≡ chain_app) }
+    ensures local { IfOk result (λ command. (out-Command command).has_globals ≡ false) }
+{
+    chain_with_steps(alloc)?.arg(leaves(alloc, OUT))
+}
+
+/// A chain with the options of how it searches.
+fn chain_with_steps<'a>(alloc: Global) -> Result<Command<'a>, AllocError>
+    ensures app { IfOk result (λ command. app_of command ≡ chain_steps_app) }
+    ensures local { IfOk result (λ command. (out-Command command).has_globals ≡ false) }
+{
+    Command::new(alloc, "chain")
+        .about("Judges the segments of a folder, one after the other")
+        .after_help(CHAIN_HELP)
+        .arg(file(alloc, DIR, "The folder of the segments"))?
+        .arg(budget(alloc))?
+        .arg(flag(
+            alloc,
+            QUIET,
+            "Tells nothing on standard error while it searches",
+        ))
 }
 
 fn show<'a>(alloc: Global) -> Result<Command<'a>, AllocError>
@@ -317,6 +433,32 @@ fn budget<'a>(alloc: Global) -> Arg<'a>
         .help("The most steps that are made, from 0 to 1000000000")
 }
 
+/// The declaration of what a run leaves, by this name.
+fn leaves<'a>(alloc: Global, value: &'a str) -> Arg<'a>
+    ensures rule { rule_of result ≡ option_rule (codes "leaves") }
+    ensures local { result.global ≡ false }
+{
+    option(
+        alloc,
+        LEAVES,
+        value,
+        "At a yes, the declaration that is written of what the run leaves",
+    )
+}
+
+/// The moment from which a segment goes on.
+fn not_before<'a>(alloc: Global) -> Arg<'a>
+    ensures rule { rule_of result ≡ option_rule (codes "not-before") }
+    ensures local { result.global ≡ false }
+{
+    option(
+        alloc,
+        NOT_BEFORE,
+        "DATE",
+        "The last stamp of the segment before, that no stamp may be earlier than",
+    )
+}
+
 /// An option that has a value where it is given.
 fn option<'a>(alloc: Global, name: &'a str, value: &'a str, about: &'a str) -> Arg<'a>
     ensures rule { rule_of result ≡ option_rule name.entry.now }
@@ -347,6 +489,7 @@ fn job_of<'a>(matches: &ArgMatches<'a>) -> Option<Job<'a>>
     match name {
         "check" => check_of(words),
         "search" => search_of(words),
+        "chain" => chain_of(words),
         "show" => Some(Job::Show {
             file: words.get_str(FILE)?,
             options: ShowOptions {
@@ -369,12 +512,27 @@ fn check_of<'a>(words: &ArgMatches<'a>) -> Option<Job<'a>>
         transcript: words.get_str(TRANSCRIPT)?,
         declaration: words.get_str(DECLARATION)?,
         witness: words.get_str(WITNESS)?,
-        json: words.get_flag(JSON),
-        segment: SegmentWords {
-            leaves: words.get_str(LEAVES),
-            not_before: words.get_str(NOT_BEFORE),
-        },
+        form: form_of(words),
+        segment: segment_of(words),
     })
+}
+
+fn form_of<'a>(words: &ArgMatches<'a>) -> FormWords
+    ensures { IsForm result (rows_of (found_of words.now)) }
+{
+    FormWords {
+        json: words.get_flag(JSON),
+        explain: words.get_flag(EXPLAIN),
+    }
+}
+
+fn segment_of<'a>(words: &ArgMatches<'a>) -> SegmentWords<'a>
+    ensures { IsSegment result (rows_of (found_of words.now)) }
+{
+    SegmentWords {
+        leaves: words.get_str(LEAVES),
+        not_before: words.get_str(NOT_BEFORE),
+    }
 }
 
 fn search_of<'a>(words: &ArgMatches<'a>) -> Option<Job<'a>>
@@ -386,7 +544,21 @@ fn search_of<'a>(words: &ArgMatches<'a>) -> Option<Job<'a>>
         out: words.get_str(OUT)?,
         budget: words.get_one::<u64>(BUDGET)?,
         forced: words.get_flag(FORCED),
+        open: words.get_flag(OPEN),
         quiet: words.get_flag(QUIET),
+        form: form_of(words),
+        segment: segment_of(words),
+    })
+}
+
+fn chain_of<'a>(words: &ArgMatches<'a>) -> Option<Job<'a>>
+    ensures { IfSome result (λ job. IsChain job (rows_of (found_of words.now))) }
+{
+    Some(Job::Chain {
+        folder: words.get_str(DIR)?,
+        budget: words.get_one::<u64>(BUDGET)?,
+        quiet: words.get_flag(QUIET),
+        leaves: words.get_str(LEAVES),
     })
 }
 

@@ -15,8 +15,10 @@ returns c =
     c.about.ensures c.version.ensures c.after_help.ensures c.subcommand_required.ensures c.arg_required_else_help.ensures in
     let one = c.in_ok-subcommand.ensures.shape c.in_ok-check.ensures.local ∙ ap (λ a. with_subcommand a (shape_of c.in_ok-check.field-0)) set in
     let two = c.in_ok-subcommand-2.ensures.shape c.in_ok-search.ensures.local in
-    let three = c.in_ok-subcommand-3.ensures.shape c.in_ok-show.ensures.local in
-    IfOk-weaker c.subcommand-4.result _ _ (λ r h. whole bare (app_of c.in_ok-check.field-0) (app_of c.in_ok-search.field-0) (app_of c.in_ok-show.field-0)
-    (app_of c.in_ok-write.field-0) (app_of c.in_ok-subcommand.field-0) (app_of c.in_ok-subcommand-2.field-0) (app_of c.in_ok-subcommand-3.field-0) (app_of r)
-    c.new.ensures.app c.in_ok-check.ensures.app c.in_ok-search.ensures.app c.in_ok-show.ensures.app c.in_ok-write.ensures.app one two three
-    (h.shape c.in_ok-write.ensures.local)) c.subcommand-4.ensures
+    let three = c.in_ok-subcommand-3.ensures.shape c.in_ok-chain.ensures.local in
+    let four = c.in_ok-subcommand-4.ensures.shape c.in_ok-show.ensures.local in
+    IfOk-weaker c.subcommand-5.result _ _ (λ r h. whole bare (app_of c.in_ok-check.field-0) (app_of c.in_ok-search.field-0) (app_of c.in_ok-chain.field-0)
+    (app_of c.in_ok-show.field-0) (app_of c.in_ok-write.field-0) (app_of c.in_ok-subcommand.field-0) (app_of c.in_ok-subcommand-2.field-0)
+    (app_of c.in_ok-subcommand-3.field-0) (app_of c.in_ok-subcommand-4.field-0) (app_of r)
+    c.new.ensures.app c.in_ok-check.ensures.app c.in_ok-search.ensures.app c.in_ok-chain.ensures.app c.in_ok-show.ensures.app c.in_ok-write.ensures.app one two
+    three four (h.shape c.in_ok-write.ensures.local)) c.subcommand-5.ensures

@@ -1,6 +1,6 @@
 use Rattle.std.proofs.Common.{codes}
 use Rattle.clap.specs.Words.{found_of, subcommand_rows_of}
-use Rattle.kmipa_command.proofs.WordLemmas.{named, check_found_some, flag_found, search_found_some, show_found, write_found}
+use Rattle.kmipa_command.proofs.WordLemmas.{named, chain_found_some, check_found_some, flag_found, search_found_some, show_found, write_found}
 use Rattle.kmipa_command.proofs.words.job_of.Goals as goal
 
 pub returns-in-check : goal.returns-in-check
@@ -30,3 +30,9 @@ returns-in_ok-get_str-in-write-2 c =
     write_found (found_of c.in_ok-name.words.now) c.in_ok-get_str-in-write.field-0 c.in_ok-get_str-in-write-2.field-0 (subcommand_rows_of m)
     (named m c.in_ok-name.name.now (codes "write") c.in-write.is c.in_ok-name.ensures.name) c.in_ok-name.ensures.rows
     c.in_ok-get_str-in-write.ensures c.in_ok-get_str-in-write-2.ensures
+
+pub returns-in-chain : goal.returns-in-chain
+returns-in-chain c =
+    let m = c.args.matches.now in
+    chain_found_some (found_of c.in_ok-name.words.now) c.chain_of.result (subcommand_rows_of m)
+    (named m c.in_ok-name.name.now (codes "chain") c.in-chain.is c.in_ok-name.ensures.name) c.in_ok-name.ensures.rows c.chain_of.ensures

@@ -1,0 +1,229 @@
+//! The folder of a chain: its segments, in the order of their names.
+
+use crate::files::reported;
+use std::alloc::{AllocError, Global};
+use std::rt::Files;
+use std::{fs, io};
+
+/// What the names of a folder's files begin with, for each kind. Behind it stands what they share with the files of the same segment.
+const TRANSCRIPT: &str = "transcript";
+
+const DECLARATION: &str = "declaration";
+
+const WITNESS: &str = "witness";
+
+/// What they end with.
+const ENDING: &str = ".ttlv";
+
+/// The declaration that the segments begin with.
+const FIRST: &str = "declaration.ttlv";
+
+/// A folder of segments.
+#[derive(Debug, Drop)]
+pub struct Folder {
+    /// The path of the declaration that they begin with.
+    pub declaration: String,
+    pub segments: Vec<Segment>,
+    /// What the server was asked for behind the last segment.
+    pub asked: Vec<Asked>,
+}
+
+/// A declaration that the server was asked for.
+#[derive(Debug, Drop)]
+pub struct Asked {
+    /// Its name.
+    pub name: String,
+    /// Its path.
+    pub path: String,
+}
+
+/// The files of a segment.
+#[derive(Debug, Drop)]
+pub struct Segment {
+    /// The name of the transcript.
+    pub name: String,
+    /// Its path.
+    pub transcript: String,
+    /// The path of the witness, where there is one.
+    pub witness: Option<String>,
+    /// What the server was asked for ahead of it, and behind the segment before it.
+    pub asked: Vec<Asked>,
+}
+
+/// The names of a folder's files, by their kind.
+#[derive(Debug, Drop)]
+struct Names {
+    transcripts: Vec<String>,
+    declarations: Vec<String>,
+    witnesses: Vec<String>,
+}
+
+impl Names {
+    fn new(alloc: Global) -> Names {
+        Names {
+            transcripts: Vec::new(alloc),
+            declarations: Vec::new(alloc),
+            witnesses: Vec::new(alloc),
+        }
+    }
+
+    /// Takes a name, where it is of one of the kinds.
+    fn take(&mut self, alloc: Global, name: &str) -> Result<(), AllocError> {
+        if suffix_of(name, TRANSCRIPT).is_some() {
+            self.transcripts.push(String::from_str(alloc, name)?)?;
+        } else if suffix_of(name, DECLARATION).is_some() {
+            self.declarations.push(String::from_str(alloc, name)?)?;
+        } else if suffix_of(name, WITNESS).is_some() {
+            self.witnesses.push(String::from_str(alloc, name)?)?;
+        }
+        Ok(())
+    }
+
+    /// The first name of a witness that has no transcript beside it.
+    fn alone(&self) -> Option<&str> {
+        self.witnesses
+            .iter()
+            .find(|name| beside(name, WITNESS, &self.transcripts, TRANSCRIPT).is_none())
+            .map(|name| name.as_str())
+    }
+}
+
+/// What stands between the word for a kind and the ending, in the name of a file of that kind.
+fn suffix_of<'a>(name: &'a str, kind: &str) -> Option<&'a str> {
+    name.strip_prefix(kind)?.strip_suffix(ENDING)
+}
+
+/// The name of another kind that belongs to a name of this kind.
+fn beside<'a>(name: &str, kind: &str, others: &'a [String], other: &str) -> Option<&'a str> {
+    let suffix = suffix_of(name, kind)?;
+    others
+        .iter()
+        .find(|there| suffix_of(there.as_str(), other) == Some(suffix))
+        .map(|there| there.as_str())
+}
+
+/// Lists the segments of a folder. What is wrong with it is told on standard error.
+pub fn read_folder<R: Files + AllocGlobal + Eprint + Clone + Drop>(
+    rt: &R,
+    folder: &str,
+) -> io::Result<Folder> {
+    let mut names = reported(rt, folder, names_of(rt, folder))?;
+    test_names(rt, folder, &names)?;
+    names.transcripts.sort_unstable();
+    names.declarations.sort_unstable();
+    Ok(folder_of(rt.alloc(), folder, &names)?)
+}
+
+fn names_of<R: Files + AllocGlobal + Clone + Drop>(rt: &R, folder: &str) -> io::Result<Names> {
+    if !fs::metadata(rt, folder)?.is_dir() {
+        return Err(io::Error::new(
+            io::ErrorKind::NotADirectory,
+            "is no folder; name the folder of the segments",
+        ));
+    }
+    let mut names = Names::new(rt.alloc());
+    for entry in fs::read_dir(rt, folder)? {
+        names.take(rt.alloc(), entry?.file_name())?;
+    }
+    Ok(names)
+}
+
+/// Tells on standard error what is missing in a folder, if anything is.
+fn test_names<R: Eprint>(rt: &R, folder: &str, names: &Names) -> io::Result<()> {
+    let told = if names.transcripts.is_empty() {
+        rt.eprintln(format_args!(
+            "kmip_audit: {folder}: has no segment; name the segments transcript-0001.ttlv, transcript-0002.ttlv and so on"
+        ))
+    } else if beside(
+        "transcript.ttlv",
+        TRANSCRIPT,
+        &names.declarations,
+        DECLARATION,
+    )
+    .is_none()
+    {
+        rt.eprintln(format_args!(
+            "kmip_audit: {folder}: has no declaration.ttlv; put there what the server held ahead of the first segment"
+        ))
+    } else if let Some(witness) = names.alone() {
+        rt.eprintln(format_args!(
+            "kmip_audit: {folder}: {witness} has no transcript beside it; put it there, or take the witness away"
+        ))
+    } else {
+        return Ok(());
+    };
+    told.ok();
+    Err(io::Error::from(io::ErrorKind::NotFound))
+}
+
+fn folder_of(alloc: Global, folder: &str, names: &Names) -> Result<Folder, AllocError> {
+    let declarations = names.declarations.as_slice();
+    let mut segments = Vec::new(alloc);
+    let mut before = None;
+    for name in &names.transcripts {
+        let here = Some(name.as_str());
+        let asked = asked_between(alloc, folder, declarations, before, here)?;
+        segments.push(segment_of(alloc, folder, name.as_str(), names, asked)?)?;
+        before = here;
+    }
+    Ok(Folder {
+        declaration: path_of(alloc, folder, FIRST)?,
+        segments,
+        asked: asked_between(alloc, folder, declarations, before, None)?,
+    })
+}
+
+/// The declarations behind a transcript, ahead of another or beside it.
+fn asked_between(
+    alloc: Global,
+    folder: &str,
+    declarations: &[String],
+    before: Option<&str>,
+    here: Option<&str>,
+) -> Result<Vec<Asked>, AllocError> {
+    let mut asked = Vec::new(alloc);
+    for name in declarations {
+        if stands_between(name.as_str(), before, here) {
+            asked.push(Asked {
+                name: String::from_str(alloc, name.as_str())?,
+                path: path_of(alloc, folder, name.as_str())?,
+            })?;
+        }
+    }
+    Ok(asked)
+}
+
+/// Whether a declaration that the server was asked for stands there, by the texts behind the words for their kinds.
+fn stands_between(name: &str, before: Option<&str>, here: Option<&str>) -> bool {
+    name != FIRST
+        && before.is_none_or(|transcript| is_behind(name, transcript))
+        && here.is_none_or(|transcript| !is_behind(name, transcript))
+}
+
+fn is_behind(declaration: &str, transcript: &str) -> bool {
+    declaration.strip_prefix(DECLARATION) > transcript.strip_prefix(TRANSCRIPT)
+}
+
+fn segment_of(
+    alloc: Global,
+    folder: &str,
+    name: &str,
+    names: &Names,
+    asked: Vec<Asked>,
+) -> Result<Segment, AllocError> {
+    let witness = match beside(name, TRANSCRIPT, &names.witnesses, WITNESS) {
+        Some(witness) => Some(path_of(alloc, folder, witness)?),
+        None => None,
+    };
+    Ok(Segment {
+        name: String::from_str(alloc, name)?,
+        transcript: path_of(alloc, folder, name)?,
+        witness,
+        asked,
+    })
+}
+
+fn path_of(alloc: Global, folder: &str, name: &str) -> Result<String, AllocError> {
+    let between = if folder.ends_with('/') { "" } else { "/" };
+    format!(in alloc; "{folder}{between}{name}")
+}
