@@ -220,7 +220,9 @@ class Convictions(Laboratory):
         self.assertLess(len(calls), 60)
         told = audit.explained(folder, decision)
         self.assertIn("no order explains what was recorded", told)
-        self.assertIn(f"  {decision.why.lines[0]}", told)
+        self.assertTrue(decision.why.explanation)
+        for line in (*decision.why.lines, *decision.why.explanation):
+            self.assertIn(f"  {line}", told)
 
 
 class Faults(unittest.TestCase):

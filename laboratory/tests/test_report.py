@@ -8,6 +8,7 @@ import json
 import os
 import re
 import resource
+import shlex
 import shutil
 import subprocess
 import sys
@@ -30,7 +31,11 @@ from kmip_laboratory.verdicts import Outcome, read_json, read_verdict
 EXAMPLES = FOLDER.parent / "examples"
 CHROMIUM = shutil.which("chromium")
 SECONDS_TO_BROWSE = 90
+# How long the page's own clock may go on, in milliseconds: it runs ahead of the first drawing where the machine is busy.
+BUDGETS = (2_000, 20_000, 200_000)
 DARK = "--blink-settings=preferredColorScheme=0"
+# The browser makes a window of it that is as narrow as it has any: 500 pixels.
+NARROW = "--window-size=320,800"
 STRANGE = ["<script>alert(1)</script>", "\"'></pre><b>", "</script><img src=x onerror=alert(1)>", "&lt;i&gt;", "]]>"]
 KEY = bytes(range(200, 216))
 DRIVER = """<script>
@@ -48,7 +53,7 @@ const drive = () => {
   }
   for (const button of document.querySelectorAll('.tools button')) button.click();
   bars[0].dispatchEvent(new MouseEvent('click', { bubbles: true }));
-  for (const link of document.querySelectorAll('.verdict button.call')) {
+  for (const link of document.querySelectorAll('button.call')) {
     link.click();
     seen.push(link.textContent + ' shows ' + panel.querySelector('h3').textContent);
   }
@@ -142,11 +147,13 @@ class Report(unittest.TestCase):
         folder = EXAMPLES / "recorded" / "register_get_other_byte"
         page = self.page(folder)
         told = "".join(page.texts)
-        self.assertIn((folder / "line").read_text().strip(), told)
+        line, explained = ((folder / name).read_text() for name in ("line", "explained"))
+        self.assertIn(line.strip(), told)
+        self.assertIn(explained[len(line):].strip(), told)
         for name in ("transcript.ttlv", "declaration.ttlv", "witness.ttlv"):
             self.assertIn(hashlib.sha256((folder / name).read_bytes()).hexdigest(), told)
         files = " ".join(str(folder / name) for name in ("transcript.ttlv", "declaration.ttlv", "witness.ttlv"))
-        self.assertIn(f"$ kmip_audit check {files}\n", told)
+        self.assertIn(f"$ kmip_audit check {files} --explain\n", told)
         (data,) = page.data["recordings"]
         self.assertEqual((data["fault"], len(data["number"]), data["turn"][:3]), (53, 86, [1, 2, 3]))
         self.assertIn(7, data["story"], "the call that registered the key which was shown")
@@ -191,8 +198,25 @@ class Report(unittest.TestCase):
         done = report("-", folder, "--text")
         self.assertIn((folder / "line").read_text().strip(), done.stdout)
         drawn = [line for line in done.stdout.splitlines() if "|" in line]
-        self.assertEqual([line[0] for line in drawn], [" ", ">"])
-        self.assertLessEqual(max(map(len, drawn)), 80)
+        self.assertEqual([line[0] for line in drawn], ["*", ">"])
+        self.assertRegex(done.stdout, r"Operation +success\nDestroy +2\n")
+        self.assertLessEqual(max(map(len, done.stdout.splitlines())), 80)
+
+    def test_text_of_many_recordings_and_long_lines(self) -> None:
+        program = self.explaining(["overlapping, and later: calls " + " ".join(map(str, range(100, 120)))])
+        with unittest.mock.patch.dict(os.environ, {"KMIP_AUDIT": str(program)}):
+            done = report("-", self.strange(), EXAMPLES / "destroy_twice", "--text")
+        self.assertEqual(done.returncode, 0, done.stderr)
+        lines = done.stdout.splitlines()
+        self.assertEqual(lines[0], "Calls  Recording: verdict")
+        self.assertIn("    1  no: 6 WrongState", lines)
+        self.assertIn("    112 113 114 115 116 117 118 119", lines)
+        self.assertLessEqual(max(map(len, lines)), 80)
+        self.assertEqual(done.stdout.count("A yes says that some inventory fits"), 1)
+        commands = re.findall(r"^  \$ ((?:.*\\\n)*.*)", done.stdout, re.MULTILINE)
+        words = [shlex.split(command.replace("\\\n", "")) for command in commands]
+        self.assertEqual([len(each) for each in words], [6, 6], "a shell takes each command as it is")
+        self.assertEqual(words[0][2], str(self.folder / "<i>strange & \"folder\"" / "transcript.ttlv"))
 
     def test_bad_words_and_what_is_there(self) -> None:
         self.out.write_text("mine")
@@ -363,27 +387,41 @@ class Report(unittest.TestCase):
     @unittest.skipUnless(CHROMIUM, "needs Debian's chromium")
     def test_a_browser_shows_it(self) -> None:
         self.page(self.strange())
-        dom, said = self.browse(self.out)
+        dom, said = self.browse(self.out, until="data-call=")
         self.assertEqual([line for line in said.splitlines() if "CONSOLE" in line], [])
         self.assertEqual(len(re.findall(r'<rect [^>]*data-call=', dom)), len(STRANGE) + 1)
         self.assertIn("Call 6: Get", dom, "it opens at the verdict's call")
         driven = self.folder / "driven.html"
         text = re.sub(r'<meta http-equiv="Content-Security-Policy"[^>]*>', "", self.out.read_text(encoding="utf-8"))
         driven.write_text(text.replace("</body>", DRIVER + "</body>"), encoding="utf-8")
-        for dark in (False, True):
-            dom, said = self.browse(driven, *([DARK] if dark else []))
+        for dark, more in ((False, []), (True, [DARK]), (False, [NARROW])):
+            dom, said = self.browse(driven, *more, until='<output id="seen">')
             self.assertEqual([line for line in said.splitlines() if "CONSOLE" in line], [])
             found = re.search(r'<output id="seen">(.*?)</output>', dom)
             self.assertIsNotNone(found, "no script broke off")
             seen = json.loads(found.group(1))
             self.assertEqual(seen[:6], [dark, 6, "Call 1: Get", "Call 2: Get", "Call 6: Get", "Call 6: Get"])
-            self.assertEqual(seen[-3:-1], ["turn 6 shows Call 6: Get", "call 6 shows Call 6: Get"])
+            links = [re.findall(r"\d+", told) for told in seen if isinstance(told, str) and " shows " in told]
+            self.assertGreaterEqual(len(links), 3, "the turn and the call of the verdict, and the call of the sentence")
+            self.assertTrue(all(named == shown for named, shown in links), seen)
             self.assertTrue(seen[-1], "it is no wider than the window")
 
-    def browse(self, page: Path, *more: str) -> Tuple[str, str]:
-        """What a browser makes of a page, and what it says. A browser that doesn't come to its end shows nothing of the page."""
+    def browse(self, page: Path, *more: str, until: str = "") -> Tuple[str, str]:
+        """What a browser makes of a page, and what it says: with more time for the page until this stands in it. A browser that draws
+        nothing of a page, and says of no script that it broke off, shows nothing of it."""
+        dom, said = "", ""
+        for budget in BUDGETS:
+            dom, said = self.browse_once(page, budget, *more)
+            if until in dom:
+                return dom, said
+        if "data-call=" not in dom and "CONSOLE" not in said:
+            self.skipTest(f"the browser drew nothing of the page in {BUDGETS[-1]} ms")
+        return dom, said
+
+    def browse_once(self, page: Path, budget: int, *more: str) -> Tuple[str, str]:
+        """The same within so many milliseconds of the page. A browser that doesn't come to its end shows nothing of it."""
         words = [CHROMIUM, "--headless=new", "--no-sandbox", "--disable-gpu", "--enable-logging=stderr", "--v=0",
-                 "--virtual-time-budget=2000", f"--user-data-dir={self.folder / 'browser'}", *more, "--dump-dom", page.as_uri()]
+                 f"--virtual-time-budget={budget}", f"--user-data-dir={self.folder / 'browser'}", *more, "--dump-dom", page.as_uri()]
         try:
             done = subprocess.run(words, capture_output=True, text=True, timeout=SECONDS_TO_BROWSE, check=False)
         except subprocess.TimeoutExpired:

@@ -7,6 +7,7 @@ import os
 import shlex
 import tempfile
 import time
+from datetime import datetime, timedelta, timezone
 from pathlib import Path
 from typing import Dict, List, NamedTuple, Optional, Tuple
 
@@ -24,6 +25,7 @@ from .messages import Messages, read_messages
 
 # Of a search where no other is given.
 USUAL_BUDGET = 1_000_000
+EPOCH = datetime(1970, 1, 1, tzinfo=timezone.utc)
 
 
 class Judged(NamedTuple):
@@ -60,6 +62,10 @@ class Judged(NamedTuple):
         if self.verdict.explanation:
             return sorted({place.call for place in self.mentions("\n".join(self.verdict.explanation))})
         return [call.number for call in self.story()]
+
+    def naming(self) -> str:
+        """What those have in common, for a legend."""
+        return "named by the explanation" if self.verdict.explanation else "names the same object"
 
     def story(self) -> List[Call]:
         """The calls that name an object of the refused call, up to it: by turns, or else by begin marks."""
@@ -183,6 +189,19 @@ def came_to(call: Call) -> str:
     if Status.FAILED in statuses:
         return "failed"
     return "success"
+
+
+def moment(seconds: int) -> str:
+    """A Time Stamp as a date."""
+    try:
+        return (EPOCH + timedelta(seconds=seconds)).strftime("%Y-%m-%dT%H:%M:%SZ")
+    except OverflowError:
+        return str(seconds)
+
+
+def moment_of_making(told: Optional[str]) -> datetime:
+    """The moment at which the report is made; SOURCE_DATE_EPOCH sets it."""
+    return EPOCH + timedelta(seconds=int(told)) if told and told.isdecimal() else datetime.now(timezone.utc)
 
 
 def stamps(calls: List[Call]) -> List[int]:

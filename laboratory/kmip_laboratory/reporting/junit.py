@@ -27,7 +27,8 @@ def told(recordings: List[Judged]) -> str:
             kind = "failure" if judged.verdict.outcome in JUDGED else "error"
             trouble = ElementTree.SubElement(case, kind, message=in_words(judged.verdict),
                                              type=in_short(judged.verdict))
-            trouble.text = _text("\n".join([*judged.verdict.lines, *judged.verdict.explanation]) + f"\n$ {judged.command}")
+            lines = [*judged.verdict.lines, *judged.verdict.explanation, f"$ {judged.command}"]
+            trouble.text = _text("\n".join(lines))
     return '<?xml version="1.0" encoding="utf-8"?>\n' + ElementTree.tostring(suite, encoding="unicode") + "\n"
 
 

@@ -2,28 +2,29 @@
 
 from __future__ import annotations
 
-from collections import Counter
-from datetime import datetime, timedelta, timezone
+from datetime import datetime
 from pathlib import Path
 from typing import Dict, List, Optional, Sequence
 
 from ..verdicts import Outcome
+from .counts import by_verdict, crosses, period
 from .explanation import Story, split, story
-from .figures import KINDS, figures
-from .judging import Judged, came_to, operation_name, operations, stamps
+from .figures import figures
+from .judging import Judged, came_to, moment, operations
 from .markup import Markup, Part, data, digest, element, table, together
 from .reasons import PREMISES, in_short, in_words, of_others
 
 SOURCES = Path(__file__).resolve().parent / "page"
-EPOCH = datetime(1970, 1, 1, tzinfo=timezone.utc)
 TOOLS = [("fault", "To the verdict's call"), ("in", "Zoom in"), ("out", "Zoom out"), ("left", "Earlier"),
          ("right", "Later"), ("all", "Whole recording")]
 LEGEND = [("success", "success"), ("failed", "failed"), ("refused", "message refused"), ("undone", "undone"),
           ("open", "no answer"), ("fault", "named by the verdict")]
 KEYS = ("Keys, once the timeline has the focus: left and right for the call before and behind, up and down for the row "
-        "above and below, Home and End, + and - to zoom, Page Up and Page Down to move, 0 for the whole recording, f for "
-        "the verdict's call. Drag to move; Ctrl and the wheel zoom.")
+        "above and below, Home and End, + and - to zoom, Page Up and Page Down to move, 0 for the whole recording, f "
+        "for the verdict's call. Drag to move; Ctrl and the wheel zoom.")
 MOST_OF_STORY = 20
+# As in timeline.js, in a bar of the legend.
+STRIPES = {"failed": [10], "refused": [2, 10], "undone": [2]}
 
 
 def page(recordings: List[Judged], made: datetime) -> str:
@@ -49,14 +50,6 @@ def page(recordings: List[Judged], made: datetime) -> str:
     return "<!DOCTYPE html>\n" + element("html", head, body, lang="en") + "\n"
 
 
-def moment(seconds: int) -> str:
-    """A Time Stamp as a date."""
-    try:
-        return (EPOCH + timedelta(seconds=seconds)).strftime("%Y-%m-%dT%H:%M:%SZ")
-    except OverflowError:
-        return str(seconds)
-
-
 def _source(name: str) -> str:
     return (SOURCES / name).read_text(encoding="utf-8")
 
@@ -78,8 +71,7 @@ def _overview(recordings: List[Judged]) -> Markup:
     rows: List[List[Part]] = [
         [element("a", judged.folder, href=f"#recording-{number}"), in_short(judged.verdict), str(len(judged.calls)),
          f"{judged.seconds:.1f}"] for number, judged in enumerate(recordings, 1)]
-    counts = Counter(in_short(judged.verdict) for judged in recordings)
-    reasons: List[List[Part]] = [[reason, str(count)] for reason, count in counts.most_common()]
+    reasons: List[List[Part]] = [[reason, str(count)] for reason, count in by_verdict(recordings)]
     return together([
         element("h2", "Verdicts"), table(["Recording", "Verdict", "Calls", "Seconds to judge"], rows, 2),
         element("h2", "By verdict"), table(["Verdict", "Recordings"], reasons, 1)])
@@ -134,25 +126,36 @@ def _timeline(judged: Judged) -> Markup:
                if does != "fault" or judged.refused() is not None]
     if judged.turns:
         buttons.append(element("button", "Line of the order", type="button", data_does="order", aria_pressed="false"))
-    legend = [element("li", element("svg", element("rect", of=kind, width=26, height=12), viewBox="0 0 26 12",
-                                    aria_hidden="true"), words) for kind, words in LEGEND]
+    legend = [element("li", element("svg", *_sample(kind), viewBox="0 0 26 12", aria_hidden="true"), words)
+              for kind, words in LEGEND]
     if len(judged.named()) > 1:
         sample = element("rect", of="bar success story", x=2, y=2, width=22, height=8)
         legend.append(element("li", element("svg", sample, viewBox="0 0 26 12", aria_hidden="true"),
-                              "named by the explanation" if judged.verdict.explanation else "names the same object"))
-    order = "Numbers in the bars are turns of the order. " if judged.turns else ""
+                              judged.naming()))
+    order = ("Numbers in the bars are turns of the order; zoom in where a bar is too short for its own. "
+             if judged.turns else "")
     lanes = element("div", element("svg", role="presentation"), of="lanes", tabindex=0, role="listbox",
                     aria_label="Calls, a row for each client; arrow keys go from call to call")
     details = element(
-        "div", element("h3", ""), element("p", "", of="soft"), element(
-            "div", element("div", element("h4", "Request"), element("pre", "", tabindex=0, aria_label="Request")),
-            element("div", element("h4", "Answer"), element("pre", "", tabindex=0, aria_label="Answer")), of="both"),
+        "div", element("h3", ""), element("p", "", of="soft"),
+        element("div", _message("Request"), _message("Answer"), of="both"),
         of="details", aria_live="polite", hidden="")
     return together([
         element("h3", "Timeline"),
         element("div", *buttons, element("span", "", of="soft said", role="status"), of="tools"),
         element("div", element("svg", of="overview", role="presentation"), lanes, of="timeline"),
         element("ul", *legend, of="legend"), element("p", order + KEYS, of="soft"), details])
+
+
+def _message(name: str) -> Markup:
+    """Where the chosen call's request or answer is shown."""
+    return element("div", element("h4", name), element("pre", "", tabindex=0, role="region", aria_label=name))
+
+
+def _sample(kind: str) -> List[Markup]:
+    """A bar of this kind, for the legend."""
+    stripes = [element("path", of="stripe", d=f"M0 {height}h26") for height in STRIPES.get(kind, [])]
+    return [element("rect", of=kind, width=26, height=12), *stripes]
 
 
 def _told_story(judged: Judged, told: Story) -> Markup:
@@ -185,27 +188,16 @@ def _story(judged: Judged) -> Markup:
     told = f" The {left_out} before these are left out." if left_out else ""
     return together([
         element("h3", "The object's story"),
-        element("p", "The calls up to the verdict's that name an object which it names: this is the report's reading of "
-                "the transcript, and not the auditor's word." + told, of="soft"),
+        element("p", "The calls up to the verdict's that name an object which it names: this is the report's reading "
+                "of the transcript, and not the auditor's word." + told, of="soft"),
         table(["Call", "Client", "Operation", "Came to", "Time Stamp", "Turn"], rows, 1)])
 
 
 def _counts(judged: Judged) -> Markup:
     """Calls by operation, client and outcome; from when to when."""
-    pieces = Counter((operation_name(piece.operation), came_to(call)) for call in judged.calls for piece in call.pieces)
-    clients = Counter((call.client, came_to(call)) for call in judged.calls)
-    seen = stamps(judged.calls)
-    when = (f"{len(judged.calls)} calls; Time Stamps from {moment(min(seen))} to {moment(max(seen))}, "
-            f"{max(seen) - min(seen) + 1} seconds." if seen else f"{len(judged.calls)} calls, none with a Time Stamp.")
-    tables = element("div", _cross("Operation", pieces), _cross("Client", clients), of="counts")
-    return together([element("p", when), tables])
-
-
-def _cross(head: str, counts: Counter[tuple[str, str]]) -> Markup:
-    ends = [word for word in KINDS if any(end == word for _, end in counts)]
-    names = sorted({name for name, _ in counts})
-    rows: List[List[Part]] = [[name, *(str(counts[(name, end)]) for end in ends)] for name in names]
-    return table([head, *ends], rows, len(ends))
+    tables = [table([cross.of, *cross.ends], [[name, *map(str, counts)] for name, counts in cross.rows],
+                    len(cross.ends)) for cross in crosses(judged)]
+    return together([element("p", period(judged)), element("div", *tables, of="counts")])
 
 
 def _evidence(judged: Judged) -> Markup:
@@ -215,8 +207,3 @@ def _evidence(judged: Judged) -> Markup:
         table(["File", f"SHA-256, {read}", "Bytes"], rows, 1),
         element("p", f"Judged in {judged.seconds:.1f} seconds. Anybody can repeat the verdict:"),
         element("pre", f"$ {judged.command}\n" + "\n".join(judged.verdict.lines))])
-
-
-def moment_of_making(told: Optional[str]) -> datetime:
-    """The moment at which the page is made; SOURCE_DATE_EPOCH sets it."""
-    return EPOCH + timedelta(seconds=int(told)) if told and told.isdecimal() else datetime.now(timezone.utc)

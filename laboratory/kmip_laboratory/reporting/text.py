@@ -2,45 +2,73 @@
 
 from __future__ import annotations
 
+import shlex
 import textwrap
-from typing import List
+from datetime import datetime
+from typing import Iterator, List, Sequence
 
 from ..calls import Call
+from .counts import Cross, by_verdict, crosses, period
 from .judging import Judged, came_to, operations
-from .reasons import in_words
+from .reasons import PREMISES, in_short, in_words, of_others
 
 COLUMNS = 80
 AROUND = 20
 WIDTH = 24
+NAME, CELL = 28, 10
 SIGNS = {"success": "=", "failed": "x", "refused": "r", "undone": "u", "open": "~"}
+# Of a line of the auditor's or a path that is longer than a line of the terminal's.
+DEEPER = "    "
 
 
-def told(judged: Judged) -> str:
+def told(recordings: List[Judged], made: datetime) -> str:
+    """The report of these recordings, of many a line for each first, and at the end what a verdict means."""
+    parts = [_overview(recordings)] if len(recordings) > 1 else []
+    parts += [_recording(judged, made) for judged in recordings] + [_filled(PREMISES)]
+    return "\n\n".join("\n".join(_harmless(line) for line in lines) for lines in parts)
+
+
+def _overview(recordings: List[Judged]) -> List[str]:
+    lines = ["Calls  Recording: verdict"]
+    for judged in recordings:
+        lines += _broken(f"{len(judged.calls):>5}  {judged.folder}: {in_short(judged.verdict)}")
+    counts = [f"{count:>5}  {verdict}" for verdict, count in by_verdict(recordings)]
+    return [*lines, "", "By verdict", *counts]
+
+
+def _recording(judged: Judged, made: datetime) -> List[str]:
     """The report of one recording."""
-    parts = [judged.folder, "", *judged.verdict.lines, *judged.verdict.explanation, *_filled(in_words(judged.verdict)), ""]
+    lines = [*_broken(judged.folder),
+             *_filled(f"Made {made:%Y-%m-%dT%H:%M:%SZ} by kmip_report, from what {judged.version} printed."), ""]
+    for line in (*judged.verdict.lines, *judged.verdict.explanation):
+        lines += _broken(line)
+    lines += ["", *_filled(in_words(judged.verdict))]
+    lines += _filled(of_others(judged.searched)) if judged.searched is not None else []
+    lines += [""]
     for path, length, sha256 in judged.files:
-        parts += [f"{path}, {length:,} bytes", f"  SHA-256 {sha256}"]
-    parts += [f"  $ {judged.command}", ""]
+        lines += [*_broken(f"{path}, {length:,} bytes"), f"  SHA-256 {sha256}"]
+    lines += [f"Judged in {judged.seconds:.1f} seconds. Anybody can repeat the verdict:", *_command(judged.command)]
     if judged.calls:
-        parts += _timeline(judged)
-    return "\n".join(_harmless(line) for line in parts)
+        lines += ["", *_timeline(judged), "", *_counts(judged)]
+    return lines
 
 
 def _timeline(judged: Judged) -> List[str]:
     """A line for each of some calls, drawn from begin to end mark."""
     calls = judged.calls
-    refused = judged.refused()
+    refused, named = judged.refused(), set(judged.named())
     middle = calls.index(refused) if refused else 0
     start = max(0, min(middle - AROUND // 2, len(calls) - AROUND))
     some = calls[start:start + AROUND]
     first, last = some[0].begin, max(call.end if call.end is not None else call.begin for call in some)
     lines = [f"Calls {start + 1} to {start + len(some)} of {len(calls)}, each from its begin mark to its end mark",
-             "= success  x failed  r refused  u undone  ~ no answer  > named by the verdict", ""]
+             "= success  x failed  r refused  u undone  ~ no answer"]
+    lines += [f"> named by the verdict  * {judged.naming()}", ""] if refused else [""]
     for call in some:
-        sign = ">" if call is refused else " "
+        sign = ">" if call is refused else "*" if call.number in named else " "
         turn = judged.turns.get(call.number)
         told = f"{sign}{call.number:>6} {call.client[:12]:<12} |{_bar(call, first, last)}| {operations(call)[:20]:<20}"
-        lines.append(told + (f" turn {turn}" if turn else ""))
+        lines.append((told + (f" turn {turn}" if turn else "")).rstrip())
     return lines
 
 
@@ -51,8 +79,40 @@ def _bar(call: Call, first: int, last: int) -> str:
     return " " * begin + SIGNS[came_to(call)] * (end - begin + 1) + " " * (WIDTH - 1 - end)
 
 
+def _counts(judged: Judged) -> List[str]:
+    """Calls by operation, client and outcome, and from when to when."""
+    return _filled(period(judged)) + [line for cross in crosses(judged) for line in ("", *_cross(cross))]
+
+
+def _cross(cross: Cross) -> Iterator[str]:
+    yield _row(cross.of, cross.ends)
+    for name, counts in cross.rows:
+        yield _row(name, counts)
+
+
+def _row(name: str, cells: Sequence[object]) -> str:
+    return f"{name[:NAME]:<{NAME}}" + "".join(f"{cell!s:>{CELL}}" for cell in cells)
+
+
+def _command(command: str) -> Iterator[str]:
+    """The command, over as many lines as it needs; a shell takes them as one."""
+    line = "  $"
+    for word in map(shlex.quote, shlex.split(command)):
+        if len(line) + len(word) + 3 > COLUMNS:
+            yield f"{line} \\"
+            line = DEEPER[:-1]
+        line = f"{line} {word}"
+    yield line
+
+
 def _filled(words: str) -> List[str]:
     return textwrap.wrap(words, COLUMNS)
+
+
+def _broken(line: str) -> List[str]:
+    """A line as it is, or broken where it is too long for one of the terminal's."""
+    return textwrap.wrap(line, COLUMNS, subsequent_indent=DEEPER, break_on_hyphens=False, replace_whitespace=False,
+                         expand_tabs=False) or [line]
 
 
 def _harmless(line: str) -> str:

@@ -6,15 +6,16 @@ import argparse
 import os
 import sys
 from concurrent.futures import ProcessPoolExecutor
+from datetime import datetime
 from functools import partial
-from typing import List, NoReturn
+from typing import List, NoReturn, Optional
 
 from .. import fresh
 from ..files import write_file
 from ..trouble import Trouble, hush
 from ..verdicts import Outcome
 from . import junit, page, text
-from .judging import Judged, find, judge
+from .judging import Judged, find, judge, moment_of_making
 
 ALL_WELL = 0
 TROUBLE = 1
@@ -37,8 +38,9 @@ def main(arguments: List[str]) -> int:
         if not words.force:
             fresh.refuse_present(outs)
         recordings = _judged(find(words.recordings), words)
-        _write(words, recordings)
-        return _tell(recordings, words.text)
+        made = moment_of_making(os.environ.get("SOURCE_DATE_EPOCH"))
+        _write(words, recordings, made)
+        return _tell(recordings, made if words.text else None)
     except Trouble as trouble:
         print(f"kmip_report: {trouble}", file=sys.stderr)
         return TROUBLE
@@ -47,12 +49,13 @@ def main(arguments: List[str]) -> int:
         return TROUBLE
 
 
-def _tell(recordings: List[Judged], in_full: bool) -> int:
-    """Prints what came out, up to the last line, or as long as somebody reads it; answers the status."""
+def _tell(recordings: List[Judged], made: Optional[datetime]) -> int:
+    """Prints what came out, in full where the moment is told, up to the last line, or as long as somebody reads it;
+    answers the status."""
     yes = sum(judged.verdict.outcome is Outcome.YES for judged in recordings)
     try:
-        if in_full:
-            print("\n\n".join(text.told(judged) for judged in recordings))
+        if made is not None:
+            print(text.told(recordings, made))
         print(f"{len(recordings)} recordings: {yes} yes, {len(recordings) - yes} not", flush=True)
     except BrokenPipeError:
         hush()
@@ -90,12 +93,11 @@ def _judged(folders: List[str], words: argparse.Namespace) -> List[Judged]:
         return list(pool.map(partial(judge, budget=words.budget, others=words.others), folders))
 
 
-def _write(words: argparse.Namespace, recordings: List[Judged]) -> None:
+def _write(words: argparse.Namespace, recordings: List[Judged], made: datetime) -> None:
     """Writes the files that are asked for: all or, where nothing may be written over, none."""
     files = []
     if words.out != "-":
-        told = page.page(recordings, page.moment_of_making(os.environ.get("SOURCE_DATE_EPOCH")))
-        files.append((words.out, told.encode("utf-8")))
+        files.append((words.out, page.page(recordings, made).encode("utf-8")))
     if words.junit:
         files.append((words.junit, junit.told(recordings).encode("utf-8")))
     if not words.force:

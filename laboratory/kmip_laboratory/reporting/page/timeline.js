@@ -8,6 +8,10 @@ const WORDS = ['success', 'failed', 'message refused', 'undone', 'no answer', 'n
 const ROW = 26, BAR = 18, LABEL = 150, AXIS = 24, MOST_BARS = 1200, CLOSEST = 8;
 // Where bars are drawn together, each kind has its share of a column, the worst at the foot.
 const FROM_THE_FOOT = [4, 2, 1, 3, 0];
+// Stripes in the bars of a kind, so that no colour alone tells it: how far below a bar's top.
+const STRIPES = { failed: [15.5], refused: [2.5, 15.5], undone: [2.5] };
+// What is in view when the page opens: so many marks at least, and at most.
+const LEAST_AT_FIRST = 80, MOST_AT_FIRST = 240;
 
 function drawn(name, attributes, text) {
   const made = document.createElementNS(SVG, name);
@@ -46,9 +50,12 @@ class Timeline {
   x(mark) { return LABEL + (mark - this.from) / (this.to - this.from) * (this.width() - LABEL - 12); }
 
   start() {
-    const at = this.fault < 0 ? -1 : this.data.begin[this.fault];
-    if (at < 0 || this.last <= 240) this.view(0, Math.min(this.last + 1, 240));
-    else this.view(at - 80, at + 80);
+    if (this.fault < 0 || this.last <= MOST_AT_FIRST) this.view(0, MOST_AT_FIRST);
+    else {
+      const at = this.data.begin[this.fault], half = LEAST_AT_FIRST / 2, first = at - MOST_AT_FIRST + LEAST_AT_FIRST;
+      const named = [...this.story].map(index => this.data.begin[index]).filter(mark => mark >= first && mark <= at);
+      this.view(Math.min(at, ...named) - half, at + half);
+    }
     if (this.fault >= 0) this.reveal(this.fault);
   }
 
@@ -126,8 +133,8 @@ class Timeline {
     for (const index of this.inView()) {
       const stamp = this.data.stamp[index];
       if (stamp === null || stamp === before) continue;
-      const x = this.x(this.data.begin[index]);
-      if (x >= LABEL && x - right > 70 && x < this.width() - 60) {
+      const x = Math.max(LABEL, this.x(this.data.begin[index]));
+      if (x - right > 70 && x < this.width() - 60) {
         this.rows.append(drawn('line', { class: 'tick', x1: x, x2: x, y1: 0, y2: top + 6 }));
         this.rows.append(drawn('text', { class: 'soft', x: x + 3, y: top + 17 }, clock(stamp)));
         right = x;
@@ -150,6 +157,9 @@ class Timeline {
       'aria-selected': index === this.chosen ? 'true' : 'false' });
     rect.append(drawn('title', {}, this.label(index)));
     this.rows.append(rect);
+    for (const below of STRIPES[kind] || []) {
+      this.rows.append(drawn('path', { class: 'stripe', d: `M${left} ${y + below}h${width}` }));
+    }
     if (index === this.chosen) {
       this.rows.append(drawn('rect', {
         class: 'chosen', x: left - 3, y: y - 3, width: width + 6, height: BAR + 6, rx: 3 }));
@@ -196,7 +206,8 @@ class Timeline {
     let foot = top + BAR;
     for (const kind of counts[5] ? [5] : FROM_THE_FOOT) {
       if (!counts[kind]) continue;
-      const rest = foot - top, height = kind === 5 || kind === 0 ? rest : Math.min(rest, Math.max(3, BAR * counts[kind] / all));
+      const rest = foot - top, share = Math.max(3, BAR * counts[kind] / all);
+      const height = kind === 5 || kind === 0 ? rest : Math.min(rest, share);
       this.rows.append(drawn('rect', { class: KINDS[kind], x, width: 3, y: foot - height, height }));
       foot -= height;
     }
@@ -234,6 +245,10 @@ class Timeline {
         const tall = Math.max(2, 22 * column[0] / most), low = 22 * column[1] / most;
         this.drawing.append(drawn('rect', { class: 'success', x, width: 2, y: 26 - tall, height: tall }));
         if (low) this.drawing.append(drawn('rect', { class: 'failed', x, width: 2, y: 26 - low, height: low }));
+      }
+      for (const index of this.story) {
+        const x = at(this.data.begin[index]) - 1;
+        this.drawing.append(drawn('rect', { class: 'fault', x, width: 2, y: 0, height: 5 }));
       }
       if (this.fault >= 0) {
         const x = at(this.data.begin[this.fault]);
