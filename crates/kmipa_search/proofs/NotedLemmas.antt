@@ -1,30 +1,15 @@
 -- Ends, as they are noted and found.
-use Rattle.std.proofs.Common.{◌≡◌, ◌<◌, ◌⊎◌, inl, inr, ℕ, List, [], ◌∷◌, ◌++◌, map, Contains, Vec, sym, ap, ◌∙◌, subst, arith}
+use Rattle.std.proofs.Common.{◌≡◌, ◌⊎◌, inl, inr, ℕ, List, [], ◌∷◌, ◌++◌, Contains, Vec, sym, ap, ◌∙◌, subst, arith}
 use Rattle.std.specs.declared.alloc.Global.{Global}
 use Rattle.std.proofs.lemmas.List.Elements.{Contains-append_cases}
 use Rattle.kmipa_store.specs.Ledger.{Meaning}
-use Rattle.kmipa_search.specs.Ends.{still_of, stills, IsSetOf, IsSameSet, IsEndAt, IsAdded, IsNoted}
+use Rattle.kmipa_search.specs.Ends.{Shared, stills, stills_shared, IsSetOf, IsEndAt, IsAdded, IsNoted}
 use Rattle.kmipa_search.specs.declared.ends.End.{End}
-use Rattle.kmipa_search.specs.declared.stills.Still.{Still}
 use Rattle.kmipa_search.specs.declared.taken.CallSet.{CallSet}
 use Rattle.kmipa_search.proofs.PlaceLemmas.{one_cases}
 
--- an equal set is a set of the same calls
-pub set_too : (places : List ℕ) (a b : CallSet) → IsSameSet a b → IsSetOf places b → IsSetOf places a
-set_too places a b same s = record {
-  count = s.count ∙ sym same.count;
-  are = λ p has. elim (s.are p has) [
-    | inl less ↦ inl (omega (arith, less, same.low))
-    | inr h ↦ let P : List ℕ → Type 0 = λ xs. Contains xs p in inr (subst P (sym same.rest) h)
-  ];
-  only = λ p h. s.only p (elim h as (λ q. (p < b.low) ⊎ Contains b.rest.items p) [
-    | inl less ↦ inl (omega (arith, less, same.low))
-    | inr has ↦ let P : List ℕ → Type 0 = λ xs. Contains xs p in inr (subst P same.rest has)
-  ]);
-}
-
 -- no end is one more, or one
-pub added_none : (old new : List End) (set : CallSet) (objects : Vec Still Global) → new ≡ old → IsAdded old set objects new
+pub added_none : (old new : List End) (set : CallSet) (objects : Vec Shared Global) → new ≡ old → IsAdded old set objects new
 added_none old new set objects is x has = let P : List End → Type 0 = λ l. Contains l x in inl (subst P is has)
 
 pub added_last : (old new : List End) (e : End) → new ≡ old ++ e ∷ [] → IsAdded old e.set e.objects new
@@ -40,11 +25,11 @@ added_last old new e is x has =
     own (inr none) = absurd (omega (arith, none.1))
 
 -- it is that of the calls whose set it has, over the ledger whose objects it has
-pub noted : (old new : List End) (set : CallSet) (objects : Vec Still Global) (places : List ℕ) (m : Meaning) → IsAdded old set objects new → IsSetOf places set → map still_of objects.items ≡ stills m
+pub noted : (old new : List End) (set : CallSet) (objects : Vec Shared Global) (places : List ℕ) (m : Meaning) → IsAdded old set objects new → IsSetOf places set → stills_shared objects.items ≡ stills m
     → IsNoted old places m new
 noted old new set objects places m added s is e has = elim (added e has) as (λ q. Contains old e ⊎ IsEndAt places m e) [
   | inl o ↦ inl o
   | inr h ↦
       let P : CallSet → Type 0 = λ k. IsSetOf places k in
-      inr (record { set = subst P (sym h.0) s; stands = ap (λ (v : Vec Still Global). map still_of v.items) h.1 ∙ is })
+      inr (record { set = subst P (sym h.0) s; stands = ap (λ (v : Vec Shared Global). stills_shared v.items) h.1 ∙ is })
 ]

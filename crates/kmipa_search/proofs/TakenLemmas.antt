@@ -1,12 +1,14 @@
 -- The set of the calls taken, event by event.
-use Rattle.std.proofs.Common.{◌≡◌, ◌≢◌, ◌≤◌, ◌<◌, ◌⊎◌, inl, inr, ℕ, zero, suc, Bool, true, false, List, [], ◌∷◌, length, set, Contains, sym, ap, ◌∙◌, subst, arith}
+use Rattle.std.proofs.Common.{◌≡◌, ◌≢◌, ◌≤◌, ◌<◌, ◌⊎◌, inl, inr, ℕ, ◌-◌, zero, suc, Bool, true, false, List, [], ◌∷◌, length, set, slice_get, Some, Contains, sym, ap, ◌∙◌, subst, arith}
 use Rattle.std.proofs.lemmas.List.{get_or-set_same, get_or-set_other, length-set}
 use Rattle.std.proofs.lemmas.List.Elements.{Contains-append_right}
+use Rattle.std.proofs.lemmas.Option.{slice_get_within}
 use Rattle.std.specs.Prelude.{slice_set}
 use Rattle.kmipa_search.specs.Ends.{flag, AreFlagged, IsSetOf}
 use Rattle.kmipa_search.specs.declared.taken.CallSet.{CallSet}
 use Rattle.kmipa_search.specs.declared.taken.TakenCalls.{TakenCalls}
 use Rattle.kmipa_search.proofs.LinksLemmas.{same_or, which}
+use Rattle.kmipa_search.proofs.ElementLemmas.{contains_at, at_contains}
 use Rattle.kmipa_search.proofs.PlaceLemmas.{one_cases, has_head}
 
 -- a place with a mark is there
@@ -89,3 +91,51 @@ set_of count taken f k a long low are only = record {
   ];
   only = λ p h. elim h [ inl less ↦ a.only p (a.low p (omega (arith, less, low))) | inr has ↦ a.only p (only p has) ];
 }
+
+-- ---- the marks from one place up to another, compared with a list from behind
+
+module _ (flags : List Bool) (rest : List ℕ) (place high left : ℕ) where
+  -- all from a place on are among the list, and those of the list from a place on have a mark
+  pub record AreCompared : Type 0 where
+    pub within : left ≤ length rest
+    pub are : (p : ℕ) → place ≤ p → p < high → flag flags p ≡ true → Contains rest p
+    pub only : (k x : ℕ) → left ≤ k → slice_get rest k ≡ Some x → flag flags x ≡ true
+
+pub compared_none : (flags : List Bool) (rest : List ℕ) (high : ℕ) → AreCompared flags rest high high (length rest)
+compared_none flags rest high = record {
+  within = omega arith;
+  are = λ p from below m. absurd (omega (arith, from, below));
+  only = λ k x from at. let w = slice_get_within rest k x at in absurd (omega (arith, from, w));
+}
+
+module _ (flags : List Bool) (rest : List ℕ) (place high left : ℕ) (c : AreCompared flags rest place high left) (some : 0 < place) where
+  pub compared_unmarked : flag flags (place - 1) ≡ false → AreCompared flags rest (place - 1) high left
+  compared_unmarked no_mark = record {
+    within = c.within;
+    are = λ p from below m. elim (same_or p (place - 1)) [
+      | inl e ↦ let clash : false ≡ true = sym no_mark ∙ ap (flag flags) (sym e) ∙ m in absurd cc
+      | inr d ↦ c.are p (omega (arith, from, d, some)) below m
+    ];
+    only = c.only;
+  }
+
+  pub compared_marked : 0 < left → flag flags (place - 1) ≡ true → slice_get rest (left - 1) ≡ Some (place - 1) → AreCompared flags rest (place - 1) high (left - 1)
+  compared_marked more mark at = record {
+    within = let w = c.within in omega (arith, w);
+    are = λ p from below m. elim (same_or p (place - 1)) [
+      | inl e ↦ let P : ℕ → Type 0 = λ q. Contains rest q in subst P (sym e) (contains_at rest (left - 1) (place - 1) at)
+      | inr d ↦ c.are p (omega (arith, from, d, some)) below m
+    ];
+    only = λ k x from there. elim (same_or k (left - 1)) [
+      | inl e ↦
+          let P : ℕ → Type 0 = λ i. slice_get rest i ≡ Some x in
+          let both : Some (place - 1) ≡ Some x = sym at ∙ subst P e there in
+          let same : place - 1 ≡ x = cc in
+          let Q : ℕ → Type 0 = λ q. flag flags q ≡ true in
+          subst Q same mark
+      | inr d ↦ c.only k x (omega (arith, from, d, more)) there
+    ];
+  }
+
+pub compared_all : (flags : List Bool) (rest : List ℕ) (place high : ℕ) → AreCompared flags rest place high 0 → (p : ℕ) → Contains rest p → flag flags p ≡ true
+compared_all flags rest place high c p has = let q = at_contains rest p has in c.only q.0 p (omega arith) q.1

@@ -1,6 +1,7 @@
 -- Dead ends that are remembered: which calls were taken, and what the ledger stood for. Not promised.
 use Rattle.std.specs.Prelude.{◌≡◌, ◌≢◌, ◌<◌, ◌⊎◌, ℕ, Vec, Bool, true, false, List, length, map, slice_index_or, AllPairs, Contains, Option, option_map}
 use Rattle.std.specs.declared.alloc.Global.{Global}
+use Rattle.std.specs.declared.rc.Rc.{Rc}
 use Rattle.kmipa_store.specs.Ledger.{Held, Known, Meaning, held}
 use Rattle.kmipa_store.specs.Choices.{IsSound}
 use Rattle.kmipa_record.specs.Declarations.{DeclarationOf}
@@ -35,6 +36,16 @@ stills m = map (still m.secrets) m.objects
 abbrev pub still_of : Still → StillOf
 still_of s = record { held = held s.object; bytes = option_map items_of s.bytes }
 
+-- a copy that ends share
+abbrev pub Shared : Type 0
+Shared = Rc Still Global
+
+abbrev pub still_shared : Shared → StillOf
+still_shared s = still_of s.value
+
+abbrev pub stills_shared : List Shared → List StillOf
+stills_shared objects = map still_shared objects
+
 -- WHICH CALLS ARE TAKEN
 
 -- whether a place is marked
@@ -66,7 +77,7 @@ pub record AreSame (taken others : List ℕ) : Type 0 where
 -- an end is that of these calls over this ledger
 pub record IsEndAt (taken : List ℕ) (m : Meaning) (e : End) : Type 0 where
   pub set : IsSetOf taken e.set
-  pub stands : map still_of e.objects.items ≡ stills m
+  pub stands : stills_shared e.objects.items ≡ stills m
 
 -- However these calls were taken, if the ledger stands for this, no run begins so.
 abbrev pub IsDeadEnd : DeclarationOf → List StepOf → End → Type 0
@@ -83,14 +94,8 @@ HasEnd ends taken m = (e : End) × Contains ends e × IsEndAt taken m e
 abbrev pub IsArrival : List End → List ℕ → Meaning → Tried → Type 0
 IsArrival ends taken m t = (t ≡ none_tried) ⊎ ((t ≡ all_tried) × HasEnd ends taken m)
 
--- two sets are equal
-pub record IsSameSet (a b : CallSet) : Type 0 where
-  pub count : a.count ≡ b.count
-  pub low : a.low ≡ b.low
-  pub rest : a.rest.items ≡ b.rest.items
-
 -- no end is there but the old ones and one of this set and these objects
-abbrev pub IsAdded : List End → CallSet → Vec Still Global → List End → Type 0
+abbrev pub IsAdded : List End → CallSet → Vec Shared Global → List End → Type 0
 IsAdded old set objects new = (e : End) → Contains new e → Contains old e ⊎ ((e.set ≡ set) × (e.objects ≡ objects))
 
 -- no end is there but the old ones and this one

@@ -1,25 +1,20 @@
 //! Dead ends that are remembered.
 
-use crate::stills::{Still, copy_all, known_of, stand_so};
+use crate::pool::Pool;
+use crate::stills::{Still, stand_so};
 use crate::taken::{CallSet, TakenCalls};
 use crate::tried::Tried;
-use kmipa_attrs::Name;
-use kmipa_object::Object;
 use kmipa_store::Ledger;
 use std::alloc::{AllocError, Global};
+use std::rc::Rc;
 
 /// So many ends are remembered at most, in so many bytes.
 const MOST: usize = 1_000_000;
 
 const MOST_BYTES: usize = 256 << 20;
 
-/// What an end costs besides its objects, and an object besides its texts, its names and its bytes. They are more than
-/// it takes.
+/// What an end costs besides its calls and its objects, which it has from the pool. It is more than it takes.
 const END_BYTES: usize = 256;
-
-const OBJECT_BYTES: usize = 512;
-
-const NAME_BYTES: usize = 64;
 
 /// How many chains of ends there are.
 const CHAINS: usize = 1 << 18;
@@ -33,7 +28,7 @@ const MOST_COMPARED: usize = 64;
 #[derive(Drop)]
 pub struct End {
     pub set: CallSet,
-    pub objects: Vec<Still>,
+    pub objects: Vec<Rc<Still>>,
     hash: u64,
     /// One more than the number of the end before it in its chain, or 0.
     older: usize,
@@ -46,6 +41,8 @@ pub struct Ends {
     ends: Vec<End>,
     /// One more than the number of each chain's newest end, or 0; empty where there is no end.
     newest: Vec<usize>,
+    pool: Pool,
+    /// More bytes than the ends take, besides the pool.
     bytes: usize,
 }
 
@@ -61,6 +58,7 @@ impl Ends {
         Ends {
             ends: Vec::new(alloc),
             newest: Vec::new(alloc),
+            pool: Pool::new(alloc),
             bytes: 0,
         }
     }
@@ -81,7 +79,7 @@ impl Ends {
         if !late {
             return Ok(Tried::none());
         }
-        if self.has(alloc, ledger, taken, count)? {
+        if self.has(ledger, taken, count) {
             return Ok(Tried::all());
         }
         Ok(Tried::none())
@@ -103,7 +101,10 @@ impl Ends {
         if !late {
             return Ok(());
         }
-        if self.has(alloc, ledger, taken, count)? {
+        if self.is_full() {
+            return Ok(());
+        }
+        if self.has(ledger, taken, count) {
             return Ok(());
         }
         let set = taken.set(alloc, count)?;
@@ -111,23 +112,12 @@ impl Ends {
     }
 
     /// Whether an end of these calls is known, over a ledger whose objects stand as they do here.
-    fn has<L: Ledger>(
-        &self,
-        alloc: Global,
-        ledger: &L,
-        taken: &TakenCalls,
-        count: usize,
-    ) -> Result<bool, AllocError>
+    fn has<L: Ledger>(&self, ledger: &L, taken: &TakenCalls, count: usize) -> bool
         requires { IsSound (L.state ledger.now).now }
         ensures { (all : ℕ) (places : List ℕ) → AreFlagged all places taken.now → length places ≡ count
-            → IfOk result (λ known. known ≡ true → HasEnd self.now.ends.items places (L.state ledger.now).now) }
+            → result ≡ true → HasEnd self.now.ends.items places (L.state ledger.now).now }
     {
-        let number = self.alike(taken.hash);
-        if number == 0 {
-            return Ok(false);
-        }
-        let set = taken.set(alloc, count)?;
-        Ok(self.has_from(ledger, &set, number))
+        self.has_from(ledger, taken, count, self.alike(taken.hash))
     }
 
     /// The number of the newest end of this hash, and one more; or 0, where there is none.
@@ -151,9 +141,16 @@ impl Ends {
 
     /// Whether an end of these calls is among the next of a chain from a number on, over a ledger whose objects stand as
     /// they do here.
-    fn has_from<L: Ledger>(&self, ledger: &L, set: &CallSet, newest: usize) -> bool
+    fn has_from<L: Ledger>(
+        &self,
+        ledger: &L,
+        taken: &TakenCalls,
+        count: usize,
+        newest: usize,
+    ) -> bool
         requires { IsSound (L.state ledger.now).now }
-        ensures { (places : List ℕ) → IsSetOf places set.now → result ≡ true → HasEnd self.now.ends.items places (L.state ledger.now).now }
+        ensures { (all : ℕ) (places : List ℕ) → AreFlagged all places taken.now → length places ≡ count
+            → result ≡ true → HasEnd self.now.ends.items places (L.state ledger.now).now }
     {
         let mut number = newest;
         let mut compared = 0;
@@ -166,7 +163,7 @@ impl Ends {
             }
             compared += 1;
             let end = &self.ends[number - 1];
-            if is_end(ledger, end, set) {
+            if is_end(ledger, end, taken, count) {
                 return true;
             }
             if end.older >= number {
@@ -188,18 +185,17 @@ impl Ends {
         requires { IsSound (L.state ledger.now).now }
         ensures { (places : List ℕ) → IsSetOf places set → IsNoted self.old.ends.items places (L.state ledger.now).now self.new.ends.items }
     {
-        if self.ends.len() >= MOST {
-            return Ok(());
+        self.bytes = self.bytes.saturating_add(cost(&set, ledger.len()));
+        let room = MOST_BYTES.saturating_sub(self.bytes);
+        match self.pool.share_all(alloc, ledger, room)? {
+            Some(objects) => self.add(alloc, set, objects, hash),
+            None => Ok(()),
         }
-        if self.bytes > MOST_BYTES {
-            return Ok(());
-        }
-        self.bytes = self.bytes.saturating_add(cost(ledger, &set));
-        if self.bytes > MOST_BYTES {
-            return Ok(());
-        }
-        let objects = copy_all(alloc, ledger)?;
-        self.add(alloc, set, objects, hash)
+    }
+
+    /// Whether there is no room left.
+    fn is_full(&self) -> bool {
+        self.ends.len() >= MOST || self.bytes.saturating_add(self.pool.bytes) > MOST_BYTES
     }
 
     /// Adds an end to its chain.
@@ -207,7 +203,7 @@ impl Ends {
         &mut self,
         alloc: Global,
         set: CallSet,
-        objects: Vec<Still>,
+        objects: Vec<Rc<Still>>,
         hash: u64,
     ) -> Result<(), AllocError>
         ensures { IsAdded self.old.ends.items set objects self.new.ends.items }
@@ -227,11 +223,9 @@ impl Ends {
     }
 }
 
-ghost use Rattle.std.specs.Prelude.{◌≡◌, ◌<◌, ℕ, List, true, length};
-ghost use Rattle.kmipa_object.specs.declared.life.SecretNo.{SecretNo};
-ghost use Rattle.kmipa_object.specs.declared.life.Material.TheVariants.{Secret};
+ghost use Rattle.std.specs.Prelude.{◌≡◌, ℕ, List, true, length};
 ghost use Rattle.kmipa_store.specs.Choices.{IsSound};
-ghost use Rattle.kmipa_search.specs.Ends.{IsEndAt, IsSameSet, IsSetOf};
+ghost use Rattle.kmipa_search.specs.Ends.{AreFlagged, IsEndAt};
 
 /// All chains, empty; unless they are there.
 fn open_chains(alloc: Global, newest: &mut Vec<usize>) -> Result<(), AllocError> {
@@ -256,25 +250,16 @@ fn point(newest: &mut Vec<usize>, chain: usize, number: usize) {
     }
 }
 
-/// Whether an end is that of these calls, over a ledger whose objects stand as they do here.
-fn is_end<L: Ledger>(ledger: &L, end: &End, set: &CallSet) -> bool
+/// Whether an end is that of these calls, which are so many, over a ledger whose objects stand as they do here.
+fn is_end<L: Ledger>(ledger: &L, end: &End, taken: &TakenCalls, count: usize) -> bool
     requires { IsSound (L.state ledger.now).now }
-    ensures { (places : List ℕ) → IsSetOf places set.now → result ≡ true → IsEndAt places (L.state ledger.now).now end.now }
+    ensures { (all : ℕ) (places : List ℕ) → AreFlagged all places taken.now → length places ≡ count
+        → result ≡ true → IsEndAt places (L.state ledger.now).now end.now }
 {
-    is_same_set(&end.set, set) && stand_so(ledger, &end.objects)
-}
-
-/// Whether two sets are equal.
-fn is_same_set(one: &CallSet, other: &CallSet) -> bool
-    ensures { result ≡ true → IsSameSet one.now other.now }
-{
-    if one.count != other.count {
+    if end.hash != taken.hash {
         return false;
     }
-    if one.low != other.low {
-        return false;
-    }
-    one.rest.as_slice() == other.rest.as_slice()
+    taken.are(&end.set, count) && stand_so(ledger, &end.objects)
 }
 
 /// The chain of a hash.
@@ -282,40 +267,11 @@ fn chain_of(hash: u64) -> usize {
     (hash >> 32) as usize % CHAINS
 }
 
-/// More bytes than an end of this set over this ledger takes.
-fn cost<L: Ledger>(ledger: &L, set: &CallSet) -> usize
-    requires { IsSound (L.state ledger.now).now }
-{
-    let mut bytes = set.rest.len().saturating_mul(8).saturating_add(END_BYTES);
-    let mut place = 0;
-    'objects: while place < ledger.len() {
-        let object = ledger.at(place);
-        bytes = bytes.saturating_add(cost_of(ledger, object));
-        place += 1;
-    }
-    bytes
-}
-
-/// More bytes than the copy of an object takes.
-fn cost_of<L: Ledger>(ledger: &L, object: &Object) -> usize
-    requires { (secret : SecretNo) → object.now.life.material ≡ Secret secret → secret.number < length (L.state ledger.now).now.secrets }
-{
-    let known = match known_of(ledger, object.life.material) {
-        Some(bytes) => bytes.len(),
-        None => 0,
-    };
-    OBJECT_BYTES
-        .saturating_add(object.id.len())
-        .saturating_add(known)
-        .saturating_add(cost_of_names(object.given.names.as_slice()))
-}
-
-fn cost_of_names(names: &[Name]) -> usize {
-    let mut bytes: usize = 0;
-    'names: for name in names {
-        bytes = bytes
-            .saturating_add(NAME_BYTES)
-            .saturating_add(name.value.len());
-    }
-    bytes
+/// More bytes than an end of this set and so many objects takes, besides their states.
+fn cost(set: &CallSet, objects: usize) -> usize {
+    set.rest
+        .len()
+        .saturating_add(objects)
+        .saturating_mul(8)
+        .saturating_add(END_BYTES)
 }

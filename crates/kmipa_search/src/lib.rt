@@ -16,6 +16,7 @@ mod open_searching;
 mod order;
 mod picking;
 mod plain;
+mod pool;
 mod ranks;
 mod remaining;
 mod searching;

@@ -10,12 +10,13 @@ ghost use Rattle.kmipa_store.specs.Ledger.{held};
 ghost use Rattle.kmipa_store.specs.Choices.{IsSound};
 ghost use Rattle.kmipa_record.specs.Entries.{items_of};
 ghost use Rattle.kmipa_check.specs.Left.{bytes_left};
-ghost use Rattle.kmipa_search.specs.Ends.{still, still_of, stills};
+ghost use Rattle.kmipa_search.specs.Ends.{still, still_of, stills, stills_shared};
 
 use kmipa_attrs::{AttrSet, Name};
 use kmipa_object::{Life, Material, Object};
 use kmipa_store::Ledger;
 use std::alloc::{AllocError, Global};
+use std::rc::Rc;
 
 /// An object as it stands: a copy of it, and of its bytes where they are known.
 #[derive(Drop)]
@@ -24,23 +25,8 @@ pub struct Still {
     pub bytes: Option<Vec<u8>>,
 }
 
-/// Copies of all objects of a ledger, as they stand.
-pub fn copy_all<L: Ledger>(alloc: Global, ledger: &L) -> Result<Vec<Still>, AllocError>
-    requires { IsSound (L.state ledger.now).now }
-    ensures { IfOk result (λ objects. map still_of objects.items ≡ stills (L.state ledger.now).now) }
-{
-    let mut objects = Vec::new(alloc);
-    let mut place = 0;
-    'objects: while place < ledger.len() {
-        let object = ledger.at(place);
-        objects.push(copy_of(alloc, ledger, object)?)?;
-        place += 1;
-    }
-    Ok(objects)
-}
-
 /// A copy of an object, as it stands.
-fn copy_of<L: Ledger>(alloc: Global, ledger: &L, object: &Object) -> Result<Still, AllocError>
+pub fn copy_of<L: Ledger>(alloc: Global, ledger: &L, object: &Object) -> Result<Still, AllocError>
     requires { (secret : SecretNo) → object.now.life.material ≡ Secret secret → secret.number < length (L.state ledger.now).now.secrets }
     ensures { IfOk result (λ s. still_of s ≡ still (L.state ledger.now).now.secrets (held object.now)) }
 {
@@ -76,9 +62,9 @@ pub fn known_of<L: Ledger>(ledger: &L, material: Material) -> Option<&[u8]>
 }
 
 /// Whether the objects of a ledger stand as these do.
-pub fn stand_so<L: Ledger>(ledger: &L, objects: &[Still]) -> bool
+pub fn stand_so<L: Ledger>(ledger: &L, objects: &[Rc<Still>]) -> bool
     requires { IsSound (L.state ledger.now).now }
-    ensures { result ≡ true → map still_of objects.now ≡ stills (L.state ledger.now).now }
+    ensures { result ≡ true → stills_shared objects.now ≡ stills (L.state ledger.now).now }
 {
     if objects.len() != ledger.len() {
         return false;
@@ -95,7 +81,7 @@ pub fn stand_so<L: Ledger>(ledger: &L, objects: &[Still]) -> bool
 }
 
 /// Whether an object of a ledger stands as this one does.
-fn stands_so<L: Ledger>(ledger: &L, object: &Object, kept: &Still) -> bool
+pub fn stands_so<L: Ledger>(ledger: &L, object: &Object, kept: &Still) -> bool
     requires { (secret : SecretNo) → object.now.life.material ≡ Secret secret → secret.number < length (L.state ledger.now).now.secrets }
     ensures { result ≡ true → still_of kept.now ≡ still (L.state ledger.now).now.secrets (held object.now) }
 {
@@ -125,13 +111,13 @@ fn are_known(kept: &Option<Vec<u8>>, known: Option<&[u8]>) -> bool
 fn is_equal(one: &Object, other: &Object) -> bool
     ensures { result ≡ true → held one.now ≡ held other.now }
 {
+    if !is_same_life(&one.life, &other.life) {
+        return false;
+    }
     if one.kind != other.kind {
         return false;
     }
     if one.id.as_str() != other.id.as_str() {
-        return false;
-    }
-    if !is_same_life(&one.life, &other.life) {
         return false;
     }
     gives_same(&one.given, &other.given)

@@ -21,7 +21,7 @@ pub struct CallSet {
 }
 
 impl TakenCalls {
-    ghost use Rattle.std.specs.Prelude.{◌≡◌, ◌<◌, ◌^◌, ◌∷◌, ℕ, List, [], Contains, IfOk, length};
+    ghost use Rattle.std.specs.Prelude.{◌≡◌, ◌<◌, ◌^◌, ◌∷◌, ℕ, List, [], true, Contains, IfOk, length};
     ghost use Rattle.kmipa_search.specs.Ends.{AreFlagged, IsSetOf};
 
     /// Of so many calls, none.
@@ -66,6 +66,19 @@ impl TakenCalls {
             low: self.low,
             rest: marked_between(alloc, &self.flags, self.low, self.high)?,
         })
+    }
+
+    /// Whether they, which are so many, are those of a set.
+    pub fn are(&self, set: &CallSet, count: usize) -> bool
+        ensures { (all : ℕ) (taken : List ℕ) → AreFlagged all taken self.now → length taken ≡ count → result ≡ true → IsSetOf taken set.now }
+    {
+        if set.count != count {
+            return false;
+        }
+        if set.low != self.low {
+            return false;
+        }
+        are_marked_between(&self.flags, self.low, self.high, &set.rest)
     }
 }
 
@@ -153,6 +166,28 @@ fn marked_between(
         place += 1;
     }
     Ok(rest)
+}
+
+/// Whether the places with a mark, from one up to another, are these, in their order.
+fn are_marked_between(flags: &[bool], low: usize, high: usize, rest: &[usize]) -> bool
+    ensures are { result ≡ true → (p : ℕ) → low ≤ p → p < high → flag flags.now p ≡ true → Contains rest.now p }
+    ensures only { result ≡ true → (p : ℕ) → Contains rest.now p → flag flags.now p ≡ true }
+{
+    let mut place = high;
+    let mut left = rest.len();
+    'run: while place > low {
+        place -= 1;
+        if is_marked(flags, place) {
+            if left == 0 {
+                return false;
+            }
+            left -= 1;
+            if rest[left] != place {
+                return false;
+            }
+        }
+    }
+    left == 0
 }
 
 /// Whether a place has a mark.

@@ -1,8 +1,8 @@
-use Rattle.std.proofs.Common.{◌≡◌, ◌-◌, true, arith, rules}
+use Rattle.std.proofs.Common.{◌≡◌, ◌-◌, ◌∙◌, true, sym, ap, arith, rules}
 use Rattle.std.proofs.lemmas.List.{length-map}
 use Rattle.kmipa_store.specs.Ledger.{held}
 use Rattle.kmipa_store.proofs.SoundLemmas.{number_below}
-use Rattle.kmipa_search.specs.Ends.{still, stills}
+use Rattle.kmipa_search.specs.Ends.{still, still_of, stills}
 use Rattle.kmipa_search.proofs.StillLemmas.{stand_on, all_stand}
 use Rattle.kmipa_search.proofs.stills.stand_so.Goals as goal
 
@@ -17,7 +17,7 @@ objects-preserved g c =
       within = omega (arith, c.objects.invariant.within);
       stand =
           stand_on c.args.objects.now (g.L.Ledger.state c.args.ledger.now).now c.objects.place (held c.at-object.result.now) c.index-objects-place.result (omega (arith, c.objects-test.true))
-          c.objects.invariant.within c.at-object.ensures c.index-objects-place.is (c.stands_so.ensures alike) c.objects.invariant.stand;
+          c.objects.invariant.within c.at-object.ensures c.index-objects-place.is (ap still_of (sym c.deref.ensures) ∙ c.stands_so.ensures alike) c.objects.invariant.stand;
     }
 
 pub returns : goal.returns
