@@ -16,6 +16,7 @@ pub mod AnswerLemmas
 pub mod LinksLemmas
 pub mod RankLemmas
 pub mod RemainingLemmas
+pub mod ReachedLemmas
 pub mod SortLemmas
 pub mod ApartLemmas
 pub mod GuessLemmas

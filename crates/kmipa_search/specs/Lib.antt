@@ -12,6 +12,8 @@ pub mod Confirming
 pub mod Links
 pub mod Ranks
 pub mod Remaining
+pub mod Reached
+pub mod Reaching
 pub mod Guessing
 pub mod Tries
 pub mod Idle

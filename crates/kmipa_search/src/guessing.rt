@@ -56,6 +56,7 @@ pub fn guess_order<L: Ledger, W: Watch>(
                 watch.step(steps, path.len());
                 match try_guess(alloc, ledger, rules, &calls[place])? {
                     Some(taken) => {
+                        watch.taken(taken.turn.call);
                         turns.push(taken.turn)?;
                         path.push(place)?;
                         remaining.take(calls, place);
@@ -73,6 +74,7 @@ pub fn guess_order<L: Ledger, W: Watch>(
                 ledger.back(Mark { depth });
                 depth -= 1;
                 remaining.give_back(calls, place);
+                watch.given_back();
                 from = place + 1;
             }
         }

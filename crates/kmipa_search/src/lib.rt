@@ -3,6 +3,7 @@
 
 mod candidate;
 mod check_laws;
+mod deepest;
 mod ends;
 mod forced;
 mod found;
@@ -18,16 +19,21 @@ mod picking;
 mod plain;
 mod pool;
 mod ranks;
+mod reaching;
 mod remaining;
 mod searching;
 mod stills;
+mod stuck;
 mod taken;
 mod tried;
 mod watch;
 
+pub use deepest::Deepest;
 pub use forced::is_forced;
 pub use found::Found;
 pub use laws::{enough_decides, equal_is_equal, forced_is_light, idle_first, next_is_tested};
 pub use open_searching::search_open;
+pub use reaching::reached;
 pub use searching::{search, search_watched};
+pub use stuck::{NextCall, Reached};
 pub use watch::{Unwatched, Watch};

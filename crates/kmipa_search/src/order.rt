@@ -77,6 +77,7 @@ pub fn find_order<L: Ledger, W: Watch>(
                         })?;
                         remaining.take(calls, place);
                         taken.take(place);
+                        watch.taken(calls[place].number);
                         depth = mark;
                         tried = ends.arrive(alloc, ledger, &taken, path.len(), steps >= EARLY)?;
                     }
@@ -92,6 +93,7 @@ pub fn find_order<L: Ledger, W: Watch>(
                 depth -= 1;
                 remaining.give_back(calls, visit.place);
                 taken.give_back(visit.place);
+                watch.given_back();
                 tried = visit.behind(steps >= EARLY);
             }
         }
@@ -114,7 +116,7 @@ fn places(alloc: Global, path: &[Visit]) -> Result<Vec<usize>, AllocError>
 }
 
 /// Takes a call after a new mark, and answers the mark's depth; or the call is impossible, and the ledger is as before.
-fn try_call<L: Ledger>(
+pub fn try_call<L: Ledger>(
     alloc: Global,
     ledger: &mut L,
     rules: &Rules,

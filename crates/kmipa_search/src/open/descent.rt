@@ -57,6 +57,7 @@ pub fn find_turns<'b, 'a, L: Ledger, W: Watch>(
                 watch.step(steps, path.len());
                 let places = place.places_of(alloc, attempt)?;
                 if let Some(taken) = try_attempt(alloc, ledger, rules, tables, attempt, places)? {
+                    watch.taken(taken.turn.call);
                     turns.push(taken.turn)?;
                     depth = taken.depth;
                     place.take(attempt);
@@ -77,6 +78,7 @@ pub fn find_turns<'b, 'a, L: Ledger, W: Watch>(
                 ledger.back(Mark { depth });
                 depth -= 1;
                 standing.give_back(tables, visit.attempt);
+                watch.given_back();
                 place = left(tables, visit);
             }
         }
