@@ -127,9 +127,10 @@ def leave_out_others(room: Path, edits: list[Edit], changed: dict[str, str]) -> 
     for path, text in texts.items():
         # an edit changes lines, and adds none
         lines = changed.get(path, text).split("\n")
+        own = dict.fromkeys(TYPE.findall(text), module_of(path))
         for it in reversed(functions_of(text, path)):
             owner = it.name.rpartition("::")[0]
-            module = "" if owner == module_of(path) else homes.get(owner)
+            module = "" if owner == module_of(path) else {**homes, **own}.get(owner)
             name = f"{module}::{it.name}" if module else it.name
             if module is None or it.cycle or not it.is_plain or any(f"::{name}".endswith(end) for end in judged):
                 continue
