@@ -112,32 +112,33 @@ class Crate:
         with tempfile.TemporaryDirectory(prefix="wrong-bodies-") as made:
             room = Path(made)
             self.copy_to(room)
-            for path, text in edited(self, edits).items():
-                (room / path).write_text(text, encoding="utf-8")
-            leave_out_others(room, edits)
+            leave_out_others(room, edits, edited(self, edits))
             only = [word for it in edits for word in ("--only", it.function)]
             words = ["check", *self.rattle_words(), "--jobs", "1", "--incremental", str(kept), *only]
             return self.run_rattle(room, words)
 
 
-def leave_out_others(room: Path, edits: list[Edit]) -> None:
-    """Leaves out the body and the proof of each function that none of these edits is to be judged by: it has only to be
-    stated. What is of a trait or of a cycle of calls stays as it is."""
+def leave_out_others(room: Path, edits: list[Edit], changed: dict[str, str]) -> None:
+    """Writes the changed texts into a copy of a crate, and leaves out the body and the proof of each of its functions that
+    none of these edits is to be judged by: it has only to be stated. What is of a trait or of a cycle of calls stays."""
     judged = [f"::{it.function}" for it in edits]
-    texts = {it: it.read_text(encoding="utf-8") for it in sorted((room / "src").rglob("*.rt"))}
-    paths = {it: it.relative_to(room).as_posix() for it in texts}
-    homes = {name: module_of(paths[it]) for it, text in texts.items() for name in TYPE.findall(text)}
-    for file, text in texts.items():
-        lines = text.split("\n")
-        for it in reversed(functions_of(text, paths[file])):
+    texts = {it.relative_to(room).as_posix(): it.read_text(encoding="utf-8") for it in (room / "src").rglob("*.rt")}
+    homes = {name: module_of(path) for path, text in texts.items() for name in TYPE.findall(text)}
+    for path, text in texts.items():
+        # an edit changes lines, and adds none
+        lines = changed.get(path, text).split("\n")
+        own = dict.fromkeys(TYPE.findall(text), module_of(path))
+        for it in reversed(functions_of(text, path)):
             owner = it.name.rpartition("::")[0]
-            module = "" if owner == module_of(paths[file]) else homes.get(owner)
+            module = "" if owner == module_of(path) else {**homes, **own}.get(owner)
             name = f"{module}::{it.name}" if module else it.name
             if module is None or it.cycle or not it.is_plain or any(f"::{name}".endswith(end) for end in judged):
                 continue
             lines[it.body + 1 : it.last] = ["unreachable!()"]
             prove_nothing(room / "proofs" / name.replace("::", "/"))
-        file.write_text("\n".join(lines), encoding="utf-8")
+        (room / path).write_text("\n".join(lines), encoding="utf-8")
+    for path in changed.keys() - texts.keys():
+        (room / path).write_text(changed[path], encoding="utf-8")
 
 
 def prove_nothing(folder: Path) -> None:
