@@ -2,11 +2,13 @@
 use Rattle.std.proofs.Common.{◌≡◌, ◌<◌, ◌≤◌, ℕ, ◌+◌, suc, ℤ, Bool, List, [], ◌∷◌, ◌++◌, map, drop, length, slice_get, Option, Some, None, refl, sym, ap, ◌∙◌, subst, arith}
 use Rattle.std.proofs.lemmas.List.{append_assoc, append-nil, map-append}
 use Rattle.kmipa_msgs.specs.Messages.{AskOf, AnswerOf}
+use Rattle.kmipa_object.specs.Life.{Dates}
 use Rattle.kmipa_ops.specs.After.{placeholder_after}
 use Rattle.kmipa_batch.specs.Calls.{pairs_of}
 use Rattle.kmipa_batch.specs.Orders.{order_given}
 use Rattle.kmipa_batch.proofs.OrderLemmas.{from_within, length_from}
 use Rattle.kmipa_check.specs.Steps.{StepOf, order_of}
+use Rattle.kmipa_explain.specs.Effects.{dates_set, tells_bytes}
 use Rattle.kmipa_explain.specs.Items.{number_asked, ItemOf, about, makes_object, item_of, item_then, items_along, places_taken, items_of_call, items_from, items_of}
 use Rattle.kmipa_explain.specs.Reading.{seen_item}
 use Rattle.kmipa_explain.specs.declared.item.Item.{Item}
@@ -14,11 +16,12 @@ use Rattle.kmipa_explain.proofs.KeptLemmas.{drop_at, drop_all}
 
 module _ (turn : ℕ) (s : StepOf) (place : ℕ) (before : Option (List ℕ)) where
   -- an item with these fields is the item of the place
-  pub fields_are : (ask : AskOf) (answer : AnswerOf) (call stamp : ℤ) (operation : ℕ) (makes : Bool) (id : Option (List ℕ))
-      → call ≡ s.number → stamp ≡ s.response.stamp → operation ≡ number_asked ask → makes ≡ makes_object ask.asked → id ≡ about before ask.asked answer.payload
-      → record { turn = turn; call = call; item = place + 1; stamp = stamp; operation = operation; status = answer.status; makes = makes; about = id }
+  pub fields_are : (ask : AskOf) (answer : AnswerOf) (call stamp : ℤ) (operation : ℕ) (makes : Bool) (sets : Dates) (teaches : Bool) (id : Option (List ℕ))
+      → call ≡ s.number → stamp ≡ s.response.stamp → operation ≡ number_asked ask → makes ≡ makes_object ask.asked
+      → sets ≡ dates_set s.response.stamp ask.asked → teaches ≡ tells_bytes ask.asked answer.payload → id ≡ about before ask.asked answer.payload
+      → record { turn = turn; call = call; item = place + 1; stamp = stamp; operation = operation; status = answer.status; makes = makes; sets = sets; teaches = teaches; about = id }
       ≡ item_of turn s place before ask answer
-  fields_are ask answer call stamp operation makes id a b d e f = rw (a, b, d, e, f) refl
+  fields_are ask answer call stamp operation makes sets teaches id a b d e f g h = rw (a, b, d, e, f, g, h) refl
 
   -- nothing stands there
   pub item_absent : (xs : List ItemOf) (pair : Option (AskOf × AnswerOf)) (behind : Option (List ℕ) → List ItemOf) → pair ≡ None

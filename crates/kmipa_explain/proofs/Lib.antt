@@ -1,4 +1,5 @@
 pub mod KeptLemmas
+pub mod AheadLemmas
 pub mod BehindLemmas
 pub mod FailedLemmas
 pub mod PairLemmas

@@ -13,6 +13,7 @@ use Rattle.kmipa_explain.specs.Causes.{TellsCause}
 use Rattle.kmipa_explain.specs.Items.{number_asked}
 use Rattle.kmipa_explain.specs.Places.{at_item}
 use Rattle.kmipa_explain.specs.Stories.{TellsStory}
+use Rattle.kmipa_explain.specs.Whence.{TellsWhence}
 use Rattle.kmipa_explain.specs.declared.explanation.Explanation.{Explanation}
 
 -- the begin mark of the call names this client
@@ -34,6 +35,7 @@ pub record ExplainsIn (marks : List MarkOf) (declared : DeclarationOf) (order : 
   pub operation : e.operation ≡ operation_at call r.item
   pub overlapping : e.overlapping.items ≡ overlapping_calls order turn call
   pub cause : TellsCause declared order turn call r.item r.why e.cause
+  pub whence : TellsWhence declared order turn call r e.cause e.whence
   pub story : TellsStory declared order r e.story
 
 -- it is an explanation of this no, in the order that the witness gives to the calls of the transcript

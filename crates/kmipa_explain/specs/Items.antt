@@ -1,5 +1,6 @@
 -- The items of an order, one after the other as they are taken, and which identifier each is about.
 use Rattle.std.specs.Prelude.{ℕ, ◌+◌, ℤ, Bool, true, false, List, [], ◌∷◌, ◌++◌, length, Option, Some, None, option_map, option_and_then, slice_get}
+use Rattle.kmipa_object.specs.Life.{Dates}
 use Rattle.kmipa_msgs.specs.Messages.{AskedOf, AskOf, PayloadOf, RegisteredOf, AnswerOf, operation_asked, creates, registers, locates, gets, gets_attributes, activates, revokes, destroys, idles, does_other}
 use Rattle.kmipa_msgs.specs.Operations.{operation_number}
 use Rattle.kmipa_msgs.specs.declared.response.Status.{Status}
@@ -10,9 +11,10 @@ use Rattle.kmipa_ops.specs.Register.{seen_registered}
 use Rattle.kmipa_batch.specs.Calls.{pairs_of}
 use Rattle.kmipa_batch.specs.Orders.{places_from}
 use Rattle.kmipa_check.specs.Steps.{StepOf, order_of}
+use Rattle.kmipa_explain.specs.Effects.{dates_set, tells_bytes}
 
 -- An item that was asked and answered: its turn, its call and its place in the call, turn and place counted from 1; the Time Stamp; the operation,
--- the status, whether it makes an object; and the identifier that it is about, if it is about one.
+-- the status, whether it makes an object; the dates that it sets, whether it tells bytes; and the identifier that it is about, if it is about one.
 pub record ItemOf : Type 0 where
   pub turn : ℕ
   pub call : ℤ
@@ -21,6 +23,8 @@ pub record ItemOf : Type 0 where
   pub operation : ℕ
   pub status : Status
   pub makes : Bool
+  pub sets : Dates
+  pub teaches : Bool
   pub about : Option (List ℕ)
 
 -- the number of the operation that an item asks for
@@ -61,6 +65,8 @@ item_of turn s place before ask answer = record {
   operation = number_asked ask;
   status = answer.status;
   makes = makes_object ask.asked;
+  sets = dates_set s.response.stamp ask.asked;
+  teaches = tells_bytes ask.asked answer.payload;
   about = about before ask.asked answer.payload;
 }
 

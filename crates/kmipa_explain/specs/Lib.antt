@@ -1,6 +1,7 @@
 pub mod Calls
 pub mod Causes
 pub mod Echoes
+pub mod Effects
 pub mod Explainable
 pub mod Explanations
 pub mod Filters
@@ -16,6 +17,7 @@ pub mod Places
 pub mod Reading
 pub mod Reasoned
 pub mod Replaying
+pub mod Sources
 pub mod Standing
 pub mod Stories
 pub mod Taken
@@ -23,3 +25,4 @@ pub mod Told
 pub mod Unfounded
 pub mod ValueReasons
 pub mod Values
+pub mod Whence

@@ -8,9 +8,15 @@ use Rattle.kmipa_ops.specs.Register.{seen_registered}
 use Rattle.kmipa_record.specs.Declarations.{DeclarationOf}
 use Rattle.kmipa_check.specs.declared.verdict.Refused.{Refused}
 use Rattle.kmipa_explain.specs.Items.{ItemOf, id_made}
+use Rattle.kmipa_explain.specs.Meant.{dates_told}
+use Rattle.kmipa_explain.specs.Sources.{StartOf, SubjectOf, is_either, made, set_date, taught}
 use Rattle.kmipa_explain.specs.Stories.{event_of, happens_to, is_declared, makes_it}
 use Rattle.kmipa_explain.specs.declared.explanation.Story.{Story}
 use Rattle.kmipa_explain.specs.declared.item.Item.{Item}
+use Rattle.kmipa_explain.specs.declared.sought.Sought.{Sought}
+use Rattle.kmipa_explain.specs.declared.sought.Sought.TheVariants.{Birth, Date, Bytes, Either}
+use Rattle.kmipa_explain.specs.declared.sources.Start.{Start}
+use Rattle.kmipa_explain.specs.declared.subject.Subject.{Subject}
 
 -- a text, if there is one
 abbrev pub text_of : {Z : Type 0} → Option (String Z) → Option (List ℕ)
@@ -18,7 +24,22 @@ text_of = option_map string_bytes
 
 -- the item that a value of the program is
 abbrev pub seen_item : Item → ItemOf
-seen_item i = record { turn = i.turn; call = i.call; item = i.item; stamp = i.stamp; operation = i.operation; status = i.status; makes = i.makes; about = text_of i.about }
+seen_item i = record { turn = i.turn; call = i.call; item = i.item; stamp = i.stamp; operation = i.operation; status = i.status; makes = i.makes; sets = dates_told i.sets; teaches = i.teaches; about = text_of i.about }
+
+-- the object that a value of the program is
+abbrev pub seen_subject : Subject → SubjectOf
+seen_subject s = record { id = string_bytes s.identifier; dates = dates_told s.dates; state = s.state; bytes = s.bytes }
+
+-- what a value of the program says of an object at the start
+abbrev pub seen_start : Start → StartOf
+seen_start s = record { declared = s.declared; dates = dates_told s.dates; bytes = s.bytes }
+
+-- the test of what is sought of the object of this identifier, at this turn
+abbrev pub test_of : ℕ → List ℕ → Sought → ItemOf → Bool
+test_of now id Birth = made now id
+test_of now id (Date date second) = set_date now id date second
+test_of now id (Bytes first) = taught first id
+test_of now id (Either e f) = is_either e f
 
 -- the identifier that a payload names as the answer of a Create, of a Register, and those that it lists as that of a Locate
 abbrev pub id_created : Option PayloadOf → Option (List ℕ)

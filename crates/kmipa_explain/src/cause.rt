@@ -1,6 +1,6 @@
 //! What the reason of a no rests on.
 
-ghost use Rattle.std.specs.Prelude.{◌≡◌, ◌<◌, ◌≤◌, IfErr, IfOk, Some, length, map, slice_get};
+ghost use Rattle.std.specs.Prelude.{◌≡◌, ◌<◌, ◌≤◌, IfErr, IfOk, Some, length, map, option_map, slice_get};
 ghost use Rattle.kmipa_msgs.specs.Messages.{answer_of};
 ghost use Rattle.kmipa_record.specs.Declarations.{declaration_of};
 ghost use Rattle.kmipa_batch.specs.Shapes.{is_failed};
@@ -8,11 +8,14 @@ ghost use Rattle.kmipa_check.specs.Replays.{AllTakable};
 ghost use Rattle.kmipa_check.specs.Steps.{StepOf, step_of};
 ghost use Rattle.kmipa_explain.specs.Causes.{AreOperations, FailsFirst, IsShape, IsTurnBefore, TellsCause};
 ghost use Rattle.kmipa_explain.specs.Explainable.{HasPair, IsRefusedHere};
+ghost use Rattle.kmipa_explain.specs.Reading.{seen_subject};
+ghost use Rattle.kmipa_explain.specs.Whence.{TellsSubject};
 
 use crate::calls::earlier_calls;
 use crate::explanation::{Cause, Operations, Shape, TurnBefore};
 use crate::holding::held_cause;
 use crate::places::{answer_at, ask_at};
+use crate::subject::Resting;
 use kmipa_check::{CheckFault, Step};
 use kmipa_msgs::{Answer, Status};
 use kmipa_ops::Why;
@@ -27,19 +30,35 @@ pub fn cause_of(
     turn: usize,
     item: usize,
     why: Why,
-) -> Result<Cause, CheckFault>
+) -> Result<Resting, CheckFault>
     requires takable { AllTakable (map step_of steps.now) }
     requires refused { (c : StepOf) × IsRefusedHere (declaration_of declaration.now) (map step_of steps.now) turn c item
         why }
     ensures tells { (c : StepOf) → slice_get (map step_of steps.now) turn ≡ Some c
-        → IfOk result (TellsCause (declaration_of declaration.now) (map step_of steps.now) turn c item why) }
+        → IfOk result (λ rest. TellsCause (declaration_of declaration.now) (map step_of steps.now) turn c item why
+        rest.cause) }
+    ensures subject { (c : StepOf) → slice_get (map step_of steps.now) turn ≡ Some c
+        → IfOk result (λ rest. TellsSubject (declaration_of declaration.now) (map step_of steps.now) turn c item why
+        rest.cause (option_map seen_subject rest.subject)) }
     ensures memory { IfErr result (λ fault. fault ≡ CheckFault.Memory) }
 {
     match why {
-        Why::EarlierCallLate => Ok(Cause::EarlierCalls(earlier_calls(alloc, steps, turn)?)),
-        Why::StampRunsBack => Ok(Cause::StampBefore(turn_before(steps, turn))),
-        Why::BatchShape => Ok(Cause::BatchShape(shape_at(&steps[turn], item))),
-        Why::OperationDiffers => Ok(Cause::Operations(operations_at(&steps[turn], item))),
+        Why::EarlierCallLate => Ok(Resting {
+            cause: Cause::EarlierCalls(earlier_calls(alloc, steps, turn)?),
+            subject: None,
+        }),
+        Why::StampRunsBack => Ok(Resting {
+            cause: Cause::StampBefore(turn_before(steps, turn)),
+            subject: None,
+        }),
+        Why::BatchShape => Ok(Resting {
+            cause: Cause::BatchShape(shape_at(&steps[turn], item)),
+            subject: None,
+        }),
+        Why::OperationDiffers => Ok(Resting {
+            cause: Cause::Operations(operations_at(&steps[turn], item)),
+            subject: None,
+        }),
         _ => held_cause(alloc, declaration, steps, turn, item, why),
     }
 }

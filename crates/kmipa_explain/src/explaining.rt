@@ -16,6 +16,7 @@ use crate::calls::overlapping_calls;
 use crate::cause::cause_of;
 use crate::explanation::Explanation;
 use crate::places::ask_at;
+use crate::sources::whence_of;
 use crate::story::story_of;
 use kmipa_check::{CheckFault, Refused, Step, Verdict, read_calls, steps_of};
 use kmipa_record::{Declaration, Mark, Transcript, Witness};
@@ -58,12 +59,14 @@ fn explained(
 {
     let turn = refused.turn - 1;
     let step = &steps[turn];
+    let rest = cause_of(alloc, declaration, steps, turn, refused.item, refused.why)?;
     Ok(Explanation {
         client: client_of(alloc, marks, step)?,
         stamp: step.stamp(),
         operation: operation_at(step, refused.item),
         overlapping: overlapping_calls(alloc, steps, turn)?,
-        cause: cause_of(alloc, declaration, steps, turn, refused.item, refused.why)?,
+        whence: whence_of(alloc, declaration, steps, refused, &rest.subject)?,
+        cause: rest.cause,
         story: story_of(alloc, declaration, steps, refused)?,
     })
 }

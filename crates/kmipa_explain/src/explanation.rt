@@ -4,6 +4,7 @@ use crate::held::{
     AttributesHeld, BytesHeld, EchoHeld, LeftOutHeld, LengthHeld, ListHeld, NameHeld, ReasonHeld,
     StateHeld,
 };
+use crate::source::Whence;
 use kmipa_msgs::{BatchOption, Status};
 
 /// What a no means.
@@ -19,6 +20,8 @@ pub struct Explanation {
     /// The numbers of the calls that stand behind it in the order and overlap it: neither of the two ended before the other began.
     pub overlapping: Vec<i32>,
     pub cause: Cause,
+    /// Whence the object is of which the cause speaks, and what it has; none where the cause speaks of no object that was held.
+    pub whence: Option<Whence>,
     /// The story of the object that the item is about; none where the item has no answer, or is about no identifier.
     pub story: Option<Story>,
 }

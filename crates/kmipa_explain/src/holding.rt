@@ -12,12 +12,13 @@ ghost use Rattle.kmipa_batch.specs.Calls.{pairs_of};
 ghost use Rattle.kmipa_check.specs.Described.{dates_in};
 ghost use Rattle.kmipa_check.specs.Replays.{AllTakable};
 ghost use Rattle.kmipa_check.specs.Steps.{StepOf, step_of};
-ghost use Rattle.kmipa_explain.specs.Explainable.{IsRefusedThere};
+ghost use Rattle.kmipa_explain.specs.Explainable.{HasPair, IsRefusedThere};
 ghost use Rattle.kmipa_explain.specs.Holding.{DiffersFirst, TellsBytes, TellsHeld, TellsItem, TellsState, act_asked, bytes_held, dates_told, object_held};
 ghost use Rattle.kmipa_explain.specs.Places.{at_item};
-ghost use Rattle.kmipa_explain.specs.Reading.{text_of};
+ghost use Rattle.kmipa_explain.specs.Reading.{seen_subject, text_of};
 ghost use Rattle.kmipa_explain.specs.Reasoned.{HeldReason, IsExcludedThere, IsReasoned, KnowsOtherBytes};
 ghost use Rattle.kmipa_explain.specs.Standing.{TellsOfHeld};
+ghost use Rattle.kmipa_explain.specs.Whence.{IsSubject};
 
 use crate::differing::differing_cause;
 use crate::echoes::echo_cause;
@@ -30,6 +31,7 @@ use crate::listed::listed_cause;
 use crate::missing::missing_cause;
 use crate::places::{answer_there, ask_there};
 use crate::standing::{Standing, standing_at};
+use crate::subject::{Resting, Subject, subject_held};
 use crate::taken::{identifier_cause, name_cause};
 use crate::unfounded::reason_cause;
 use kmipa_attrs::AttrSet;
@@ -49,18 +51,45 @@ pub fn held_cause(
     turn: usize,
     item: usize,
     why: Why,
-) -> Result<Cause, CheckFault>
+) -> Result<Resting, CheckFault>
     requires takable { AllTakable (map step_of steps.now) }
     requires refused { (c : StepOf) × IsRefusedThere (declaration_of declaration.now) (map step_of steps.now) turn c
         item why }
     ensures tells { (c : StepOf) → slice_get (map step_of steps.now) turn ≡ Some c
-        → IfOk result (λ cause. TellsOfHeld (declaration_of declaration.now) (map step_of steps.now) turn c item
-        (TellsItem why c.response.stamp cause)) }
+        → IfOk result (λ rest. TellsOfHeld (declaration_of declaration.now) (map step_of steps.now) turn c item
+        (TellsItem why c.response.stamp rest.cause)) }
+    ensures subject { (c : StepOf) → slice_get (map step_of steps.now) turn ≡ Some c
+        → IfOk result (λ rest. TellsOfHeld (declaration_of declaration.now) (map step_of steps.now) turn c item
+        (IsSubject c.response.stamp rest.cause (option_map seen_subject rest.subject))) }
     ensures memory { IfErr result (λ fault. fault ≡ CheckFault.Memory) }
 {
     let standing = standing_at(alloc, declaration, steps, turn, item - 1, why)?;
     reasons_are_decided();
-    Ok(cause_in(alloc, &standing, &steps[turn], item, why)?)
+    let step = &steps[turn];
+    let cause = cause_in(alloc, &standing, step, item, why)?;
+    let subject = subject_in(alloc, &standing, step, item, &cause)?;
+    Ok(Resting { cause, subject })
+}
+
+/// The object of which the cause speaks, of what was held there.
+fn subject_in(
+    alloc: Global,
+    standing: &Standing,
+    step: &Step,
+    item: usize,
+    cause: &Cause,
+) -> Result<Option<Subject>, AllocError>
+    requires { HasPair (step_of step.now) item }
+    ensures { (ask : AskOf) (answer : AnswerOf) → at_item
+        (pairs_of (step_of step.now).request (step_of step.now).response) item ≡ Some (ask, answer)
+        → IfOk result (λ subject. IsSubject (step_of step.now).response.stamp cause.now
+        (option_map seen_subject subject) (declaration_of standing.now.held) (placeholder_of standing.now.placeholder)
+        ask answer) }
+{
+    let ask = ask_there(step, item);
+    let answer = answer_there(step, item);
+    let meant = about_in(alloc, ask, answer, &standing.placeholder.id)?;
+    subject_held(alloc, &standing.held, &meant, step.stamp(), cause)
 }
 
 /// The same of what was held there.
@@ -211,7 +240,7 @@ fn bytes_held<'a>(held: &'a Declaration, meant: &Option<String>) -> Option<&'a [
 }
 
 /// The bytes that an answer shows.
-fn shown_bytes<'c>(payload: &'c Option<Payload>) -> Option<&'c [u8]>
+pub(crate) fn shown_bytes<'c>(payload: &'c Option<Payload>) -> Option<&'c [u8]>
     ensures { maybe_lent result ≡ shows (option_map payload_of payload.now) }
 {
     match payload {
@@ -255,7 +284,7 @@ pub(crate) fn object_held<'a>(held: &'a Declaration, meant: &Option<String>) -> 
 }
 
 /// The entry of this identifier.
-fn entry_named<'a>(entries: &'a [Entry], id: &str) -> Option<&'a Entry>
+pub(crate) fn entry_named<'a>(entries: &'a [Entry], id: &str) -> Option<&'a Entry>
     ensures { option_map (λ entry. entry_of entry.now) result ≡ find (λ (e : EntryOf). bytes_eq id.now e.id)
         (map entry_of entries.now) }
 {

@@ -1,5 +1,6 @@
 //! Items that were asked and answered.
 
+use crate::held::DatesHeld;
 use kmipa_msgs::Status;
 
 /// An item that was asked and answered.
@@ -18,6 +19,10 @@ pub struct Item {
     pub status: Status,
     /// Whether it is to make an object.
     pub makes: bool,
+    /// The dates that it sets, where it sets them.
+    pub sets: DatesHeld,
+    /// Whether it tells the bytes of an object.
+    pub teaches: bool,
     /// The identifier that it is about.
     pub about: Option<String>,
 }

@@ -11,6 +11,7 @@ ghost use Rattle.kmipa_check.specs.Steps.{order_of, step_of};
 ghost use Rattle.kmipa_explain.specs.Items.{ItemOf, about, item_then, items_of, items_of_call, makes_object, places_taken};
 ghost use Rattle.kmipa_explain.specs.Reading.{id_created, id_registered, listed_in, seen_item, text_of};
 
+use crate::effects::{dates_set, tells_bytes};
 use crate::item::Item;
 use kmipa_check::Step;
 use kmipa_msgs::{Answer, Ask, Asked, Payload, Status};
@@ -99,6 +100,8 @@ fn add_item(
         operation: ask.number(),
         status: answer.status,
         makes: makes_object(ask),
+        sets: dates_set(ask, step.stamp()),
+        teaches: tells_bytes(ask, answer),
         about,
     })?;
     Ok(after)

@@ -5,6 +5,7 @@ mod calls;
 mod cause;
 mod differing;
 mod echoes;
+mod effects;
 mod entry_index;
 mod explaining;
 mod explanation;
@@ -20,9 +21,13 @@ mod lengths;
 mod listed;
 mod missing;
 mod places;
+mod sought;
+mod source;
+mod sources;
 mod standing;
 mod story;
 mod strangers;
+mod subject;
 mod taken;
 mod unfounded;
 mod values;
@@ -34,3 +39,4 @@ pub use held::{
     NameHeld, ReasonHeld, StateHeld, ValueHeld, WronglyListed,
 };
 pub use laws::may_is_each;
+pub use source::{Source, Whence};

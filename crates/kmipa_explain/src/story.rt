@@ -140,7 +140,7 @@ fn makes_it(item: &Item, id: &str) -> bool
 }
 
 /// Whether something happened by an item to the object of this identifier.
-fn happens_to(item: &Item, id: &str) -> bool
+pub(crate) fn happens_to(item: &Item, id: &str) -> bool
     ensures { result ≡ happens_to id.now (seen_item item.now) }
 {
     is_done(item.status) && is_about(item, id)
@@ -157,7 +157,7 @@ fn is_done(status: Status) -> bool
 }
 
 /// Whether an item is about this identifier.
-fn is_about(item: &Item, id: &str) -> bool
+pub(crate) fn is_about(item: &Item, id: &str) -> bool
     ensures { result ≡ is_about id.now (seen_item item.now).about }
 {
     match &item.about {
@@ -167,7 +167,7 @@ fn is_about(item: &Item, id: &str) -> bool
 }
 
 /// What is told of an item.
-fn event_of(item: &Item) -> Event
+pub(crate) fn event_of(item: &Item) -> Event
     ensures { result ≡ event_of (seen_item item.now) }
 {
     Event {

@@ -5,6 +5,7 @@ use Rattle.kmipa_runs.specs.Shown.{quoted}
 use Rattle.kmipa_telling.specs.Causes.{PrintsCause}
 use Rattle.kmipa_telling.specs.Explained.{PrintsExplanation, PrintsStoryOf, call_lines, operation_line}
 use Rattle.kmipa_telling.specs.Phrases.{calls_text}
+use Rattle.kmipa_telling.specs.Sources.{PrintsCauseSource}
 use Rattle.kmipa_explain.specs.declared.explanation.Explanation.{Explanation}
 
 -- a call is told by its parts
@@ -17,6 +18,6 @@ call_told e client operation overlapping text en eo ec et =
     ∙ ap (lines (quoted (string_bytes e.client)) (operation_line e.operation)) ec
 
 -- an explanation is told by its parts
-pub explanation_told : (e : Explanation) (call rests story text : List ℕ) → call ≡ call_lines e → PrintsCause e.cause rests → PrintsStoryOf e.story story
-    → text ≡ call ++ (rests ++ story) → PrintsExplanation e text
-explanation_told e call rests story text ec tells told et = (rests, story, tells, told, et ∙ ap (λ (c : List ℕ). c ++ (rests ++ story)) ec)
+pub explanation_told : (e : Explanation) (call rests since story text : List ℕ) → call ≡ call_lines e → PrintsCause e.cause e.whence rests → PrintsCauseSource e.cause e.whence since
+    → PrintsStoryOf e.story story → text ≡ call ++ (rests ++ (since ++ story)) → PrintsExplanation e text
+explanation_told e call rests since story text ec tells sourced told et = (rests, since, story, tells, sourced, told, et ∙ ap (λ (c : List ℕ). c ++ (rests ++ (since ++ story))) ec)

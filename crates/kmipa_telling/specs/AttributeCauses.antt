@@ -4,16 +4,23 @@ use Rattle.std.specs.Fmt.{signed_decimal}
 use Rattle.kmipa_attrs.specs.declared.name.Name.{Name}
 use Rattle.kmipa_explain.specs.declared.held.AttributesHeld.{AttributesHeld}
 use Rattle.kmipa_explain.specs.declared.held.ValueHeld.{ValueHeld}
+use Rattle.kmipa_explain.specs.declared.source.Source.{Source}
+use Rattle.kmipa_explain.specs.declared.source.Whence.{Whence}
 use Rattle.kmipa_ops.specs.declared.judged.Judged.{Judged}
 use Rattle.kmipa_ops.specs.declared.judged.Judged.TheVariants as judged
 use Rattle.kmipa_runs.specs.Dates.{HasDate}
 use Rattle.kmipa_runs.specs.Lines.{line}
 use Rattle.kmipa_telling.specs.Lists.{AreLines}
 use Rattle.kmipa_telling.specs.Naming.{attribute_name, is_moment, name_text, number_text, value_name}
+use Rattle.kmipa_telling.specs.Sources.{PrintsBehind, PrintsSource, value_source}
 
 -- the line of a name, with these words behind it
-abbrev pub names_line : List ℕ → Name → List ℕ
-names_line words name = line (codes "Name: " ∷ name_text name ∷ words ∷ [])
+abbrev pub name_line : List ℕ → Name → List ℕ
+name_line words name = line (codes "Name: " ∷ name_text name ∷ words ∷ [])
+
+-- the same, and behind it the line of whence it is
+abbrev pub names_line : List ℕ → List ℕ → Name → List ℕ
+names_line words since name = name_line words name ++ since
 
 -- the unit of an attribute's numbers
 abbrev pub unit_text : Judged → List ℕ
@@ -48,6 +55,11 @@ abbrev pub PrintsValueHeld : ValueHeld → List ℕ → Type 0
 PrintsValueHeld v lines = (shown own : List ℕ) × PrintsSide v.attribute (codes "not shown") (codes " shown") v.shown shown
     × PrintsSide v.attribute (codes "none held") (codes " held") v.held own × (lines ≡ line (attribute_name v.attribute ∷ codes ": " ∷ shown ∷ codes ", " ∷ own ∷ []))
 
--- the lines of names, each with these words behind it, and then of other attributes
-abbrev pub PrintsAttributes : List ℕ → AttributesHeld → List ℕ → Type 0
-PrintsAttributes words a lines = (values : List ℕ) × AreLines PrintsValueHeld a.values.items values × (lines ≡ flat_map (names_line words) a.names.items ++ values)
+-- the same with whence the object has it
+abbrev pub PrintsValueSince : Option Whence → ValueHeld → List ℕ → Type 0
+PrintsValueSince w v lines = (told : List ℕ) × PrintsValueHeld v told × PrintsBehind told (codes "held since") (value_source w v) lines
+
+-- the lines of names, each with these words behind it and whence it is, and then of other attributes
+abbrev pub PrintsAttributes : List ℕ → Option Source → Option Whence → AttributesHeld → List ℕ → Type 0
+PrintsAttributes words source w a lines = (since values : List ℕ) × PrintsSource (codes "held since") source since
+    × AreLines (PrintsValueSince w) a.values.items values × (lines ≡ flat_map (names_line words since) a.names.items ++ values)

@@ -11,6 +11,7 @@ use Rattle.kmipa_telling.specs.FailingCauses.{PrintsReason}
 use Rattle.kmipa_telling.specs.ListingCauses.{PrintsLeftOuts, listed_lines}
 use Rattle.kmipa_telling.specs.MakingCauses.{identifier_line, length_lines, name_line}
 use Rattle.kmipa_telling.specs.Phrases.{calls_text, named_text, operation_text}
+use Rattle.kmipa_telling.specs.Sources.{object_source}
 use Rattle.kmipa_telling.specs.StateCauses.{PrintsState}
 use Rattle.kmipa_msgs.specs.declared.request.BatchOption.{BatchOption}
 use Rattle.kmipa_msgs.specs.declared.request.BatchOption.TheVariants.{Stop, Continue, Undo}
@@ -23,6 +24,7 @@ use Rattle.kmipa_explain.specs.declared.explanation.Operations.{Operations}
 use Rattle.kmipa_explain.specs.declared.explanation.Shape.{Shape}
 use Rattle.kmipa_explain.specs.declared.explanation.TurnBefore.{TurnBefore}
 use Rattle.kmipa_explain.specs.declared.held.BytesHeld.{BytesHeld}
+use Rattle.kmipa_explain.specs.declared.source.Whence.{Whence}
 
 -- the line of the turn before, with the date of its stamp
 abbrev pub PrintsBefore : TurnBefore → List ℕ → Type 0
@@ -70,22 +72,22 @@ abbrev pub bytes_lines : BytesHeld → List ℕ
 bytes_lines b = line (codes "known bytes: " ∷ decimal b.known ∷ codes "\nshown bytes: " ∷ decimal b.shown
     ∷ codes "\nfirst difference: offset " ∷ decimal b.differ_at ∷ [])
 
--- what is printed of what the reason rests on
-abbrev pub PrintsCause : Cause → List ℕ → Type 0
-PrintsCause (cause.EarlierCalls numbers) lines = lines ≡ line (codes "ended before it began, and later: " ∷ calls_text numbers.items ∷ [])
-PrintsCause (cause.StampBefore before) lines = PrintsBefore before lines
-PrintsCause (cause.BatchShape shape) lines = lines ≡ shape_lines shape
-PrintsCause (cause.Operations operations) lines = lines ≡ operations_lines operations
-PrintsCause (cause.NoObject meant) lines = lines ≡ absent_line (text_of meant)
-PrintsCause (cause.State held) lines = PrintsState held lines
-PrintsCause (cause.Bytes held) lines = lines ≡ bytes_lines held
-PrintsCause (cause.Identifier id) lines = lines ≡ identifier_line (string_bytes id)
-PrintsCause (cause.Name held) lines = lines ≡ name_line held
-PrintsCause (cause.Length held) lines = lines ≡ length_lines held
-PrintsCause (cause.Differing held) lines = PrintsAttributes (codes " shown, not held") held lines
-PrintsCause (cause.Missing held) lines = PrintsAttributes (codes " held, not shown") held lines
-PrintsCause (cause.Listed held) lines = lines ≡ listed_lines held
-PrintsCause (cause.LeftOut left) lines = PrintsLeftOuts left.items lines
-PrintsCause (cause.Reason held) lines = PrintsReason held lines
-PrintsCause (cause.Echo held) lines = lines ≡ echo_line held
-PrintsCause cause.Object lines = lines ≡ []
+-- what is printed of what the reason rests on, with whence the state and the attributes are
+abbrev pub PrintsCause : Cause → Option Whence → List ℕ → Type 0
+PrintsCause (cause.EarlierCalls numbers) w lines = lines ≡ line (codes "ended before it began, and later: " ∷ calls_text numbers.items ∷ [])
+PrintsCause (cause.StampBefore before) w lines = PrintsBefore before lines
+PrintsCause (cause.BatchShape shape) w lines = lines ≡ shape_lines shape
+PrintsCause (cause.Operations operations) w lines = lines ≡ operations_lines operations
+PrintsCause (cause.NoObject meant) w lines = lines ≡ absent_line (text_of meant)
+PrintsCause (cause.State held) w lines = PrintsState held w lines
+PrintsCause (cause.Bytes held) w lines = lines ≡ bytes_lines held
+PrintsCause (cause.Identifier id) w lines = lines ≡ identifier_line (string_bytes id)
+PrintsCause (cause.Name held) w lines = lines ≡ name_line held
+PrintsCause (cause.Length held) w lines = lines ≡ length_lines held
+PrintsCause (cause.Differing held) w lines = PrintsAttributes (codes " shown, not held") None w held lines
+PrintsCause (cause.Missing held) w lines = PrintsAttributes (codes " held, not shown") (object_source w) w held lines
+PrintsCause (cause.Listed held) w lines = lines ≡ listed_lines held
+PrintsCause (cause.LeftOut left) w lines = PrintsLeftOuts left.items lines
+PrintsCause (cause.Reason held) w lines = PrintsReason held w lines
+PrintsCause (cause.Echo held) w lines = lines ≡ echo_line held
+PrintsCause cause.Object w lines = lines ≡ []

@@ -14,28 +14,19 @@ use Rattle.kmipa_explain.specs.declared.explanation.Story.{Story}
 use Rattle.kmipa_explain.specs.declared.explanation.TurnBefore.{TurnBefore}
 use Rattle.kmipa_explain.specs.Reading.{text_of}
 use Rattle.kmipa_explain.specs.declared.held.BytesHeld.{BytesHeld}
-use Rattle.kmipa_runs.specs.Notes.{name_among, operations}
 use Rattle.kmipa_telling.specs.AttributeClaims.{TellsAttributes}
 use Rattle.kmipa_telling.specs.Causes.{option_text, status_text}
 use Rattle.kmipa_telling.specs.EchoClaims.{echo_members}
+use Rattle.kmipa_telling.specs.EventClaims.{TellsEvent, operation_members, operation_told}
 use Rattle.kmipa_telling.specs.FailingClaims.{TellsReason}
 use Rattle.kmipa_telling.specs.ListingClaims.{TellsLeftOut, listed_members}
 use Rattle.kmipa_telling.specs.Lists.{AreObjects}
 use Rattle.kmipa_telling.specs.MakingClaims.{length_members, taken_members}
-use Rattle.kmipa_telling.specs.NamingClaims.{name_told}
+use Rattle.kmipa_telling.specs.SourceClaims.{TellsWhence}
 use Rattle.kmipa_telling.specs.StateClaims.{TellsState}
 use Rattle.kmipa_telling.specs.Telling.{TellsDate}
 
 -- ---- the call
-
--- an operation: its number, and its name where the standard names it
-abbrev pub operation_members : ℕ → Members
-operation_members number = name_told (name_among operations number) (put (codes "number") (count number) no_members)
-
--- an operation under this name, where there is one
-abbrev pub operation_told : List ℕ → Option ℕ → Members → Members
-operation_told key None told = told
-operation_told key (Some number) told = put key (object (operation_members number)) told
 
 -- calls by their numbers
 abbrev pub call_items : List ℤ → Items
@@ -100,15 +91,6 @@ TellsCause cause.Object before after = after ≡ before
 
 -- ---- the story of the object
 
--- where an item was done, what was done, and whether it was undone
-abbrev pub event_members : Event → Members
-event_members e = put (codes "undone") (boolean e.undone) (put (codes "operation") (object (operation_members e.operation))
-    (put (codes "item") (count e.item) (put (codes "call") (integer e.call) (put (codes "turn") (count e.turn) no_members))))
-
--- the same with the moment of its stamp
-abbrev pub TellsEvent : Event → Members → Type 0
-TellsEvent e told = TellsDate (Some e.stamp) (event_members e) told
-
 -- the item that made the object later, where there is one
 abbrev pub TellsLater : Option Event → Members → Members → Type 0
 TellsLater None before after = after ≡ before
@@ -127,9 +109,9 @@ TellsStoryOf (Some s) before after = (told : Members) × TellsStory s told × (a
 
 -- ---- all of it
 
--- the call, then what the reason rests on, then the object
+-- the call, then what the reason rests on and whence that is, then the object
 abbrev pub TellsClaims : Explanation → Members → Type 0
-TellsClaims e told = (rests : Members) × TellsCause e.cause (call_members e) rests × TellsStoryOf e.story rests told
+TellsClaims e told = (rests since : Members) × TellsCause e.cause (call_members e) rests × TellsWhence e.whence rests since × TellsStoryOf e.story since told
 
 -- the claims of an explanation under one name, where there is one
 abbrev pub TellsMeaning : Option Explanation → Members → Members → Type 0

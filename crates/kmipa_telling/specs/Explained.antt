@@ -5,6 +5,7 @@ use Rattle.kmipa_runs.specs.Lines.{line}
 use Rattle.kmipa_runs.specs.Shown.{quoted}
 use Rattle.kmipa_telling.specs.Causes.{PrintsCause}
 use Rattle.kmipa_telling.specs.Phrases.{calls_text, operation_text}
+use Rattle.kmipa_telling.specs.Sources.{PrintsCauseSource}
 use Rattle.kmipa_telling.specs.Stories.{PrintsStory}
 use Rattle.kmipa_explain.specs.declared.explanation.Explanation.{Explanation}
 use Rattle.kmipa_explain.specs.declared.explanation.Story.{Story}
@@ -24,6 +25,7 @@ abbrev pub PrintsStoryOf : Option Story → List ℕ → Type 0
 PrintsStoryOf None lines = lines ≡ []
 PrintsStoryOf (Some s) lines = PrintsStory s lines
 
--- the lines of the call, then those of what the reason rests on, then those of the object
+-- the lines of the call, then those of what the reason rests on, then whence that is, then those of the object
 abbrev pub PrintsExplanation : Explanation → List ℕ → Type 0
-PrintsExplanation e lines = (rests story : List ℕ) × PrintsCause e.cause rests × PrintsStoryOf e.story story × (lines ≡ call_lines e ++ (rests ++ story))
+PrintsExplanation e lines = (rests since story : List ℕ) × PrintsCause e.cause e.whence rests × PrintsCauseSource e.cause e.whence since × PrintsStoryOf e.story story
+    × (lines ≡ call_lines e ++ (rests ++ (since ++ story)))

@@ -10,10 +10,11 @@ use Rattle.kmipa_object.specs.declared.allow.Allow.TheVariants.{Must, May, Not}
 use Rattle.kmipa_object.specs.declared.state.State.{State}
 use Rattle.kmipa_explain.specs.declared.held.ReasonHeld.{ReasonHeld}
 use Rattle.kmipa_explain.specs.declared.held.StateHeld.{StateHeld}
+use Rattle.kmipa_explain.specs.declared.source.Whence.{Whence}
 use Rattle.kmipa_runs.specs.Lines.{line}
 use Rattle.kmipa_runs.specs.Notes.{name_among, result_reasons}
 use Rattle.kmipa_telling.specs.Naming.{number_text}
-use Rattle.kmipa_telling.specs.StateCauses.{PrintsDates, act_text}
+use Rattle.kmipa_telling.specs.StateCauses.{PrintsSince, act_text}
 
 -- the line of a reason: its number, and its name
 abbrev pub reason_line : ℕ → List ℕ
@@ -38,15 +39,15 @@ allow_text Not = codes "excludes"
 abbrev pub judged_line : State → Act → List ℕ
 judged_line state operation = line (codes "state: " ∷ state_name state ∷ codes ", which " ∷ allow_text (allowed operation state) ∷ codes " " ∷ act_text operation ∷ [])
 
--- the same with the dates that the state follows from
-abbrev pub PrintsJudged : StateHeld → List ℕ → Type 0
-PrintsJudged s lines = (dates : List ℕ) × PrintsDates s.dates dates × (lines ≡ judged_line s.state s.act ++ dates)
+-- the same with whence the state is, and the dates that it follows from
+abbrev pub PrintsJudged : StateHeld → Option Whence → List ℕ → Type 0
+PrintsJudged s w lines = (since : List ℕ) × PrintsSince w s.dates since × (lines ≡ judged_line s.state s.act ++ since)
 
 -- what stands against the causes: the object that is there, or that there is no such one
-abbrev pub PrintsAgainst : Option StateHeld → List ℕ → Type 0
-PrintsAgainst None lines = lines ≡ line (codes "held: no such object" ∷ [])
-PrintsAgainst (Some s) lines = PrintsJudged s lines
+abbrev pub PrintsAgainst : Option StateHeld → Option Whence → List ℕ → Type 0
+PrintsAgainst None w lines = lines ≡ line (codes "held: no such object" ∷ [])
+PrintsAgainst (Some s) w lines = PrintsJudged s w lines
 
 -- the reason, a line for each cause, and what stands against them
-abbrev pub PrintsReason : ReasonHeld → List ℕ → Type 0
-PrintsReason r lines = (against : List ℕ) × PrintsAgainst r.object against × (lines ≡ reason_line r.reason ++ (flat_map behind_line r.causes.items ++ against))
+abbrev pub PrintsReason : ReasonHeld → Option Whence → List ℕ → Type 0
+PrintsReason r w lines = (against : List ℕ) × PrintsAgainst r.object w against × (lines ≡ reason_line r.reason ++ (flat_map behind_line r.causes.items ++ against))

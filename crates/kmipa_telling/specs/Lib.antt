@@ -5,6 +5,7 @@ pub mod Claims
 pub mod Deciding
 pub mod EchoCauses
 pub mod EchoClaims
+pub mod EventClaims
 pub mod Explained
 pub mod ExplainedJson
 pub mod Explaining
@@ -22,6 +23,8 @@ pub mod MakingClaims
 pub mod Naming
 pub mod NamingClaims
 pub mod Phrases
+pub mod SourceClaims
+pub mod Sources
 pub mod StateCauses
 pub mod StateClaims
 pub mod Stories

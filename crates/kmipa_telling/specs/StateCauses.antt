@@ -9,6 +9,10 @@ use Rattle.kmipa_object.specs.declared.allow.Act.TheVariants as act
 use Rattle.kmipa_object.specs.declared.state.State.{State}
 use Rattle.kmipa_explain.specs.declared.held.DatesHeld.{DatesHeld}
 use Rattle.kmipa_explain.specs.declared.held.StateHeld.{StateHeld}
+use Rattle.kmipa_explain.specs.declared.source.Source.{Source}
+use Rattle.kmipa_explain.specs.declared.source.Whence.{Whence}
+use Rattle.kmipa_ops.specs.declared.judged.Judged.TheVariants as judged
+use Rattle.kmipa_telling.specs.Sources.{PrintsBehind, PrintsSource, attribute_source}
 
 -- the rows of the table of states
 abbrev pub act_text : Act → List ℕ
@@ -29,20 +33,28 @@ PrintsMoment name None lines = lines ≡ line (name ∷ codes ": none" ∷ [])
 PrintsMoment name (Some second) lines =
     (date : List ℕ) × (¬ (HasDate second) → date ≡ signed_decimal second) × (lines ≡ line (name ∷ codes ": " ∷ date ∷ []))
 
--- the lines of an object's dates
-pub record PrintsDates (d : DatesHeld) (lines : List ℕ) : Type 0 where
+-- the same with whence it is
+abbrev pub PrintsDate : List ℕ → Option ℤ → Option Source → List ℕ → Type 0
+PrintsDate name moment source lines = (told : List ℕ) × PrintsMoment name moment told × PrintsBehind told (codes "held since") source lines
+
+-- the lines of an object's dates, with whence they are
+pub record PrintsDates (w : Option Whence) (d : DatesHeld) (lines : List ℕ) : Type 0 where
   pub initial : List ℕ
-  pub tells_initial : PrintsMoment (codes "initial date") d.initial initial
+  pub tells_initial : PrintsDate (codes "initial date") d.initial (attribute_source w judged.InitialDate) initial
   pub activation : List ℕ
-  pub tells_activation : PrintsMoment (codes "activation date") d.activation activation
+  pub tells_activation : PrintsDate (codes "activation date") d.activation (attribute_source w judged.ActivationDate) activation
   pub deactivation : List ℕ
-  pub tells_deactivation : PrintsMoment (codes "deactivation date") d.deactivation deactivation
+  pub tells_deactivation : PrintsDate (codes "deactivation date") d.deactivation (attribute_source w judged.DeactivationDate) deactivation
   pub destroy : List ℕ
-  pub tells_destroy : PrintsMoment (codes "destroy date") d.destroy destroy
+  pub tells_destroy : PrintsDate (codes "destroy date") d.destroy (attribute_source w judged.DestroyDate) destroy
   pub compromise : List ℕ
-  pub tells_compromise : PrintsMoment (codes "compromise date") d.compromise compromise
+  pub tells_compromise : PrintsDate (codes "compromise date") d.compromise (attribute_source w judged.CompromiseDate) compromise
   pub are : lines ≡ initial ++ (activation ++ (deactivation ++ (destroy ++ compromise)))
 
--- the lines of a state that excludes an operation, and of the dates that it follows from
-abbrev pub PrintsState : StateHeld → List ℕ → Type 0
-PrintsState s lines = (dates : List ℕ) × PrintsDates s.dates dates × (lines ≡ state_line s.state s.act ++ dates)
+-- the lines of whence a state is, and of the dates that it follows from
+abbrev pub PrintsSince : Option Whence → DatesHeld → List ℕ → Type 0
+PrintsSince w d lines = (state dates : List ℕ) × PrintsSource (codes "held since") (attribute_source w judged.State) state × PrintsDates w d dates × (lines ≡ state ++ dates)
+
+-- the lines of a state that excludes an operation, of whence it is, and of the dates that it follows from
+abbrev pub PrintsState : StateHeld → Option Whence → List ℕ → Type 0
+PrintsState s w lines = (since : List ℕ) × PrintsSince w s.dates since × (lines ≡ state_line s.state s.act ++ since)

@@ -2,57 +2,95 @@
 
 ghost use Rattle.std.specs.Prelude.{◌≡◌, IfOk, flat_map, string_bytes};
 ghost use Rattle.kmipa_telling.specs.Lists.{AreLines};
-ghost use Rattle.kmipa_telling.specs.AttributeCauses.{PrintsAttributes, PrintsSide, PrintsValue, PrintsValueHeld, names_line, unit_text};
+ghost use Rattle.kmipa_telling.specs.AttributeCauses.{PrintsAttributes, PrintsSide, PrintsValue, PrintsValueHeld, PrintsValueSince, name_line, names_line, unit_text};
 
 use crate::naming::{attribute_name, is_moment, name_text, number_text, value_name};
+use crate::sources::{source_line, value_source, with_source};
 use kmipa_attrs::Name;
-use kmipa_explain::{AttributesHeld, ValueHeld};
+use kmipa_explain::{AttributesHeld, Source, ValueHeld, Whence};
 use kmipa_ops::Judged;
 use kmipa_runs::date_text;
 use std::alloc::{AllocError, Global};
 
-/// The lines of names, each with these words behind it, and of other attributes.
+/// The lines of names, each with these words behind it and whence it is, and of other attributes.
 pub fn attributes_lines(
     alloc: Global,
     words: &str,
+    source: Option<Source>,
+    whence: Option<Whence>,
     held: &AttributesHeld,
 ) -> Result<String, AllocError>
-    ensures { IfOk result (λ text. PrintsAttributes words.now held.now (string_bytes text)) }
+    ensures { IfOk result (λ text. PrintsAttributes words.now source whence held.now (string_bytes text)) }
 {
-    let names = names_lines(alloc, words, &held.names)?;
-    let values = values_lines(alloc, &held.values)?;
+    let since = source_line(alloc, "held since", source)?;
+    let names = names_lines(alloc, words, since.as_str(), &held.names)?;
+    let values = values_lines(alloc, whence, &held.values)?;
     format!(in alloc; "{names}{values}")
 }
 
-/// The lines of names, each with these words behind it.
-fn names_lines(alloc: Global, words: &str, names: &[Name]) -> Result<String, AllocError>
-    ensures { IfOk result (λ text. string_bytes text ≡ flat_map (names_line words.now) names.now) }
+/// The lines of names, each with these words behind it, and the line of whence it is.
+fn names_lines(
+    alloc: Global,
+    words: &str,
+    since: &str,
+    names: &[Name],
+) -> Result<String, AllocError>
+    ensures { IfOk result (λ text. string_bytes text ≡ flat_map (names_line words.now since.now) names.now) }
 {
     let mut text = String::new(alloc);
     'names: for name in names {
-        let one = names_line(alloc, words, name)?;
+        let one = names_line(alloc, words, since, name)?;
         text.push_str(one.as_str())?;
     }
     Ok(text)
 }
 
-fn names_line(alloc: Global, words: &str, name: &Name) -> Result<String, AllocError>
-    ensures { IfOk result (λ text. string_bytes text ≡ names_line words.now name.now) }
+fn names_line(alloc: Global, words: &str, since: &str, name: &Name) -> Result<String, AllocError>
+    ensures { IfOk result (λ text. string_bytes text ≡ names_line words.now since.now name.now) }
+{
+    let told = name_line(alloc, words, name)?;
+    format!(in alloc; "{told}{since}")
+}
+
+/// The line of a name, with these words behind it.
+fn name_line(alloc: Global, words: &str, name: &Name) -> Result<String, AllocError>
+    ensures { IfOk result (λ text. string_bytes text ≡ name_line words.now name.now) }
 {
     let named = name_text(alloc, name)?;
     format!(in alloc; "Name: {named}{words}\n")
 }
 
 /// The lines of attributes other than names.
-fn values_lines(alloc: Global, values: &[ValueHeld]) -> Result<String, AllocError>
-    ensures { IfOk result (λ text. AreLines PrintsValueHeld values.now (string_bytes text)) }
+fn values_lines(
+    alloc: Global,
+    whence: Option<Whence>,
+    values: &[ValueHeld],
+) -> Result<String, AllocError>
+    ensures { IfOk result (λ text. AreLines (PrintsValueSince whence) values.now (string_bytes text)) }
 {
     let mut text = String::new(alloc);
     'values: for held in values {
-        let one = value_line(alloc, held)?;
+        let one = one_value_lines(alloc, whence, held)?;
         text.push_str(one.as_str())?;
     }
     Ok(text)
+}
+
+/// The lines of an attribute: what is shown of it, what the object has, and whence that is.
+fn one_value_lines(
+    alloc: Global,
+    whence: Option<Whence>,
+    held: &ValueHeld,
+) -> Result<String, AllocError>
+    ensures { IfOk result (λ text. PrintsValueSince whence held.now (string_bytes text)) }
+{
+    let told = value_line(alloc, held)?;
+    with_source(
+        alloc,
+        told.as_str(),
+        "held since",
+        value_source(whence, held),
+    )
 }
 
 /// The line of an attribute: what is shown of it, and what the object has.

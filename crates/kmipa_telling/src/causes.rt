@@ -1,7 +1,9 @@
 //! The lines of what a reason rests on, reason by reason.
 
-ghost use Rattle.std.specs.Prelude.{◌≡◌, IfOk, string_bytes};
+ghost use Rattle.std.specs.Prelude.{◌≡◌, IfOk, codes, string_bytes};
 ghost use Rattle.kmipa_explain.specs.Reading.{text_of};
+ghost use Rattle.kmipa_telling.specs.AttributeCauses.{PrintsAttributes};
+ghost use Rattle.kmipa_telling.specs.Sources.{object_source};
 ghost use Rattle.kmipa_telling.specs.Causes.{PrintsBefore, PrintsCause, absent_line, answered_text, asked_text, bytes_lines, failed_text, operations_lines, option_text, shape_lines, status_text};
 
 use crate::attribute_causes::attributes_lines;
@@ -10,15 +12,20 @@ use crate::failing_causes::reason_lines;
 use crate::listing_causes::{left_out_lines, listed_lines};
 use crate::making_causes::{identifier_line, length_lines, name_line};
 use crate::phrases::{calls_text, named_text, operation_text};
+use crate::sources::object_source;
 use crate::state_causes::state_lines;
-use kmipa_explain::{BytesHeld, Cause, Operations, Shape, TurnBefore};
+use kmipa_explain::{AttributesHeld, BytesHeld, Cause, Operations, Shape, TurnBefore, Whence};
 use kmipa_msgs::{BatchOption, Status as ItemStatus};
 use kmipa_runs::{date_text, quoted_text};
 use std::alloc::{AllocError, Global};
 
 /// The lines of what the reason rests on.
-pub fn cause_lines(alloc: Global, cause: &Cause) -> Result<String, AllocError>
-    ensures { IfOk result (λ text. PrintsCause cause.now (string_bytes text)) }
+pub fn cause_lines(
+    alloc: Global,
+    cause: &Cause,
+    whence: Option<Whence>,
+) -> Result<String, AllocError>
+    ensures { IfOk result (λ text. PrintsCause cause.now whence (string_bytes text)) }
 {
     match cause {
         Cause::EarlierCalls(numbers) => {
@@ -29,19 +36,32 @@ pub fn cause_lines(alloc: Global, cause: &Cause) -> Result<String, AllocError>
         Cause::BatchShape(shape) => shape_lines(alloc, shape),
         Cause::Operations(operations) => operations_lines(alloc, operations),
         Cause::NoObject(meant) => absent_line(alloc, meant),
-        Cause::State(held) => state_lines(alloc, held),
+        Cause::State(held) => state_lines(alloc, held, whence),
         Cause::Bytes(held) => bytes_lines(alloc, held),
         Cause::Identifier(id) => identifier_line(alloc, id.as_str()),
         Cause::Name(held) => name_line(alloc, held),
         Cause::Length(held) => length_lines(alloc, held),
-        Cause::Differing(held) => attributes_lines(alloc, " shown, not held", held),
-        Cause::Missing(held) => attributes_lines(alloc, " held, not shown", held),
+        Cause::Differing(held) => attributes_lines(alloc, " shown, not held", None, whence, held),
+        Cause::Missing(held) => missing_lines(alloc, whence, held),
         Cause::Listed(held) => listed_lines(alloc, held),
         Cause::LeftOut(left) => left_out_lines(alloc, left),
-        Cause::Reason(held) => reason_lines(alloc, held),
+        Cause::Reason(held) => reason_lines(alloc, held, whence),
         Cause::Echo(held) => echo_line(alloc, held),
         Cause::Object => Ok(String::new(alloc)),
     }
+}
+
+/// The lines of required attributes that aren't shown; the names are from where the object is.
+fn missing_lines(
+    alloc: Global,
+    whence: Option<Whence>,
+    held: &AttributesHeld,
+) -> Result<String, AllocError>
+    ensures { IfOk result (λ text. PrintsAttributes (codes " held, not shown") (object_source whence) whence held.now
+        (string_bytes text)) }
+{
+    let source = object_source(whence);
+    attributes_lines(alloc, " held, not shown", source, whence, held)
 }
 
 /// The line of the turn before.

@@ -4,19 +4,21 @@ ghost use Rattle.std.specs.Prelude.{◌≡◌, IfOk, OnOk};
 ghost use Rattle.kmipa_json.specs.Told.{items_of, members_of};
 ghost use Rattle.kmipa_explain.specs.Reading.{text_of};
 ghost use Rattle.kmipa_telling.specs.Lists.{AreObjects};
-ghost use Rattle.kmipa_telling.specs.Claims.{TellsBefore, TellsCause, TellsClaims, TellsEvent, TellsLater, TellsMeaning, TellsStory, TellsStoryOf, bytes_members, call_items, call_members, missing_members, operation_members, operation_told, operations_members, shape_members};
+ghost use Rattle.kmipa_telling.specs.Claims.{TellsBefore, TellsCause, TellsClaims, TellsLater, TellsMeaning, TellsStory, TellsStoryOf, bytes_members, call_items, call_members, missing_members, operations_members, shape_members};
+ghost use Rattle.kmipa_telling.specs.EventClaims.{TellsEvent};
 
 use crate::attribute_claims::attributes_object;
 use crate::causes::{option_text, status_text};
 use crate::echo_claims::echo_object;
+use crate::event_claims::{event_object, operation_object, tell_operation};
 use crate::failing_claims::reason_object;
 use crate::listing_claims::{left_out_list, listed_object};
 use crate::making_claims::{length_object, taken_object};
+use crate::source_claims::tell_whence;
 use crate::state_claims::state_object;
 use crate::telling::tell_date;
 use kmipa_explain::{BytesHeld, Cause, Event, Explanation, Operations, Shape, Story, TurnBefore};
 use kmipa_json::{JsonList, JsonObject};
-use kmipa_runs::operation_name;
 use std::alloc::{AllocError, Global};
 
 /// Puts what a no means into an object, where it is explained.
@@ -39,6 +41,7 @@ fn claims_object(alloc: Global, explanation: &Explanation) -> Result<JsonObject,
 {
     let mut told = call_object(alloc, explanation)?;
     tell_cause(alloc, &mut told, &explanation.cause)?;
+    tell_whence(alloc, &mut told, explanation.whence)?;
     tell_story(alloc, &mut told, &explanation.story)?;
     Ok(told)
 }
@@ -51,33 +54,6 @@ fn call_object(alloc: Global, explanation: &Explanation) -> Result<JsonObject, A
     told.put_text("client", explanation.client.as_str())?;
     tell_operation(alloc, &mut told, "operation", explanation.operation)?;
     told.put_list("overlapping", calls_list(alloc, &explanation.overlapping)?)?;
-    Ok(told)
-}
-
-/// An operation under a name, where there is one.
-fn tell_operation(
-    alloc: Global,
-    told: &mut JsonObject,
-    key: &str,
-    operation: Option<u32>,
-) -> Result<(), AllocError>
-    ensures { OnOk result (members_of told.new ≡ operation_told key.now operation (members_of told.old)) }
-{
-    match operation {
-        Some(number) => told.put_object(key, operation_object(alloc, number)?),
-        None => Ok(()),
-    }
-}
-
-/// The number of an operation, and its name where it has one.
-fn operation_object(alloc: Global, number: u32) -> Result<JsonObject, AllocError>
-    ensures { IfOk result (λ told. members_of told ≡ operation_members number) }
-{
-    let mut told = JsonObject::new(alloc);
-    told.put_count("number", number as u64)?;
-    if let Some(name) = operation_name(number) {
-        told.put_text("name", name)?;
-    }
     Ok(told)
 }
 
@@ -230,18 +206,4 @@ fn tell_later(alloc: Global, told: &mut JsonObject, later: Option<Event>) -> Res
         Some(event) => told.put_object("made_later", event_object(alloc, &event)?),
         None => Ok(()),
     }
-}
-
-/// An item that was done.
-fn event_object(alloc: Global, event: &Event) -> Result<JsonObject, AllocError>
-    ensures { IfOk result (λ told. TellsEvent event.now (members_of told)) }
-{
-    let mut told = JsonObject::new(alloc);
-    told.put_count("turn", event.turn as u64)?;
-    told.put_integer("call", event.call as i64)?;
-    told.put_count("item", event.item as u64)?;
-    told.put_object("operation", operation_object(alloc, event.operation)?)?;
-    told.put_truth("undone", event.undone)?;
-    tell_date(alloc, &mut told, Some(event.stamp))?;
-    Ok(told)
 }

@@ -5,6 +5,7 @@ ghost use Rattle.kmipa_telling.specs.Explained.{PrintsExplanation, PrintsStoryOf
 
 use crate::causes::cause_lines;
 use crate::phrases::{calls_text, operation_text};
+use crate::sources::cause_source_line;
 use crate::stories::story_text;
 use kmipa_explain::{Explanation, Story};
 use kmipa_runs::quoted_text;
@@ -15,9 +16,10 @@ pub fn explanation_text(alloc: Global, explanation: &Explanation) -> Result<Stri
     ensures { IfOk result (λ text. PrintsExplanation explanation.now (string_bytes text)) }
 {
     let call = call_lines(alloc, explanation)?;
-    let cause = cause_lines(alloc, &explanation.cause)?;
+    let cause = cause_lines(alloc, &explanation.cause, explanation.whence)?;
+    let since = cause_source_line(alloc, &explanation.cause, explanation.whence)?;
     let story = story_lines(alloc, &explanation.story)?;
-    format!(in alloc; "{call}{cause}{story}")
+    format!(in alloc; "{call}{cause}{since}{story}")
 }
 
 /// The lines of the call: its client, its operation, and the calls that overlap it.

@@ -5,20 +5,24 @@ ghost use Rattle.kmipa_object.specs.Table.{allowed};
 ghost use Rattle.kmipa_telling.specs.FailingCauses.{PrintsAgainst, PrintsJudged, PrintsReason, allow_text, behind_line, behind_text, judged_line, reason_line};
 
 use crate::naming::number_text;
-use crate::state_causes::{act_text, dates_lines};
-use kmipa_explain::{ReasonHeld, StateHeld};
+use crate::state_causes::{act_text, since_lines};
+use kmipa_explain::{ReasonHeld, StateHeld, Whence};
 use kmipa_msgs::Cause as FailureCause;
 use kmipa_object::{Act, Allow, State, allows};
 use kmipa_runs::result_reason_name;
 use std::alloc::{AllocError, Global};
 
 /// The lines of a reason, of what may be behind it, and of what stands against that.
-pub fn reason_lines(alloc: Global, held: &ReasonHeld) -> Result<String, AllocError>
-    ensures { IfOk result (λ text. PrintsReason held.now (string_bytes text)) }
+pub fn reason_lines(
+    alloc: Global,
+    held: &ReasonHeld,
+    whence: Option<Whence>,
+) -> Result<String, AllocError>
+    ensures { IfOk result (λ text. PrintsReason held.now whence (string_bytes text)) }
 {
     let reason = reason_line(alloc, held.reason)?;
     let causes = behind_lines(alloc, &held.causes)?;
-    let against = against_lines(alloc, held.object)?;
+    let against = against_lines(alloc, held.object, whence)?;
     format!(in alloc; "{reason}{causes}{against}")
 }
 
@@ -59,22 +63,30 @@ fn behind_text(cause: FailureCause) -> &'static str
 }
 
 /// The lines of what stands against it: the object that is there, or that there is no such one.
-fn against_lines(alloc: Global, object: Option<StateHeld>) -> Result<String, AllocError>
-    ensures { IfOk result (λ text. PrintsAgainst object (string_bytes text)) }
+fn against_lines(
+    alloc: Global,
+    object: Option<StateHeld>,
+    whence: Option<Whence>,
+) -> Result<String, AllocError>
+    ensures { IfOk result (λ text. PrintsAgainst object whence (string_bytes text)) }
 {
     match object {
-        Some(held) => judged_lines(alloc, held),
+        Some(held) => judged_lines(alloc, held, whence),
         None => String::from_str(alloc, "held: no such object\n"),
     }
 }
 
-/// The lines of a state, with what it says of an operation, and of the dates that it follows from.
-fn judged_lines(alloc: Global, held: StateHeld) -> Result<String, AllocError>
-    ensures { IfOk result (λ text. PrintsJudged held (string_bytes text)) }
+/// The lines of a state, with what it says of an operation, of whence it is, and of the dates that it follows from.
+fn judged_lines(
+    alloc: Global,
+    held: StateHeld,
+    whence: Option<Whence>,
+) -> Result<String, AllocError>
+    ensures { IfOk result (λ text. PrintsJudged held whence (string_bytes text)) }
 {
     let StateHeld { act, state, dates } = held;
     let judged = judged_line(alloc, state, act)?;
-    let since = dates_lines(alloc, dates)?;
+    let since = since_lines(alloc, dates, whence)?;
     format!(in alloc; "{judged}{since}")
 }
 

@@ -1,20 +1,27 @@
 //! The lines of an object's state, of the operation that it bears on, and of the dates that it follows from.
 
 ghost use Rattle.std.specs.Prelude.{◌≡◌, IfOk, string_bytes};
-ghost use Rattle.kmipa_telling.specs.StateCauses.{PrintsDates, PrintsMoment, PrintsState, act_text, state_line};
+ghost use Rattle.kmipa_telling.specs.Sources.{attribute_source};
+ghost use Rattle.kmipa_telling.specs.StateCauses.{PrintsDate, PrintsDates, PrintsMoment, PrintsSince, PrintsState, act_text, state_line};
 
-use kmipa_explain::{DatesHeld, StateHeld};
+use crate::sources::{attribute_source, source_line, with_source};
+use kmipa_explain::{DatesHeld, StateHeld, Whence};
 use kmipa_object::{Act, State};
+use kmipa_ops::Judged;
 use kmipa_runs::date_text;
 use std::alloc::{AllocError, Global};
 
-/// The lines of a state that excludes an operation, and of the dates that it follows from.
-pub fn state_lines(alloc: Global, held: &StateHeld) -> Result<String, AllocError>
-    ensures { IfOk result (λ text. PrintsState held.now (string_bytes text)) }
+/// The lines of a state that excludes an operation, of whence it is, and of the dates that it follows from.
+pub fn state_lines(
+    alloc: Global,
+    held: &StateHeld,
+    whence: Option<Whence>,
+) -> Result<String, AllocError>
+    ensures { IfOk result (λ text. PrintsState held.now whence (string_bytes text)) }
 {
     let StateHeld { act, state, dates } = *held;
     let excluding = state_line(alloc, state, act)?;
-    let since = dates_lines(alloc, dates)?;
+    let since = since_lines(alloc, dates, whence)?;
     format!(in alloc; "{excluding}{since}")
 }
 
@@ -41,16 +48,79 @@ pub fn act_text(act: Act) -> &'static str
     }
 }
 
-/// The lines of the dates of an object.
-pub fn dates_lines(alloc: Global, dates: DatesHeld) -> Result<String, AllocError>
-    ensures { IfOk result (λ text. PrintsDates dates (string_bytes text)) }
+/// The lines of whence a state is, and of the dates that it follows from.
+pub fn since_lines(
+    alloc: Global,
+    dates: DatesHeld,
+    whence: Option<Whence>,
+) -> Result<String, AllocError>
+    ensures { IfOk result (λ text. PrintsSince whence dates (string_bytes text)) }
 {
-    let initial = moment_line(alloc, "initial date", dates.initial)?;
-    let activation = moment_line(alloc, "activation date", dates.activation)?;
-    let deactivation = moment_line(alloc, "deactivation date", dates.deactivation)?;
-    let destroy = moment_line(alloc, "destroy date", dates.destroy)?;
-    let compromise = moment_line(alloc, "compromise date", dates.compromise)?;
+    let state = source_line(alloc, "held since", attribute_source(whence, Judged::State))?;
+    let dates = dates_lines(alloc, dates, whence)?;
+    format!(in alloc; "{state}{dates}")
+}
+
+/// The lines of the dates of an object, with whence they are.
+fn dates_lines(
+    alloc: Global,
+    dates: DatesHeld,
+    whence: Option<Whence>,
+) -> Result<String, AllocError>
+    ensures { IfOk result (λ text. PrintsDates whence dates (string_bytes text)) }
+{
+    let initial = date_lines(
+        alloc,
+        "initial date",
+        dates.initial,
+        whence,
+        Judged::InitialDate,
+    )?;
+    let activation = date_lines(
+        alloc,
+        "activation date",
+        dates.activation,
+        whence,
+        Judged::ActivationDate,
+    )?;
+    let deactivation = date_lines(
+        alloc,
+        "deactivation date",
+        dates.deactivation,
+        whence,
+        Judged::DeactivationDate,
+    )?;
+    let destroy = date_lines(
+        alloc,
+        "destroy date",
+        dates.destroy,
+        whence,
+        Judged::DestroyDate,
+    )?;
+    let compromise = date_lines(
+        alloc,
+        "compromise date",
+        dates.compromise,
+        whence,
+        Judged::CompromiseDate,
+    )?;
     format!(in alloc; "{initial}{activation}{deactivation}{destroy}{compromise}")
+}
+
+/// The line of a date behind its name, and whence it is.
+fn date_lines(
+    alloc: Global,
+    name: &str,
+    moment: Option<i64>,
+    whence: Option<Whence>,
+    attribute: Judged,
+) -> Result<String, AllocError>
+    ensures { IfOk result (λ text. PrintsDate name.now moment (attribute_source whence attribute)
+        (string_bytes text)) }
+{
+    let told = moment_line(alloc, name, moment)?;
+    let source = attribute_source(whence, attribute);
+    with_source(alloc, told.as_str(), "held since", source)
 }
 
 /// The line of a moment behind its name.

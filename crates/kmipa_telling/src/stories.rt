@@ -70,7 +70,7 @@ fn later_line(alloc: Global, later: Option<Event>) -> Result<String, AllocError>
 }
 
 /// The line of an item that was done, behind a word.
-fn event_line(alloc: Global, word: &str, event: &Event) -> Result<String, AllocError>
+pub fn event_line(alloc: Global, word: &str, event: &Event) -> Result<String, AllocError>
     ensures { IfOk result (λ text. PrintsEvent word.now event.now (string_bytes text)) }
 {
     let place = place_text(alloc, event)?;

@@ -1,4 +1,4 @@
-use Rattle.std.proofs.Common.{rules, ◌∙◌, ◌-◌, FitsSigned, w64, map, sym, ap, subst, arith}
+use Rattle.std.proofs.Common.{rules, ◌∙◌, ◌-◌, FitsSigned, w64, map, option_map, sym, ap, subst, arith}
 use Rattle.std.proofs.lemmas.Int.{to_z-of_z}
 use Rattle.std.specs.String.{string_bytes}
 use Rattle.kmipa_record.specs.Declarations.{declaration_of}
@@ -6,6 +6,7 @@ use Rattle.kmipa_record.specs.Marks.{mark_of}
 use Rattle.kmipa_check.specs.Steps.{StepOf}
 use Rattle.kmipa_explain.specs.Explainable.{IsBegun}
 use Rattle.kmipa_explain.specs.Explanations.{IsClient, operation_at}
+use Rattle.kmipa_explain.specs.Reading.{seen_subject}
 use Rattle.kmipa_explain.proofs.RefusedLemmas.{its_call, stands, turn_within}
 use Rattle.kmipa_explain.proofs.explaining.explained.Goals as goal
 
@@ -37,6 +38,11 @@ returns-clause-explains c =
       stamp = to_z-of_z w64 c.stamp.result fits ∙ c.stamp.ensures ∙ ap (λ (s : StepOf). s.response.stamp) (sym its);
       operation = c.operation_at.ensures ∙ ap (λ (s : StepOf). operation_at s c.args.refused.item) (sym its);
       overlapping = c.in_ok-overlapping_calls.ensures call at;
-      cause = c.in_ok-cause_of.ensures.tells call at;
+      cause = c.in_ok-rest.ensures.tells call at;
+      whence = record {
+        subject = option_map seen_subject c.in_ok-rest.rest.subject;
+        is = c.in_ok-rest.ensures.subject call at;
+        sources = c.in_ok-whence_of.ensures;
+      };
       story = c.in_ok-story_of.ensures;
     }

@@ -5,4 +5,4 @@ use Rattle.kmipa_telling.proofs.attribute_causes.names_lines.Given as goal
 
 -- what is written, and what is still to be written
 abbrev pub invariant-names : goal.invariant-names
-invariant-names l = string_bytes l.text ++ flat_map (names_line l.words) (drop l.name-index l.names) ≡ flat_map (names_line l.words) l.names
+invariant-names l = string_bytes l.text ++ flat_map (names_line l.words l.since) (drop l.name-index l.names) ≡ flat_map (names_line l.words l.since) l.names

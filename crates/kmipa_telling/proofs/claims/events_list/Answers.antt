@@ -1,7 +1,7 @@
 use Rattle.std.proofs.Common.{get_or, refl, rules, false, pos}
 use Rattle.kmipa_json.specs.Told.{items_of, members_of}
 use Rattle.kmipa_explain.specs.declared.explanation.Event.{Event}
-use Rattle.kmipa_telling.specs.Claims.{TellsEvent}
+use Rattle.kmipa_telling.specs.EventClaims.{TellsEvent}
 use Rattle.kmipa_telling.proofs.ListLemmas.{one_object_more}
 use Rattle.kmipa_telling.proofs.claims.events_list.Goals as goal
 

@@ -1,6 +1,6 @@
 use Rattle.std.proofs.Common.{take}
 use Rattle.kmipa_json.specs.Told.{items_of}
-use Rattle.kmipa_telling.specs.Claims.{TellsEvent}
+use Rattle.kmipa_telling.specs.EventClaims.{TellsEvent}
 use Rattle.kmipa_telling.specs.Lists.{AreObjects}
 use Rattle.kmipa_telling.proofs.claims.events_list.Given as goal
 
