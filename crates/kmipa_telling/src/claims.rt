@@ -58,7 +58,7 @@ fn call_object(alloc: Global, explanation: &Explanation) -> Result<JsonObject, A
 }
 
 /// Calls by their numbers.
-fn calls_list(alloc: Global, numbers: &[i32]) -> Result<JsonList, AllocError>
+pub fn calls_list(alloc: Global, numbers: &[i32]) -> Result<JsonList, AllocError>
     ensures { IfOk result (λ list. items_of list ≡ call_items numbers.now) }
 {
     let mut list = JsonList::new(alloc);

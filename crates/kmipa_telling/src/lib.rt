@@ -7,6 +7,8 @@ mod bytes;
 mod causes;
 mod claims;
 mod deciding;
+mod deepest;
+mod deepest_claims;
 mod echo_causes;
 mod echo_claims;
 mod event_claims;
@@ -35,6 +37,7 @@ mod sources;
 mod state_causes;
 mod state_claims;
 mod stories;
+mod stuck;
 mod telling;
 mod telling_found;
 
