@@ -7,16 +7,20 @@ use Rattle.kmipa_msgs.specs.Messages.{ResponseOf}
 use Rattle.kmipa_batch.specs.Orders.{is_unordered}
 use Rattle.kmipa_check.specs.Calls.{CallOf, AreCalls}
 use Rattle.kmipa_check.specs.Ordering.{Decided}
+use Rattle.kmipa_check.specs.declared.fault.CheckFault.{CheckFault}
+use Rattle.kmipa_check.specs.declared.fault.CheckFault.TheVariants.{Memory}
 use Rattle.kmipa_check.specs.Steps.{StepOf, NeedsFill, step_with}
 use Rattle.kmipa_check.proofs.RecordedLemmas.{same_calls}
 use Rattle.kmipa_search.specs.Forced.{TellsForced}
-use Rattle.kmipa_search.specs.Found.{Finds, HasDecided, stopped}
+use Rattle.kmipa_search.specs.Found.{Finds, HasDecided, stopped, enough, one_by_one}
 use Rattle.kmipa_search.specs.Plain.{ArePlain, IsForced}
 use Rattle.kmipa_search.specs.declared.found.Found.{Found}
+use Rattle.kmipa_search.specs.Reached.{HaveSteps}
 use Rattle.kmipa_search.specs.declared.found.Found.TheVariants.{GaveUp}
-use Rattle.kmipa_runs.specs.Searches.{SearchesRecords}
+use Rattle.kmipa_search.specs.declared.stuck.Reached.{Reached}
+use Rattle.kmipa_runs.specs.Searches.{SearchStops, SearchesRecords}
 use Rattle.kmipa_runs.specs.declared.searched.Searched.{Searched}
-use Rattle.kmipa_telling.specs.Deciding.{AreUnplain, DecidesRecords, IsPlain, IsSaid, TellsDecision, TellsGivingUp}
+use Rattle.kmipa_telling.specs.Deciding.{AreUnplain, DecidesRecords, IsPlain, IsSaid, TellsDecision, TellsGivingUp, TellsPlace}
 use Rattle.kmipa_telling.specs.declared.judged.Decision.{Decision}
 use Rattle.kmipa_telling.specs.declared.judged.Decision.TheVariants as decision
 
@@ -80,6 +84,16 @@ module _ (marks : List MarkOf) (calls : List CallOf) (budget count : ℕ) (are :
       let same = same_calls marks calls told.0 recorded are told.1 in
       (calls, are, (plain, spent, λ f. absurd (told.2 (subst IsForced same f)), refl))
 
+-- what is said of plain calls is said of steps
+decided_steps : (calls : List CallOf) (budget count : ℕ) → HasDecided calls budget count → (steps : List StepOf) × ArePlain calls steps
+decided_steps calls budget count decided = elim decided [ stopped s plain less ↦ (s, plain) | enough s plain less ↦ (s, plain) | one_by_one f few ↦ (f.steps, f.plain) ]
+
+pub decided_have_steps : (marks : List MarkOf) (budget count : ℕ) → TellsDecision marks budget count (Ok decision.Decided) → HaveSteps marks
+decided_have_steps marks budget count tells = (tells.0, tells.1, decided_steps tells.0 budget count tells.2)
+
+pub spent_have_steps : (marks : List MarkOf) (budget count steps : ℕ) → TellsDecision marks budget count (Ok (decision.UsedUp steps)) → HaveSteps marks
+spent_have_steps marks budget count steps tells = (tells.0, tells.1, tells.2.0)
+
 -- where it is said to be decided, no order explains the transcript
 decided_means : (marks : List MarkOf) (declared : DeclarationOf) (budget count : ℕ) (said : Decision) → AreRecorded marks → Finds marks declared budget (GaveUp count)
     → TellsDecision marks budget count (Ok said) → TellsGivingUp marks declared budget (GaveUp count) (Some said)
@@ -93,10 +107,15 @@ decided_means marks declared budget count said recorded finds tells = (
 
 -- ---- what is searched
 
+-- want of memory stops a search
+pub memory_stops : (marks : List MarkOf) (fault : CheckFault) → fault ≡ Memory → SearchStops marks fault
+memory_stops marks fault is = let P : CheckFault → Type 0 = λ f. SearchStops marks f in subst P (sym is) tt
+
 pub given_up_told : (marks : List MarkOf) (declared : DeclarationOf) (budget : ℕ) (asked : Bool) (searched : Searched) → SearchesRecords marks declared budget asked (Ok searched)
-    → (count : ℕ) (said : Decision) → AreRecorded marks → searched.found ≡ GaveUp count → TellsDecision marks budget count (Ok said)
-    → DecidesRecords marks declared budget asked (Ok (record { searched = searched; decision = Some said }))
-given_up_told marks declared budget asked searched searches count said recorded is tells =
+    → (count : ℕ) (said : Decision) (place : Option Reached) → AreRecorded marks → searched.found ≡ GaveUp count → TellsDecision marks budget count (Ok said)
+    → TellsPlace marks declared (Some said) place
+    → DecidesRecords marks declared budget asked (Ok (record { searched = searched; decision = Some said; reached = place }))
+given_up_told marks declared budget asked searched searches count said place recorded is tells stuck =
     let F : Found → Type 0 = λ f. Finds marks declared budget f in
     let T : Found → Type 0 = λ f. TellsGivingUp marks declared budget f (Some said) in
-    (searches, subst T (sym is) (decided_means marks declared budget count said recorded (subst F is searches.1) tells))
+    (searches, subst T (sym is) (decided_means marks declared budget count said recorded (subst F is searches.1) tells), stuck)

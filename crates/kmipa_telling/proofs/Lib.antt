@@ -1,5 +1,6 @@
 mod ClaimLemmas
 mod DecidingLemmas
+mod DeepestLemmas
 mod ExplainedJsonLemmas
 mod ExplainedLemmas
 mod ExplainingLemmas

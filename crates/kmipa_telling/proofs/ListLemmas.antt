@@ -1,5 +1,7 @@
 -- Of what is printed or told of each of a list.
 use Rattle.std.proofs.Common.{◌≡◌, ◌∙◌, ap, sym, subst, refl, List, [], ◌∷◌, ◌++◌, ℕ, get_or, length, suc, take, ◌<◌, ◌+◌}
+use Rattle.std.specs.List.{flat_map}
+use Rattle.std.proofs.lemmas.Grind.{flat_map-append}
 use Rattle.std.proofs.lemmas.List.{append_assoc, append-nil}
 use Rattle.std.proofs.Math.Seq.{take-suc}
 use native.Mathlib.Omega.{arith}
@@ -28,6 +30,13 @@ one_line_more {A} Prints xs i d x text one all within here told tells is =
     let P : List A → Type 0 = λ ys. AreLines Prints ys (text ++ one) in
     let Q : List ℕ → Type 0 = λ t. AreLines Prints (take (i + 1) xs) t in
     subst Q (sym is) (subst P (taken xs i d x within here) (line_behind Prints (take i xs) x text one told tells))
+
+-- the same where the lines are a function
+pub one_text_more : {A : Type 0} (lines : A → List ℕ) (xs : List A) (i : ℕ) (d x : A) (text one all : List ℕ) → i < length xs → x ≡ get_or xs i d
+    → text ≡ flat_map lines (take i xs) → one ≡ lines x → all ≡ text ++ one → all ≡ flat_map lines (take (i + 1) xs)
+one_text_more lines xs i d x text one all within here told tells is =
+    is ∙ ap (λ (t : List ℕ). t ++ one) told ∙ ap (λ (t : List ℕ). flat_map lines (take i xs) ++ t) (tells ∙ sym (append-nil (lines x)))
+    ∙ sym (flat_map-append lines (take i xs) (x ∷ [])) ∙ ap (flat_map lines) (taken xs i d x within here)
 
 -- ---- objects
 

@@ -10,10 +10,13 @@ use Rattle.kmipa_check.specs.Runs.{IsExplained}
 use Rattle.kmipa_check.specs.Steps.{StepOf}
 use Rattle.kmipa_check.specs.declared.auditing.AuditFault.{AuditFault}
 use Rattle.kmipa_check.specs.declared.fault.CheckFault.{CheckFault}
+use Rattle.kmipa_check.specs.declared.fault.CheckFault.TheVariants.{Memory}
 use Rattle.kmipa_search.specs.Found.{HasDecided}
 use Rattle.kmipa_search.specs.Plain.{ArePlain, IsForced}
+use Rattle.kmipa_search.specs.Reached.{TellsReached}
 use Rattle.kmipa_search.specs.declared.found.Found.{Found}
 use Rattle.kmipa_search.specs.declared.found.Found.TheVariants.{Yes, GaveUp}
+use Rattle.kmipa_search.specs.declared.stuck.Reached.{Reached}
 use Rattle.kmipa_runs.specs.Searches.{SearchFails, SearchStops, SearchesRecords}
 use Rattle.kmipa_telling.specs.declared.judged.Decision.{Decision}
 use Rattle.kmipa_telling.specs.declared.judged.Decision.TheVariants as decision
@@ -55,10 +58,27 @@ TellsGivingUp marks declared budget (GaveUp count) None = ⊥
 TellsGivingUp marks declared budget (GaveUp count) (Some said) = TellsDecision marks budget count (Ok said)
     × (said ≡ decision.Decided → IsExplained marks declared → ⊥)
 
--- what a search of records answers, and what its giving up says
+-- it is said of calls that are plain
+abbrev pub IsOfPlain : Option Decision → Type 0
+IsOfPlain (Some decision.Decided) = Unit {0}
+IsOfPlain (Some (decision.UsedUp steps)) = Unit {0}
+IsOfPlain (Some (decision.NotPlain numbers)) = ⊥
+IsOfPlain None = ⊥
+
+-- where it is, a place is told, and of others none
+abbrev pub TellsPlace : List MarkOf → DeclarationOf → Option Decision → Option Reached → Type 0
+TellsPlace marks declared said (Some reached) = IsOfPlain said × TellsReached marks declared reached
+TellsPlace marks declared said None = IsOfPlain said → ⊥
+
+abbrev pub TellsPlaceOf : List MarkOf → DeclarationOf → Option Decision → Result (Option Reached) CheckFault → Type 0
+TellsPlaceOf marks declared said (Ok place) = TellsPlace marks declared said place
+TellsPlaceOf marks declared said (Err fault) = fault ≡ Memory
+
+-- what a search of records answers, what its giving up says, and where it got stuck
 abbrev pub DecidesRecords : List MarkOf → DeclarationOf → ℕ → Bool → Result Judged CheckFault → Type 0
 DecidesRecords marks declared budget asked (Ok judged) = SearchesRecords marks declared budget asked (Ok judged.searched)
     × TellsGivingUp marks declared budget judged.searched.found judged.decision
+    × TellsPlace marks declared judged.decision judged.reached
 DecidesRecords marks declared budget asked (Err fault) = SearchStops marks fault
 
 -- a search of these files found this, and its giving up says this

@@ -1,10 +1,11 @@
--- What `search --explain` makes and prints: the lines of a search, and behind those of a giving up whether it has decided.
+-- What `search --explain` makes and prints: the lines of a search, and behind those of a giving up whether it has decided, and its deepest place.
 use Rattle.std.specs.Prelude.{◌≡◌, ℕ, List, [], ◌∷◌, ◌++◌, codes, Option, Some, None, Result, Ok, Err}
 use Rattle.std.specs.Fmt.{decimal}
 use Rattle.kmipa_check.specs.declared.auditing.AuditFault.{AuditFault}
 use Rattle.kmipa_runs.specs.Lines.{line, PrintsFault}
 use Rattle.kmipa_runs.specs.Searches.{found_status, found_text, forced_text, Makes}
 use Rattle.kmipa_runs.specs.declared.status.Status.{Status}
+use Rattle.kmipa_telling.specs.Deepest.{reached_text}
 use Rattle.kmipa_telling.specs.Phrases.{calls_text}
 use Rattle.kmipa_telling.specs.declared.judged.Decision.{Decision}
 use Rattle.kmipa_telling.specs.declared.judged.Decision.TheVariants as decision
@@ -21,11 +22,11 @@ abbrev pub decision_text : Option Decision → List ℕ
 decision_text None = []
 decision_text (Some said) = decision_line said
 
--- the lines of what was found, and behind them what giving up says
+-- the lines of what was found, and behind them what giving up says, and the deepest place
 abbrev pub judged_text : Judged → List ℕ
-judged_text judged = (forced_text judged.searched.forced ++ found_text judged.searched.found) ++ decision_text judged.decision
+judged_text judged = (forced_text judged.searched.forced ++ found_text judged.searched.found) ++ (decision_text judged.decision ++ reached_text judged.reached)
 
--- What is made and printed at a status: what a search without `--explain` does, but for the line more. A fault prints its own line alone, and
+-- What is made and printed at a status: what a search without `--explain` does, but for the lines more. A fault prints its own line alone, and
 -- makes nothing.
 abbrev pub PrintsGivingUp : Result Judged AuditFault → Status → List ℕ → List ℕ → Type 0
 PrintsGivingUp (Ok judged) said lines made = (said ≡ found_status judged.searched.found) × (lines ≡ judged_text judged) × Makes judged.searched.found made

@@ -9,8 +9,10 @@ use Rattle.kmipa_search.specs.declared.found.Found.{Found}
 use Rattle.kmipa_search.specs.declared.found.Found.TheVariants.{Yes, GaveUp}
 use Rattle.kmipa_runs.specs.Searches.{found_status, Makes}
 use Rattle.kmipa_runs.specs.declared.status.Status.{Status}
+use Rattle.kmipa_search.specs.declared.stuck.Reached.{Reached}
 use Rattle.kmipa_telling.specs.Claims.{call_items}
 use Rattle.kmipa_telling.specs.Deciding.{DecidesFiles}
+use Rattle.kmipa_telling.specs.DeepestClaims.{told_reached}
 use Rattle.kmipa_telling.specs.Judging.{WhereRead}
 use Rattle.kmipa_telling.specs.Telling.{TellsFault, input_members, opened, verdict_named}
 use Rattle.kmipa_telling.specs.declared.judged.Decision.{Decision}
@@ -49,13 +51,13 @@ told_forced (Some forced) told = put (codes "forced") (boolean forced) told
 abbrev pub steps_members : List ℕ → ℕ → Members → Members
 steps_members name steps told = put (codes "steps") (count steps) (verdict_named name told)
 
-abbrev pub told_found : Found → Option Decision → Members → Members
-told_found (Yes witness steps) said told = steps_members (codes "yes") steps told
-told_found (GaveUp steps) said told = told_decision said (steps_members (codes "gave up") steps told)
+abbrev pub told_found : Found → Option Decision → Option Reached → Members → Members
+told_found (Yes witness steps) said reached told = steps_members (codes "yes") steps told
+told_found (GaveUp steps) said reached told = told_reached reached (told_decision said (steps_members (codes "gave up") steps told))
 
 -- what is told of what was found
 abbrev pub found_members : Judged → Members → Members
-found_members judged told = told_found judged.searched.found judged.decision (told_forced judged.searched.forced told)
+found_members judged told = told_found judged.searched.found judged.decision judged.reached (told_forced judged.searched.forced told)
 
 -- ---- what is made and printed
 

@@ -3,6 +3,8 @@ pub mod AttributeClaims
 pub mod Causes
 pub mod Claims
 pub mod Deciding
+pub mod Deepest
+pub mod DeepestClaims
 pub mod EchoCauses
 pub mod EchoClaims
 pub mod Explained

@@ -82,7 +82,7 @@ fn operation_object(alloc: Global, number: u32) -> Result<JsonObject, AllocError
 }
 
 /// Calls by their numbers.
-fn calls_list(alloc: Global, numbers: &[i32]) -> Result<JsonList, AllocError>
+pub fn calls_list(alloc: Global, numbers: &[i32]) -> Result<JsonList, AllocError>
     ensures { IfOk result (λ list. items_of list ≡ call_items numbers.now) }
 {
     let mut list = JsonList::new(alloc);

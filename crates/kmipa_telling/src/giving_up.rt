@@ -9,6 +9,7 @@ ghost use Rattle.kmipa_runs.specs.Statuses.{IsSilent};
 ghost use Rattle.kmipa_telling.specs.Deciding.{DecidesFiles};
 ghost use Rattle.kmipa_telling.specs.GivingUp.{PrintsGivingUp, decision_line, decision_text, judged_text};
 
+use crate::deepest::reached_text;
 use crate::judged::{Decision, Judged, judge_records};
 use crate::phrases::calls_text;
 use kmipa_check::AuditFault;
@@ -20,7 +21,7 @@ use std::alloc::{AllocError, Global};
 use std::io::Read;
 
 /// `search TRANSCRIPT DECLARATION OUT --explain`: does what `search_run` does, and appends behind the lines of a giving up one more, which
-/// tells whether the search has decided, and if not, why.
+/// tells whether the search has decided, and if not, why; and where the calls are plain, those of the deepest place that it reached.
 pub fn explain_search_run<R: Read, W: Watch>(
     alloc: Global,
     transcript: &mut Input<R>,
@@ -109,7 +110,7 @@ fn tell_judged(alloc: Global, judged: &Judged, out: &mut Vec<u8>, made: &mut Vec
     }
 }
 
-/// The lines of what a search found, and behind them what its giving up says.
+/// The lines of what a search found, and behind them what its giving up says, and the deepest place.
 fn judged_lines(alloc: Global, judged: &Judged) -> Result<Lines, AllocError>
     ensures { IfOk result (λ lines. (lines.status ≡ found_status judged.now.searched.found)
         × (string_bytes lines.text ≡ judged_text judged.now)) }
@@ -118,8 +119,9 @@ fn judged_lines(alloc: Global, judged: &Judged) -> Result<Lines, AllocError>
         text: front,
         status,
     } = searched_lines(alloc, &judged.searched)?;
-    let more = decision_text(alloc, &judged.decision)?;
-    let text = format!(in alloc; "{front}{more}")?;
+    let decision = decision_text(alloc, &judged.decision)?;
+    let deepest = reached_text(alloc, &judged.reached)?;
+    let text = format!(in alloc; "{front}{decision}{deepest}")?;
     Ok(Lines { text, status })
 }
 

@@ -6,10 +6,11 @@ ghost use Rattle.kmipa_record.specs.Transcripts.{transcript_of};
 ghost use Rattle.kmipa_telling.specs.Deciding.{DecidesRecords};
 
 use crate::deciding::decide;
+use crate::stuck::place_of;
 use kmipa_check::CheckFault;
 use kmipa_record::{Declaration, Transcript};
 use kmipa_runs::{Searched, search_records};
-use kmipa_search::{Found, Watch};
+use kmipa_search::{Deepest, Found, Reached, Watch};
 use std::alloc::Global;
 
 /// What a search says by giving up.
@@ -29,9 +30,11 @@ pub struct Judged {
     pub searched: Searched,
     /// None at a yes.
     pub decision: Option<Decision>,
+    /// The deepest place; none at a yes, and where some call isn't plain.
+    pub reached: Option<Reached>,
 }
 
-/// Searches the records, and where the search gives up, asks whether it has decided.
+/// Searches the records, and where the search gives up, asks whether it has decided, and where it got stuck.
 pub fn judge_records<W: Watch>(
     alloc: Global,
     transcript: &Transcript,
@@ -45,15 +48,31 @@ pub fn judge_records<W: Watch>(
     ensures { AreRecorded (transcript_of transcript.now)
         → DecidesRecords (transcript_of transcript.now) (declaration_of declaration.now) budget forced result }
 {
-    let searched = search_records(alloc, transcript, declaration, budget, forced, open, watch)?;
+    let mut deepest = Deepest::new(alloc, watch);
+    let searched = search_records(
+        alloc,
+        transcript,
+        declaration,
+        budget,
+        forced,
+        open,
+        &mut deepest,
+    )?;
     match &searched.found {
         Found::Yes(_, _) => Ok(Judged {
             searched,
             decision: None,
+            reached: None,
         }),
         Found::GaveUp(count) => {
-            let decision = Some(decide(alloc, transcript, budget, *count)?);
-            Ok(Judged { searched, decision })
+            let said = decide(alloc, transcript, budget, *count)?;
+            let order = deepest.into_calls()?;
+            let reached = place_of(alloc, transcript, declaration, &said, &order)?;
+            Ok(Judged {
+                searched,
+                decision: Some(said),
+                reached,
+            })
         }
     }
 }

@@ -7,6 +7,8 @@ mod bytes;
 mod causes;
 mod claims;
 mod deciding;
+mod deepest;
+mod deepest_claims;
 mod echo_causes;
 mod echo_claims;
 mod explained;
@@ -32,6 +34,7 @@ mod reading;
 mod state_causes;
 mod state_claims;
 mod stories;
+mod stuck;
 mod telling;
 mod telling_found;
 

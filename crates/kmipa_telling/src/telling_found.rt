@@ -6,8 +6,10 @@ ghost use Rattle.kmipa_runs.specs.Searches.{found_status};
 ghost use Rattle.kmipa_telling.specs.Claims.{call_items};
 ghost use Rattle.kmipa_telling.specs.JsonSearches.{decision_members, found_members, steps_members};
 
+use crate::claims::calls_list;
+use crate::deepest_claims::tell_reached;
 use crate::judged::{Decision, Judged};
-use kmipa_json::{JsonList, JsonObject};
+use kmipa_json::JsonObject;
 use kmipa_runs::Status;
 use kmipa_search::Found;
 use std::alloc::{AllocError, Global};
@@ -34,6 +36,7 @@ pub fn tell_judged(
             if let Some(decision) = &judged.decision {
                 tell_decision(alloc, told, decision)?;
             }
+            tell_reached(alloc, told, &judged.reached)?;
             Ok(Status::GaveUp)
         }
     }
@@ -64,15 +67,4 @@ fn tell_decision(
             told.put_list("not_plain", calls_list(alloc, numbers)?)
         }
     }
-}
-
-/// Calls by their numbers.
-fn calls_list(alloc: Global, numbers: &[i32]) -> Result<JsonList, AllocError>
-    ensures { IfOk result (λ list. items_of list ≡ call_items numbers.now) }
-{
-    let mut list = JsonList::new(alloc);
-    'numbers: for number in numbers {
-        list.push_integer(*number as i64)?;
-    }
-    Ok(list)
 }

@@ -1,0 +1,23 @@
+use Rattle.std.proofs.Common.{Ok, Some, subst, sym}
+use Rattle.kmipa_record.specs.Declarations.{declaration_of}
+use Rattle.kmipa_record.specs.Transcripts.{transcript_of}
+use Rattle.kmipa_telling.specs.Deciding.{TellsDecision, TellsPlaceOf}
+use Rattle.kmipa_telling.specs.declared.judged.Decision.{Decision}
+use Rattle.kmipa_telling.specs.declared.judged.Decision.TheVariants as decision
+use Rattle.kmipa_telling.proofs.DecidingLemmas.{decided_have_steps, spent_have_steps}
+use Rattle.kmipa_telling.proofs.stuck.place_of.Goals as goal
+
+pub returns-in-Decided : goal.returns-in-Decided
+returns-in-Decided c = λ budget count recorded tells.
+    let marks = transcript_of c.args.transcript.now in
+    let P : Decision → Type 0 = λ s. TellsDecision marks budget count (Ok s) in
+    let Q : Decision → Type 0 = λ s. TellsPlaceOf marks (declaration_of c.args.declaration.now) (Some s) c.some_place.result in
+    subst Q (sym c.in-Decided.is) (c.some_place.ensures recorded (decided_have_steps marks budget count (subst P c.in-Decided.is tells)) (Some decision.Decided) tt)
+
+pub returns-in-UsedUp : goal.returns-in-UsedUp
+returns-in-UsedUp c = λ budget count recorded tells.
+    let marks = transcript_of c.args.transcript.now in
+    let P : Decision → Type 0 = λ s. TellsDecision marks budget count (Ok s) in
+    let Q : Decision → Type 0 = λ s. TellsPlaceOf marks (declaration_of c.args.declaration.now) (Some s) c.some_place-in-UsedUp.result in
+    let steps = c.in-UsedUp.field-0 in
+    subst Q (sym c.in-UsedUp.is) (c.some_place-in-UsedUp.ensures recorded (spent_have_steps marks budget count steps (subst P c.in-UsedUp.is tells)) (Some (decision.UsedUp steps)) tt)
