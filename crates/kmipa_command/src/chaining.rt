@@ -2,15 +2,16 @@
 
 ghost use Rattle.std.specs.Prelude.{◌≡◌, ◌≤◌, IfOk, length};
 ghost use Rattle.kmipa_record.specs.Declarations.{AreDeclared, declaration_of};
-ghost use Rattle.kmipa_runs.specs.Chaining.{AreNextOf};
 ghost use Rattle.kmipa_runs.specs.declared.status.Status.{Status};
+ghost use Rattle.kmipa_segments.specs.Chaining.{AreNextOf};
 
 use crate::files::{hint_kind, open_input};
 use crate::folders::{Asked, Folder, Segment, read_folder};
 use crate::printing::tell;
 use crate::progress::Progress;
 use crate::replacing::{is_input, replace_file, test_output};
-use kmipa_runs::{Chain, Status, chain_begin, chain_check, chain_compare, chain_end, chain_search};
+use kmipa_runs::Status;
+use kmipa_segments::{Chain, chain_begin, chain_check, chain_compare, chain_end, chain_search};
 use std::io;
 use std::rt::{Clock, Files};
 

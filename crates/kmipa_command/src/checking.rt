@@ -7,7 +7,9 @@ ghost use Rattle.kmipa_runs.specs.declared.status.Status.{Status};
 use crate::files::{hint_kind, open_input};
 use crate::replacing::{is_input, replace_file, test_output};
 use crate::words::{FormWords, SegmentWords};
-use kmipa_runs::{Status, check_run, explain_run, read_moment, segment_run};
+use kmipa_runs::{Status, check_run};
+use kmipa_segments::{read_moment, segment_run};
+use kmipa_telling::explain_run;
 use std::io;
 use std::rt::Files;
 

@@ -10,8 +10,9 @@ use crate::files::open_input;
 use crate::printing::tell;
 use crate::replacing::{is_input, replace_file, test_output};
 use crate::searching::SearchWords;
-use kmipa_runs::{Status, check_json, explain_json, search_json};
+use kmipa_runs::Status;
 use kmipa_search::Watch;
+use kmipa_telling::{check_json, explain_json, search_json};
 use std::io;
 use std::rt::Files;
 

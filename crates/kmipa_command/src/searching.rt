@@ -6,8 +6,10 @@ use crate::replacing::{
     Content, are_one_output, is_input, replace_both, replace_file, test_output,
 };
 use crate::words::SegmentWords;
-use kmipa_runs::{Status, explain_search_run, search_run, search_segment_run};
+use kmipa_runs::{Status, search_run};
 use kmipa_search::Watch;
+use kmipa_segments::search_segment_run;
+use kmipa_telling::explain_search_run;
 use std::io;
 use std::rt::Files;
 

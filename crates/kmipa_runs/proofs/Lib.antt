@@ -1,29 +1,9 @@
-mod AppendLemmas
-mod ChainLemmas
-pub mod ChainingLemmas
-mod ClaimLemmas
-mod CompareLemmas
-mod DecidingLemmas
-mod ExplainedJsonLemmas
-mod ExplainedLemmas
-mod ExplainingLemmas
+pub mod AppendLemmas
 mod FrontLemmas
-mod GivingUpLemmas
-mod HeldLemmas
 mod InputLemmas
-mod JsonLemmas
-mod JsonSearchLemmas
-mod JudgingLemmas
 mod LawLemmas
-mod LeavingLemmas
-mod LineLemmas
-mod ListLemmas
-mod MomentLemmas
-mod PhraseLemmas
+pub mod LineLemmas
 mod PrintLemmas
-mod SearchLemmas
-mod SegmentSearchLemmas
+pub mod SearchLemmas
 mod ShownLemmas
-mod StoryLemmas
-mod TellingLemmas
 mod YesLemmas

@@ -102,6 +102,7 @@ fn result_status_name(number: u32) -> Option<&'static str>
     }
 }
 
+/// The name of a Result Reason's number, or `None` where the standard names none.
 #[tactic(auto, unfolding(crate::specs::Notes::result_reasons))]
 pub fn result_reason_name(number: u32) -> Option<&'static str>
     ensures { option_map (λ name. name.now) result ≡ name_among result_reasons number }
@@ -188,6 +189,7 @@ fn state_name(number: u32) -> Option<&'static str>
     }
 }
 
+/// The name of an object type's number, or `None` where the standard names none.
 #[tactic(auto, unfolding(crate::specs::Notes::object_types))]
 pub fn object_type_name(number: u32) -> Option<&'static str>
     ensures { option_map (λ name. name.now) result ≡ name_among object_types number }
@@ -232,6 +234,7 @@ fn key_format_name(number: u32) -> Option<&'static str>
     }
 }
 
+/// The name of a name type's number, or `None` where the standard names none.
 #[tactic(auto, unfolding(crate::specs::Notes::name_types))]
 pub fn name_type_name(number: u32) -> Option<&'static str>
     ensures { option_map (λ name. name.now) result ≡ name_among name_types number }
@@ -243,6 +246,7 @@ pub fn name_type_name(number: u32) -> Option<&'static str>
     }
 }
 
+/// The name of a cryptographic algorithm's number, or `None` where the standard names none.
 #[tactic(auto, unfolding(crate::specs::Notes::cryptographic_algorithms))]
 pub fn algorithm_name(number: u32) -> Option<&'static str>
     ensures { option_map (λ name. name.now) result ≡ name_among cryptographic_algorithms number }

@@ -1,6 +1,6 @@
 use Rattle.std.proofs.Common.{◌≡◌, ℕ, length, subst, arith}
-use Rattle.kmipa_runs.specs.Chaining.{AreNextOf}
-use Rattle.kmipa_runs.proofs.ChainingLemmas.{more_next, none_more}
+use Rattle.kmipa_segments.specs.Chaining.{AreNextOf}
+use Rattle.kmipa_segments.proofs.ChainingLemmas.{more_next, none_more}
 use Rattle.kmipa_command.proofs.chaining.judge_in_turn.Goals as goal
 
 pub segments-init : goal.segments-init

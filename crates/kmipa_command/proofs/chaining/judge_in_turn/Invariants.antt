@@ -1,6 +1,6 @@
 use Rattle.std.proofs.Common.{◌≤◌, ◌-◌, length}
 use Rattle.kmipa_record.specs.Declarations.{AreDeclared, declaration_of}
-use Rattle.kmipa_runs.specs.Chaining.{AreNextOf}
+use Rattle.kmipa_segments.specs.Chaining.{AreNextOf}
 use Rattle.kmipa_command.proofs.chaining.judge_in_turn.Given as goal
 
 abbrev pub decreases-segments : goal.decreases-segments

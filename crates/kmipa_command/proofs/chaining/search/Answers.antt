@@ -1,4 +1,4 @@
-use Rattle.kmipa_runs.proofs.ChainingLemmas.{one_more}
+use Rattle.kmipa_segments.proofs.ChainingLemmas.{one_more}
 use Rattle.kmipa_command.proofs.ChainingLemmas.{told_done}
 use Rattle.kmipa_command.proofs.chaining.search.Goals as goal
 

@@ -1,5 +1,0 @@
-use Rattle.std.proofs.Common.{◌-◌, length}
-use Rattle.kmipa_runs.proofs.comparing.places_of.Given as goal
-
-abbrev pub decreases-entries : goal.decreases-entries
-decreases-entries l = length l.entries - l.place

@@ -1,6 +1,0 @@
-use Rattle.std.proofs.Common.{◌∙◌}
-use Rattle.kmipa_runs.proofs.CompareLemmas.{strangers_are}
-use Rattle.kmipa_runs.proofs.parts.has_stranger.Goals as goal
-
-pub returns : goal.returns
-returns c = c.any_stranger.ensures ∙ strangers_are c.args.known.now c.args.names.now

@@ -1,0 +1,192 @@
+//! A chain of segments of one recording, judged one after the other in the memory of one.
+
+ghost use Rattle.std.specs.Prelude.{◌≡◌, ◌≢◌, ◌⊎◌, ℕ, List, [], Some, None, Ok, IsTrue, IfOk, IfErr, Result};
+ghost use Rattle.std.specs.Io.{StartsWith, appended_bytes};
+ghost use Rattle.kmipa_ttlv.specs.Input.{came_of, is_ended, is_failed, IsFileOf};
+ghost use Rattle.kmipa_record.specs.Declarations.{AreDeclared, declaration_of, DeclarationFault, IsDeclaration, IsDeclarationUpTo};
+ghost use Rattle.kmipa_record.specs.Files.{Tells};
+ghost use Rattle.kmipa_record.specs.Transcripts.{transcript_of};
+ghost use Rattle.kmipa_record.specs.Witnesses.{witness_of};
+ghost use Rattle.kmipa_check.specs.Left.{LeavesAtYes};
+ghost use Rattle.kmipa_runs.specs.Lines.{PrintsFault, PrintsVerdict};
+ghost use Rattle.kmipa_runs.specs.Statuses.{IsSilent};
+ghost use Rattle.kmipa_segments.specs.Chains.{AreChained, ChecksNext, GoesOnBy, GoesOnSomehow, IsSomeDeclared, LeavesWhereFound, PrintsNext, PrintsNextFound, SearchesNext};
+
+use crate::next::{NextSegment, check_next_inputs, search_next_input};
+use crate::segment_search::FoundSegment;
+use kmipa_check::{AuditFault, Left};
+use kmipa_record::{RecordFault, read_declaration};
+use kmipa_runs::{Status, append, fault_lines, report, searched_lines};
+use kmipa_search::{Found, Watch};
+use kmipa_ttlv::Input;
+use std::alloc::Global;
+use std::io::Read;
+
+/// What the segments that were judged so far leave to the next.
+#[derive(Debug, Drop)]
+pub struct Chain {
+    pub held: Left,
+    /// How many calls were taken by now.
+    pub calls: u64,
+}
+
+impl Chain {
+    /// The chain of no segments, which holds the declaration that is read of an input of which nothing was read. Where that is none, appends
+    /// the line of its first fault and answers the status.
+    pub fn read<R: Read>(
+        alloc: Global,
+        declaration: &mut Input<R>,
+        out: &mut Vec<u8>,
+    ) -> Result<Chain, Status>
+        requires { came_of declaration.old ≡ [] }
+        ensures begins { IfOk result
+            (λ chain. IsDeclaration (came_of declaration.new) (declaration_of chain.held.declaration)
+            × IsTrue (is_ended declaration.new)
+            × AreChained (declaration_of chain.held.declaration) None [] [] chain.held) }
+        ensures declared { IfOk result (λ chain. AreDeclared (declaration_of chain.held.declaration)) }
+        ensures refuses { IfErr result (λ status. (fault : RecordFault)
+            × ((d : List ℕ) → IsFileOf d declaration.new
+            → Tells DeclarationFault IsDeclarationUpTo d (is_failed declaration.new) fault)
+            × (PrintsFault (AuditFault.Declaration fault) status (appended_bytes out.old.items out.new.items)
+            ⊎ IsSilent status (appended_bytes out.old.items out.new.items))) }
+        ensures appends { StartsWith out.new.items out.old.items }
+    {
+        match read_declaration(alloc, declaration) {
+            Ok(declaration) => Ok(Chain {
+                held: Left {
+                    declaration,
+                    until: None,
+                },
+                calls: 0,
+            }),
+            Err(fault) => Err(append(fault_lines(alloc, &AuditFault::Declaration(fault)), out)),
+        }
+    }
+
+    /// Judges the next segment by its witness, from what the segments so far leave, and from their last stamp on. Appends the lines of the verdict,
+    /// or the line of the fault that stands in their place, and answers the status. At a yes the chain then holds what this segment leaves.
+    pub fn check_next<R: Read>(
+        &mut self,
+        alloc: Global,
+        transcript: &mut Input<R>,
+        witness: &mut Input<R>,
+        out: &mut Vec<u8>,
+    ) -> Status
+        requires declared { AreDeclared (declaration_of self.old.held.declaration) }
+        requires transcript { came_of transcript.old ≡ [] }
+        requires witness { came_of witness.old ≡ [] }
+        // What is printed tells what a check answers of whatever the inputs may be, or memory ran out.
+        ensures prints { (outcome : Result NextSegment AuditFault)
+            × ((t w : List ℕ) → IsFileOf t transcript.new → IsFileOf w witness.new
+            → ChecksNext self.old.held t w (is_failed transcript.new) (is_failed witness.new) outcome)
+            × (PrintsNext outcome result (appended_bytes out.old.items out.new.items)
+            ⊎ IsSilent result (appended_bytes out.old.items out.new.items)) }
+        // Status 0 is answered only of a segment that goes on from what was held, and joins all before it; what it leads to is held then.
+        ensures goes_on { result ≡ Status.Done
+            → GoesOnBy self.old.held self.new.held (came_of transcript.new) (came_of witness.new)
+            × IsTrue (is_ended transcript.new) × IsTrue (is_ended witness.new) }
+        ensures kept { result ≢ Status.Done → self.new.held ≡ self.old.held }
+        ensures declared { AreDeclared (declaration_of self.new.held.declaration) }
+        ensures appends { StartsWith out.new.items out.old.items }
+    {
+        match check_next_inputs(alloc, &self.held, transcript, witness) {
+            Ok(segment) => self.take_checked(alloc, segment, out),
+            Err(fault) => append(fault_lines(alloc, &fault), out),
+        }
+    }
+
+    /// Judges the next segment by a witness that is searched for with at most `budget` steps, in the same way.
+    pub fn search_next<R: Read, W: Watch>(
+        &mut self,
+        alloc: Global,
+        transcript: &mut Input<R>,
+        budget: u64,
+        watch: &mut W,
+        out: &mut Vec<u8>,
+    ) -> Status
+        requires declared { AreDeclared (declaration_of self.old.held.declaration) }
+        requires transcript { came_of transcript.old ≡ [] }
+        // What is printed tells what a search answers of whatever the input may be, or memory ran out.
+        ensures prints { (outcome : Result FoundSegment AuditFault)
+            × ((t : List ℕ) → IsFileOf t transcript.new
+            → SearchesNext self.old.held t (is_failed transcript.new) budget outcome)
+            × (PrintsNextFound outcome result (appended_bytes out.old.items out.new.items)
+            ⊎ IsSilent result (appended_bytes out.old.items out.new.items)) }
+        ensures goes_on { result ≡ Status.Done
+            → GoesOnSomehow self.old.held self.new.held (came_of transcript.new) × IsTrue (is_ended transcript.new) }
+        ensures kept { result ≢ Status.Done → self.new.held ≡ self.old.held }
+        ensures declared { AreDeclared (declaration_of self.new.held.declaration) }
+        ensures appends { StartsWith out.new.items out.old.items }
+    {
+        match search_next_input(alloc, &self.held, transcript, budget, watch) {
+            Ok(segment) => self.take_found(alloc, segment, out),
+            Err(fault) => append(fault_lines(alloc, &fault), out),
+        }
+    }
+
+    /// Appends the lines of a verdict. At a yes the chain then holds what is left.
+    fn take_checked(&mut self, alloc: Global, segment: NextSegment, out: &mut Vec<u8>) -> Status
+        requires declared { AreDeclared (declaration_of self.old.held.declaration) }
+        requires leaves { LeavesAtYes segment.checked.verdict segment.checked.left
+            (λ left. AreDeclared (declaration_of left.declaration)) }
+        ensures prints { PrintsVerdict (transcript_of segment.transcript) (witness_of segment.witness)
+            segment.checked.verdict result (appended_bytes out.old.items out.new.items)
+            ⊎ IsSilent result (appended_bytes out.old.items out.new.items) }
+        ensures taken { result ≡ Status.Done → segment.checked.left ≡ Some self.new.held }
+        ensures kept { result ≢ Status.Done → self.new.held ≡ self.old.held }
+        ensures declared { AreDeclared (declaration_of self.new.held.declaration) }
+        ensures appends { StartsWith out.new.items out.old.items }
+    {
+        let NextSegment {
+            transcript,
+            witness,
+            checked,
+        } = segment;
+        match report(alloc, &checked.verdict, &transcript, &witness, out) {
+            Status::Done => self.hold(checked.left, witness.turns.len()),
+            status => status,
+        }
+    }
+
+    /// Appends the line of what was found. Where that is a witness the chain then holds what is left.
+    fn take_found(&mut self, alloc: Global, segment: FoundSegment, out: &mut Vec<u8>) -> Status
+        requires declared { AreDeclared (declaration_of self.old.held.declaration) }
+        requires leaves { LeavesWhereFound segment.searched.found segment.left
+            (λ left. AreDeclared (declaration_of left.declaration)) }
+        ensures prints { PrintsNextFound (Ok segment) result (appended_bytes out.old.items out.new.items)
+            ⊎ IsSilent result (appended_bytes out.old.items out.new.items) }
+        ensures taken { result ≡ Status.Done → segment.left ≡ Some self.new.held }
+        ensures kept { result ≢ Status.Done → self.new.held ≡ self.old.held }
+        ensures declared { AreDeclared (declaration_of self.new.held.declaration) }
+        ensures appends { StartsWith out.new.items out.old.items }
+    {
+        let FoundSegment { searched, left } = segment;
+        match append(searched_lines(alloc, &searched), out) {
+            Status::Done => self.hold(left, calls_found(&searched.found)),
+            status => status,
+        }
+    }
+
+    /// Holds what a segment of so many calls leaves.
+    fn hold(&mut self, left: Option<Left>, calls: usize) -> Status
+        requires { IsSomeDeclared left }
+        ensures done { result ≡ Status.Done }
+        ensures holds { left ≡ Some self.new.held }
+        ensures declared { AreDeclared (declaration_of self.new.held.declaration) }
+    {
+        match left {
+            Some(left) => self.held = left,
+            None => {}
+        }
+        self.calls = self.calls.saturating_add(calls as u64);
+        Status::Done
+    }
+}
+
+/// How many calls a witness takes that was found.
+fn calls_found(found: &Found) -> usize {
+    match found {
+        Found::Yes(witness, _) => witness.turns.len(),
+        Found::GaveUp(_) => 0,
+    }
+}

@@ -1,0 +1,21 @@
+//! The segments of a recording: what each leaves for the next, their searches, chains of them, and declarations that
+//! are compared with what is left.
+#![tactic(auto)]
+
+mod chain;
+mod chaining;
+mod comparing;
+mod leaving;
+mod moments;
+mod next;
+mod parts;
+mod segment_search;
+
+pub use chain::Chain;
+pub use chaining::{chain_begin, chain_check, chain_compare, chain_end, chain_search};
+pub use comparing::{Compared, Difference};
+pub use leaving::{Segment, segment_run};
+pub use moments::read_moment;
+pub use next::NextSegment;
+pub use parts::Part;
+pub use segment_search::{FoundSegment, search_segment_run};

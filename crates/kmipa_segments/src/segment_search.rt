@@ -1,0 +1,318 @@
+//! The search of a segment: a witness that goes on from a moment, and with it the declaration with which the next segment goes on.
+
+ghost use Rattle.std.specs.Prelude.{◌≡◌, ◌≢◌, ◌⊎◌, ℕ, List, [], Bool, IsTrue, OnOk, OnErr, Result, Some, None, Ok};
+ghost use Rattle.std.specs.Io.{StartsWith, appended_bytes};
+ghost use Rattle.kmipa_ttlv.specs.Input.{came_of, is_ended, is_failed, IsFileOf};
+ghost use Rattle.kmipa_record.specs.Declarations.{AreDeclared, declaration_of};
+ghost use Rattle.kmipa_record.specs.Marks.{AreRecorded};
+ghost use Rattle.kmipa_record.specs.Transcripts.{transcript_of};
+ghost use Rattle.kmipa_search.specs.Found.{Finds};
+ghost use Rattle.kmipa_search.specs.declared.found.Found.TheVariants.{Yes};
+ghost use Rattle.kmipa_runs.specs.Searches.{IsForcedTold, Makes};
+ghost use Rattle.kmipa_runs.specs.Statuses.{IsSilent};
+ghost use Rattle.kmipa_segments.specs.Leaving.{LeadsAsAsked, if_asked};
+ghost use Rattle.kmipa_segments.specs.SegmentSearches.{PrintsSegmentSearch, SearchesSegment, SearchesSince, TellsBoth, TellsFound};
+
+use crate::leaving::tell_left;
+use kmipa_check::{AuditFault, CheckFault, Left, check_segment};
+use kmipa_record::{
+    Declaration, RecordFault, Transcript, Witness, read_declaration, read_transcript, write_witness,
+};
+use kmipa_runs::{
+    Searched, Status, append, fault_lines, search_records, searched_lines, tell_searched,
+};
+use kmipa_search::{Found, Watch};
+use kmipa_ttlv::Input;
+use std::alloc::Global;
+use std::io::Read;
+
+/// What a search of a segment found, and what the witness that it found leaves, if it found one.
+#[derive(Debug, Drop)]
+pub struct FoundSegment {
+    pub searched: Searched,
+    pub left: Option<Left>,
+}
+
+/// `search TRANSCRIPT DECLARATION OUT`, from a moment on (in seconds since 1970) where one is given, `--not-before DATE`: looks for a witness
+/// with at most `budget` steps, with `open` as `search_run` does. Appends to `out` the lines of what was found, with `forced` before them
+/// whether the transcript is forced, or the line of the fault that stands in their place, and answers the status. A witness that was found is appended to `made`, as a file; where
+/// it takes a call below the moment, it ends as a search that gave up does. Where the declaration that is left is asked for, `--leaves OUT`,
+/// it is appended to `left`, as a file, and the lines tell of it, or, where no bytes are that declaration, why. At every other status than
+/// `Done` nothing is made. Where memory runs out nothing is appended to any, and the status is `Failed`. The watcher is reported of each step.
+pub fn search_segment_run<R: Read, W: Watch>(
+    alloc: Global,
+    transcript: &mut Input<R>,
+    declaration: &mut Input<R>,
+    since: Option<i64>,
+    budget: u64,
+    forced: bool,
+    open: bool,
+    leaves: bool,
+    watch: &mut W,
+    out: &mut Vec<u8>,
+    made: &mut Vec<u8>,
+    left: &mut Vec<u8>,
+) -> Status
+    requires transcript { came_of transcript.old ≡ [] }
+    requires declaration { came_of declaration.old ≡ [] }
+    // What is made and printed tells what a search answers of whatever the inputs may be, or memory ran out.
+    ensures prints { (outcome : Result FoundSegment AuditFault)
+        × ((t d : List ℕ) → IsFileOf t transcript.new → IsFileOf d declaration.new
+        → SearchesSince t d (is_failed transcript.new) (is_failed declaration.new) since budget forced outcome)
+        × (PrintsSegmentSearch leaves outcome result (appended_bytes out.old.items out.new.items)
+        (appended_bytes made.old.items made.new.items)
+        (appended_bytes left.old.items left.new.items)
+        ⊎ (IsSilent result (appended_bytes out.old.items out.new.items)
+        × (appended_bytes made.old.items made.new.items ≡ [])
+        × (appended_bytes left.old.items left.new.items ≡ []))) }
+    // Status 0 is answered only where the bytes that came, to the ends that were seen, are accepted from the moment on with the witness that is
+    // made; and where it is asked for, what they lead to is made.
+    ensures leads { result ≡ Status.Done
+        → LeadsAsAsked leaves (came_of transcript.new) (came_of declaration.new)
+        (appended_bytes made.old.items made.new.items) since
+        (appended_bytes left.old.items left.new.items) × IsTrue (is_ended transcript.new)
+        × IsTrue (is_ended declaration.new) }
+    ensures nothing { result ≢ Status.Done → (made.new.items ≡ made.old.items) × (left.new.items ≡ left.old.items) }
+    ensures appends { StartsWith out.new.items out.old.items }
+    ensures makes { StartsWith made.new.items made.old.items × StartsWith left.new.items left.old.items }
+{
+    match search_inputs(
+        alloc,
+        transcript,
+        declaration,
+        since,
+        budget,
+        forced,
+        open,
+        watch,
+    ) {
+        Ok(segment) => tell_segment(alloc, &segment, leaves, out, made, left),
+        Err(fault) => append(fault_lines(alloc, &fault), out),
+    }
+}
+
+/// Reads the two inputs, of which nothing was read, one after the other, and searches the segment.
+fn search_inputs<R: Read, W: Watch>(
+    alloc: Global,
+    transcript: &mut Input<R>,
+    declaration: &mut Input<R>,
+    since: Option<i64>,
+    budget: u64,
+    forced: bool,
+    open: bool,
+    watch: &mut W,
+) -> Result<FoundSegment, AuditFault>
+    requires transcript { came_of transcript.old ≡ [] }
+    requires declaration { came_of declaration.old ≡ [] }
+    ensures searches { (t d : List ℕ) → IsFileOf t transcript.new → IsFileOf d declaration.new
+        → SearchesSince t d (is_failed transcript.new) (is_failed declaration.new) since budget forced result }
+    ensures ended { OnOk result (IsTrue (is_ended transcript.new) × IsTrue (is_ended declaration.new)) }
+{
+    let transcript = match read_transcript(alloc, transcript) {
+        Ok(transcript) => transcript,
+        Err(fault) => return Err(AuditFault::Transcript(fault)),
+    };
+    let declaration = match read_declaration(alloc, declaration) {
+        Ok(declaration) => declaration,
+        Err(fault) => return Err(AuditFault::Declaration(fault)),
+    };
+    match search_segment(
+        alloc,
+        &transcript,
+        &declaration,
+        since,
+        budget,
+        forced,
+        open,
+        watch,
+    ) {
+        Ok(segment) => Ok(segment),
+        Err(fault) => Err(AuditFault::Check(fault)),
+    }
+}
+
+/// Searches the records of a segment, and checks the witness that is found from the moment on.
+pub fn search_segment<W: Watch>(
+    alloc: Global,
+    transcript: &Transcript,
+    declaration: &Declaration,
+    since: Option<i64>,
+    budget: u64,
+    forced: bool,
+    open: bool,
+    watch: &mut W,
+) -> Result<FoundSegment, CheckFault>
+    requires { AreDeclared (declaration_of declaration.now) }
+    ensures { AreRecorded (transcript_of transcript.now)
+        → SearchesSegment (transcript_of transcript.now) (declaration_of declaration.now) since budget forced result }
+{
+    let searched = match search_records(
+        alloc,
+        transcript,
+        declaration,
+        budget,
+        forced,
+        open,
+        watch,
+    ) {
+        Ok(searched) => searched,
+        Err(fault) => return Err(fault),
+    };
+    let forced = searched.forced;
+    let found = searched.found;
+    match found {
+        Found::Yes(witness, count) => go_on(
+            alloc,
+            transcript,
+            declaration,
+            since,
+            forced,
+            witness,
+            count,
+        ),
+        Found::GaveUp(count) => Ok(gave_up(forced, count)),
+    }
+}
+
+/// Goes on with the witness that was found: it is checked from the moment on.
+fn go_on(
+    alloc: Global,
+    transcript: &Transcript,
+    declaration: &Declaration,
+    since: Option<i64>,
+    forced: Option<bool>,
+    witness: Witness,
+    count: u64,
+) -> Result<FoundSegment, CheckFault>
+    requires { AreDeclared (declaration_of declaration.now) }
+    ensures { (budget : ℕ) (asked : Bool) → AreRecorded (transcript_of transcript.now)
+        → IsForcedTold (transcript_of transcript.now) asked forced
+        → Finds (transcript_of transcript.now) (declaration_of declaration.now) budget (Yes witness count)
+        → SearchesSegment (transcript_of transcript.now) (declaration_of declaration.now) since budget asked result }
+{
+    let checked = match check_segment(alloc, transcript, declaration, &witness, since) {
+        Ok(checked) => checked,
+        Err(fault) => return Err(fault),
+    };
+    let left = checked.left;
+    match left {
+        Some(left) => Ok(FoundSegment {
+            searched: Searched {
+                forced,
+                found: Found::Yes(witness, count),
+            },
+            left: Some(left),
+        }),
+        None => Ok(gave_up(forced, count)),
+    }
+}
+
+/// No witness was found that goes on from the moment.
+fn gave_up(forced: Option<bool>, count: u64) -> FoundSegment
+    ensures { result ≡ record { searched = record { forced = forced; found = Found.GaveUp count }; left = None } }
+{
+    FoundSegment {
+        searched: Searched {
+            forced,
+            found: Found::GaveUp(count),
+        },
+        left: None,
+    }
+}
+
+/// Appends the lines of what was found to `out`, a witness that was found to `made`, and the declaration that it leaves, where it is asked for,
+/// to `left`; nothing to any where memory runs out.
+fn tell_segment(
+    alloc: Global,
+    segment: &FoundSegment,
+    leaves: bool,
+    out: &mut Vec<u8>,
+    made: &mut Vec<u8>,
+    left: &mut Vec<u8>,
+) -> Status
+    ensures tells { TellsFound segment.now (if_asked leaves segment.now.left) result
+        (appended_bytes out.old.items out.new.items)
+        (appended_bytes made.old.items made.new.items) (appended_bytes left.old.items left.new.items)
+        ⊎ (IsSilent result (appended_bytes out.old.items out.new.items)
+        × (appended_bytes made.old.items made.new.items ≡ [])
+        × (appended_bytes left.old.items left.new.items ≡ [])) }
+    ensures nothing { result ≢ Status.Done → (made.new.items ≡ made.old.items) × (left.new.items ≡ left.old.items) }
+    ensures appends { StartsWith out.new.items out.old.items }
+    ensures makes { StartsWith made.new.items made.old.items × StartsWith left.new.items left.old.items }
+{
+    if leaves {
+        tell_found(alloc, segment, out, made, left)
+    } else {
+        tell_searched(alloc, &segment.searched, out, made)
+    }
+}
+
+/// The same where what is left is asked for.
+fn tell_found(
+    alloc: Global,
+    segment: &FoundSegment,
+    out: &mut Vec<u8>,
+    made: &mut Vec<u8>,
+    left: &mut Vec<u8>,
+) -> Status
+    ensures tells { TellsFound segment.now segment.now.left result (appended_bytes out.old.items out.new.items)
+        (appended_bytes made.old.items made.new.items) (appended_bytes left.old.items left.new.items)
+        ⊎ (IsSilent result (appended_bytes out.old.items out.new.items)
+        × (appended_bytes made.old.items made.new.items ≡ [])
+        × (appended_bytes left.old.items left.new.items ≡ [])) }
+    ensures nothing { result ≢ Status.Done → (made.new.items ≡ made.old.items) × (left.new.items ≡ left.old.items) }
+    ensures appends { StartsWith out.new.items out.old.items }
+    ensures makes { StartsWith made.new.items made.old.items × StartsWith left.new.items left.old.items }
+{
+    match &segment.left {
+        Some(next) => tell_both(alloc, &segment.searched, next, out, made, left),
+        None => tell_searched(alloc, &segment.searched, out, made),
+    }
+}
+
+/// Appends what was found to `made`, the declaration that it leaves to `left`, and the lines of both to `out`; nothing to any where memory
+/// runs out.
+fn tell_both(
+    alloc: Global,
+    searched: &Searched,
+    next: &Left,
+    out: &mut Vec<u8>,
+    made: &mut Vec<u8>,
+    left: &mut Vec<u8>,
+) -> Status
+    ensures tells { TellsBoth searched.now next.now result (appended_bytes out.old.items out.new.items)
+        (appended_bytes made.old.items made.new.items) (appended_bytes left.old.items left.new.items)
+        ⊎ (IsSilent result (appended_bytes out.old.items out.new.items)
+        × (appended_bytes made.old.items made.new.items ≡ [])
+        × (appended_bytes left.old.items left.new.items ≡ [])) }
+    ensures nothing { result ≢ Status.Done → (made.new.items ≡ made.old.items) × (left.new.items ≡ left.old.items) }
+    ensures appends { StartsWith out.new.items out.old.items }
+    ensures makes { StartsWith made.new.items made.old.items × StartsWith left.new.items left.old.items }
+{
+    let Ok(lines) = searched_lines(alloc, searched) else {
+        return Status::Failed;
+    };
+    let kept = made.len();
+    if make_found(alloc, &searched.found, made).is_err() {
+        return Status::Failed;
+    }
+    match tell_left(alloc, lines.text.as_str(), next, out, left) {
+        Status::Done => Status::Done,
+        status => {
+            made.truncate(kept);
+            status
+        }
+    }
+}
+
+/// Appends a witness that was found.
+fn make_found(alloc: Global, found: &Found, made: &mut Vec<u8>) -> Result<(), RecordFault>
+    ensures made { OnOk result (Makes found.now (appended_bytes made.old.items made.new.items)) }
+    ensures same { OnErr result (made.new.items ≡ made.old.items) }
+    ensures appends { StartsWith made.new.items made.old.items }
+{
+    match found {
+        Found::Yes(witness, _) => write_witness(alloc, witness, made),
+        Found::GaveUp(_) => Ok(()),
+    }
+}

@@ -1,0 +1,102 @@
+-- Calls that are plain, those that aren't, and what giving up says of them.
+use Rattle.std.proofs.Common.{◌≡◌, inl, inr, ℕ, ℤ, Bool, true, false, List, [], ◌∷◌, ◌++◌, Option, Some, None, Ok, ◌<◌, ◌≤◌, refl, sym, ap, subst, ◌∙◌}
+use Rattle.std.specs.Prelude.{not, is_some}
+use Rattle.kmipa_record.specs.Marks.{AreRecorded, MarkOf}
+use Rattle.kmipa_record.specs.Declarations.{DeclarationOf}
+use Rattle.kmipa_msgs.specs.Messages.{ResponseOf}
+use Rattle.kmipa_batch.specs.Orders.{is_unordered}
+use Rattle.kmipa_check.specs.Calls.{CallOf, AreCalls}
+use Rattle.kmipa_check.specs.Ordering.{Decided}
+use Rattle.kmipa_check.specs.Steps.{StepOf, NeedsFill, step_with}
+use Rattle.kmipa_check.proofs.RecordedLemmas.{same_calls}
+use Rattle.kmipa_search.specs.Forced.{TellsForced}
+use Rattle.kmipa_search.specs.Found.{Finds, HasDecided, stopped}
+use Rattle.kmipa_search.specs.Plain.{ArePlain, IsForced}
+use Rattle.kmipa_search.specs.declared.found.Found.{Found}
+use Rattle.kmipa_search.specs.declared.found.Found.TheVariants.{GaveUp}
+use Rattle.kmipa_runs.specs.Searches.{SearchesRecords}
+use Rattle.kmipa_runs.specs.declared.searched.Searched.{Searched}
+use Rattle.kmipa_telling.specs.Deciding.{AreUnplain, DecidesRecords, IsPlain, IsSaid, TellsDecision, TellsGivingUp}
+use Rattle.kmipa_telling.specs.declared.judged.Decision.{Decision}
+use Rattle.kmipa_telling.specs.declared.judged.Decision.TheVariants as decision
+
+-- ---- one call
+
+plain_with : (c : CallOf) (r : ResponseOf) (end : ℕ) (needs : Bool) → c.response ≡ Some r → c.end ≡ Some end → is_unordered c.request ≡ false
+    → Decided needs (NeedsFill c.request r) → Decided (not needs) (IsPlain c)
+plain_with c r end true given ended ordered needed = λ p.
+    let from = p.1.given in
+    let same : r ≡ p.0 = cc in
+    let P : ResponseOf → Type 0 = λ x. NeedsFill c.request x in
+    p.1.complete (subst P same needed)
+plain_with c r end false given ended ordered never = (r, record { end = end; ended = ended; given = given; ordered = ordered; complete = never })
+
+some_end : (o : Option ℕ) → is_some o ≡ true → (end : ℕ) × (o ≡ Some end)
+some_end None h = absurd cc
+some_end (Some end) h = (end, refl)
+
+pub plain_if : (c : CallOf) (r : ResponseOf) (needs : Bool) → c.response ≡ Some r → is_some c.end ≡ true → is_unordered c.request ≡ false
+    → Decided needs (NeedsFill c.request r) → Decided (not needs) (IsPlain c)
+plain_if c r needs given ended ordered decided = let e = some_end c.end ended in plain_with c r e.0 needs given e.1 ordered decided
+
+-- ---- one call more
+
+pub one_plain : (calls : List CallOf) (c : CallOf) (numbers : List ℤ) → IsPlain c → AreUnplain calls numbers → AreUnplain (calls ++ c ∷ []) numbers
+one_plain [] c numbers plain none = inl (plain, none)
+one_plain (d ∷ calls) c numbers plain (inl p) = inl (p.0, one_plain calls c numbers plain p.1)
+one_plain (d ∷ calls) c numbers plain (inr p) = inr (p.0, (p.1.0, one_plain calls c p.1.0 plain p.1.1, p.1.2))
+
+one_unplain : (calls : List CallOf) (c : CallOf) (numbers new : List ℤ) → ¬ (IsPlain c) → new ≡ numbers ++ c.number ∷ [] → AreUnplain calls numbers
+    → AreUnplain (calls ++ c ∷ []) new
+one_unplain [] c numbers new never is none = inr (never, ([], refl, is ∙ ap (λ (ns : List ℤ). ns ++ c.number ∷ []) none))
+one_unplain (d ∷ calls) c numbers new never is (inl p) = inl (p.0, one_unplain calls c numbers new never is p.1)
+one_unplain (d ∷ calls) c numbers new never is (inr p) =
+    inr (p.0, (p.1.0 ++ c.number ∷ [], one_unplain calls c p.1.0 (p.1.0 ++ c.number ∷ []) never refl p.1.1, is ∙ ap (λ (ns : List ℤ). ns ++ c.number ∷ []) p.1.2))
+
+pub unplain_pushed : (calls : List CallOf) (c : CallOf) (numbers new : List ℤ) (number : ℤ) → ¬ (IsPlain c) → number ≡ c.number → new ≡ numbers ++ number ∷ []
+    → AreUnplain calls numbers → AreUnplain (calls ++ c ∷ []) new
+unplain_pushed calls c numbers new number never is pushed unplain =
+    one_unplain calls c numbers new never (pushed ∙ ap (λ (n : ℤ). numbers ++ n ∷ []) is) unplain
+
+-- ---- all calls
+
+-- where none isn't, all are
+pub all_plain : (calls : List CallOf) (numbers : List ℤ) → numbers ≡ [] → AreUnplain calls numbers → (steps : List StepOf) × ArePlain calls steps
+all_plain [] numbers none u = ([], tt)
+all_plain (c ∷ calls) numbers none (inl p) =
+    let more = all_plain calls numbers none p.1 in
+    (step_with c p.0.0 ∷ more.0, (record { response = p.0.0; plain = p.0.1; is = refl }, more.1))
+all_plain (c ∷ calls) numbers none (inr p) = let clash : c.number ∷ p.1.0 ≡ [] = sym p.1.2 ∙ none in absurd cc
+
+-- ---- what giving up says
+
+-- of plain calls
+module _ (marks : List MarkOf) (calls : List CallOf) (budget count : ℕ) (are : AreCalls marks calls) (plain : (steps : List StepOf) × ArePlain calls steps) where
+  pub early_decides : count < budget → TellsDecision marks budget count (Ok decision.Decided)
+  early_decides left = (calls, are, stopped plain.0 plain.1 left)
+
+  pub unforced_undecided : AreRecorded marks → budget ≤ count → TellsForced marks (Ok false) → TellsDecision marks budget count (Ok (decision.UsedUp budget))
+  unforced_undecided recorded spent told =
+      let same = same_calls marks calls told.0 recorded are told.1 in
+      (calls, are, (plain, spent, λ f. absurd (told.2 (subst IsForced same f)), refl))
+
+-- where it is said to be decided, no order explains the transcript
+decided_means : (marks : List MarkOf) (declared : DeclarationOf) (budget count : ℕ) (said : Decision) → AreRecorded marks → Finds marks declared budget (GaveUp count)
+    → TellsDecision marks budget count (Ok said) → TellsGivingUp marks declared budget (GaveUp count) (Some said)
+decided_means marks declared budget count said recorded finds tells = (
+  tells,
+  λ e.
+      let S : Decision → Type 0 = λ s. IsSaid tells.0 budget count s in
+      let D : List CallOf → Type 0 = λ cs. HasDecided cs budget count in
+      finds.1.2 (subst D (same_calls marks tells.0 finds.1.0 recorded tells.1 finds.1.1) (subst S e tells.2)),
+)
+
+-- ---- what is searched
+
+pub given_up_told : (marks : List MarkOf) (declared : DeclarationOf) (budget : ℕ) (asked : Bool) (searched : Searched) → SearchesRecords marks declared budget asked (Ok searched)
+    → (count : ℕ) (said : Decision) → AreRecorded marks → searched.found ≡ GaveUp count → TellsDecision marks budget count (Ok said)
+    → DecidesRecords marks declared budget asked (Ok (record { searched = searched; decision = Some said }))
+given_up_told marks declared budget asked searched searches count said recorded is tells =
+    let F : Found → Type 0 = λ f. Finds marks declared budget f in
+    let T : Found → Type 0 = λ f. TellsGivingUp marks declared budget f (Some said) in
+    (searches, subst T (sym is) (decided_means marks declared budget count said recorded (subst F is searches.1) tells))

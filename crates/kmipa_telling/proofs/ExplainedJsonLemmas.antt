@@ -1,0 +1,82 @@
+-- What is told in JSON of a check that says what its no means.
+use Rattle.std.proofs.Common.{◌≡◌, ◌⊎◌, inl, inr, Bool, List, ℕ, Result, Ok, Err, refl, sym, subst, ◌∙◌}
+use Rattle.std.specs.Prelude.{IfOk, IsOkAnd, string_bytes}
+use Rattle.std.specs.declared.alloc.AllocError.{AllocError}
+use Rattle.kmipa_ttlv.specs.Input.{came_of}
+use Rattle.kmipa_ttlv.specs.declared.input.Input.{Input}
+use Rattle.kmipa_ttlv.proofs.ReadLemmas.{itself}
+use Rattle.kmipa_record.specs.Marks.{MarkOf}
+use Rattle.kmipa_record.specs.Transcripts.{transcript_of}
+use Rattle.kmipa_record.specs.Witnesses.{TurnOf, witness_of}
+use Rattle.kmipa_check.specs.Audits.{AreAccepted, ReadingFails}
+use Rattle.kmipa_check.specs.declared.auditing.AuditFault.{AuditFault}
+use Rattle.kmipa_check.specs.declared.auditing.AuditFault.TheVariants as audit
+use Rattle.kmipa_check.specs.declared.verdict.Verdict.{Verdict}
+use Rattle.kmipa_check.specs.declared.verdict.Verdict.TheVariants as verdict
+use Rattle.kmipa_runs.specs.Statuses.{IsSilent}
+use Rattle.kmipa_runs.specs.declared.lines.Lines.{Lines}
+use Rattle.kmipa_runs.specs.declared.status.Status.{Status}
+use Rattle.kmipa_runs.specs.declared.status.Status.TheVariants as status
+use Rattle.kmipa_telling.specs.ExplainedJson.{ExplainsInputs, PrintsExplainedJson}
+use Rattle.kmipa_telling.specs.Judging.{AreEnded, WhereRead}
+use Rattle.kmipa_telling.specs.Telling.{TellsVerdict}
+use Rattle.kmipa_telling.specs.declared.explained.Explained.{Explained}
+use Rattle.kmipa_telling.proofs.ExplainingLemmas.{yes_explained}
+use Rattle.kmipa_telling.proofs.JsonLemmas.{fault_not_done, silent_not_done}
+use Rattle.serde_json.specs.Data.{Members}
+
+-- ---- the inputs
+
+-- a fact stands where it has to
+pub where_ended : {T : Type 0} (r : Result T AuditFault) (fact : Type 0) → fact → WhereRead r fact
+where_ended (Ok x) fact holds = holds
+where_ended (Err (audit.Transcript f)) fact holds = tt
+where_ended (Err (audit.Declaration f)) fact holds = tt
+where_ended (Err (audit.Witness f)) fact holds = tt
+where_ended (Err (audit.Check f)) fact holds = holds
+
+-- a fault of reading is none of the check
+pub where_unread : (fact : Type 0) (t d w : List ℕ) (ft fd fw : Bool) (fault : AuditFault) → ReadingFails t d w ft fd fw fault
+    → WhereRead {T = Explained} (Err fault) fact
+where_unread fact t d w ft fd fw (audit.Transcript f) told = tt
+where_unread fact t d w ft fd fw (audit.Declaration f) told = tt
+where_unread fact t d w ft fd fw (audit.Witness f) told = tt
+where_unread fact t d w ft fd fw (audit.Check f) told = absurd told
+
+-- ---- status 0
+
+told_yes : (marks : List MarkOf) (turns : List TurnOf) (v : Verdict) (said : Status) (before after : Members) → TellsVerdict marks turns v said before after
+    → said ≡ status.Done → v ≡ verdict.Yes
+told_yes marks turns verdict.Yes said before after tells done = refl
+told_yes marks turns (verdict.No r) said before after tells done = let clash : status.No ≡ status.Done = sym tells.0 ∙ done in absurd cc
+
+-- what is printed of what a check with explanations answers
+abbrev pub ToldCheck : {R : Type 0} → Input R → Input R → Input R → Status → List ℕ → Type 0
+ToldCheck t d w said lines = (outcome : Result Explained AuditFault) × ExplainsInputs t d w outcome × PrintsExplainedJson t d w outcome said lines
+
+explained_done : {R : Type 0} (t d w : Input R) (outcome : Result Explained AuditFault) (said : Status) (lines : List ℕ) → ExplainsInputs t d w outcome
+    → PrintsExplainedJson t d w outcome said lines → said ≡ status.Done → AreAccepted (came_of t) (came_of d) (came_of w) × AreEnded t d w
+explained_done t d w (Ok explained) said lines audits (told, (verdict, tells, more), is) done =
+    let yes = told_yes (transcript_of explained.records.transcript) (witness_of explained.records.witness) explained.verdict said _ verdict tells done in (
+      yes_explained (came_of t) (came_of d) (came_of w) explained explained.verdict refl yes
+          (audits.0 (came_of t) (came_of d) (came_of w) (itself t) (itself d) (itself w)),
+      audits.1,
+    )
+explained_done t d w (Err fault) said lines audits prints done = absurd (fault_not_done fault (sym prints.1.0 ∙ done))
+
+pub done_is_explained : {R : Type 0} (t d w : Input R) (said : Status) (lines : List ℕ) → ToldCheck t d w said lines ⊎ IsSilent said lines
+    → said ≡ status.Done → AreAccepted (came_of t) (came_of d) (came_of w) × AreEnded t d w
+done_is_explained t d w said lines (inl told) done = explained_done t d w told.0 said lines told.1 told.2 done
+done_is_explained t d w said lines (inr silent) done = absurd (silent_not_done said lines silent done)
+
+-- ---- what is appended
+
+pub printed_explained : {R : Type 0} (made : Result Lines AllocError) (t d w : Input R) (said : Status) (lines : List ℕ)
+    → IfOk made (λ l. ToldCheck t d w l.status (string_bytes l.text))
+    → IsOkAnd made (λ l. (said ≡ l.status) × (lines ≡ string_bytes l.text)) ⊎ IsSilent said lines → ToldCheck t d w said lines ⊎ IsSilent said lines
+printed_explained made t d w said lines told (inr silent) = inr silent
+printed_explained (Err e) t d w said lines told (inl p) = absurd p
+printed_explained (Ok l) t d w said lines told (inl p) =
+    let P : Status → Type 0 = λ s. ToldCheck t d w s (string_bytes l.text) in
+    let Q : List ℕ → Type 0 = λ text. ToldCheck t d w said text in
+    inl (subst Q (sym p.1) (subst P (sym p.0) told))

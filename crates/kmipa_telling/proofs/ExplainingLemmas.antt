@@ -1,0 +1,100 @@
+-- Of a check that says what its no means.
+use Rattle.std.proofs.Common.{◌≡◌, ◌⊎◌, ◌↔◌, inl, inr, ℕ, Bool, List, [], ◌++◌, codes, Option, Some, None, Result, Ok, Err, length, take, refl, sym, ap, subst, ◌∙◌}
+use Rattle.std.specs.Prelude.{IfOk, IsOkAnd, string_bytes}
+use Rattle.std.specs.Io.{StartsWith}
+use Rattle.std.specs.declared.alloc.AllocError.{AllocError}
+use Rattle.kmipa_record.specs.Marks.{MarkOf}
+use Rattle.kmipa_record.specs.Declarations.{declaration_of}
+use Rattle.kmipa_record.specs.Transcripts.{transcript_of}
+use Rattle.kmipa_record.specs.Witnesses.{TurnOf, witness_of}
+use Rattle.kmipa_check.specs.Audits.{AreAccepted}
+use Rattle.kmipa_check.specs.declared.auditing.AuditFault.{AuditFault}
+use Rattle.kmipa_check.specs.declared.auditing.AuditRecords.{AuditRecords}
+use Rattle.kmipa_check.specs.declared.verdict.Verdict.{Verdict}
+use Rattle.kmipa_check.specs.declared.verdict.Verdict.TheVariants as verdict
+use Rattle.kmipa_explain.specs.declared.explanation.Explanation.{Explanation}
+use Rattle.kmipa_runs.specs.Lines.{FitsStatus, PrintsVerdict, device_line, yes_line}
+use Rattle.kmipa_runs.specs.Statuses.{IsSilent}
+use Rattle.kmipa_runs.specs.declared.lines.Lines.{Lines}
+use Rattle.kmipa_runs.specs.declared.status.Status.{Status}
+use Rattle.kmipa_runs.specs.declared.status.Status.TheVariants as status
+use Rattle.kmipa_runs.proofs.LineLemmas.{done_is_yes}
+use Rattle.kmipa_telling.specs.Explaining.{AreExplained, AuditsExplained, IsExplained, PrintsExplained, PrintsMore, TellsRecords}
+use Rattle.kmipa_telling.specs.declared.explained.Explained.{Explained}
+use Rattle.kmipa_telling.proofs.JsonLemmas.{fault_not_done}
+
+-- ---- status 0
+
+-- what is explained as a yes is accepted
+pub yes_explained : (t d w : List ℕ) (explained : Explained) (v : Verdict) → explained.verdict ≡ v → v ≡ verdict.Yes → AreExplained explained t d w → AreAccepted t d w
+yes_explained t d w explained (verdict.No r) is e a = absurd cc
+yes_explained t d w explained verdict.Yes is e a =
+    let P : Verdict → Type 0 = λ x. TellsRecords explained.records x in
+    record {
+      marks = transcript_of explained.records.transcript;
+      transcript = a.records.transcript;
+      declared = declaration_of explained.records.declaration;
+      declaration = a.records.declaration;
+      turns = witness_of explained.records.witness;
+      witness = a.records.witness;
+      accepted = subst P is a.verdict;
+    }
+
+-- status 0 is reported of accepted bytes alone
+pub done_accepted : (t d w : List ℕ) (ft fd fw : Bool) (outcome : Result Explained AuditFault) (said : Status) (lines : List ℕ) → AuditsExplained t d w ft fd fw outcome
+    → PrintsExplained outcome said lines ⊎ IsSilent said lines → said ≡ status.Done → AreAccepted t d w
+done_accepted t d w ft fd fw outcome said lines audits (inr silent) done = let clash : status.Failed ≡ status.Done = sym silent.0 ∙ done in absurd cc
+done_accepted t d w ft fd fw (Err fault) said lines audits (inl prints) done = absurd (fault_not_done fault (sym prints.0 ∙ done))
+done_accepted t d w ft fd fw (Ok explained) said lines audits (inl prints) done =
+    let yes = done_is_yes (transcript_of explained.records.transcript) (witness_of explained.records.witness) explained.verdict said prints.0 (inl prints.2) done in
+    yes_explained t d w explained explained.verdict refl yes audits
+
+-- ---- what is appended
+
+pub explained_reported : (made : Result Lines AllocError) (outcome : Result Explained AuditFault) (said : Status) (lines : List ℕ)
+    → IfOk made (λ l. PrintsExplained outcome l.status (string_bytes l.text))
+    → IsOkAnd made (λ l. (said ≡ l.status) × (lines ≡ string_bytes l.text)) ⊎ IsSilent said lines → PrintsExplained outcome said lines ⊎ IsSilent said lines
+explained_reported made outcome said lines told (inr silent) = inr silent
+explained_reported (Err e) outcome said lines told (inl p) = absurd p
+explained_reported (Ok l) outcome said lines told (inl p) =
+    let P : Status → Type 0 = λ s. PrintsExplained outcome s (string_bytes l.text) in
+    let Q : List ℕ → Type 0 = λ text. PrintsExplained outcome said text in
+    inl (subst Q (sym p.1) (subst P (sym p.0) told))
+
+-- ---- what stands on standard output
+
+-- another line is none that begins so
+begins : (prefix lines : List ℕ) → lines ≡ yes_line → StartsWith lines prefix → (StartsWith yes_line prefix → ⊥) → ⊥
+begins prefix lines e is none = none (ap (take (length prefix)) (sym e) ∙ is)
+
+-- where `yes` stands alone the status is 0, and there alone
+pub yes_fits : (said : Status) (lines : List ℕ) → FitsStatus said lines → (said ≡ status.Done) ↔ (lines ≡ yes_line)
+yes_fits status.Done lines fits = (λ e. fits, λ e. refl)
+yes_fits status.No lines is = (λ e. absurd cc, λ e. absurd (begins (codes "no: turn ") lines e is (λ x. absurd cc)))
+yes_fits status.Refused lines (inl is) = (λ e. absurd cc, λ e. absurd (begins (codes "outside: call ") lines e is (λ x. absurd cc)))
+yes_fits status.Refused lines (inr (inl is)) = (λ e. absurd cc, λ e. absurd (begins (codes "witness: at ") lines e is (λ x. absurd cc)))
+yes_fits status.Refused lines (inr (inr is)) = (λ e. absurd cc, λ e. absurd (begins (codes "malformed: ") lines e is (λ x. absurd cc)))
+yes_fits status.Failed lines (inl is) = (λ e. absurd cc, λ e. let clash : yes_line ≡ device_line = sym e ∙ is in absurd cc)
+yes_fits status.Failed lines (inr is) = (λ e. absurd cc, λ e. let clash : yes_line ≡ [] = sym e ∙ is in absurd cc)
+yes_fits status.GaveUp lines fits = absurd fits
+yes_fits status.Usage lines fits = absurd fits
+
+-- the lines of a verdict, and behind those of a no what it means
+fits_at : (records : AuditRecords) (marks : List MarkOf) (turns : List TurnOf) (v : Verdict) (o : Option Explanation) (said : Status) (front more lines : List ℕ) → IsExplained records v o
+    → PrintsVerdict marks turns v said front → PrintsMore o more → lines ≡ front ++ more → FitsStatus said lines
+fits_at records marks turns verdict.Yes None said front more lines is prints none e =
+    let P : Status → Type 0 = λ s. FitsStatus s lines in
+    subst P (sym prints.0) (e ∙ ap (λ (l : List ℕ). l ++ more) prints.1 ∙ ap (λ (l : List ℕ). yes_line ++ l) none)
+fits_at records marks turns verdict.Yes (Some x) said front more lines is prints none e = absurd is
+fits_at records marks turns (verdict.No r) o said front more lines is prints tells e =
+    let P : Status → Type 0 = λ s. FitsStatus s lines in
+    subst P (sym prints.0) (ap (take (length (codes "no: turn "))) (e ∙ ap (λ (l : List ℕ). l ++ more) prints.1.2.2))
+
+pub explained_fits : (explained : Explained) (t d w : List ℕ) (said : Status) (lines : List ℕ) → AreExplained explained t d w
+    → PrintsExplained (Ok explained) said lines ⊎ IsSilent said lines → FitsStatus said lines
+explained_fits explained t d w said lines a (inl (front, more, prints, tells, e)) =
+    fits_at explained.records (transcript_of explained.records.transcript) (witness_of explained.records.witness) explained.verdict explained.explanation said front more lines
+    a.explained prints tells e
+explained_fits explained t d w said lines a (inr silent) =
+    let P : Status → Type 0 = λ s. FitsStatus s lines in
+    subst P (sym silent.0) (inr silent.1)

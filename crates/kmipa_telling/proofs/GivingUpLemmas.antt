@@ -1,0 +1,65 @@
+-- What is made and printed of a search that says what its giving up means.
+use Rattle.std.proofs.Common.{◌≡◌, ◌⊎◌, inl, inr, ℕ, List, [], Bool, IsTrue, Ok, refl, sym, ap, subst, ◌∙◌}
+use Rattle.kmipa_ttlv.specs.Input.{came_of, is_ended, IsFileOf}
+use Rattle.kmipa_ttlv.specs.declared.input.Input.{Input}
+use Rattle.kmipa_ttlv.proofs.ReadLemmas.{whole_file}
+use Rattle.kmipa_record.specs.Marks.{AreRecorded}
+use Rattle.kmipa_record.specs.Transcripts.{transcript_of, IsTranscript}
+use Rattle.kmipa_record.specs.Declarations.{declaration_of, IsDeclaration}
+use Rattle.kmipa_record.specs.Witnesses.{witness_of}
+use Rattle.kmipa_record.specs.declared.declaration.Declaration.{Declaration}
+use Rattle.kmipa_record.specs.declared.transcript.Transcript.{Transcript}
+use Rattle.kmipa_check.specs.Audits.{AreAccepted}
+use Rattle.kmipa_search.specs.Found.{Finds}
+use Rattle.kmipa_search.specs.declared.found.Found.{Found}
+use Rattle.kmipa_search.specs.declared.found.Found.TheVariants.{Yes, GaveUp}
+use Rattle.kmipa_runs.specs.Searches.{found_status, Makes}
+use Rattle.kmipa_runs.specs.Statuses.{IsSilent}
+use Rattle.kmipa_runs.specs.declared.status.Status.{Status}
+use Rattle.kmipa_runs.specs.declared.status.Status.TheVariants as status
+use Rattle.kmipa_telling.specs.Deciding.{AreDecided, DecidesRecords}
+use Rattle.kmipa_telling.specs.GivingUp.{PrintsGivingUp}
+use Rattle.kmipa_telling.specs.declared.judged.Judged.{Judged}
+
+-- ---- the inputs
+
+-- what was found in the two records that were read
+pub decided_files : {R : Type 0} (ti di : Input R) (t d : List ℕ) (transcript : Transcript) (declaration : Declaration) (judged : Judged) (budget : ℕ) (asked : Bool)
+    → IsFileOf t ti → IsFileOf d di → IsTranscript (came_of ti) (transcript_of transcript) × IsTrue (is_ended ti)
+    → IsDeclaration (came_of di) (declaration_of declaration) × IsTrue (is_ended di)
+    → (AreRecorded (transcript_of transcript) → DecidesRecords (transcript_of transcript) (declaration_of declaration) budget asked (Ok judged))
+    → AreDecided judged t d budget asked
+decided_files ti di t d transcript declaration judged budget asked tf df p q judges = record {
+  marks = transcript_of transcript;
+  transcript = whole_file t ti (λ bytes. IsTranscript bytes (transcript_of transcript)) p.1 tf p.0;
+  declared = declaration_of declaration;
+  declaration = whole_file d di (λ bytes. IsDeclaration bytes (declaration_of declaration)) q.1 df q.0;
+  judges = judges p.0.recorded;
+}
+
+-- ---- status 0
+
+-- status 0 is reported where a witness was found, and of it alone
+pub done_accepted : (judged : Judged) (t d : List ℕ) (budget : ℕ) (asked : Bool) (said : Status) (made : List ℕ) → AreDecided judged t d budget asked
+    → said ≡ found_status judged.searched.found → Makes judged.searched.found made → said ≡ status.Done → AreAccepted t d made
+done_accepted judged t d budget asked said made a is makes done = go judged.searched.found refl
+  where
+    go : (f : Found) → judged.searched.found ≡ f → AreAccepted t d made
+    go (GaveUp count) e = let clash : status.GaveUp ≡ status.Done = sym (ap found_status e) ∙ sym is ∙ done in absurd cc
+    go (Yes witness count) e =
+        let M : Found → Type 0 = λ f. Makes f made in
+        let F : Found → Type 0 = λ f. Finds a.marks a.declared budget f in
+        record {
+          marks = a.marks;
+          transcript = a.transcript;
+          declared = a.declared;
+          declaration = a.declaration;
+          turns = witness_of witness;
+          witness = subst M e makes;
+          accepted = (subst F e a.judges.0.1).0;
+        }
+
+pub done_is_decided : (judged : Judged) (t d : List ℕ) (budget : ℕ) (asked : Bool) (said : Status) (lines made : List ℕ) → AreDecided judged t d budget asked
+    → PrintsGivingUp (Ok judged) said lines made ⊎ (IsSilent said lines × (made ≡ [])) → said ≡ status.Done → AreAccepted t d made
+done_is_decided judged t d budget asked said lines made a (inr p) done = let clash : status.Failed ≡ status.Done = sym p.0.0 ∙ done in absurd cc
+done_is_decided judged t d budget asked said lines made a (inl p) done = done_accepted judged t d budget asked said made a p.0 p.2 done

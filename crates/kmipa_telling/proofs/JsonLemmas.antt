@@ -1,0 +1,92 @@
+-- What is told in JSON of accepted files.
+use Rattle.std.proofs.Common.{◌≡◌, ◌⊎◌, inl, inr, List, ℕ, Result, Ok, Err, refl, sym, subst, ◌∙◌}
+use Rattle.std.specs.Prelude.{IfOk, IsOkAnd, string_bytes}
+use Rattle.std.specs.declared.alloc.AllocError.{AllocError}
+use Rattle.kmipa_ttlv.specs.Input.{came_of}
+use Rattle.kmipa_ttlv.specs.declared.input.Input.{Input}
+use Rattle.kmipa_ttlv.proofs.ReadLemmas.{itself}
+use Rattle.kmipa_record.specs.Transcripts.{transcript_of}
+use Rattle.kmipa_record.specs.Witnesses.{witness_of}
+use Rattle.kmipa_record.specs.declared.fault.RecordKind.{RecordKind}
+use Rattle.kmipa_record.specs.declared.fault.RecordKind.TheVariants.{Ttlv, Header, Number, EndWithoutBegin, SecondEnd, Identifier, Entry, Calls, Device, Memory}
+use Rattle.kmipa_check.specs.Audits.{AreAccepted}
+use Rattle.kmipa_check.specs.declared.auditing.Audited.{Audited}
+use Rattle.kmipa_check.specs.declared.auditing.AuditFault.{AuditFault}
+use Rattle.kmipa_check.specs.declared.auditing.AuditFault.TheVariants as audit
+use Rattle.kmipa_check.specs.declared.fault.CheckFault.{CheckFault}
+use Rattle.kmipa_check.specs.declared.fault.CheckFault.TheVariants as check
+use Rattle.kmipa_check.specs.declared.verdict.Verdict.{Verdict}
+use Rattle.kmipa_check.specs.declared.verdict.Verdict.TheVariants as verdict
+use Rattle.kmipa_check.proofs.AuditLemmas.{yes_accepted}
+use Rattle.kmipa_runs.specs.Lines.{check_status, fault_status, record_status}
+use Rattle.kmipa_runs.specs.Statuses.{IsSilent}
+use Rattle.kmipa_runs.specs.declared.lines.Lines.{Lines}
+use Rattle.kmipa_runs.specs.declared.status.Status.{Status}
+use Rattle.kmipa_runs.specs.declared.status.Status.TheVariants as status
+use Rattle.kmipa_telling.specs.Judging.{AreEnded, AuditsInputs}
+use Rattle.kmipa_telling.specs.Telling.{PrintsJson, TellsVerdict}
+use Rattle.serde_json.specs.Data.{Members}
+
+-- ---- no fault ends well
+
+record_not_done : (kind : RecordKind) → record_status kind ≡ status.Done → ⊥
+record_not_done (Ttlv flaw) e = absurd cc
+record_not_done Header e = absurd cc
+record_not_done Number e = absurd cc
+record_not_done EndWithoutBegin e = absurd cc
+record_not_done SecondEnd e = absurd cc
+record_not_done Identifier e = absurd cc
+record_not_done Entry e = absurd cc
+record_not_done Calls e = absurd cc
+record_not_done Device e = absurd cc
+record_not_done Memory e = absurd cc
+
+check_not_done : (fault : CheckFault) → check_status fault ≡ status.Done → ⊥
+check_not_done (check.Outside number side o) e = absurd cc
+check_not_done (check.Witness f) e = absurd cc
+check_not_done check.Memory e = absurd cc
+
+pub fault_not_done : (fault : AuditFault) → fault_status fault ≡ status.Done → ⊥
+fault_not_done (audit.Transcript f) e = record_not_done f.kind e
+fault_not_done (audit.Declaration f) e = record_not_done f.kind e
+fault_not_done (audit.Witness f) e = record_not_done f.kind e
+fault_not_done (audit.Check f) e = check_not_done f e
+
+pub silent_not_done : (said : Status) (lines : List ℕ) → IsSilent said lines → said ≡ status.Done → ⊥
+silent_not_done said lines silent done = let clash : status.Failed ≡ status.Done = sym silent.0 ∙ done in absurd cc
+
+-- ---- checks
+
+yes_told : (audited : Audited) (said : Status) (before after : Members) (v : Verdict) → audited.verdict ≡ v
+    → TellsVerdict (transcript_of audited.transcript) (witness_of audited.witness) v said before after → said ≡ status.Done → audited.verdict ≡ verdict.Yes
+yes_told audited said before after verdict.Yes is tells done = is
+yes_told audited said before after (verdict.No r) is tells done = let clash : status.No ≡ status.Done = sym tells.0 ∙ done in absurd cc
+
+-- what is printed of what an audit answers
+abbrev pub ToldAudit : {R : Type 0} → Input R → Input R → Input R → Status → List ℕ → Type 0
+ToldAudit t d w said lines = (outcome : Result Audited AuditFault) × AuditsInputs t d w outcome × PrintsJson t d w outcome said lines
+
+judged_done : {R : Type 0} (t d w : Input R) (outcome : Result Audited AuditFault) (said : Status) (lines : List ℕ) → AuditsInputs t d w outcome
+    → PrintsJson t d w outcome said lines → said ≡ status.Done → AreAccepted (came_of t) (came_of d) (came_of w) × AreEnded t d w
+judged_done t d w (Ok audited) said lines audits prints done = (
+  yes_accepted (came_of t) (came_of d) (came_of w) audited (yes_told audited said _ prints.0 audited.verdict refl prints.1 done)
+      (audits.0 (came_of t) (came_of d) (came_of w) (itself t) (itself d) (itself w)),
+  audits.1,
+)
+judged_done t d w (Err fault) said lines audits prints done = absurd (fault_not_done fault (sym prints.1.0 ∙ done))
+
+pub done_is_judged : {R : Type 0} (t d w : Input R) (said : Status) (lines : List ℕ) → ToldAudit t d w said lines ⊎ IsSilent said lines → said ≡ status.Done
+    → AreAccepted (came_of t) (came_of d) (came_of w) × AreEnded t d w
+done_is_judged t d w said lines (inl told) done = judged_done t d w told.0 said lines told.1 told.2 done
+done_is_judged t d w said lines (inr silent) done = absurd (silent_not_done said lines silent done)
+
+-- ---- what is appended
+
+pub printed_check : {R : Type 0} (made : Result Lines AllocError) (t d w : Input R) (said : Status) (lines : List ℕ) → IfOk made (λ l. ToldAudit t d w l.status (string_bytes l.text))
+    → IsOkAnd made (λ l. (said ≡ l.status) × (lines ≡ string_bytes l.text)) ⊎ IsSilent said lines → ToldAudit t d w said lines ⊎ IsSilent said lines
+printed_check made t d w said lines told (inr silent) = inr silent
+printed_check (Err e) t d w said lines told (inl p) = absurd p
+printed_check (Ok l) t d w said lines told (inl p) =
+    let P : Status → Type 0 = λ s. ToldAudit t d w s (string_bytes l.text) in
+    let Q : List ℕ → Type 0 = λ text. ToldAudit t d w said text in
+    inl (subst Q (sym p.1) (subst P (sym p.0) told))

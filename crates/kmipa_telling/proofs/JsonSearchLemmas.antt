@@ -1,0 +1,47 @@
+-- What is told in JSON of a search, and made of it.
+use Rattle.std.proofs.Common.{◌≡◌, ◌⊎◌, inl, inr, List, [], ℕ, Bool, Result, Ok, Err, sym, subst, ◌∙◌}
+use Rattle.std.specs.Prelude.{IfOk, IsOkAnd, string_bytes}
+use Rattle.std.specs.declared.alloc.AllocError.{AllocError}
+use Rattle.kmipa_ttlv.specs.Input.{came_of}
+use Rattle.kmipa_ttlv.specs.declared.input.Input.{Input}
+use Rattle.kmipa_ttlv.proofs.ReadLemmas.{itself}
+use Rattle.kmipa_check.specs.Audits.{AreAccepted}
+use Rattle.kmipa_check.specs.declared.auditing.AuditFault.{AuditFault}
+use Rattle.kmipa_runs.specs.Statuses.{IsSilent}
+use Rattle.kmipa_runs.specs.declared.status.Status.{Status}
+use Rattle.kmipa_runs.specs.declared.status.Status.TheVariants as status
+use Rattle.kmipa_telling.specs.JsonSearches.{BothEnded, DecidesInputs, PrintsJsonSearch}
+use Rattle.kmipa_telling.specs.declared.json_search.Answer.{Answer}
+use Rattle.kmipa_telling.specs.declared.judged.Judged.{Judged}
+use Rattle.kmipa_telling.proofs.GivingUpLemmas.{done_accepted}
+use Rattle.kmipa_telling.proofs.JsonLemmas.{fault_not_done, silent_not_done}
+
+-- what is printed and made of what a search answers
+abbrev pub ToldSearch : {R : Type 0} → Input R → Input R → ℕ → Bool → Status → List ℕ → List ℕ → Type 0
+ToldSearch t d budget asked said lines made = (outcome : Result Judged AuditFault) × DecidesInputs t d budget asked outcome × PrintsJsonSearch t d outcome said lines made
+
+found_done : {R : Type 0} (t d : Input R) (budget : ℕ) (asked : Bool) (outcome : Result Judged AuditFault) (said : Status) (lines made : List ℕ) → DecidesInputs t d budget asked outcome
+    → PrintsJsonSearch t d outcome said lines made → said ≡ status.Done → AreAccepted (came_of t) (came_of d) made × BothEnded t d
+found_done t d budget asked (Err fault) said lines made decides prints done = absurd (fault_not_done fault (sym prints.1.1.0 ∙ done))
+found_done t d budget asked (Ok judged) said lines made decides prints done =
+    let are = decides.0 (came_of t) (came_of d) (itself t) (itself d) in
+    (done_accepted judged (came_of t) (came_of d) budget asked said made are prints.1.1.0 prints.0 done, decides.1)
+
+pub done_is_found : {R : Type 0} (t d : Input R) (budget : ℕ) (asked : Bool) (said : Status) (lines made : List ℕ)
+    → ToldSearch t d budget asked said lines made ⊎ (IsSilent said lines × (made ≡ [])) → said ≡ status.Done → AreAccepted (came_of t) (came_of d) made × BothEnded t d
+done_is_found t d budget asked said lines made (inl told) done = found_done t d budget asked told.0 said lines made told.1 told.2 done
+done_is_found t d budget asked said lines made (inr silent) done = absurd (silent_not_done said lines silent.0 done)
+
+-- ---- what is appended
+
+pub printed_search : {R : Type 0} (answer : Result Answer AllocError) (t d : Input R) (budget : ℕ) (asked : Bool) (said : Status) (lines file : List ℕ)
+    → IfOk answer (λ a. ToldSearch t d budget asked a.lines.status (string_bytes a.lines.text) a.made.items)
+    → IsOkAnd answer (λ a. (said ≡ a.lines.status) × (lines ≡ string_bytes a.lines.text) × (file ≡ a.made.items)) ⊎ (IsSilent said lines × (file ≡ []))
+    → ToldSearch t d budget asked said lines file ⊎ (IsSilent said lines × (file ≡ []))
+printed_search answer t d budget asked said lines file told (inr silent) = inr silent
+printed_search (Err e) t d budget asked said lines file told (inl p) = absurd p
+printed_search (Ok a) t d budget asked said lines file told (inl p) =
+    let P : Status → Type 0 = λ s. ToldSearch t d budget asked s (string_bytes a.lines.text) a.made.items in
+    let Q : List ℕ → Type 0 = λ text. ToldSearch t d budget asked said text a.made.items in
+    let S : List ℕ → Type 0 = λ bytes. ToldSearch t d budget asked said lines bytes in
+    inl (subst S (sym p.2) (subst Q (sym p.1) (subst P (sym p.0) told)))

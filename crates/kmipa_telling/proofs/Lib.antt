@@ -1,0 +1,14 @@
+mod ClaimLemmas
+mod DecidingLemmas
+mod ExplainedJsonLemmas
+mod ExplainedLemmas
+mod ExplainingLemmas
+mod GivingUpLemmas
+mod HeldLemmas
+mod JsonLemmas
+mod JsonSearchLemmas
+mod JudgingLemmas
+mod ListLemmas
+mod PhraseLemmas
+mod StoryLemmas
+mod TellingLemmas

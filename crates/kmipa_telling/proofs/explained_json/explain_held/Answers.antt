@@ -1,0 +1,41 @@
+use Rattle.std.proofs.Common.{Result, Ok, Err, subst}
+use Rattle.kmipa_ttlv.specs.Input.{came_of, is_failed}
+use Rattle.kmipa_ttlv.proofs.ReadLemmas.{itself}
+use Rattle.kmipa_check.proofs.AuditLemmas.{fails}
+use Rattle.kmipa_check.specs.declared.auditing.AuditFault.{AuditFault}
+use Rattle.kmipa_check.specs.declared.auditing.AuditRecords.{AuditRecords}
+use Rattle.kmipa_telling.specs.Judging.{AreEnded, ReadsInputs}
+use Rattle.kmipa_telling.proofs.ExplainedJsonLemmas.{where_ended, where_unread}
+use Rattle.kmipa_telling.proofs.explained_json.explain_held.Goals as goal
+
+pub explain_records-requires-clause-recorded : goal.explain_records-requires-clause-recorded
+explain_records-requires-clause-recorded g c =
+    let t = c.records_held.new.transcript in
+    let d = c.records_held.new.declaration in
+    let w = c.records_held.new.witness in
+    let P : Result AuditRecords AuditFault → Type 0 = λ r. ReadsInputs t d w r in
+    let reads : ReadsInputs t d w (Ok c.in-Ok.records) = subst P c.in-Ok.is c.in_ok-records.ensures.reads in
+    (reads.0 (came_of t) (came_of d) (came_of w) (itself t) (itself d) (itself w)).transcript.recorded
+
+pub returns-in-Ok-clause-explains : goal.returns-in-Ok-clause-explains
+returns-in-Ok-clause-explains g c =
+    let t = c.records_held.new.transcript in
+    let d = c.records_held.new.declaration in
+    let w = c.records_held.new.witness in
+    let P : Result AuditRecords AuditFault → Type 0 = λ r. ReadsInputs t d w r in
+    let reads : ReadsInputs t d w (Ok c.in-Ok.records) = subst P c.in-Ok.is c.in_ok-records.ensures.reads in (
+      λ x y z xf yf zf. c.explain_records.ensures x y z (is_failed t) (is_failed d) (is_failed w) (reads.0 x y z xf yf zf),
+      where_ended c.explain_records.result (AreEnded t d w) reads.1,
+    )
+
+pub returns-in-Err-clause-explains : goal.returns-in-Err-clause-explains
+returns-in-Err-clause-explains g c =
+    let t = c.records_held.new.transcript in
+    let d = c.records_held.new.declaration in
+    let w = c.records_held.new.witness in
+    let P : Result AuditRecords AuditFault → Type 0 = λ r. ReadsInputs t d w r in
+    let reads : ReadsInputs t d w (Err c.in-Err.fault) = subst P c.in-Err.is c.in_ok-records.ensures.reads in (
+      λ x y z xf yf zf. fails x y z (is_failed t) (is_failed d) (is_failed w) c.in-Err.fault (reads.0 x y z xf yf zf),
+      where_unread (AreEnded t d w) (came_of t) (came_of d) (came_of w) (is_failed t) (is_failed d) (is_failed w) c.in-Err.fault
+          (reads.0 (came_of t) (came_of d) (came_of w) (itself t) (itself d) (itself w)),
+    )

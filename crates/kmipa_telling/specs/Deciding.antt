@@ -1,0 +1,75 @@
+-- What a search says by giving up: that no order explains the transcript, or nothing, and then why.
+use Rattle.std.specs.Prelude.{◌≡◌, ◌≢◌, ◌<◌, ◌≤◌, ◌⊎◌, ℕ, ℤ, List, [], ◌∷◌, length, Bool, Option, Some, None, Result, Ok, Err}
+use Rattle.kmipa_msgs.specs.Messages.{ResponseOf}
+use Rattle.kmipa_record.specs.Marks.{MarkOf}
+use Rattle.kmipa_record.specs.Declarations.{DeclarationOf, IsDeclaration}
+use Rattle.kmipa_record.specs.Transcripts.{IsTranscript}
+use Rattle.kmipa_check.specs.Calls.{CallOf, AreCalls}
+use Rattle.kmipa_check.specs.Plain.{IsPlainCall}
+use Rattle.kmipa_check.specs.Runs.{IsExplained}
+use Rattle.kmipa_check.specs.Steps.{StepOf}
+use Rattle.kmipa_check.specs.declared.auditing.AuditFault.{AuditFault}
+use Rattle.kmipa_check.specs.declared.fault.CheckFault.{CheckFault}
+use Rattle.kmipa_search.specs.Found.{HasDecided}
+use Rattle.kmipa_search.specs.Plain.{ArePlain, IsForced}
+use Rattle.kmipa_search.specs.declared.found.Found.{Found}
+use Rattle.kmipa_search.specs.declared.found.Found.TheVariants.{Yes, GaveUp}
+use Rattle.kmipa_runs.specs.Searches.{SearchFails, SearchStops, SearchesRecords}
+use Rattle.kmipa_telling.specs.declared.judged.Decision.{Decision}
+use Rattle.kmipa_telling.specs.declared.judged.Decision.TheVariants as decision
+use Rattle.kmipa_telling.specs.declared.judged.Judged.{Judged}
+
+-- ---- which calls are plain
+
+-- it has ended, its items have their order, and it waits for no payload [profile]
+abbrev pub IsPlain : CallOf → Type 0
+IsPlain c = (response : ResponseOf) × IsPlainCall c response
+
+-- these are the numbers of the calls that aren't plain, each once, in the order of the calls
+abbrev pub AreUnplain : List CallOf → List ℤ → Type 0
+AreUnplain [] numbers = numbers ≡ []
+AreUnplain (c ∷ calls) numbers = (IsPlain c × AreUnplain calls numbers)
+    ⊎ (¬ (IsPlain c) × ((others : List ℤ) × AreUnplain calls others × (numbers ≡ c.number ∷ others)))
+
+-- ---- what is said
+
+-- What is said of calls that were given up after so many steps of a budget: that the search has decided; or that it hasn't, since the calls are
+-- plain and no steps were left, too few even where the calls are forced, or since these aren't plain.
+abbrev pub IsSaid : List CallOf → ℕ → ℕ → Decision → Type 0
+IsSaid calls budget count decision.Decided = HasDecided calls budget count
+IsSaid calls budget count (decision.UsedUp steps) = ((plain : List StepOf) × ArePlain calls plain) × (budget ≤ count)
+    × (IsForced calls → budget < length calls) × (steps ≡ budget)
+IsSaid calls budget count (decision.NotPlain numbers) = AreUnplain calls numbers.items × (numbers.items ≢ [])
+
+-- what giving up says of a transcript with these marks
+abbrev pub TellsDecision : List MarkOf → ℕ → ℕ → Result Decision CheckFault → Type 0
+TellsDecision marks budget count (Ok said) = (calls : List CallOf) × AreCalls marks calls × IsSaid calls budget count said
+TellsDecision marks budget count (Err fault) = SearchStops marks fault
+
+-- ---- what is searched
+
+-- Of a yes nothing is said. Of a giving up something is; and where it is said to be decided, no order explains the transcript.
+abbrev pub TellsGivingUp : List MarkOf → DeclarationOf → ℕ → Found → Option Decision → Type 0
+TellsGivingUp marks declared budget (Yes witness count) said = said ≡ None
+TellsGivingUp marks declared budget (GaveUp count) None = ⊥
+TellsGivingUp marks declared budget (GaveUp count) (Some said) = TellsDecision marks budget count (Ok said)
+    × (said ≡ decision.Decided → IsExplained marks declared → ⊥)
+
+-- what a search of records answers, and what its giving up says
+abbrev pub DecidesRecords : List MarkOf → DeclarationOf → ℕ → Bool → Result Judged CheckFault → Type 0
+DecidesRecords marks declared budget asked (Ok judged) = SearchesRecords marks declared budget asked (Ok judged.searched)
+    × TellsGivingUp marks declared budget judged.searched.found judged.decision
+DecidesRecords marks declared budget asked (Err fault) = SearchStops marks fault
+
+-- a search of these files found this, and its giving up says this
+pub record AreDecided (judged : Judged) (t d : List ℕ) (budget : ℕ) (asked : Bool) : Type 0 where
+  pub marks : List MarkOf
+  pub transcript : IsTranscript t marks
+  pub declared : DeclarationOf
+  pub declaration : IsDeclaration d declared
+  pub judges : DecidesRecords marks declared budget asked (Ok judged)
+
+-- what a search of two files answers; its faults are those of a search that says nothing of giving up
+abbrev pub DecidesFiles : List ℕ → List ℕ → Bool → Bool → ℕ → Bool → Result Judged AuditFault → Type 0
+DecidesFiles t d failed_t failed_d budget asked (Ok judged) = AreDecided judged t d budget asked
+DecidesFiles t d failed_t failed_d budget asked (Err fault) = SearchFails t d failed_t failed_d fault

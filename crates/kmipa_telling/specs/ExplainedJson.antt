@@ -1,0 +1,32 @@
+-- What is told in JSON of a check that also says what its no means.
+use Rattle.std.specs.Prelude.{◌≡◌, ℕ, List, Result, Ok, Err}
+use Rattle.serde_json.specs.Data.{Members, object}
+use Rattle.kmipa_json.specs.Told.{line_of}
+use Rattle.kmipa_ttlv.specs.Input.{is_failed, IsFileOf}
+use Rattle.kmipa_ttlv.specs.declared.input.Input.{Input}
+use Rattle.kmipa_record.specs.Transcripts.{transcript_of}
+use Rattle.kmipa_record.specs.Witnesses.{witness_of}
+use Rattle.kmipa_check.specs.declared.auditing.AuditFault.{AuditFault}
+use Rattle.kmipa_runs.specs.declared.status.Status.{Status}
+use Rattle.kmipa_telling.specs.Claims.{TellsMeaning}
+use Rattle.kmipa_telling.specs.Explaining.{AuditsExplained}
+use Rattle.kmipa_telling.specs.Judging.{AreEnded, WhereRead}
+use Rattle.kmipa_telling.specs.Telling.{TellsFault, TellsVerdict, check_files, opened}
+use Rattle.kmipa_telling.specs.declared.explained.Explained.{Explained}
+
+-- what a check with explanations answers of three inputs, whatever follows what came
+abbrev pub ExplainsInputs : {R : Type 0} → Input R → Input R → Input R → Result Explained AuditFault → Type 0
+ExplainsInputs t d w outcome = ((a b c : List ℕ) → IsFileOf a t → IsFileOf b d → IsFileOf c w
+    → AuditsExplained a b c (is_failed t) (is_failed d) (is_failed w) outcome) × WhereRead outcome (AreEnded t d w)
+
+-- what is told of it: of a verdict what it means besides, and of a fault what is told of it elsewhere
+abbrev pub TellsExplained : Result Explained AuditFault → Status → Members → Members → Type 0
+TellsExplained (Ok explained) said before after = (told : Members)
+    × TellsVerdict (transcript_of explained.records.transcript) (witness_of explained.records.witness) explained.verdict said before told
+    × TellsMeaning explained.explanation told after
+TellsExplained (Err fault) said before after = TellsFault fault said before after
+
+-- what is printed of this outcome: one object on a line
+abbrev pub PrintsExplainedJson : {R : Type 0} → Input R → Input R → Input R → Result Explained AuditFault → Status → List ℕ → Type 0
+PrintsExplainedJson t d w outcome said lines = (told : Members) × TellsExplained outcome said (opened (check_files t d w)) told
+    × (lines ≡ line_of (object told))

@@ -1,0 +1,32 @@
+-- What `search --explain` makes and prints: the lines of a search, and behind those of a giving up whether it has decided.
+use Rattle.std.specs.Prelude.{◌≡◌, ℕ, List, [], ◌∷◌, ◌++◌, codes, Option, Some, None, Result, Ok, Err}
+use Rattle.std.specs.Fmt.{decimal}
+use Rattle.kmipa_check.specs.declared.auditing.AuditFault.{AuditFault}
+use Rattle.kmipa_runs.specs.Lines.{line, PrintsFault}
+use Rattle.kmipa_runs.specs.Searches.{found_status, found_text, forced_text, Makes}
+use Rattle.kmipa_runs.specs.declared.status.Status.{Status}
+use Rattle.kmipa_telling.specs.Phrases.{calls_text}
+use Rattle.kmipa_telling.specs.declared.judged.Decision.{Decision}
+use Rattle.kmipa_telling.specs.declared.judged.Decision.TheVariants as decision
+use Rattle.kmipa_telling.specs.declared.judged.Judged.{Judged}
+
+-- the line of what giving up says
+abbrev pub decision_line : Decision → List ℕ
+decision_line decision.Decided = line (codes "decided: no order explains every answer" ∷ [])
+decision_line (decision.UsedUp steps) = line (codes "not decided: the budget of " ∷ decimal steps ∷ codes " steps is used up" ∷ [])
+decision_line (decision.NotPlain numbers) = line (codes "not decided: these are not plain: " ∷ calls_text numbers.items ∷ [])
+
+-- of a yes nothing more is printed
+abbrev pub decision_text : Option Decision → List ℕ
+decision_text None = []
+decision_text (Some said) = decision_line said
+
+-- the lines of what was found, and behind them what giving up says
+abbrev pub judged_text : Judged → List ℕ
+judged_text judged = (forced_text judged.searched.forced ++ found_text judged.searched.found) ++ decision_text judged.decision
+
+-- What is made and printed at a status: what a search without `--explain` does, but for the line more. A fault prints its own line alone, and
+-- makes nothing.
+abbrev pub PrintsGivingUp : Result Judged AuditFault → Status → List ℕ → List ℕ → Type 0
+PrintsGivingUp (Ok judged) said lines made = (said ≡ found_status judged.searched.found) × (lines ≡ judged_text judged) × Makes judged.searched.found made
+PrintsGivingUp (Err fault) said lines made = PrintsFault fault said lines × (made ≡ [])

@@ -1,0 +1,110 @@
+//! Whether a search that gave up has decided.
+
+ghost use Rattle.std.specs.Prelude.{◌≡◌, ◌++◌, ◌∷◌, List, [], IfOk, OnOk, map};
+ghost use Rattle.kmipa_record.specs.Marks.{AreRecorded};
+ghost use Rattle.kmipa_record.specs.Transcripts.{transcript_of};
+ghost use Rattle.kmipa_check.specs.Calls.{AreCalls, CallOf, call_of};
+ghost use Rattle.kmipa_check.specs.Ordering.{Decided};
+ghost use Rattle.kmipa_check.specs.Steps.{StepOf};
+ghost use Rattle.kmipa_search.specs.Plain.{ArePlain};
+ghost use Rattle.kmipa_telling.specs.Deciding.{AreUnplain, IsPlain, TellsDecision};
+
+use crate::judged::Decision;
+use kmipa_batch::is_unordered;
+use kmipa_check::{Call, CheckFault, needs_fill, read_calls};
+use kmipa_record::Transcript;
+use kmipa_search::is_forced;
+use std::alloc::{AllocError, Global};
+
+/// Whether a search of this transcript that gave up after `count` steps of a budget has decided, and if not, why.
+pub fn decide(
+    alloc: Global,
+    transcript: &Transcript,
+    budget: u64,
+    count: u64,
+) -> Result<Decision, CheckFault>
+    ensures { AreRecorded (transcript_of transcript.now) → TellsDecision (transcript_of transcript.now) budget count result }
+{
+    let calls = read_calls(alloc, transcript)?;
+    decide_calls(alloc, transcript, &calls, budget, count)
+}
+
+/// The same of the calls of the transcript.
+fn decide_calls(
+    alloc: Global,
+    transcript: &Transcript,
+    calls: &[Call],
+    budget: u64,
+    count: u64,
+) -> Result<Decision, CheckFault>
+    ensures { AreRecorded (transcript_of transcript.now) → AreCalls (transcript_of transcript.now) (map call_of calls.now)
+        → TellsDecision (transcript_of transcript.now) budget count result }
+{
+    let numbers = unplain(alloc, calls)?;
+    if numbers.as_slice().is_empty() {
+        return decide_plain(alloc, transcript, calls, budget, count);
+    }
+    Ok(Decision::NotPlain(numbers))
+}
+
+/// The same of calls that are plain.
+fn decide_plain(
+    alloc: Global,
+    transcript: &Transcript,
+    calls: &[Call],
+    budget: u64,
+    count: u64,
+) -> Result<Decision, CheckFault>
+    ensures { AreRecorded (transcript_of transcript.now) → AreCalls (transcript_of transcript.now) (map call_of calls.now)
+        → ((steps : List StepOf) × ArePlain (map call_of calls.now) steps) → TellsDecision (transcript_of transcript.now) budget count result }
+{
+    if count < budget {
+        return Ok(Decision::Decided);
+    }
+    if calls.len() as u64 > budget {
+        return Ok(Decision::UsedUp(budget));
+    }
+    if is_forced(alloc, transcript)? {
+        Ok(Decision::Decided)
+    } else {
+        Ok(Decision::UsedUp(budget))
+    }
+}
+
+/// The numbers of the calls that aren't plain.
+fn unplain(alloc: Global, calls: &[Call]) -> Result<Vec<i32>, AllocError>
+    ensures { IfOk result (λ numbers. AreUnplain (map call_of calls.now) numbers.items) }
+{
+    let mut numbers = Vec::new(alloc);
+    'calls: for call in calls {
+        note_unplain(call, &mut numbers)?;
+    }
+    Ok(numbers)
+}
+
+/// Puts the number of a call that isn't plain behind the others.
+fn note_unplain(call: &Call, numbers: &mut Vec<i32>) -> Result<(), AllocError>
+    ensures { (before : List CallOf) → AreUnplain before numbers.old.items
+        → OnOk result (AreUnplain (before ++ call_of call.now ∷ []) numbers.new.items) }
+{
+    if is_plain(call) {
+        return Ok(());
+    }
+    Ok(numbers.push(call.number)?)
+}
+
+/// Whether a call has ended, its items have their order, and it waits for no payload.
+fn is_plain(call: &Call) -> bool
+    ensures { Decided result (IsPlain (call_of call.now)) }
+{
+    let Some(response) = &call.response else {
+        return false;
+    };
+    if call.end.is_none() {
+        return false;
+    }
+    if is_unordered(&call.request) {
+        return false;
+    }
+    !needs_fill(&call.request, response)
+}

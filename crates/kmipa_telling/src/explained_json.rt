@@ -1,0 +1,126 @@
+//! What a check with explanations tells in JSON.
+
+ghost use Rattle.std.specs.Prelude.{◌≡◌, ◌⊎◌, [], IfOk, OnOk, Result, string_bytes};
+ghost use Rattle.std.specs.Io.{StartsWith, appended_bytes};
+ghost use Rattle.kmipa_ttlv.specs.Input.{came_of};
+ghost use Rattle.kmipa_json.specs.Told.{members_of};
+ghost use Rattle.kmipa_check.specs.Audits.{AreAccepted};
+ghost use Rattle.kmipa_runs.specs.Statuses.{IsSilent};
+ghost use Rattle.kmipa_telling.specs.ExplainedJson.{ExplainsInputs, PrintsExplainedJson, TellsExplained};
+ghost use Rattle.kmipa_telling.specs.Held.{HoldsAll, HoldsNothing};
+ghost use Rattle.kmipa_telling.specs.Judging.{AreEnded};
+
+use crate::claims::tell_meaning;
+use crate::explained::{Explained, explain_records};
+use crate::held::Held;
+use crate::json::open_files;
+use crate::judging::records_held;
+use crate::telling::{tell_fault, tell_verdict};
+use kmipa_check::AuditFault;
+use kmipa_json::JsonObject;
+use kmipa_runs::{Lines, Status, append};
+use kmipa_ttlv::Input;
+use std::alloc::{AllocError, Global};
+use std::io::Read;
+
+/// `check TRANSCRIPT DECLARATION WITNESS --json --explain`: appends the object that `check_json` appends, and where it tells a no, with
+/// what this means as one member more; and answers the status. Where memory runs out nothing is appended, and the status is `Failed`.
+pub fn explain_json<R: Read>(
+    alloc: Global,
+    transcript: &mut Input<R>,
+    declaration: &mut Input<R>,
+    witness: &mut Input<R>,
+    out: &mut Vec<u8>,
+) -> Status
+    requires transcript { came_of transcript.old ≡ [] }
+    requires declaration { came_of declaration.old ≡ [] }
+    requires witness { came_of witness.old ≡ [] }
+    // What is printed tells what an audit answers of whatever the inputs may be, with what its no means, or memory
+    // ran out.
+    ensures prints { ((outcome : Result Explained AuditFault)
+        × ExplainsInputs transcript.new declaration.new witness.new outcome
+        × PrintsExplainedJson transcript.new declaration.new witness.new outcome result
+        (appended_bytes out.old.items out.new.items))
+        ⊎ IsSilent result (appended_bytes out.old.items out.new.items) }
+    // Status 0 is answered only where the bytes that came, to the ends that were seen, are accepted.
+    ensures accepts { result ≡ Status.Done
+        → AreAccepted (came_of transcript.new) (came_of declaration.new) (came_of witness.new)
+        × AreEnded transcript.new declaration.new witness.new }
+    ensures appends { StartsWith out.new.items out.old.items }
+{
+    append(
+        explained_object(alloc, transcript, declaration, witness),
+        out,
+    )
+}
+
+/// The object of a check of these files, on a line.
+fn explained_object<R: Read>(
+    alloc: Global,
+    transcript: &mut Input<R>,
+    declaration: &mut Input<R>,
+    witness: &mut Input<R>,
+) -> Result<Lines, AllocError>
+    requires transcript { came_of transcript.old ≡ [] }
+    requires declaration { came_of declaration.old ≡ [] }
+    requires witness { came_of witness.old ≡ [] }
+    ensures { IfOk result (λ lines. (outcome : Result Explained AuditFault)
+        × ExplainsInputs transcript.new declaration.new witness.new outcome
+        × PrintsExplainedJson transcript.new declaration.new witness.new outcome lines.status
+        (string_bytes lines.text)) }
+{
+    let mut held = Held::new(alloc);
+    let outcome = explain_held(alloc, transcript, declaration, witness, &mut held)?;
+    let mut told = open_files(alloc, transcript, declaration, witness, &held)?;
+    let status = tell_explained(alloc, &mut told, &outcome)?;
+    Ok(Lines {
+        text: told.into_line()?,
+        status,
+    })
+}
+
+/// Reads the three inputs, of which nothing was read, one after the other, and checks the witness; at a no with what it means. What came of
+/// them is held.
+fn explain_held<R: Read>(
+    alloc: Global,
+    transcript: &mut Input<R>,
+    declaration: &mut Input<R>,
+    witness: &mut Input<R>,
+    held: &mut Held,
+) -> Result<Result<Explained, AuditFault>, AllocError>
+    requires transcript { came_of transcript.old ≡ [] }
+    requires declaration { came_of declaration.old ≡ [] }
+    requires witness { came_of witness.old ≡ [] }
+    requires none { HoldsNothing held.old }
+    ensures explains { IfOk result (ExplainsInputs transcript.new declaration.new witness.new) }
+    ensures held { OnOk result (HoldsAll held.new transcript.new declaration.new witness.new) }
+{
+    match records_held(alloc, transcript, declaration, witness, held)? {
+        Ok(records) => Ok(explain_records(alloc, records)),
+        Err(fault) => Ok(Err(fault)),
+    }
+}
+
+fn tell_explained(
+    alloc: Global,
+    told: &mut JsonObject,
+    outcome: &Result<Explained, AuditFault>,
+) -> Result<Status, AllocError>
+    ensures { IfOk result (λ status.
+        TellsExplained outcome.now status (members_of told.old) (members_of told.new)) }
+{
+    match outcome {
+        Ok(explained) => {
+            let status = tell_verdict(
+                alloc,
+                told,
+                &explained.verdict,
+                &explained.records.transcript,
+                &explained.records.witness,
+            )?;
+            tell_meaning(alloc, told, &explained.explanation)?;
+            Ok(status)
+        }
+        Err(fault) => tell_fault(alloc, told, fault),
+    }
+}

@@ -1,0 +1,102 @@
+//! The check of three files, with what its no means.
+
+ghost use Rattle.std.specs.Prelude.{◌≡◌, ◌↔◌, ◌⊎◌, ℕ, List, [], IfOk, IsTrue, OnOk, Result, string_bytes};
+ghost use Rattle.std.specs.Io.{StartsWith, appended_bytes};
+ghost use Rattle.kmipa_ttlv.specs.Input.{came_of, is_ended, is_failed, IsFileOf};
+ghost use Rattle.kmipa_check.specs.Audits.{AreAccepted};
+ghost use Rattle.kmipa_runs.specs.Lines.{FitsStatus, yes_line};
+ghost use Rattle.kmipa_runs.specs.Statuses.{IsSilent};
+ghost use Rattle.kmipa_telling.specs.Explaining.{AuditsExplained, PrintsExplained, PrintsMore};
+
+use crate::explained::{Explained, explain_records};
+use crate::explanation::explanation_text;
+use kmipa_check::{AuditFault, read_records};
+use kmipa_explain::Explanation;
+use kmipa_runs::{Lines, Status, append, fault_lines, verdict_lines};
+use kmipa_ttlv::Input;
+use std::alloc::{AllocError, Global};
+use std::io::Read;
+
+/// `check TRANSCRIPT DECLARATION WITNESS --explain`: appends the lines that a check prints, and behind those of a no
+/// what it means, and answers the status. Where memory runs out nothing is appended, and the status is `Failed`.
+pub fn explain_run<R: Read>(
+    alloc: Global,
+    transcript: &mut Input<R>,
+    declaration: &mut Input<R>,
+    witness: &mut Input<R>,
+    out: &mut Vec<u8>,
+) -> Status
+    requires transcript { came_of transcript.old ≡ [] }
+    requires declaration { came_of declaration.old ≡ [] }
+    requires witness { came_of witness.old ≡ [] }
+    // What is printed tells what an audit answers of whatever the inputs may be, with what its no means, or memory
+    // ran out.
+    ensures prints { (outcome : Result Explained AuditFault)
+        × ((t d w : List ℕ) → IsFileOf t transcript.new → IsFileOf d declaration.new → IsFileOf w witness.new
+        → AuditsExplained t d w (is_failed transcript.new) (is_failed declaration.new) (is_failed witness.new) outcome)
+        × (PrintsExplained outcome result (appended_bytes out.old.items out.new.items)
+        ⊎ IsSilent result (appended_bytes out.old.items out.new.items)) }
+    // `yes` is printed with status 0, and there alone.
+    ensures fits { FitsStatus result (appended_bytes out.old.items out.new.items) }
+    ensures yes { (result ≡ Status.Done) ↔ (appended_bytes out.old.items out.new.items ≡ yes_line) }
+    ensures appends { StartsWith out.new.items out.old.items }
+    // Status 0 is answered only where the bytes that came, to the ends that were seen, are accepted.
+    ensures accepts { result ≡ Status.Done
+        → AreAccepted (came_of transcript.new) (came_of declaration.new) (came_of witness.new)
+        × IsTrue (is_ended transcript.new) × IsTrue (is_ended declaration.new) × IsTrue (is_ended witness.new) }
+{
+    match explain_inputs(alloc, transcript, declaration, witness) {
+        Ok(explained) => append(explained_lines(alloc, &explained), out),
+        Err(fault) => append(fault_lines(alloc, &fault), out),
+    }
+}
+
+/// Reads the three inputs, of which nothing was read, one after the other, and checks the witness; at a no with what
+/// it means.
+fn explain_inputs<R: Read>(
+    alloc: Global,
+    transcript: &mut Input<R>,
+    declaration: &mut Input<R>,
+    witness: &mut Input<R>,
+) -> Result<Explained, AuditFault>
+    requires transcript { came_of transcript.old ≡ [] }
+    requires declaration { came_of declaration.old ≡ [] }
+    requires witness { came_of witness.old ≡ [] }
+    ensures audits { (t d w : List ℕ) → IsFileOf t transcript.new → IsFileOf d declaration.new → IsFileOf w witness.new
+        → AuditsExplained t d w (is_failed transcript.new) (is_failed declaration.new) (is_failed witness.new) result }
+    ensures ended { OnOk result (IsTrue (is_ended transcript.new) × IsTrue (is_ended declaration.new)
+        × IsTrue (is_ended witness.new)) }
+{
+    match read_records(alloc, transcript, declaration, witness) {
+        Ok(records) => explain_records(alloc, records),
+        Err(fault) => Err(fault),
+    }
+}
+
+/// The lines of a verdict, and behind them those of what it means.
+fn explained_lines(alloc: Global, explained: &Explained) -> Result<Lines, AllocError>
+    ensures { IfOk result (λ lines. PrintsExplained (Result.Ok explained.now) lines.status (string_bytes lines.text)) }
+{
+    let Lines {
+        text: front,
+        status,
+    } = verdict_lines(
+        alloc,
+        &explained.verdict,
+        &explained.records.transcript,
+        &explained.records.witness,
+    )?;
+    let more = explanation_lines(alloc, &explained.explanation)?;
+    let text = format!(in alloc; "{front}{more}")?;
+    Ok(Lines { text, status })
+}
+
+/// The lines of an explanation, where there is one.
+fn explanation_lines(alloc: Global, explanation: &Option<Explanation>) -> Result<String, AllocError>
+    ensures { IfOk result (λ text. PrintsMore explanation.now (string_bytes text)) }
+{
+    match explanation {
+        Some(explanation) => explanation_text(alloc, explanation),
+        None => Ok(String::new(alloc)),
+    }
+}

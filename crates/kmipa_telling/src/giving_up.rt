@@ -1,0 +1,151 @@
+//! `search --explain`: a search that says what its giving up means.
+
+ghost use Rattle.std.specs.Prelude.{◌≡◌, ◌≢◌, ◌⊎◌, ℕ, List, [], IsTrue, IfOk, OnOk, Result, Ok, Err, string_bytes};
+ghost use Rattle.std.specs.Io.{StartsWith, appended_bytes};
+ghost use Rattle.kmipa_ttlv.specs.Input.{came_of, is_ended, is_failed, IsFileOf};
+ghost use Rattle.kmipa_check.specs.Audits.{AreAccepted};
+ghost use Rattle.kmipa_runs.specs.Searches.{found_status};
+ghost use Rattle.kmipa_runs.specs.Statuses.{IsSilent};
+ghost use Rattle.kmipa_telling.specs.Deciding.{DecidesFiles};
+ghost use Rattle.kmipa_telling.specs.GivingUp.{PrintsGivingUp, decision_line, decision_text, judged_text};
+
+use crate::judged::{Decision, Judged, judge_records};
+use crate::phrases::calls_text;
+use kmipa_check::AuditFault;
+use kmipa_record::{read_declaration, read_transcript};
+use kmipa_runs::{Lines, Status, append, fault_lines, searched_lines, tell_witness};
+use kmipa_search::{Found, Watch};
+use kmipa_ttlv::Input;
+use std::alloc::{AllocError, Global};
+use std::io::Read;
+
+/// `search TRANSCRIPT DECLARATION OUT --explain`: does what `search_run` does, and appends behind the lines of a giving up one more, which
+/// tells whether the search has decided, and if not, why.
+pub fn explain_search_run<R: Read, W: Watch>(
+    alloc: Global,
+    transcript: &mut Input<R>,
+    declaration: &mut Input<R>,
+    budget: u64,
+    forced: bool,
+    open: bool,
+    watch: &mut W,
+    out: &mut Vec<u8>,
+    made: &mut Vec<u8>,
+) -> Status
+    requires transcript { came_of transcript.old ≡ [] }
+    requires declaration { came_of declaration.old ≡ [] }
+    // What is made and printed tells what a search answers of whatever the inputs may be, with what its giving up says, or memory ran out.
+    ensures prints { (outcome : Result Judged AuditFault)
+        × ((t d : List ℕ) → IsFileOf t transcript.new → IsFileOf d declaration.new
+        → DecidesFiles t d (is_failed transcript.new) (is_failed declaration.new) budget forced outcome)
+        × (PrintsGivingUp outcome result (appended_bytes out.old.items out.new.items) (appended_bytes made.old.items made.new.items)
+        ⊎ (IsSilent result (appended_bytes out.old.items out.new.items) × (appended_bytes made.old.items made.new.items ≡ []))) }
+    // Status 0 is answered only where the bytes that came, to the ends that were seen, are accepted with the witness that is made.
+    ensures accepts { result ≡ Status.Done → AreAccepted (came_of transcript.new) (came_of declaration.new) (appended_bytes made.old.items made.new.items)
+        × IsTrue (is_ended transcript.new) × IsTrue (is_ended declaration.new) }
+    ensures nothing { result ≢ Status.Done → made.new.items ≡ made.old.items }
+    ensures appends { StartsWith out.new.items out.old.items }
+    ensures makes { StartsWith made.new.items made.old.items }
+{
+    match judge_inputs(alloc, transcript, declaration, budget, forced, open, watch) {
+        Ok(judged) => tell_judged(alloc, &judged, out, made),
+        Err(fault) => append(fault_lines(alloc, &fault), out),
+    }
+}
+
+/// Reads the two inputs, of which nothing was read, one after the other, and searches; at a giving up with what it says.
+fn judge_inputs<R: Read, W: Watch>(
+    alloc: Global,
+    transcript: &mut Input<R>,
+    declaration: &mut Input<R>,
+    budget: u64,
+    forced: bool,
+    open: bool,
+    watch: &mut W,
+) -> Result<Judged, AuditFault>
+    requires transcript { came_of transcript.old ≡ [] }
+    requires declaration { came_of declaration.old ≡ [] }
+    ensures decides { (t d : List ℕ) → IsFileOf t transcript.new → IsFileOf d declaration.new
+        → DecidesFiles t d (is_failed transcript.new) (is_failed declaration.new) budget forced result }
+    ensures ended { OnOk result (IsTrue (is_ended transcript.new) × IsTrue (is_ended declaration.new)) }
+{
+    let transcript = match read_transcript(alloc, transcript) {
+        Ok(transcript) => transcript,
+        Err(fault) => return Err(AuditFault::Transcript(fault)),
+    };
+    let declaration = match read_declaration(alloc, declaration) {
+        Ok(declaration) => declaration,
+        Err(fault) => return Err(AuditFault::Declaration(fault)),
+    };
+    match judge_records(
+        alloc,
+        &transcript,
+        &declaration,
+        budget,
+        forced,
+        open,
+        watch,
+    ) {
+        Ok(judged) => Ok(judged),
+        Err(fault) => Err(AuditFault::Check(fault)),
+    }
+}
+
+/// Appends the lines of what was found to `out`, with what giving up says, and a witness that was found to `made`; nothing to either where
+/// memory runs out.
+fn tell_judged(alloc: Global, judged: &Judged, out: &mut Vec<u8>, made: &mut Vec<u8>) -> Status
+    ensures tells { PrintsGivingUp (Ok judged.now) result (appended_bytes out.old.items out.new.items) (appended_bytes made.old.items made.new.items)
+        ⊎ (IsSilent result (appended_bytes out.old.items out.new.items) × (appended_bytes made.old.items made.new.items ≡ [])) }
+    ensures nothing { result ≢ Status.Done → made.new.items ≡ made.old.items }
+    ensures appends { StartsWith out.new.items out.old.items }
+    ensures makes { StartsWith made.new.items made.old.items }
+{
+    let Ok(lines) = judged_lines(alloc, judged) else {
+        return Status::Failed;
+    };
+    match &judged.searched.found {
+        Found::Yes(witness, _) => tell_witness(alloc, witness, &lines, out, made),
+        Found::GaveUp(_) => append(Ok(lines), out),
+    }
+}
+
+/// The lines of what a search found, and behind them what its giving up says.
+fn judged_lines(alloc: Global, judged: &Judged) -> Result<Lines, AllocError>
+    ensures { IfOk result (λ lines. (lines.status ≡ found_status judged.now.searched.found)
+        × (string_bytes lines.text ≡ judged_text judged.now)) }
+{
+    let Lines {
+        text: front,
+        status,
+    } = searched_lines(alloc, &judged.searched)?;
+    let more = decision_text(alloc, &judged.decision)?;
+    let text = format!(in alloc; "{front}{more}")?;
+    Ok(Lines { text, status })
+}
+
+/// The line of what giving up says, where there is one.
+fn decision_text(alloc: Global, decision: &Option<Decision>) -> Result<String, AllocError>
+    ensures { IfOk result (λ text. string_bytes text ≡ decision_text decision.now) }
+{
+    match decision {
+        Some(decision) => decision_line(alloc, decision),
+        None => Ok(String::new(alloc)),
+    }
+}
+
+fn decision_line(alloc: Global, decision: &Decision) -> Result<String, AllocError>
+    ensures { IfOk result (λ text. string_bytes text ≡ decision_line decision.now) }
+{
+    match decision {
+        Decision::Decided => {
+            String::from_str(alloc, "decided: no order explains every answer\n")
+        }
+        Decision::UsedUp(steps) => {
+            format!(in alloc; "not decided: the budget of {steps} steps is used up\n")
+        }
+        Decision::NotPlain(numbers) => {
+            let calls = calls_text(alloc, numbers)?;
+            format!(in alloc; "not decided: these are not plain: {calls}\n")
+        }
+    }
+}

@@ -1,0 +1,206 @@
+//! What a search tells in JSON.
+
+ghost use Rattle.std.specs.Prelude.{◌≡◌, ◌⊎◌, IfOk, IsOkAnd, OnOk, Result, [], string_bytes};
+ghost use Rattle.std.specs.Io.{StartsWith, appended_bytes};
+ghost use Rattle.kmipa_json.specs.Told.{items_of, members_of};
+ghost use Rattle.kmipa_ttlv.specs.Input.{came_of};
+ghost use Rattle.kmipa_check.specs.Audits.{AreAccepted};
+ghost use Rattle.kmipa_runs.specs.Statuses.{IsSilent};
+ghost use Rattle.kmipa_telling.specs.JsonSearches.{BothEnded, DecidesInputs, MakesFile, PrintsJsonSearch, TellsJudged, judged_items};
+
+use crate::json::{open_object, read_object};
+use crate::judged::{Judged, judge_records};
+use crate::reading::read_held;
+use crate::telling::tell_fault;
+use crate::telling_found::tell_judged;
+use kmipa_check::AuditFault;
+use kmipa_json::{JsonList, JsonObject, told_file};
+use kmipa_record::{Declaration, RecordFault, Transcript, write_witness};
+use kmipa_runs::{Lines, Status};
+use kmipa_search::{Found, Watch};
+use kmipa_ttlv::Input;
+use std::alloc::{AllocError, Global};
+use std::io::Read;
+
+/// What is printed and what is made of a search.
+#[derive(Debug, Drop)]
+struct Answer {
+    lines: Lines,
+    made: Vec<u8>,
+}
+
+/// `search TRANSCRIPT DECLARATION OUT --json`: appends to `out` one JSON object and a line feed, which tell what a search as `search_run` makes
+/// it found, and where it gave up whether it has decided, and answers the status. A witness that was found is appended to `made`, as a file; at
+/// every other status than `Done` nothing is. Where memory runs out nothing is appended to either, and the status is `Failed`.
+pub fn search_json<R: Read, W: Watch>(
+    alloc: Global,
+    transcript: &mut Input<R>,
+    declaration: &mut Input<R>,
+    budget: u64,
+    forced: bool,
+    open: bool,
+    watch: &mut W,
+    out: &mut Vec<u8>,
+    made: &mut Vec<u8>,
+) -> Status
+    requires transcript { came_of transcript.old ≡ [] }
+    requires declaration { came_of declaration.old ≡ [] }
+    // What is made and printed tells what a search answers of whatever the inputs may be, or memory ran out.
+    ensures prints { ((outcome : Result Judged AuditFault) × DecidesInputs transcript.new declaration.new budget forced outcome
+        × PrintsJsonSearch transcript.new declaration.new outcome result (appended_bytes out.old.items out.new.items)
+        (appended_bytes made.old.items made.new.items))
+        ⊎ (IsSilent result (appended_bytes out.old.items out.new.items) × (appended_bytes made.old.items made.new.items ≡ [])) }
+    // Status 0 is answered only where the bytes that came, to the ends that were seen, are accepted with the witness that is made.
+    ensures accepts { result ≡ Status.Done → AreAccepted (came_of transcript.new) (came_of declaration.new) (appended_bytes made.old.items made.new.items)
+        × BothEnded transcript.new declaration.new }
+    ensures appends { StartsWith out.new.items out.old.items }
+    ensures makes { StartsWith made.new.items made.old.items }
+{
+    let answer = answer_of(alloc, transcript, declaration, budget, forced, open, watch);
+    append_both(answer, out, made)
+}
+
+/// Appends what is printed to `out` and what is made to `made`; nothing to either where memory runs out.
+fn append_both(answer: Result<Answer, AllocError>, out: &mut Vec<u8>, made: &mut Vec<u8>) -> Status
+    ensures appended { IsOkAnd answer (λ a. (result ≡ a.lines.status) × (appended_bytes out.old.items out.new.items ≡ string_bytes a.lines.text)
+        × (appended_bytes made.old.items made.new.items ≡ a.made.items))
+        ⊎ (IsSilent result (appended_bytes out.old.items out.new.items) × (appended_bytes made.old.items made.new.items ≡ [])) }
+    ensures appends { StartsWith out.new.items out.old.items }
+    ensures makes { StartsWith made.new.items made.old.items }
+{
+    let Ok(answer) = answer else {
+        return Status::Failed;
+    };
+    let kept = made.len();
+    if made.extend_from_slice(answer.made.as_slice()).is_err() {
+        return Status::Failed;
+    }
+    if out.extend_from_slice(answer.lines.text.as_bytes()).is_err() {
+        made.truncate(kept);
+        return Status::Failed;
+    }
+    answer.lines.status
+}
+
+/// What is printed and made of a search of these files.
+fn answer_of<R: Read, W: Watch>(
+    alloc: Global,
+    transcript: &mut Input<R>,
+    declaration: &mut Input<R>,
+    budget: u64,
+    forced: bool,
+    open: bool,
+    watch: &mut W,
+) -> Result<Answer, AllocError>
+    requires transcript { came_of transcript.old ≡ [] }
+    requires declaration { came_of declaration.old ≡ [] }
+    ensures { IfOk result (λ answer. (outcome : Result Judged AuditFault) × DecidesInputs transcript.new declaration.new budget forced outcome
+        × PrintsJsonSearch transcript.new declaration.new outcome answer.lines.status (string_bytes answer.lines.text) answer.made.items) }
+{
+    let mut first = Vec::new(alloc);
+    let mut second = Vec::new(alloc);
+    let outcome = search_held(
+        alloc,
+        transcript,
+        declaration,
+        &mut first,
+        &mut second,
+        budget,
+        forced,
+        open,
+        watch,
+    )?;
+    let made = made_of(alloc, &outcome)?;
+    let mut files = JsonList::new(alloc);
+    files.push_object(read_object(alloc, "transcript", transcript, &first)?)?;
+    files.push_object(read_object(alloc, "declaration", declaration, &second)?)?;
+    push_made(alloc, &mut files, &outcome, made.as_slice())?;
+    let mut told = open_object(alloc, files)?;
+    let status = tell_search(alloc, &mut told, &outcome)?;
+    let text = told.into_line()?;
+    Ok(Answer {
+        lines: Lines { text, status },
+        made,
+    })
+}
+
+/// The file of a witness that was found, or no bytes.
+fn made_of(alloc: Global, outcome: &Result<Judged, AuditFault>) -> Result<Vec<u8>, AllocError>
+    ensures { IfOk result (λ made. MakesFile outcome.now made.items) }
+{
+    let mut made = Vec::new(alloc);
+    if let Ok(judged) = outcome {
+        if let Found::Yes(witness, _) = &judged.searched.found {
+            if write_witness(alloc, witness, &mut made).is_err() {
+                return Err(AllocError);
+            }
+        }
+    }
+    Ok(made)
+}
+
+/// Puts what is told of the file that is made of what was found behind the others.
+fn push_made(
+    alloc: Global,
+    files: &mut JsonList,
+    outcome: &Result<Judged, AuditFault>,
+    made: &[u8],
+) -> Result<(), AllocError>
+    ensures { OnOk result (items_of files.new ≡ judged_items outcome.now made.now (items_of files.old)) }
+{
+    if let Ok(judged) = outcome {
+        if let Found::Yes(_, _) = &judged.searched.found {
+            return files.push_object(told_file(alloc, "witness", made)?);
+        }
+    }
+    Ok(())
+}
+
+fn tell_search(
+    alloc: Global,
+    told: &mut JsonObject,
+    outcome: &Result<Judged, AuditFault>,
+) -> Result<Status, AllocError>
+    ensures { IfOk result (λ status. TellsJudged outcome.now status (members_of told.old) (members_of told.new)) }
+{
+    match outcome {
+        Ok(judged) => tell_judged(alloc, told, judged),
+        Err(fault) => tell_fault(alloc, told, fault),
+    }
+}
+
+/// Reads the two inputs, of which nothing was read, one after the other, and searches. What came of them is held.
+fn search_held<R: Read, W: Watch>(
+    alloc: Global,
+    transcript: &mut Input<R>,
+    declaration: &mut Input<R>,
+    first: &mut Vec<u8>,
+    second: &mut Vec<u8>,
+    budget: u64,
+    forced: bool,
+    open: bool,
+    watch: &mut W,
+) -> Result<Result<Judged, AuditFault>, AllocError>
+    requires transcript { came_of transcript.old ≡ [] }
+    requires declaration { came_of declaration.old ≡ [] }
+    requires first { first.old.items ≡ [] }
+    requires second { second.old.items ≡ [] }
+    ensures decides { IfOk result (DecidesInputs transcript.new declaration.new budget forced) }
+    ensures first { OnOk result (first.new.items ≡ came_of transcript.new) }
+    ensures second { OnOk result (second.new.items ≡ came_of declaration.new) }
+{
+    let read: Result<Transcript, RecordFault> = read_held(alloc, transcript, first)?;
+    let marks = match read {
+        Ok(marks) => marks,
+        Err(fault) => return Ok(Err(AuditFault::Transcript(fault))),
+    };
+    let read: Result<Declaration, RecordFault> = read_held(alloc, declaration, second)?;
+    let declared = match read {
+        Ok(declared) => declared,
+        Err(fault) => return Ok(Err(AuditFault::Declaration(fault))),
+    };
+    match judge_records(alloc, &marks, &declared, budget, forced, open, watch) {
+        Ok(judged) => Ok(Ok(judged)),
+        Err(fault) => Ok(Err(AuditFault::Check(fault))),
+    }
+}

@@ -1,0 +1,59 @@
+//! Searches that say what their giving up means.
+
+ghost use Rattle.kmipa_record.specs.Declarations.{AreDeclared, declaration_of};
+ghost use Rattle.kmipa_record.specs.Marks.{AreRecorded};
+ghost use Rattle.kmipa_record.specs.Transcripts.{transcript_of};
+ghost use Rattle.kmipa_telling.specs.Deciding.{DecidesRecords};
+
+use crate::deciding::decide;
+use kmipa_check::CheckFault;
+use kmipa_record::{Declaration, Transcript};
+use kmipa_runs::{Searched, search_records};
+use kmipa_search::{Found, Watch};
+use std::alloc::Global;
+
+/// What a search says by giving up.
+#[derive(Debug, Drop)]
+pub enum Decision {
+    /// No order explains the transcript.
+    Decided,
+    /// Nothing: so many steps, the whole budget, are used up.
+    UsedUp(u64),
+    /// Nothing: the calls of these numbers aren't plain.
+    NotPlain(Vec<i32>),
+}
+
+/// What a search found, and, where it gave up, what that says.
+#[derive(Debug, Drop)]
+pub struct Judged {
+    pub searched: Searched,
+    /// None at a yes.
+    pub decision: Option<Decision>,
+}
+
+/// Searches the records, and where the search gives up, asks whether it has decided.
+pub fn judge_records<W: Watch>(
+    alloc: Global,
+    transcript: &Transcript,
+    declaration: &Declaration,
+    budget: u64,
+    forced: bool,
+    open: bool,
+    watch: &mut W,
+) -> Result<Judged, CheckFault>
+    requires { AreDeclared (declaration_of declaration.now) }
+    ensures { AreRecorded (transcript_of transcript.now)
+        → DecidesRecords (transcript_of transcript.now) (declaration_of declaration.now) budget forced result }
+{
+    let searched = search_records(alloc, transcript, declaration, budget, forced, open, watch)?;
+    match &searched.found {
+        Found::Yes(_, _) => Ok(Judged {
+            searched,
+            decision: None,
+        }),
+        Found::GaveUp(count) => {
+            let decision = Some(decide(alloc, transcript, budget, *count)?);
+            Ok(Judged { searched, decision })
+        }
+    }
+}
