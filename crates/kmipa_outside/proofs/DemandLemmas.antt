@@ -6,7 +6,7 @@ use Rattle.kmipa_ttlv.specs.Tree.{Tree, Trees, none, more, tag_of}
 use Rattle.kmipa_attrs.specs.Fields.{first, every}
 use Rattle.kmipa_outside.specs.Demands.{first_in, first_fails, fails}
 use Rattle.kmipa_outside.specs.declared.demand.Wanted.{Wanted}
-use Rattle.kmipa_outside.specs.declared.demand.Wanted.TheVariants.{There, Typed, MaybeTyped, Nothing, Integer, Count, OneOf, Other, Number, Value, Tagged, EachTyped, EachName, Once}
+use Rattle.kmipa_outside.specs.declared.demand.Wanted.TheVariants.{There, Typed, MaybeTyped, Nothing, Integer, Count, OneOf, Other, EachTyped, EachName, Once}
 use Rattle.kmipa_outside.specs.declared.types.ItemType.{ItemType}
 
 pub first_every : (tag : ℕ) (ts : Trees) → first tag ts ≡ first_in (every tag ts)

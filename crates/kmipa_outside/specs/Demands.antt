@@ -1,7 +1,7 @@
 -- What the profile wants of fields: where a field stands, and what stands there instead.
 use Rattle.std.specs.Prelude.{◌≡◌, ℕ, ◌+◌, ℤ, Bool, true, not, ◌==◌, nat_lt, cond, is_some, List, [], ◌∷◌, length, Option, Some, None, option_to_list}
 use Rattle.std.specs.Ordering.{int_eq}
-use Rattle.kmipa_ttlv.specs.Tree.{Tree, Trees, scalar, tag_of, every}
+use Rattle.kmipa_ttlv.specs.Tree.{Tree, Trees, scalar, every}
 use Rattle.kmipa_ttlv.specs.Tree
 use Rattle.kmipa_attrs.specs.Fields.{inside}
 use Rattle.kmipa_attrs.specs.Names.{as_name}
@@ -68,14 +68,12 @@ unlike ty t = cond (is_of ty t) None (Some (stands.Item (item_type t)))
 abbrev pub is_value : Wanted → ℤ → Bool
 is_value (wanted.Integer z) m = int_eq m z
 is_value (wanted.Count n) m = counts m n
-is_value (wanted.Value z) m = int_eq m z
 is_value w m = true
 
 -- a number of an Enumeration is one that is wanted
 abbrev pub is_number : Wanted → ℕ → Bool
 is_number (wanted.OneOf numbers) n = is_one_of numbers n
 is_number (wanted.Other m) n = not (n == m)
-is_number (wanted.Number m) n = n == m
 is_number w n = true
 
 -- another value of an Integer; of an item of another type the type
@@ -83,19 +81,10 @@ abbrev pub unlike_integer : Wanted → Tree → Option Stands
 unlike_integer w (scalar n (Tree.integer z)) = cond (is_value w z) None (Some (stands.Integer z))
 unlike_integer w t = Some (stands.Item (item_type t))
 
--- another value of an Integer, where other types are read over
-abbrev pub other_integer : Wanted → Tree → Option Stands
-other_integer w (scalar n (Tree.integer z)) = cond (is_value w z) None (Some (stands.Integer z))
-other_integer w t = None
-
 -- another number of an Enumeration, where other types are read over
 abbrev pub other_number : Wanted → Tree → Option Stands
 other_number w (scalar n (Tree.enumeration x)) = cond (is_number w x) None (Some (stands.Number x))
 other_number w t = None
-
--- another object than the one with this tag
-abbrev pub other_object : ℕ → Tree → Option Stands
-other_object n t = cond (tag_of t == n) None (Some (stands.Tag (tag_of t)))
 
 -- an item that stands there, and isn't as wanted
 abbrev pub misfit : Wanted → Tree → Option Stands
@@ -106,9 +95,6 @@ misfit (wanted.Integer z) t = unlike_integer (wanted.Integer z) t
 misfit (wanted.Count n) t = unlike_integer (wanted.Count n) t
 misfit (wanted.OneOf numbers) t = other_number (wanted.OneOf numbers) t
 misfit (wanted.Other m) t = other_number (wanted.Other m) t
-misfit (wanted.Number m) t = other_number (wanted.Number m) t
-misfit (wanted.Value z) t = other_integer (wanted.Value z) t
-misfit (wanted.Tagged n) t = other_object n t
 misfit w t = None
 
 -- none stands there

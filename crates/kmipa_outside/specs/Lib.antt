@@ -9,3 +9,5 @@ pub mod Told
 pub mod Requests
 pub mod Responses
 pub mod Messages
+pub mod Explaining
+pub mod Laws

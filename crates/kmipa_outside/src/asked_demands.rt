@@ -6,7 +6,9 @@ ghost use Rattle.kmipa_outside.specs.AskedDemands.{create_demands, register_dema
 use crate::demand::{Demand, Inside, Numbers, Step, Wanted, wants};
 use crate::types::ItemType;
 use kmipa_attrs::tags::{
-    ATTRIBUTES, CRYPTOGRAPHIC_ALGORITHM, CRYPTOGRAPHIC_LENGTH, CRYPTOGRAPHIC_USAGE_MASK, KEY_WRAPPING_SPECIFICATION, MAXIMUM_ITEMS, OBJECT_TYPE, REVOCATION_REASON_CODE, UNIQUE_IDENTIFIER,
+    ATTRIBUTES, CRYPTOGRAPHIC_ALGORITHM, CRYPTOGRAPHIC_LENGTH, CRYPTOGRAPHIC_USAGE_MASK,
+    KEY_WRAPPING_SPECIFICATION, MAXIMUM_ITEMS, OBJECT_TYPE, REVOCATION_REASON_CODE,
+    UNIQUE_IDENTIFIER,
 };
 use kmipa_msgs::OutsideKind;
 
@@ -168,12 +170,10 @@ pub(crate) fn revoke_demands() -> [Demand; 2]
 pub(crate) fn identifier_demands() -> [Demand; 1]
     ensures { result ≡ identifier_demands }
 {
-    [
-        wants(
-            Inside::Here,
-            Step::Tag(UNIQUE_IDENTIFIER),
-            Wanted::MaybeTyped(ItemType::Text),
-            OutsideKind::IdentifierForm,
-        ),
-    ]
+    [wants(
+        Inside::Here,
+        Step::Tag(UNIQUE_IDENTIFIER),
+        Wanted::MaybeTyped(ItemType::Text),
+        OutsideKind::IdentifierForm,
+    )]
 }

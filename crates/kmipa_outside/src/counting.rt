@@ -8,8 +8,8 @@ ghost use Rattle.kmipa_outside.specs.Demands.{all_at, is_name, many, passes, som
 
 use crate::demand::{Step, Wanted};
 use crate::finding::first_at;
-use crate::types::item_type;
 use crate::told::Stands;
+use crate::types::item_type;
 use kmipa_attrs::Field;
 use kmipa_attrs::fields::{as_structure, enumeration_at, text_at};
 use kmipa_attrs::tags::{NAME_TYPE, NAME_VALUE};

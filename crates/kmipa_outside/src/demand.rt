@@ -62,12 +62,6 @@ pub enum Wanted {
     OneOf(Numbers),
     /// That it is another number, where it is an Enumeration.
     Other(u32),
-    /// That it has this value, where it is an Enumeration.
-    Number(u32),
-    /// That it has this value, where it is an Integer.
-    Value(i32),
-    /// That it is the object with this tag, where there is one.
-    Tagged(u32),
     /// That each with its tag is of this type.
     EachTyped(ItemType),
     /// That each with its tag is a name.

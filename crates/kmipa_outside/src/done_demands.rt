@@ -78,14 +78,12 @@ pub(crate) fn registered_demands() -> [Demand; 3]
 pub(crate) fn located_demands() -> [Demand; 1]
     ensures { result ≡ located_demands }
 {
-    [
-        wants(
-            Inside::Here,
-            Step::Tag(UNIQUE_IDENTIFIER),
-            Wanted::EachTyped(ItemType::Text),
-            OutsideKind::IdentifierForm,
-        ),
-    ]
+    [wants(
+        Inside::Here,
+        Step::Tag(UNIQUE_IDENTIFIER),
+        Wanted::EachTyped(ItemType::Text),
+        OutsideKind::IdentifierForm,
+    )]
 }
 
 /// An object that is shown.

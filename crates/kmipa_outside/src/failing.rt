@@ -4,13 +4,13 @@ ghost use Rattle.std.specs.Prelude.{◌≡◌, None, Some, cond};
 ghost use Rattle.std.specs.Option.{option_map};
 ghost use Rattle.kmipa_ttlv.specs.ViewTree.{view_tree, view_trees};
 ghost use Rattle.kmipa_msgs.specs.Headers.{counts};
-ghost use Rattle.kmipa_outside.specs.Demands.{all_at, fails, fails_in, first_fails, is_number, is_one_of, is_value, lack, misfit, other_integer, other_number, other_object, unlike, unlike_integer};
+ghost use Rattle.kmipa_outside.specs.Demands.{all_at, fails, fails_in, first_fails, is_number, is_one_of, is_value, lack, misfit, other_number, unlike, unlike_integer};
 
+use crate::counting::{many_at, some_at};
 use crate::demand::{Demand, Numbers, Step, Wanted};
 use crate::finding::{first_at, inward};
-use crate::types::{ItemType, item_type};
-use crate::counting::{many_at, some_at};
 use crate::told::Stands;
+use crate::types::{ItemType, item_type};
 use kmipa_attrs::ObjectType;
 use kmipa_msgs::{BatchOption, KeyFormat};
 use kmipa_ttlv::{Children, View, ViewValue};
@@ -71,9 +71,7 @@ fn misfit(wanted: Wanted, view: &View) -> Option<Stands>
         Wanted::Typed(ty) | Wanted::MaybeTyped(ty) => unlike(ty, view),
         Wanted::Nothing => Some(Stands::Item(item_type(view))),
         Wanted::Integer(_) | Wanted::Count(_) => unlike_integer(wanted, view),
-        Wanted::OneOf(_) | Wanted::Other(_) | Wanted::Number(_) => other_number(wanted, view),
-        Wanted::Value(_) => other_integer(wanted, view),
-        Wanted::Tagged(tag) => other_object(tag, view),
+        Wanted::OneOf(_) | Wanted::Other(_) => other_number(wanted, view),
         _ => None,
     }
 }
@@ -97,15 +95,6 @@ fn unlike_integer(wanted: Wanted, view: &View) -> Option<Stands>
     }
 }
 
-fn other_integer(wanted: Wanted, view: &View) -> Option<Stands>
-    ensures { result ≡ other_integer wanted (view_tree view.now) }
-{
-    match &view.value {
-        ViewValue::Integer(value) => other_value(wanted, *value),
-        _ => None,
-    }
-}
-
 /// A value of an Integer that isn't wanted.
 fn other_value(wanted: Wanted, value: i32) -> Option<Stands>
     ensures { result ≡ cond (is_value wanted value) None (Some (Stands.Integer value)) }
@@ -121,7 +110,6 @@ fn is_value(wanted: Wanted, value: i32) -> bool
 {
     match wanted {
         Wanted::Integer(number) => value == number,
-        Wanted::Value(number) => value == number,
         Wanted::Count(items) => counts(value, items),
         _ => true,
     }
@@ -159,7 +147,6 @@ fn is_number(wanted: Wanted, number: u32) -> bool
     match wanted {
         Wanted::OneOf(numbers) => is_one_of(numbers, number),
         Wanted::Other(other) => number != other,
-        Wanted::Number(one) => number == one,
         _ => true,
     }
 }
@@ -176,14 +163,4 @@ fn is_one_of(numbers: Numbers, number: u32) -> bool
         Numbers::Statuses => number <= HIGHEST_STATUS,
         Numbers::Failure => number == FAILED,
     }
-}
-
-fn other_object(tag: u32, view: &View) -> Option<Stands>
-    ensures { result ≡ other_object tag (view_tree view.now) }
-{
-    let number = view.tag.number;
-    if number == tag {
-        return None;
-    }
-    Some(Stands::Tag(number))
 }

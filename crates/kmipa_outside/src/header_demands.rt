@@ -6,7 +6,8 @@ ghost use Rattle.kmipa_outside.specs.HeaderDemands.{request_header_demands, resp
 use crate::demand::{Demand, Inside, Numbers, Step, Wanted, wants};
 use crate::types::ItemType;
 use kmipa_attrs::tags::{
-    BATCH_COUNT, BATCH_ERROR_CONTINUATION_OPTION, BATCH_ORDER_OPTION, PROTOCOL_VERSION_MAJOR, PROTOCOL_VERSION_MINOR, TIME_STAMP,
+    BATCH_COUNT, BATCH_ERROR_CONTINUATION_OPTION, BATCH_ORDER_OPTION, PROTOCOL_VERSION_MAJOR,
+    PROTOCOL_VERSION_MINOR, TIME_STAMP,
 };
 use kmipa_msgs::OutsideKind;
 

@@ -21,8 +21,7 @@ use crate::types::ItemType;
 use kmipa_attrs::Field;
 use kmipa_attrs::fields::{as_structure, boolean_at, enumeration_at, inside};
 use kmipa_attrs::tags::{
-    BATCH_ITEM, BATCH_ORDER_OPTION, OPERATION, REQUEST_HEADER, REQUEST_PAYLOAD,
-    UNIQUE_IDENTIFIER,
+    BATCH_ITEM, BATCH_ORDER_OPTION, OPERATION, REQUEST_HEADER, REQUEST_PAYLOAD, UNIQUE_IDENTIFIER,
 };
 use kmipa_msgs::{Operation, OutsideKind};
 use kmipa_ttlv::{Children, View};

@@ -11,9 +11,7 @@ use crate::demand::Demand;
 use crate::done_demands::{
     got_attributes_demands, got_demands, located_demands, registered_demands,
 };
-use crate::shared_demands::{
-    attribute_demands, block_demands, client_demands, filter_demands,
-};
+use crate::shared_demands::{attribute_demands, block_demands, client_demands, filter_demands};
 use kmipa_msgs::Operation;
 use std::alloc::{AllocError, Global};
 

@@ -39,8 +39,6 @@ pub enum Stands {
     Number(u32),
     /// An Integer of this value.
     Integer(i32),
-    /// An object with this tag.
-    Tag(u32),
     /// An item of this type, as the one of this place among those with the tag, counted from 1.
     Nth(usize, ItemType),
     /// So many items.
