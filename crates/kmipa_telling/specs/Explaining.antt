@@ -1,21 +1,30 @@
 -- A check that also says what its no means.
-use Rattle.std.specs.Prelude.{◌≡◌, ℕ, List, [], ◌++◌, Bool, Option, Some, None, Result, Ok, Err}
+use Rattle.std.specs.Prelude.{◌≡◌, ◌⊎◌, ℕ, List, [], ◌++◌, Bool, Option, Some, None, Result, Ok, Err}
 use Rattle.kmipa_record.specs.Declarations.{declaration_of}
-use Rattle.kmipa_record.specs.Transcripts.{transcript_of}
+use Rattle.kmipa_record.specs.Marks.{MarkOf}
+use Rattle.kmipa_record.specs.Transcripts.{transcript_of, IsTranscript}
 use Rattle.kmipa_record.specs.Witnesses.{witness_of}
 use Rattle.kmipa_check.specs.Audits.{AreRecords, AuditFails}
 use Rattle.kmipa_check.specs.Verdicts.{TellsVerdict}
+use Rattle.kmipa_check.specs.Calls.{IsFirstOutside}
 use Rattle.kmipa_check.specs.declared.auditing.AuditFault.{AuditFault}
+use Rattle.kmipa_check.specs.declared.auditing.AuditFault.TheVariants as audit
+use Rattle.kmipa_check.specs.declared.fault.CheckFault.{CheckFault}
+use Rattle.kmipa_check.specs.declared.fault.CheckFault.TheVariants as check
 use Rattle.kmipa_check.specs.declared.auditing.AuditRecords.{AuditRecords}
 use Rattle.kmipa_check.specs.declared.verdict.Refused.{Refused}
 use Rattle.kmipa_check.specs.declared.verdict.Verdict.{Verdict}
 use Rattle.kmipa_check.specs.declared.verdict.Verdict.TheVariants as verdict
 use Rattle.kmipa_explain.specs.Explanations.{Explains}
 use Rattle.kmipa_explain.specs.declared.explanation.Explanation.{Explanation}
+use Rattle.kmipa_outside.specs.Explaining.{ExplainsOutside}
+use Rattle.kmipa_outside.specs.declared.explaining.OutsideExplanation.{OutsideExplanation}
 use Rattle.kmipa_runs.specs.Lines.{PrintsFault, PrintsVerdict}
 use Rattle.kmipa_runs.specs.declared.status.Status.{Status}
 use Rattle.kmipa_telling.specs.Explained.{PrintsExplanation}
+use Rattle.kmipa_telling.specs.OutsideLines.{PrintsOutside}
 use Rattle.kmipa_telling.specs.declared.explained.Explained.{Explained}
+use Rattle.kmipa_telling.specs.declared.explained.FaultTold.{FaultTold}
 
 -- ---- what is explained
 
@@ -34,16 +43,33 @@ IsExplained records (verdict.No refused) (Some e) = ExplainsRecords records refu
 abbrev pub TellsRecords : AuditRecords → Verdict → Type 0
 TellsRecords records = TellsVerdict (transcript_of records.transcript) (declaration_of records.declaration) (witness_of records.witness)
 
+-- a fault of which no more is told
+abbrev pub bare_fault : AuditFault → FaultTold
+bare_fault fault = record { fault = fault; outside = None }
+
+-- why a message of these calls is outside has claims that hold; any other fault has none
+abbrev pub IsOutsideExplained : List MarkOf → CheckFault → Option OutsideExplanation → Type 0
+IsOutsideExplained marks (check.Outside number side o) (Some e) = ExplainsOutside marks number side o.item o.kind e
+IsOutsideExplained marks (check.Outside number side o) None = ⊥
+IsOutsideExplained marks fault None = Unit {0}
+IsOutsideExplained marks fault (Some e) = ⊥
+
+-- the same of what these bytes are, by the fault of an audit
+abbrev pub IsFaultExplained : List ℕ → AuditFault → Option OutsideExplanation → Type 0
+IsFaultExplained t (audit.Check fault) o = (marks : List MarkOf) × IsTranscript t marks × IsOutsideExplained marks fault o
+IsFaultExplained t fault None = Unit {0}
+IsFaultExplained t fault (Some e) = ⊥
+
 -- these records are the bytes, the verdict is right for them, and it is explained
 pub record AreExplained (judged : Explained) (t d w : List ℕ) : Type 0 where
   pub records : AreRecords judged.records t d w
   pub verdict : TellsRecords judged.records judged.verdict
   pub explained : IsExplained judged.records judged.verdict judged.explanation
 
--- what a check with explanations answers of these three files; its faults are those of an audit
-abbrev pub AuditsExplained : List ℕ → List ℕ → List ℕ → Bool → Bool → Bool → Result Explained AuditFault → Type 0
+-- what a check with explanations answers of these three files; its faults are those of an audit, with why a message is outside
+abbrev pub AuditsExplained : List ℕ → List ℕ → List ℕ → Bool → Bool → Bool → Result Explained FaultTold → Type 0
 AuditsExplained t d w failed_t failed_d failed_w (Ok explained) = AreExplained explained t d w
-AuditsExplained t d w failed_t failed_d failed_w (Err fault) = AuditFails t d w failed_t failed_d failed_w fault
+AuditsExplained t d w failed_t failed_d failed_w (Err told) = AuditFails t d w failed_t failed_d failed_w told.fault × IsFaultExplained t told.fault told.outside
 
 -- ---- what is printed
 
@@ -52,9 +78,20 @@ abbrev pub PrintsMore : Option Explanation → List ℕ → Type 0
 PrintsMore None lines = lines ≡ []
 PrintsMore (Some e) lines = PrintsExplanation e lines
 
--- the lines of the verdict, and behind them those of its explanation; a fault has its own line alone
-abbrev pub PrintsExplained : Result Explained AuditFault → Status → List ℕ → Type 0
+-- the lines of the verdict, and behind them those of its explanation; or the line of a fault, and behind it why a message is outside
+abbrev pub PrintsExplained : Result Explained FaultTold → Status → List ℕ → Type 0
 PrintsExplained (Ok explained) said lines = (front more : List ℕ)
     × PrintsVerdict (transcript_of explained.records.transcript) (witness_of explained.records.witness) explained.verdict said front
     × PrintsMore explained.explanation more × (lines ≡ front ++ more)
-PrintsExplained (Err fault) said lines = PrintsFault fault said lines
+PrintsExplained (Err told) said lines = (front more : List ℕ) × PrintsFault told.fault said front × PrintsOutside told.outside more × (lines ≡ front ++ more)
+
+-- ---- how a fault is told, not promised
+
+-- the fault of a check of these calls, where it is of a message
+abbrev pub IsFaultOf : List MarkOf → CheckFault → Type 0
+IsFaultOf marks (check.Outside number side o) = IsFirstOutside marks number side o.item o.kind
+IsFaultOf marks fault = Unit {0}
+
+-- it is told with why the message is outside; or memory ran out
+abbrev pub IsFaultToldOf : List MarkOf → CheckFault → FaultTold → Type 0
+IsFaultToldOf marks fault told = ((told.fault ≡ audit.Check fault) × IsOutsideExplained marks fault told.outside) ⊎ (told ≡ bare_fault (audit.Check check.Memory))

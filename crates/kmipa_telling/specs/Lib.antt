@@ -26,3 +26,6 @@ pub mod StateCauses
 pub mod StateClaims
 pub mod Stories
 pub mod Telling
+pub mod OutsidePhrases
+pub mod OutsideLines
+pub mod OutsideClaims

@@ -55,7 +55,7 @@ fn call_object(alloc: Global, explanation: &Explanation) -> Result<JsonObject, A
 }
 
 /// An operation under a name, where there is one.
-fn tell_operation(
+pub fn tell_operation(
     alloc: Global,
     told: &mut JsonObject,
     key: &str,

@@ -5,10 +5,12 @@ ghost use Rattle.kmipa_record.specs.Declarations.{AreDeclared, declaration_of};
 ghost use Rattle.kmipa_record.specs.Marks.{AreRecorded};
 ghost use Rattle.kmipa_record.specs.Transcripts.{transcript_of};
 ghost use Rattle.kmipa_check.specs.Audits.{AreRecords};
-ghost use Rattle.kmipa_telling.specs.Explaining.{AuditsExplained, IsExplained, TellsRecords};
+ghost use Rattle.kmipa_telling.specs.Explaining.{AuditsExplained, IsExplained, IsFaultOf, IsFaultToldOf, TellsRecords};
 
 use kmipa_check::{AuditFault, AuditRecords, CheckFault, Verdict, check};
 use kmipa_explain::{Explanation, explain};
+use kmipa_outside::{OutsideExplanation, explain_outside};
+use kmipa_record::Transcript;
 use std::alloc::Global;
 
 /// A verdict with the records that it is of, and at a no what it means.
@@ -20,8 +22,31 @@ pub struct Explained {
     pub explanation: Option<Explanation>,
 }
 
-/// Checks the witness of these records, and at a no says what it means.
-pub fn explain_records(alloc: Global, records: AuditRecords) -> Result<Explained, AuditFault>
+/// A fault, and of a message that is outside why it is.
+#[derive(Debug, Drop)]
+pub struct FaultTold {
+    pub fault: AuditFault,
+    /// None of any other fault.
+    pub outside: Option<OutsideExplanation>,
+}
+
+impl FaultTold {
+    ghost use Rattle.std.specs.Prelude.{◌≡◌};
+    ghost use Rattle.kmipa_telling.specs.Explaining.{bare_fault};
+
+    /// A fault of which no more is told.
+    pub fn bare(fault: AuditFault) -> FaultTold
+        ensures { result ≡ bare_fault fault }
+    {
+        FaultTold {
+            fault,
+            outside: None,
+        }
+    }
+}
+
+/// Checks the witness of these records, and says what a no means, and why a message is outside.
+pub fn explain_records(alloc: Global, records: AuditRecords) -> Result<Explained, FaultTold>
     requires recorded { AreRecorded (transcript_of records.transcript) }
     requires declared { AreDeclared (declaration_of records.declaration) }
     ensures { (t d w : List ℕ) (failed_t failed_d failed_w : Bool) → AreRecords records t d w
@@ -34,7 +59,7 @@ pub fn explain_records(alloc: Global, records: AuditRecords) -> Result<Explained
         &records.witness,
     ) {
         Ok(verdict) => verdict,
-        Err(fault) => return Err(AuditFault::Check(fault)),
+        Err(fault) => return Err(fault_told(alloc, &records.transcript, fault)),
     };
     match explanation_of(alloc, &records, verdict) {
         Ok(explanation) => Ok(Explained {
@@ -42,7 +67,25 @@ pub fn explain_records(alloc: Global, records: AuditRecords) -> Result<Explained
             verdict,
             explanation,
         }),
-        Err(fault) => Err(AuditFault::Check(fault)),
+        Err(fault) => Err(FaultTold::bare(AuditFault::Check(fault))),
+    }
+}
+
+/// A fault that a check gave, and why a message is outside.
+fn fault_told(alloc: Global, transcript: &Transcript, fault: CheckFault) -> FaultTold
+    requires recorded { AreRecorded (transcript_of transcript.now) }
+    requires told { IsFaultOf (transcript_of transcript.now) fault }
+    ensures { IsFaultToldOf (transcript_of transcript.now) fault result }
+{
+    let CheckFault::Outside(number, side, outside) = fault else {
+        return FaultTold::bare(AuditFault::Check(fault));
+    };
+    match explain_outside(alloc, transcript, number, side, outside) {
+        Ok(explanation) => FaultTold {
+            fault: AuditFault::Check(fault),
+            outside: Some(explanation),
+        },
+        Err(fault) => FaultTold::bare(AuditFault::Check(fault)),
     }
 }
 

@@ -11,12 +11,12 @@ ghost use Rattle.kmipa_telling.specs.Held.{HoldsAll, HoldsNothing};
 ghost use Rattle.kmipa_telling.specs.Judging.{AreEnded};
 
 use crate::claims::tell_meaning;
-use crate::explained::{Explained, explain_records};
+use crate::explained::{Explained, FaultTold, explain_records};
 use crate::held::Held;
 use crate::json::open_files;
 use crate::judging::records_held;
+use crate::outside_claims::tell_outside;
 use crate::telling::{tell_fault, tell_verdict};
-use kmipa_check::AuditFault;
 use kmipa_json::JsonObject;
 use kmipa_runs::{Lines, Status, append};
 use kmipa_ttlv::Input;
@@ -37,7 +37,7 @@ pub fn explain_json<R: Read>(
     requires witness { came_of witness.old ≡ [] }
     // What is printed tells what an audit answers of whatever the inputs may be, with what its no means, or memory
     // ran out.
-    ensures prints { ((outcome : Result Explained AuditFault)
+    ensures prints { ((outcome : Result Explained FaultTold)
         × ExplainsInputs transcript.new declaration.new witness.new outcome
         × PrintsExplainedJson transcript.new declaration.new witness.new outcome result
         (appended_bytes out.old.items out.new.items))
@@ -64,7 +64,7 @@ fn explained_object<R: Read>(
     requires transcript { came_of transcript.old ≡ [] }
     requires declaration { came_of declaration.old ≡ [] }
     requires witness { came_of witness.old ≡ [] }
-    ensures { IfOk result (λ lines. (outcome : Result Explained AuditFault)
+    ensures { IfOk result (λ lines. (outcome : Result Explained FaultTold)
         × ExplainsInputs transcript.new declaration.new witness.new outcome
         × PrintsExplainedJson transcript.new declaration.new witness.new outcome lines.status
         (string_bytes lines.text)) }
@@ -87,7 +87,7 @@ fn explain_held<R: Read>(
     declaration: &mut Input<R>,
     witness: &mut Input<R>,
     held: &mut Held,
-) -> Result<Result<Explained, AuditFault>, AllocError>
+) -> Result<Result<Explained, FaultTold>, AllocError>
     requires transcript { came_of transcript.old ≡ [] }
     requires declaration { came_of declaration.old ≡ [] }
     requires witness { came_of witness.old ≡ [] }
@@ -97,14 +97,14 @@ fn explain_held<R: Read>(
 {
     match records_held(alloc, transcript, declaration, witness, held)? {
         Ok(records) => Ok(explain_records(alloc, records)),
-        Err(fault) => Ok(Err(fault)),
+        Err(fault) => Ok(Err(FaultTold::bare(fault))),
     }
 }
 
 fn tell_explained(
     alloc: Global,
     told: &mut JsonObject,
-    outcome: &Result<Explained, AuditFault>,
+    outcome: &Result<Explained, FaultTold>,
 ) -> Result<Status, AllocError>
     ensures { IfOk result (λ status.
         TellsExplained outcome.now status (members_of told.old) (members_of told.new)) }
@@ -121,6 +121,10 @@ fn tell_explained(
             tell_meaning(alloc, told, &explained.explanation)?;
             Ok(status)
         }
-        Err(fault) => tell_fault(alloc, told, fault),
+        Err(fault) => {
+            let status = tell_fault(alloc, told, &fault.fault)?;
+            tell_outside(alloc, told, &fault.outside)?;
+            Ok(status)
+        }
     }
 }

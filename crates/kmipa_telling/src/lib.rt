@@ -27,6 +27,9 @@ mod making_causes;
 mod making_claims;
 mod naming;
 mod naming_claims;
+mod outside_claims;
+mod outside_lines;
+mod outside_phrases;
 mod phrases;
 mod reading;
 mod state_causes;
@@ -35,7 +38,7 @@ mod stories;
 mod telling;
 mod telling_found;
 
-pub use explained::Explained;
+pub use explained::{Explained, FaultTold};
 pub use explained_json::explain_json;
 pub use explaining::explain_run;
 pub use giving_up::explain_search_run;
