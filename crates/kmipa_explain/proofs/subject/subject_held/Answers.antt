@@ -17,7 +17,7 @@ returns-in_ok-subject_at-in-Some-entry_named c =
     let entry = entry_of c.in-Some-entry_named.entry.now in
     let named : Some id ≡ id_of_cause c.args.cause.now (text_of c.args.meant.now) = ap maybe_lent (sym c.in-Some.is) ∙ c.id_of_cause.ensures in
     let found : Some entry ≡ find (λ (e : EntryOf). bytes_eq id e.id) (map entry_of c.deref.result.now) =
-        ap (option_map (λ (e : Bor Entry). entry_of e.now)) (sym c.in-Some-entry_named.is) ∙ c.entry_named.ensures in
+    ap (option_map (λ (e : Bor Entry). entry_of e.now)) (sym c.in-Some-entry_named.is) ∙ c.entry_named.ensures in
     let there : Some entry ≡ object_held held (Some id) = found ∙ ap (λ (es : List Entry). find (λ (e : EntryOf). bytes_eq id e.id) (map entry_of es)) c.deref.ensures.value in
     ap Some (c.in_ok-subject_at-in-Some-entry_named.ensures ∙ ap (λ (t : ℤ). subject_at t entry) (to_z-of_z w64 c.args.t fits))
     ∙ ap (option_map (subject_at c.args.t)) there
