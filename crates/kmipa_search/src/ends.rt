@@ -6,6 +6,7 @@ use crate::taken::{CallSet, TakenCalls};
 use crate::tried::Tried;
 use kmipa_store::Ledger;
 use std::alloc::{AllocError, Global};
+use std::cell::Cell;
 use std::rc::Rc;
 
 /// So many ends are remembered at most, in so many bytes.
@@ -44,6 +45,8 @@ pub struct Ends {
     pool: Pool,
     /// More bytes than the ends take, besides the pool.
     bytes: usize,
+    /// Whether a search arrived at a known end just now. It goes back from there at once, and then there is nothing to note.
+    is_met: Cell<bool>,
 }
 
 impl Ends {
@@ -60,6 +63,7 @@ impl Ends {
             newest: Vec::new(alloc),
             pool: Pool::new(alloc),
             bytes: 0,
+            is_met: Cell::new(false),
         }
     }
 
@@ -76,16 +80,19 @@ impl Ends {
         ensures { (all : ℕ) (places : List ℕ) → AreFlagged all places taken.now → length places ≡ count
             → IfOk result (IsArrival self.now.ends.items places (L.state ledger.now).now) }
     {
+        self.is_met.set(false);
         if !late {
             return Ok(Tried::none());
         }
         if self.has(ledger, taken, count) {
+            self.is_met.set(true);
             return Ok(Tried::all());
         }
         Ok(Tried::none())
     }
 
-    /// These calls, which are so many, lead to no run: it is noted, if it is late, not known yet, and there is room.
+    /// These calls, which are so many, lead to no run: it is noted, if it is late, not known yet, and there is room. What a search comes to
+    /// later has more calls, so where the calls were no known end when it arrived, they are none now.
     pub fn note<L: Ledger>(
         &mut self,
         alloc: Global,
@@ -98,13 +105,12 @@ impl Ends {
         ensures { (all : ℕ) (places : List ℕ) → AreFlagged all places taken.now → length places ≡ count
             → IsNoted self.old.ends.items places (L.state ledger.now).now self.new.ends.items }
     {
-        if !late {
+        let is_met = self.is_met.get();
+        self.is_met.set(false);
+        if is_met || !late {
             return Ok(());
         }
         if self.is_full() {
-            return Ok(());
-        }
-        if self.has(ledger, taken, count) {
             return Ok(());
         }
         let set = taken.set(alloc, count)?;

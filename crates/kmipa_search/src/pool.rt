@@ -22,8 +22,8 @@ const NAME_BYTES: usize = 64;
 /// So many states of a place are compared with the object there at most, the newest first.
 const MOST_COMPARED: usize = 64;
 
-/// States of objects, by their places. An end has them from here, so that what doesn't change from one end to the next is
-/// there once. A state is handed out only where it was compared in full with the object, or copied of it.
+/// States of objects, by their places. An end has them from here, so that what doesn't change from one end to the next
+/// is there once. A state is handed out only where it was compared in full with the object, or copied of it.
 #[derive(Drop)]
 pub struct Pool {
     places: Vec<Vec<Rc<Still>>>,
@@ -40,7 +40,8 @@ impl Pool {
         }
     }
 
-    /// The states of all objects of a ledger, in the order of arrival; or none, where they would take more bytes than these.
+    /// The states of all objects of a ledger, in the order of arrival; or none, where they would take more bytes than
+    /// these.
     pub fn share_all<L: Ledger>(
         &mut self,
         alloc: Global,
@@ -48,7 +49,8 @@ impl Pool {
         room: usize,
     ) -> Result<Option<Vec<Rc<Still>>>, AllocError>
         requires { IsSound (L.state ledger.now).now }
-        ensures { IfOk result (λ objects. IfSome objects (λ objects. stills_shared objects.items ≡ stills (L.state ledger.now).now)) }
+        ensures { IfOk result (λ objects. IfSome objects
+            (λ objects. stills_shared objects.items ≡ stills (L.state ledger.now).now)) }
     {
         let mut objects = Vec::with_capacity(alloc, ledger.len())?;
         let mut place = 0;
@@ -71,7 +73,8 @@ impl Pool {
         object: &Object,
         place: usize,
     ) -> Result<Rc<Still>, AllocError>
-        requires { (secret : SecretNo) → object.now.life.material ≡ Secret secret → secret.number < length (L.state ledger.now).now.secrets }
+        requires { (secret : SecretNo) → object.now.life.material ≡ Secret secret
+            → secret.number < length (L.state ledger.now).now.secrets }
         ensures { IfOk result (λ state. still_shared state ≡ still (L.state ledger.now).now.secrets (held object.now)) }
     {
         if let Some(states) = self.places.get(place) {
@@ -103,8 +106,10 @@ fn state_among<'s, L: Ledger>(
     object: &Object,
     states: &'s [Rc<Still>],
 ) -> Option<&'s Rc<Still>>
-    requires { (secret : SecretNo) → object.now.life.material ≡ Secret secret → secret.number < length (L.state ledger.now).now.secrets }
-    ensures { IfSome result (λ state. still_shared state.now ≡ still (L.state ledger.now).now.secrets (held object.now)) }
+    requires { (secret : SecretNo) → object.now.life.material ≡ Secret secret
+        → secret.number < length (L.state ledger.now).now.secrets }
+    ensures { IfSome result
+        (λ state. still_shared state.now ≡ still (L.state ledger.now).now.secrets (held object.now)) }
 {
     let mut place = states.len();
     let mut compared = 0;
@@ -124,7 +129,8 @@ fn state_among<'s, L: Ledger>(
 
 /// More bytes than the copy of an object takes.
 fn cost_of<L: Ledger>(ledger: &L, object: &Object) -> usize
-    requires { (secret : SecretNo) → object.now.life.material ≡ Secret secret → secret.number < length (L.state ledger.now).now.secrets }
+    requires { (secret : SecretNo) → object.now.life.material ≡ Secret secret
+        → secret.number < length (L.state ledger.now).now.secrets }
 {
     let known = match known_of(ledger, object.life.material) {
         Some(bytes) => bytes.len(),
