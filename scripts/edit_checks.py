@@ -1,7 +1,8 @@
 """Checks copies of a crate in which edits stand, and reads whether the functions that they change are refused.
 
 A proof knows nothing of a function that it calls but its contract. So edits of different bodies don't touch each
-other's goals, and one check of the functions that they change, and of those that these call, judges them all.
+other's goals, and one check of the functions that they change judges them all. What these call has only to be stated:
+in the copy its proofs are left out, and that a function calls what isn't proved doesn't count.
 """
 from __future__ import annotations
 
@@ -13,13 +14,14 @@ import tempfile
 from dataclasses import dataclass, field
 from pathlib import Path
 
-from edit_files import BadEdit, Edit, put_in
+from edit_files import BadEdit, Edit, functions_of, module_of, put_in
 
 PARTS = ("src", "specs", "proofs")
 # What an answer by hand is told where it names something that the body no longer has.
-STALE = re.compile(r"has no field|is not in scope|has no `|was not admitted|\(nearest: ")
+STALE = re.compile(r"has no field|is not in scope|has no `|was not admitted|\(nearest: |this file exports no `")
 # What a function is told whose own goals are all proved.
 PROVED = re.compile(r"proved|(no proof|not proved)[:;] (in `\S+`, of this cycle of calls: )?it (calls|passes|drops) ")
+TYPE = re.compile(r"^(?:pub(?:\([^)]*\))? )?(?:struct|enum) (\w+)", re.M)
 ENDED = re.compile(r"^only=\d+ ", re.M)
 
 
@@ -105,16 +107,48 @@ class Crate:
             raise SystemExit(f"wrong-bodies: {self.name}: it is not proved, and has to be first: {first_error(said)}")
         self.libraries[self.name] = to
 
-    def check(self, edits: list[Edit], kept: Path) -> str:
-        """Checks the functions that these edits change, in a copy with all of them, over what earlier checks proved."""
+    def check(self, edits: list[Edit], kept: Path, whole: bool) -> str:
+        """Checks the functions that these edits change, in a copy with all of them, over what earlier checks proved. The
+        others are whole there, or only stated."""
         with tempfile.TemporaryDirectory(prefix="wrong-bodies-") as made:
             room = Path(made)
             self.copy_to(room)
-            for path, text in edited(self, edits).items():
+            changed = edited(self, edits)
+            for path, text in changed.items():
                 (room / path).write_text(text, encoding="utf-8")
+            if not whole:
+                leave_out_others(room, edits)
             only = [word for it in edits for word in ("--only", it.function)]
             words = ["check", *self.rattle_words(), "--jobs", "1", "--incremental", str(kept), *only]
             return self.run_rattle(room, words)
+
+
+def leave_out_others(room: Path, edits: list[Edit]) -> None:
+    """Leaves out the body and the proof of each function of a copy of a crate that none of these edits is to be judged by: it
+    has only to be stated. What is of a trait or of a cycle of calls stays."""
+    judged = [f"::{it.function}" for it in edits]
+    texts = {it.relative_to(room).as_posix(): it.read_text(encoding="utf-8") for it in (room / "src").rglob("*.rt")}
+    homes = {name: module_of(path) for path, text in texts.items() for name in TYPE.findall(text)}
+    for path, text in texts.items():
+        lines = text.split("\n")
+        own = dict.fromkeys(TYPE.findall(text), module_of(path))
+        for it in reversed(functions_of(text, path)):
+            owner = it.name.rpartition("::")[0]
+            module = "" if owner == module_of(path) else {**homes, **own}.get(owner)
+            name = f"{module}::{it.name}" if module else it.name
+            if module is None or it.cycle or not it.is_plain or any(f"::{name}".endswith(end) for end in judged):
+                continue
+            lines[it.body + 1 : it.last] = ["unreachable!()"]
+            prove_nothing(room / "proofs" / name.replace("::", "/"))
+        (room / path).write_text("\n".join(lines), encoding="utf-8")
+
+
+def prove_nothing(folder: Path) -> None:
+    """Puts a file that proves nothing in the place of the files of a function's proof."""
+    folder.mkdir(parents=True, exist_ok=True)
+    for own in ("Answers.antt", "Invariants.antt"):
+        (folder / own).unlink(missing_ok=True)
+    (folder / "Proof.antt").write_text("-- left out\n", encoding="utf-8")
 
 
 def edited(crate: Crate, edits: list[Edit]) -> dict[str, str]:

@@ -13,7 +13,7 @@ from typing import Optional
 
 HEAD = re.compile(r"^( *)(?:pub(?:\([^)]*\))? )?(?:const )?(?:unsafe )?fn (\w+)")
 CYCLE = re.compile(r"#\[cycle\((\w+)\)\]")
-BLOCK = re.compile(r"^ *(?:pub )?(?:unsafe )?(impl|trait|mod)\b(.*)")
+BLOCK = re.compile(r"^ *(?:pub(?:\([^)]*\))? )?(?:unsafe )?(impl|trait|mod)\b(.*)")
 
 
 class BadEdit(Exception):
@@ -31,13 +31,15 @@ class Change:
 
 @dataclass(frozen=True)
 class Function:
-    """A function: rattle's name for it, or that name's end; the lines that it takes; and its cycle of calls."""
+    """A function: rattle's name for it, or that name's end; the lines that it takes; its cycle of calls; and whether it
+    has a body, and is of a module or of a type, and of no trait."""
 
     name: str
     first: int
     body: int
     last: int
     cycle: Optional[str]
+    is_plain: bool
 
 
 @dataclass(frozen=True)
@@ -121,13 +123,13 @@ def function_at(text: str, path: str, first: int, last: int) -> Optional[Functio
 
 def functions_of(text: str, path: str) -> list[Function]:
     """The functions of a file in rt fmt's layout: each ends at the first brace that stands where its line begins."""
-    lines, found, owners = text.split("\n"), [], [("", -1)]
+    lines, found, owners = text.split("\n"), [], [("", -1, True)]
     for at, line in enumerate(lines):
         while owners[-1][0] and at > owners[-1][1]:
             owners.pop()
         block, head = BLOCK.match(line), HEAD.match(line)
         if block:
-            owners.append((owner_of(block, lines, at), end_of(lines, at)))
+            owners.append((owner_of(block, lines, at), end_of(lines, at), is_of_type(block, lines, at)))
         if not head:
             continue
         indent, last = head[1], end_of(lines, at)
@@ -137,7 +139,8 @@ def functions_of(text: str, path: str) -> list[Function]:
             above -= 1
         cycle = CYCLE.search("\n".join(lines[above:at]))
         owner = owners[-1][0] or module_of(path)
-        found.append(Function(f"{owner}::{head[2]}" if owner else head[2], at, body, last, cycle[1] if cycle else None))
+        name, is_plain = f"{owner}::{head[2]}" if owner else head[2], owners[-1][2] and body < last
+        found.append(Function(name, at, body, last, cycle[1] if cycle else None, is_plain))
     return found
 
 
@@ -154,6 +157,12 @@ def module_of(path: str) -> str:
     """The module that a file of src/ is, by its path below the crate."""
     inner = re.sub(r"^src/|(/mod)?\.rt$", "", path)
     return "" if inner in ("lib", "main") else inner.replace("/", "::")
+
+
+def is_of_type(block: re.Match[str], lines: list[str], at: int) -> bool:
+    """Whether a block has a type's own functions: an impl of no trait."""
+    ahead = next((n for n in range(at, len(lines)) if lines[n].rstrip().endswith("{")), at)
+    return block[1] == "impl" and " for " not in " ".join(lines[at : ahead + 1])
 
 
 def owner_of(block: re.Match[str], lines: list[str], at: int) -> str:
