@@ -55,6 +55,7 @@ impl<'a> Children<'a> {
     }
 
     /// The next child with this tag, after which those behind it are left; after `None` none is left.
+    #[inline(always)]
     pub fn next_of(&mut self, tag: u32) -> Option<View<'a>>
         ensures next { MatchOption result (every tag (view_trees self.old) ≡ [])
             (λ v. every tag (view_trees self.old) ≡ view_tree v ∷ every tag (view_trees self.new)) }
@@ -89,6 +90,7 @@ impl<'a> Children<'a> {
     }
 
     /// Leaves the first child with this tag and those behind it.
+    #[inline(always)]
     fn pass_to(&mut self, tag: u32)
         ensures { view_trees self.new ≡ from_tag tag (view_trees self.old) }
     {

@@ -28,6 +28,7 @@ pub fn front_view(bytes: &[u8]) -> Option<(View<'_>, &[u8])>
 }
 
 /// The value of the item at the front.
+#[inline(always)]
 fn front_value(bytes: &[u8]) -> ViewValue<'_>
     requires header { 8 ≤ length bytes.now }
     requires whole { extent bytes.now ≤ length bytes.now }
@@ -41,6 +42,7 @@ fn front_value(bytes: &[u8]) -> ViewValue<'_>
 }
 
 /// The bytes from the first item with this tag on.
+#[inline(always)]
 pub fn spelled_from(bytes: &[u8], tag: u32) -> &[u8]
     ensures { items_at result.now ≡ from_tag tag (items_at bytes.now) }
 {
