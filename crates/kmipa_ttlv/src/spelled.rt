@@ -41,20 +41,22 @@ fn front_value(bytes: &[u8]) -> ViewValue<'_>
     }
 }
 
-/// The bytes from the first item with this tag on.
+/// The first item with this tag and the bytes behind it, or `None` where there is none.
 #[inline(always)]
-pub fn spelled_from(bytes: &[u8], tag: u32) -> &[u8]
-    ensures { items_at result.now ≡ from_tag tag (items_at bytes.now) }
+pub fn front_of(bytes: &[u8], tag: u32) -> Option<(View<'_>, &[u8])>
+    ensures { MatchOption result (from_tag tag (items_at bytes.now) ≡ none)
+        (λ x. from_tag tag (items_at bytes.now) ≡ more (view_tree x.0) (items_at x.1.now)) }
 {
     let mut rest = bytes;
     'items: while let Some((front, extent)) = whole_front(rest) {
-        if front.number == tag {
-            return rest;
-        }
         let (_, others) = rest.split_at(extent);
+        if front.number == tag {
+            let value = front_value(rest);
+            return Some((View { tag: front, value }, others));
+        }
         rest = others;
     }
-    rest
+    None
 }
 
 /// The item that this header and value say.
