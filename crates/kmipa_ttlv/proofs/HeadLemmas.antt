@@ -2,7 +2,7 @@
 use Rattle.std.proofs.Common.{◌≡◌, ◌≤◌, ◌<◌, ℕ, ◌+◌, List, length, Bool, true, false, cond, not, ltb, Option, None, Some, refl, sym, ◌∙◌}
 use Rattle.std.proofs.lemmas.Bool.{le-ltb, lt-ltb}
 use Rattle.kmipa_ttlv.specs.Spelling.{kind_at, len_at, extent}
-use Rattle.kmipa_ttlv.specs.Flaw.{is_kind, allows, child_flaw, outer_flaw, head_flaw}
+use Rattle.kmipa_ttlv.specs.Flaw.{is_kind, allows, child_flaw, outer_flaw, head_flaw, IsLasting}
 use Rattle.kmipa_ttlv.specs.Head.{shared_flaw}
 use Rattle.kmipa_ttlv.specs.declared.fault.FaultKind.{FaultKind}
 use Rattle.kmipa_ttlv.specs.declared.fault.FaultKind.TheVariants.{Truncated, UnknownType, BadLength, Overrun, TooLong}

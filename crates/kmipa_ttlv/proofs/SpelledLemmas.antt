@@ -280,6 +280,12 @@ scalar_only tag kind value other h =
 pub refused_item : (k : Kind) (tag : ℕ) (value : List ℕ) → k ≢ Kind.TheVariants.Structure → allows (number_of_kind k) (length value) ≡ false → scalar tag (byte_string value) ≡ item_at items_at tag (number_of_kind k) value
 refused_item k tag value s h = scalar_only tag (number_of_kind k) value (not_one k s) (held_not (number_of_kind k) value (inr h))
 
+pub kind_item : (k m : Kind) (tag : ℕ) (value : List ℕ) → k ≡ m → (m ≢ Kind.TheVariants.Structure → IsTrue (allows (number_of_kind m) (length value))) → plain_at tag (number_of_kind m) value ≡ item_at items_at tag (number_of_kind k) value
+kind_item k m tag value e h = allowed_item m tag value h ∙ ap (λ (j : Kind). item_at items_at tag (number_of_kind j) value) (sym e)
+
+pub refused_kind : (k m : Kind) (tag : ℕ) (value : List ℕ) → k ≡ m → m ≢ Kind.TheVariants.Structure → allows (number_of_kind m) (length value) ≡ false → scalar tag (byte_string value) ≡ item_at items_at tag (number_of_kind k) value
+refused_kind k m tag value e s h = refused_item m tag value s h ∙ ap (λ (j : Kind). item_at items_at tag (number_of_kind j) value) (sym e)
+
 unknown_other : (kind : ℕ) → is_kind kind ≡ false → kind ≡ 1 → ⊥
 unknown_other kind h e = false_is_true (sym h ∙ ap is_kind e)
 

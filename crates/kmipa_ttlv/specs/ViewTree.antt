@@ -1,5 +1,5 @@
 -- The tree that a view is, and the trees of the children that it lends.
-use Rattle.std.specs.Prelude.{ℕ, ◌==◌, cond}
+use Rattle.std.specs.Prelude.{ℕ, ◌==◌, cond, List, [], ◌∷◌}
 use Rattle.kmipa_ttlv.specs.Tree.{Tree, Trees, structure, scalar, none, more, tag_of}
 use Rattle.kmipa_ttlv.specs.Tree
 use Rattle.kmipa_ttlv.specs.ItemTree.{trees}

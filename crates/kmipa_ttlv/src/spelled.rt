@@ -71,37 +71,27 @@ pub fn view_of(head: Head, value: &[u8]) -> View<'_>
 
 /// The value of an item of this kind, of whatever length.
 #[inline(always)]
+#[tactic(auto, unfolding(crate::specs::Spelled::scalar_at))]
 fn value_view(kind: Kind, value: &[u8]) -> ViewValue<'_>
     ensures { (tag : ℕ) → view_value_tree tag result ≡ item_at items_at tag (number_of_kind kind) value.now }
 {
-    if kind != Kind::Structure && !kind.allows(value.len()) {
-        return ViewValue::Bytes(value);
-    }
-    allowed_view(kind, value)
-}
-
-#[inline(always)]
-#[tactic(auto, unfolding(crate::specs::Spelled::scalar_at))]
-fn allowed_view(kind: Kind, value: &[u8]) -> ViewValue<'_>
-    requires { kind ≢ Kind.Structure → IsTrue (allows (number_of_kind kind) (length value.now)) }
-    ensures { (tag : ℕ) → view_value_tree tag result
-        ≡ cond (number_of_kind kind == 1) (structure tag (items_at value.now))
-        (scalar tag (scalar_at (number_of_kind kind) value.now)) }
-{
+    let len = value.len();
     match kind {
         Kind::Structure => ViewValue::Structure(Children {
             source: Source::Spelled(value),
         }),
-        Kind::Integer => ViewValue::Integer(BigEndian::read_i32(value)),
-        Kind::LongInteger => ViewValue::LongInteger(BigEndian::read_i64(value)),
-        Kind::BigInteger => ViewValue::BigInteger(value),
-        Kind::Enumeration => ViewValue::Enumeration(BigEndian::read_u32(value)),
-        Kind::Boolean => ViewValue::Boolean(BigEndian::read_u64(value) == 1),
         Kind::Text => ViewValue::Text(text_of(value)),
-        Kind::Bytes => ViewValue::Bytes(value),
-        Kind::DateTime => ViewValue::DateTime(BigEndian::read_i64(value)),
-        Kind::Interval => ViewValue::Interval(BigEndian::read_u32(value)),
-        Kind::DateTimeExtended => ViewValue::DateTimeExtended(BigEndian::read_i64(value)),
+        Kind::Integer if len == 4 => ViewValue::Integer(BigEndian::read_i32(value)),
+        Kind::Enumeration if len == 4 => ViewValue::Enumeration(BigEndian::read_u32(value)),
+        Kind::Interval if len == 4 => ViewValue::Interval(BigEndian::read_u32(value)),
+        Kind::LongInteger if len == 8 => ViewValue::LongInteger(BigEndian::read_i64(value)),
+        Kind::Boolean if len == 8 => ViewValue::Boolean(BigEndian::read_u64(value) == 1),
+        Kind::DateTime if len == 8 => ViewValue::DateTime(BigEndian::read_i64(value)),
+        Kind::DateTimeExtended if len == 8 => {
+            ViewValue::DateTimeExtended(BigEndian::read_i64(value))
+        }
+        Kind::BigInteger if 0 < len && len % 8 == 0 => ViewValue::BigInteger(value),
+        _ => ViewValue::Bytes(value),
     }
 }
 

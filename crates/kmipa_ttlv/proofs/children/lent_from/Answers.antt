@@ -1,4 +1,4 @@
-use Rattle.std.proofs.Common.{rules, ◌≡◌, sym, ap, ◌∙◌}
+use Rattle.std.proofs.Common.{rules, ◌≡◌, ◌∷◌, List, sym, ap, ◌∙◌}
 use Rattle.kmipa_ttlv.specs.Tree.{more}
 use Rattle.kmipa_ttlv.specs.ItemTree.{tree, trees}
 use Rattle.kmipa_ttlv.specs.ViewTree.{from_tag}

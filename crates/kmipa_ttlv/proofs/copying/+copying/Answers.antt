@@ -1,11 +1,11 @@
-use Rattle.std.proofs.Common.{rules, ◌≡◌, sym, ap, ◌∙◌, arith}
+use Rattle.std.proofs.Common.{rules, ◌≡◌, ◌+◌, sym, ap, ◌∙◌, arith}
 use Rattle.kmipa_ttlv.specs.Tree.{Tree, Trees, structure, more}
 use Rattle.kmipa_ttlv.specs.ItemTree.{tree, trees}
 use Rattle.kmipa_ttlv.specs.ViewTree.{view_value_tree, view_tree, view_trees}
-use Rattle.kmipa_ttlv.specs.Written.{sizes}
+use Rattle.kmipa_ttlv.specs.Written.{size, sizes}
 use Rattle.kmipa_ttlv.proofs.ItemTreeLemmas.{tree_of_structure}
 use Rattle.kmipa_ttlv.proofs.StandsLemmas.{trees-push}
-use Rattle.kmipa_ttlv.proofs.ViewTreeLemmas.{join, join-push, join-none}
+use Rattle.kmipa_ttlv.proofs.ViewTreeLemmas.{join, join-push, join-none, size-tag, size-some}
 use Rattle.kmipa_ttlv.proofs.copying.+copying.Goals as goal
 
 pub copy_all-children-preserved : goal.copy_all-children-preserved

@@ -1,10 +1,10 @@
-use Rattle.std.proofs.Common.{rules, ◌≡◌, ◌+◌, ℕ, refl, sym, ap, ◌∙◌, arith}
+use Rattle.std.proofs.Common.{rules, ◌≡◌, ◌+◌, ℕ, refl, sym, ap, subst, ◌∙◌, arith, ◌-◌, Some}
 use Rattle.std.proofs.lemmas.Result.{err_from_is_err_and, MatchResult-weaker}
 use Rattle.kmipa_ttlv.specs.Head.{number_of_kind}
-use Rattle.kmipa_ttlv.specs.Tree.{structure, scalar, none, push}
+use Rattle.kmipa_ttlv.specs.Tree.{Tree, Trees, structure, scalar, none, push}
 use Rattle.kmipa_ttlv.specs.Spelled.{scalar_at}
-use Rattle.kmipa_ttlv.specs.Spelling.{padded, extent}
-use Rattle.kmipa_ttlv.specs.Flaw.{FirstFlawed, Flaw, in_scalar, in_child}
+use Rattle.kmipa_ttlv.specs.Spelling.{Holds, padded, extent, Run}
+use Rattle.kmipa_ttlv.specs.Flaw.{child_flaw, ValueFlaw, FirstFlawed, Flaw, ScalarFlaw, in_scalar, in_child}
 use Rattle.kmipa_ttlv.proofs.StandsLemmas.{flaw_of_head, flaw_of_value, stands_of, Run-push}
 use Rattle.kmipa_ttlv.proofs.decoding.+testing.Goals as goal
 

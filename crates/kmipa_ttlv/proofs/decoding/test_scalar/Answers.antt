@@ -1,4 +1,7 @@
-use Rattle.std.proofs.Common.{arith}
+use Rattle.std.proofs.Common.{◌≡◌, subst, sym, ap, arith}
+use Rattle.kmipa_ttlv.specs.Head.{number_of_kind}
+use Rattle.kmipa_ttlv.specs.declared.head.Kind.{Kind}
+use Rattle.kmipa_ttlv.specs.Spelled.{IsScalarAt}
 use Rattle.kmipa_ttlv.proofs.SpelledLemmas.{boolean_right, text_right, other_right}
 use Rattle.kmipa_ttlv.proofs.decoding.test_scalar.Goals as goal
 

@@ -1,5 +1,6 @@
-use Rattle.std.proofs.Common.{arith}
+use Rattle.std.proofs.Common.{◌≡◌, Some, arith}
 use Rattle.std.proofs.lemmas.Result.{err_from_is_err_and}
+use Rattle.kmipa_ttlv.specs.Flaw.{child_flaw}
 use Rattle.kmipa_ttlv.proofs.HeadLemmas.{child_fails}
 use Rattle.kmipa_ttlv.proofs.head.child_head.Goals as goal
 

@@ -1,5 +1,6 @@
-use Rattle.std.proofs.Common.{arith}
+use Rattle.std.proofs.Common.{◌≡◌, Some, arith}
 use Rattle.std.proofs.lemmas.Result.{err_from_is_err_and}
+use Rattle.kmipa_ttlv.specs.Flaw.{outer_flaw}
 use Rattle.kmipa_ttlv.proofs.HeadLemmas.{outer_no_header, outer_fails, outer_short, outer_passes_whole}
 use Rattle.kmipa_ttlv.proofs.head.outer_head.Goals as goal
 

@@ -1,4 +1,4 @@
-use Rattle.std.proofs.Common.{sym, ap, ◌∙◌}
+use Rattle.std.proofs.Common.{◌≡◌, sym, ap, ◌∙◌}
 use Rattle.kmipa_ttlv.specs.Tree.{structure}
 use Rattle.kmipa_ttlv.specs.ItemTree.{value_tree, trees}
 use Rattle.kmipa_ttlv.proofs.ItemTreeLemmas.{tree_of_structure}

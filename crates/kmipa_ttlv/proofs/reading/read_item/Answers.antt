@@ -1,8 +1,10 @@
 use Rattle.std.proofs.Common.{◌≡◌, ◌++◌, ◌∷◌, [], ℕ, List, sym, subst}
 use Rattle.kmipa_ttlv.specs.Input.{came_of}
 use Rattle.kmipa_ttlv.specs.Items.{AreItems}
+use Rattle.kmipa_ttlv.specs.ItemTree.{tree}
 use Rattle.kmipa_ttlv.specs.Spelling.{Spells}
 use Rattle.kmipa_ttlv.specs.Tree.{Tree}
+use Rattle.kmipa_ttlv.specs.ViewTree.{view_tree}
 use Rattle.kmipa_ttlv.proofs.reading.read_item.Goals as goal
 
 pub returns-in-Ok-clause-item : goal.returns-in-Ok-clause-item

@@ -1,7 +1,7 @@
 use Rattle.std.proofs.Common.{rules, ◌≡◌, ℕ, List, sym, ap, ◌∙◌}
 use Rattle.std.specs.Prelude.{drop}
 use Rattle.kmipa_ttlv.specs.Tree.{Tree, more}
-use Rattle.kmipa_ttlv.specs.Spelling.{kind_at, value_at, extent}
+use Rattle.kmipa_ttlv.specs.Spelling.{tag_at, kind_at, value_at, extent}
 use Rattle.kmipa_ttlv.specs.Spelled.{item_at, items_at}
 use Rattle.kmipa_ttlv.specs.ViewTree.{view_value_tree}
 use Rattle.kmipa_ttlv.proofs.SpelledLemmas.{items_more, items_none}

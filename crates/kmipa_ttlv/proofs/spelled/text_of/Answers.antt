@@ -1,4 +1,4 @@
-use Rattle.std.proofs.Common.{Bool, cond, [], sym, ap, ◌∙◌}
+use Rattle.std.proofs.Common.{◌≡◌, Bool, cond, List, [], sym, ap, ◌∙◌}
 use Rattle.std.proofs.lemmas.Str.{is_utf8-from_IsUtf8}
 use Rattle.kmipa_ttlv.proofs.SpelledLemmas.{no_text}
 use Rattle.kmipa_ttlv.proofs.spelled.text_of.Goals as goal
