@@ -8,7 +8,7 @@ use Rattle.byteorder.specs.Endian.{big_number}
 use Rattle.std.proofs.lemmas.Bool.{eq-eqb, eqb-true, ne_eqb, leb-true, le-leb, ltb-true}
 use Rattle.std.proofs.lemmas.List.{length-drop}
 use Rattle.kmipa_ttlv.specs.Tree.{Tree, Trees, Scalar, structure, scalar, none, more, forest, every, tag_of, byte_string}
-use Rattle.kmipa_ttlv.specs.Spelling.{tag_at, kind_at, value_at, extent, Stands, Run, kind_of, Means, Framed, Holds, Joined, number_of_bool}
+use Rattle.kmipa_ttlv.specs.Spelling.{tag_at, kind_at, len_at, value_at, extent, Stands, Run, kind_of, Means, Framed, Holds, Joined, number_of_bool}
 use Rattle.kmipa_ttlv.specs.Items.{AreItems}
 use Rattle.kmipa_ttlv.specs.Flaw.{is_kind, allows}
 use Rattle.kmipa_ttlv.specs.Spelled.{scalar_at, IsScalarAt, held_at, item_at, is_whole, items_within, items_at}
@@ -17,6 +17,7 @@ use Rattle.kmipa_ttlv.specs.declared.head.Kind.{Kind}
 use Rattle.kmipa_ttlv.specs.declared.head.Kind
 use Rattle.kmipa_ttlv.specs.declared.head.Kind.TheVariants.{Structure, Integer, LongInteger, BigInteger, Enumeration, Boolean, Text, Bytes, DateTime, Interval, DateTimeExtended}
 use Rattle.kmipa_ttlv.proofs.ViewTreeLemmas.{every_none, every_more}
+use Rattle.kmipa_ttlv.proofs.StandsLemmas.{stands_of}
 use Rattle.kmipa_ttlv.proofs.FrontLemmas.{joined_lem, length-value_at}
 use Rattle.kmipa_ttlv.proofs.ExactLemmas.{scalar_is, two_le_kind}
 use Rattle.kmipa_ttlv.proofs.FlawLemmas.{known_scalar, allowed_scalar}
@@ -234,6 +235,15 @@ other_right Bytes value s b t a = record { kind_is = refl; means = refl }
 other_right DateTime value s b t a = record { kind_is = refl; means = record { long = eqb-true (length value) 8 a; number = refl } }
 other_right Interval value s b t a = record { kind_is = refl; means = record { long = eqb-true (length value) 4 a; number = refl } }
 other_right DateTimeExtended value s b t a = record { kind_is = refl; means = record { long = eqb-true (length value) 8 a; number = refl } }
+
+-- a value of which no more than the length is tested stands there
+pub untested_stands : (left : ℕ) (k : Kind) (tag len : ℕ) (bytes : List ℕ) → left ≢ 0 → Framed tag (number_of_kind k) bytes → len_at bytes ≡ len → IsTrue (allows (number_of_kind k) len)
+    → k ≢ Kind.TheVariants.Structure → k ≢ Kind.TheVariants.Boolean → k ≢ Kind.TheVariants.Text → Stands left (scalar tag (scalar_at (number_of_kind k) (value_at bytes))) bytes
+untested_stands left k tag len bytes some f e a s b t =
+    let value = value_at bytes in
+    let long : length value ≡ len = length-value_at bytes f.whole ∙ e in
+    let right = other_right k value s b t (subst (λ (n : ℕ). IsTrue (allows (number_of_kind k) n)) (sym long) a) in
+    stands_of left tag (number_of_kind k) (scalar tag (scalar_at (number_of_kind k) value)) bytes value some f refl (refl, right.kind_is, right.means)
 
 no_text_at : (value : List ℕ) → ¬ (IsUtf8 value) → (b : Bool) → is_utf8 value ≡ b → is_utf8 value ≡ false
 no_text_at value wrong false e = e
