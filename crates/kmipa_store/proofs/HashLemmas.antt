@@ -1,10 +1,12 @@
 -- Objects found by the hashes of their identifiers.
-use Rattle.std.proofs.Common.{◌≡◌, ◌≢◌, ◌<◌, ◌≤◌, ◌⊎◌, ◌||◌, ◌&&◌, ◌+◌, ℕ, zero, suc, Bool, true, false, not, cond, List, [], ◌∷◌, ◌++◌, length, take, slice_get, Some, None, bytes_eq, refl, ap, sym, ◌∙◌, inl, inr, arith}
+use Rattle.std.proofs.Common.{◌≡◌, ◌≢◌, ◌<◌, ◌≤◌, ◌⊎◌, ◌||◌, ◌&&◌, ◌+◌, ℕ, zero, suc, Bool, true, false, cond, List, [], ◌∷◌, ◌++◌, length, take, slice_get, Some, None, bytes_eq, refl, ap, sym, subst, ◌∙◌, inl, inr, arith}
 use Rattle.std.specs.declared.cmp.Ordering.TheVariants.{Less, Equal, Greater}
-use Rattle.std.specs.declared.ops.Bound.TheVariants.{Included}
-use Rattle.std.specs.Ordering.{nat_cmp, is_eq, is_lt, is_le, ordering_then}
+use Rattle.std.specs.declared.ops.Bound.TheVariants.{Included, Unbounded}
+use Rattle.std.specs.Ordering.{nat_cmp, is_eq, is_le, ordering_then}
 use Rattle.std.specs.Cmp.{IsTotalOrder, on_total, then_total}
-use Rattle.std.specs.List.{filter, position_from}
+use Rattle.std.specs.List.{AllByRecursion, filter, position_from}
+use Rattle.std.specs.List.Sorted.{IsStrictlySortedBy}
+use Rattle.std.proofs.lemmas.List.Kept.{IsStrictlySortedBy-filter}
 use Rattle.std.specs.BTreeMap.{is_at}
 use Rattle.std.specs.BTreeMap.Range.{range_contains}
 use Rattle.std.specs.BTreeSet.{insert_key}
@@ -47,22 +49,75 @@ not_below a p =
     ap (λ o. is_le (ordering_then o (nat_cmp 0 p))) same
     ∙ (elim (nat_cmp 0 p) as (λ o. nat_cmp 0 p ≡ o → is_le o ≡ true) [ Less ↦ λ e. refl | Equal ↦ λ e. refl | Greater ↦ λ e. let bad : p < 0 = ranked 0 p Greater (sym e) in absurd (omega (arith, bad)) ]) refl
 
-not_past : (a p max : ℕ) → p ≤ max → is_lt (hashed_cmp (a, max) (a, p)) ≡ false
-not_past a p max le =
-    let same : nat_cmp a a ≡ Equal = tied_itself nat_cmp_total a in
-    ap (λ o. is_lt (ordering_then o (nat_cmp max p))) same
-    ∙ (elim (nat_cmp max p) as (λ o. nat_cmp max p ≡ o → is_lt o ≡ false) [ Less ↦ λ e. let bad : max < p = ranked max p Less (sym e) in absurd (omega (arith, bad, le)) | Equal ↦ λ e. refl | Greater ↦ λ e. refl ]) refl
+-- the places from the first of a hash on
+abbrev pub from_hash : ℕ → List Hashed → List Hashed
+from_hash hash places = filter (range_contains hashed_cmp (Included (hash, 0)) Unbounded) places
 
-abbrev pub under : ℕ → ℕ → List Hashed → List Hashed
-under hash max places = filter (range_contains hashed_cmp (Included (hash, 0)) (Included (hash, max))) places
-
-still_under : (hash max : ℕ) (places : List Hashed) (p : ℕ) → p ≤ max → is_hashed places hash p ≡ true → is_hashed (under hash max places) hash p ≡ true
-still_under hash max places p le h =
-    any-filter_same (is_at (hashed_cmp (hash, p))) (range_contains hashed_cmp (Included (hash, 0)) (Included (hash, max))) true (λ k is.
+still_from : (hash : ℕ) (places : List Hashed) (p : ℕ) → is_hashed places hash p ≡ true → is_hashed (from_hash hash places) hash p ≡ true
+still_from hash places p h =
+    any-filter_same (is_at (hashed_cmp (hash, p))) (range_contains hashed_cmp (Included (hash, 0)) Unbounded) true (λ k is.
     let same : (hash, p) ≡ k = same_hashed (hash, p) k (equal_at (hashed_cmp (hash, p) k) is) in
-    ap (range_contains hashed_cmp (Included (hash, 0)) (Included (hash, max))) (sym same)
-    ∙ ap (λ (b : Bool). b && not (is_lt (hashed_cmp (hash, max) (hash, p)))) (not_below hash p) ∙ ap not (not_past hash p max le)) places
+    ap (range_contains hashed_cmp (Included (hash, 0)) Unbounded) (sym same) ∙ ap (λ (b : Bool). b && true) (not_below hash p)) places
     ∙ h
+
+-- they rise, and none has a lower hash
+pub record Rises (hash : ℕ) (rest : List Hashed) : Type 0 where
+  pub sorted : IsStrictlySortedBy hashed_cmp rest
+  pub above : AllByRecursion (λ (k : Hashed). hash ≤ k.0) rest
+
+not_lower : (hash : ℕ) (k : Hashed) → range_contains hashed_cmp (Included (hash, 0)) Unbounded k ≡ true → hash ≤ k.0
+not_lower hash k e = (elim (nat_cmp hash k.0) as (λ o. nat_cmp hash k.0 ≡ o → (is_le (ordering_then o (nat_cmp 0 k.1)) && true) ≡ true → hash ≤ k.0) [
+  | Less ↦ λ i h. let low : hash < k.0 = ranked hash k.0 Less (sym i) in omega (arith, low)
+  | Equal ↦ λ i h. let same : hash ≡ k.0 = ranked hash k.0 Equal (sym i) in omega (arith, same)
+  | Greater ↦ λ i h. cc
+]) refl e
+
+above_at : (hash : ℕ) (k : Hashed) (ks : List Hashed) → AllByRecursion (λ (j : Hashed). hash ≤ j.0) (from_hash hash ks) → (b : Bool) → range_contains hashed_cmp (Included (hash, 0)) Unbounded k ≡ b
+    → AllByRecursion (λ (j : Hashed). hash ≤ j.0) (cond b (k ∷ from_hash hash ks) (from_hash hash ks))
+above_at hash k ks below true e = (not_lower hash k e, below)
+above_at hash k ks below false e = below
+
+above_all : (hash : ℕ) (places : List Hashed) → AllByRecursion (λ (k : Hashed). hash ≤ k.0) (from_hash hash places)
+above_all hash [] = tt
+above_all hash (k ∷ ks) = above_at hash k ks (above_all hash ks) (range_contains hashed_cmp (Included (hash, 0)) Unbounded k) refl
+
+pub rises_start : (places : List Hashed) (hash : ℕ) (rest : List Hashed) → IsStrictlySortedBy hashed_cmp places → rest ≡ from_hash hash places → Rises hash rest
+rises_start places hash rest sorted e = subst (Rises hash) (sym e) (record {
+  sorted = IsStrictlySortedBy-filter hashed_cmp (range_contains hashed_cmp (Included (hash, 0)) Unbounded) places sorted;
+  above = above_all hash places;
+})
+
+pub rises_on : (hash : ℕ) (one : Hashed) (rest : List Hashed) → Rises hash (one ∷ rest) → Rises hash rest
+unfolding IsStrictlySortedBy
+rises_on hash one rest r = record { sorted = r.sorted.1; above = r.above.1 }
+
+lower : (a b p q : ℕ) → a < b → hashed_cmp (a, p) (b, q) ≡ Less
+lower a b p q low = (elim (nat_cmp a b) as (λ o. nat_cmp a b ≡ o → ordering_then o (nat_cmp p q) ≡ Less) [
+  | Less ↦ λ i. refl
+  | Equal ↦ λ i. let same : a ≡ b = ranked a b Equal (sym i) in absurd (omega (arith, low, same))
+  | Greater ↦ λ i. let high : b < a = ranked a b Greater (sym i) in absurd (omega (arith, low, high))
+]) refl
+
+no_lower : (x y : Hashed) → hashed_cmp x y ≡ Less → x.0 ≤ y.0
+no_lower x y e = (elim (nat_cmp x.0 y.0) as (λ o. nat_cmp x.0 y.0 ≡ o → ordering_then o (nat_cmp x.1 y.1) ≡ Less → x.0 ≤ y.0) [
+  | Less ↦ λ i h. let low : x.0 < y.0 = ranked x.0 y.0 Less (sym i) in omega (arith, low)
+  | Equal ↦ λ i h. let same : x.0 ≡ y.0 = ranked x.0 y.0 Equal (sym i) in omega (arith, same)
+  | Greater ↦ λ i h. cc
+]) refl e
+
+-- nothing is listed under a hash that is lower than all
+none_listed : (hash p : ℕ) (one : Hashed) (rest : List Hashed) → hash < one.0 → AllByRecursion (λ (k : Hashed). hashed_cmp one k ≡ Less) rest → is_hashed rest hash p ≡ false
+none_listed hash p one [] low less = refl
+none_listed hash p one (k ∷ ks) low less =
+    let up : one.0 ≤ k.0 = no_lower one k less.0 in
+    ap (λ o. is_eq o || is_hashed ks hash p) (lower hash k.0 p k.1 (omega (arith, low, up))) ∙ none_listed hash p one ks low less.1
+
+pub past_none : (hash p : ℕ) (one : Hashed) (rest : List Hashed) → Rises hash (one ∷ rest) → one.0 ≢ hash → is_hashed (one ∷ rest) hash p ≡ false
+unfolding IsStrictlySortedBy
+past_none hash p one rest r other =
+    let from : hash ≤ one.0 = r.above.0 in
+    let low : hash < one.0 = omega (arith, from, other) in
+    ap (λ o. is_eq o || is_hashed rest hash p) (lower hash one.0 p one.1 low) ∙ none_listed hash p one rest low r.sorted.0
 
 -- each object with the identifier is among those that are left
 pub record Seeks (objects : List Held) (id : List ℕ) (hash : ℕ) (rest : List Hashed) : Type 0 where
@@ -71,13 +126,12 @@ pub record Seeks (objects : List Held) (id : List ℕ) (hash : ℕ) (rest : List
 same_id : (id jd : List ℕ) → bytes_eq id jd ≡ true → id ≡ jd
 same_id id jd e = (bytes_eq-Decides id jd).0 e
 
-pub seeks_start : (places : List Hashed) (objects : List Held) (id : List ℕ) (hash max : ℕ) (rest : List Hashed) → hash ≡ id_hash id → max ≡ length objects → rest ≡ under hash max places
+pub seeks_start : (places : List Hashed) (objects : List Held) (id : List ℕ) (hash : ℕ) (rest : List Hashed) → hash ≡ id_hash id → rest ≡ from_hash hash places
     → AreHashed places objects → Seeks objects id hash rest
-seeks_start places objects id hash max rest is m e a = record {
+seeks_start places objects id hash rest is e a = record {
   left = λ p h at same.
-      let b = get_below objects p h at in
       let listed : is_hashed places hash p ≡ true = ap (λ (k : ℕ). is_hashed places k p) (is ∙ ap id_hash (same_id id h.card.id same)) ∙ a.listed p h at in
-      ap (λ (ds : List Hashed). is_hashed ds hash p) e ∙ still_under hash max places p (omega (arith, b, m)) listed;
+      ap (λ (ds : List Hashed). is_hashed ds hash p) e ∙ still_from hash places p listed;
 }
 
 pub seeks_on : (objects : List Held) (id : List ℕ) (hash : ℕ) (one : Hashed) (rest : List Hashed) → has_id (slice_get objects one.1) id ≡ false → Seeks objects id hash (one ∷ rest) → Seeks objects id hash rest
@@ -101,6 +155,12 @@ none_from id (h ∷ hs) i none =
 
 pub seeks_end : (objects : List Held) (id : List ℕ) (hash : ℕ) → Seeks objects id hash [] → place_of id (cards_of objects) ≡ None
 seeks_end objects id hash s = none_from id objects 0 (λ p h at. false_from_ne_true (bytes_eq id h.card.id) (λ same. let bad : false ≡ true = s.left p h at same in cc))
+
+pub seeks_past : (objects : List Held) (id : List ℕ) (hash : ℕ) (one : Hashed) (rest : List Hashed) → Rises hash (one ∷ rest) → one.0 ≢ hash → Seeks objects id hash (one ∷ rest) → place_of id (cards_of objects) ≡ None
+seeks_past objects id hash one rest r other s =
+    none_from id objects 0 (λ p h at. false_from_ne_true (bytes_eq id h.card.id) (λ same.
+    let bad : false ≡ true = sym (past_none hash p one rest r other) ∙ s.left p h at same in
+    cc))
 
 -- the first object with an identifier that some object has
 first_from : (id : List ℕ) (objects : List Held) (i p : ℕ) (h : Held) → slice_get objects p ≡ Some h → bytes_eq id h.card.id ≡ true

@@ -78,8 +78,10 @@ impl Clock {
         requires awaited { Awaits objects.now self.old.due }
         ensures { self.new ≡ record { moment = t; states = states_at objects.now t; due = self.old.due } }
     {
-        look_over(&mut self.states, &self.due, objects, self.moment, t);
-        self.moment = t;
+        if t != self.moment {
+            look_over(&mut self.states, &self.due, objects, self.moment, t);
+            self.moment = t;
+        }
     }
 
     /// The object at a place leads this life from now on.

@@ -63,8 +63,10 @@ impl Objects {
     {
         let hash = id_hash(id);
         let start = Bound::Included((hash, 0));
-        let end = Bound::Included((hash, self.in_order.len()));
-        for one in self.by_hash.range((start, end)) {
+        for one in self.by_hash.range((start, Bound::Unbounded)) {
+            if one.0 != hash {
+                return None;
+            }
             if self.is_at(one.1, id) {
                 return Some(one.1);
             }

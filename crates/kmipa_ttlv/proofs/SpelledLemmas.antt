@@ -8,7 +8,7 @@ use Rattle.byteorder.specs.Endian.{big_number}
 use Rattle.std.proofs.lemmas.Bool.{eq-eqb, eqb-true, ne_eqb, leb-true, le-leb, ltb-true}
 use Rattle.std.proofs.lemmas.List.{length-drop}
 use Rattle.kmipa_ttlv.specs.Tree.{Tree, Trees, Scalar, structure, scalar, none, more, forest, every, tag_of, byte_string}
-use Rattle.kmipa_ttlv.specs.Spelling.{tag_at, kind_at, value_at, extent, Stands, Run, kind_of, Means, Framed, Holds, Joined, number_of_bool}
+use Rattle.kmipa_ttlv.specs.Spelling.{tag_at, kind_at, len_at, value_at, extent, Stands, Run, kind_of, Means, Framed, Holds, Joined, number_of_bool}
 use Rattle.kmipa_ttlv.specs.Items.{AreItems}
 use Rattle.kmipa_ttlv.specs.Flaw.{is_kind, allows}
 use Rattle.kmipa_ttlv.specs.Spelled.{scalar_at, IsScalarAt, held_at, item_at, is_whole, items_within, items_at}
@@ -17,6 +17,7 @@ use Rattle.kmipa_ttlv.specs.declared.head.Kind.{Kind}
 use Rattle.kmipa_ttlv.specs.declared.head.Kind
 use Rattle.kmipa_ttlv.specs.declared.head.Kind.TheVariants.{Structure, Integer, LongInteger, BigInteger, Enumeration, Boolean, Text, Bytes, DateTime, Interval, DateTimeExtended}
 use Rattle.kmipa_ttlv.proofs.ViewTreeLemmas.{every_none, every_more}
+use Rattle.kmipa_ttlv.proofs.StandsLemmas.{stands_of}
 use Rattle.kmipa_ttlv.proofs.FrontLemmas.{joined_lem, length-value_at}
 use Rattle.kmipa_ttlv.proofs.ExactLemmas.{scalar_is, two_le_kind}
 use Rattle.kmipa_ttlv.proofs.FlawLemmas.{known_scalar, allowed_scalar}
@@ -235,6 +236,15 @@ other_right DateTime value s b t a = record { kind_is = refl; means = record { l
 other_right Interval value s b t a = record { kind_is = refl; means = record { long = eqb-true (length value) 4 a; number = refl } }
 other_right DateTimeExtended value s b t a = record { kind_is = refl; means = record { long = eqb-true (length value) 8 a; number = refl } }
 
+-- a value of which no more than the length is tested stands there
+pub untested_stands : (left : ℕ) (k : Kind) (tag len : ℕ) (bytes : List ℕ) → left ≢ 0 → Framed tag (number_of_kind k) bytes → len_at bytes ≡ len → IsTrue (allows (number_of_kind k) len)
+    → k ≢ Kind.TheVariants.Structure → k ≢ Kind.TheVariants.Boolean → k ≢ Kind.TheVariants.Text → Stands left (scalar tag (scalar_at (number_of_kind k) (value_at bytes))) bytes
+untested_stands left k tag len bytes some f e a s b t =
+    let value = value_at bytes in
+    let long : length value ≡ len = length-value_at bytes f.whole ∙ e in
+    let right = other_right k value s b t (subst (λ (n : ℕ). IsTrue (allows (number_of_kind k) n)) (sym long) a) in
+    stands_of left tag (number_of_kind k) (scalar tag (scalar_at (number_of_kind k) value)) bytes value some f refl (refl, right.kind_is, right.means)
+
 no_text_at : (value : List ℕ) → ¬ (IsUtf8 value) → (b : Bool) → is_utf8 value ≡ b → is_utf8 value ≡ false
 no_text_at value wrong false e = e
 no_text_at value wrong true e = absurd (wrong (IsUtf8-from_is_utf8 value e))
@@ -279,6 +289,12 @@ scalar_only tag kind value other h =
 
 pub refused_item : (k : Kind) (tag : ℕ) (value : List ℕ) → k ≢ Kind.TheVariants.Structure → allows (number_of_kind k) (length value) ≡ false → scalar tag (byte_string value) ≡ item_at items_at tag (number_of_kind k) value
 refused_item k tag value s h = scalar_only tag (number_of_kind k) value (not_one k s) (held_not (number_of_kind k) value (inr h))
+
+pub kind_item : (k m : Kind) (tag : ℕ) (value : List ℕ) → k ≡ m → (m ≢ Kind.TheVariants.Structure → IsTrue (allows (number_of_kind m) (length value))) → plain_at tag (number_of_kind m) value ≡ item_at items_at tag (number_of_kind k) value
+kind_item k m tag value e h = allowed_item m tag value h ∙ ap (λ (j : Kind). item_at items_at tag (number_of_kind j) value) (sym e)
+
+pub refused_kind : (k m : Kind) (tag : ℕ) (value : List ℕ) → k ≡ m → m ≢ Kind.TheVariants.Structure → allows (number_of_kind m) (length value) ≡ false → scalar tag (byte_string value) ≡ item_at items_at tag (number_of_kind k) value
+refused_kind k m tag value e s h = refused_item m tag value s h ∙ ap (λ (j : Kind). item_at items_at tag (number_of_kind j) value) (sym e)
 
 unknown_other : (kind : ℕ) → is_kind kind ≡ false → kind ≡ 1 → ⊥
 unknown_other kind h e = false_is_true (sym h ∙ ap is_kind e)

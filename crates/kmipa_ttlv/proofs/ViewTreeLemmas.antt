@@ -1,12 +1,12 @@
 -- Views and the trees that they are, and what is left from a tag on.
-use Rattle.std.proofs.Common.{Option, Some, None, MatchOption, IfSome, ◌≡◌, ◌<◌, ◌≤◌, ◌+◌, ℕ, zero, suc, Bool, true, false, cond, ◌==◌, List, [], ◌∷◌, length, refl, sym, ap, subst, ◌∙◌, arith}
+use Rattle.std.proofs.Common.{Option, Some, None, MatchOption, IfSome, ◌≡◌, ◌≤◌, ℕ, suc, Bool, true, false, cond, ◌==◌, List, [], ◌∷◌, length, refl, sym, ap, subst, ◌∙◌, arith}
 use Rattle.kmipa_ttlv.specs.Tree.{Tree, Trees, structure, scalar, none, more, tag_of, every, push}
 use Rattle.kmipa_ttlv.specs.ItemTree.{tree, trees}
-use Rattle.kmipa_ttlv.specs.Written.{size, sizes}
+use Rattle.kmipa_ttlv.specs.Written.{size}
 use Rattle.kmipa_ttlv.proofs.StandsLemmas.{tag_of-value_tree}
 use Rattle.kmipa_ttlv.specs.declared.item.Item.{Item}
 use Rattle.std.proofs.lemmas.Bool.{eq-eqb, eqb-true, ne_eqb}
-use Rattle.kmipa_ttlv.specs.ViewTree.{view_tree, view_value_tree, view_trees, from_tag}
+use Rattle.kmipa_ttlv.specs.ViewTree.{view_tree, view_value_tree, from_tag}
 use Rattle.kmipa_ttlv.specs.declared.view.View.{View}
 use Rattle.kmipa_ttlv.specs.declared.view.ViewValue.{ViewValue}
 use Rattle.kmipa_ttlv.specs.declared.view.ViewValue.TheVariants.{Structure, Integer, LongInteger, BigInteger, Enumeration, Boolean, Text, Bytes, DateTime, Interval, DateTimeExtended}
@@ -127,6 +127,9 @@ size-tag n m (Interval x) = refl
 size-tag n m (DateTimeExtended z) = refl
 
 -- ---- the next with a tag: the first of those from the tag on
+
+pub next_none : (tag : ℕ) (ts : Trees) → from_tag tag ts ≡ none → every tag ts ≡ []
+next_none tag ts e = every_from tag ts ∙ ap (with_tag tag) e
 
 pub next_with : (tag : ℕ) (ts passed rest : Trees) (r : Option View) → passed ≡ from_tag tag ts → MatchOption r ((passed ≡ none) × (rest ≡ none)) (λ v. passed ≡ more (view_tree v) rest)
     → MatchOption r (every tag ts ≡ []) (λ v. every tag ts ≡ view_tree v ∷ every tag rest)

@@ -8,7 +8,7 @@ ghost use Rattle.kmipa_ttlv.specs.ViewTree.{view_tree, view_trees, from_tag};
 
 use crate::item::Item;
 use crate::lending::lend;
-use crate::spelled::{front_view, spelled_from};
+use crate::spelled::{front_of, front_view};
 use crate::view::{Children, Source, View};
 
 impl<'a> Children<'a> {
@@ -55,14 +55,27 @@ impl<'a> Children<'a> {
     }
 
     /// The next child with this tag, after which those behind it are left; after `None` none is left.
+    #[inline(always)]
     pub fn next_of(&mut self, tag: u32) -> Option<View<'a>>
         ensures next { MatchOption result (every tag (view_trees self.old) ≡ [])
             (λ v. every tag (view_trees self.old) ≡ view_tree v ∷ every tag (view_trees self.new)) }
         ensures tag { IfSome result (λ v. v.tag.number ≡ tag) }
         ensures end { IfNone result (view_trees self.new ≡ none) }
     {
-        self.pass_to(tag);
-        self.next()
+        match self.source {
+            Source::Spelled(bytes) => {
+                let Some((view, others)) = front_of(bytes, tag) else {
+                    self.source = Source::Spelled(&[]);
+                    return None;
+                };
+                self.source = Source::Spelled(others);
+                Some(view)
+            }
+            Source::Lent(items) => {
+                self.source = Source::Lent(lent_from(items, tag));
+                self.next()
+            }
+        }
     }
 
     /// How many children with this tag are left.
@@ -86,16 +99,6 @@ impl<'a> Children<'a> {
             Source::Spelled(bytes) => bytes.len(),
             Source::Lent(items) => items.len(),
         }
-    }
-
-    /// Leaves the first child with this tag and those behind it.
-    fn pass_to(&mut self, tag: u32)
-        ensures { view_trees self.new ≡ from_tag tag (view_trees self.old) }
-    {
-        self.source = match self.source {
-            Source::Spelled(bytes) => Source::Spelled(spelled_from(bytes, tag)),
-            Source::Lent(items) => Source::Lent(lent_from(items, tag)),
-        };
     }
 }
 

@@ -79,7 +79,9 @@ fn test_child(left: usize, place: usize, bytes: &[u8]) -> Result<usize, TtlvFaul
         return Err(fault(place, FaultKind::TooDeep));
     }
     let head = child_head(place, bytes)?;
-    test_value(left - 1, place, head, value_of(bytes, head.len))?;
+    if head.kind.is_tested() {
+        test_value(left - 1, place, head, value_of(bytes, head.len))?;
+    }
     Ok(head.extent())
 }
 

@@ -28,6 +28,7 @@ pub fn front_view(bytes: &[u8]) -> Option<(View<'_>, &[u8])>
 }
 
 /// The value of the item at the front.
+#[inline(always)]
 fn front_value(bytes: &[u8]) -> ViewValue<'_>
     requires header { 8 ≤ length bytes.now }
     requires whole { extent bytes.now ≤ length bytes.now }
@@ -40,19 +41,22 @@ fn front_value(bytes: &[u8]) -> ViewValue<'_>
     }
 }
 
-/// The bytes from the first item with this tag on.
-pub fn spelled_from(bytes: &[u8], tag: u32) -> &[u8]
-    ensures { items_at result.now ≡ from_tag tag (items_at bytes.now) }
+/// The first item with this tag and the bytes behind it, or `None` where there is none.
+#[inline(always)]
+pub fn front_of(bytes: &[u8], tag: u32) -> Option<(View<'_>, &[u8])>
+    ensures { MatchOption result (from_tag tag (items_at bytes.now) ≡ none)
+        (λ x. from_tag tag (items_at bytes.now) ≡ more (view_tree x.0) (items_at x.1.now)) }
 {
     let mut rest = bytes;
     'items: while let Some((front, extent)) = whole_front(rest) {
-        if front.number == tag {
-            return rest;
-        }
         let (_, others) = rest.split_at(extent);
+        if front.number == tag {
+            let value = front_value(rest);
+            return Some((View { tag: front, value }, others));
+        }
         rest = others;
     }
-    rest
+    None
 }
 
 /// The item that this header and value say.
@@ -67,37 +71,27 @@ pub fn view_of(head: Head, value: &[u8]) -> View<'_>
 
 /// The value of an item of this kind, of whatever length.
 #[inline(always)]
+#[tactic(auto, unfolding(crate::specs::Spelled::scalar_at))]
 fn value_view(kind: Kind, value: &[u8]) -> ViewValue<'_>
     ensures { (tag : ℕ) → view_value_tree tag result ≡ item_at items_at tag (number_of_kind kind) value.now }
 {
-    if kind != Kind::Structure && !kind.allows(value.len()) {
-        return ViewValue::Bytes(value);
-    }
-    allowed_view(kind, value)
-}
-
-#[inline(always)]
-#[tactic(auto, unfolding(crate::specs::Spelled::scalar_at))]
-fn allowed_view(kind: Kind, value: &[u8]) -> ViewValue<'_>
-    requires { kind ≢ Kind.Structure → IsTrue (allows (number_of_kind kind) (length value.now)) }
-    ensures { (tag : ℕ) → view_value_tree tag result
-        ≡ cond (number_of_kind kind == 1) (structure tag (items_at value.now))
-        (scalar tag (scalar_at (number_of_kind kind) value.now)) }
-{
+    let len = value.len();
     match kind {
         Kind::Structure => ViewValue::Structure(Children {
             source: Source::Spelled(value),
         }),
-        Kind::Integer => ViewValue::Integer(BigEndian::read_i32(value)),
-        Kind::LongInteger => ViewValue::LongInteger(BigEndian::read_i64(value)),
-        Kind::BigInteger => ViewValue::BigInteger(value),
-        Kind::Enumeration => ViewValue::Enumeration(BigEndian::read_u32(value)),
-        Kind::Boolean => ViewValue::Boolean(BigEndian::read_u64(value) == 1),
         Kind::Text => ViewValue::Text(text_of(value)),
-        Kind::Bytes => ViewValue::Bytes(value),
-        Kind::DateTime => ViewValue::DateTime(BigEndian::read_i64(value)),
-        Kind::Interval => ViewValue::Interval(BigEndian::read_u32(value)),
-        Kind::DateTimeExtended => ViewValue::DateTimeExtended(BigEndian::read_i64(value)),
+        Kind::Integer if len == 4 => ViewValue::Integer(BigEndian::read_i32(value)),
+        Kind::Enumeration if len == 4 => ViewValue::Enumeration(BigEndian::read_u32(value)),
+        Kind::Interval if len == 4 => ViewValue::Interval(BigEndian::read_u32(value)),
+        Kind::LongInteger if len == 8 => ViewValue::LongInteger(BigEndian::read_i64(value)),
+        Kind::Boolean if len == 8 => ViewValue::Boolean(BigEndian::read_u64(value) == 1),
+        Kind::DateTime if len == 8 => ViewValue::DateTime(BigEndian::read_i64(value)),
+        Kind::DateTimeExtended if len == 8 => {
+            ViewValue::DateTimeExtended(BigEndian::read_i64(value))
+        }
+        Kind::BigInteger if 0 < len && len % 8 == 0 => ViewValue::BigInteger(value),
+        _ => ViewValue::Bytes(value),
     }
 }
 

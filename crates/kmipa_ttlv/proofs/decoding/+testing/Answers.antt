@@ -1,12 +1,14 @@
-use Rattle.std.proofs.Common.{rules, ◌≡◌, ◌+◌, ℕ, refl, sym, ap, subst, ◌∙◌, arith, ◌-◌, Some}
+use Rattle.std.proofs.Common.{rules, ◌≡◌, ◌≤◌, length, ◌+◌, ℕ, refl, sym, ap, subst, ◌∙◌, arith, ◌-◌, Some}
 use Rattle.std.proofs.lemmas.Result.{err_from_is_err_and, MatchResult-weaker}
 use Rattle.kmipa_ttlv.specs.Head.{number_of_kind}
 use Rattle.kmipa_ttlv.specs.Tree.{Tree, Trees, structure, scalar, none, push}
 use Rattle.kmipa_ttlv.specs.Spelled.{scalar_at}
-use Rattle.kmipa_ttlv.specs.Spelling.{Holds, padded, extent, Run}
+use Rattle.kmipa_ttlv.specs.Spelling.{Holds, padded, extent, value_at, Framed, Run}
 use Rattle.kmipa_ttlv.specs.Flaw.{child_flaw, ValueFlaw, FirstFlawed, Flaw, ScalarFlaw, in_scalar, in_child}
 use Rattle.kmipa_ttlv.proofs.StandsLemmas.{flaw_of_head, flaw_of_value, stands_of, Run-push}
+use Rattle.kmipa_ttlv.proofs.SpelledLemmas.{untested_stands}
 use Rattle.kmipa_ttlv.proofs.decoding.+testing.Goals as goal
+use Rattle.kmipa_ttlv.proofs.decoding.+testing.Goals.{test_child-then-is_tested+in_ok-test_value, test_child-else-is_tested}
 
 pub test_child-returns-in_err-head : goal.test_child-returns-in_err-head
 test_child-returns-in_err-head t c =
@@ -29,14 +31,19 @@ pub test_child-returns : goal.test_child-returns
 test_child-returns t c =
     let h = c.in_ok-head.head in
     let is = c.in_ok-head.ensures.1 in
-    let held = c.in_ok-test_value.ensures in
-    let taken : c.extent.result ≡ extent c.args.bytes.now = c.extent.ensures ∙ ap (λ (n : ℕ). 8 + padded n) (sym is.len) in (
-      held.0,
-      stands_of c.args.left h.tag.number (number_of_kind h.kind) held.0 c.args.bytes.now c.value_of.result.now c.if-left-eq0.false
-          (record { header = is.header; tag_is = is.tag; kind_is = is.kind; whole = is.whole }) c.value_of.ensures.value held.1,
-      taken,
-      omega (arith, taken, is.whole),
-    )
+    let bytes = c.args.bytes.now in
+    let kind = number_of_kind h.kind in
+    let framed : Framed h.tag.number kind bytes = record { header = is.header; tag_is = is.tag; kind_is = is.kind; whole = is.whole } in
+    let taken : c.extent.result ≡ extent bytes = c.extent.ensures ∙ ap (λ (n : ℕ). 8 + padded n) (sym is.len) in
+    let whole : c.extent.result ≤ length bytes = omega (arith, taken, is.whole) in
+    elim c.if-is_tested.branch [
+      | test_child-then-is_tested+in_ok-test_value w ↦
+          let held = w.in_ok-test_value.ensures in
+          (held.0, stands_of c.args.left h.tag.number kind held.0 bytes w.value_of.result.now c.if-left-eq0.false framed w.value_of.ensures.value held.1, taken, whole)
+      | test_child-else-is_tested w ↦
+          let not = c.is_tested.ensures w.if-is_tested.false in
+          (scalar h.tag.number (scalar_at kind (value_at bytes)), untested_stands c.args.left h.kind h.tag.number h.len bytes c.if-left-eq0.false framed is.len is.allowed not.0 not.1 not.2, taken, whole)
+    ]
 
 pub test_children-loop-rest-init : goal.test_children-loop-rest-init
 test_children-loop-rest-init t c = record { run = (none, refl); after = refl }

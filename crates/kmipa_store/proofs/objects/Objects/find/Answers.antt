@@ -1,16 +1,24 @@
-use Rattle.std.proofs.Common.{List, ◌≡◌, ◌∙◌, length, ap, sym, subst}
-use Rattle.kmipa_store.specs.Ledger.{Held, held}
+use Rattle.std.proofs.Common.{List, ◌∙◌, sym, subst}
+use Rattle.kmipa_store.specs.Ledger.{Held}
 use Rattle.kmipa_store.specs.Objects.{AreHashed, Hashed}
-use Rattle.kmipa_store.proofs.HashLemmas.{Seeks, found_here, found_within, seeks_end, seeks_on, seeks_start}
-use Rattle.kmipa_store.proofs.NameLemmas.{length-map}
+use Rattle.kmipa_store.proofs.HashLemmas.{Seeks, Rises, found_here, found_within, rises_on, rises_start, seeks_end, seeks_on, seeks_past, seeks_start}
 use Rattle.kmipa_store.proofs.objects.Objects.find.Goals as goal
 
 pub loop-one-init : goal.loop-one-init
 loop-one-init c =
     let i = c.self.inside in
-    let count : c.len.result ≡ length c.args.self.now = c.len.ensures ∙ i.in_order.ok.0 ∙ sym (length-map held i.in_order.items) ∙ ap (λ (x : List Held). length x) c.self.view_is in
-    seeks_start i.by_hash.keys c.args.self.now c.args.id.now c.id_hash-hash.result c.len.result c.into_iter-one-iterator.result c.id_hash-hash.ensures count
-    (c.into_iter-one-iterator.ensures.into_iter_gives ∙ c.range-one-items.ensures.between tt) (subst (λ (x : List Held). AreHashed i.by_hash.keys x) c.self.view_is c.self.invariant)
+    let hash = c.id_hash-hash.result in
+    let all = c.into_iter-one-iterator.ensures.into_iter_gives ∙ c.range-one-items.ensures.between tt in (
+      seeks_start i.by_hash.keys c.args.self.now c.args.id.now hash c.into_iter-one-iterator.result c.id_hash-hash.ensures all
+          (subst (λ (x : List Held). AreHashed i.by_hash.keys x) c.self.view_is c.self.invariant),
+      rises_start i.by_hash.keys hash c.into_iter-one-iterator.result c.range-one-items.ensures.ordered all,
+    )
+
+pub returns-then-one-hash-clause-place : goal.returns-then-one-hash-clause-place
+returns-then-one-hash-clause-place c =
+    let hash = c.id_hash-hash.result in
+    sym (seeks_past c.args.self.now c.args.id.now hash c.in-Some.one.now c.next.new.self (subst (λ (x : List Hashed). Rises hash x) c.in-Some.ensures.steps c.loop-one.invariant.1) c.if-one-hash.true
+    (subst (λ (x : List Hashed). Seeks c.args.self.now c.args.id.now hash x) c.in-Some.ensures.steps c.loop-one.invariant.0))
 
 pub returns-then-is_at-clause-place : goal.returns-then-is_at-clause-place
 returns-then-is_at-clause-place c =
@@ -22,11 +30,13 @@ returns-then-is_at-clause-within c = found_within c.args.self.now c.args.id.now 
 
 pub loop-one-preserved : goal.loop-one-preserved
 loop-one-preserved c =
-    let hash = c.id_hash-hash.result in
-    seeks_on c.args.self.now c.args.id.now hash c.in-Some.one.now c.next.new.self (sym c.is_at.ensures ∙ c.if-is_at.false)
-    (subst (λ (x : List Hashed). Seeks c.args.self.now c.args.id.now hash x) c.in-Some.ensures.steps c.loop-one.invariant)
+    let hash = c.id_hash-hash.result in (
+      seeks_on c.args.self.now c.args.id.now hash c.in-Some.one.now c.next.new.self (sym c.is_at.ensures ∙ c.if-is_at.false)
+          (subst (λ (x : List Hashed). Seeks c.args.self.now c.args.id.now hash x) c.in-Some.ensures.steps c.loop-one.invariant.0),
+      rises_on hash c.in-Some.one.now c.next.new.self (subst (λ (x : List Hashed). Rises hash x) c.in-Some.ensures.steps c.loop-one.invariant.1),
+    )
 
 pub returns-clause-place : goal.returns-clause-place
 returns-clause-place c =
     let hash = c.id_hash-hash.result in
-    sym (seeks_end c.args.self.now c.args.id.now hash (subst (λ (x : List Hashed). Seeks c.args.self.now c.args.id.now hash x) c.in-None.ensures.steps.0 c.loop-one.invariant))
+    sym (seeks_end c.args.self.now c.args.id.now hash (subst (λ (x : List Hashed). Seeks c.args.self.now c.args.id.now hash x) c.in-None.ensures.steps.0 c.loop-one.invariant.0))

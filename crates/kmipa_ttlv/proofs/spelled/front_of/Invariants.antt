@@ -1,7 +1,7 @@
 use Rattle.std.proofs.Common.{◌≡◌, length}
 use Rattle.kmipa_ttlv.specs.Spelled.{items_at}
 use Rattle.kmipa_ttlv.specs.ViewTree.{from_tag}
-use Rattle.kmipa_ttlv.proofs.spelled.spelled_from.Given as goal
+use Rattle.kmipa_ttlv.proofs.spelled.front_of.Given as goal
 
 abbrev pub invariant-items : goal.invariant-items
 invariant-items l = from_tag l.tag (items_at l.rest) ≡ from_tag l.tag (items_at l.bytes)
