@@ -1,7 +1,7 @@
 use Rattle.std.proofs.Common.{◌≤◌, ◌-◌, length}
 use Rattle.kmipa_record.specs.Declarations.{AreDeclared, declaration_of}
 use Rattle.kmipa_segments.specs.Chaining.{AreNextOf}
-use Rattle.kmipa_command.proofs.chaining.judge_in_turn.Given as goal
+use Rattle.kmipa_session.proofs.chaining.judge_in_turn.Given as goal
 
 abbrev pub decreases-segments : goal.decreases-segments
 decreases-segments g l = length l.segments - l.place

@@ -1,7 +1,7 @@
 use Rattle.std.proofs.Common.{◌≡◌, ℕ, length, subst, arith}
 use Rattle.kmipa_segments.specs.Chaining.{AreNextOf}
 use Rattle.kmipa_segments.proofs.ChainingLemmas.{more_next, none_more}
-use Rattle.kmipa_command.proofs.chaining.judge_in_turn.Goals as goal
+use Rattle.kmipa_session.proofs.chaining.judge_in_turn.Goals as goal
 
 pub segments-init : goal.segments-init
 segments-init g c = record { within = omega arith; declared = c.requires; joins = none_more c.args.chain.now.held }
