@@ -1,9 +1,11 @@
 //! Checks of files: of whole ones, in each form, or of a segment.
 
-ghost use Rattle.std.specs.Prelude.{◌≡◌, ◌⊎◌, [], IfOk, MatchResult};
+ghost use Rattle.std.specs.Prelude.{◌≡◌, ◌⊎◌, [], IfOk, MatchResult, Some};
 ghost use Rattle.kmipa_runs.specs.declared.status.Status.{Status};
 ghost use Rattle.kmipa_session.specs.Jobs.{asked_of, IsNoMoment, IsSince};
-ghost use Rattle.kmipa_session.specs.Sessions.{HasChecked, HasCheckedSegment, IsMadeAsAsked, IsRefused, IsUntold, RunsCheck};
+ghost use Rattle.kmipa_session.specs.Sessions.{HasChecked, HasCheckedSegment, IsMadeAsAsked, IsRefused, IsUntold, RunsCheck, TellsWhat};
+ghost use Rattle.kmipa_session.specs.Printing.{voice_of};
+ghost use Rattle.kmipa_session.specs.declared.job.Asked.TheVariants.{Segment};
 ghost use Rattle.kmipa_session.specs.declared.voice.Voice.TheVariants.{Lines};
 
 use crate::did::{Did, Said, Session};
@@ -31,16 +33,75 @@ pub fn run_check<'n, W: World, O: Out>(
         result.did (O.printed out) (O.printed result.out) (O.has_failed result.out) result.status }
 {
     match asked_of(form, segment) {
-        Some(Asked::Files(form)) => {
-            let done = check_files(alloc, world, transcript, declaration, witness, form);
-            tell_done(world, out, voice_of(form), done)
-        }
-        Some(Asked::Segment) => {
-            let done = check_segment(alloc, world, transcript, declaration, witness, segment);
-            tell_done(world, out, Voice::Lines, done)
-        }
+        Some(asked) => run_asked_check(
+            alloc,
+            world,
+            out,
+            transcript,
+            declaration,
+            witness,
+            asked,
+            segment,
+        ),
         None => tell_mixed(world, out),
     }
+}
+
+fn run_asked_check<'n, W: World, O: Out>(
+    alloc: Global,
+    world: &W,
+    out: O,
+    transcript: &'n str,
+    declaration: &'n str,
+    witness: &'n str,
+    asked: Asked,
+    segment: SegmentWords<'_>,
+) -> Session<'n, O, W::File, W::Made, W::Refusal>
+    ensures { RunsCheck W.made W.lacked transcript.entry.now declaration.entry.now witness.entry.now (Some asked) segment.entry
+        result.did (O.printed out) (O.printed result.out) (O.has_failed result.out) result.status }
+{
+    match asked {
+        Asked::Files(form) => {
+            run_whole_check(alloc, world, out, transcript, declaration, witness, form)
+        }
+        Asked::Segment => {
+            run_segment_check(alloc, world, out, transcript, declaration, witness, segment)
+        }
+    }
+}
+
+/// Checks three whole files, and prints what is said of them in this form.
+fn run_whole_check<'n, W: World, O: Out>(
+    alloc: Global,
+    world: &W,
+    out: O,
+    transcript: &'n str,
+    declaration: &'n str,
+    witness: &'n str,
+    form: Form,
+) -> Session<'n, O, W::File, W::Made, W::Refusal>
+    ensures { TellsWhat W.made W.lacked (voice_of form) (HasChecked W.made W.lacked transcript.entry.now declaration.entry.now witness.entry.now form)
+        result.did (O.printed out) (O.printed result.out) (O.has_failed result.out) result.status }
+{
+    let done = check_files(alloc, world, transcript, declaration, witness, form);
+    tell_done(world, out, voice_of(form), done)
+}
+
+/// Checks three files of a segment, and prints what is said of them.
+fn run_segment_check<'n, W: World, O: Out>(
+    alloc: Global,
+    world: &W,
+    out: O,
+    transcript: &'n str,
+    declaration: &'n str,
+    witness: &'n str,
+    segment: SegmentWords<'_>,
+) -> Session<'n, O, W::File, W::Made, W::Refusal>
+    ensures { RunsCheck W.made W.lacked transcript.entry.now declaration.entry.now witness.entry.now (Some Segment) segment.entry
+        result.did (O.printed out) (O.printed result.out) (O.has_failed result.out) result.status }
+{
+    let done = check_segment(alloc, world, transcript, declaration, witness, segment);
+    tell_done(world, out, Voice::Lines, done)
 }
 
 /// Opens three files in the order in which they were named, and checks them.

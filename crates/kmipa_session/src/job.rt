@@ -112,7 +112,7 @@ pub enum Asked {
 
 /// What the options of a check or a search ask for; `None` where they don't go together.
 pub fn asked_of(form: FormWords, segment: SegmentWords<'_>) -> Option<Asked>
-    ensures { result ≡ asked_of form.entry segment.entry }
+    ensures { result ≡ asked_of form segment.entry }
 {
     match (segment.is_asked(), form.json, form.explain) {
         (false, false, false) => Some(Asked::Files(Form::Lines)),

@@ -8,6 +8,7 @@ mod folder;
 mod job;
 mod named;
 mod printing;
+mod runs;
 mod searching;
 mod session;
 mod showing;

@@ -2,14 +2,13 @@
 
 use crate::did::Said;
 use crate::job::{Form, SearchWords};
-use kmipa_runs::{
-    Printer, ShowOptions, Status, Unprinted, check_run, search_run, show_run, write_run,
+use crate::runs::{
+    check_explained, check_explained_object, check_left, check_lines, check_object,
+    search_explained, search_left, search_lines, search_object, write_items,
 };
+use kmipa_runs::{Printer, ShowOptions, Status, Unprinted, show_run};
 use kmipa_search::Watch;
-use kmipa_segments::{
-    Chain, chain_begin, chain_check, chain_compare, chain_search, search_segment_run, segment_run,
-};
-use kmipa_telling::{check_json, explain_json, explain_run, explain_search_run, search_json};
+use kmipa_segments::{Chain, chain_begin, chain_check, chain_compare, chain_search};
 use kmipa_ttlv::Input;
 use std::alloc::Global;
 use std::io::Read;
@@ -22,7 +21,7 @@ pub struct Named<'n, R> {
 }
 
 impl<'n, R: Read> Named<'n, R> {
-    ghost use Rattle.std.specs.Prelude.{◌≡◌, ◌×◌, [], IsTrue, IfOk, OnErr, OnOk, Some, None};
+    ghost use Rattle.std.specs.Prelude.{◌≡◌, [], IsTrue, IfOk, OnErr, OnOk, Some, None};
     ghost use Rattle.std.specs.Io.{StartsWith, appended_bytes};
     ghost use Rattle.kmipa_ttlv.specs.Input.{came_of, is_failed};
     ghost use Rattle.kmipa_runs.specs.Inputs.{Writes};
@@ -61,17 +60,15 @@ impl<'n, R: Read> Named<'n, R> {
         ensures declaration { name_of declaration.new ≡ name_of declaration.old }
         ensures witness { name_of witness.new ≡ name_of witness.old }
     {
-        let mut lines = Vec::new(alloc);
         let t = &mut transcript.input;
         let d = &mut declaration.input;
         let w = &mut witness.input;
-        let status = match form {
-            Form::Lines => check_run(alloc, t, d, w, &mut lines),
-            Form::Explained => explain_run(alloc, t, d, w, &mut lines),
-            Form::Json => check_json(alloc, t, d, w, &mut lines),
-            Form::ExplainedJson => explain_json(alloc, t, d, w, &mut lines),
-        };
-        Said { status, lines }
+        match form {
+            Form::Lines => check_lines(alloc, t, d, w),
+            Form::Explained => check_explained(alloc, t, d, w),
+            Form::Json => check_object(alloc, t, d, w),
+            Form::ExplainedJson => check_explained_object(alloc, t, d, w),
+        }
     }
 
     /// Checks three files of a segment, from a moment on where one is given, and where it is asked for answers behind what is said the bytes of
@@ -93,19 +90,14 @@ impl<'n, R: Read> Named<'n, R> {
         ensures declaration { name_of declaration.new ≡ name_of declaration.old }
         ensures witness { name_of witness.new ≡ name_of witness.old }
     {
-        let mut lines = Vec::new(alloc);
-        let mut left = Vec::new(alloc);
-        let status = segment_run(
+        check_left(
             alloc,
             &mut transcript.input,
             &mut declaration.input,
             &mut witness.input,
             since,
             leaves,
-            &mut lines,
-            &mut left,
-        );
-        (Said { status, lines }, left)
+        )
     }
 
     /// Looks for a witness of two files, tells it in this form, and answers behind what is said the bytes of the witness.
@@ -124,28 +116,13 @@ impl<'n, R: Read> Named<'n, R> {
         ensures transcript { name_of transcript.new ≡ name_of transcript.old }
         ensures declaration { name_of declaration.new ≡ name_of declaration.old }
     {
-        let SearchWords {
-            budget,
-            forced,
-            open,
-            ..
-        } = words;
         let t = &mut transcript.input;
         let d = &mut declaration.input;
-        let mut lines = Vec::new(alloc);
-        let mut made = Vec::new(alloc);
-        let out = &mut lines;
-        let found = &mut made;
-        let status = match form {
-            Form::Lines => search_run(alloc, t, d, budget, forced, open, watch, out, found),
-            Form::Explained => {
-                explain_search_run(alloc, t, d, budget, forced, open, watch, out, found)
-            }
-            Form::Json | Form::ExplainedJson => {
-                search_json(alloc, t, d, budget, forced, open, watch, out, found)
-            }
-        };
-        (Said { status, lines }, made)
+        match form {
+            Form::Lines => search_lines(alloc, words, t, d, watch),
+            Form::Explained => search_explained(alloc, words, t, d, watch),
+            Form::Json | Form::ExplainedJson => search_object(alloc, words, t, d, watch),
+        }
     }
 
     /// Looks for a witness of two files of a segment, from a moment on where one is given, and answers behind what is said the bytes of the
@@ -166,24 +143,15 @@ impl<'n, R: Read> Named<'n, R> {
         ensures transcript { name_of transcript.new ≡ name_of transcript.old }
         ensures declaration { name_of declaration.new ≡ name_of declaration.old }
     {
-        let mut lines = Vec::new(alloc);
-        let mut made = Vec::new(alloc);
-        let mut left = Vec::new(alloc);
-        let status = search_segment_run(
+        search_left(
             alloc,
+            words,
             &mut transcript.input,
             &mut declaration.input,
             since,
-            words.budget,
-            words.forced,
-            words.open,
             leaves,
             watch,
-            &mut lines,
-            &mut made,
-            &mut left,
-        );
-        (Said { status, lines }, made, left)
+        )
     }
 
     /// Prints the items of the file.
@@ -210,10 +178,7 @@ impl<'n, R: Read> Named<'n, R> {
             result.0.status result.0.lines.items result.1.items }
         ensures name { name_of self.new ≡ name_of self.old }
     {
-        let mut lines = Vec::new(alloc);
-        let mut made = Vec::new(alloc);
-        let status = write_run(alloc, &mut self.input, &mut lines, &mut made);
-        (Said { status, lines }, made)
+        write_items(alloc, &mut self.input)
     }
     /// The chain of no segments, from the declaration that the file is. Where it is none, appends the line of its first fault, and answers the
     /// status.

@@ -1,6 +1,6 @@
 //! What is printed, and the status that is left of it.
 
-ghost use Rattle.std.specs.Prelude.{◌≡◌, ◌×◌, IfOk, OnErr};
+ghost use Rattle.std.specs.Prelude.{◌≡◌, IfOk, OnErr};
 ghost use Rattle.kmipa_runs.specs.declared.status.Status.{Status};
 ghost use Rattle.kmipa_session.specs.Printing.{Tells, TellsRest, TellsTrouble, text_of, trouble_text};
 

@@ -1,9 +1,10 @@
 //! Searches of files: of whole ones, in each form, or of a segment.
 
-ghost use Rattle.std.specs.Prelude.{◌≡◌, ◌×◌, ◌⊎◌, IfOk};
+ghost use Rattle.std.specs.Prelude.{◌≡◌, ◌⊎◌, IfOk, Some};
 ghost use Rattle.kmipa_session.specs.Jobs.{asked_of};
-ghost use Rattle.kmipa_session.specs.Sessions.{HasSearched, HasSearchedSegment, IsMade, IsMadeAsAsked, IsRefused, IsUntold, RunsSearch};
+ghost use Rattle.kmipa_session.specs.Sessions.{HasSearched, HasSearchedSegment, IsMade, IsMadeAsAsked, IsRefused, IsUntold, RunsSearch, TellsWhat};
 ghost use Rattle.kmipa_session.specs.Printing.{voice_of};
+ghost use Rattle.kmipa_session.specs.declared.job.Asked.TheVariants.{Segment};
 ghost use Rattle.kmipa_session.specs.declared.voice.Voice.TheVariants.{Lines};
 
 use crate::checking::{NoMoment, mistaken, moment_of, test_leaves, test_left};
@@ -34,34 +35,117 @@ pub fn run_search<'n, W: World, O: Out>(
 {
     let mut watch = world.watch(words.budget, watched && !words.quiet);
     match asked_of(form, segment) {
-        Some(Asked::Files(form)) => {
-            let done = search_files(
-                alloc,
-                world,
-                transcript,
-                declaration,
-                witness,
-                form,
-                words,
-                &mut watch,
-            );
-            tell_done(world, out, voice_of(form), done)
-        }
-        Some(Asked::Segment) => {
-            let done = search_segment(
-                alloc,
-                world,
-                transcript,
-                declaration,
-                witness,
-                words,
-                segment,
-                &mut watch,
-            );
-            tell_done(world, out, Voice::Lines, done)
-        }
+        Some(asked) => run_asked_search(
+            alloc,
+            world,
+            out,
+            transcript,
+            declaration,
+            witness,
+            words,
+            asked,
+            segment,
+            &mut watch,
+        ),
         None => tell_mixed(world, out),
     }
+}
+
+fn run_asked_search<'n, W: World, O: Out>(
+    alloc: Global,
+    world: &W,
+    out: O,
+    transcript: &'n str,
+    declaration: &'n str,
+    witness: &str,
+    words: SearchWords,
+    asked: Asked,
+    segment: SegmentWords<'_>,
+    watch: &mut W::Watcher,
+) -> Session<'n, O, W::File, W::Made, W::Refusal>
+    ensures { RunsSearch W.made W.lacked transcript.entry.now declaration.entry.now witness.now words (Some asked) segment.entry
+        result.did (O.printed out) (O.printed result.out) (O.has_failed result.out) result.status }
+{
+    match asked {
+        Asked::Files(form) => run_whole_search(
+            alloc,
+            world,
+            out,
+            transcript,
+            declaration,
+            witness,
+            words,
+            form,
+            watch,
+        ),
+        Asked::Segment => run_segment_search(
+            alloc,
+            world,
+            out,
+            transcript,
+            declaration,
+            witness,
+            words,
+            segment,
+            watch,
+        ),
+    }
+}
+
+/// Looks for a witness of two whole files, and prints what is said in this form.
+fn run_whole_search<'n, W: World, O: Out>(
+    alloc: Global,
+    world: &W,
+    out: O,
+    transcript: &'n str,
+    declaration: &'n str,
+    witness: &str,
+    words: SearchWords,
+    form: Form,
+    watch: &mut W::Watcher,
+) -> Session<'n, O, W::File, W::Made, W::Refusal>
+    ensures { TellsWhat W.made W.lacked (voice_of form) (HasSearched W.made W.lacked transcript.entry.now declaration.entry.now witness.now form words)
+        result.did (O.printed out) (O.printed result.out) (O.has_failed result.out) result.status }
+{
+    let done = search_files(
+        alloc,
+        world,
+        transcript,
+        declaration,
+        witness,
+        form,
+        words,
+        watch,
+    );
+    tell_done(world, out, voice_of(form), done)
+}
+
+/// Looks for a witness of two files of a segment, and prints what is said.
+fn run_segment_search<'n, W: World, O: Out>(
+    alloc: Global,
+    world: &W,
+    out: O,
+    transcript: &'n str,
+    declaration: &'n str,
+    witness: &str,
+    words: SearchWords,
+    segment: SegmentWords<'_>,
+    watch: &mut W::Watcher,
+) -> Session<'n, O, W::File, W::Made, W::Refusal>
+    ensures { RunsSearch W.made W.lacked transcript.entry.now declaration.entry.now witness.now words (Some Segment) segment.entry
+        result.did (O.printed out) (O.printed result.out) (O.has_failed result.out) result.status }
+{
+    let done = search_segment(
+        alloc,
+        world,
+        transcript,
+        declaration,
+        witness,
+        words,
+        segment,
+        watch,
+    );
+    tell_done(world, out, Voice::Lines, done)
 }
 
 /// Opens two files in the order in which they were named, and looks for a witness of them. Where the status is not `Done` nothing is made.

@@ -1,6 +1,6 @@
 //! How a session ends: what was done, or refused, is told.
 
-ghost use Rattle.std.specs.Prelude.{◌≡◌, ◌×◌};
+ghost use Rattle.std.specs.Prelude.{◌≡◌};
 ghost use Rattle.kmipa_session.specs.Printing.{TellsTrouble};
 ghost use Rattle.kmipa_session.specs.Sessions.{TellsDone, TellsMistake};
 ghost use Rattle.kmipa_session.specs.declared.did.Did.TheVariants.{Refused};

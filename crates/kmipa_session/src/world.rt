@@ -1,6 +1,6 @@
 //! What a session needs of the world.
 
-ghost use Rattle.std.specs.Prelude.{◌≡◌, ◌≤◌, ◌×◌, [], ℕ, List, Bool, IsTrue, IfOk, length};
+ghost use Rattle.std.specs.Prelude.{◌≡◌, ◌≤◌, [], ℕ, List, Bool, IsTrue, IfOk, length};
 ghost use Rattle.kmipa_ttlv.specs.Input.{came_of};
 ghost use Rattle.kmipa_session.specs.Worlds.{input_of, name_of};
 
