@@ -55,7 +55,8 @@ pub fn run_session<'n, S: AsStr, W: World, O: Out>(
     out: O,
     watched: bool,
 ) -> Session<'n, O, W::File, W::Made, W::Refusal>
-    ensures { Runs W.made W.lacked (map S.text words.entry.now) result.did (O.printed out) (O.printed result.out) (O.has_failed result.out) result.status }
+    ensures { Runs W.made W.lacked (map S.text words.entry.now) result.did (O.printed out) (O.printed result.out)
+        (O.has_failed result.out) result.status }
 {
     match read_words(alloc, words) {
         Ok(job) => run_job(alloc, world, out, &job, watched),
@@ -69,7 +70,8 @@ fn run_usage<'n, W: World, O: Out>(
     world: &W,
     mut out: O,
 ) -> Session<'n, O, W::File, W::Made, W::Refusal>
-    ensures { TellsUsage usage.now result.did (O.printed out) (O.printed result.out) (O.has_failed result.out) result.status }
+    ensures { TellsUsage usage.now result.did (O.printed out) (O.printed result.out) (O.has_failed result.out)
+        result.status }
 {
     let text = usage.text.as_str();
     if usage.status != Status::Usage {

@@ -5,9 +5,9 @@ use Rattle.kmipa_runs.specs.declared.status.Status.{Status}
 use Rattle.kmipa_runs.specs.declared.status.Status.TheVariants.{Done, Failed}
 
 -- the status that is left of a run is Done only where that of the run was
-pub told_done : (left status : Status) → (left ≡ status) ⊎ (left ≡ Failed) → left ≡ Done → status ≡ Done
-told_done left status (inl same) done = sym same ∙ done
-told_done left status (inr failed) done = let clash : Failed ≡ Done = sym failed ∙ done in absurd cc
+pub told_done : {A B : Type 0} (left status : Status) → ((left ≡ status) × A) ⊎ ((left ≡ Failed) × B) → left ≡ Done → status ≡ Done
+told_done left status (inl told) done = sym told.0 ∙ done
+told_done left status (inr failed) done = let clash : Failed ≡ Done = sym failed.0 ∙ done in absurd cc
 
 -- what holds of every answer holds of this one, if there is one
 pub of_any : {T E : Type 0} (r : Result T E) (P : T → Type 0) → ((x : T) → P x) → IfOk r P

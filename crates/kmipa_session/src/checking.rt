@@ -29,7 +29,8 @@ pub fn run_check<'n, W: World, O: Out>(
     form: FormWords,
     segment: SegmentWords<'_>,
 ) -> Session<'n, O, W::File, W::Made, W::Refusal>
-    ensures { RunsCheck W.made W.lacked transcript.entry.now declaration.entry.now witness.entry.now (asked_of form segment.entry) segment.entry
+    ensures { RunsCheck W.made W.lacked transcript.entry.now declaration.entry.now witness.entry.now (asked_of form
+        segment.entry) segment.entry
         result.did (O.printed out) (O.printed result.out) (O.has_failed result.out) result.status }
 {
     match asked_of(form, segment) {
@@ -57,7 +58,8 @@ fn run_asked_check<'n, W: World, O: Out>(
     asked: Asked,
     segment: SegmentWords<'_>,
 ) -> Session<'n, O, W::File, W::Made, W::Refusal>
-    ensures { RunsCheck W.made W.lacked transcript.entry.now declaration.entry.now witness.entry.now (Some asked) segment.entry
+    ensures { RunsCheck W.made W.lacked transcript.entry.now declaration.entry.now witness.entry.now (Some asked)
+        segment.entry
         result.did (O.printed out) (O.printed result.out) (O.has_failed result.out) result.status }
 {
     match asked {
@@ -80,7 +82,8 @@ fn run_whole_check<'n, W: World, O: Out>(
     witness: &'n str,
     form: Form,
 ) -> Session<'n, O, W::File, W::Made, W::Refusal>
-    ensures { TellsWhat W.made W.lacked (voice_of form) (HasChecked W.made W.lacked transcript.entry.now declaration.entry.now witness.entry.now form)
+    ensures { TellsWhat W.made W.lacked (voice_of form) (HasChecked W.made W.lacked transcript.entry.now
+        declaration.entry.now witness.entry.now form)
         result.did (O.printed out) (O.printed result.out) (O.has_failed result.out) result.status }
 {
     let done = check_files(alloc, world, transcript, declaration, witness, form);
@@ -97,7 +100,8 @@ fn run_segment_check<'n, W: World, O: Out>(
     witness: &'n str,
     segment: SegmentWords<'_>,
 ) -> Session<'n, O, W::File, W::Made, W::Refusal>
-    ensures { RunsCheck W.made W.lacked transcript.entry.now declaration.entry.now witness.entry.now (Some Segment) segment.entry
+    ensures { RunsCheck W.made W.lacked transcript.entry.now declaration.entry.now witness.entry.now (Some Segment)
+        segment.entry
         result.did (O.printed out) (O.printed result.out) (O.has_failed result.out) result.status }
 {
     let done = check_segment(alloc, world, transcript, declaration, witness, segment);
@@ -113,7 +117,8 @@ fn check_files<'n, W: World>(
     witness: &'n str,
     form: Form,
 ) -> Result<(Said, Did<'n, W::File, W::Made, W::Refusal>), W::Refusal>
-    ensures { IfOk result (λ done. HasChecked W.made W.lacked transcript.entry.now declaration.entry.now witness.entry.now form
+    ensures { IfOk result (λ done. HasChecked W.made W.lacked transcript.entry.now declaration.entry.now
+        witness.entry.now form
         done.1 done.0.status done.0.lines.items) }
 {
     let names = [transcript, declaration, witness];
@@ -138,7 +143,8 @@ fn check_segment<'n, W: World>(
     segment: SegmentWords<'_>,
 ) -> Result<(Said, Did<'n, W::File, W::Made, W::Refusal>), W::Refusal>
     ensures { IfOk result (λ done.
-        (HasCheckedSegment W.made W.lacked transcript.entry.now declaration.entry.now witness.entry.now segment.entry done.1 done.0.status done.0.lines.items
+        (HasCheckedSegment W.made W.lacked transcript.entry.now declaration.entry.now witness.entry.now segment.entry
+        done.1 done.0.status done.0.lines.items
         ⊎ IsUntold segment.entry done.1 done.0.status done.0.lines.items)
         ⊎ IsRefused W.made W.lacked Lines done.1 done.0.status done.0.lines.items) }
 {
@@ -146,29 +152,29 @@ fn check_segment<'n, W: World>(
         Ok(since) => since,
         Err(NoMoment) => return Ok((mistaken(alloc), Did::Nothing)),
     };
-    let names = [transcript, declaration, witness];
-    if let Err(refusal) = test_left(world, segment.leaves, &names) {
+    let inputs = [transcript, declaration, witness];
+    if let Err(refusal) = test_left(world, segment.leaves, &inputs) {
         return Ok((mistaken(alloc), Did::Refused(refusal)));
     }
     let mut transcript = world.open(transcript)?;
     let mut declaration = world.open(declaration)?;
-    let mut witness = world.open(witness)?;
+    let mut order = world.open(witness)?;
     test_leaves(world, segment.leaves)?;
     let (said, left) = Named::check_segment(
         alloc,
         &mut transcript,
         &mut declaration,
-        &mut witness,
+        &mut order,
         since,
         segment.leaves.is_some(),
     );
     if said.status == Status::Refused {
-        world.hint_kind(&names, &said.lines);
+        world.hint_kind(&inputs, &said.lines);
     }
     let file = make_left(world, segment.leaves, &left, said.status)?;
     Ok((
         said,
-        Did::CheckedSegment(transcript, declaration, witness, file),
+        Did::CheckedSegment(transcript, declaration, order, file),
     ))
 }
 

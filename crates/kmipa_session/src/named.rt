@@ -84,7 +84,8 @@ impl<'n, R: Read> Named<'n, R> {
         requires transcript { came_of (input_of transcript.old) ≡ [] }
         requires declaration { came_of (input_of declaration.old) ≡ [] }
         requires witness { came_of (input_of witness.old) ≡ [] }
-        ensures checks { ChecksInSegment leaves since (input_of transcript.new) (input_of declaration.new) (input_of witness.new)
+        ensures checks { ChecksInSegment leaves since (input_of transcript.new) (input_of declaration.new) (input_of
+            witness.new)
             result.0.status result.0.lines.items result.1.items }
         ensures transcript { name_of transcript.new ≡ name_of transcript.old }
         ensures declaration { name_of declaration.new ≡ name_of declaration.old }
@@ -202,7 +203,10 @@ impl<'n, R: Read> Named<'n, R> {
         requires transcript { came_of (input_of transcript.old) ≡ [] }
         requires witness { came_of (input_of witness.old) ≡ [] }
         ensures joins { result ≡ Status.Done → IsNextOf chain.old.held chain.new.held
-            (record { transcript = came_of (input_of transcript.new); witness = Some (came_of (input_of witness.new)) }) }
+            (record {
+              transcript = came_of (input_of transcript.new);
+              witness = Some (came_of (input_of witness.new));
+            }) }
         ensures declared { AreDeclared (declaration_of chain.new.held.declaration) }
     {
         chain_check(

@@ -35,14 +35,11 @@ pub fn tell_refusal<W: World, O: Out>(
     voice: Voice,
     refusal: &W::Refusal,
 ) -> Status
-    ensures { TellsTrouble voice (W.lacked refusal.now) (O.printed out.old) (O.printed out.new) (O.has_failed out.new) result }
+    ensures { TellsTrouble voice (W.lacked refusal.now) (O.printed out.old) (O.printed out.new) (O.has_failed out.new)
+        result }
 {
-    tell(
-        out,
-        voice,
-        refusal_text(world, voice, refusal),
-        Status::Failed,
-    )
+    let text = refusal_text(world, voice, refusal);
+    tell(out, voice, text, Status::Failed)
 }
 
 /// Want of memory is told as such, and everything else as a device.
@@ -59,7 +56,8 @@ fn refusal_text<W: World>(world: &W, voice: Voice, refusal: &W::Refusal) -> &'st
 /// Tells what is left to tell of a run that printed by itself, and answers its status, or `Failed` where that can't be
 /// printed.
 pub fn tell_rest<O: Out>(out: &mut O, done: Result<Status, Unprinted>) -> Status
-    ensures rest { IfOk done (λ said. TellsRest said (O.printed out.old) (O.printed out.new) (O.has_failed out.new) result) }
+    ensures rest { IfOk done (λ said. TellsRest said (O.printed out.old) (O.printed out.new) (O.has_failed out.new)
+        result) }
     ensures failed { OnErr done ((result ≡ Status.Failed) × (O.has_failed out.new ≡ O.has_failed out.old)) }
 {
     match done {

@@ -97,7 +97,8 @@ pub fn check_left<R: Read>(
     requires transcript { came_of transcript.old ≡ [] }
     requires declaration { came_of declaration.old ≡ [] }
     requires witness { came_of witness.old ≡ [] }
-    ensures { ChecksInSegment leaves since transcript.new declaration.new witness.new result.0.status result.0.lines.items result.1.items }
+    ensures { ChecksInSegment leaves since transcript.new declaration.new witness.new result.0.status
+        result.0.lines.items result.1.items }
 {
     let mut lines = Vec::new(alloc);
     let mut left = Vec::new(alloc);
@@ -152,7 +153,8 @@ pub fn search_explained<R: Read, W: Watch>(
 ) -> (Said, Vec<u8>)
     requires transcript { came_of transcript.old ≡ [] }
     requires declaration { came_of declaration.old ≡ [] }
-    ensures { SearchesExplained words transcript.new declaration.new result.0.status result.0.lines.items result.1.items }
+    ensures { SearchesExplained words transcript.new declaration.new result.0.status result.0.lines.items
+        result.1.items }
 {
     let mut lines = Vec::new(alloc);
     let mut made = Vec::new(alloc);

@@ -30,7 +30,8 @@ pub fn run_search<'n, W: World, O: Out>(
     segment: SegmentWords<'_>,
     watched: bool,
 ) -> Session<'n, O, W::File, W::Made, W::Refusal>
-    ensures { RunsSearch W.made W.lacked transcript.entry.now declaration.entry.now witness.now words (asked_of form segment.entry) segment.entry
+    ensures { RunsSearch W.made W.lacked transcript.entry.now declaration.entry.now witness.now words (asked_of form
+        segment.entry) segment.entry
         result.did (O.printed out) (O.printed result.out) (O.has_failed result.out) result.status }
 {
     let mut watch = world.watch(words.budget, watched && !words.quiet);
@@ -63,7 +64,8 @@ fn run_asked_search<'n, W: World, O: Out>(
     segment: SegmentWords<'_>,
     watch: &mut W::Watcher,
 ) -> Session<'n, O, W::File, W::Made, W::Refusal>
-    ensures { RunsSearch W.made W.lacked transcript.entry.now declaration.entry.now witness.now words (Some asked) segment.entry
+    ensures { RunsSearch W.made W.lacked transcript.entry.now declaration.entry.now witness.now words (Some asked)
+        segment.entry
         result.did (O.printed out) (O.printed result.out) (O.has_failed result.out) result.status }
 {
     match asked {
@@ -104,7 +106,8 @@ fn run_whole_search<'n, W: World, O: Out>(
     form: Form,
     watch: &mut W::Watcher,
 ) -> Session<'n, O, W::File, W::Made, W::Refusal>
-    ensures { TellsWhat W.made W.lacked (voice_of form) (HasSearched W.made W.lacked transcript.entry.now declaration.entry.now witness.now form words)
+    ensures { TellsWhat W.made W.lacked (voice_of form) (HasSearched W.made W.lacked transcript.entry.now
+        declaration.entry.now witness.now form words)
         result.did (O.printed out) (O.printed result.out) (O.has_failed result.out) result.status }
 {
     let done = search_files(
@@ -132,7 +135,8 @@ fn run_segment_search<'n, W: World, O: Out>(
     segment: SegmentWords<'_>,
     watch: &mut W::Watcher,
 ) -> Session<'n, O, W::File, W::Made, W::Refusal>
-    ensures { RunsSearch W.made W.lacked transcript.entry.now declaration.entry.now witness.now words (Some Segment) segment.entry
+    ensures { RunsSearch W.made W.lacked transcript.entry.now declaration.entry.now witness.now words (Some Segment)
+        segment.entry
         result.did (O.printed out) (O.printed result.out) (O.has_failed result.out) result.status }
 {
     let done = search_segment(
@@ -160,7 +164,8 @@ fn search_files<'n, W: World>(
     watch: &mut W::Watcher,
 ) -> Result<(Said, Did<'n, W::File, W::Made, W::Refusal>), W::Refusal>
     ensures { IfOk result (λ done.
-        HasSearched W.made W.lacked transcript.entry.now declaration.entry.now witness.now form words done.1 done.0.status done.0.lines.items
+        HasSearched W.made W.lacked transcript.entry.now declaration.entry.now witness.now form words done.1
+        done.0.status done.0.lines.items
         ⊎ IsRefused W.made W.lacked (voice_of form) done.1 done.0.status done.0.lines.items) }
 {
     let names = [transcript, declaration];
@@ -205,7 +210,8 @@ fn search_segment<'n, W: World>(
     watch: &mut W::Watcher,
 ) -> Result<(Said, Did<'n, W::File, W::Made, W::Refusal>), W::Refusal>
     ensures { IfOk result (λ done.
-        (HasSearchedSegment W.made W.lacked transcript.entry.now declaration.entry.now witness.now words segment.entry done.1 done.0.status done.0.lines.items
+        (HasSearchedSegment W.made W.lacked transcript.entry.now declaration.entry.now witness.now words segment.entry
+        done.1 done.0.status done.0.lines.items
         ⊎ IsUntold segment.entry done.1 done.0.status done.0.lines.items)
         ⊎ IsRefused W.made W.lacked Lines done.1 done.0.status done.0.lines.items) }
 {

@@ -21,7 +21,8 @@ pub fn run_job<'n, W: World, O: Out>(
     job: &Job<'n>,
     watched: bool,
 ) -> Session<'n, O, W::File, W::Made, W::Refusal>
-    ensures { RunsJob W.made W.lacked job.now result.did (O.printed out) (O.printed result.out) (O.has_failed result.out) result.status }
+    ensures { RunsJob W.made W.lacked job.now result.did (O.printed out) (O.printed result.out) (O.has_failed
+        result.out) result.status }
 {
     match *job {
         Job::Check {

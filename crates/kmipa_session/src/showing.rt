@@ -22,7 +22,8 @@ pub fn run_show<'n, W: World, O: Out>(
     name: &'n str,
     options: ShowOptions,
 ) -> Session<'n, O, W::File, W::Made, W::Refusal>
-    ensures { RunsShow W.made W.lacked name.entry.now options result.did (O.printed out) (O.printed result.out) (O.has_failed result.out) result.status }
+    ensures { RunsShow W.made W.lacked name.entry.now options result.did (O.printed out) (O.printed result.out)
+        (O.has_failed result.out) result.status }
 {
     match world.open(name) {
         Ok(mut file) => {
@@ -46,7 +47,8 @@ pub fn run_write<'n, W: World, O: Out>(
     hex: &'n str,
     made: &str,
 ) -> Session<'n, O, W::File, W::Made, W::Refusal>
-    ensures { RunsWrite W.made W.lacked hex.entry.now made.now result.did (O.printed out) (O.printed result.out) (O.has_failed result.out) result.status }
+    ensures { RunsWrite W.made W.lacked hex.entry.now made.now result.did (O.printed out) (O.printed result.out)
+        (O.has_failed result.out) result.status }
 {
     let done = write_file(alloc, world, hex, made);
     tell_done(world, out, Voice::Lines, done)
@@ -59,7 +61,8 @@ fn write_file<'n, W: World>(
     hex: &'n str,
     made: &str,
 ) -> Result<(Said, Did<'n, W::File, W::Made, W::Refusal>), W::Refusal>
-    ensures { IfOk result (λ done. HasWritten W.made W.lacked hex.entry.now made.now done.1 done.0.status done.0.lines.items
+    ensures { IfOk result (λ done. HasWritten W.made W.lacked hex.entry.now made.now done.1 done.0.status
+        done.0.lines.items
         ⊎ IsRefused W.made W.lacked Lines done.1 done.0.status done.0.lines.items) }
 {
     if let Err(refusal) = world.test_distinct(made, &[hex]) {

@@ -18,7 +18,8 @@ pub fn tell_done<'n, W: World, O: Out>(
     voice: Voice,
     done: Result<(Said, Did<'n, W::File, W::Made, W::Refusal>), W::Refusal>,
 ) -> Session<'n, O, W::File, W::Made, W::Refusal>
-    ensures { TellsDone W.made W.lacked voice done.entry result.did (O.printed out) (O.printed result.out) (O.has_failed result.out) result.status }
+    ensures { TellsDone W.made W.lacked voice done.entry result.did (O.printed out) (O.printed result.out)
+        (O.has_failed result.out) result.status }
 {
     match done {
         Ok((said, did)) => {
@@ -37,7 +38,8 @@ pub fn refuse<'n, W: World, O: Out>(
     refusal: W::Refusal,
 ) -> Session<'n, O, W::File, W::Made, W::Refusal>
     ensures did { result.did ≡ Refused refusal }
-    ensures told { TellsTrouble voice (W.lacked refusal) (O.printed out) (O.printed result.out) (O.has_failed result.out) result.status }
+    ensures told { TellsTrouble voice (W.lacked refusal) (O.printed out) (O.printed result.out) (O.has_failed
+        result.out) result.status }
 {
     let status = tell_refusal(world, &mut out, voice, &refusal);
     Session {

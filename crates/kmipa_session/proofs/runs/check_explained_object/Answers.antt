@@ -9,5 +9,5 @@ returns g c =
     let P : List ℕ → Type 0 = λ l. ChecksExplainedInJson run.new.transcript run.new.declaration run.new.witness run.result l in
     behind_nothing P c.new-lines.result.items run.new.out.items c.new-lines.ensures.items (record {
       prints = run.ensures.prints;
-      accepts = run.ensures.accepts;
+      accepts = λ done. let r = run.ensures.accepts done in (r.0, r.1.0, r.1.1, r.1.2);
     })

@@ -10,5 +10,5 @@ returns g c =
     both_behind_nothing P c.new-lines.result.items run.new.out.items c.new-made.result.items run.new.made.items c.new-lines.ensures.items
     c.new-made.ensures.items (record {
       prints = run.ensures.prints;
-      accepts = run.ensures.accepts;
+      accepts = λ done. let r = run.ensures.accepts done in (r.0, r.1.0, r.1.1);
     })
