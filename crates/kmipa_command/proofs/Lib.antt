@@ -1,2 +1,1 @@
-mod ChainingLemmas
 mod WordLemmas

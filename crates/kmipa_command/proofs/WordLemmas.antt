@@ -51,7 +51,7 @@ check_found f (Check t d w form segment) (Some found) n e is =
     let rows : rows_of f ≡ found.1 = cc in
     let P : List Row → Type 0 = λ r. IsCheck (Check t d w form segment) r in
     (sym name, subst P rows is)
-check_found f (Search t d out budget forced opened quiet form segment) o n e is = absurd is
+check_found f (Search t d out search form segment) o n e is = absurd is
 check_found f (Chain folder budget quiet leaves) o n e is = absurd is
 check_found f (Show file options) o n e is = absurd is
 check_found f (Write hex out) o n e is = absurd is
@@ -81,11 +81,11 @@ number_found f id n none value = go (one_text f id) refl
 
 pub search_found : (f : Found) (job : Job) (o : Option (Text × List Row))
     → Some (codes "search") ≡ option_map (λ p. p.0) o → Some (rows_of f) ≡ option_map (λ p. p.1) o → IsSearch job (rows_of f) → IsJob job o
-search_found f (Search t d out budget forced opened quiet form segment) None n e is = cc
-search_found f (Search t d out budget forced opened quiet form segment) (Some found) n e is =
+search_found f (Search t d out search form segment) None n e is = cc
+search_found f (Search t d out search form segment) (Some found) n e is =
     let name : codes "search" ≡ found.0 = cc in
     let rows : rows_of f ≡ found.1 = cc in
-    let P : List Row → Type 0 = λ r. IsSearch (Search t d out budget forced opened quiet form segment) r in
+    let P : List Row → Type 0 = λ r. IsSearch (Search t d out search form segment) r in
     (sym name, subst P rows is)
 search_found f (Check t d w form segment) o n e is = absurd is
 search_found f (Chain folder budget quiet leaves) o n e is = absurd is
@@ -106,7 +106,7 @@ chain_found f (Chain folder budget quiet leaves) (Some found) n e is =
     let P : List Row → Type 0 = λ r. IsChain (Chain folder budget quiet leaves) r in
     (sym name, subst P rows is)
 chain_found f (Check t d w form segment) o n e is = absurd is
-chain_found f (Search t d out budget forced opened quiet form segment) o n e is = absurd is
+chain_found f (Search t d out search form segment) o n e is = absurd is
 chain_found f (Show file options) o n e is = absurd is
 chain_found f (Write hex out) o n e is = absurd is
 

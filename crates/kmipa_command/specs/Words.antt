@@ -10,10 +10,10 @@ use Rattle.clap.specs.declared.error.kind.ErrorKind.TheVariants.{DisplayHelp, Di
 use Rattle.kmipa_runs.specs.declared.status.Status.{Status}
 use Rattle.kmipa_runs.specs.declared.status.Status.TheVariants.{Done, Failed, Usage as Mistake}
 use Rattle.kmipa_runs.specs.Statuses.{IsSilent}
-use Rattle.kmipa_command.specs.declared.words.FormWords.{FormWords}
-use Rattle.kmipa_command.specs.declared.words.Job.{Job}
-use Rattle.kmipa_command.specs.declared.words.Job.TheVariants.{Chain, Check, Search, Show, Write}
-use Rattle.kmipa_command.specs.declared.words.SegmentWords.{SegmentWords}
+use Rattle.kmipa_session.specs.declared.job.FormWords.{FormWords}
+use Rattle.kmipa_session.specs.declared.job.Job.{Job}
+use Rattle.kmipa_session.specs.declared.job.Job.TheVariants.{Chain, Check, Search, Show, Write}
+use Rattle.kmipa_session.specs.declared.job.SegmentWords.{SegmentWords}
 use Rattle.kmipa_command.specs.declared.words.Usage.{Usage}
 
 -- a file that has to be named
@@ -125,10 +125,10 @@ IsCheck job rows = ⊥
 
 -- these values are of this search
 abbrev pub IsSearch : Job → List Row → Type 0
-IsSearch (Search transcript declaration out budget forced opened quiet form segment) rows = (first_of (codes "TRANSCRIPT") rows ≡ Some transcript.now)
+IsSearch (Search transcript declaration out search form segment) rows = (first_of (codes "TRANSCRIPT") rows ≡ Some transcript.now)
     × (first_of (codes "DECLARATION") rows ≡ Some declaration.now) × (first_of (codes "OUT") rows ≡ Some out.now)
-    × IsNumber (codes "budget") rows budget × IsFlag (codes "forced") rows forced × IsFlag (codes "open") rows opened × IsFlag (codes "quiet") rows quiet
-    × IsForm form rows × IsSegment segment rows
+    × IsNumber (codes "budget") rows search.budget × IsFlag (codes "forced") rows search.forced × IsFlag (codes "open") rows search.open
+    × IsFlag (codes "quiet") rows search.quiet × IsForm form rows × IsSegment segment rows
 IsSearch job rows = ⊥
 
 -- these values are of this chain
@@ -142,8 +142,8 @@ abbrev pub IsJob : Job → Option (Text × List Row) → Type 0
 IsJob job None = ⊥
 IsJob (Check transcript declaration witness form segment) (Some found) = (found.0 ≡ codes "check")
     × IsCheck (Check transcript declaration witness form segment) found.1
-IsJob (Search transcript declaration out budget forced opened quiet form segment) (Some found) = (found.0 ≡ codes "search")
-    × IsSearch (Search transcript declaration out budget forced opened quiet form segment) found.1
+IsJob (Search transcript declaration out search form segment) (Some found) = (found.0 ≡ codes "search")
+    × IsSearch (Search transcript declaration out search form segment) found.1
 IsJob (Chain folder budget quiet leaves) (Some found) = (found.0 ≡ codes "chain") × IsChain (Chain folder budget quiet leaves) found.1
 IsJob (Show file options) (Some found) = (found.0 ≡ codes "show") × (first_of (codes "FILE") found.1 ≡ Some file.now)
     × IsFlag (codes "messages") found.1 options.messages × IsFlag (codes "notes") found.1 options.notes

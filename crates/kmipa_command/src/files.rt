@@ -1,9 +1,7 @@
 //! The files that the words name.
 
-ghost use Rattle.std.specs.Prelude.{◌≡◌, ◌≤◌, [], IfOk, length};
-ghost use Rattle.kmipa_ttlv.specs.Input.{came_of};
+ghost use Rattle.std.specs.Prelude.{◌≤◌, length};
 
-use kmipa_ttlv::Input;
 use std::fs::OpenFile;
 use std::io::{BufReader, Read};
 use std::rt::Files;
@@ -17,13 +15,11 @@ const KINDS: [(&str, [u8; 3]); 3] = [
 ];
 
 /// Opens a file. Why it can't be opened is reported on standard error.
-pub fn open_input<R: Files + AllocGlobal + Eprint>(
+pub fn open_file<R: Files + AllocGlobal + Eprint>(
     rt: &R,
     name: &str,
-) -> io::Result<Input<BufReader<R::File>>>
-    ensures { IfOk result (λ input. came_of input ≡ []) }
-{
-    Ok(Input::new(reported(rt, name, opened(rt, name))?))
+) -> io::Result<BufReader<R::File>> {
+    reported(rt, name, opened(rt, name))
 }
 
 fn opened<R: Files + AllocGlobal>(rt: &R, name: &str) -> io::Result<BufReader<R::File>> {

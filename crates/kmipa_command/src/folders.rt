@@ -1,6 +1,7 @@
 //! The folder of a chain: its segments, in the order of their names.
 
 use crate::files::reported;
+use kmipa_session::{AskedFor, Folder, FolderSegment};
 use std::alloc::{AllocError, Global};
 use std::rt::Files;
 use std::{fs, io};
@@ -17,38 +18,6 @@ const ENDING: &str = ".ttlv";
 
 /// The declaration that the segments begin with.
 const FIRST: &str = "declaration.ttlv";
-
-/// A folder of segments.
-#[derive(Debug, Drop)]
-pub struct Folder {
-    /// The path of the declaration that they begin with.
-    pub declaration: String,
-    pub segments: Vec<Segment>,
-    /// What the server was asked for behind the last segment.
-    pub asked: Vec<Asked>,
-}
-
-/// A declaration that the server was asked for.
-#[derive(Debug, Drop)]
-pub struct Asked {
-    /// Its name.
-    pub name: String,
-    /// Its path.
-    pub path: String,
-}
-
-/// The files of a segment.
-#[derive(Debug, Drop)]
-pub struct Segment {
-    /// The name of the transcript.
-    pub name: String,
-    /// Its path.
-    pub transcript: String,
-    /// The path of the witness, where there is one.
-    pub witness: Option<String>,
-    /// What the server was asked for ahead of it, and behind the segment before it.
-    pub asked: Vec<Asked>,
-}
 
 /// The names of a folder's files, by their kind.
 #[derive(Debug, Drop)]
@@ -180,11 +149,11 @@ fn asked_between(
     declarations: &[String],
     before: Option<&str>,
     here: Option<&str>,
-) -> Result<Vec<Asked>, AllocError> {
+) -> Result<Vec<AskedFor>, AllocError> {
     let mut asked = Vec::new(alloc);
     for name in declarations {
         if stands_between(name.as_str(), before, here) {
-            asked.push(Asked {
+            asked.push(AskedFor {
                 name: String::from_str(alloc, name.as_str())?,
                 path: path_of(alloc, folder, name.as_str())?,
             })?;
@@ -209,13 +178,13 @@ fn segment_of(
     folder: &str,
     name: &str,
     names: &Names,
-    asked: Vec<Asked>,
-) -> Result<Segment, AllocError> {
+    asked: Vec<AskedFor>,
+) -> Result<FolderSegment, AllocError> {
     let witness = match beside(name, TRANSCRIPT, &names.witnesses, WITNESS) {
         Some(witness) => Some(path_of(alloc, folder, witness)?),
         None => None,
     };
-    Ok(Segment {
+    Ok(FolderSegment {
         name: String::from_str(alloc, name)?,
         transcript: path_of(alloc, folder, name)?,
         witness,

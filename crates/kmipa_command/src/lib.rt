@@ -1,17 +1,15 @@
 //! The command line: words come in, files are read and written, and lines go out.
 #![tactic(auto)]
 
-mod chaining;
-mod checking;
 mod files;
 mod folders;
-mod objects;
+mod host;
 mod output;
-mod printing;
 mod progress;
 mod replacing;
-mod searching;
 mod session;
 mod words;
 
-pub use session::run_session;
+pub use host::{Host, MadeFile};
+pub use output::Output;
+pub use session::{run_session, words_of};

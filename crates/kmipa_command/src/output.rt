@@ -2,9 +2,10 @@
 
 ghost use Rattle.std.specs.Prelude.{◌≡◌, [], IsTrue};
 
-use crate::printing::reported;
 use kmipa_runs::{Printer, Unprinted};
+use kmipa_session::Out;
 use kmipa_ttlv::History;
+use std::io;
 
 /// Standard output, and what was printed there.
 #[derive(Drop)]
@@ -28,13 +29,6 @@ impl<'a, R: Print> Output<'a, R> {
             went: History::new(),
         }
     }
-
-    /// Whether nothing was printed.
-    pub fn is_empty(&self) -> bool
-        ensures { IsTrue result → self.now.went.bytes ≡ [] }
-    {
-        self.empty
-    }
 }
 
 impl<'a, R: Print + Eprint> Printer for Output<'a, R> {
@@ -55,4 +49,24 @@ impl<'a, R: Print + Eprint> Printer for Output<'a, R> {
             }
         }
     }
+}
+
+impl<'a, R: Print + Eprint> Out for Output<'a, R> {
+    fn is_empty(&self) -> bool {
+        self.empty
+    }
+}
+
+/// Tells why standard output could not be written, but for a reader who had read enough and went. Where standard error can't be written
+/// either, there is nothing left to say.
+fn reported<R: Eprint, T>(rt: &R, printed: io::Result<T>) -> io::Result<T>
+    ensures { result ≡ printed }
+{
+    if let Err(error) = &printed {
+        if error.kind() != io::ErrorKind::BrokenPipe {
+            rt.eprintln(format_args!("kmip_audit: standard output: {error}"))
+                .ok();
+        }
+    }
+    printed
 }

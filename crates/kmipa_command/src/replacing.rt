@@ -1,6 +1,7 @@
 //! Outputs: a file that is made in place of what it held, whole or not at all.
 
 use crate::files::reported;
+use kmipa_session::Content;
 use std::fs::{Metadata, OpenOptions};
 use std::io::Write;
 use std::os::unix::fs::{MetadataExt, OpenOptionsExt, chown};
@@ -99,13 +100,9 @@ fn may_be_replaced(there: &Metadata) -> io::Result<()> {
 /// Writes a file in place of what it held, whole or not at all: the bytes are written to a new file beside it, which then takes its name, with
 /// the mode and the owner of what was there. Behind a link its file is replaced. What is no plain file, as a device or a pipe, is written as it
 /// stands.
-pub fn replace_file<R: Files + AllocGlobal + Eprint>(
-    rt: &R,
-    name: &str,
-    bytes: &[u8],
-) -> io::Result<()> {
-    let mut staged = reported(rt, name, stage(rt, Content { name, bytes }))?;
-    let done = reported(rt, name, staged.place(rt));
+pub fn replace_file<R: Files + AllocGlobal + Eprint>(rt: &R, file: Content<'_>) -> io::Result<()> {
+    let mut staged = reported(rt, file.name, stage(rt, file))?;
+    let done = reported(rt, file.name, staged.place(rt));
     staged.let_go(rt);
     done
 }
@@ -178,13 +175,6 @@ fn held_bytes<R: Files + AllocGlobal>(rt: &R, name: &str) -> io::Result<Option<V
         Ok(there) if there.is_file() => Ok(Some(fs::read(rt, name)?)),
         _ => Ok(None),
     }
-}
-
-/// What is to stand in a file.
-#[derive(Clone, Copy)]
-pub struct Content<'a> {
-    pub name: &'a str,
-    pub bytes: &'a [u8],
 }
 
 /// An output that is ready to be made: a new file with its bytes stands beside it, or it is no plain file, and is written as it stands.

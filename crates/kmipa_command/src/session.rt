@@ -1,167 +1,97 @@
 //! A session: words come in, files are read and written, and lines go out.
 
-use crate::chaining::{ChainWords, chain_folder};
-use crate::checking::{Form, check_files, check_segment_files, form_of};
-use crate::files::{hint_digits, hint_kind, open_input};
-use crate::objects::{check_object, search_object};
+ghost use Rattle.std.specs.Prelude.{◌≡◌, ◌⊎◌, map};
+ghost use Rattle.kmipa_runs.specs.declared.status.Status.{Status};
+ghost use Rattle.kmipa_command.specs.Sessions.{Runs, TellsUsage};
+
+use crate::host::Host;
 use crate::output::Output;
-use crate::printing::{tell, tell_error, tell_forms, tell_rest, tell_usage, tell_words};
-use crate::progress::Progress;
-use crate::replacing::{is_input, replace_file, test_output};
-use crate::searching::{SearchWords, search_files, search_segment_files};
-use crate::words::{FormWords, Job, read_words};
-use kmipa_runs::{ShowOptions, Status, show_run, write_run};
-use kmipa_search::Watch;
+use crate::words::{Usage, read_words};
+use kmipa_runs::Status;
+use kmipa_session::{Did, Out, Session, Voice, World, run_job, tell, tell_refusal};
+use std::alloc::Global;
+use std::convert::AsStr;
 use std::rt::{Clock, Env, Files};
 use std::{env, io};
 
-/// Does what the words of the command line ask for, and answers the status to end with. Where standard error is watched
-/// by somebody, a long search tells there how far it got.
-pub fn run_session<R: Env + Files + Clock + AllocGlobal + Print + Eprint + Clone + Drop>(
+/// The words of the process, the first of which is the program's name. Where they can't be read it is told why, and the status to end with is
+/// answered.
+pub fn words_of<R: Env + Files + Clock + AllocGlobal + Print + Eprint + Clone + Drop>(
     rt: &R,
-    watched: bool,
-) -> Status {
-    let words = match words_of(rt) {
-        Ok(words) => words,
-        Err(error) => return tell_words(rt, &error),
-    };
-    match read_words(rt.alloc(), words.as_slice()) {
-        Ok(job) => run_job(rt, &job, watched),
-        Err(usage) => tell_usage(rt, &usage),
+) -> Result<Vec<String>, Status> {
+    match collect_words(rt) {
+        Ok(words) => Ok(words),
+        Err(error) => Err(tell_words(rt, &error)),
     }
 }
 
-fn words_of<R: Env + AllocGlobal>(rt: &R) -> io::Result<Vec<String>> {
+fn collect_words<R: Env + AllocGlobal>(rt: &R) -> io::Result<Vec<String>> {
     Ok(env::args(rt)?.collect::<Vec<String>>(rt.alloc())?)
 }
 
-/// Opens the files of a job, in the order in which they were named, and prints its lines.
-fn run_job<R: Files + Clock + AllocGlobal + Print + Eprint + Clone + Drop>(
+/// Tells why the words can't be read. A word that is not UTF-8 is a mistake in the words.
+fn tell_words<R: Files + Clock + AllocGlobal + Print + Eprint + Clone + Drop>(
     rt: &R,
-    job: &Job<'_>,
+    error: &io::Error,
+) -> Status
+    ensures { (result ≡ Status.Usage) ⊎ (result ≡ Status.Failed) }
+{
+    if error.kind() != io::ErrorKind::InvalidData {
+        tell_refusal(&Host::new(rt), &mut Output::new(rt), Voice::Lines, error);
+        return Status::Failed;
+    }
+    match rt.eprintln("error: a word of the command line is not UTF-8") {
+        Ok(()) => Status::Usage,
+        Err(_) => Status::Failed,
+    }
+}
+
+/// Does what the words of a command line ask for, in a world. Where standard error is `watched` by somebody, a long search tells there how far it
+/// got.
+pub fn run_session<'n, S: AsStr, W: World, O: Out>(
+    alloc: Global,
+    words: &'n [S],
+    world: &W,
+    out: O,
     watched: bool,
-) -> Status {
-    let mut out = Vec::new(rt.alloc());
-    let done = match *job {
-        Job::Check {
-            transcript,
-            declaration,
-            witness,
-            form,
-            segment,
-        } => {
-            let names = [transcript, declaration, witness];
-            match form_of(form, segment) {
-                Some(Form::Lines) => check_files(rt, names, false, &mut out),
-                Some(Form::Explained) => check_files(rt, names, true, &mut out),
-                Some(Form::Segment) => check_segment_files(rt, names, segment, &mut out),
-                Some(Form::Json) => return check_object(rt, names, false),
-                Some(Form::ExplainedJson) => return check_object(rt, names, true),
-                None => return tell_forms(rt),
-            }
-        }
-        Job::Search {
-            transcript,
-            declaration,
-            out: made,
-            budget,
-            forced,
-            open,
-            quiet,
-            form,
-            segment,
-        } => {
-            let names = [transcript, declaration, made];
-            let words = SearchWords {
-                budget,
-                forced,
-                open,
-                segment,
-            };
-            let mut progress = Progress::new(rt, budget, watched && !quiet);
-            return run_search(rt, names, words, form, &mut progress);
-        }
-        Job::Chain {
-            folder,
-            budget,
-            quiet,
-            leaves,
-        } => {
-            let words = ChainWords {
-                budget,
-                watched: watched && !quiet,
-                leaves,
-            };
-            return match chain_folder(rt, folder, words) {
-                Ok(status) => status,
-                Err(error) => tell_error(rt, &error),
-            };
-        }
-        Job::Show { file, options } => return show_file(rt, file, options),
-        Job::Write { hex, out: made } => write_file(rt, hex, made, &mut out),
-    };
-    match done {
-        Ok(status) => tell(rt, out.as_slice(), status),
-        Err(error) => tell_error(rt, &error),
+) -> Session<'n, O, W::File, W::Made, W::Refusal>
+    ensures { Runs W.made W.lacked (map S.text words.entry.now) result.did (O.printed out) (O.printed result.out)
+        (O.has_failed result.out) result.status }
+{
+    match read_words(alloc, words) {
+        Ok(job) => run_job(alloc, world, out, &job, watched),
+        Err(usage) => run_usage(&usage, world, out),
     }
 }
 
-/// Looks for a witness, prints what is found in the form that is asked for, and answers the status to end with.
-fn run_search<R: Files + AllocGlobal + Print + Eprint, W: Watch>(
-    rt: &R,
-    names: [&str; 3],
-    words: SearchWords<'_>,
-    form: FormWords,
-    watch: &mut W,
-) -> Status {
-    let mut out = Vec::new(rt.alloc());
-    let done = match form_of(form, words.segment) {
-        Some(Form::Lines) => search_files(rt, names, words, false, watch, &mut out),
-        Some(Form::Explained) => search_files(rt, names, words, true, watch, &mut out),
-        Some(Form::Segment) => search_segment_files(rt, names, words, watch, &mut out),
-        Some(Form::Json | Form::ExplainedJson) => return search_object(rt, names, words, watch),
-        None => return tell_forms(rt),
-    };
-    match done {
-        Ok(status) => tell(rt, out.as_slice(), status),
-        Err(error) => tell_error(rt, &error),
+/// Help goes to standard output, and what is wrong with the words to standard error.
+fn run_usage<'n, W: World, O: Out>(
+    usage: &Usage,
+    world: &W,
+    mut out: O,
+) -> Session<'n, O, W::File, W::Made, W::Refusal>
+    ensures { TellsUsage usage.now result.did (O.printed out) (O.printed result.out) (O.has_failed result.out)
+        result.status }
+{
+    let text = usage.text.as_str();
+    if usage.status != Status::Usage {
+        let status = tell(&mut out, Voice::Lines, text.as_bytes(), usage.status);
+        return Session {
+            out,
+            status,
+            did: Did::Nothing,
+        };
     }
-}
-
-/// Prints the items of a file, and answers the status to end with.
-fn show_file<R: Files + AllocGlobal + Print + Eprint>(
-    rt: &R,
-    name: &str,
-    options: ShowOptions,
-) -> Status {
-    let mut input = match open_input(rt, name) {
-        Ok(input) => input,
-        Err(error) => return tell_error(rt, &error),
-    };
-    let (output, done) = show_run(rt.alloc(), &mut input, options, Output::new(rt));
-    tell_rest(rt, &output, done)
-}
-
-/// Makes the file `name` of the digits of another one. Where the status is not `Done` nothing is made.
-fn write_file<R: Files + AllocGlobal + Eprint>(
-    rt: &R,
-    hex: &str,
-    name: &str,
-    out: &mut Vec<u8>,
-) -> io::Result<Status> {
-    if is_input(rt, name, &[hex]) {
-        return Ok(Status::Usage);
+    match world.tell_mistake(text) {
+        Ok(()) => Session {
+            out,
+            status: Status::Usage,
+            did: Did::Nothing,
+        },
+        Err(refusal) => Session {
+            out,
+            status: Status::Failed,
+            did: Did::Refused(refusal),
+        },
     }
-    let mut input = open_input(rt, hex)?;
-    test_output(rt, name)?;
-    let mut made = Vec::new(rt.alloc());
-    let status = write_run(rt.alloc(), &mut input, out, &mut made);
-    drop(input);
-    if status == Status::Refused {
-        hint_digits(rt, hex, out);
-    }
-    if status == Status::Done {
-        replace_file(rt, name, made.as_slice())?;
-    }
-    Ok(status)
 }

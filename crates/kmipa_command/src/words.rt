@@ -10,6 +10,7 @@ use clap::builder::ValueParser;
 use clap::error::ErrorKind;
 use clap::{Arg, ArgAction, ArgMatches, Command, Error};
 use kmipa_runs::{ShowOptions, Status};
+use kmipa_session::{FormWords, Job, SearchWords, SegmentWords};
 use std::alloc::{AllocError, Global};
 use std::convert::AsStr;
 
@@ -141,81 +142,6 @@ Example:
   kmip_audit write digits.txt items.ttlv
 
 Status: 0 written; 2 the digits are refused; 3 a device failed or memory ran out; 64 wrong words";
-
-/// What is asked of the form of an answer.
-#[derive(Clone, Copy, Debug, PartialEq, Eq)]
-pub struct FormWords {
-    /// Prints one JSON object in place of the lines.
-    pub json: bool,
-    /// Prints behind a no, or a giving up, what it means.
-    pub explain: bool,
-}
-
-/// What is asked of a segment of an audit that goes on from file to file.
-#[derive(Clone, Copy, Debug, PartialEq, Eq)]
-pub struct SegmentWords<'a> {
-    /// The declaration that is written of what the run leaves.
-    pub leaves: Option<&'a str>,
-    /// The moment that no Time Stamp may lie before, as it is written in the words.
-    pub not_before: Option<&'a str>,
-}
-
-impl SegmentWords<'_> {
-    /// Whether anything is asked.
-    pub fn is_asked(self) -> bool
-        ensures { result ≡ (is_some self.entry.leaves || is_some self.entry.not_before) }
-    {
-        self.leaves.is_some() || self.not_before.is_some()
-    }
-}
-
-/// What the words ask for, with the names of the files that it reads.
-#[derive(Clone, Copy, Debug, PartialEq, Eq)]
-pub enum Job<'a> {
-    /// Whether the calls of a transcript are possible in the order of a witness.
-    Check {
-        transcript: &'a str,
-        declaration: &'a str,
-        witness: &'a str,
-        form: FormWords,
-        segment: SegmentWords<'a>,
-    },
-    /// An order in which the calls of a transcript are possible, tried with at most so many steps.
-    Search {
-        transcript: &'a str,
-        declaration: &'a str,
-        /// The witness that is written.
-        out: &'a str,
-        budget: u64,
-        /// Tells first whether the transcript leaves no choice.
-        forced: bool,
-        /// Takes calls without an end mark too, and batches without order in other orders than by place.
-        open: bool,
-        /// Tells nothing on standard error while it searches.
-        quiet: bool,
-        form: FormWords,
-        segment: SegmentWords<'a>,
-    },
-    /// The segments of a folder, one after the other.
-    Chain {
-        folder: &'a str,
-        budget: u64,
-        /// Tells nothing on standard error while it searches.
-        quiet: bool,
-        /// The declaration that is written of what the whole leaves.
-        leaves: Option<&'a str>,
-    },
-    /// The items of a file as text.
-    Show {
-        file: &'a str,
-        options: ShowOptions,
-    },
-    /// A file of the items that the digits of another one spell.
-    Write {
-        hex: &'a str,
-        out: &'a str,
-    },
-}
 
 /// What is printed in place of a job: help with `Done`, a mistake with `Usage`, and nothing with `Failed`, where
 /// memory ran out.
@@ -542,10 +468,12 @@ fn search_of<'a>(words: &ArgMatches<'a>) -> Option<Job<'a>>
         transcript: words.get_str(TRANSCRIPT)?,
         declaration: words.get_str(DECLARATION)?,
         out: words.get_str(OUT)?,
-        budget: words.get_one::<u64>(BUDGET)?,
-        forced: words.get_flag(FORCED),
-        open: words.get_flag(OPEN),
-        quiet: words.get_flag(QUIET),
+        search: SearchWords {
+            budget: words.get_one::<u64>(BUDGET)?,
+            forced: words.get_flag(FORCED),
+            open: words.get_flag(OPEN),
+            quiet: words.get_flag(QUIET),
+        },
         form: form_of(words),
         segment: segment_of(words),
     })

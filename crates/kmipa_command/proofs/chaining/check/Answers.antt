@@ -1,6 +1,0 @@
-use Rattle.kmipa_segments.proofs.ChainingLemmas.{one_more}
-use Rattle.kmipa_command.proofs.ChainingLemmas.{told_done}
-use Rattle.kmipa_command.proofs.chaining.check.Goals as goal
-
-pub returns-clause-joins : goal.returns-clause-joins
-returns-clause-joins g c = λ done. one_more _ _ _ (c.chain_check-status.ensures.goes_on (told_done c.tell.result c.chain_check-status.result c.tell.ensures done)).0

@@ -1,0 +1,2 @@
+mod ChainingLemmas
+mod SessionLemmas

@@ -1,0 +1,17 @@
+use Rattle.std.proofs.Common.{List, ℕ}
+use Rattle.kmipa_session.specs.Checks.{ChecksInLines}
+use Rattle.kmipa_session.proofs.SessionLemmas.{behind_nothing}
+use Rattle.kmipa_session.proofs.runs.check_lines.Goals as goal
+
+pub returns : goal.returns
+returns g c =
+    let run = c.check_run-status in
+    let P : List ℕ → Type 0 = λ l. ChecksInLines run.new.transcript run.new.declaration run.new.witness run.result l in
+    behind_nothing P c.new-lines.result.items run.new.out.items c.new-lines.ensures.items (record {
+      prints = run.ensures.prints;
+      fits = run.ensures.fits;
+      yes = run.ensures.yes;
+      accepts = run.ensures.accepts;
+      accepted = run.ensures.accepted;
+      dated = run.ensures.dated;
+    })

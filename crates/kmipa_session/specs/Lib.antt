@@ -1,0 +1,6 @@
+pub mod Checks
+pub mod Jobs
+pub mod Printing
+pub mod Searches
+pub mod Sessions
+pub mod Worlds

@@ -1,0 +1,138 @@
+-- What a session did in a world, and what it printed of it.
+use Rattle.std.specs.Prelude.{◌≡◌, ◌≢◌, ◌⊎◌, ◌++◌, ℕ, ℤ, List, [], Bool, IsTrue, is_some, Option, Some, None, Result, Ok, Err}
+use denote.Bor.{Bor}
+use Rattle.kmipa_ttlv.specs.Input.{came_of, is_failed}
+use Rattle.kmipa_runs.specs.Inputs.{Writes}
+use Rattle.kmipa_runs.specs.declared.options.ShowOptions.{ShowOptions}
+use Rattle.kmipa_runs.specs.declared.status.Status.{Status}
+use Rattle.kmipa_runs.specs.declared.status.Status.TheVariants as status
+use Rattle.kmipa_session.specs.Checks.{Checks, ChecksInSegment}
+use Rattle.kmipa_session.specs.Jobs.{asked_of, IsNoMoment, IsSince}
+use Rattle.kmipa_session.specs.Printing.{trouble_text, Tells, TellsRest, TellsTrouble, voice_of}
+use Rattle.kmipa_session.specs.Searches.{Searches, SearchesInSegment, Shows}
+use Rattle.kmipa_session.specs.Worlds.{input_of, name_of}
+use Rattle.kmipa_session.specs.declared.did.Did.{Did}
+use Rattle.kmipa_session.specs.declared.did.Did.TheVariants as did
+use Rattle.kmipa_session.specs.declared.did.Said.{Said}
+use Rattle.kmipa_session.specs.declared.job.Asked.{Asked}
+use Rattle.kmipa_session.specs.declared.job.Asked.TheVariants as asked
+use Rattle.kmipa_session.specs.declared.job.Form.{Form}
+use Rattle.kmipa_session.specs.declared.job.Job.{Job}
+use Rattle.kmipa_session.specs.declared.job.Job.TheVariants.{Chain, Check, Search, Show, Write}
+use Rattle.kmipa_session.specs.declared.job.SearchWords.{SearchWords}
+use Rattle.kmipa_session.specs.declared.job.SegmentWords.{SegmentWords}
+use Rattle.kmipa_session.specs.declared.named.Named.{Named}
+use Rattle.kmipa_session.specs.declared.voice.Voice.{Voice}
+use Rattle.kmipa_session.specs.declared.voice.Voice.TheVariants as voice
+
+-- ---- files that were read and made, where F are files that were opened, M files that were made, and E refusals
+
+-- this file was made under this name, of these bytes, if the status is `Done`; else none was
+abbrev pub IsMade : {M : Type 0} → (M → List ℕ × List ℕ) → List ℕ → List ℕ → Status → Option M → Type 0
+IsMade made name bytes said None = said ≢ status.Done
+IsMade made name bytes said (Some file) = (said ≡ status.Done) × (made file ≡ (name, bytes))
+
+-- so it is where the file is asked for; else none was
+abbrev pub IsMadeAsAsked : {M : Type 0} → (M → List ℕ × List ℕ) → Option (Bor (List ℕ)) → List ℕ → Status → Option M → Type 0
+IsMadeAsAsked made None bytes said file = file ≡ None
+IsMadeAsAsked made (Some name) bytes said file = IsMade made name.now bytes said file
+
+-- nothing was done, since a word is no moment
+abbrev pub IsUntold : {F M E : Type 0} → SegmentWords → Did F M E → Status → List ℕ → Type 0
+IsUntold segment did.Nothing said lines = IsNoMoment segment.not_before × (said ≡ status.Usage) × (lines ≡ [])
+IsUntold segment other said lines = ⊥
+
+-- A mistake in the words was told on standard error; or that was refused.
+abbrev pub TellsMistake : {F M E : Type 0} → Did F M E → List ℕ → List ℕ → Status → Type 0
+TellsMistake did.Nothing before after left = (after ≡ before) × (left ≡ status.Usage)
+TellsMistake (did.Refused e) before after left = (after ≡ before) × (left ≡ status.Failed)
+TellsMistake other before after left = ⊥
+
+-- `made` tells the name and the bytes of a file that was made, and `lacked` whether something was refused for want of memory.
+module _ {F M E : Type 0} (made : M → List ℕ × List ℕ) (lacked : E → Bool) where
+  -- nothing was done, since something was refused: a file was to be read and made, or there was trouble
+  abbrev pub IsRefused : Voice → Did F M E → Status → List ℕ → Type 0
+  IsRefused voice (did.Refused e) said lines = ((said ≡ status.Usage) × (lines ≡ [])) ⊎ ((said ≡ status.Failed) × (lines ≡ trouble_text voice (lacked e)))
+  IsRefused voice other said lines = ⊥
+
+  -- ---- what was done, with this status and these lines
+
+  -- Files with these names were read for a check, and this is what it says of them.
+  abbrev pub HasChecked : List ℕ → List ℕ → List ℕ → Form → Did F M E → Status → List ℕ → Type 0
+  HasChecked t d w form (did.Checked ft fd fw) said lines = (name_of ft ≡ t) × (name_of fd ≡ d) × (name_of fw ≡ w)
+      × Checks form (input_of ft) (input_of fd) (input_of fw) said lines
+  HasChecked t d w form other said lines = ⊥
+
+  -- for the check of a segment, and what it leaves was made, where that is asked for
+  abbrev pub HasCheckedSegment : List ℕ → List ℕ → List ℕ → SegmentWords → Did F M E → Status → List ℕ → Type 0
+  HasCheckedSegment t d w segment (did.CheckedSegment ft fd fw file) said lines = (name_of ft ≡ t) × (name_of fd ≡ d) × (name_of fw ≡ w)
+      × ((since : Option ℤ) × IsSince segment.not_before since
+      × ((bytes : List ℕ) × ChecksInSegment (is_some segment.leaves) since (input_of ft) (input_of fd) (input_of fw) said lines bytes
+      × IsMadeAsAsked made segment.leaves bytes said file))
+  HasCheckedSegment t d w segment other said lines = ⊥
+
+  -- for a search, and the witness that it found was made, if it found one
+  abbrev pub HasSearched : List ℕ → List ℕ → List ℕ → Form → SearchWords → Did F M E → Status → List ℕ → Type 0
+  HasSearched t d out form words (did.Searched ft fd file) said lines = (name_of ft ≡ t) × (name_of fd ≡ d)
+      × ((bytes : List ℕ) × Searches form words (input_of ft) (input_of fd) said lines bytes × IsMade made out bytes said file)
+  HasSearched t d out form words other said lines = ⊥
+
+  -- for the search of a segment, and what the witness leaves was made too, where that is asked for
+  abbrev pub HasSearchedSegment : List ℕ → List ℕ → List ℕ → SearchWords → SegmentWords → Did F M E → Status → List ℕ → Type 0
+  HasSearchedSegment t d out words segment (did.SearchedSegment ft fd file left) said lines = (name_of ft ≡ t) × (name_of fd ≡ d)
+      × ((since : Option ℤ) × IsSince segment.not_before since
+      × ((bytes more : List ℕ) × SearchesInSegment words (is_some segment.leaves) since (input_of ft) (input_of fd) said lines bytes more
+      × IsMade made out bytes said file × IsMadeAsAsked made segment.leaves more said left))
+  HasSearchedSegment t d out words segment other said lines = ⊥
+
+  -- A file with this name was read for its digits, and the items were made that they spell, if they do.
+  abbrev pub HasWritten : List ℕ → List ℕ → Did F M E → Status → List ℕ → Type 0
+  HasWritten hex out (did.Written f file) said lines = (name_of f ≡ hex)
+      × ((bytes : List ℕ) × Writes (came_of (input_of f)) (is_failed (input_of f)) said lines bytes × IsMade made out bytes said file)
+  HasWritten hex out other said lines = ⊥
+
+  -- ---- and what was printed
+
+  -- This was done, or it was refused, and its lines are printed.
+  abbrev pub TellsWhat : Voice → (Did F M E → Status → List ℕ → Type 0) → Did F M E → List ℕ → List ℕ → Bool → Status → Type 0
+  TellsWhat voice Has done before after failed left = (said : Status) × (lines : List ℕ)
+      × (Has done said lines ⊎ IsRefused voice done said lines) × Tells voice lines said before after failed left
+
+  -- what was done, or a refusal, is told
+  abbrev pub TellsDone : Voice → Result (Said × Did F M E) E → Did F M E → List ℕ → List ℕ → Bool → Status → Type 0
+  TellsDone voice (Ok it) done before after failed left = (done ≡ it.1) × Tells voice it.0.lines.items it.0.status before after failed left
+  TellsDone voice (Err e) done before after failed left = (done ≡ did.Refused e) × TellsTrouble voice (lacked e) before after failed left
+
+  abbrev pub RunsCheck : List ℕ → List ℕ → List ℕ → Option Asked → SegmentWords → Did F M E → List ℕ → List ℕ → Bool → Status → Type 0
+  RunsCheck t d w None segment done before after failed left = TellsMistake done before after left
+  RunsCheck t d w (Some (asked.Files form)) segment done before after failed left =
+      TellsWhat (voice_of form) (HasChecked t d w form) done before after failed left
+  RunsCheck t d w (Some asked.Segment) segment done before after failed left =
+      TellsWhat voice.Lines (λ what said lines. HasCheckedSegment t d w segment what said lines ⊎ IsUntold segment what said lines) done before after failed left
+
+  abbrev pub RunsSearch : List ℕ → List ℕ → List ℕ → SearchWords → Option Asked → SegmentWords → Did F M E → List ℕ → List ℕ → Bool → Status → Type 0
+  RunsSearch t d out words None segment done before after failed left = TellsMistake done before after left
+  RunsSearch t d out words (Some (asked.Files form)) segment done before after failed left =
+      TellsWhat (voice_of form) (HasSearched t d out form words) done before after failed left
+  RunsSearch t d out words (Some asked.Segment) segment done before after failed left =
+      TellsWhat voice.Lines (λ what said lines. HasSearchedSegment t d out words segment what said lines ⊎ IsUntold segment what said lines) done before after failed left
+
+  -- The items of a file with this name are shown, and printed as far as they could be; or it is refused.
+  abbrev pub RunsShow : List ℕ → ShowOptions → Did F M E → List ℕ → List ℕ → Bool → Status → Type 0
+  RunsShow name options (did.Shown f) before after failed left = (name_of f ≡ name)
+      × (((said : Status) × (lines : List ℕ) × Shows options (input_of f) said lines × TellsRest said (before ++ lines) after failed left)
+      ⊎ ((left ≡ status.Failed) × IsTrue failed))
+  RunsShow name options (did.Refused e) before after failed left = TellsTrouble voice.Lines (lacked e) before after failed left
+  RunsShow name options other before after failed left = ⊥
+
+  abbrev pub RunsWrite : List ℕ → List ℕ → Did F M E → List ℕ → List ℕ → Bool → Status → Type 0
+  RunsWrite hex out done before after failed left = TellsWhat voice.Lines (HasWritten hex out) done before after failed left
+
+  -- A job is done. Of a chain nothing is claimed here.
+  abbrev pub RunsJob : Job → Did F M E → List ℕ → List ℕ → Bool → Status → Type 0
+  RunsJob (Check t d w form segment) done before after failed left = RunsCheck t.now d.now w.now (asked_of form segment) segment done before after failed left
+  RunsJob (Search t d out words form segment) done before after failed left =
+      RunsSearch t.now d.now out.now words (asked_of form segment) segment done before after failed left
+  RunsJob (Chain folder budget quiet leaves) done before after failed left = Unit {0}
+  RunsJob (Show file options) done before after failed left = RunsShow file.now options done before after failed left
+  RunsJob (Write hex out) done before after failed left = RunsWrite hex.now out.now done before after failed left

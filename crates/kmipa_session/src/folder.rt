@@ -1,0 +1,33 @@
+//! The folder of a chain: its segments, in the order of their names.
+
+/// A folder of segments.
+#[derive(Debug, Drop)]
+pub struct Folder {
+    /// The path of the declaration that they begin with.
+    pub declaration: String,
+    pub segments: Vec<FolderSegment>,
+    /// What the server was asked for behind the last segment.
+    pub asked: Vec<AskedFor>,
+}
+
+/// A declaration that the server was asked for.
+#[derive(Debug, Drop)]
+pub struct AskedFor {
+    /// Its name.
+    pub name: String,
+    /// Its path.
+    pub path: String,
+}
+
+/// The files of a segment.
+#[derive(Debug, Drop)]
+pub struct FolderSegment {
+    /// The name of the transcript.
+    pub name: String,
+    /// Its path.
+    pub transcript: String,
+    /// The path of the witness, where there is one.
+    pub witness: Option<String>,
+    /// What the server was asked for ahead of it, and behind the segment before it.
+    pub asked: Vec<AskedFor>,
+}

@@ -1,0 +1,253 @@
+//! A file that was opened by its name, and the runs over such files.
+
+use crate::did::Said;
+use crate::job::{Form, SearchWords};
+use crate::runs::{
+    check_explained, check_explained_object, check_left, check_lines, check_object,
+    search_explained, search_left, search_lines, search_object, write_items,
+};
+use kmipa_runs::{Printer, ShowOptions, Status, Unprinted, show_run};
+use kmipa_search::Watch;
+use kmipa_segments::{Chain, chain_begin, chain_check, chain_compare, chain_search};
+use kmipa_ttlv::Input;
+use std::alloc::Global;
+use std::io::Read;
+
+/// An input, and the name by which its file was opened. No code takes the one from the other.
+#[derive(Drop)]
+pub struct Named<'n, R> {
+    name: &'n str,
+    input: Input<R>,
+}
+
+impl<'n, R: Read> Named<'n, R> {
+    ghost use Rattle.std.specs.Prelude.{◌≡◌, [], IsTrue, IfOk, OnErr, OnOk, Some, None};
+    ghost use Rattle.std.specs.Io.{StartsWith, appended_bytes};
+    ghost use Rattle.kmipa_ttlv.specs.Input.{came_of, is_failed};
+    ghost use Rattle.kmipa_runs.specs.Inputs.{Writes};
+    ghost use Rattle.kmipa_record.specs.Declarations.{AreDeclared, declaration_of};
+    ghost use Rattle.kmipa_runs.specs.declared.status.Status.{Status};
+    ghost use Rattle.kmipa_segments.specs.Chaining.{IsNextOf};
+    ghost use Rattle.kmipa_session.specs.Checks.{Checks, ChecksInSegment};
+    ghost use Rattle.kmipa_session.specs.Searches.{Searches, SearchesInSegment, Shows};
+    ghost use Rattle.kmipa_session.specs.Worlds.{input_of, name_of};
+
+    /// The file with this name, over this reader, of which nothing was read.
+    pub fn over(name: &'n str, reader: R) -> Named<'n, R>
+        ensures name { name_of result ≡ name.now }
+        ensures fresh { came_of (input_of result) ≡ [] }
+    {
+        Named {
+            name,
+            input: Input::new(reader),
+        }
+    }
+
+    /// Checks three files, and tells it in this form.
+    pub fn check(
+        alloc: Global,
+        form: Form,
+        transcript: &mut Named<'_, R>,
+        declaration: &mut Named<'_, R>,
+        witness: &mut Named<'_, R>,
+    ) -> Said
+        requires transcript { came_of (input_of transcript.old) ≡ [] }
+        requires declaration { came_of (input_of declaration.old) ≡ [] }
+        requires witness { came_of (input_of witness.old) ≡ [] }
+        ensures checks { Checks form (input_of transcript.new) (input_of declaration.new) (input_of witness.new)
+            result.status result.lines.items }
+        ensures transcript { name_of transcript.new ≡ name_of transcript.old }
+        ensures declaration { name_of declaration.new ≡ name_of declaration.old }
+        ensures witness { name_of witness.new ≡ name_of witness.old }
+    {
+        let t = &mut transcript.input;
+        let d = &mut declaration.input;
+        let w = &mut witness.input;
+        match form {
+            Form::Lines => check_lines(alloc, t, d, w),
+            Form::Explained => check_explained(alloc, t, d, w),
+            Form::Json => check_object(alloc, t, d, w),
+            Form::ExplainedJson => check_explained_object(alloc, t, d, w),
+        }
+    }
+
+    /// Checks three files of a segment, from a moment on where one is given, and where it is asked for answers behind what is said the bytes of
+    /// the declaration that it leaves.
+    pub fn check_segment(
+        alloc: Global,
+        transcript: &mut Named<'_, R>,
+        declaration: &mut Named<'_, R>,
+        witness: &mut Named<'_, R>,
+        since: Option<i64>,
+        leaves: bool,
+    ) -> (Said, Vec<u8>)
+        requires transcript { came_of (input_of transcript.old) ≡ [] }
+        requires declaration { came_of (input_of declaration.old) ≡ [] }
+        requires witness { came_of (input_of witness.old) ≡ [] }
+        ensures checks { ChecksInSegment leaves since (input_of transcript.new) (input_of declaration.new) (input_of
+            witness.new)
+            result.0.status result.0.lines.items result.1.items }
+        ensures transcript { name_of transcript.new ≡ name_of transcript.old }
+        ensures declaration { name_of declaration.new ≡ name_of declaration.old }
+        ensures witness { name_of witness.new ≡ name_of witness.old }
+    {
+        check_left(
+            alloc,
+            &mut transcript.input,
+            &mut declaration.input,
+            &mut witness.input,
+            since,
+            leaves,
+        )
+    }
+
+    /// Looks for a witness of two files, tells it in this form, and answers behind what is said the bytes of the witness.
+    pub fn search<W: Watch>(
+        alloc: Global,
+        form: Form,
+        words: SearchWords,
+        transcript: &mut Named<'_, R>,
+        declaration: &mut Named<'_, R>,
+        watch: &mut W,
+    ) -> (Said, Vec<u8>)
+        requires transcript { came_of (input_of transcript.old) ≡ [] }
+        requires declaration { came_of (input_of declaration.old) ≡ [] }
+        ensures searches { Searches form words (input_of transcript.new) (input_of declaration.new)
+            result.0.status result.0.lines.items result.1.items }
+        ensures transcript { name_of transcript.new ≡ name_of transcript.old }
+        ensures declaration { name_of declaration.new ≡ name_of declaration.old }
+    {
+        let t = &mut transcript.input;
+        let d = &mut declaration.input;
+        match form {
+            Form::Lines => search_lines(alloc, words, t, d, watch),
+            Form::Explained => search_explained(alloc, words, t, d, watch),
+            Form::Json | Form::ExplainedJson => search_object(alloc, words, t, d, watch),
+        }
+    }
+
+    /// Looks for a witness of two files of a segment, from a moment on where one is given, and answers behind what is said the bytes of the
+    /// witness, and, where it is asked for, those of the declaration that it leaves.
+    pub fn search_segment<W: Watch>(
+        alloc: Global,
+        words: SearchWords,
+        transcript: &mut Named<'_, R>,
+        declaration: &mut Named<'_, R>,
+        since: Option<i64>,
+        leaves: bool,
+        watch: &mut W,
+    ) -> (Said, Vec<u8>, Vec<u8>)
+        requires transcript { came_of (input_of transcript.old) ≡ [] }
+        requires declaration { came_of (input_of declaration.old) ≡ [] }
+        ensures searches { SearchesInSegment words leaves since (input_of transcript.new) (input_of declaration.new)
+            result.0.status result.0.lines.items result.1.items result.2.items }
+        ensures transcript { name_of transcript.new ≡ name_of transcript.old }
+        ensures declaration { name_of declaration.new ≡ name_of declaration.old }
+    {
+        search_left(
+            alloc,
+            words,
+            &mut transcript.input,
+            &mut declaration.input,
+            since,
+            leaves,
+            watch,
+        )
+    }
+
+    /// Prints the items of the file.
+    pub fn show<P: Printer>(
+        &mut self,
+        alloc: Global,
+        options: ShowOptions,
+        printer: P,
+    ) -> (P, Result<Status, Unprinted>)
+        requires { came_of (input_of self.old) ≡ [] }
+        ensures name { name_of self.new ≡ name_of self.old }
+        ensures shows { IfOk result.1 (λ said. Shows options (input_of self.new) said
+            (appended_bytes (P.printed printer) (P.printed result.0))) }
+        ensures appends { OnOk result.1 (StartsWith (P.printed result.0) (P.printed printer)) }
+        ensures own { OnErr result.1 (IsTrue (P.has_failed result.0)) }
+    {
+        show_run(alloc, &mut self.input, options, printer)
+    }
+
+    /// Makes items of the digits of the file, and answers behind what is said their bytes.
+    pub fn write(&mut self, alloc: Global) -> (Said, Vec<u8>)
+        requires { came_of (input_of self.old) ≡ [] }
+        ensures writes { Writes (came_of (input_of self.new)) (is_failed (input_of self.new))
+            result.0.status result.0.lines.items result.1.items }
+        ensures name { name_of self.new ≡ name_of self.old }
+    {
+        write_items(alloc, &mut self.input)
+    }
+    /// The chain of no segments, from the declaration that the file is. Where it is none, appends the line of its first fault, and answers the
+    /// status.
+    pub fn begin(&mut self, alloc: Global, lines: &mut Vec<u8>) -> Result<Chain, Status>
+        requires { came_of (input_of self.old) ≡ [] }
+        ensures declared { IfOk result (λ chain. AreDeclared (declaration_of chain.held.declaration)) }
+    {
+        chain_begin(alloc, &mut self.input, lines)
+    }
+
+    /// Judges the next segment of a chain by its witness, and appends its name and its lines.
+    pub fn check_next(
+        alloc: Global,
+        chain: &mut Chain,
+        name: &str,
+        transcript: &mut Named<'_, R>,
+        witness: &mut Named<'_, R>,
+        lines: &mut Vec<u8>,
+    ) -> Status
+        requires declared { AreDeclared (declaration_of chain.old.held.declaration) }
+        requires transcript { came_of (input_of transcript.old) ≡ [] }
+        requires witness { came_of (input_of witness.old) ≡ [] }
+        ensures joins { result ≡ Status.Done → IsNextOf chain.old.held chain.new.held
+            (record {
+              transcript = came_of (input_of transcript.new);
+              witness = Some (came_of (input_of witness.new));
+            }) }
+        ensures declared { AreDeclared (declaration_of chain.new.held.declaration) }
+    {
+        chain_check(
+            alloc,
+            chain,
+            name,
+            &mut transcript.input,
+            &mut witness.input,
+            lines,
+        )
+    }
+
+    /// Judges the next segment of a chain, of which this is the transcript, by a witness that is searched for, and appends its name and its lines.
+    pub fn search_next<W: Watch>(
+        &mut self,
+        alloc: Global,
+        chain: &mut Chain,
+        name: &str,
+        budget: u64,
+        watch: &mut W,
+        lines: &mut Vec<u8>,
+    ) -> Status
+        requires declared { AreDeclared (declaration_of chain.old.held.declaration) }
+        requires fresh { came_of (input_of self.old) ≡ [] }
+        ensures joins { result ≡ Status.Done → IsNextOf chain.old.held chain.new.held
+            (record { transcript = came_of (input_of self.new); witness = None }) }
+        ensures declared { AreDeclared (declaration_of chain.new.held.declaration) }
+    {
+        chain_search(alloc, chain, name, &mut self.input, budget, watch, lines)
+    }
+
+    /// Holds the declaration that the file is against what a chain holds, and appends its name and its lines.
+    pub fn compare(
+        &mut self,
+        alloc: Global,
+        chain: &Chain,
+        name: &str,
+        lines: &mut Vec<u8>,
+    ) -> Status
+        requires { came_of (input_of self.old) ≡ [] }
+    {
+        chain_compare(alloc, chain, name, &mut self.input, lines)
+    }
+}

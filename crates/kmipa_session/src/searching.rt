@@ -1,0 +1,287 @@
+//! Searches of files: of whole ones, in each form, or of a segment.
+
+ghost use Rattle.std.specs.Prelude.{◌≡◌, ◌⊎◌, IfOk, Some};
+ghost use Rattle.kmipa_session.specs.Jobs.{asked_of};
+ghost use Rattle.kmipa_session.specs.Sessions.{HasSearched, HasSearchedSegment, IsMade, IsMadeAsAsked, IsRefused, IsUntold, RunsSearch, TellsWhat};
+ghost use Rattle.kmipa_session.specs.Printing.{voice_of};
+ghost use Rattle.kmipa_session.specs.declared.job.Asked.TheVariants.{Segment};
+ghost use Rattle.kmipa_session.specs.declared.voice.Voice.TheVariants.{Lines};
+
+use crate::checking::{NoMoment, mistaken, moment_of, test_leaves, test_left};
+use crate::did::{Did, Said, Session};
+use crate::job::{Asked, Form, FormWords, SearchWords, SegmentWords, asked_of};
+use crate::named::Named;
+use crate::telling::{tell_done, tell_mixed};
+use crate::voice::{Voice, voice_of};
+use crate::world::{Content, Out, World};
+use kmipa_runs::Status;
+use std::alloc::Global;
+
+/// Looks for a witness of two files as the options ask for it, makes the third file of it, and prints what is said.
+pub fn run_search<'n, W: World, O: Out>(
+    alloc: Global,
+    world: &W,
+    out: O,
+    transcript: &'n str,
+    declaration: &'n str,
+    witness: &str,
+    words: SearchWords,
+    form: FormWords,
+    segment: SegmentWords<'_>,
+    watched: bool,
+) -> Session<'n, O, W::File, W::Made, W::Refusal>
+    ensures { RunsSearch W.made W.lacked transcript.entry.now declaration.entry.now witness.now words (asked_of form
+        segment.entry) segment.entry
+        result.did (O.printed out) (O.printed result.out) (O.has_failed result.out) result.status }
+{
+    let mut watch = world.watch(words.budget, watched && !words.quiet);
+    match asked_of(form, segment) {
+        Some(asked) => run_asked_search(
+            alloc,
+            world,
+            out,
+            transcript,
+            declaration,
+            witness,
+            words,
+            asked,
+            segment,
+            &mut watch,
+        ),
+        None => tell_mixed(world, out),
+    }
+}
+
+fn run_asked_search<'n, W: World, O: Out>(
+    alloc: Global,
+    world: &W,
+    out: O,
+    transcript: &'n str,
+    declaration: &'n str,
+    witness: &str,
+    words: SearchWords,
+    asked: Asked,
+    segment: SegmentWords<'_>,
+    watch: &mut W::Watcher,
+) -> Session<'n, O, W::File, W::Made, W::Refusal>
+    ensures { RunsSearch W.made W.lacked transcript.entry.now declaration.entry.now witness.now words (Some asked)
+        segment.entry
+        result.did (O.printed out) (O.printed result.out) (O.has_failed result.out) result.status }
+{
+    match asked {
+        Asked::Files(form) => run_whole_search(
+            alloc,
+            world,
+            out,
+            transcript,
+            declaration,
+            witness,
+            words,
+            form,
+            watch,
+        ),
+        Asked::Segment => run_segment_search(
+            alloc,
+            world,
+            out,
+            transcript,
+            declaration,
+            witness,
+            words,
+            segment,
+            watch,
+        ),
+    }
+}
+
+/// Looks for a witness of two whole files, and prints what is said in this form.
+fn run_whole_search<'n, W: World, O: Out>(
+    alloc: Global,
+    world: &W,
+    out: O,
+    transcript: &'n str,
+    declaration: &'n str,
+    witness: &str,
+    words: SearchWords,
+    form: Form,
+    watch: &mut W::Watcher,
+) -> Session<'n, O, W::File, W::Made, W::Refusal>
+    ensures { TellsWhat W.made W.lacked (voice_of form) (HasSearched W.made W.lacked transcript.entry.now
+        declaration.entry.now witness.now form words)
+        result.did (O.printed out) (O.printed result.out) (O.has_failed result.out) result.status }
+{
+    let done = search_files(
+        alloc,
+        world,
+        transcript,
+        declaration,
+        witness,
+        form,
+        words,
+        watch,
+    );
+    tell_done(world, out, voice_of(form), done)
+}
+
+/// Looks for a witness of two files of a segment, and prints what is said.
+fn run_segment_search<'n, W: World, O: Out>(
+    alloc: Global,
+    world: &W,
+    out: O,
+    transcript: &'n str,
+    declaration: &'n str,
+    witness: &str,
+    words: SearchWords,
+    segment: SegmentWords<'_>,
+    watch: &mut W::Watcher,
+) -> Session<'n, O, W::File, W::Made, W::Refusal>
+    ensures { RunsSearch W.made W.lacked transcript.entry.now declaration.entry.now witness.now words (Some Segment)
+        segment.entry
+        result.did (O.printed out) (O.printed result.out) (O.has_failed result.out) result.status }
+{
+    let done = search_segment(
+        alloc,
+        world,
+        transcript,
+        declaration,
+        witness,
+        words,
+        segment,
+        watch,
+    );
+    tell_done(world, out, Voice::Lines, done)
+}
+
+/// Opens two files in the order in which they were named, and looks for a witness of them. Where the status is not `Done` nothing is made.
+fn search_files<'n, W: World>(
+    alloc: Global,
+    world: &W,
+    transcript: &'n str,
+    declaration: &'n str,
+    witness: &str,
+    form: Form,
+    words: SearchWords,
+    watch: &mut W::Watcher,
+) -> Result<(Said, Did<'n, W::File, W::Made, W::Refusal>), W::Refusal>
+    ensures { IfOk result (λ done.
+        HasSearched W.made W.lacked transcript.entry.now declaration.entry.now witness.now form words done.1
+        done.0.status done.0.lines.items
+        ⊎ IsRefused W.made W.lacked (voice_of form) done.1 done.0.status done.0.lines.items) }
+{
+    let names = [transcript, declaration];
+    if let Err(refusal) = world.test_distinct(witness, &names) {
+        return Ok((mistaken(alloc), Did::Refused(refusal)));
+    }
+    let mut transcript = world.open(transcript)?;
+    let mut declaration = world.open(declaration)?;
+    world.test_output(witness)?;
+    let (said, made) = Named::search(alloc, form, words, &mut transcript, &mut declaration, watch);
+    if said.status == Status::Refused {
+        world.hint_kind(&names, &said.lines);
+    }
+    let file = make_when_done(world, witness, &made, said.status)?;
+    Ok((said, Did::Searched(transcript, declaration, file)))
+}
+
+/// Makes a file where the status is `Done`.
+pub fn make_when_done<W: World>(
+    world: &W,
+    name: &str,
+    bytes: &[u8],
+    status: Status,
+) -> Result<Option<W::Made>, W::Refusal>
+    ensures { IfOk result (λ file. IsMade W.made name.now bytes.now status file) }
+{
+    match status {
+        Status::Done => Ok(Some(world.make(Content { name, bytes })?)),
+        _ => Ok(None),
+    }
+}
+
+/// The same of a segment: from a moment on, where one is given, and with the declaration that its run leaves, where that is asked for.
+fn search_segment<'n, W: World>(
+    alloc: Global,
+    world: &W,
+    transcript: &'n str,
+    declaration: &'n str,
+    witness: &str,
+    words: SearchWords,
+    segment: SegmentWords<'_>,
+    watch: &mut W::Watcher,
+) -> Result<(Said, Did<'n, W::File, W::Made, W::Refusal>), W::Refusal>
+    ensures { IfOk result (λ done.
+        (HasSearchedSegment W.made W.lacked transcript.entry.now declaration.entry.now witness.now words segment.entry
+        done.1 done.0.status done.0.lines.items
+        ⊎ IsUntold segment.entry done.1 done.0.status done.0.lines.items)
+        ⊎ IsRefused W.made W.lacked Lines done.1 done.0.status done.0.lines.items) }
+{
+    let since = match moment_of(world, segment.not_before) {
+        Ok(since) => since,
+        Err(NoMoment) => return Ok((mistaken(alloc), Did::Nothing)),
+    };
+    let names = [transcript, declaration];
+    if let Err(refusal) = test_outputs(world, witness, segment.leaves, &names) {
+        return Ok((mistaken(alloc), Did::Refused(refusal)));
+    }
+    let mut transcript = world.open(transcript)?;
+    let mut declaration = world.open(declaration)?;
+    world.test_output(witness)?;
+    test_leaves(world, segment.leaves)?;
+    let (said, made, left) = Named::search_segment(
+        alloc,
+        words,
+        &mut transcript,
+        &mut declaration,
+        since,
+        segment.leaves.is_some(),
+        watch,
+    );
+    if said.status == Status::Refused {
+        world.hint_kind(&names, &said.lines);
+    }
+    let (file, more) = make_files(world, witness, &made, segment.leaves, &left, said.status)?;
+    Ok((
+        said,
+        Did::SearchedSegment(transcript, declaration, file, more),
+    ))
+}
+
+/// Tests that no output is an input too, and that both are not one file.
+fn test_outputs<W: World>(
+    world: &W,
+    witness: &str,
+    leaves: Option<&str>,
+    inputs: &[&str],
+) -> Result<(), W::Refusal> {
+    world.test_distinct(witness, inputs)?;
+    test_left(world, leaves, inputs)?;
+    match leaves {
+        Some(left) => world.test_two(witness, left),
+        None => Ok(()),
+    }
+}
+
+/// Makes the files of a witness, and of what its run leaves where that is asked for, where the status is `Done`: both whole, or neither.
+fn make_files<W: World>(
+    world: &W,
+    witness: &str,
+    made: &[u8],
+    leaves: Option<&str>,
+    left: &[u8],
+    status: Status,
+) -> Result<(Option<W::Made>, Option<W::Made>), W::Refusal>
+    ensures witness { IfOk result (λ files. IsMade W.made witness.now made.now status files.0) }
+    ensures left { IfOk result (λ files. IsMadeAsAsked W.made leaves.entry left.now status files.1) }
+{
+    match leaves {
+        Some(name) if status == Status::Done => {
+            let one = Content {
+                name: witness,
+                bytes: made,
+            };
+            let (one, other) = world.make_both(one, Content { name, bytes: left })?;
+            Ok((Some(one), Some(other)))
+        }
+        _ => Ok((make_when_done(world, witness, made, status)?, None)),
+    }
+}

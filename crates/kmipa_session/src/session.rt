@@ -1,0 +1,79 @@
+//! A job is done in a world, and its lines are printed.
+
+ghost use Rattle.std.specs.Prelude.{◌≡◌};
+ghost use Rattle.kmipa_session.specs.Sessions.{RunsJob};
+
+use crate::chaining::{ChainWords, run_chain};
+use crate::checking::run_check;
+use crate::did::Session;
+use crate::job::Job;
+use crate::searching::run_search;
+use crate::showing::{run_show, run_write};
+use crate::world::{Out, World};
+use std::alloc::Global;
+
+/// Opens the files of a job, in the order in which they were named, makes those that it makes, prints its lines, and answers the status to end
+/// with. Where standard error is `watched` by somebody, a long search tells there how far it got.
+pub fn run_job<'n, W: World, O: Out>(
+    alloc: Global,
+    world: &W,
+    out: O,
+    job: &Job<'n>,
+    watched: bool,
+) -> Session<'n, O, W::File, W::Made, W::Refusal>
+    ensures { RunsJob W.made W.lacked job.now result.did (O.printed out) (O.printed result.out) (O.has_failed
+        result.out) result.status }
+{
+    match *job {
+        Job::Check {
+            transcript,
+            declaration,
+            witness,
+            form,
+            segment,
+        } => run_check(
+            alloc,
+            world,
+            out,
+            transcript,
+            declaration,
+            witness,
+            form,
+            segment,
+        ),
+        Job::Search {
+            transcript,
+            declaration,
+            out: witness,
+            search,
+            form,
+            segment,
+        } => run_search(
+            alloc,
+            world,
+            out,
+            transcript,
+            declaration,
+            witness,
+            search,
+            form,
+            segment,
+            watched,
+        ),
+        Job::Chain {
+            folder,
+            budget,
+            quiet,
+            leaves,
+        } => {
+            let words = ChainWords {
+                budget,
+                watched: watched && !quiet,
+                leaves,
+            };
+            run_chain(alloc, world, out, folder, words)
+        }
+        Job::Show { file, options } => run_show(alloc, world, out, file, options),
+        Job::Write { hex, out: made } => run_write(alloc, world, out, hex, made),
+    }
+}
