@@ -1,0 +1,13 @@
+pub mod ItemTypes
+pub mod Demands
+pub mod HeaderDemands
+pub mod AskedDemands
+pub mod SharedDemands
+pub mod DoneDemands
+pub mod Tables
+pub mod Told
+pub mod Requests
+pub mod Responses
+pub mod Messages
+pub mod Explaining
+pub mod Laws
