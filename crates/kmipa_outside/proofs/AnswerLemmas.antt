@@ -40,11 +40,11 @@ use Rattle.kmipa_outside.specs.declared.shown.Shown.{Shown}
 use Rattle.kmipa_outside.specs.declared.shown.Shown.TheVariants.{Unread, Unjudged, Judged}
 use Rattle.kmipa_outside.specs.declared.types.ItemType.TheVariants as type
 use Rattle.kmipa_outside.proofs.FailLemmas.{Fail, FailAt, at_first, of_first, decides_structure, decides_enumeration, wrong, fails_wrong, needed, fails_needed}
-use Rattle.kmipa_outside.proofs.FindLemmas.{any_left, any_right, done_demanded}
+use Rattle.kmipa_outside.proofs.FindLemmas.{done_demanded}
 use Rattle.kmipa_outside.proofs.HeaderLemmas.{response_header_reasons, response_header_finds}
 use Rattle.kmipa_outside.proofs.NumberLemmas.{IsOfNumbers, number, fails_number, of_numbers}
 use Rattle.kmipa_outside.proofs.ReasonLemmas.{done_reasons}
-use Rattle.kmipa_outside.proofs.ToldLemmas.{any_reason, any_split, both_told, each_from, each_to, told_both}
+use Rattle.kmipa_outside.proofs.ToldLemmas.{any_left, any_reason, any_right, any_split, both_told, each_from, each_to, told_both}
 
 -- ---- the status
 

@@ -19,7 +19,8 @@ use Rattle.kmipa_msgs.specs.Outside.{EachFault}
 use Rattle.kmipa_msgs.specs.Operations.{operation_of, is_judged}
 use Rattle.kmipa_msgs.specs.Requests.{is_without_order}
 use Rattle.kmipa_msgs.specs.Tables.{children}
-use Rattle.kmipa_outside.specs.Demands.{wants}
+use Rattle.kmipa_outside.specs.AgreementDemands.{agreement_demands}
+use Rattle.kmipa_outside.specs.Demands.{Fails, wants}
 use Rattle.kmipa_outside.specs.HeaderDemands.{request_header_demands}
 use Rattle.kmipa_outside.specs.Laws.{AnyOf, IsBroken, RequestFieldsAreReasons, RequestReasonsHaveFields}
 use Rattle.kmipa_outside.specs.Requests.{ask_demands, form_demands, header_demand, is_on_object, item_told, naming_demands, of_item, payload_demands, request_fields}
@@ -28,10 +29,11 @@ use Rattle.kmipa_outside.specs.declared.demand.Demand.{Demand}
 use Rattle.kmipa_outside.specs.declared.demand.Wanted.TheVariants as wanted
 use Rattle.kmipa_outside.specs.declared.types.ItemType.TheVariants as type
 use Rattle.kmipa_outside.proofs.FailLemmas.{Fail, decides_structure, decides_enumeration, wrong, fails_wrong, needed, fails_needed, fails_none}
-use Rattle.kmipa_outside.proofs.FindLemmas.{any_left, any_right, asked_demanded}
+use Rattle.kmipa_outside.proofs.AgreementLemmas.{agreement_reasons, of_disagree}
+use Rattle.kmipa_outside.proofs.FindLemmas.{asked_demanded}
 use Rattle.kmipa_outside.proofs.HeaderLemmas.{request_header_reasons, request_header_finds}
 use Rattle.kmipa_outside.proofs.ReasonLemmas.{asked_reasons}
-use Rattle.kmipa_outside.proofs.ToldLemmas.{any_reason, any_split, both_told, each_from, each_to, told_both}
+use Rattle.kmipa_outside.proofs.ToldLemmas.{any_left, any_reason, any_right, any_split, both_told, each_from, each_to, told_both}
 
 -- one demand, if it is there
 only_if : (b : Bool) (P : Demand → Type 0) (d : Demand) → AnyOf P (cond b (d ∷ []) []) → (b ≡ true) × P d
@@ -64,19 +66,29 @@ module _ (unordered : Bool) (t : Tree) (k : OutsideKind) where
       let P : Field ℕ → Type 0 = λ f. TellsOperation f (operation_of n) in
       item.in_ask (ask.in_payload (operation_of n) (subst P (sym e) refl) g.0 (sym g.1.0) (wrong as_structure type.Structure decides_structure request_payload (children t) g.1.1))
 
-  -- what fails of its payload
-  payload_reasons : (k ≡ Unordered → ⊥) → (f : Field ℕ) → at as_enumeration operation_tag (children t) ≡ f → AnyOf (IsBroken k (inside request_payload (children t))) (payload_demands unordered f)
-      → ItemFault unordered t k
-  payload_reasons other Absent e h = absurd h
-  payload_reasons other Wrong e h = absurd h
-  payload_reasons other (There n) e h =
-      let P : Field ℕ → Type 0 = λ f. TellsOperation f (operation_of n) in
-      elim (any_split (IsBroken k (inside request_payload (children t))) (asked_demands (operation_of n)) (naming_demands unordered (operation_of n)) h) [
-        | inl g ↦ item.in_ask (ask.in_asked (operation_of n) (subst P (sym e) refl)
-            (any_reason (AskedFault (operation_of n) (inside request_payload (children t))) (inside request_payload (children t)) k (asked_demands (operation_of n))
-            (asked_reasons (operation_of n) (inside request_payload (children t))) g))
-        | inr g ↦ let w = only_if (unordered && is_on_object (operation_of n)) (IsBroken k (inside request_payload (children t))) _ g in absurd (other (sym w.1.0))
+  -- what fails of its payload; of `Disagree` where the item has no other fault
+  payload_reasons : (k ≡ Unordered → ⊥) → (k ≡ Disagree → (j : OutsideKind) → ItemFault unordered t j → j ≡ Disagree) → (f : Field ℕ) → at as_enumeration operation_tag (children t) ≡ f
+      → AnyOf (IsBroken k (inside request_payload (children t))) (payload_demands unordered f (inside request_payload (children t))) → ItemFault unordered t k
+  payload_reasons other only Absent e h = absurd h
+  payload_reasons other only Wrong e h = absurd h
+  payload_reasons other only (There n) e h =
+      let us = inside request_payload (children t) in
+      let o = operation_of n in
+      let P : Field ℕ → Type 0 = λ f. TellsOperation f o in
+      let tells : TellsOperation (at as_enumeration operation_tag (children t)) o = subst P (sym e) refl in
+      elim (any_split (IsBroken k us) (asked_demands o) (naming_demands unordered o ++ agreement_demands o us) h) [
+        | inl g ↦ item.in_ask (ask.in_asked o tells (any_reason (AskedFault o us) us k (asked_demands o) (asked_reasons o us) g))
+        | inr g ↦ elim (any_split (IsBroken k us) (naming_demands unordered o) (agreement_demands o us) g) [
+          | inl m ↦ let w = only_if (unordered && is_on_object o) (IsBroken k us) _ m in absurd (other (sym w.1.0))
+          | inr m ↦ agreement_reason o tells (of_disagree o us k m)
+        ]
       ]
+    where
+      agreement_reason : (o : Operation) → TellsOperation (at as_enumeration operation_tag (children t)) o
+          → (k ≡ Disagree) × AnyOf (λ (d : Demand). Fails d (inside request_payload (children t))) (agreement_demands o (inside request_payload (children t))) → ItemFault unordered t k
+      agreement_reason o tells w =
+          let F : OutsideKind → Type 0 = λ j. AskedFault o (inside request_payload (children t)) j in
+          item.in_ask (ask.in_asked o tells (subst F (sym w.0) (agreement_reasons o (inside request_payload (children t)) (λ j f. only w.0 j (item.in_ask (ask.in_asked o tells f))) w.1)))
 
   -- and the other way
   own_finds : (f : Field ℕ) → NeededFault f Missing Missing k → (Missing ≡ k) × Fail (wanted.Typed type.Enumeration) operation_tag (children t) → AnyOf (IsBroken k (children t)) (ask_demands f)
@@ -90,22 +102,29 @@ module _ (unordered : Bool) (t : Tree) (k : OutsideKind) where
   form_finds Wrong o tells judged g = absurd tells
   form_finds (There n) o tells judged g = one_if (is_judged (operation_of n)) (IsBroken k (children t)) _ (ap is_judged (sym tells) ∙ judged) (g.0, g.1)
 
-  asked_finds : (k ≡ Disagree → ⊥) → (f : Field ℕ) (o : Operation) → TellsOperation f o → AskedFault o (inside request_payload (children t)) k
-      → AnyOf (IsBroken k (inside request_payload (children t))) (payload_demands unordered f)
-  asked_finds other Absent o tells w = absurd tells
-  asked_finds other Wrong o tells w = absurd tells
-  asked_finds other (There n) o tells w =
-      let P : Operation → Type 0 = λ p. AskedFault p (inside request_payload (children t)) k in
-      any_left (IsBroken k (inside request_payload (children t))) (asked_demands (operation_of n)) (naming_demands unordered (operation_of n))
-      (asked_demanded (operation_of n) (inside request_payload (children t)) k other (subst P tells w))
+  asked_finds : (f : Field ℕ) (o : Operation) → TellsOperation f o → AskedFault o (inside request_payload (children t)) k
+      → AnyOf (IsBroken k (inside request_payload (children t))) (payload_demands unordered f (inside request_payload (children t)))
+  asked_finds Absent o tells w = absurd tells
+  asked_finds Wrong o tells w = absurd tells
+  asked_finds (There n) o tells w =
+      let us = inside request_payload (children t) in
+      let p = operation_of n in
+      let P : Operation → Type 0 = λ q. AskedFault q us k in
+      elim (any_split (IsBroken k us) (asked_demands p) (agreement_demands p us) (asked_demanded p us k (subst P tells w))) [
+        | inl g ↦ any_left (IsBroken k us) (asked_demands p) (naming_demands unordered p ++ agreement_demands p us) g
+        | inr g ↦ any_right (IsBroken k us) (asked_demands p) (naming_demands unordered p ++ agreement_demands p us) (any_right (IsBroken k us) (naming_demands unordered p) (agreement_demands p us) g)
+      ]
 
   naming_finds : (f : Field ℕ) (o : Operation) → TellsOperation f o → unordered ≡ true → is_on_object o ≡ true → (Unordered ≡ k) × Fail wanted.There unique_identifier (inside request_payload (children t))
-      → AnyOf (IsBroken k (inside request_payload (children t))) (payload_demands unordered f)
+      → AnyOf (IsBroken k (inside request_payload (children t))) (payload_demands unordered f (inside request_payload (children t)))
   naming_finds Absent o tells loose on g = absurd tells
   naming_finds Wrong o tells loose on g = absurd tells
   naming_finds (There n) o tells loose on g =
-      any_right (IsBroken k (inside request_payload (children t))) (asked_demands (operation_of n)) (naming_demands unordered (operation_of n))
-      (one_if (unordered && is_on_object (operation_of n)) (IsBroken k (inside request_payload (children t))) _ (and_true unordered _ loose (ap is_on_object (sym tells) ∙ on)) (g.0, g.1))
+      let us = inside request_payload (children t) in
+      let p = operation_of n in
+      any_right (IsBroken k us) (asked_demands p) (naming_demands unordered p ++ agreement_demands p us)
+      (any_left (IsBroken k us) (naming_demands unordered p) (agreement_demands p us)
+      (one_if (unordered && is_on_object p) (IsBroken k us) _ (and_true unordered _ loose (ap is_on_object (sym tells) ∙ on)) (g.0, g.1)))
 
 -- ---- the ID Placeholder
 
@@ -143,22 +162,23 @@ on_object (operation.Other n) us a s e = let h : false ≡ true = sym (ap means_
 
 -- ---- an item
 
-item_reasons : (unordered : Bool) (t : Tree) (k : OutsideKind) → (k ≡ Unordered → ⊥) → item_told unordered k t ≢ [] → ItemFault unordered t k
-item_reasons unordered t k other h =
+item_reasons : (unordered : Bool) (t : Tree) (k : OutsideKind) → (k ≡ Unordered → ⊥) → (k ≡ Disagree → (j : OutsideKind) → ItemFault unordered t j → j ≡ Disagree) → item_told unordered k t ≢ []
+    → ItemFault unordered t k
+item_reasons unordered t k other only h =
     let f = at as_enumeration operation_tag (children t) in
-    elim (told_both k (children t) None (Some request_payload) (ask_demands f) (payload_demands unordered f) h) [
+    elim (told_both k (children t) None (Some request_payload) (ask_demands f) (payload_demands unordered f (inside request_payload (children t))) h) [
       | inl g ↦ own_reasons unordered t k f refl g
-      | inr g ↦ payload_reasons unordered t k other f refl g
+      | inr g ↦ payload_reasons unordered t k other only f refl g
     ]
 
-item_finds : (unordered : Bool) (t : Tree) (k : OutsideKind) → (k ≡ Disagree → ⊥) → ItemFault unordered t k → item_told unordered k t ≢ []
-item_finds unordered t k other w =
+item_finds : (unordered : Bool) (t : Tree) (k : OutsideKind) → ItemFault unordered t k → item_told unordered k t ≢ []
+item_finds unordered t k w =
     let f = at as_enumeration operation_tag (children t) in
-    both_told k (children t) None (Some request_payload) (ask_demands f) (payload_demands unordered f) (elim w [
+    both_told k (children t) None (Some request_payload) (ask_demands f) (payload_demands unordered f (inside request_payload (children t))) (elim w [
       | item.in_ask a ↦ elim a [
         | ask.in_operation x ↦ inl (own_finds unordered t k f x (fails_needed as_enumeration type.Enumeration decides_enumeration operation_tag (children t) Missing k x))
         | ask.in_payload o tells judged e x ↦ inl (form_finds unordered t k f o tells judged (sym e, fails_wrong as_structure type.Structure decides_structure request_payload (children t) x))
-        | ask.in_asked o tells x ↦ inr (asked_finds unordered t k other f o tells x)
+        | ask.in_asked o tells x ↦ inr (asked_finds unordered t k f o tells x)
       ]
       | item.in_order e loose a said means ↦
           let g = on_object said.operation (inside request_payload (children t)) a.asked said.asked means in
@@ -168,17 +188,19 @@ item_finds unordered t k other w =
 -- ---- a request
 
 pub request_reasons : RequestFieldsAreReasons
-request_reasons t zero k other h =
+request_reasons t zero k other only h =
     request_header_reasons t k (told_both k (children t) None (Some request_header_tag) (header_demand request_header_tag ∷ []) (request_header_demands (length (batch t))) h)
-request_reasons t (suc place) k other h = by (slice_get (batch t) place) refl h
+request_reasons t (suc place) k other only h = by (slice_get (batch t) place) refl h
   where
     by : (o : Option Tree) → slice_get (batch t) place ≡ o → of_item (item_told (is_without_order t) k) o ≢ [] → EachFault (λ place. ItemFault (is_without_order t)) (batch t) place k
     by None e h = absurd (h refl)
-    by (Some x) e h = each_to (λ i. ItemFault (is_without_order t)) (batch t) place k x e (item_reasons (is_without_order t) x k other h)
+    by (Some x) e h =
+        each_to (λ i. ItemFault (is_without_order t)) (batch t) place k x e
+        (item_reasons (is_without_order t) x k other (λ w j f. only w j (each_to (λ i. ItemFault (is_without_order t)) (batch t) place j x e f)) h)
 
 pub request_finds : RequestReasonsHaveFields
-request_finds t zero k other own w e =
+request_finds t zero k own w e =
     both_told k (children t) None (Some request_header_tag) (header_demand request_header_tag ∷ []) (request_header_demands (length (batch t))) (request_header_finds t k own w) e
-request_finds t (suc place) k other own w e =
+request_finds t (suc place) k own w e =
     let g = each_from (λ i. ItemFault (is_without_order t)) (batch t) place k w in
-    item_finds (is_without_order t) g.0 k other g.2 (sym (ap (of_item (item_told (is_without_order t) k)) g.1) ∙ e)
+    item_finds (is_without_order t) g.0 k g.2 (sym (ap (of_item (item_told (is_without_order t) k)) g.1) ∙ e)

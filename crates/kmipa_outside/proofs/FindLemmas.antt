@@ -23,9 +23,9 @@ use Rattle.kmipa_msgs.specs.declared.operation.Operation.TheVariants as operatio
 use Rattle.kmipa_msgs.specs.AttributeFields.{GivenFault}
 use Rattle.kmipa_msgs.specs.Asks.{AskedFault}
 use Rattle.kmipa_msgs.specs.Payloads.{DoneFault}
-use Rattle.kmipa_msgs.specs.Creates.{CreateFault, created_of}
+use Rattle.kmipa_msgs.specs.Creates.{CreateFault, DisagreeingCreate, created_of}
 use Rattle.kmipa_msgs.specs.Creates.{CreateFault as create}
-use Rattle.kmipa_msgs.specs.Registers.{RegisterFault, RegisteredFault}
+use Rattle.kmipa_msgs.specs.Registers.{Disagreeing, RegisterFault, RegisteredFault}
 use Rattle.kmipa_msgs.specs.Registers.{RegisterFault as register}
 use Rattle.kmipa_msgs.specs.Registers.{RegisteredFault as registered}
 use Rattle.kmipa_msgs.specs.Locates.{LocateFault, LocatedFault}
@@ -55,18 +55,12 @@ use Rattle.kmipa_outside.specs.declared.demand.Wanted.{Wanted}
 use Rattle.kmipa_outside.specs.declared.demand.Wanted.TheVariants as wanted
 use Rattle.kmipa_outside.specs.declared.types.ItemType.{ItemType}
 use Rattle.kmipa_outside.specs.declared.types.ItemType.TheVariants as type
+use Rattle.kmipa_outside.specs.AgreementDemands.{agreement_demands}
+use Rattle.kmipa_outside.specs.Tables.{asked_demands}
+use Rattle.kmipa_outside.proofs.AgreementLemmas.{create_disagrees, register_disagrees}
+use Rattle.kmipa_outside.proofs.ToldLemmas.{any_left, any_right}
 use Rattle.kmipa_outside.proofs.FailLemmas.{Decides, Fail, decides_structure, decides_integer, decides_enumeration, decides_text, decides_bytes, decides_date, fails_wrong, fails_either, fails_needed, fails_there, fails_none}
 use Rattle.kmipa_outside.proofs.NumberLemmas.{fails_unlisted, fails_each, fails_name, fails_repeated}
-
--- ---- lists
-
-pub any_left : {A : Type 0} (P : A → Type 0) (xs ys : List A) → AnyOf P xs → AnyOf P (xs ++ ys)
-any_left P [] ys h = absurd h
-any_left P (x ∷ xs) ys h = elim h [ inl p ↦ inl p | inr q ↦ inr (any_left P xs ys q) ]
-
-pub any_right : {A : Type 0} (P : A → Type 0) (xs ys : List A) → AnyOf P ys → AnyOf P (xs ++ ys)
-any_right P [] ys h = h
-any_right P (x ∷ xs) ys h = inr (any_right P xs ys h)
 
 -- ---- attributes
 
@@ -186,27 +180,27 @@ object_finds ts k h = object_finds_at (object_in ts) k h
 
 -- ---- what is asked
 
-create_finds : (ts : Trees) (k : OutsideKind) → (k ≡ Disagree → ⊥) → CreateFault ts k → AnyOf (IsBroken k ts) (create_demands ++ (attribute_demands ++ client_demands))
-create_finds ts k other f = elim f [
-  | create.in_object_type w ↦ let g = fails_needed as_enumeration type.Enumeration decides_enumeration object_type_tag ts Missing k w in inl (g.0, g.1)
-  | create.in_type_number e w ↦ inr (inl (sym e, fails_unlisted numbers.CreatedType created_of (λ m. refl) object_type_tag ts w))
-  | create.in_attributes w ↦ elim (given_finds Client k (attribute_demands ++ client_demands) (λ us. client_finds us k) (at as_structure attributes_tag ts) w) [ inl h ↦ inr (inr (inl (sym h.0, fails_wrong as_structure type.Structure decides_structure attributes_tag ts h.1))) | inr h ↦ any_right (IsBroken k ts) create_demands (attribute_demands ++ client_demands) h ]
-  | create.in_attribute_type e w ↦ inr (inr (inr (inl (sym e, fails_unlisted numbers.ObjectTypes type_of (λ m. refl) object_type_tag (inside attributes_tag ts) w))))
-  | create.in_algorithm e w ↦ inr (inr (inr (inr (inl (sym e, fails_none cryptographic_algorithm (inside attributes_tag ts) w)))))
-  | create.in_length e w ↦ inr (inr (inr (inr (inr (inl (sym e, fails_none cryptographic_length (inside attributes_tag ts) w))))))
-  | create.in_mask e w ↦ inr (inr (inr (inr (inr (inr (inl (sym e, fails_none cryptographic_usage_mask (inside attributes_tag ts) w)))))))
-  | create.in_agreement e w ↦ absurd (other e)
+create_finds : (ts : Trees) (k : OutsideKind) → CreateFault ts k → AnyOf (IsBroken k ts) (create_demands ++ (attribute_demands ++ client_demands)) ⊎ ((k ≡ Disagree) × DisagreeingCreate ts)
+create_finds ts k f = elim f [
+  | create.in_object_type w ↦ let g = fails_needed as_enumeration type.Enumeration decides_enumeration object_type_tag ts Missing k w in inl (inl (g.0, g.1))
+  | create.in_type_number e w ↦ inl (inr (inl (sym e, fails_unlisted numbers.CreatedType created_of (λ m. refl) object_type_tag ts w)))
+  | create.in_attributes w ↦ elim (given_finds Client k (attribute_demands ++ client_demands) (λ us. client_finds us k) (at as_structure attributes_tag ts) w) [ inl h ↦ inl (inr (inr (inl (sym h.0, fails_wrong as_structure type.Structure decides_structure attributes_tag ts h.1)))) | inr h ↦ inl (any_right (IsBroken k ts) create_demands (attribute_demands ++ client_demands) h) ]
+  | create.in_attribute_type e w ↦ inl (inr (inr (inr (inl (sym e, fails_unlisted numbers.ObjectTypes type_of (λ m. refl) object_type_tag (inside attributes_tag ts) w)))))
+  | create.in_algorithm e w ↦ inl (inr (inr (inr (inr (inl (sym e, fails_none cryptographic_algorithm (inside attributes_tag ts) w))))))
+  | create.in_length e w ↦ inl (inr (inr (inr (inr (inr (inl (sym e, fails_none cryptographic_length (inside attributes_tag ts) w)))))))
+  | create.in_mask e w ↦ inl (inr (inr (inr (inr (inr (inr (inl (sym e, fails_none cryptographic_usage_mask (inside attributes_tag ts) w))))))))
+  | create.in_agreement e w ↦ inr (e, w)
 ]
 
-register_finds : (ts : Trees) (k : OutsideKind) → (k ≡ Disagree → ⊥) → RegisterFault ts k → AnyOf (IsBroken k ts) (register_demands ++ (block_demands ++ (attribute_demands ++ client_demands)))
-register_finds ts k other f = elim f [
-  | register.in_object_type w ↦ let g = fails_needed as_enumeration type.Enumeration decides_enumeration object_type_tag ts Missing k w in inl (g.0, g.1)
-  | register.in_type_number e w ↦ inr (inl (sym e, fails_unlisted numbers.ObjectTypes type_of (λ m. refl) object_type_tag ts w))
-  | register.in_attributes w ↦ elim (given_finds Client k (attribute_demands ++ client_demands) (λ us. client_finds us k) (at as_structure attributes_tag ts) w) [ inl h ↦ inr (inr (inl (sym h.0, fails_wrong as_structure type.Structure decides_structure attributes_tag ts h.1))) | inr h ↦ any_right (IsBroken k ts) register_demands (block_demands ++ (attribute_demands ++ client_demands)) (any_right (IsBroken k ts) block_demands (attribute_demands ++ client_demands) h) ]
-  | register.in_attribute_type e w ↦ inr (inr (inr (inl (sym e, fails_unlisted numbers.ObjectTypes type_of (λ m. refl) object_type_tag (inside attributes_tag ts) w))))
-  | register.in_object w ↦ let g = object_finds ts k w in inr (inr (inr (inr (inl (g.0, g.1)))))
-  | register.in_block w ↦ any_right (IsBroken k ts) register_demands (block_demands ++ (attribute_demands ++ client_demands)) (any_left (IsBroken k ts) block_demands (attribute_demands ++ client_demands) (block_finds ts k w))
-  | register.in_brought e w ↦ absurd (other e)
+register_finds : (ts : Trees) (k : OutsideKind) → RegisterFault ts k → AnyOf (IsBroken k ts) (register_demands ++ (block_demands ++ (attribute_demands ++ client_demands))) ⊎ ((k ≡ Disagree) × Disagreeing ts)
+register_finds ts k f = elim f [
+  | register.in_object_type w ↦ let g = fails_needed as_enumeration type.Enumeration decides_enumeration object_type_tag ts Missing k w in inl (inl (g.0, g.1))
+  | register.in_type_number e w ↦ inl (inr (inl (sym e, fails_unlisted numbers.ObjectTypes type_of (λ m. refl) object_type_tag ts w)))
+  | register.in_attributes w ↦ elim (given_finds Client k (attribute_demands ++ client_demands) (λ us. client_finds us k) (at as_structure attributes_tag ts) w) [ inl h ↦ inl (inr (inr (inl (sym h.0, fails_wrong as_structure type.Structure decides_structure attributes_tag ts h.1)))) | inr h ↦ inl (any_right (IsBroken k ts) register_demands (block_demands ++ (attribute_demands ++ client_demands)) (any_right (IsBroken k ts) block_demands (attribute_demands ++ client_demands) h)) ]
+  | register.in_attribute_type e w ↦ inl (inr (inr (inr (inl (sym e, fails_unlisted numbers.ObjectTypes type_of (λ m. refl) object_type_tag (inside attributes_tag ts) w)))))
+  | register.in_object w ↦ let g = object_finds ts k w in inl (inr (inr (inr (inr (inl (g.0, g.1))))))
+  | register.in_block w ↦ inl (any_right (IsBroken k ts) register_demands (block_demands ++ (attribute_demands ++ client_demands)) (any_left (IsBroken k ts) block_demands (attribute_demands ++ client_demands) (block_finds ts k w)))
+  | register.in_brought e w ↦ inr (e, w)
 ]
 
 locate_finds : (ts : Trees) (k : OutsideKind) → LocateFault ts k → AnyOf (IsBroken k ts) (locate_demands ++ filter_demands)
@@ -232,17 +226,26 @@ revoke_finds ts k f = elim f [
 identifier_finds : (ts : Trees) (k : OutsideKind) → IdentifierFault ts k → AnyOf (IsBroken k ts) identifier_demands
 identifier_finds ts k f = inl (sym f.0, fails_wrong as_text type.Text decides_text unique_identifier ts f.1)
 
+-- a demand fails, or what is to agree doesn't
+found_or : (ts : Trees) (k : OutsideKind) (ds es : List Demand) → AnyOf (IsBroken k ts) ds ⊎ ((k ≡ Disagree) × AnyOf (IsBroken Disagree ts) es) → AnyOf (IsBroken k ts) (ds ++ es)
+found_or ts k ds es h = elim h [
+  | inl g ↦ any_left (IsBroken k ts) ds es g
+  | inr g ↦ let P : OutsideKind → Type 0 = λ j. AnyOf (IsBroken j ts) es in any_right (IsBroken k ts) ds es (subst P (sym g.0) g.1)
+]
+
 pub asked_demanded : AskedReasonsAreDemanded
-asked_demanded operation.Create ts k other f = create_finds ts k other f
-asked_demanded operation.Register ts k other f = register_finds ts k other f
-asked_demanded operation.Locate ts k other f = locate_finds ts k f
-asked_demanded operation.Get ts k other f = get_finds ts k f
-asked_demanded operation.GetAttributes ts k other f = identifier_finds ts k f
-asked_demanded operation.Activate ts k other f = identifier_finds ts k f
-asked_demanded operation.Revoke ts k other f = revoke_finds ts k f
-asked_demanded operation.Destroy ts k other f = identifier_finds ts k f
-asked_demanded (operation.Idle n) ts k other f = absurd f
-asked_demanded (operation.Other n) ts k other f = absurd f
+asked_demanded operation.Create ts k f =
+    found_or ts k (asked_demands operation.Create) (agreement_demands operation.Create ts) (elim (create_finds ts k f) [ inl g ↦ inl g | inr g ↦ inr (g.0, create_disagrees ts g.1) ])
+asked_demanded operation.Register ts k f =
+    found_or ts k (asked_demands operation.Register) (agreement_demands operation.Register ts) (elim (register_finds ts k f) [ inl g ↦ inl g | inr g ↦ inr (g.0, register_disagrees ts g.1) ])
+asked_demanded operation.Locate ts k f = any_left (IsBroken k ts) (asked_demands operation.Locate) [] (locate_finds ts k f)
+asked_demanded operation.Get ts k f = any_left (IsBroken k ts) (asked_demands operation.Get) [] (get_finds ts k f)
+asked_demanded operation.GetAttributes ts k f = any_left (IsBroken k ts) (asked_demands operation.GetAttributes) [] (identifier_finds ts k f)
+asked_demanded operation.Activate ts k f = any_left (IsBroken k ts) (asked_demands operation.Activate) [] (identifier_finds ts k f)
+asked_demanded operation.Revoke ts k f = any_left (IsBroken k ts) (asked_demands operation.Revoke) [] (revoke_finds ts k f)
+asked_demanded operation.Destroy ts k f = any_left (IsBroken k ts) (asked_demands operation.Destroy) [] (identifier_finds ts k f)
+asked_demanded (operation.Idle n) ts k f = absurd f
+asked_demanded (operation.Other n) ts k f = absurd f
 
 -- ---- what was done
 

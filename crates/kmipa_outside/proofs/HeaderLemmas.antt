@@ -27,18 +27,18 @@ use Rattle.kmipa_outside.proofs.FailLemmas.{Fail, decides_structure, decides_enu
 use Rattle.kmipa_outside.proofs.NumberLemmas.{unlisted, fails_unlisted, version_is, count_is_so}
 use Rattle.kmipa_outside.proofs.ToldLemmas.{any_reason}
 
-and_either : (b c : Bool) → (b && c) ≡ false → (b ≡ false) ⊎ (c ≡ false)
+pub and_either : (b c : Bool) → (b && c) ≡ false → (b ≡ false) ⊎ (c ≡ false)
 and_either true c e = inr e
 and_either false c e = inl refl
 
-and_left : (b c : Bool) → b ≡ false → (b && c) ≡ false
+pub and_left : (b c : Bool) → b ≡ false → (b && c) ≡ false
 and_left b c e = ap (λ (x : Bool). x && c) e
 
-and_right : (b c : Bool) → c ≡ false → (b && c) ≡ false
+pub and_right : (b c : Bool) → c ≡ false → (b && c) ≡ false
 and_right true c e = e
 and_right false c e = refl
 
-not_true : (b : Bool) → not b ≡ true → b ≡ false
+pub not_true : (b : Bool) → not b ≡ true → b ≡ false
 not_true true e = let h : false ≡ true = e in cc
 not_true false e = refl
 

@@ -1,3 +1,4 @@
+mod AgreementLemmas
 pub mod DemandLemmas
 pub mod FailLemmas
 pub mod NumberLemmas

@@ -99,7 +99,7 @@ fails_unlisted numbers table d n ts u = fails_number (wanted.OneOf numbers) (of_
 
 -- AN INTEGER
 
-refused_is : (b : Bool) (s : Stands.Stands) → is_some (cond b None (Some s)) ≡ not b
+pub refused_is : (b : Bool) (s : Stands.Stands) → is_some (cond b None (Some s)) ≡ not b
 refused_is true s = refl
 refused_is false s = refl
 

@@ -109,6 +109,14 @@ pub any_reason : (F : OutsideKind → Type 0) (us : Trees) (k : OutsideKind) (ds
 any_reason F us k [] e h = absurd h
 any_reason F us k (d ∷ ds) e h = elim h [ inl p ↦ subst F p.0 (e.0 p.1) | inr q ↦ any_reason F us k ds e.1 q ]
 
+pub any_left : {A : Type 0} (P : A → Type 0) (xs ys : List A) → AnyOf P xs → AnyOf P (xs ++ ys)
+any_left P [] ys h = absurd h
+any_left P (x ∷ xs) ys h = elim h [ inl p ↦ inl p | inr q ↦ inr (any_left P xs ys q) ]
+
+pub any_right : {A : Type 0} (P : A → Type 0) (xs ys : List A) → AnyOf P ys → AnyOf P (xs ++ ys)
+any_right P [] ys h = h
+any_right P (x ∷ xs) ys h = inr (any_right P xs ys h)
+
 pub any_split : {A : Type 0} (P : A → Type 0) (xs ys : List A) → AnyOf P (xs ++ ys) → AnyOf P xs ⊎ AnyOf P ys
 any_split P [] ys h = inr h
 any_split P (x ∷ xs) ys h = elim h [

@@ -68,18 +68,25 @@ unlike ty t = cond (is_of ty t) None (Some (stands.Item (item_type t)))
 abbrev pub is_value : Wanted → ℤ → Bool
 is_value (wanted.Integer z) m = int_eq m z
 is_value (wanted.Count n) m = counts m n
+is_value (wanted.SameInteger z b) m = int_eq m z
 is_value w m = true
 
 -- a number of an Enumeration is one that is wanted
 abbrev pub is_number : Wanted → ℕ → Bool
 is_number (wanted.OneOf numbers) n = is_one_of numbers n
 is_number (wanted.Other m) n = not (n == m)
+is_number (wanted.Same m b) n = n == m
 is_number w n = true
 
 -- another value of an Integer; of an item of another type the type
 abbrev pub unlike_integer : Wanted → Tree → Option Stands
 unlike_integer w (scalar n (Tree.integer z)) = cond (is_value w z) None (Some (stands.Integer z))
 unlike_integer w t = Some (stands.Item (item_type t))
+
+-- the same, where other types are read over
+abbrev pub other_integer : Wanted → Tree → Option Stands
+other_integer w (scalar n (Tree.integer z)) = cond (is_value w z) None (Some (stands.Integer z))
+other_integer w t = None
 
 -- another number of an Enumeration, where other types are read over
 abbrev pub other_number : Wanted → Tree → Option Stands
@@ -95,6 +102,8 @@ misfit (wanted.Integer z) t = unlike_integer (wanted.Integer z) t
 misfit (wanted.Count n) t = unlike_integer (wanted.Count n) t
 misfit (wanted.OneOf numbers) t = other_number (wanted.OneOf numbers) t
 misfit (wanted.Other m) t = other_number (wanted.Other m) t
+misfit (wanted.Same m b) t = other_number (wanted.Same m b) t
+misfit (wanted.SameInteger z b) t = other_integer (wanted.SameInteger z b) t
 misfit w t = None
 
 -- none stands there

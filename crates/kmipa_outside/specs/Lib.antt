@@ -1,6 +1,7 @@
 pub mod ItemTypes
 pub mod Demands
 pub mod HeaderDemands
+pub mod AgreementDemands
 pub mod AskedDemands
 pub mod SharedDemands
 pub mod DoneDemands

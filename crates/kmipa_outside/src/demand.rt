@@ -68,6 +68,21 @@ pub enum Wanted {
     EachName,
     /// That there are no two with its tag.
     Once,
+    /// That it is this number, where it is an Enumeration: what stands in another place, where the same is to stand.
+    Same(u32, Beside),
+    /// That it is this value, where it is an Integer: the same.
+    SameInteger(i32, Beside),
+}
+
+/// Where the same is to stand as in a field of a Request Payload.
+#[derive(Clone, Copy, Debug, PartialEq, Eq)]
+pub enum Beside {
+    /// In the payload itself.
+    Payload,
+    /// By the tag of its object.
+    Object,
+    /// In the Key Block of its object.
+    Block,
 }
 
 /// Numbers of an enumeration that the profile knows.

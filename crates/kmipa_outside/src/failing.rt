@@ -4,7 +4,7 @@ ghost use Rattle.std.specs.Prelude.{◌≡◌, None, Some, cond};
 ghost use Rattle.std.specs.Option.{option_map};
 ghost use Rattle.kmipa_ttlv.specs.ViewTree.{view_tree, view_trees};
 ghost use Rattle.kmipa_msgs.specs.Headers.{counts};
-ghost use Rattle.kmipa_outside.specs.Demands.{all_at, fails, fails_in, first_fails, is_number, is_one_of, is_value, lack, misfit, other_number, unlike, unlike_integer};
+ghost use Rattle.kmipa_outside.specs.Demands.{all_at, fails, fails_in, first_fails, is_number, is_one_of, is_value, lack, misfit, other_integer, other_number, unlike, unlike_integer};
 
 use crate::counting::{many_at, some_at};
 use crate::demand::{Demand, Numbers, Step, Wanted};
@@ -71,7 +71,8 @@ fn misfit(wanted: Wanted, view: &View) -> Option<Stands>
         Wanted::Typed(ty) | Wanted::MaybeTyped(ty) => unlike(ty, view),
         Wanted::Nothing => Some(Stands::Item(item_type(view))),
         Wanted::Integer(_) | Wanted::Count(_) => unlike_integer(wanted, view),
-        Wanted::OneOf(_) | Wanted::Other(_) => other_number(wanted, view),
+        Wanted::OneOf(_) | Wanted::Other(_) | Wanted::Same(_, _) => other_number(wanted, view),
+        Wanted::SameInteger(_, _) => other_integer(wanted, view),
         _ => None,
     }
 }
@@ -95,6 +96,15 @@ fn unlike_integer(wanted: Wanted, view: &View) -> Option<Stands>
     }
 }
 
+fn other_integer(wanted: Wanted, view: &View) -> Option<Stands>
+    ensures { result ≡ other_integer wanted (view_tree view.now) }
+{
+    match &view.value {
+        ViewValue::Integer(value) => other_value(wanted, *value),
+        _ => None,
+    }
+}
+
 /// A value of an Integer that isn't wanted.
 fn other_value(wanted: Wanted, value: i32) -> Option<Stands>
     ensures { result ≡ cond (is_value wanted value) None (Some (Stands.Integer value)) }
@@ -111,6 +121,7 @@ fn is_value(wanted: Wanted, value: i32) -> bool
     match wanted {
         Wanted::Integer(number) => value == number,
         Wanted::Count(items) => counts(value, items),
+        Wanted::SameInteger(number, _) => value == number,
         _ => true,
     }
 }
@@ -147,6 +158,7 @@ fn is_number(wanted: Wanted, number: u32) -> bool
     match wanted {
         Wanted::OneOf(numbers) => is_one_of(numbers, number),
         Wanted::Other(other) => number != other,
+        Wanted::Same(other, _) => number == other,
         _ => true,
     }
 }

@@ -41,7 +41,7 @@ pub(crate) fn first_at<'a>(children: Children<'a>, step: Step) -> Option<View<'a
 }
 
 /// The children of the Key Block of a payload's object.
-fn block_inside<'a>(payload: Children<'a>) -> Children<'a>
+pub(crate) fn block_inside<'a>(payload: Children<'a>) -> Children<'a>
     ensures { view_trees result ≡ block_inside (view_trees payload.entry) }
 {
     match object(payload) {
@@ -61,7 +61,7 @@ fn block_of<'a>(object: &View<'a>) -> Children<'a>
 }
 
 /// The first child with either of the tags of objects.
-fn object<'a>(payload: Children<'a>) -> Option<View<'a>>
+pub(crate) fn object<'a>(payload: Children<'a>) -> Option<View<'a>>
     ensures { option_map view_tree result ≡ object_in (view_trees payload.entry) }
 {
     let mut left = payload;

@@ -4,6 +4,7 @@
 //! the laws say that a message is outside exactly where a demand fails.
 #![tactic(auto)]
 
+mod agreement_demands;
 mod asked_demands;
 mod counting;
 mod demand;
@@ -24,10 +25,10 @@ mod telling;
 mod told;
 mod types;
 
-pub use demand::{Demand, Inside, Numbers, Step, Wanted, wants};
+pub use demand::{Beside, Demand, Inside, Numbers, Step, Wanted, wants};
 pub use explaining::{OutsideExplanation, explain_outside};
 pub use laws::{
-    asked_demands_are_reasons, asked_reasons_are_demanded, done_demands_are_reasons,
+    agreements_are_reasons, asked_demands_are_reasons, asked_reasons_are_demanded, done_demands_are_reasons,
     done_reasons_are_demanded, request_fields_are_reasons, request_reasons_have_fields,
     response_fields_are_reasons, response_reasons_have_fields,
 };

@@ -11,6 +11,7 @@ ghost use Rattle.kmipa_msgs.specs.Requests.{is_loose, is_without_order};
 ghost use Rattle.kmipa_msgs.specs.Tables.{children};
 ghost use Rattle.kmipa_outside.specs.Requests.{ask_demands, form_demands, header_demand, header_told, item_told, naming_demands, payload_demands, request_fields};
 
+use crate::agreement_demands::agreement_demands;
 use crate::demand::{Demand, Inside, Step, Wanted, wants};
 use crate::header_demands::request_header_demands;
 use crate::operations::{is_judged, is_on_object};
@@ -122,7 +123,12 @@ fn item_told(
     let children = children_of(item);
     let operation = enumeration_at(children, OPERATION);
     let own = ask_demands(alloc, operation)?;
-    let asked = payload_demands(alloc, unordered, operation)?;
+    let asked = payload_demands(
+        alloc,
+        unordered,
+        operation,
+        inside(children, REQUEST_PAYLOAD),
+    )?;
     let front = tell(alloc, kind, None, children, &own)?;
     let back = tell(alloc, kind, Some(REQUEST_PAYLOAD), children, &asked)?;
     both_told(front, back)
@@ -164,20 +170,23 @@ fn form_demands(alloc: Global, operation: Operation) -> Result<Vec<Demand>, Allo
     )
 }
 
-/// The demands on a Request Payload, by the Operation of its item.
+/// The demands on a Request Payload with these children, by the Operation of its item.
 fn payload_demands(
     alloc: Global,
     unordered: bool,
     operation: Field<u32>,
+    payload: Children,
 ) -> Result<Vec<Demand>, AllocError>
-    ensures { IfOk result (λ demands. demands.items ≡ payload_demands unordered operation) }
+    ensures { IfOk result (λ demands. demands.items ≡ payload_demands unordered operation (view_trees payload.entry)) }
 {
     match operation {
         Field::There(number) => {
             let operation = Operation::of(number);
             let asked = asked_demands(alloc, operation)?;
             let naming = naming_demands(alloc, unordered, operation)?;
-            joined(alloc, &asked, &naming)
+            let agreeing = agreement_demands(alloc, operation, payload)?;
+            let others = joined(alloc, &naming, &agreeing)?;
+            joined(alloc, &asked, &others)
         }
         Field::Absent | Field::Wrong => Ok(Vec::new(alloc)),
     }

@@ -2,6 +2,8 @@
 use Rattle.std.specs.Prelude.{ℕ, pos, nat_lt, if◌then◌else◌, List, [], ◌++◌, codes, Option, Some, None}
 use Rattle.std.specs.Fmt.{decimal, signed_decimal}
 use Rattle.kmipa_attrs.specs.Tags.{tag_name_of}
+use Rattle.kmipa_outside.specs.declared.demand.Beside.{Beside}
+use Rattle.kmipa_outside.specs.declared.demand.Beside.TheVariants as beside
 use Rattle.kmipa_outside.specs.declared.demand.Inside.{Inside}
 use Rattle.kmipa_outside.specs.declared.demand.Inside.TheVariants.{Here, Version, Attributes, Revocation, Block, Value}
 use Rattle.kmipa_outside.specs.declared.demand.Numbers.{Numbers}
@@ -86,6 +88,12 @@ numbers_text BatchOptions = codes "1 Continue, 2 Stop or 3 Undo"
 numbers_text Statuses = codes "0 Success, 1 Operation Failed or 3 Operation Undone"
 numbers_text Failure = codes "1 Operation Failed"
 
+-- where the same is to stand
+abbrev pub beside_text : Beside → List ℕ
+beside_text beside.Payload = codes ", as the payload says"
+beside_text beside.Object = codes ", as its object is"
+beside_text beside.Block = codes ", as its Key Block says"
+
 abbrev pub wanted_text : Step → Wanted → List ℕ
 wanted_text step wanted.There = codes "an item"
 wanted_text step (wanted.Typed ty) = type_text ty
@@ -98,3 +106,5 @@ wanted_text step (wanted.Other n) = codes "not " ++ number_text (pos n) (name_at
 wanted_text step (wanted.EachTyped ty) = codes "each " ++ type_text ty
 wanted_text step wanted.EachName = codes "each a Structure with a Name Value"
 wanted_text step wanted.Once = codes "one at most"
+wanted_text step (wanted.Same n b) = number_text (pos n) (name_at step n) ++ beside_text b
+wanted_text step (wanted.SameInteger z b) = signed_decimal z ++ beside_text b

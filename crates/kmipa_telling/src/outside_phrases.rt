@@ -2,11 +2,11 @@
 
 ghost use Rattle.std.specs.Prelude.{◌≡◌, IfOk, option_map, pos, string_bytes};
 ghost use Rattle.kmipa_telling.specs.Naming.{number_text};
-ghost use Rattle.kmipa_telling.specs.OutsidePhrases.{field_text, inside_text, name_at, numbers_text, stands_text, step_text, tag_text, type_text, wanted_text, within_text};
+ghost use Rattle.kmipa_telling.specs.OutsidePhrases.{beside_text, field_text, inside_text, name_at, numbers_text, stands_text, step_text, tag_text, type_text, wanted_text, within_text};
 
 use crate::naming::number_text;
 use kmipa_attrs::tag_name;
-use kmipa_outside::{FieldTold, Inside, ItemType, Numbers, Stands, Step, Wanted};
+use kmipa_outside::{Beside, FieldTold, Inside, ItemType, Numbers, Stands, Step, Wanted};
 use kmipa_runs::number_name;
 use kmipa_ttlv::Tag;
 use std::alloc::{AllocError, Global};
@@ -143,6 +143,26 @@ pub fn wanted_text(alloc: Global, field: &FieldTold) -> Result<String, AllocErro
         }
         Wanted::EachName => String::from_str(alloc, "each a Structure with a Name Value"),
         Wanted::Once => String::from_str(alloc, "one at most"),
+        Wanted::Same(number, beside) => {
+            let named = named_text(alloc, field.demand.field, number)?;
+            let place = beside_text(beside);
+            format!(in alloc; "{named}{place}")
+        }
+        Wanted::SameInteger(value, beside) => {
+            let place = beside_text(beside);
+            format!(in alloc; "{value}{place}")
+        }
+    }
+}
+
+/// Where the same is to stand.
+fn beside_text(beside: Beside) -> &'static str
+    ensures { result.now ≡ beside_text beside }
+{
+    match beside {
+        Beside::Payload => ", as the payload says",
+        Beside::Object => ", as its object is",
+        Beside::Block => ", as its Key Block says",
     }
 }
 
