@@ -213,7 +213,7 @@ module _ (ts : Trees) (a : Attributes) (said : SaysNewKey ts a) where
       let two = created_numbered n SymmetricKey said.object_type.listed in
       ap (λ (m : ℕ). agree (λ p q. p == q) a.object_type (Some m)) (sym two)
       ∙ failing_differs ts type_wanted (λ (m : ℕ). agree (λ p q. p == q) a.object_type (Some m)) (λ x. refl) (type_agrees ts a said.attributes) (value_in (at as_enumeration object_type_tag ts)) n
-        (ap value_in said.object_type.is) h
+      (ap value_in said.object_type.is) h
 
 pub create_disagrees : (ts : Trees) → DisagreeingCreate ts → AnyOf (IsBroken Disagree ts) (agreement_demands operation.Create ts)
 create_disagrees ts d = created_finds ts d.attributes d.said d.differ
@@ -230,7 +230,7 @@ module _ (ts : Trees) (b : BroughtOf) (said : SaysBrought ts b) where
   -- the object
   object_here : (o : Option Tree) → typed as_shape o ≡ There b.shape → (t : Tree) × ((o ≡ Some t) × (shape_of (tag_of t) ≡ b.shape))
   object_here None e = cc
-  object_here (Some t) e = (t, refl, cc)
+  object_here (Some t) e = let says : Some (shape_of (tag_of t)) ≡ Some b.shape = there_is (Some (shape_of (tag_of t))) b.shape e in (t, (refl, cc))
 
   object_finds : (type_number b.object_type == type_number b.shape) ≡ false → AnyOf (IsBroken Disagree ts) (option_to_list (object_demand ts))
   object_finds e =
@@ -258,7 +258,7 @@ module _ (ts : Trees) (b : BroughtOf) (said : SaysBrought ts b) where
       let n = said.object_type.number in
       ap (λ (m : ℕ). agree (λ p q. p == q) b.attributes.object_type (Some m)) (sym numbered)
       ∙ failing_differs ts type_wanted (λ (m : ℕ). agree (λ p q. p == q) b.attributes.object_type (Some m)) (λ x. refl) (type_agrees ts b.attributes said.attributes)
-        (value_in (at as_enumeration object_type_tag ts)) n (ap value_in said.object_type.is) h
+      (value_in (at as_enumeration object_type_tag ts)) n (ap value_in said.object_type.is) h
 
   -- the algorithm and the length, where the Key Block has them
   algorithm_finds : (f : Field ℕ) (held : Option ℕ) → Optional f held → agree (λ p q. p == q) b.attributes.algorithm held ≡ false
@@ -317,15 +317,19 @@ module _ (ts : Trees) (b : BroughtOf) (said : SaysBrought ts b) where
       let y = option_to_list (type_demand ts) in
       let a = option_to_list (algorithm_demand ts) in
       let l = option_to_list (length_demand ts) in
+      let p = type_number b.object_type == type_number b.shape in
+      let q = agree (λ m n. m == n) b.attributes.object_type (Some (type_number b.object_type)) in
+      let r = agree (λ m n. m == n) b.attributes.algorithm b.block.algorithm in
+      let z = agree int_eq b.attributes.length b.block.length in
       elim (any_split P (o ++ y ++ a) l e) [
-        | inl g ↦ and_left _ _ (elim (any_split P (o ++ y) a g) [
-          | inl h ↦ and_left _ _ (elim (any_split P o y h) [
-            | inl m ↦ and_left _ _ (object_differs m)
-            | inr m ↦ and_right _ _ (type_differs m)
+        | inl g ↦ and_left (p && q && r) z (elim (any_split P (o ++ y) a g) [
+          | inl h ↦ and_left (p && q) r (elim (any_split P o y h) [
+            | inl m ↦ and_left p q (object_differs m)
+            | inr m ↦ and_right p q (type_differs m)
           ])
-          | inr h ↦ and_right _ _ (algorithm_differs (at as_enumeration cryptographic_algorithm (block_inside ts)) b.block.algorithm said.block.algorithm h)
+          | inr h ↦ and_right (p && q) r (algorithm_differs (at as_enumeration cryptographic_algorithm (block_inside ts)) b.block.algorithm said.block.algorithm h)
         ])
-        | inr g ↦ and_right _ _ (length_differs (at as_integer cryptographic_length (block_inside ts)) b.block.length said.block.length g)
+        | inr g ↦ and_right (p && q && r) z (length_differs (at as_integer cryptographic_length (block_inside ts)) b.block.length said.block.length g)
       ]
 
 pub register_disagrees : (ts : Trees) → Disagreeing ts → AnyOf (IsBroken Disagree ts) (agreement_demands operation.Register ts)

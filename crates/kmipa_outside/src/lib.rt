@@ -28,9 +28,9 @@ mod types;
 pub use demand::{Beside, Demand, Inside, Numbers, Step, Wanted, wants};
 pub use explaining::{OutsideExplanation, explain_outside};
 pub use laws::{
-    agreements_are_reasons, asked_demands_are_reasons, asked_reasons_are_demanded, done_demands_are_reasons,
-    done_reasons_are_demanded, request_fields_are_reasons, request_reasons_have_fields,
-    response_fields_are_reasons, response_reasons_have_fields,
+    agreements_are_reasons, asked_demands_are_reasons, asked_reasons_are_demanded,
+    done_demands_are_reasons, done_reasons_are_demanded, request_fields_are_reasons,
+    request_reasons_have_fields, response_fields_are_reasons, response_reasons_have_fields,
 };
 pub use message::{request_told, response_told};
 pub use told::{FieldTold, MessageTold, Stands};
