@@ -21,7 +21,7 @@ use Rattle.kmipa_telling.specs.ExplainedJson.{ExplainsInputs, PrintsExplainedJso
 use Rattle.kmipa_telling.specs.Judging.{AreEnded, WhereRead}
 use Rattle.kmipa_telling.specs.Telling.{TellsVerdict}
 use Rattle.kmipa_telling.specs.declared.explained.Explained.{Explained}
-use Rattle.kmipa_telling.specs.declared.explained.FaultTold.{FaultTold}
+use Rattle.kmipa_telling.specs.declared.fault_told.FaultTold.{FaultTold}
 use Rattle.kmipa_telling.proofs.ExplainingLemmas.{yes_explained}
 use Rattle.kmipa_telling.proofs.JsonLemmas.{fault_not_done, silent_not_done}
 use Rattle.serde_json.specs.Data.{Members}
@@ -63,7 +63,7 @@ explained_done t d w (Ok explained) said lines audits (told, (verdict, tells, mo
           (audits.0 (came_of t) (came_of d) (came_of w) (itself t) (itself d) (itself w)),
       audits.1,
     )
-explained_done t d w (Err fault) said lines audits (told, (before, tells, more), is) done = absurd (fault_not_done fault.fault (sym tells.0 ∙ done))
+explained_done t d w (Err fault) said lines audits (told, (without, tells, more), is) done = absurd (fault_not_done fault.fault (sym tells.0 ∙ done))
 
 pub done_is_explained : {R : Type 0} (t d w : Input R) (said : Status) (lines : List ℕ) → ToldCheck t d w said lines ⊎ IsSilent said lines
     → said ≡ status.Done → AreAccepted (came_of t) (came_of d) (came_of w) × AreEnded t d w

@@ -15,7 +15,6 @@ use Rattle.kmipa_check.specs.Verdicts.{Checks}
 use Rattle.kmipa_check.specs.declared.auditing.AuditFault.TheVariants as audit
 use Rattle.kmipa_check.specs.declared.fault.CheckFault.{CheckFault}
 use Rattle.kmipa_check.specs.declared.fault.CheckFault.TheVariants as check
-use Rattle.kmipa_outside.specs.declared.explaining.OutsideExplanation.{OutsideExplanation}
 use Rattle.kmipa_check.specs.declared.auditing.AuditFault.{AuditFault}
 use Rattle.kmipa_check.specs.declared.auditing.AuditRecords.{AuditRecords}
 use Rattle.kmipa_check.specs.declared.verdict.Verdict.{Verdict}
@@ -27,10 +26,11 @@ use Rattle.kmipa_runs.specs.declared.lines.Lines.{Lines}
 use Rattle.kmipa_runs.specs.declared.status.Status.{Status}
 use Rattle.kmipa_runs.specs.declared.status.Status.TheVariants as status
 use Rattle.kmipa_runs.proofs.LineLemmas.{done_is_yes}
-use Rattle.kmipa_telling.specs.Explaining.{AreExplained, AuditsExplained, IsExplained, IsFaultExplained, IsFaultOf, IsFaultToldOf, IsOutsideExplained, PrintsExplained, PrintsMore, TellsRecords, bare_fault}
-use Rattle.kmipa_telling.specs.OutsideLines.{PrintsOutside}
+use Rattle.kmipa_telling.specs.Explaining.{AreExplained, AuditsExplained, IsExplained, PrintsExplained, PrintsMore, TellsRecords}
+use Rattle.kmipa_telling.specs.FaultsTold.{IsAuditMeaning, IsCheckMeaning, IsFaultOf, IsFaultToldOf, PrintsFaultMeaning, bare_fault}
 use Rattle.kmipa_telling.specs.declared.explained.Explained.{Explained}
-use Rattle.kmipa_telling.specs.declared.explained.FaultTold.{FaultTold}
+use Rattle.kmipa_telling.specs.declared.fault_told.FaultMeaning.{FaultMeaning}
+use Rattle.kmipa_telling.specs.declared.fault_told.FaultTold.{FaultTold}
 use Rattle.kmipa_telling.proofs.JsonLemmas.{fault_not_done}
 
 -- ---- status 0
@@ -125,65 +125,58 @@ alone said place text front more lines fits s f m e =
     let Q : List ℕ → Type 0 = λ x. FitsStatus place x in
     subst P (sym s) (subst Q (sym (e ∙ ap (λ (l : List ℕ). front ++ l) m ∙ append-nil front ∙ f)) fits)
 
-check_fits : (marks : List MarkOf) (fault : CheckFault) (o : Option OutsideExplanation) (said : Status) (front more lines : List ℕ) → IsOutsideExplained marks fault o → said ≡ check_status fault
-    → front ≡ check_text fault → PrintsOutside o more → lines ≡ front ++ more → FitsStatus said lines
-check_fits marks (check.Outside number side x) o said front more lines is s f tells e =
+check_fits : (marks : List MarkOf) (turns : List TurnOf) (fault : CheckFault) (m : Option FaultMeaning) (said : Status) (front more lines : List ℕ) → IsCheckMeaning marks turns fault m → said ≡ check_status fault
+    → front ≡ check_text fault → PrintsFaultMeaning m more → lines ≡ front ++ more → FitsStatus said lines
+check_fits marks turns (check.Outside number side x) m said front more lines is s f tells e =
     let P : Status → Type 0 = λ y. FitsStatus y lines in
     subst P (sym s) (inl (ap (take (length (codes "outside: call "))) (e ∙ ap (λ (l : List ℕ). l ++ more) f)))
-check_fits marks (check.Witness w) o said front more lines is s f tells e =
+check_fits marks turns (check.Witness w) m said front more lines is s f tells e =
     let P : Status → Type 0 = λ y. FitsStatus y lines in
     subst P (sym s) (inr (inl (ap (take (length (codes "witness: at "))) (e ∙ ap (λ (l : List ℕ). l ++ more) f))))
-check_fits marks check.Memory None said front more lines is s f tells e = alone said status.Failed [] front more lines (inr refl) s f tells e
-check_fits marks check.Memory (Some x) said front more lines is s f tells e = absurd is
+check_fits marks turns check.Memory None said front more lines is s f tells e = alone said status.Failed [] front more lines (inr refl) s f tells e
+check_fits marks turns check.Memory (Some x) said front more lines is s f tells e = absurd is
 
-fault_fits : (t : List ℕ) (fault : AuditFault) (o : Option OutsideExplanation) (said : Status) (front more lines : List ℕ) → IsFaultExplained t fault o → PrintsFault fault said front → PrintsOutside o more
+fault_fits : (t w : List ℕ) (fault : AuditFault) (m : Option FaultMeaning) (said : Status) (front more lines : List ℕ) → IsAuditMeaning t w fault m → PrintsFault fault said front → PrintsFaultMeaning m more
     → lines ≡ front ++ more → FitsStatus said lines
-fault_fits t (audit.Transcript f) None said front more lines is prints tells e = alone said _ _ front more lines (record_fits (codes "transcript") f.offset f.kind) prints.0 prints.1 tells e
-fault_fits t (audit.Declaration f) None said front more lines is prints tells e = alone said _ _ front more lines (record_fits (codes "declaration") f.offset f.kind) prints.0 prints.1 tells e
-fault_fits t (audit.Witness f) None said front more lines is prints tells e = alone said _ _ front more lines (record_fits (codes "witness") f.offset f.kind) prints.0 prints.1 tells e
-fault_fits t (audit.Transcript f) (Some x) said front more lines is prints tells e = absurd is
-fault_fits t (audit.Declaration f) (Some x) said front more lines is prints tells e = absurd is
-fault_fits t (audit.Witness f) (Some x) said front more lines is prints tells e = absurd is
-fault_fits t (audit.Check f) o said front more lines is prints tells e = check_fits is.0 f o said front more lines is.2 prints.0 prints.1 tells e
+fault_fits t w (audit.Transcript f) None said front more lines is prints tells e = alone said _ _ front more lines (record_fits (codes "transcript") f.offset f.kind) prints.0 prints.1 tells e
+fault_fits t w (audit.Declaration f) None said front more lines is prints tells e = alone said _ _ front more lines (record_fits (codes "declaration") f.offset f.kind) prints.0 prints.1 tells e
+fault_fits t w (audit.Witness f) None said front more lines is prints tells e = alone said _ _ front more lines (record_fits (codes "witness") f.offset f.kind) prints.0 prints.1 tells e
+fault_fits t w (audit.Transcript f) (Some x) said front more lines is prints tells e = absurd is
+fault_fits t w (audit.Declaration f) (Some x) said front more lines is prints tells e = absurd is
+fault_fits t w (audit.Witness f) (Some x) said front more lines is prints tells e = absurd is
+fault_fits t w (audit.Check f) m said front more lines is prints tells e = check_fits is.0 is.1 f m said front more lines is.2.2.2 prints.0 prints.1 tells e
 
-pub told_fits : (told : FaultTold) (t : List ℕ) (said : Status) (lines : List ℕ) → IsFaultExplained t told.fault told.outside → PrintsExplained (Err told) said lines ⊎ IsSilent said lines → FitsStatus said lines
-told_fits told t said lines is (inl (front, more, prints, tells, e)) = fault_fits t told.fault told.outside said front more lines is prints tells e
-told_fits told t said lines is (inr silent) =
+pub told_fits : (told : FaultTold) (t w : List ℕ) (said : Status) (lines : List ℕ) → IsAuditMeaning t w told.fault told.meaning → PrintsExplained (Err told) said lines ⊎ IsSilent said lines → FitsStatus said lines
+told_fits told t w said lines is (inl (front, more, prints, tells, e)) = fault_fits t w told.fault told.meaning said front more lines is prints tells e
+told_fits told t w said lines is (inr silent) =
     let P : Status → Type 0 = λ s. FitsStatus s lines in
     subst P (sym silent.0) (inr silent.1)
 
--- what a check of records tells of its fault
-pub fault_audited : (records : AuditRecords) (t d w : List ℕ) (ft fd fw : Bool) (fault : CheckFault) (told : FaultTold) → AreRecords records t d w
-    → Checks (transcript_of records.transcript) (declaration_of records.declaration) (witness_of records.witness) (Err fault)
-    → IsFaultToldOf (transcript_of records.transcript) fault told → AuditsExplained t d w ft fd fw (Err told)
-fault_audited records t d w ft fd fw fault told r checks (inl is) =
-    let P : AuditFault → Type 0 = λ f. AuditFails t d w ft fd fw f × IsFaultExplained t f told.outside in
-    subst P (sym is.0) (unjudged fault checks, (transcript_of records.transcript, r.transcript, is.1))
-  where
-    unjudged : (f : CheckFault) → Checks (transcript_of records.transcript) (declaration_of records.declaration) (witness_of records.witness) (Err f) → AreUnjudged f t d w
-    unjudged f h = record {
-      marks = transcript_of records.transcript;
-      transcript = r.transcript;
-      declared = declaration_of records.declaration;
-      declaration = r.declaration;
-      turns = witness_of records.witness;
-      witness = r.witness;
-      checks = h;
-    }
-fault_audited records t d w ft fd fw fault told r checks (inr is) =
-    let P : FaultTold → Type 0 = λ x. AuditFails t d w ft fd fw x.fault × IsFaultExplained t x.fault x.outside in
-    subst P (sym is) (
-      record {
-        marks = transcript_of records.transcript;
-        transcript = r.transcript;
-        declared = declaration_of records.declaration;
-        declaration = r.declaration;
-        turns = witness_of records.witness;
-        witness = r.witness;
-        checks = tt;
-      },
-      (transcript_of records.transcript, r.transcript, tt),
-    )
+-- what a check of these records tells of its fault
+module _ (records : AuditRecords) (t d w : List ℕ) (r : AreRecords records t d w) where
+  unjudged : (f : CheckFault) → Checks (transcript_of records.transcript) (declaration_of records.declaration) (witness_of records.witness) (Err f) → AreUnjudged f t d w
+  unjudged f h = record {
+    marks = transcript_of records.transcript;
+    transcript = r.transcript;
+    declared = declaration_of records.declaration;
+    declaration = r.declaration;
+    turns = witness_of records.witness;
+    witness = r.witness;
+    checks = h;
+  }
+
+  -- memory ran out
+  pub bare_memory : (ft fd fw : Bool) → AuditsExplained t d w ft fd fw (Err (bare_fault (audit.Check check.Memory)))
+  bare_memory ft fd fw = (unjudged check.Memory tt, (transcript_of records.transcript, witness_of records.witness, r.transcript, r.witness, tt))
+
+  pub fault_audited : (ft fd fw : Bool) (fault : CheckFault) (told : FaultTold) → Checks (transcript_of records.transcript) (declaration_of records.declaration) (witness_of records.witness) (Err fault)
+      → IsFaultToldOf (transcript_of records.transcript) fault told → AuditsExplained t d w ft fd fw (Err told)
+  fault_audited ft fd fw fault told checks (inl is) =
+      let P : AuditFault → Type 0 = λ f. AuditFails t d w ft fd fw f × IsAuditMeaning t w f told.meaning in
+      subst P (sym is.0) (unjudged fault checks, (transcript_of records.transcript, witness_of records.witness, r.transcript, r.witness, is.1))
+  fault_audited ft fd fw fault told checks (inr is) =
+      let P : FaultTold → Type 0 = λ x. AuditsExplained t d w ft fd fw (Err x) in
+      subst P (sym is) (bare_memory ft fd fw)
 
 -- the fault of a check, where it is of a message
 pub fault_of : (marks : List MarkOf) (declared : DeclarationOf) (turns : List TurnOf) (fault : CheckFault) → Checks marks declared turns (Err fault) → IsFaultOf marks fault

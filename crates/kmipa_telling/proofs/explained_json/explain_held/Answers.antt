@@ -1,8 +1,9 @@
 use Rattle.std.proofs.Common.{Result, Ok, Err, subst, sym}
 use Rattle.kmipa_ttlv.specs.Input.{came_of, is_failed}
 use Rattle.kmipa_ttlv.proofs.ReadLemmas.{itself}
-use Rattle.kmipa_telling.specs.ExplainedJson.{ExplainsInputs, by_fault}
-use Rattle.kmipa_telling.specs.declared.explained.FaultTold.{FaultTold}
+use Rattle.kmipa_telling.specs.ExplainedJson.{ExplainsInputs}
+use Rattle.kmipa_telling.specs.FaultsTold.{by_fault}
+use Rattle.kmipa_telling.specs.declared.fault_told.FaultTold.{FaultTold}
 use Rattle.kmipa_telling.proofs.ExplainingLemmas.{bare_reading}
 use Rattle.kmipa_check.specs.declared.auditing.AuditFault.{AuditFault}
 use Rattle.kmipa_check.specs.declared.auditing.AuditRecords.{AuditRecords}

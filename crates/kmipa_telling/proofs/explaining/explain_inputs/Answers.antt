@@ -2,7 +2,7 @@ use Rattle.std.proofs.Common.{Err, subst, sym}
 use Rattle.kmipa_ttlv.specs.Input.{is_failed}
 use Rattle.kmipa_telling.proofs.ExplainingLemmas.{bare_reading}
 use Rattle.kmipa_telling.specs.Explaining.{AuditsExplained}
-use Rattle.kmipa_telling.specs.declared.explained.FaultTold.{FaultTold}
+use Rattle.kmipa_telling.specs.declared.fault_told.FaultTold.{FaultTold}
 use Rattle.kmipa_telling.proofs.explaining.explain_inputs.Goals as goal
 
 pub returns-in-Ok-clause-audits : goal.returns-in-Ok-clause-audits

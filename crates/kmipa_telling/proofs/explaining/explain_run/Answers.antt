@@ -45,7 +45,7 @@ returns-in-Err-clause-prints g c =
     let lines = appended_bytes c.args.out.now.items c.append.new.out.items in (
       Err c.in-Err.told,
       c.in-Err.ensures.audits,
-      explained_reported c.told_lines.result (Err c.in-Err.told) c.append.result lines c.told_lines.ensures c.append.ensures.prints,
+      explained_reported c.fault_told_lines.result (Err c.in-Err.told) c.append.result lines c.fault_told_lines.ensures c.append.ensures.prints,
     )
 
 pub returns-in-Err-clause-fits : goal.returns-in-Err-clause-fits
@@ -55,8 +55,8 @@ returns-in-Err-clause-fits g c =
     let w = c.explain_inputs.new.witness in
     let lines = appended_bytes c.args.out.now.items c.append.new.out.items in
     let audits = c.in-Err.ensures.audits (came_of t) (came_of d) (came_of w) (itself t) (itself d) (itself w) in
-    told_fits c.in-Err.told (came_of t) c.append.result lines audits.1
-    (explained_reported c.told_lines.result (Err c.in-Err.told) c.append.result lines c.told_lines.ensures c.append.ensures.prints)
+    told_fits c.in-Err.told (came_of t) (came_of w) c.append.result lines audits.1
+    (explained_reported c.fault_told_lines.result (Err c.in-Err.told) c.append.result lines c.fault_told_lines.ensures c.append.ensures.prints)
 
 pub returns-in-Err-clause-yes : goal.returns-in-Err-clause-yes
 returns-in-Err-clause-yes g c =
@@ -68,5 +68,5 @@ returns-in-Err-clause-accepts g c = λ done.
     let d = c.explain_inputs.new.declaration in
     let w = c.explain_inputs.new.witness in
     let lines = appended_bytes c.args.out.now.items c.append.new.out.items in
-    let reported = explained_reported c.told_lines.result (Err c.in-Err.told) c.append.result lines c.told_lines.ensures c.append.ensures.prints in
+    let reported = explained_reported c.fault_told_lines.result (Err c.in-Err.told) c.append.result lines c.fault_told_lines.ensures c.append.ensures.prints in
     absurd (told_not_done c.in-Err.told c.append.result lines reported done)
