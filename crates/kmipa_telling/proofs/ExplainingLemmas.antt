@@ -144,7 +144,7 @@ fault_fits t w (audit.Witness f) None said front more lines is prints tells e = 
 fault_fits t w (audit.Transcript f) (Some x) said front more lines is prints tells e = absurd is
 fault_fits t w (audit.Declaration f) (Some x) said front more lines is prints tells e = absurd is
 fault_fits t w (audit.Witness f) (Some x) said front more lines is prints tells e = absurd is
-fault_fits t w (audit.Check f) m said front more lines is prints tells e = check_fits is.0 is.1 f m said front more lines is.2.2.2 prints.0 prints.1 tells e
+fault_fits t w (audit.Check f) m said front more lines is prints tells e = check_fits is.0 is.1 f m said front more lines is.4 prints.0 prints.1 tells e
 
 pub told_fits : (told : FaultTold) (t w : List ℕ) (said : Status) (lines : List ℕ) → IsAuditMeaning t w told.fault told.meaning → PrintsExplained (Err told) said lines ⊎ IsSilent said lines → FitsStatus said lines
 told_fits told t w said lines is (inl (front, more, prints, tells, e)) = fault_fits t w told.fault told.meaning said front more lines is prints tells e
@@ -168,6 +168,11 @@ module _ (records : AuditRecords) (t d w : List ℕ) (r : AreRecords records t d
   -- memory ran out
   pub bare_memory : (ft fd fw : Bool) → AuditsExplained t d w ft fd fw (Err (bare_fault (audit.Check check.Memory)))
   bare_memory ft fd fw = (unjudged check.Memory tt, (transcript_of records.transcript, witness_of records.witness, r.transcript, r.witness, tt))
+
+  pub memory_audited : (ft fd fw : Bool) (fault : CheckFault) (told : FaultTold) → fault ≡ check.Memory → told ≡ bare_fault (audit.Check fault) → AuditsExplained t d w ft fd fw (Err told)
+  memory_audited ft fd fw fault told is bare =
+      let P : FaultTold → Type 0 = λ x. AuditsExplained t d w ft fd fw (Err x) in
+      subst P (sym (bare ∙ ap (λ (f : CheckFault). bare_fault (audit.Check f)) is)) (bare_memory ft fd fw)
 
   pub fault_audited : (ft fd fw : Bool) (fault : CheckFault) (told : FaultTold) → Checks (transcript_of records.transcript) (declaration_of records.declaration) (witness_of records.witness) (Err fault)
       → IsFaultToldOf (transcript_of records.transcript) fault told → AuditsExplained t d w ft fd fw (Err told)

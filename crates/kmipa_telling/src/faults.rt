@@ -1,6 +1,6 @@
 //! What a fault means, told as lines and as members of a JSON object.
 
-ghost use Rattle.std.specs.Prelude.{IfOk, OnOk, string_bytes};
+ghost use Rattle.std.specs.Prelude.{IfOk, OnOk, Some, string_bytes};
 ghost use Rattle.kmipa_json.specs.Told.{members_of};
 ghost use Rattle.kmipa_record.specs.Marks.{AreRecorded};
 ghost use Rattle.kmipa_record.specs.Transcripts.{transcript_of};
@@ -80,9 +80,21 @@ fn tell_fault_meaning(
     ensures { OnOk result (TellsFaultMeaning meaning.now (members_of told.old) (members_of told.new)) }
 {
     match meaning {
-        Some(FaultMeaning::Outside(outside)) => {
+        Some(meaning) => tell_some_meaning(alloc, told, meaning),
+        None => Ok(()),
+    }
+}
+
+fn tell_some_meaning(
+    alloc: Global,
+    told: &mut JsonObject,
+    meaning: &FaultMeaning,
+) -> Result<(), AllocError>
+    ensures { OnOk result (TellsFaultMeaning (Some meaning.now) (members_of told.old) (members_of told.new)) }
+{
+    match meaning {
+        FaultMeaning::Outside(outside) => {
             told.put_object("explanation", outside_object(alloc, outside)?)
         }
-        None => Ok(()),
     }
 }
