@@ -16,6 +16,7 @@ use Rattle.kmipa_telling.specs.ExplainedJson.{ExplainsInputs, PrintsExplainedJso
 use Rattle.kmipa_telling.specs.Judging.{AreEnded, AuditsInputs}
 use Rattle.kmipa_telling.specs.Telling.{PrintsJson}
 use Rattle.kmipa_telling.specs.declared.explained.Explained.{Explained}
+use Rattle.kmipa_telling.specs.declared.fault_told.FaultTold.{FaultTold}
 use Rattle.kmipa_session.specs.declared.job.Form.{Form}
 use Rattle.kmipa_session.specs.declared.job.Form.TheVariants as form
 
@@ -40,7 +41,7 @@ pub record ChecksInLines {R : Type 0} (t d w : Input R) (said : Status) (lines :
 
 -- Behind those of a no stands what it means.
 pub record ChecksExplained {R : Type 0} (t d w : Input R) (said : Status) (lines : List ℕ) : Type 0 where
-  pub prints : (outcome : Result Explained AuditFault)
+  pub prints : (outcome : Result Explained FaultTold)
       × ((a b c : List ℕ) → IsFileOf a t → IsFileOf b d → IsFileOf c w → AuditsExplained a b c (is_failed t) (is_failed d) (is_failed w) outcome)
       × (PrintsExplained outcome said lines ⊎ IsSilent said lines)
   pub fits : FitsStatus said lines
@@ -54,7 +55,7 @@ pub record ChecksInJson {R : Type 0} (t d w : Input R) (said : Status) (lines : 
 
 -- One object, and with it what a no means.
 pub record ChecksExplainedInJson {R : Type 0} (t d w : Input R) (said : Status) (lines : List ℕ) : Type 0 where
-  pub prints : ((outcome : Result Explained AuditFault) × ExplainsInputs t d w outcome × PrintsExplainedJson t d w outcome said lines) ⊎ IsSilent said lines
+  pub prints : ((outcome : Result Explained FaultTold) × ExplainsInputs t d w outcome × PrintsExplainedJson t d w outcome said lines) ⊎ IsSilent said lines
   pub accepts : AcceptsWhenDone t d w said
 
 -- what a check of whole files says in this form

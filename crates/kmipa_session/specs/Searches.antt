@@ -17,6 +17,7 @@ use Rattle.kmipa_segments.specs.declared.segment_search.FoundSegment.{FoundSegme
 use Rattle.kmipa_telling.specs.Deciding.{DecidesFiles}
 use Rattle.kmipa_telling.specs.GivingUp.{PrintsGivingUp}
 use Rattle.kmipa_telling.specs.JsonSearches.{DecidesInputs, PrintsJsonSearch}
+use Rattle.kmipa_telling.specs.declared.fault_told.FaultTold.{FaultTold}
 use Rattle.kmipa_telling.specs.declared.judged.Judged.{Judged}
 use Rattle.kmipa_session.specs.declared.job.Form.{Form}
 use Rattle.kmipa_session.specs.declared.job.Form.TheVariants as form
@@ -39,14 +40,14 @@ pub record SearchesInLines {R : Type 0} (words : SearchWords) (t d : Input R) (s
 
 -- Behind those of a giving up stands what it means.
 pub record SearchesExplained {R : Type 0} (words : SearchWords) (t d : Input R) (said : Status) (lines made : List ℕ) : Type 0 where
-  pub prints : (outcome : Result Judged AuditFault)
+  pub prints : (outcome : Result Judged FaultTold)
       × ((a b : List ℕ) → IsFileOf a t → IsFileOf b d → DecidesFiles a b (is_failed t) (is_failed d) words.budget words.forced outcome)
       × (PrintsGivingUp outcome said lines made ⊎ MakesNothing said lines made)
   pub accepts : FindsWhenDone t d said made
 
 -- One object in place of the lines, which has that too.
 pub record SearchesInJson {R : Type 0} (words : SearchWords) (t d : Input R) (said : Status) (lines made : List ℕ) : Type 0 where
-  pub prints : ((outcome : Result Judged AuditFault) × DecidesInputs t d words.budget words.forced outcome × PrintsJsonSearch t d outcome said lines made)
+  pub prints : ((outcome : Result Judged FaultTold) × DecidesInputs t d words.budget words.forced outcome × PrintsJsonSearch t d outcome said lines made)
       ⊎ MakesNothing said lines made
   pub accepts : FindsWhenDone t d said made
 
