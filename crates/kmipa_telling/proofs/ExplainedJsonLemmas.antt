@@ -21,6 +21,7 @@ use Rattle.kmipa_telling.specs.ExplainedJson.{ExplainsInputs, PrintsExplainedJso
 use Rattle.kmipa_telling.specs.Judging.{AreEnded, WhereRead}
 use Rattle.kmipa_telling.specs.Telling.{TellsVerdict}
 use Rattle.kmipa_telling.specs.declared.explained.Explained.{Explained}
+use Rattle.kmipa_telling.specs.declared.fault_told.FaultTold.{FaultTold}
 use Rattle.kmipa_telling.proofs.ExplainingLemmas.{yes_explained}
 use Rattle.kmipa_telling.proofs.JsonLemmas.{fault_not_done, silent_not_done}
 use Rattle.serde_json.specs.Data.{Members}
@@ -52,9 +53,9 @@ told_yes marks turns (verdict.No r) said before after tells done = let clash : s
 
 -- what is printed of what a check with explanations answers
 abbrev pub ToldCheck : {R : Type 0} → Input R → Input R → Input R → Status → List ℕ → Type 0
-ToldCheck t d w said lines = (outcome : Result Explained AuditFault) × ExplainsInputs t d w outcome × PrintsExplainedJson t d w outcome said lines
+ToldCheck t d w said lines = (outcome : Result Explained FaultTold) × ExplainsInputs t d w outcome × PrintsExplainedJson t d w outcome said lines
 
-explained_done : {R : Type 0} (t d w : Input R) (outcome : Result Explained AuditFault) (said : Status) (lines : List ℕ) → ExplainsInputs t d w outcome
+explained_done : {R : Type 0} (t d w : Input R) (outcome : Result Explained FaultTold) (said : Status) (lines : List ℕ) → ExplainsInputs t d w outcome
     → PrintsExplainedJson t d w outcome said lines → said ≡ status.Done → AreAccepted (came_of t) (came_of d) (came_of w) × AreEnded t d w
 explained_done t d w (Ok explained) said lines audits (told, (verdict, tells, more), is) done =
     let yes = told_yes (transcript_of explained.records.transcript) (witness_of explained.records.witness) explained.verdict said _ verdict tells done in (
@@ -62,7 +63,7 @@ explained_done t d w (Ok explained) said lines audits (told, (verdict, tells, mo
           (audits.0 (came_of t) (came_of d) (came_of w) (itself t) (itself d) (itself w)),
       audits.1,
     )
-explained_done t d w (Err fault) said lines audits prints done = absurd (fault_not_done fault (sym prints.1.0 ∙ done))
+explained_done t d w (Err fault) said lines audits (told, (without, tells, more), is) done = absurd (fault_not_done fault.fault (sym tells.0 ∙ done))
 
 pub done_is_explained : {R : Type 0} (t d w : Input R) (said : Status) (lines : List ℕ) → ToldCheck t d w said lines ⊎ IsSilent said lines
     → said ≡ status.Done → AreAccepted (came_of t) (came_of d) (came_of w) × AreEnded t d w

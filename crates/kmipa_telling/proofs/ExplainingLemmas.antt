@@ -4,23 +4,33 @@ use Rattle.std.specs.Prelude.{IfOk, IsOkAnd, string_bytes}
 use Rattle.std.specs.Io.{StartsWith}
 use Rattle.std.specs.declared.alloc.AllocError.{AllocError}
 use Rattle.kmipa_record.specs.Marks.{MarkOf}
-use Rattle.kmipa_record.specs.Declarations.{declaration_of}
+use Rattle.kmipa_record.specs.Declarations.{DeclarationOf, declaration_of}
 use Rattle.kmipa_record.specs.Transcripts.{transcript_of}
 use Rattle.kmipa_record.specs.Witnesses.{TurnOf, witness_of}
-use Rattle.kmipa_check.specs.Audits.{AreAccepted}
+use Rattle.kmipa_record.specs.declared.fault.RecordKind.{RecordKind}
+use Rattle.kmipa_record.specs.declared.fault.RecordKind.TheVariants.{Ttlv, Device, Memory}
+use Rattle.std.proofs.lemmas.List.{append-nil}
+use Rattle.kmipa_check.specs.Audits.{AreAccepted, AreRecords, AreUnjudged, AuditFails, ReadingFails}
+use Rattle.kmipa_check.specs.Verdicts.{Checks}
+use Rattle.kmipa_check.specs.declared.auditing.AuditFault.TheVariants as audit
+use Rattle.kmipa_check.specs.declared.fault.CheckFault.{CheckFault}
+use Rattle.kmipa_check.specs.declared.fault.CheckFault.TheVariants as check
 use Rattle.kmipa_check.specs.declared.auditing.AuditFault.{AuditFault}
 use Rattle.kmipa_check.specs.declared.auditing.AuditRecords.{AuditRecords}
 use Rattle.kmipa_check.specs.declared.verdict.Verdict.{Verdict}
 use Rattle.kmipa_check.specs.declared.verdict.Verdict.TheVariants as verdict
 use Rattle.kmipa_explain.specs.declared.explanation.Explanation.{Explanation}
-use Rattle.kmipa_runs.specs.Lines.{FitsStatus, PrintsVerdict, device_line, yes_line}
+use Rattle.kmipa_runs.specs.Lines.{FitsStatus, PrintsFault, PrintsVerdict, check_status, check_text, device_line, record_status, record_text, yes_line}
 use Rattle.kmipa_runs.specs.Statuses.{IsSilent}
 use Rattle.kmipa_runs.specs.declared.lines.Lines.{Lines}
 use Rattle.kmipa_runs.specs.declared.status.Status.{Status}
 use Rattle.kmipa_runs.specs.declared.status.Status.TheVariants as status
 use Rattle.kmipa_runs.proofs.LineLemmas.{done_is_yes}
 use Rattle.kmipa_telling.specs.Explaining.{AreExplained, AuditsExplained, IsExplained, PrintsExplained, PrintsMore, TellsRecords}
+use Rattle.kmipa_telling.specs.FaultsTold.{IsAuditMeaning, IsCheckMeaning, IsFaultOf, IsFaultToldOf, PrintsFaultMeaning, bare_fault}
 use Rattle.kmipa_telling.specs.declared.explained.Explained.{Explained}
+use Rattle.kmipa_telling.specs.declared.fault_told.FaultMeaning.{FaultMeaning}
+use Rattle.kmipa_telling.specs.declared.fault_told.FaultTold.{FaultTold}
 use Rattle.kmipa_telling.proofs.JsonLemmas.{fault_not_done}
 
 -- ---- status 0
@@ -41,17 +51,17 @@ yes_explained t d w explained verdict.Yes is e a =
     }
 
 -- status 0 is reported of accepted bytes alone
-pub done_accepted : (t d w : List ℕ) (ft fd fw : Bool) (outcome : Result Explained AuditFault) (said : Status) (lines : List ℕ) → AuditsExplained t d w ft fd fw outcome
+pub done_accepted : (t d w : List ℕ) (ft fd fw : Bool) (outcome : Result Explained FaultTold) (said : Status) (lines : List ℕ) → AuditsExplained t d w ft fd fw outcome
     → PrintsExplained outcome said lines ⊎ IsSilent said lines → said ≡ status.Done → AreAccepted t d w
 done_accepted t d w ft fd fw outcome said lines audits (inr silent) done = let clash : status.Failed ≡ status.Done = sym silent.0 ∙ done in absurd cc
-done_accepted t d w ft fd fw (Err fault) said lines audits (inl prints) done = absurd (fault_not_done fault (sym prints.0 ∙ done))
+done_accepted t d w ft fd fw (Err told) said lines audits (inl (front, more, prints, outside, e)) done = absurd (fault_not_done told.fault (sym prints.0 ∙ done))
 done_accepted t d w ft fd fw (Ok explained) said lines audits (inl prints) done =
     let yes = done_is_yes (transcript_of explained.records.transcript) (witness_of explained.records.witness) explained.verdict said prints.0 (inl prints.2) done in
     yes_explained t d w explained explained.verdict refl yes audits
 
 -- ---- what is appended
 
-pub explained_reported : (made : Result Lines AllocError) (outcome : Result Explained AuditFault) (said : Status) (lines : List ℕ)
+pub explained_reported : (made : Result Lines AllocError) (outcome : Result Explained FaultTold) (said : Status) (lines : List ℕ)
     → IfOk made (λ l. PrintsExplained outcome l.status (string_bytes l.text))
     → IsOkAnd made (λ l. (said ≡ l.status) × (lines ≡ string_bytes l.text)) ⊎ IsSilent said lines → PrintsExplained outcome said lines ⊎ IsSilent said lines
 explained_reported made outcome said lines told (inr silent) = inr silent
@@ -98,3 +108,90 @@ explained_fits explained t d w said lines a (inl (front, more, prints, tells, e)
 explained_fits explained t d w said lines a (inr silent) =
     let P : Status → Type 0 = λ s. FitsStatus s lines in
     subst P (sym silent.0) (inr silent.1)
+
+-- ---- faults
+
+-- the line of a fault of a file
+record_fits : (file : List ℕ) (offset : ℕ) (kind : RecordKind) → FitsStatus (record_status kind) (record_text file offset kind)
+record_fits file offset Device = inl refl
+record_fits file offset Memory = inr refl
+record_fits file offset (Ttlv flaw) = inr (inr refl)
+record_fits file offset _ = inr (inr refl)
+
+-- nothing stands behind it
+alone : (said place : Status) (text front more lines : List ℕ) → FitsStatus place text → said ≡ place → front ≡ text → more ≡ [] → lines ≡ front ++ more → FitsStatus said lines
+alone said place text front more lines fits s f m e =
+    let P : Status → Type 0 = λ x. FitsStatus x lines in
+    let Q : List ℕ → Type 0 = λ x. FitsStatus place x in
+    subst P (sym s) (subst Q (sym (e ∙ ap (λ (l : List ℕ). front ++ l) m ∙ append-nil front ∙ f)) fits)
+
+check_fits : (marks : List MarkOf) (turns : List TurnOf) (fault : CheckFault) (m : Option FaultMeaning) (said : Status) (front more lines : List ℕ) → IsCheckMeaning marks turns fault m → said ≡ check_status fault
+    → front ≡ check_text fault → PrintsFaultMeaning m more → lines ≡ front ++ more → FitsStatus said lines
+check_fits marks turns (check.Outside number side x) m said front more lines is s f tells e =
+    let P : Status → Type 0 = λ y. FitsStatus y lines in
+    subst P (sym s) (inl (ap (take (length (codes "outside: call "))) (e ∙ ap (λ (l : List ℕ). l ++ more) f)))
+check_fits marks turns (check.Witness w) m said front more lines is s f tells e =
+    let P : Status → Type 0 = λ y. FitsStatus y lines in
+    subst P (sym s) (inr (inl (ap (take (length (codes "witness: at "))) (e ∙ ap (λ (l : List ℕ). l ++ more) f))))
+check_fits marks turns check.Memory None said front more lines is s f tells e = alone said status.Failed [] front more lines (inr refl) s f tells e
+check_fits marks turns check.Memory (Some x) said front more lines is s f tells e = absurd is
+
+fault_fits : (t w : List ℕ) (fault : AuditFault) (m : Option FaultMeaning) (said : Status) (front more lines : List ℕ) → IsAuditMeaning t w fault m → PrintsFault fault said front → PrintsFaultMeaning m more
+    → lines ≡ front ++ more → FitsStatus said lines
+fault_fits t w (audit.Transcript f) None said front more lines is prints tells e = alone said _ _ front more lines (record_fits (codes "transcript") f.offset f.kind) prints.0 prints.1 tells e
+fault_fits t w (audit.Declaration f) None said front more lines is prints tells e = alone said _ _ front more lines (record_fits (codes "declaration") f.offset f.kind) prints.0 prints.1 tells e
+fault_fits t w (audit.Witness f) None said front more lines is prints tells e = alone said _ _ front more lines (record_fits (codes "witness") f.offset f.kind) prints.0 prints.1 tells e
+fault_fits t w (audit.Transcript f) (Some x) said front more lines is prints tells e = absurd is
+fault_fits t w (audit.Declaration f) (Some x) said front more lines is prints tells e = absurd is
+fault_fits t w (audit.Witness f) (Some x) said front more lines is prints tells e = absurd is
+fault_fits t w (audit.Check f) m said front more lines is prints tells e = check_fits is.0 is.1 f m said front more lines is.2.2.2 prints.0 prints.1 tells e
+
+pub told_fits : (told : FaultTold) (t w : List ℕ) (said : Status) (lines : List ℕ) → IsAuditMeaning t w told.fault told.meaning → PrintsExplained (Err told) said lines ⊎ IsSilent said lines → FitsStatus said lines
+told_fits told t w said lines is (inl (front, more, prints, tells, e)) = fault_fits t w told.fault told.meaning said front more lines is prints tells e
+told_fits told t w said lines is (inr silent) =
+    let P : Status → Type 0 = λ s. FitsStatus s lines in
+    subst P (sym silent.0) (inr silent.1)
+
+-- what a check of these records tells of its fault
+module _ (records : AuditRecords) (t d w : List ℕ) (r : AreRecords records t d w) where
+  unjudged : (f : CheckFault) → Checks (transcript_of records.transcript) (declaration_of records.declaration) (witness_of records.witness) (Err f) → AreUnjudged f t d w
+  unjudged f h = record {
+    marks = transcript_of records.transcript;
+    transcript = r.transcript;
+    declared = declaration_of records.declaration;
+    declaration = r.declaration;
+    turns = witness_of records.witness;
+    witness = r.witness;
+    checks = h;
+  }
+
+  -- memory ran out
+  pub bare_memory : (ft fd fw : Bool) → AuditsExplained t d w ft fd fw (Err (bare_fault (audit.Check check.Memory)))
+  bare_memory ft fd fw = (unjudged check.Memory tt, (transcript_of records.transcript, witness_of records.witness, r.transcript, r.witness, tt))
+
+  pub fault_audited : (ft fd fw : Bool) (fault : CheckFault) (told : FaultTold) → Checks (transcript_of records.transcript) (declaration_of records.declaration) (witness_of records.witness) (Err fault)
+      → IsFaultToldOf (transcript_of records.transcript) fault told → AuditsExplained t d w ft fd fw (Err told)
+  fault_audited ft fd fw fault told checks (inl is) =
+      let P : AuditFault → Type 0 = λ f. AuditFails t d w ft fd fw f × IsAuditMeaning t w f told.meaning in
+      subst P (sym is.0) (unjudged fault checks, (transcript_of records.transcript, witness_of records.witness, r.transcript, r.witness, is.1))
+  fault_audited ft fd fw fault told checks (inr is) =
+      let P : FaultTold → Type 0 = λ x. AuditsExplained t d w ft fd fw (Err x) in
+      subst P (sym is) (bare_memory ft fd fw)
+
+-- the fault of a check, where it is of a message
+pub fault_of : (marks : List MarkOf) (declared : DeclarationOf) (turns : List TurnOf) (fault : CheckFault) → Checks marks declared turns (Err fault) → IsFaultOf marks fault
+fault_of marks declared turns (check.Outside number side o) h = h
+fault_of marks declared turns (check.Witness w) h = tt
+fault_of marks declared turns check.Memory h = tt
+
+-- a fault of reading is told alone
+pub bare_reading : (t d w : List ℕ) (ft fd fw : Bool) (fault : AuditFault) → ReadingFails t d w ft fd fw fault → AuditsExplained t d w ft fd fw (Err (bare_fault fault))
+bare_reading t d w ft fd fw (audit.Transcript f) h = (h, tt)
+bare_reading t d w ft fd fw (audit.Declaration f) h = (h, tt)
+bare_reading t d w ft fd fw (audit.Witness f) h = (h, tt)
+bare_reading t d w ft fd fw (audit.Check f) h = absurd h
+
+-- a fault is told with another status than 0
+pub told_not_done : (told : FaultTold) (said : Status) (lines : List ℕ) → PrintsExplained (Err told) said lines ⊎ IsSilent said lines → said ≡ status.Done → ⊥
+told_not_done told said lines (inl (front, more, prints, tells, e)) done = fault_not_done told.fault (sym prints.0 ∙ done)
+told_not_done told said lines (inr silent) done = let clash : status.Failed ≡ status.Done = sym silent.0 ∙ done in absurd cc

@@ -1,24 +1,31 @@
 -- What is made and printed of a search that says what its giving up means.
-use Rattle.std.proofs.Common.{◌≡◌, ◌⊎◌, inl, inr, ℕ, List, [], Bool, IsTrue, Ok, refl, sym, ap, subst, ◌∙◌}
+use Rattle.std.proofs.Common.{◌≡◌, ◌⊎◌, inl, inr, ℕ, List, [], Bool, IsTrue, Ok, Err, refl, sym, ap, subst, ◌∙◌}
 use Rattle.kmipa_ttlv.specs.Input.{came_of, is_ended, IsFileOf}
 use Rattle.kmipa_ttlv.specs.declared.input.Input.{Input}
 use Rattle.kmipa_ttlv.proofs.ReadLemmas.{whole_file}
-use Rattle.kmipa_record.specs.Marks.{AreRecorded}
+use Rattle.kmipa_record.specs.Marks.{AreRecorded, MarkOf}
 use Rattle.kmipa_record.specs.Transcripts.{transcript_of, IsTranscript}
 use Rattle.kmipa_record.specs.Declarations.{declaration_of, IsDeclaration}
 use Rattle.kmipa_record.specs.Witnesses.{witness_of}
 use Rattle.kmipa_record.specs.declared.declaration.Declaration.{Declaration}
 use Rattle.kmipa_record.specs.declared.transcript.Transcript.{Transcript}
+use Rattle.kmipa_record.specs.declared.fault.RecordFault.{RecordFault}
 use Rattle.kmipa_check.specs.Audits.{AreAccepted}
+use Rattle.kmipa_check.specs.declared.auditing.AuditFault.{AuditFault}
+use Rattle.kmipa_check.specs.declared.auditing.AuditFault.TheVariants as audit
+use Rattle.kmipa_check.specs.declared.fault.CheckFault.{CheckFault}
+use Rattle.kmipa_check.specs.declared.fault.CheckFault.TheVariants as check
 use Rattle.kmipa_search.specs.Found.{Finds}
 use Rattle.kmipa_search.specs.declared.found.Found.{Found}
 use Rattle.kmipa_search.specs.declared.found.Found.TheVariants.{Yes, GaveUp}
-use Rattle.kmipa_runs.specs.Searches.{found_status, Makes}
+use Rattle.kmipa_runs.specs.Searches.{AreUnsearched, SearchFails, SearchStops, found_status, Makes}
 use Rattle.kmipa_runs.specs.Statuses.{IsSilent}
 use Rattle.kmipa_runs.specs.declared.status.Status.{Status}
 use Rattle.kmipa_runs.specs.declared.status.Status.TheVariants as status
-use Rattle.kmipa_telling.specs.Deciding.{AreDecided, DecidesRecords}
+use Rattle.kmipa_telling.specs.Deciding.{AreDecided, DecidesFiles, DecidesRecords}
+use Rattle.kmipa_telling.specs.FaultsTold.{IsFaultOf, IsFaultToldOf, IsSearchMeaning, bare_fault}
 use Rattle.kmipa_telling.specs.GivingUp.{PrintsGivingUp}
+use Rattle.kmipa_telling.specs.declared.fault_told.FaultTold.{FaultTold}
 use Rattle.kmipa_telling.specs.declared.judged.Judged.{Judged}
 
 -- ---- the inputs
@@ -63,3 +70,31 @@ pub done_is_decided : (judged : Judged) (t d : List ℕ) (budget : ℕ) (asked :
     → PrintsGivingUp (Ok judged) said lines made ⊎ (IsSilent said lines × (made ≡ [])) → said ≡ status.Done → AreAccepted t d made
 done_is_decided judged t d budget asked said lines made a (inr p) done = let clash : status.Failed ≡ status.Done = sym p.0.0 ∙ done in absurd cc
 done_is_decided judged t d budget asked said lines made a (inl p) done = done_accepted judged t d budget asked said made a p.0 p.2 done
+
+-- ---- faults
+
+-- the fault of a search, where it is of a message
+pub stop_of : (marks : List MarkOf) (fault : CheckFault) → SearchStops marks fault → IsFaultOf marks fault
+stop_of marks (check.Outside number side o) h = h
+stop_of marks (check.Witness w) h = absurd h
+stop_of marks check.Memory h = tt
+
+-- a fault of a file is told alone
+pub bare_transcript : (t d : List ℕ) (ft fd : Bool) (budget : ℕ) (asked : Bool) (fault : RecordFault) → SearchFails t d ft fd (audit.Transcript fault)
+    → DecidesFiles t d ft fd budget asked (Err (bare_fault (audit.Transcript fault)))
+bare_transcript t d ft fd budget asked fault h = (h, tt)
+
+pub bare_declaration : (t d : List ℕ) (ft fd : Bool) (budget : ℕ) (asked : Bool) (fault : RecordFault) → SearchFails t d ft fd (audit.Declaration fault)
+    → DecidesFiles t d ft fd budget asked (Err (bare_fault (audit.Declaration fault)))
+bare_declaration t d ft fd budget asked fault h = (h, tt)
+
+-- what a search of records tells of its fault
+pub stop_told : (t d : List ℕ) (ft fd : Bool) (budget : ℕ) (asked : Bool) (marks : List MarkOf) (fault : CheckFault) (told : FaultTold) → AreUnsearched fault t d → IsTranscript t marks
+    → IsFaultToldOf marks fault told → DecidesFiles t d ft fd budget asked (Err told)
+stop_told t d ft fd budget asked marks fault told a is (inl p) =
+    let P : AuditFault → Type 0 = λ f. SearchFails t d ft fd f × IsSearchMeaning t f told.meaning in
+    subst P (sym p.0) (a, (marks, is, p.1))
+stop_told t d ft fd budget asked marks fault told a is (inr p) =
+    let P : FaultTold → Type 0 = λ x. DecidesFiles t d ft fd budget asked (Err x) in
+    let memory : AreUnsearched check.Memory t d = record { marks = a.marks; transcript = a.transcript; declared = a.declared; declaration = a.declaration; stops = tt } in
+    subst P (sym p) (memory, (marks, is, tt))

@@ -6,23 +6,23 @@ use Rattle.kmipa_ttlv.specs.Input.{came_of}
 use Rattle.kmipa_ttlv.specs.declared.input.Input.{Input}
 use Rattle.kmipa_ttlv.proofs.ReadLemmas.{itself}
 use Rattle.kmipa_check.specs.Audits.{AreAccepted}
-use Rattle.kmipa_check.specs.declared.auditing.AuditFault.{AuditFault}
 use Rattle.kmipa_runs.specs.Statuses.{IsSilent}
 use Rattle.kmipa_runs.specs.declared.status.Status.{Status}
 use Rattle.kmipa_runs.specs.declared.status.Status.TheVariants as status
 use Rattle.kmipa_telling.specs.JsonSearches.{BothEnded, DecidesInputs, PrintsJsonSearch}
 use Rattle.kmipa_telling.specs.declared.json_search.Answer.{Answer}
+use Rattle.kmipa_telling.specs.declared.fault_told.FaultTold.{FaultTold}
 use Rattle.kmipa_telling.specs.declared.judged.Judged.{Judged}
 use Rattle.kmipa_telling.proofs.GivingUpLemmas.{done_accepted}
 use Rattle.kmipa_telling.proofs.JsonLemmas.{fault_not_done, silent_not_done}
 
 -- what is printed and made of what a search answers
 abbrev pub ToldSearch : {R : Type 0} → Input R → Input R → ℕ → Bool → Status → List ℕ → List ℕ → Type 0
-ToldSearch t d budget asked said lines made = (outcome : Result Judged AuditFault) × DecidesInputs t d budget asked outcome × PrintsJsonSearch t d outcome said lines made
+ToldSearch t d budget asked said lines made = (outcome : Result Judged FaultTold) × DecidesInputs t d budget asked outcome × PrintsJsonSearch t d outcome said lines made
 
-found_done : {R : Type 0} (t d : Input R) (budget : ℕ) (asked : Bool) (outcome : Result Judged AuditFault) (said : Status) (lines made : List ℕ) → DecidesInputs t d budget asked outcome
+found_done : {R : Type 0} (t d : Input R) (budget : ℕ) (asked : Bool) (outcome : Result Judged FaultTold) (said : Status) (lines made : List ℕ) → DecidesInputs t d budget asked outcome
     → PrintsJsonSearch t d outcome said lines made → said ≡ status.Done → AreAccepted (came_of t) (came_of d) made × BothEnded t d
-found_done t d budget asked (Err fault) said lines made decides prints done = absurd (fault_not_done fault (sym prints.1.1.0 ∙ done))
+found_done t d budget asked (Err told) said lines made decides (none, members, (without, tells, more), is) done = absurd (fault_not_done told.fault (sym tells.0 ∙ done))
 found_done t d budget asked (Ok judged) said lines made decides prints done =
     let are = decides.0 (came_of t) (came_of d) (itself t) (itself d) in
     (done_accepted judged (came_of t) (came_of d) budget asked said made are prints.1.1.0 prints.0 done, decides.1)

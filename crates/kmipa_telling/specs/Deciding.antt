@@ -8,7 +8,6 @@ use Rattle.kmipa_check.specs.Calls.{CallOf, AreCalls}
 use Rattle.kmipa_check.specs.Plain.{IsPlainCall}
 use Rattle.kmipa_check.specs.Runs.{IsExplained}
 use Rattle.kmipa_check.specs.Steps.{StepOf}
-use Rattle.kmipa_check.specs.declared.auditing.AuditFault.{AuditFault}
 use Rattle.kmipa_check.specs.declared.fault.CheckFault.{CheckFault}
 use Rattle.kmipa_check.specs.declared.fault.CheckFault.TheVariants.{Memory}
 use Rattle.kmipa_search.specs.Found.{HasDecided}
@@ -18,6 +17,8 @@ use Rattle.kmipa_search.specs.declared.found.Found.{Found}
 use Rattle.kmipa_search.specs.declared.found.Found.TheVariants.{Yes, GaveUp}
 use Rattle.kmipa_search.specs.declared.stuck.Reached.{Reached}
 use Rattle.kmipa_runs.specs.Searches.{SearchFails, SearchStops, SearchesRecords}
+use Rattle.kmipa_telling.specs.FaultsTold.{IsSearchMeaning}
+use Rattle.kmipa_telling.specs.declared.fault_told.FaultTold.{FaultTold}
 use Rattle.kmipa_telling.specs.declared.judged.Decision.{Decision}
 use Rattle.kmipa_telling.specs.declared.judged.Decision.TheVariants as decision
 use Rattle.kmipa_telling.specs.declared.judged.Judged.{Judged}
@@ -89,7 +90,7 @@ pub record AreDecided (judged : Judged) (t d : List ℕ) (budget : ℕ) (asked :
   pub declaration : IsDeclaration d declared
   pub judges : DecidesRecords marks declared budget asked (Ok judged)
 
--- what a search of two files answers; its faults are those of a search that says nothing of giving up
-abbrev pub DecidesFiles : List ℕ → List ℕ → Bool → Bool → ℕ → Bool → Result Judged AuditFault → Type 0
+-- what a search of two files answers; its faults are those of a search that says nothing of giving up, with what they mean
+abbrev pub DecidesFiles : List ℕ → List ℕ → Bool → Bool → ℕ → Bool → Result Judged FaultTold → Type 0
 DecidesFiles t d failed_t failed_d budget asked (Ok judged) = AreDecided judged t d budget asked
-DecidesFiles t d failed_t failed_d budget asked (Err fault) = SearchFails t d failed_t failed_d fault
+DecidesFiles t d failed_t failed_d budget asked (Err told) = SearchFails t d failed_t failed_d told.fault × IsSearchMeaning t told.fault told.meaning

@@ -6,27 +6,28 @@ use Rattle.kmipa_ttlv.specs.Input.{is_failed, IsFileOf}
 use Rattle.kmipa_ttlv.specs.declared.input.Input.{Input}
 use Rattle.kmipa_record.specs.Transcripts.{transcript_of}
 use Rattle.kmipa_record.specs.Witnesses.{witness_of}
-use Rattle.kmipa_check.specs.declared.auditing.AuditFault.{AuditFault}
 use Rattle.kmipa_runs.specs.declared.status.Status.{Status}
 use Rattle.kmipa_telling.specs.Claims.{TellsMeaning}
 use Rattle.kmipa_telling.specs.Explaining.{AuditsExplained}
+use Rattle.kmipa_telling.specs.FaultsTold.{TellsFaultTold, by_fault}
 use Rattle.kmipa_telling.specs.Judging.{AreEnded, WhereRead}
-use Rattle.kmipa_telling.specs.Telling.{TellsFault, TellsVerdict, check_files, opened}
+use Rattle.kmipa_telling.specs.Telling.{TellsVerdict, check_files, opened}
 use Rattle.kmipa_telling.specs.declared.explained.Explained.{Explained}
+use Rattle.kmipa_telling.specs.declared.fault_told.FaultTold.{FaultTold}
 
 -- what a check with explanations answers of three inputs, whatever follows what came
-abbrev pub ExplainsInputs : {R : Type 0} → Input R → Input R → Input R → Result Explained AuditFault → Type 0
+abbrev pub ExplainsInputs : {R : Type 0} → Input R → Input R → Input R → Result Explained FaultTold → Type 0
 ExplainsInputs t d w outcome = ((a b c : List ℕ) → IsFileOf a t → IsFileOf b d → IsFileOf c w
-    → AuditsExplained a b c (is_failed t) (is_failed d) (is_failed w) outcome) × WhereRead outcome (AreEnded t d w)
+    → AuditsExplained a b c (is_failed t) (is_failed d) (is_failed w) outcome) × WhereRead (by_fault outcome) (AreEnded t d w)
 
--- what is told of it: of a verdict what it means besides, and of a fault what is told of it elsewhere
-abbrev pub TellsExplained : Result Explained AuditFault → Status → Members → Members → Type 0
+-- what is told of it: of a verdict what it means besides, and of a fault what it means
+abbrev pub TellsExplained : Result Explained FaultTold → Status → Members → Members → Type 0
 TellsExplained (Ok explained) said before after = (told : Members)
     × TellsVerdict (transcript_of explained.records.transcript) (witness_of explained.records.witness) explained.verdict said before told
     × TellsMeaning explained.explanation told after
-TellsExplained (Err fault) said before after = TellsFault fault said before after
+TellsExplained (Err told) said before after = TellsFaultTold told said before after
 
 -- what is printed of this outcome: one object on a line
-abbrev pub PrintsExplainedJson : {R : Type 0} → Input R → Input R → Input R → Result Explained AuditFault → Status → List ℕ → Type 0
+abbrev pub PrintsExplainedJson : {R : Type 0} → Input R → Input R → Input R → Result Explained FaultTold → Status → List ℕ → Type 0
 PrintsExplainedJson t d w outcome said lines = (told : Members) × TellsExplained outcome said (opened (check_files t d w)) told
     × (lines ≡ line_of (object told))

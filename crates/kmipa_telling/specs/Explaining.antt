@@ -5,17 +5,18 @@ use Rattle.kmipa_record.specs.Transcripts.{transcript_of}
 use Rattle.kmipa_record.specs.Witnesses.{witness_of}
 use Rattle.kmipa_check.specs.Audits.{AreRecords, AuditFails}
 use Rattle.kmipa_check.specs.Verdicts.{TellsVerdict}
-use Rattle.kmipa_check.specs.declared.auditing.AuditFault.{AuditFault}
 use Rattle.kmipa_check.specs.declared.auditing.AuditRecords.{AuditRecords}
 use Rattle.kmipa_check.specs.declared.verdict.Refused.{Refused}
 use Rattle.kmipa_check.specs.declared.verdict.Verdict.{Verdict}
 use Rattle.kmipa_check.specs.declared.verdict.Verdict.TheVariants as verdict
 use Rattle.kmipa_explain.specs.Explanations.{Explains}
 use Rattle.kmipa_explain.specs.declared.explanation.Explanation.{Explanation}
-use Rattle.kmipa_runs.specs.Lines.{PrintsFault, PrintsVerdict}
+use Rattle.kmipa_runs.specs.Lines.{PrintsVerdict}
 use Rattle.kmipa_runs.specs.declared.status.Status.{Status}
 use Rattle.kmipa_telling.specs.Explained.{PrintsExplanation}
+use Rattle.kmipa_telling.specs.FaultsTold.{IsAuditMeaning, PrintsFaultTold}
 use Rattle.kmipa_telling.specs.declared.explained.Explained.{Explained}
+use Rattle.kmipa_telling.specs.declared.fault_told.FaultTold.{FaultTold}
 
 -- ---- what is explained
 
@@ -40,10 +41,10 @@ pub record AreExplained (judged : Explained) (t d w : List ℕ) : Type 0 where
   pub verdict : TellsRecords judged.records judged.verdict
   pub explained : IsExplained judged.records judged.verdict judged.explanation
 
--- what a check with explanations answers of these three files; its faults are those of an audit
-abbrev pub AuditsExplained : List ℕ → List ℕ → List ℕ → Bool → Bool → Bool → Result Explained AuditFault → Type 0
+-- what a check with explanations answers of these three files; its faults are those of an audit, with what they mean
+abbrev pub AuditsExplained : List ℕ → List ℕ → List ℕ → Bool → Bool → Bool → Result Explained FaultTold → Type 0
 AuditsExplained t d w failed_t failed_d failed_w (Ok explained) = AreExplained explained t d w
-AuditsExplained t d w failed_t failed_d failed_w (Err fault) = AuditFails t d w failed_t failed_d failed_w fault
+AuditsExplained t d w failed_t failed_d failed_w (Err told) = AuditFails t d w failed_t failed_d failed_w told.fault × IsAuditMeaning t w told.fault told.meaning
 
 -- ---- what is printed
 
@@ -52,9 +53,9 @@ abbrev pub PrintsMore : Option Explanation → List ℕ → Type 0
 PrintsMore None lines = lines ≡ []
 PrintsMore (Some e) lines = PrintsExplanation e lines
 
--- the lines of the verdict, and behind them those of its explanation; a fault has its own line alone
-abbrev pub PrintsExplained : Result Explained AuditFault → Status → List ℕ → Type 0
+-- the lines of the verdict, and behind them those of its explanation; or the line of a fault, and behind it those of what it means
+abbrev pub PrintsExplained : Result Explained FaultTold → Status → List ℕ → Type 0
 PrintsExplained (Ok explained) said lines = (front more : List ℕ)
     × PrintsVerdict (transcript_of explained.records.transcript) (witness_of explained.records.witness) explained.verdict said front
     × PrintsMore explained.explanation more × (lines ≡ front ++ more)
-PrintsExplained (Err fault) said lines = PrintsFault fault said lines
+PrintsExplained (Err told) said lines = PrintsFaultTold told said lines

@@ -1,12 +1,13 @@
 -- What `search --explain` makes and prints: the lines of a search, and behind those of a giving up whether it has decided, and its deepest place.
 use Rattle.std.specs.Prelude.{◌≡◌, ℕ, List, [], ◌∷◌, ◌++◌, codes, Option, Some, None, Result, Ok, Err}
 use Rattle.std.specs.Fmt.{decimal}
-use Rattle.kmipa_check.specs.declared.auditing.AuditFault.{AuditFault}
-use Rattle.kmipa_runs.specs.Lines.{line, PrintsFault}
+use Rattle.kmipa_runs.specs.Lines.{line}
 use Rattle.kmipa_runs.specs.Searches.{found_status, found_text, forced_text, Makes}
 use Rattle.kmipa_runs.specs.declared.status.Status.{Status}
 use Rattle.kmipa_telling.specs.Deepest.{reached_text}
+use Rattle.kmipa_telling.specs.FaultsTold.{PrintsFaultTold}
 use Rattle.kmipa_telling.specs.Phrases.{calls_text}
+use Rattle.kmipa_telling.specs.declared.fault_told.FaultTold.{FaultTold}
 use Rattle.kmipa_telling.specs.declared.judged.Decision.{Decision}
 use Rattle.kmipa_telling.specs.declared.judged.Decision.TheVariants as decision
 use Rattle.kmipa_telling.specs.declared.judged.Judged.{Judged}
@@ -26,8 +27,8 @@ decision_text (Some said) = decision_line said
 abbrev pub judged_text : Judged → List ℕ
 judged_text judged = (forced_text judged.searched.forced ++ found_text judged.searched.found) ++ (decision_text judged.decision ++ reached_text judged.reached)
 
--- What is made and printed at a status: what a search without `--explain` does, but for the lines more. A fault prints its own line alone, and
--- makes nothing.
-abbrev pub PrintsGivingUp : Result Judged AuditFault → Status → List ℕ → List ℕ → Type 0
+-- What is made and printed at a status: what a search without `--explain` does, but for the lines more. A fault prints its line, and behind it
+-- those of what it means, and makes nothing.
+abbrev pub PrintsGivingUp : Result Judged FaultTold → Status → List ℕ → List ℕ → Type 0
 PrintsGivingUp (Ok judged) said lines made = (said ≡ found_status judged.searched.found) × (lines ≡ judged_text judged) × Makes judged.searched.found made
-PrintsGivingUp (Err fault) said lines made = PrintsFault fault said lines × (made ≡ [])
+PrintsGivingUp (Err told) said lines made = PrintsFaultTold told said lines × (made ≡ [])

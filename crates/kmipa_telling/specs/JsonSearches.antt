@@ -4,7 +4,6 @@ use Rattle.serde_json.specs.Data.{Members, Items, no_items, item, object, array,
 use Rattle.kmipa_json.specs.Told.{count, file_members, line_of, with_item}
 use Rattle.kmipa_ttlv.specs.Input.{is_ended, is_failed, IsFileOf}
 use Rattle.kmipa_ttlv.specs.declared.input.Input.{Input}
-use Rattle.kmipa_check.specs.declared.auditing.AuditFault.{AuditFault}
 use Rattle.kmipa_search.specs.declared.found.Found.{Found}
 use Rattle.kmipa_search.specs.declared.found.Found.TheVariants.{Yes, GaveUp}
 use Rattle.kmipa_runs.specs.Searches.{found_status, Makes}
@@ -13,8 +12,10 @@ use Rattle.kmipa_search.specs.declared.stuck.Reached.{Reached}
 use Rattle.kmipa_telling.specs.Claims.{call_items}
 use Rattle.kmipa_telling.specs.Deciding.{DecidesFiles}
 use Rattle.kmipa_telling.specs.DeepestClaims.{told_reached}
+use Rattle.kmipa_telling.specs.FaultsTold.{TellsFaultTold, by_fault}
 use Rattle.kmipa_telling.specs.Judging.{WhereRead}
-use Rattle.kmipa_telling.specs.Telling.{TellsFault, input_members, opened, verdict_named}
+use Rattle.kmipa_telling.specs.Telling.{input_members, opened, verdict_named}
+use Rattle.kmipa_telling.specs.declared.fault_told.FaultTold.{FaultTold}
 use Rattle.kmipa_telling.specs.declared.judged.Decision.{Decision}
 use Rattle.kmipa_telling.specs.declared.judged.Decision.TheVariants as decision
 use Rattle.kmipa_telling.specs.declared.judged.Judged.{Judged}
@@ -26,9 +27,9 @@ abbrev pub BothEnded : {R : Type 0} → Input R → Input R → Type 0
 BothEnded t d = IsTrue (is_ended t) × IsTrue (is_ended d)
 
 -- what a search of two inputs answers, whatever follows what came
-abbrev pub DecidesInputs : {R : Type 0} → Input R → Input R → ℕ → Bool → Result Judged AuditFault → Type 0
+abbrev pub DecidesInputs : {R : Type 0} → Input R → Input R → ℕ → Bool → Result Judged FaultTold → Type 0
 DecidesInputs t d budget asked outcome = ((a b : List ℕ) → IsFileOf a t → IsFileOf b d → DecidesFiles a b (is_failed t) (is_failed d) budget asked outcome)
-    × WhereRead outcome (BothEnded t d)
+    × WhereRead (by_fault outcome) (BothEnded t d)
 
 -- ---- what is told
 
@@ -66,25 +67,25 @@ abbrev pub found_items : Found → List ℕ → Items → Items
 found_items (Yes witness steps) made told = with_item (object (file_members (codes "witness") made)) told
 found_items (GaveUp steps) made told = told
 
-abbrev pub judged_items : Result Judged AuditFault → List ℕ → Items → Items
+abbrev pub judged_items : Result Judged FaultTold → List ℕ → Items → Items
 judged_items (Ok judged) made told = found_items judged.searched.found made told
 judged_items (Err fault) made told = told
 
 -- the files of a search: the two that are read, and the one that is made
-abbrev pub judged_files : {R : Type 0} → Result Judged AuditFault → Input R → Input R → List ℕ → Items
+abbrev pub judged_files : {R : Type 0} → Result Judged FaultTold → Input R → Input R → List ℕ → Items
 judged_files outcome t d made = judged_items outcome made
     (item (object (input_members (codes "transcript") t)) (item (object (input_members (codes "declaration") d)) no_items))
 
 -- the bytes are a file of the witness that was found, or none
-abbrev pub MakesFile : Result Judged AuditFault → List ℕ → Type 0
+abbrev pub MakesFile : Result Judged FaultTold → List ℕ → Type 0
 MakesFile (Ok judged) made = Makes judged.searched.found made
 MakesFile (Err fault) made = made ≡ []
 
-abbrev pub TellsJudged : Result Judged AuditFault → Status → Members → Members → Type 0
+abbrev pub TellsJudged : Result Judged FaultTold → Status → Members → Members → Type 0
 TellsJudged (Ok judged) said before after = (said ≡ found_status judged.searched.found) × (after ≡ found_members judged before)
-TellsJudged (Err fault) said before after = TellsFault fault said before after
+TellsJudged (Err told) said before after = TellsFaultTold told said before after
 
 -- what a search of two files prints in JSON of this outcome, one object on a line, and what it makes
-abbrev pub PrintsJsonSearch : {R : Type 0} → Input R → Input R → Result Judged AuditFault → Status → List ℕ → List ℕ → Type 0
+abbrev pub PrintsJsonSearch : {R : Type 0} → Input R → Input R → Result Judged FaultTold → Status → List ℕ → List ℕ → Type 0
 PrintsJsonSearch t d outcome said lines made = MakesFile outcome made
     × ((told : Members) × TellsJudged outcome said (opened (judged_files outcome t d made)) told × (lines ≡ line_of (object told)))

@@ -13,6 +13,7 @@ pub mod ExplainedJson
 pub mod Explaining
 pub mod FailingCauses
 pub mod FailingClaims
+pub mod FaultsTold
 pub mod GivingUp
 pub mod Held
 pub mod JsonSearches
@@ -24,6 +25,9 @@ pub mod MakingCauses
 pub mod MakingClaims
 pub mod Naming
 pub mod NamingClaims
+pub mod OutsideClaims
+pub mod OutsideLines
+pub mod OutsidePhrases
 pub mod Phrases
 pub mod SourceClaims
 pub mod Sources

@@ -7,6 +7,8 @@ ghost use Rattle.kmipa_record.specs.Transcripts.{transcript_of};
 ghost use Rattle.kmipa_check.specs.Audits.{AreRecords};
 ghost use Rattle.kmipa_telling.specs.Explaining.{AuditsExplained, IsExplained, TellsRecords};
 
+use crate::fault_told::FaultTold;
+use crate::faults::fault_told;
 use kmipa_check::{AuditFault, AuditRecords, CheckFault, Verdict, check};
 use kmipa_explain::{Explanation, explain};
 use std::alloc::Global;
@@ -20,8 +22,8 @@ pub struct Explained {
     pub explanation: Option<Explanation>,
 }
 
-/// Checks the witness of these records, and at a no says what it means.
-pub fn explain_records(alloc: Global, records: AuditRecords) -> Result<Explained, AuditFault>
+/// Checks the witness of these records, and says what a no means, and why a message is outside.
+pub fn explain_records(alloc: Global, records: AuditRecords) -> Result<Explained, FaultTold>
     requires recorded { AreRecorded (transcript_of records.transcript) }
     requires declared { AreDeclared (declaration_of records.declaration) }
     ensures { (t d w : List ℕ) (failed_t failed_d failed_w : Bool) → AreRecords records t d w
@@ -34,7 +36,7 @@ pub fn explain_records(alloc: Global, records: AuditRecords) -> Result<Explained
         &records.witness,
     ) {
         Ok(verdict) => verdict,
-        Err(fault) => return Err(AuditFault::Check(fault)),
+        Err(fault) => return Err(fault_told(alloc, &records.transcript, fault)),
     };
     match explanation_of(alloc, &records, verdict) {
         Ok(explanation) => Ok(Explained {
@@ -42,7 +44,7 @@ pub fn explain_records(alloc: Global, records: AuditRecords) -> Result<Explained
             verdict,
             explanation,
         }),
-        Err(fault) => Err(AuditFault::Check(fault)),
+        Err(fault) => Err(FaultTold::bare(AuditFault::Check(fault))),
     }
 }
 

@@ -12,19 +12,20 @@ ghost use Rattle.kmipa_telling.specs.Judging.{AreEnded};
 
 use crate::claims::tell_meaning;
 use crate::explained::{Explained, explain_records};
+use crate::fault_told::FaultTold;
+use crate::faults::tell_fault_told;
 use crate::held::Held;
 use crate::json::open_files;
 use crate::judging::records_held;
-use crate::telling::{tell_fault, tell_verdict};
-use kmipa_check::AuditFault;
+use crate::telling::tell_verdict;
 use kmipa_json::JsonObject;
 use kmipa_runs::{Lines, Status, append};
 use kmipa_ttlv::Input;
 use std::alloc::{AllocError, Global};
 use std::io::Read;
 
-/// `check TRANSCRIPT DECLARATION WITNESS --json --explain`: appends the object that `check_json` appends, and where it tells a no, with
-/// what this means as one member more; and answers the status. Where memory runs out nothing is appended, and the status is `Failed`.
+/// `check TRANSCRIPT DECLARATION WITNESS --json --explain`: appends the object that `check_json` appends, and where it tells a no, or a
+/// message that is outside, with what this means as one member more; and answers the status. Where memory runs out nothing is appended, and the status is `Failed`.
 pub fn explain_json<R: Read>(
     alloc: Global,
     transcript: &mut Input<R>,
@@ -37,7 +38,7 @@ pub fn explain_json<R: Read>(
     requires witness { came_of witness.old ≡ [] }
     // What is printed tells what an audit answers of whatever the inputs may be, with what its no means, or memory
     // ran out.
-    ensures prints { ((outcome : Result Explained AuditFault)
+    ensures prints { ((outcome : Result Explained FaultTold)
         × ExplainsInputs transcript.new declaration.new witness.new outcome
         × PrintsExplainedJson transcript.new declaration.new witness.new outcome result
         (appended_bytes out.old.items out.new.items))
@@ -64,7 +65,7 @@ fn explained_object<R: Read>(
     requires transcript { came_of transcript.old ≡ [] }
     requires declaration { came_of declaration.old ≡ [] }
     requires witness { came_of witness.old ≡ [] }
-    ensures { IfOk result (λ lines. (outcome : Result Explained AuditFault)
+    ensures { IfOk result (λ lines. (outcome : Result Explained FaultTold)
         × ExplainsInputs transcript.new declaration.new witness.new outcome
         × PrintsExplainedJson transcript.new declaration.new witness.new outcome lines.status
         (string_bytes lines.text)) }
@@ -87,7 +88,7 @@ fn explain_held<R: Read>(
     declaration: &mut Input<R>,
     witness: &mut Input<R>,
     held: &mut Held,
-) -> Result<Result<Explained, AuditFault>, AllocError>
+) -> Result<Result<Explained, FaultTold>, AllocError>
     requires transcript { came_of transcript.old ≡ [] }
     requires declaration { came_of declaration.old ≡ [] }
     requires witness { came_of witness.old ≡ [] }
@@ -97,14 +98,14 @@ fn explain_held<R: Read>(
 {
     match records_held(alloc, transcript, declaration, witness, held)? {
         Ok(records) => Ok(explain_records(alloc, records)),
-        Err(fault) => Ok(Err(fault)),
+        Err(fault) => Ok(Err(FaultTold::bare(fault))),
     }
 }
 
 fn tell_explained(
     alloc: Global,
     told: &mut JsonObject,
-    outcome: &Result<Explained, AuditFault>,
+    outcome: &Result<Explained, FaultTold>,
 ) -> Result<Status, AllocError>
     ensures { IfOk result (λ status.
         TellsExplained outcome.now status (members_of told.old) (members_of told.new)) }
@@ -121,6 +122,6 @@ fn tell_explained(
             tell_meaning(alloc, told, &explained.explanation)?;
             Ok(status)
         }
-        Err(fault) => tell_fault(alloc, told, fault),
+        Err(fault) => tell_fault_told(alloc, told, fault),
     }
 }

@@ -10,15 +10,18 @@ ghost use Rattle.kmipa_telling.specs.Explaining.{AuditsExplained, PrintsExplaine
 
 use crate::explained::{Explained, explain_records};
 use crate::explanation::explanation_text;
-use kmipa_check::{AuditFault, read_records};
+use crate::fault_told::FaultTold;
+use crate::faults::fault_told_lines;
+use kmipa_check::read_records;
 use kmipa_explain::Explanation;
-use kmipa_runs::{Lines, Status, append, fault_lines, verdict_lines};
+use kmipa_runs::{Lines, Status, append, verdict_lines};
 use kmipa_ttlv::Input;
 use std::alloc::{AllocError, Global};
 use std::io::Read;
 
-/// `check TRANSCRIPT DECLARATION WITNESS --explain`: appends the lines that a check prints, and behind those of a no
-/// what it means, and answers the status. Where memory runs out nothing is appended, and the status is `Failed`.
+/// `check TRANSCRIPT DECLARATION WITNESS --explain`: appends the lines that a check prints, behind those of a no what
+/// it means, and behind that of a message that is outside why it is, and answers the status. Where memory runs out
+/// nothing is appended, and the status is `Failed`.
 pub fn explain_run<R: Read>(
     alloc: Global,
     transcript: &mut Input<R>,
@@ -31,7 +34,7 @@ pub fn explain_run<R: Read>(
     requires witness { came_of witness.old ≡ [] }
     // What is printed tells what an audit answers of whatever the inputs may be, with what its no means, or memory
     // ran out.
-    ensures prints { (outcome : Result Explained AuditFault)
+    ensures prints { (outcome : Result Explained FaultTold)
         × ((t d w : List ℕ) → IsFileOf t transcript.new → IsFileOf d declaration.new → IsFileOf w witness.new
         → AuditsExplained t d w (is_failed transcript.new) (is_failed declaration.new) (is_failed witness.new) outcome)
         × (PrintsExplained outcome result (appended_bytes out.old.items out.new.items)
@@ -47,7 +50,7 @@ pub fn explain_run<R: Read>(
 {
     match explain_inputs(alloc, transcript, declaration, witness) {
         Ok(explained) => append(explained_lines(alloc, &explained), out),
-        Err(fault) => append(fault_lines(alloc, &fault), out),
+        Err(told) => append(fault_told_lines(alloc, &told), out),
     }
 }
 
@@ -58,7 +61,7 @@ fn explain_inputs<R: Read>(
     transcript: &mut Input<R>,
     declaration: &mut Input<R>,
     witness: &mut Input<R>,
-) -> Result<Explained, AuditFault>
+) -> Result<Explained, FaultTold>
     requires transcript { came_of transcript.old ≡ [] }
     requires declaration { came_of declaration.old ≡ [] }
     requires witness { came_of witness.old ≡ [] }
@@ -69,7 +72,7 @@ fn explain_inputs<R: Read>(
 {
     match read_records(alloc, transcript, declaration, witness) {
         Ok(records) => explain_records(alloc, records),
-        Err(fault) => Err(fault),
+        Err(fault) => Err(FaultTold::bare(fault)),
     }
 }
 

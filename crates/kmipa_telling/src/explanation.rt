@@ -33,7 +33,7 @@ fn call_lines(alloc: Global, explanation: &Explanation) -> Result<String, AllocE
 }
 
 /// The line of the operation that is asked for, where there is one.
-fn operation_line(alloc: Global, operation: Option<u32>) -> Result<String, AllocError>
+pub fn operation_line(alloc: Global, operation: Option<u32>) -> Result<String, AllocError>
     ensures { IfOk result (λ text. string_bytes text ≡ operation_line operation) }
 {
     let Some(number) = operation else {

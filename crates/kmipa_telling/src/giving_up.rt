@@ -1,4 +1,4 @@
-//! `search --explain`: a search that says what its giving up means.
+//! `search --explain`: a search that says what its giving up means, and why a message is outside.
 
 ghost use Rattle.std.specs.Prelude.{◌≡◌, ◌≢◌, ◌⊎◌, ℕ, List, [], IsTrue, IfOk, OnOk, Result, Ok, Err, string_bytes};
 ghost use Rattle.std.specs.Io.{StartsWith, appended_bytes};
@@ -10,18 +10,21 @@ ghost use Rattle.kmipa_telling.specs.Deciding.{DecidesFiles};
 ghost use Rattle.kmipa_telling.specs.GivingUp.{PrintsGivingUp, decision_line, decision_text, judged_text};
 
 use crate::deepest::reached_text;
+use crate::fault_told::FaultTold;
+use crate::faults::{fault_told, fault_told_lines};
 use crate::judged::{Decision, Judged, judge_records};
 use crate::phrases::calls_text;
 use kmipa_check::AuditFault;
 use kmipa_record::{read_declaration, read_transcript};
-use kmipa_runs::{Lines, Status, append, fault_lines, searched_lines, tell_witness};
+use kmipa_runs::{Lines, Status, append, searched_lines, tell_witness};
 use kmipa_search::{Found, Watch};
 use kmipa_ttlv::Input;
 use std::alloc::{AllocError, Global};
 use std::io::Read;
 
 /// `search TRANSCRIPT DECLARATION OUT --explain`: does what `search_run` does, and appends behind the lines of a giving up one more, which
-/// tells whether the search has decided, and if not, why; and where the calls are plain, those of the deepest place that it reached.
+/// tells whether the search has decided, and if not, why; and where the calls are plain, those of the deepest place that it reached. Behind the
+/// line of a message that is outside it appends those of why it is.
 pub fn explain_search_run<R: Read, W: Watch>(
     alloc: Global,
     transcript: &mut Input<R>,
@@ -35,8 +38,9 @@ pub fn explain_search_run<R: Read, W: Watch>(
 ) -> Status
     requires transcript { came_of transcript.old ≡ [] }
     requires declaration { came_of declaration.old ≡ [] }
-    // What is made and printed tells what a search answers of whatever the inputs may be, with what its giving up says, or memory ran out.
-    ensures prints { (outcome : Result Judged AuditFault)
+    // What is made and printed tells what a search answers of whatever the inputs may be, with what its giving up or its fault means, or memory
+    // ran out.
+    ensures prints { (outcome : Result Judged FaultTold)
         × ((t d : List ℕ) → IsFileOf t transcript.new → IsFileOf d declaration.new
         → DecidesFiles t d (is_failed transcript.new) (is_failed declaration.new) budget forced outcome)
         × (PrintsGivingUp outcome result (appended_bytes out.old.items out.new.items) (appended_bytes made.old.items made.new.items)
@@ -50,7 +54,7 @@ pub fn explain_search_run<R: Read, W: Watch>(
 {
     match judge_inputs(alloc, transcript, declaration, budget, forced, open, watch) {
         Ok(judged) => tell_judged(alloc, &judged, out, made),
-        Err(fault) => append(fault_lines(alloc, &fault), out),
+        Err(told) => append(fault_told_lines(alloc, &told), out),
     }
 }
 
@@ -63,7 +67,7 @@ fn judge_inputs<R: Read, W: Watch>(
     forced: bool,
     open: bool,
     watch: &mut W,
-) -> Result<Judged, AuditFault>
+) -> Result<Judged, FaultTold>
     requires transcript { came_of transcript.old ≡ [] }
     requires declaration { came_of declaration.old ≡ [] }
     ensures decides { (t d : List ℕ) → IsFileOf t transcript.new → IsFileOf d declaration.new
@@ -72,11 +76,11 @@ fn judge_inputs<R: Read, W: Watch>(
 {
     let transcript = match read_transcript(alloc, transcript) {
         Ok(transcript) => transcript,
-        Err(fault) => return Err(AuditFault::Transcript(fault)),
+        Err(fault) => return Err(FaultTold::bare(AuditFault::Transcript(fault))),
     };
     let declaration = match read_declaration(alloc, declaration) {
         Ok(declaration) => declaration,
-        Err(fault) => return Err(AuditFault::Declaration(fault)),
+        Err(fault) => return Err(FaultTold::bare(AuditFault::Declaration(fault))),
     };
     match judge_records(
         alloc,
@@ -88,7 +92,7 @@ fn judge_inputs<R: Read, W: Watch>(
         watch,
     ) {
         Ok(judged) => Ok(judged),
-        Err(fault) => Err(AuditFault::Check(fault)),
+        Err(fault) => Err(fault_told(alloc, &transcript, fault)),
     }
 }
 

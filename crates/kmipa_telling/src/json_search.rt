@@ -8,10 +8,11 @@ ghost use Rattle.kmipa_check.specs.Audits.{AreAccepted};
 ghost use Rattle.kmipa_runs.specs.Statuses.{IsSilent};
 ghost use Rattle.kmipa_telling.specs.JsonSearches.{BothEnded, DecidesInputs, MakesFile, PrintsJsonSearch, TellsJudged, judged_items};
 
+use crate::fault_told::FaultTold;
+use crate::faults::{fault_told, tell_fault_told};
 use crate::json::{open_object, read_object};
 use crate::judged::{Judged, judge_records};
 use crate::reading::read_held;
-use crate::telling::tell_fault;
 use crate::telling_found::tell_judged;
 use kmipa_check::AuditFault;
 use kmipa_json::{JsonList, JsonObject, told_file};
@@ -30,8 +31,9 @@ struct Answer {
 }
 
 /// `search TRANSCRIPT DECLARATION OUT --json`: appends to `out` one JSON object and a line feed, which tell what a search as `search_run` makes
-/// it found, and where it gave up whether it has decided, and answers the status. A witness that was found is appended to `made`, as a file; at
-/// every other status than `Done` nothing is. Where memory runs out nothing is appended to either, and the status is `Failed`.
+/// it found, where it gave up whether it has decided, and of a message that is outside why it is; and answers the status. A witness that was
+/// found is appended to `made`, as a file; at every other status than `Done` nothing is. Where memory runs out nothing is appended to either,
+/// and the status is `Failed`.
 pub fn search_json<R: Read, W: Watch>(
     alloc: Global,
     transcript: &mut Input<R>,
@@ -46,7 +48,7 @@ pub fn search_json<R: Read, W: Watch>(
     requires transcript { came_of transcript.old ≡ [] }
     requires declaration { came_of declaration.old ≡ [] }
     // What is made and printed tells what a search answers of whatever the inputs may be, or memory ran out.
-    ensures prints { ((outcome : Result Judged AuditFault) × DecidesInputs transcript.new declaration.new budget forced outcome
+    ensures prints { ((outcome : Result Judged FaultTold) × DecidesInputs transcript.new declaration.new budget forced outcome
         × PrintsJsonSearch transcript.new declaration.new outcome result (appended_bytes out.old.items out.new.items)
         (appended_bytes made.old.items made.new.items))
         ⊎ (IsSilent result (appended_bytes out.old.items out.new.items) × (appended_bytes made.old.items made.new.items ≡ [])) }
@@ -94,7 +96,7 @@ fn answer_of<R: Read, W: Watch>(
 ) -> Result<Answer, AllocError>
     requires transcript { came_of transcript.old ≡ [] }
     requires declaration { came_of declaration.old ≡ [] }
-    ensures { IfOk result (λ answer. (outcome : Result Judged AuditFault) × DecidesInputs transcript.new declaration.new budget forced outcome
+    ensures { IfOk result (λ answer. (outcome : Result Judged FaultTold) × DecidesInputs transcript.new declaration.new budget forced outcome
         × PrintsJsonSearch transcript.new declaration.new outcome answer.lines.status (string_bytes answer.lines.text) answer.made.items) }
 {
     let mut first = Vec::new(alloc);
@@ -125,7 +127,7 @@ fn answer_of<R: Read, W: Watch>(
 }
 
 /// The file of a witness that was found, or no bytes.
-fn made_of(alloc: Global, outcome: &Result<Judged, AuditFault>) -> Result<Vec<u8>, AllocError>
+fn made_of(alloc: Global, outcome: &Result<Judged, FaultTold>) -> Result<Vec<u8>, AllocError>
     ensures { IfOk result (λ made. MakesFile outcome.now made.items) }
 {
     let mut made = Vec::new(alloc);
@@ -143,7 +145,7 @@ fn made_of(alloc: Global, outcome: &Result<Judged, AuditFault>) -> Result<Vec<u8
 fn push_made(
     alloc: Global,
     files: &mut JsonList,
-    outcome: &Result<Judged, AuditFault>,
+    outcome: &Result<Judged, FaultTold>,
     made: &[u8],
 ) -> Result<(), AllocError>
     ensures { OnOk result (items_of files.new ≡ judged_items outcome.now made.now (items_of files.old)) }
@@ -159,13 +161,13 @@ fn push_made(
 fn tell_search(
     alloc: Global,
     told: &mut JsonObject,
-    outcome: &Result<Judged, AuditFault>,
+    outcome: &Result<Judged, FaultTold>,
 ) -> Result<Status, AllocError>
     ensures { IfOk result (λ status. TellsJudged outcome.now status (members_of told.old) (members_of told.new)) }
 {
     match outcome {
         Ok(judged) => tell_judged(alloc, told, judged),
-        Err(fault) => tell_fault(alloc, told, fault),
+        Err(fault) => tell_fault_told(alloc, told, fault),
     }
 }
 
@@ -180,7 +182,7 @@ fn search_held<R: Read, W: Watch>(
     forced: bool,
     open: bool,
     watch: &mut W,
-) -> Result<Result<Judged, AuditFault>, AllocError>
+) -> Result<Result<Judged, FaultTold>, AllocError>
     requires transcript { came_of transcript.old ≡ [] }
     requires declaration { came_of declaration.old ≡ [] }
     requires first { first.old.items ≡ [] }
@@ -192,15 +194,15 @@ fn search_held<R: Read, W: Watch>(
     let read: Result<Transcript, RecordFault> = read_held(alloc, transcript, first)?;
     let marks = match read {
         Ok(marks) => marks,
-        Err(fault) => return Ok(Err(AuditFault::Transcript(fault))),
+        Err(fault) => return Ok(Err(FaultTold::bare(AuditFault::Transcript(fault)))),
     };
     let read: Result<Declaration, RecordFault> = read_held(alloc, declaration, second)?;
     let declared = match read {
         Ok(declared) => declared,
-        Err(fault) => return Ok(Err(AuditFault::Declaration(fault))),
+        Err(fault) => return Ok(Err(FaultTold::bare(AuditFault::Declaration(fault)))),
     };
     match judge_records(alloc, &marks, &declared, budget, forced, open, watch) {
         Ok(judged) => Ok(Ok(judged)),
-        Err(fault) => Ok(Err(AuditFault::Check(fault))),
+        Err(fault) => Ok(Err(fault_told(alloc, &marks, fault))),
     }
 }

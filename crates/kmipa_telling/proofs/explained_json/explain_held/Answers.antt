@@ -1,7 +1,10 @@
-use Rattle.std.proofs.Common.{Result, Ok, Err, subst}
+use Rattle.std.proofs.Common.{Result, Ok, Err, subst, sym}
 use Rattle.kmipa_ttlv.specs.Input.{came_of, is_failed}
 use Rattle.kmipa_ttlv.proofs.ReadLemmas.{itself}
-use Rattle.kmipa_check.proofs.AuditLemmas.{fails}
+use Rattle.kmipa_telling.specs.ExplainedJson.{ExplainsInputs}
+use Rattle.kmipa_telling.specs.FaultsTold.{by_fault}
+use Rattle.kmipa_telling.specs.declared.fault_told.FaultTold.{FaultTold}
+use Rattle.kmipa_telling.proofs.ExplainingLemmas.{bare_reading}
 use Rattle.kmipa_check.specs.declared.auditing.AuditFault.{AuditFault}
 use Rattle.kmipa_check.specs.declared.auditing.AuditRecords.{AuditRecords}
 use Rattle.kmipa_telling.specs.Judging.{AreEnded, ReadsInputs}
@@ -25,7 +28,7 @@ returns-in-Ok-clause-explains g c =
     let P : Result AuditRecords AuditFault → Type 0 = λ r. ReadsInputs t d w r in
     let reads : ReadsInputs t d w (Ok c.in-Ok.records) = subst P c.in-Ok.is c.in_ok-records.ensures.reads in (
       λ x y z xf yf zf. c.explain_records.ensures x y z (is_failed t) (is_failed d) (is_failed w) (reads.0 x y z xf yf zf),
-      where_ended c.explain_records.result (AreEnded t d w) reads.1,
+      where_ended (by_fault c.explain_records.result) (AreEnded t d w) reads.1,
     )
 
 pub returns-in-Err-clause-explains : goal.returns-in-Err-clause-explains
@@ -34,8 +37,10 @@ returns-in-Err-clause-explains g c =
     let d = c.records_held.new.declaration in
     let w = c.records_held.new.witness in
     let P : Result AuditRecords AuditFault → Type 0 = λ r. ReadsInputs t d w r in
-    let reads : ReadsInputs t d w (Err c.in-Err.fault) = subst P c.in-Err.is c.in_ok-records.ensures.reads in (
-      λ x y z xf yf zf. fails x y z (is_failed t) (is_failed d) (is_failed w) c.in-Err.fault (reads.0 x y z xf yf zf),
+    let reads : ReadsInputs t d w (Err c.in-Err.fault) = subst P c.in-Err.is c.in_ok-records.ensures.reads in
+    let Q : FaultTold → Type 0 = λ told. ExplainsInputs t d w (Err told) in
+    subst Q (sym c.bare.ensures) (
+      λ x y z xf yf zf. bare_reading x y z (is_failed t) (is_failed d) (is_failed w) c.in-Err.fault (reads.0 x y z xf yf zf),
       where_unread (AreEnded t d w) (came_of t) (came_of d) (came_of w) (is_failed t) (is_failed d) (is_failed w) c.in-Err.fault
           (reads.0 (came_of t) (came_of d) (came_of w) (itself t) (itself d) (itself w)),
     )

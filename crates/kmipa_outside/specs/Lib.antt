@@ -1,0 +1,14 @@
+pub mod ItemTypes
+pub mod Demands
+pub mod HeaderDemands
+pub mod AgreementDemands
+pub mod AskedDemands
+pub mod SharedDemands
+pub mod DoneDemands
+pub mod Tables
+pub mod Told
+pub mod Requests
+pub mod Responses
+pub mod Messages
+pub mod Explaining
+pub mod Laws

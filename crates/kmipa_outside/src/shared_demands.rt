@@ -1,0 +1,321 @@
+//! What payloads share: the Key Block of an object, and attributes (KMIP 2.1, sections 3.1 and 4).
+
+ghost use Rattle.std.specs.Prelude.{◌≡◌};
+ghost use Rattle.kmipa_outside.specs.SharedDemands.{block_demands, attribute_demands, client_demands, filter_demands};
+
+use crate::demand::{Demand, Inside, Numbers, Step, Wanted, wants};
+use crate::types::ItemType;
+use kmipa_attrs::tags::{
+    ACTIVATION_DATE, COMPROMISE_DATE, CRYPTOGRAPHIC_ALGORITHM, CRYPTOGRAPHIC_LENGTH,
+    CRYPTOGRAPHIC_USAGE_MASK, DEACTIVATION_DATE, DESTROY_DATE, INITIAL_DATE, KEY_FORMAT_TYPE,
+    KEY_MATERIAL, KEY_VALUE, KEY_WRAPPING_DATA, NAME, OBJECT_TYPE, STATE, UNIQUE_IDENTIFIER,
+};
+use kmipa_msgs::OutsideKind;
+
+/// A Key Block.
+pub(crate) fn block_demands() -> [Demand; 9]
+    ensures { result ≡ block_demands }
+{
+    [
+        wants(
+            Inside::Block,
+            Step::Tag(KEY_WRAPPING_DATA),
+            Wanted::Nothing,
+            OutsideKind::Wrapped,
+        ),
+        wants(
+            Inside::Block,
+            Step::Tag(KEY_FORMAT_TYPE),
+            Wanted::Typed(ItemType::Enumeration),
+            OutsideKind::Missing,
+        ),
+        wants(
+            Inside::Block,
+            Step::Tag(KEY_FORMAT_TYPE),
+            Wanted::OneOf(Numbers::KeyFormats),
+            OutsideKind::Format,
+        ),
+        wants(
+            Inside::Block,
+            Step::Tag(KEY_VALUE),
+            Wanted::There,
+            OutsideKind::Missing,
+        ),
+        wants(
+            Inside::Block,
+            Step::Tag(KEY_VALUE),
+            Wanted::MaybeTyped(ItemType::Structure),
+            OutsideKind::Format,
+        ),
+        wants(
+            Inside::Value,
+            Step::Tag(KEY_MATERIAL),
+            Wanted::There,
+            OutsideKind::Missing,
+        ),
+        wants(
+            Inside::Value,
+            Step::Tag(KEY_MATERIAL),
+            Wanted::MaybeTyped(ItemType::Bytes),
+            OutsideKind::Format,
+        ),
+        wants(
+            Inside::Block,
+            Step::Tag(CRYPTOGRAPHIC_ALGORITHM),
+            Wanted::MaybeTyped(ItemType::Enumeration),
+            OutsideKind::Missing,
+        ),
+        wants(
+            Inside::Block,
+            Step::Tag(CRYPTOGRAPHIC_LENGTH),
+            Wanted::MaybeTyped(ItemType::Integer),
+            OutsideKind::Missing,
+        ),
+    ]
+}
+
+/// Attributes, by whomever they are given.
+pub(crate) fn attribute_demands() -> [Demand; 21]
+    ensures { result ≡ attribute_demands }
+{
+    [
+        wants(
+            Inside::Attributes,
+            Step::Tag(NAME),
+            Wanted::EachName,
+            OutsideKind::Attribute,
+        ),
+        wants(
+            Inside::Attributes,
+            Step::Tag(OBJECT_TYPE),
+            Wanted::EachTyped(ItemType::Enumeration),
+            OutsideKind::Attribute,
+        ),
+        wants(
+            Inside::Attributes,
+            Step::Tag(OBJECT_TYPE),
+            Wanted::Once,
+            OutsideKind::Attribute,
+        ),
+        wants(
+            Inside::Attributes,
+            Step::Tag(CRYPTOGRAPHIC_ALGORITHM),
+            Wanted::EachTyped(ItemType::Enumeration),
+            OutsideKind::Attribute,
+        ),
+        wants(
+            Inside::Attributes,
+            Step::Tag(CRYPTOGRAPHIC_ALGORITHM),
+            Wanted::Once,
+            OutsideKind::Attribute,
+        ),
+        wants(
+            Inside::Attributes,
+            Step::Tag(CRYPTOGRAPHIC_LENGTH),
+            Wanted::EachTyped(ItemType::Integer),
+            OutsideKind::Attribute,
+        ),
+        wants(
+            Inside::Attributes,
+            Step::Tag(CRYPTOGRAPHIC_LENGTH),
+            Wanted::Once,
+            OutsideKind::Attribute,
+        ),
+        wants(
+            Inside::Attributes,
+            Step::Tag(CRYPTOGRAPHIC_USAGE_MASK),
+            Wanted::EachTyped(ItemType::Integer),
+            OutsideKind::Attribute,
+        ),
+        wants(
+            Inside::Attributes,
+            Step::Tag(CRYPTOGRAPHIC_USAGE_MASK),
+            Wanted::Once,
+            OutsideKind::Attribute,
+        ),
+        wants(
+            Inside::Attributes,
+            Step::Tag(STATE),
+            Wanted::EachTyped(ItemType::Enumeration),
+            OutsideKind::Attribute,
+        ),
+        wants(
+            Inside::Attributes,
+            Step::Tag(STATE),
+            Wanted::Once,
+            OutsideKind::Attribute,
+        ),
+        wants(
+            Inside::Attributes,
+            Step::Tag(INITIAL_DATE),
+            Wanted::EachTyped(ItemType::DateTime),
+            OutsideKind::Attribute,
+        ),
+        wants(
+            Inside::Attributes,
+            Step::Tag(INITIAL_DATE),
+            Wanted::Once,
+            OutsideKind::Attribute,
+        ),
+        wants(
+            Inside::Attributes,
+            Step::Tag(ACTIVATION_DATE),
+            Wanted::EachTyped(ItemType::DateTime),
+            OutsideKind::Attribute,
+        ),
+        wants(
+            Inside::Attributes,
+            Step::Tag(ACTIVATION_DATE),
+            Wanted::Once,
+            OutsideKind::Attribute,
+        ),
+        wants(
+            Inside::Attributes,
+            Step::Tag(DEACTIVATION_DATE),
+            Wanted::EachTyped(ItemType::DateTime),
+            OutsideKind::Attribute,
+        ),
+        wants(
+            Inside::Attributes,
+            Step::Tag(DEACTIVATION_DATE),
+            Wanted::Once,
+            OutsideKind::Attribute,
+        ),
+        wants(
+            Inside::Attributes,
+            Step::Tag(DESTROY_DATE),
+            Wanted::EachTyped(ItemType::DateTime),
+            OutsideKind::Attribute,
+        ),
+        wants(
+            Inside::Attributes,
+            Step::Tag(DESTROY_DATE),
+            Wanted::Once,
+            OutsideKind::Attribute,
+        ),
+        wants(
+            Inside::Attributes,
+            Step::Tag(COMPROMISE_DATE),
+            Wanted::EachTyped(ItemType::DateTime),
+            OutsideKind::Attribute,
+        ),
+        wants(
+            Inside::Attributes,
+            Step::Tag(COMPROMISE_DATE),
+            Wanted::Once,
+            OutsideKind::Attribute,
+        ),
+    ]
+}
+
+/// Attributes that no client may give.
+pub(crate) fn client_demands() -> [Demand; 5]
+    ensures { result ≡ client_demands }
+{
+    [
+        wants(
+            Inside::Attributes,
+            Step::Tag(STATE),
+            Wanted::Nothing,
+            OutsideKind::Attribute,
+        ),
+        wants(
+            Inside::Attributes,
+            Step::Tag(INITIAL_DATE),
+            Wanted::Nothing,
+            OutsideKind::Attribute,
+        ),
+        wants(
+            Inside::Attributes,
+            Step::Tag(DESTROY_DATE),
+            Wanted::Nothing,
+            OutsideKind::Attribute,
+        ),
+        wants(
+            Inside::Attributes,
+            Step::Tag(COMPROMISE_DATE),
+            Wanted::Nothing,
+            OutsideKind::Attribute,
+        ),
+        wants(
+            Inside::Attributes,
+            Step::Tag(UNIQUE_IDENTIFIER),
+            Wanted::Nothing,
+            OutsideKind::Attribute,
+        ),
+    ]
+}
+
+/// The filters of a Locate: their types alone.
+pub(crate) fn filter_demands() -> [Demand; 11]
+    ensures { result ≡ filter_demands }
+{
+    [
+        wants(
+            Inside::Attributes,
+            Step::Tag(NAME),
+            Wanted::EachName,
+            OutsideKind::Attribute,
+        ),
+        wants(
+            Inside::Attributes,
+            Step::Tag(OBJECT_TYPE),
+            Wanted::EachTyped(ItemType::Enumeration),
+            OutsideKind::Attribute,
+        ),
+        wants(
+            Inside::Attributes,
+            Step::Tag(CRYPTOGRAPHIC_ALGORITHM),
+            Wanted::EachTyped(ItemType::Enumeration),
+            OutsideKind::Attribute,
+        ),
+        wants(
+            Inside::Attributes,
+            Step::Tag(CRYPTOGRAPHIC_LENGTH),
+            Wanted::EachTyped(ItemType::Integer),
+            OutsideKind::Attribute,
+        ),
+        wants(
+            Inside::Attributes,
+            Step::Tag(CRYPTOGRAPHIC_USAGE_MASK),
+            Wanted::EachTyped(ItemType::Integer),
+            OutsideKind::Attribute,
+        ),
+        wants(
+            Inside::Attributes,
+            Step::Tag(STATE),
+            Wanted::EachTyped(ItemType::Enumeration),
+            OutsideKind::Attribute,
+        ),
+        wants(
+            Inside::Attributes,
+            Step::Tag(INITIAL_DATE),
+            Wanted::EachTyped(ItemType::DateTime),
+            OutsideKind::Attribute,
+        ),
+        wants(
+            Inside::Attributes,
+            Step::Tag(ACTIVATION_DATE),
+            Wanted::EachTyped(ItemType::DateTime),
+            OutsideKind::Attribute,
+        ),
+        wants(
+            Inside::Attributes,
+            Step::Tag(DEACTIVATION_DATE),
+            Wanted::EachTyped(ItemType::DateTime),
+            OutsideKind::Attribute,
+        ),
+        wants(
+            Inside::Attributes,
+            Step::Tag(DESTROY_DATE),
+            Wanted::EachTyped(ItemType::DateTime),
+            OutsideKind::Attribute,
+        ),
+        wants(
+            Inside::Attributes,
+            Step::Tag(COMPROMISE_DATE),
+            Wanted::EachTyped(ItemType::DateTime),
+            OutsideKind::Attribute,
+        ),
+    ]
+}
