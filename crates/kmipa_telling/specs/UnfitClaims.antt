@@ -74,7 +74,7 @@ disordered_told d before = put (codes "wrong") (object (wrong_members d.wrong)) 
 abbrev pub unwanted_told : Unwanted → Members → Members
 unwanted_told (unwanted.Unanswered answered) before = put (codes "answered") (count answered) before
 unwanted_told (unwanted.Status status) before = put (codes "status") (string (status_text status)) before
-unwanted_told unwanted.Present before = put (codes "payload") (boolean true) before
+unwanted_told unwanted.Present before = put (codes "payload_there") (boolean true) before
 unwanted_told (unwanted.Needless number) before = put (codes "operation") (object (operation_members number)) before
 unwanted_told (unwanted.Operations asked answered) before = put (codes "named") (object (operation_members answered)) (put (codes "asked") (object (operation_members asked)) before)
 unwanted_told (unwanted.Second fill) before = put (codes "named_before") (count fill) before

@@ -169,7 +169,7 @@ fn tell_unwanted(alloc: Global, told: &mut JsonObject, why: Unwanted) -> Result<
     match why {
         Unwanted::Unanswered(answered) => told.put_count("answered", answered as u64),
         Unwanted::Status(status) => told.put_text("status", status_text(status)),
-        Unwanted::Present => told.put_truth("payload", true),
+        Unwanted::Present => told.put_truth("payload_there", true),
         Unwanted::Needless(number) => {
             told.put_object("operation", operation_object(alloc, number)?)
         }

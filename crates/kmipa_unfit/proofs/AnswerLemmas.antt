@@ -1,6 +1,8 @@
 -- The fault of what a turn gives to a call, by the call's response and by the turn's answer.
 use Rattle.std.proofs.Common.{◌≡◌, ◌≢◌, ◌⊎◌, inl, inr, ℕ, ℤ, Bool, false, List, [], Option, Some, None, option_map, refl, sym, ap, ◌∙◌, subst}
-use Rattle.std.specs.Prelude.{is_some}
+use Rattle.std.specs.Prelude.{IfOk, Err, is_some}
+use Rattle.kmipa_msgs.specs.declared.fault.ReadFault.{ReadFault}
+use Rattle.kmipa_msgs.specs.declared.fault.ReadFault.TheVariants as read
 use Rattle.kmipa_msgs.specs.declared.kind.OutsideKind.{OutsideKind}
 use Rattle.kmipa_msgs.specs.Messages.{RequestOf, ResponseOf}
 use Rattle.kmipa_msgs.specs.Responses.{SaysResponse, ResponseFault}
@@ -16,7 +18,8 @@ use Rattle.kmipa_check.specs.Steps.{IsAnswered, recorded, given}
 use Rattle.kmipa_check.specs.declared.fault.WitnessKind.{WitnessKind}
 use Rattle.kmipa_check.specs.declared.fault.WitnessKind.TheVariants.{AnswerNotWanted, AnswerMissing, AnswerForm, OrderNotWanted, OrderForm}
 use Rattle.kmipa_check.proofs.MessageLemmas.{not_outside, same_message}
-use Rattle.kmipa_unfit.specs.Finding.{IsAnsweredFault}
+use Rattle.kmipa_unfit.specs.Finding.{AnswerSays, IsAnsweredFault, unread}
+use Rattle.kmipa_unfit.specs.UnfitTurns.{TellsGiven}
 use Rattle.kmipa_unfit.specs.OrderFinding.{IsOrderless}
 
 -- what isn't there has no value
@@ -132,3 +135,10 @@ module _ (request : RequestOf) (response : ResponseOf) (t : TurnOf) (kind : Witn
   fills_left (inl (Places.unwanted some wants is)) a b = absurd (a is)
   fills_left (inl (Places.disordered some wants none is)) a b = absurd (b is)
   fills_left (inr fault) a b = fault
+
+-- what is told of an answer that can't be read
+pub unread_told : (marks : List MarkOf) (c : CallOf) (t : TurnOf) (kind : WitnessKind) (bytes : List ℕ) (fault : ReadFault) → IsRecorded marks c → c.response ≡ None → t.answer ≡ Some bytes
+    → AnswerSays c.request bytes (Err fault) → GivenFault c t kind → IfOk (unread fault) (TellsGiven c t kind)
+unread_told marks c t kind bytes (read.Outside o) r lacks some out fault =
+    (form_kind c t kind bytes o.item o.kind lacks some out fault, record { unended = has_no_end marks c r lacks; bytes = bytes; given = some; outside = out })
+unread_told marks c t kind bytes read.Memory r lacks some out fault = tt

@@ -9,9 +9,17 @@ use Rattle.kmipa_record.specs.Marks.{MarkOf, begins}
 use Rattle.kmipa_record.specs.Witnesses.{TurnOf}
 use Rattle.kmipa_check.specs.Calls.{CallOf, AreCalls, AreOutside, AreResponse}
 use Rattle.kmipa_check.specs.Fills.{FillFault}
-use Rattle.kmipa_check.specs.Orders.{IsLeftOut, NamesAt, NamesBefore, WitnessFaultAt}
+use Rattle.kmipa_check.specs.Orders.{GivenFault, IsLeftOut, NamesAt, NamesBefore, WitnessFaultAt}
 use Rattle.kmipa_check.specs.Places.{PlacesFault}
+use Rattle.kmipa_check.specs.declared.fault.CheckFault.{CheckFault}
+use Rattle.kmipa_check.specs.declared.fault.CheckFault.TheVariants.{Memory}
 use Rattle.kmipa_check.specs.declared.fault.WitnessKind.{WitnessKind}
+use Rattle.kmipa_check.specs.declared.fault.WitnessKind.TheVariants.{Twice}
+use Rattle.kmipa_unfit.specs.Explanations.{IsFirstNamed}
+use Rattle.kmipa_unfit.specs.UnfitTurns.{TellsGiven}
+use Rattle.kmipa_unfit.specs.declared.explanation.Unfit.{Unfit}
+use Rattle.kmipa_unfit.specs.declared.explanation.Unfit.TheVariants.{Answer}
+use Rattle.kmipa_unfit.specs.declared.explanation.Unfit.TheVariants as unfit
 
 -- the witness has this fault, among the calls of the transcript
 abbrev pub HasFault : List MarkOf → List TurnOf → ℕ → WitnessKind → Type 0
@@ -44,3 +52,21 @@ AnswerSays request bytes (Err read.Memory) = Unit {0}
 -- the fault of a turn to a call with this response: of its places, or of its fills
 abbrev pub IsAnsweredFault : RequestOf → ResponseOf → TurnOf → WitnessKind → Type 0
 IsAnsweredFault request response t kind = PlacesFault request response t.places kind ⊎ FillFault request response t.fills kind
+
+-- what it comes to that an answer can't be read
+abbrev pub unread : ReadFault → Result Unfit CheckFault
+unread (read.Outside o) = Ok (Answer o)
+unread read.Memory = Err Memory
+
+-- the turn at this place names the call; where an earlier one does, too, the fault is that, and else it is that of what the turn gives
+abbrev pub IsNamedFault : CallOf → List TurnOf → ℕ → WitnessKind → Type 0
+IsNamedFault c turns place kind = (t : TurnOf) × (slice_get turns place ≡ Some t) × (t.call ≡ c.number) × (NamesBefore turns place t.call → kind ≡ Twice)
+    × ((NamesBefore turns place t.call → ⊥) → GivenFault c t kind)
+
+-- what is told of a turn that names a call
+abbrev pub TellsNamedBy : CallOf → List TurnOf → ℕ → TurnOf → WitnessKind → Unfit → Type 0
+TellsNamedBy c turns place t kind (unfit.Twice turn) = (kind ≡ Twice) × IsFirstNamed turns place t.call turn
+TellsNamedBy c turns place t kind other = (NamesBefore turns place t.call → ⊥) × TellsGiven c t kind other
+
+abbrev pub TellsNamed : CallOf → List TurnOf → ℕ → WitnessKind → Unfit → Type 0
+TellsNamed c turns place kind u = (t : TurnOf) × (slice_get turns place ≡ Some t) × TellsNamedBy c turns place t kind u

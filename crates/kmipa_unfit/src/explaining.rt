@@ -11,7 +11,7 @@ ghost use Rattle.kmipa_unfit.specs.Explanations.{ExplainsTurn, ExplainsUnnamed, 
 ghost use Rattle.kmipa_unfit.specs.Finding.{HasFault, IsBegun, IsFound, LeavesOut};
 
 use crate::explanation::{Unfit, WitnessExplanation};
-use crate::turns::{first_named, given_unfit, operations_of};
+use crate::turns::{named_unfit, operations_of};
 use kmipa_check::{Call, CheckFault, WitnessFault, WitnessKind, read_calls};
 use kmipa_record::{Mark, Transcript, Turn, Witness};
 use std::alloc::{AllocError, Global};
@@ -94,10 +94,7 @@ fn turn_told(
             unfit: Unfit::Unknown(calls.len()),
         });
     };
-    let unfit = match first_named(turns, place, turn.call) {
-        Some(earlier) => Unfit::Twice(earlier + 1),
-        None => given_unfit(alloc, call, turn, kind)?,
-    };
+    let unfit = named_unfit(alloc, call, turns, place, kind)?;
     Ok(WitnessExplanation {
         turn: Some(place + 1),
         call: turn.call,

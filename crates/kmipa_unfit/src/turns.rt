@@ -7,7 +7,7 @@ ghost use Rattle.kmipa_record.specs.Witnesses.{turn_of};
 ghost use Rattle.kmipa_check.specs.CallReading.{ItemRead};
 ghost use Rattle.kmipa_check.specs.Calls.{IsRecorded, call_of};
 ghost use Rattle.kmipa_check.specs.Orders.{GivenFault, NamesBefore};
-ghost use Rattle.kmipa_unfit.specs.Finding.{AnswerSays, IsAnsweredFault, IsEarliest};
+ghost use Rattle.kmipa_unfit.specs.Finding.{AnswerSays, IsAnsweredFault, IsEarliest, IsNamedFault, TellsNamed, unread};
 ghost use Rattle.kmipa_unfit.specs.UnfitTurns.{TellsAnswered, TellsGiven, numbers_asked};
 
 use crate::explanation::Unfit;
@@ -20,7 +20,7 @@ use kmipa_ttlv::{View, decode_view};
 use std::alloc::{AllocError, Global};
 
 /// The first turn before a place that names the call of this number.
-pub fn first_named(turns: &[Turn], place: usize, number: i32) -> Option<usize>
+fn first_named(turns: &[Turn], place: usize, number: i32) -> Option<usize>
     requires { place < length turns.now }
     ensures { MatchOption result (NamesBefore (map turn_of turns.now) place number → ⊥)
         (IsEarliest (map turn_of turns.now) place number) }
@@ -46,8 +46,28 @@ pub fn operations_of(alloc: Global, request: &Request) -> Result<Vec<u32>, Alloc
     Ok(numbers)
 }
 
+/// What is wrong with the turn at a place, counted from 0, that names this call.
+pub fn named_unfit(
+    alloc: Global,
+    call: &Call,
+    turns: &[Turn],
+    place: usize,
+    kind: WitnessKind,
+) -> Result<Unfit, CheckFault>
+    requires recorded { (marks : List MarkOf) × IsRecorded marks (call_of call.now) }
+    requires named { IsNamedFault (call_of call.now) (map turn_of turns.now) place kind }
+    ensures tells { IfOk result (TellsNamed (call_of call.now) (map turn_of turns.now) place kind) }
+    ensures memory { IfErr result (λ fault. fault ≡ CheckFault.Memory) }
+{
+    let turn = &turns[place];
+    match first_named(turns, place, turn.call) {
+        Some(earlier) => Ok(Unfit::Twice(earlier + 1)),
+        None => given_unfit(alloc, call, turn, kind),
+    }
+}
+
 /// What is wrong with what a turn gives to the call that it is the first to name.
-pub fn given_unfit(
+fn given_unfit(
     alloc: Global,
     call: &Call,
     turn: &Turn,
@@ -85,8 +105,17 @@ fn open_unfit(
     };
     match answer_in(alloc, answer, &call.request) {
         Ok(response) => answered_unfit(alloc, &call.request, &response, turn, kind),
-        Err(ReadFault::Outside(outside)) => Ok(Unfit::Answer(outside)),
-        Err(ReadFault::Memory) => Err(CheckFault::Memory),
+        Err(fault) => unread(fault),
+    }
+}
+
+/// What it comes to that an answer can't be read.
+fn unread(fault: ReadFault) -> Result<Unfit, CheckFault>
+    ensures { result ≡ unread fault }
+{
+    match fault {
+        ReadFault::Outside(outside) => Ok(Unfit::Answer(outside)),
+        ReadFault::Memory => Err(CheckFault::Memory),
     }
 }
 
