@@ -170,6 +170,11 @@ module _ (records : AuditRecords) (t d w : List ℕ) (r : AreRecords records t d
   pub bare_memory : (ft fd fw : Bool) → AuditsExplained t d w ft fd fw (Err (bare_fault (audit.Check check.Memory)))
   bare_memory ft fd fw = (unjudged check.Memory tt, (transcript_of records.transcript, witness_of records.witness, r.transcript, r.witness, tt))
 
+  pub memory_audited : (ft fd fw : Bool) (fault : CheckFault) (told : FaultTold) → fault ≡ check.Memory → told ≡ bare_fault (audit.Check fault) → AuditsExplained t d w ft fd fw (Err told)
+  memory_audited ft fd fw fault told is bare =
+      let P : FaultTold → Type 0 = λ x. AuditsExplained t d w ft fd fw (Err x) in
+      subst P (sym (bare ∙ ap (λ (f : CheckFault). bare_fault (audit.Check f)) is)) (bare_memory ft fd fw)
+
   pub fault_audited : (ft fd fw : Bool) (fault : CheckFault) (told : FaultTold) → Checks (transcript_of records.transcript) (declaration_of records.declaration) (witness_of records.witness) (Err fault)
       → IsCheckToldOf (transcript_of records.transcript) (witness_of records.witness) fault told → AuditsExplained t d w ft fd fw (Err told)
   fault_audited ft fd fw fault told checks (inl is) =

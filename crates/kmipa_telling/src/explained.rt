@@ -37,11 +37,11 @@ pub fn explain_records(alloc: Global, records: AuditRecords) -> Result<Explained
     ) {
         Ok(verdict) => verdict,
         Err(fault) => return Err(check_fault_told(
-                alloc,
-                &records.transcript,
-                &records.witness,
-                fault,
-            )),
+            alloc,
+            &records.transcript,
+            &records.witness,
+            fault,
+        )),
     };
     match explanation_of(alloc, &records, verdict) {
         Ok(explanation) => Ok(Explained {

@@ -127,7 +127,9 @@ pub fn formless_lines(alloc: Global, formless: FormlessFill) -> Result<String, A
     let operation = operation_text(alloc, formless.operation)?;
     let number = formless.kind.number();
     let name = formless.kind.name();
-    format!(in alloc; "fill: {fill}, for item {item}\noperation: {operation}\npayload: outside kind {number} {name}\n")
+    format!(in alloc;
+        "fill: {fill}, for item {item}\noperation: {operation}\npayload: outside kind {number} {name}\n"
+    )
 }
 
 // ---- what is wanted

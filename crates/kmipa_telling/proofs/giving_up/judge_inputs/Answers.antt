@@ -30,7 +30,7 @@ returns-in-Err-read_declaration-clause-decides g c = λ t d tf df.
     let ft = is_failed c.read_transcript.new.input in
     let fd = is_failed c.read_declaration.new.input in
     let P : FaultTold → Type 0 = λ told. DecidesFiles t d ft fd c.args.budget c.args.forced (Err told) in
-    subst P (sym c.bare-2.ensures) (bare_declaration t d ft fd c.args.budget c.args.forced c.in-Err-read_declaration.fault
+    subst P (sym c.bare-in-Err-read_declaration.ensures) (bare_declaration t d ft fd c.args.budget c.args.forced c.in-Err-read_declaration.fault
     (a_transcript c.read_transcript.new.input t c.in-Ok.transcript tf c.in-Ok.ensures.found, c.in-Err-read_declaration.ensures.fault d df))
 
 pub returns-clause-decides : goal.returns-clause-decides

@@ -9,6 +9,7 @@ use Rattle.kmipa_runs.proofs.SearchLemmas.{unsearched_files}
 use Rattle.kmipa_telling.specs.FaultsTold.{by_fault}
 use Rattle.kmipa_telling.specs.JsonSearches.{BothEnded, DecidesInputs}
 use Rattle.kmipa_telling.specs.declared.fault_told.FaultTold.{FaultTold}
+use Rattle.kmipa_telling.specs.declared.judged.Judged.{Judged}
 use Rattle.kmipa_telling.proofs.ExplainedJsonLemmas.{where_ended}
 use Rattle.kmipa_telling.proofs.GivingUpLemmas.{bare_declaration, bare_transcript, decided_files, stop_of, stop_told}
 use Rattle.kmipa_telling.proofs.JudgingLemmas.{err_told, ok_told}
@@ -42,7 +43,7 @@ returns-in-Err-read-clause-decides g c =
     let t = c.read_held.new.input in
     let d = c.read_held-2.new.input in
     let P : FaultTold → Type 0 = λ told. DecidesInputs t d c.args.budget c.args.forced (Err told) in
-    subst P (sym c.bare-2.ensures) (
+    subst P (sym c.bare-in-Err-read.ensures) (
       λ a b af bf. bare_declaration a b (is_failed t) (is_failed d) c.args.budget c.args.forced c.in-Err-read.fault (
         a_transcript t a c.in-Ok.marks af (ok_told c.in_ok-read.read c.in-Ok.marks _ c.in-Ok.is c.in_ok-read.ensures.found),
         err_told c.in_ok-read-2.read c.in-Err-read.fault (Tells DeclarationFault IsDeclarationUpTo b (is_failed d)) c.in-Err-read.is (c.in_ok-read-2.ensures.fault b bf),
@@ -72,5 +73,5 @@ returns-clause-decides g c =
           (unsearched_files t d a b c.in-Ok.marks c.in-Ok-read.declared c.in-Err-judge_records.fault c.args.budget c.args.forced af bf first (second.0.0, second.1) c.in-Err-judge_records.ensures)
           (whole_file a t (λ bytes. IsTranscript bytes marks) first.1 af first.0)
           c.fault_told.ensures,
-      where_ended (by_fault (Err c.fault_told.result)) (BothEnded t d) (first.1, second.1),
+      where_ended {T = Judged} (by_fault (Err c.fault_told.result)) (BothEnded t d) (first.1, second.1),
     )
