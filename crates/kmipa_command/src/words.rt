@@ -77,9 +77,9 @@ Example:
   kmip_audit check transcript.ttlv declaration.ttlv witness.ttlv --explain
   kmip_audit check monday.ttlv declaration.ttlv witness.ttlv --leaves tuesday_declaration.ttlv
 
-With --explain stands behind the lines of a no what its reason rests on, a line for each claim. With --json one JSON
-object stands in place of all lines, and with both it has the claims as members. Neither goes together with --leaves or
---not-before.
+With --explain stands behind the lines of a no what its reason rests on, a line for each claim, and behind that of a
+message outside what is judged each field that makes it so. With --json one JSON object stands in place of all lines, and
+with both it has the claims as members. Neither goes together with --leaves or --not-before.
 
 At a yes, and only then, --leaves writes the declaration with which the audit of the next segment goes on, and prints
 'left: N entries, last stamp DATE'. That DATE is the --not-before of the next segment: a first turn that is earlier is
@@ -99,8 +99,9 @@ undone answer hides what a witness would have to give. Where a plain transcript 
 explains it.
 
 With --explain stands behind the line of a giving up whether that has decided, and if not, why: the budget is used up, or
-which calls are not plain. With --json one JSON object stands in place of all lines, and has the same as members, with or
-without --explain. Neither goes together with --leaves or --not-before.
+which calls are not plain; and behind that of a message outside what is judged each field that makes it so. With --json
+one JSON object stands in place of all lines, and has the same as members, with or without --explain. Neither goes
+together with --leaves or --not-before.
 
 With --open a call without its end is taken where an answer needs what it did, and a batch without order in other
 orders than by place. Of a plain transcript nothing changes; of another one nothing is told by giving up.

@@ -145,7 +145,7 @@ fault_fits t w (audit.Witness f) None said front more lines is prints tells e = 
 fault_fits t w (audit.Transcript f) (Some x) said front more lines is prints tells e = absurd is
 fault_fits t w (audit.Declaration f) (Some x) said front more lines is prints tells e = absurd is
 fault_fits t w (audit.Witness f) (Some x) said front more lines is prints tells e = absurd is
-fault_fits t w (audit.Check f) m said front more lines is prints tells e = check_fits is.0 is.1 f m said front more lines is.2.2.2 prints.0 prints.1 tells e
+fault_fits t w (audit.Check f) m said front more lines is prints tells e = check_fits is.0 is.1 f m said front more lines is.4 prints.0 prints.1 tells e
 
 pub told_fits : (told : FaultTold) (t w : List ℕ) (said : Status) (lines : List ℕ) → IsAuditMeaning t w told.fault told.meaning → PrintsExplained (Err told) said lines ⊎ IsSilent said lines → FitsStatus said lines
 told_fits told t w said lines is (inl (front, more, prints, tells, e)) = fault_fits t w told.fault told.meaning said front more lines is prints tells e

@@ -1,5 +1,7 @@
 -- What is made and printed of a search that says what its giving up means.
-use Rattle.std.proofs.Common.{◌≡◌, ◌⊎◌, inl, inr, ℕ, List, [], Bool, IsTrue, Ok, Err, refl, sym, ap, subst, ◌∙◌}
+use Rattle.std.proofs.Common.{◌≡◌, ◌⊎◌, inl, inr, ℕ, List, [], Bool, IsTrue, Result, Ok, Err, refl, sym, ap, subst, ◌∙◌}
+use Rattle.std.specs.Prelude.{IfOk, IsOkAnd, string_bytes}
+use Rattle.std.specs.declared.alloc.AllocError.{AllocError}
 use Rattle.kmipa_ttlv.specs.Input.{came_of, is_ended, IsFileOf}
 use Rattle.kmipa_ttlv.specs.declared.input.Input.{Input}
 use Rattle.kmipa_ttlv.proofs.ReadLemmas.{whole_file}
@@ -20,10 +22,11 @@ use Rattle.kmipa_search.specs.declared.found.Found.{Found}
 use Rattle.kmipa_search.specs.declared.found.Found.TheVariants.{Yes, GaveUp}
 use Rattle.kmipa_runs.specs.Searches.{AreUnsearched, SearchFails, SearchStops, found_status, Makes}
 use Rattle.kmipa_runs.specs.Statuses.{IsSilent}
+use Rattle.kmipa_runs.specs.declared.lines.Lines.{Lines}
 use Rattle.kmipa_runs.specs.declared.status.Status.{Status}
 use Rattle.kmipa_runs.specs.declared.status.Status.TheVariants as status
 use Rattle.kmipa_telling.specs.Deciding.{AreDecided, DecidesFiles, DecidesRecords}
-use Rattle.kmipa_telling.specs.FaultsTold.{IsFaultOf, IsFaultToldOf, IsSearchMeaning, bare_fault}
+use Rattle.kmipa_telling.specs.FaultsTold.{IsFaultOf, IsFaultToldOf, IsSearchMeaning, PrintsFaultTold, bare_fault}
 use Rattle.kmipa_telling.specs.GivingUp.{PrintsGivingUp}
 use Rattle.kmipa_telling.specs.declared.fault_told.FaultTold.{FaultTold}
 use Rattle.kmipa_telling.specs.declared.judged.Judged.{Judged}
@@ -98,3 +101,13 @@ stop_told t d ft fd budget asked marks fault told a is (inr p) =
     let P : FaultTold → Type 0 = λ x. DecidesFiles t d ft fd budget asked (Err x) in
     let memory : AreUnsearched check.Memory t d = record { marks = a.marks; transcript = a.transcript; declared = a.declared; declaration = a.declaration; stops = tt } in
     subst P (sym p) (memory, (marks, is, tt))
+
+-- what is appended of a fault
+pub fault_reported : (made : Result Lines AllocError) (told : FaultTold) (said : Status) (lines file : List ℕ) → IfOk made (λ l. PrintsFaultTold told l.status (string_bytes l.text))
+    → IsOkAnd made (λ l. (said ≡ l.status) × (lines ≡ string_bytes l.text)) ⊎ IsSilent said lines → file ≡ [] → PrintsGivingUp (Err told) said lines file ⊎ (IsSilent said lines × (file ≡ []))
+fault_reported made told said lines file prints (inr silent) none = inr (silent, none)
+fault_reported (Err e) told said lines file prints (inl p) none = absurd p
+fault_reported (Ok l) told said lines file prints (inl p) none =
+    let P : Status → Type 0 = λ s. PrintsFaultTold told s (string_bytes l.text) in
+    let Q : List ℕ → Type 0 = λ text. PrintsFaultTold told said text in
+    inl (subst Q (sym p.1) (subst P (sym p.0) prints), none)

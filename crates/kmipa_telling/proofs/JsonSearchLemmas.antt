@@ -22,7 +22,7 @@ ToldSearch t d budget asked said lines made = (outcome : Result Judged FaultTold
 
 found_done : {R : Type 0} (t d : Input R) (budget : ℕ) (asked : Bool) (outcome : Result Judged FaultTold) (said : Status) (lines made : List ℕ) → DecidesInputs t d budget asked outcome
     → PrintsJsonSearch t d outcome said lines made → said ≡ status.Done → AreAccepted (came_of t) (came_of d) made × BothEnded t d
-found_done t d budget asked (Err told) said lines made decides (none, members, (without, tells, more), is) done = absurd (fault_not_done told.fault (sym tells.0 ∙ done))
+found_done t d budget asked (Err told) said lines made decides (none, (told_in, (without, tells, more), is)) done = absurd (fault_not_done told.fault (sym tells.0 ∙ done))
 found_done t d budget asked (Ok judged) said lines made decides prints done =
     let are = decides.0 (came_of t) (came_of d) (itself t) (itself d) in
     (done_accepted judged (came_of t) (came_of d) budget asked said made are prints.1.1.0 prints.0 done, decides.1)

@@ -46,6 +46,9 @@ kind_members kind = number_members (pos (kind_number kind)) (Some (kind_name kin
 abbrev pub answer_members : Outside → Members
 answer_members o = put (codes "kind") (object (kind_members o.kind)) (put (codes "item") (count o.item) no_members)
 
+abbrev pub answer_told : Outside → Members → Members
+answer_told o before = put (codes "answer") (object (answer_members o)) before
+
 -- ---- places
 
 -- why none are wanted
@@ -93,7 +96,7 @@ fill_told other before = before
 abbrev pub given_told : Unfit → Members → Members
 given_told unfit.Ended before = put (codes "ended") (boolean true) before
 given_told unfit.Open before = put (codes "ended") (boolean false) before
-given_told (unfit.Answer o) before = put (codes "answer") (object (answer_members o)) before
+given_told (unfit.Answer o) before = answer_told o before
 given_told (unfit.Ordered o) before = ordered_told o before
 given_told (unfit.Disordered d) before = disordered_told d before
 given_told other before = fill_told other before

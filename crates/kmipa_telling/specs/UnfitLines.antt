@@ -5,7 +5,7 @@ use Rattle.kmipa_explain.specs.Reading.{text_of}
 use Rattle.kmipa_runs.specs.Lines.{line}
 use Rattle.kmipa_runs.specs.Shown.{quoted}
 use Rattle.kmipa_telling.specs.Phrases.{more_line, operation_text}
-use Rattle.kmipa_telling.specs.UnfitPhrases.{answer_line, disorder_lines, fill_line, formless_lines, order_lines, unwanted_lines, wanted_text}
+use Rattle.kmipa_telling.specs.UnfitPhrases.{answer_line, disorder_lines, fill_line, formless_lines, item_line, order_lines, unwanted_lines, wanted_text}
 use Rattle.kmipa_unfit.specs.declared.explanation.Unfit.{Unfit}
 use Rattle.kmipa_unfit.specs.declared.explanation.Unfit.TheVariants as unfit
 use Rattle.kmipa_unfit.specs.declared.explanation.WitnessExplanation.{WitnessExplanation}
@@ -15,9 +15,17 @@ abbrev pub client_line : Option (List ℕ) → List ℕ
 client_line None = []
 client_line (Some name) = line (codes "client: " ∷ quoted name ∷ [])
 
--- the lines of a turn and of the call that it names; or of the call that is left out
+-- the line of a turn
+abbrev pub turn_line : ℕ → List ℕ
+turn_line turn = line (codes "turn: " ∷ decimal turn ∷ [])
+
+-- that of the call that it names
+abbrev pub named_line : ℤ → List ℕ
+named_line call = line (codes "names: call " ∷ signed_decimal call ∷ [])
+
+-- both; or the line of a call that is left out
 abbrev pub place_lines : Option ℕ → ℤ → List ℕ
-place_lines (Some turn) call = line (codes "turn: " ∷ decimal turn ∷ codes "\nnames: call " ∷ signed_decimal call ∷ [])
+place_lines (Some turn) call = turn_line turn ++ named_line call
 place_lines None call = line (codes "left out: call " ∷ signed_decimal call ∷ [])
 
 -- the line of an operation that is asked for
@@ -31,7 +39,7 @@ asked_lines operations = flat_map asked_line (take 20 operations) ++ more_line (
 -- the lines of a fill, or of an item without one
 abbrev pub fill_lines : Unfit → List ℕ
 fill_lines (unfit.FillUnwanted u) = fill_line u.fill u.item ++ unwanted_lines u.why
-fill_lines (unfit.FillMissing m) = line (codes "item: " ∷ decimal m.item ∷ []) ++ asked_line m.operation
+fill_lines (unfit.FillMissing m) = item_line m.item ++ asked_line m.operation
 fill_lines (unfit.FillFormless f) = formless_lines f
 fill_lines other = []
 

@@ -59,6 +59,10 @@ disorder_lines d = places_line d.places.items ++ (answered_line d.answered ++ wr
 abbrev pub fill_line : ℕ → ℤ → List ℕ
 fill_line fill item = line (codes "fill: " ∷ decimal fill ∷ codes ", for item " ∷ signed_decimal item ∷ [])
 
+-- which item has none
+abbrev pub item_line : ℕ → List ℕ
+item_line item = line (codes "item: " ∷ decimal item ∷ [])
+
 -- why it isn't wanted
 abbrev pub unwanted_lines : Unwanted → List ℕ
 unwanted_lines (unwanted.Unanswered answered) = answered_line answered

@@ -4,7 +4,7 @@ ghost use Rattle.std.specs.Prelude.{◌≡◌, IfOk, OnOk};
 ghost use Rattle.kmipa_json.specs.Told.{items_of, members_of};
 ghost use Rattle.kmipa_telling.specs.Lists.{objects};
 ghost use Rattle.kmipa_telling.specs.EventClaims.{operation_members};
-ghost use Rattle.kmipa_telling.specs.UnfitClaims.{answer_members, disordered_told, fill_told, given_told, kind_members, ordered_told, place_members, stands_told, unfit_members, unwanted_told, wrong_members};
+ghost use Rattle.kmipa_telling.specs.UnfitClaims.{answer_members, answer_told, disordered_told, fill_told, given_told, kind_members, ordered_told, place_members, stands_told, unfit_members, unwanted_told, wrong_members};
 
 use crate::causes::status_text;
 use crate::claims::calls_list;
@@ -65,11 +65,18 @@ fn tell_given(alloc: Global, told: &mut JsonObject, unfit: &Unfit) -> Result<(),
     match unfit {
         Unfit::Ended => told.put_truth("ended", true),
         Unfit::Open => told.put_truth("ended", false),
-        Unfit::Answer(outside) => told.put_object("answer", answer_object(alloc, *outside)?),
+        Unfit::Answer(outside) => tell_answer(alloc, told, *outside),
         Unfit::Ordered(ordered) => tell_ordered(alloc, told, ordered),
         Unfit::Disordered(disorder) => tell_disordered(alloc, told, disorder),
         _ => tell_fill(alloc, told, unfit),
     }
+}
+
+/// Puts where an answer is outside into an object.
+fn tell_answer(alloc: Global, told: &mut JsonObject, outside: Outside) -> Result<(), AllocError>
+    ensures { OnOk result (members_of told.new ≡ answer_told outside (members_of told.old)) }
+{
+    told.put_object("answer", answer_object(alloc, outside)?)
 }
 
 /// Puts a fill, or an item without one, into an object.

@@ -2,11 +2,11 @@
 
 ghost use Rattle.std.specs.Prelude.{◌≡◌, IfOk, flat_map, string_bytes, take};
 ghost use Rattle.kmipa_explain.specs.Reading.{text_of};
-ghost use Rattle.kmipa_telling.specs.UnfitLines.{asked_line, asked_lines, client_line, fill_lines, given_lines, place_lines, stands_lines, unfit_lines};
+ghost use Rattle.kmipa_telling.specs.UnfitLines.{asked_line, asked_lines, client_line, fill_lines, given_lines, named_line, place_lines, stands_lines, turn_line, unfit_lines};
 
 use crate::phrases::{MOST, more_line, operation_text};
 use crate::unfit_phrases::{
-    answer_line, disorder_lines, fill_line, formless_lines, order_lines, unwanted_lines,
+    answer_line, disorder_lines, fill_line, formless_lines, item_line, order_lines, unwanted_lines,
     wanted_text,
 };
 use kmipa_runs::quoted_text;
@@ -42,9 +42,25 @@ fn place_lines(alloc: Global, turn: Option<usize>, call: i32) -> Result<String, 
     ensures { IfOk result (λ text. string_bytes text ≡ place_lines turn call) }
 {
     match turn {
-        Some(turn) => format!(in alloc; "turn: {turn}\nnames: call {call}\n"),
+        Some(turn) => {
+            let place = turn_line(alloc, turn)?;
+            let named = named_line(alloc, call)?;
+            format!(in alloc; "{place}{named}")
+        }
         None => format!(in alloc; "left out: call {call}\n"),
     }
+}
+
+fn turn_line(alloc: Global, turn: usize) -> Result<String, AllocError>
+    ensures { IfOk result (λ text. string_bytes text ≡ turn_line turn) }
+{
+    format!(in alloc; "turn: {turn}\n")
+}
+
+fn named_line(alloc: Global, call: i32) -> Result<String, AllocError>
+    ensures { IfOk result (λ text. string_bytes text ≡ named_line call) }
+{
+    format!(in alloc; "names: call {call}\n")
 }
 
 /// The lines of what stands there.
@@ -90,9 +106,9 @@ fn fill_lines(alloc: Global, unfit: &Unfit) -> Result<String, AllocError>
             format!(in alloc; "{fill}{why}")
         }
         Unfit::FillMissing(missing) => {
-            let item = missing.item;
+            let item = item_line(alloc, missing.item)?;
             let operation = asked_line(alloc, missing.operation)?;
-            format!(in alloc; "item: {item}\n{operation}")
+            format!(in alloc; "{item}{operation}")
         }
         Unfit::FillFormless(formless) => formless_lines(alloc, *formless),
         _ => Ok(String::new(alloc)),
@@ -103,9 +119,15 @@ fn fill_lines(alloc: Global, unfit: &Unfit) -> Result<String, AllocError>
 fn asked_lines(alloc: Global, operations: &[u32]) -> Result<String, AllocError>
     ensures { IfOk result (λ text. string_bytes text ≡ asked_lines operations.now) }
 {
-    let told = first_lines(alloc, &operations[..MOST.min(operations.len())])?;
+    let told = twenty_lines(alloc, operations)?;
     let more = more_line(alloc, "operation", operations.len())?;
     format!(in alloc; "{told}{more}")
+}
+
+fn twenty_lines(alloc: Global, operations: &[u32]) -> Result<String, AllocError>
+    ensures { IfOk result (λ text. string_bytes text ≡ flat_map asked_line (take 20 operations.now)) }
+{
+    first_lines(alloc, &operations[..MOST.min(operations.len())])
 }
 
 fn first_lines(alloc: Global, operations: &[u32]) -> Result<String, AllocError>

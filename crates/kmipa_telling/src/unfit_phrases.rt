@@ -1,7 +1,8 @@
 //! What a turn gives that doesn't fit its call, on lines, and what is wanted.
 
-ghost use Rattle.std.specs.Prelude.{◌≡◌, IfOk, string_bytes};
-ghost use Rattle.kmipa_telling.specs.UnfitPhrases.{answer_line, answered_line, disorder_lines, fill_line, fill_wanted_text, formless_lines, order_lines, order_wanted_text, order_why_line, places_line, unwanted_lines, wanted_text, wrong_line};
+ghost use Rattle.std.specs.Prelude.{◌≡◌, IfOk, flat_map, string_bytes, take};
+ghost use Rattle.kmipa_telling.specs.Phrases.{numbered};
+ghost use Rattle.kmipa_telling.specs.UnfitPhrases.{answer_line, answered_line, disorder_lines, fill_line, fill_wanted_text, formless_lines, item_line, order_lines, order_wanted_text, order_why_line, places_line, unwanted_lines, wanted_text, wrong_line};
 
 use crate::causes::status_text;
 use crate::phrases::{MOST, more_text, numbers_text, operation_text};
@@ -25,9 +26,15 @@ pub fn answer_line(alloc: Global, outside: Outside) -> Result<String, AllocError
 fn places_line(alloc: Global, numbers: &[i32]) -> Result<String, AllocError>
     ensures { IfOk result (λ text. string_bytes text ≡ places_line numbers.now) }
 {
-    let told = numbers_text(alloc, &numbers[..MOST.min(numbers.len())])?;
+    let told = first_numbers(alloc, numbers)?;
     let more = more_text(alloc, numbers.len())?;
     format!(in alloc; "places:{told}{more}\n")
+}
+
+fn first_numbers(alloc: Global, numbers: &[i32]) -> Result<String, AllocError>
+    ensures { IfOk result (λ text. string_bytes text ≡ flat_map numbered (take 20 numbers.now)) }
+{
+    numbers_text(alloc, &numbers[..MOST.min(numbers.len())])
 }
 
 /// The places, and why none are wanted.
@@ -92,6 +99,13 @@ pub fn fill_line(alloc: Global, fill: usize, item: i32) -> Result<String, AllocE
     ensures { IfOk result (λ text. string_bytes text ≡ fill_line fill item) }
 {
     format!(in alloc; "fill: {fill}, for item {item}\n")
+}
+
+/// Which item it is.
+pub fn item_line(alloc: Global, item: usize) -> Result<String, AllocError>
+    ensures { IfOk result (λ text. string_bytes text ≡ item_line item) }
+{
+    format!(in alloc; "item: {item}\n")
 }
 
 /// Why a fill isn't wanted.

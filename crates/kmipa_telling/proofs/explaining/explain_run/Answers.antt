@@ -42,10 +42,10 @@ returns-in-Ok-clause-accepts g c = λ done.
 
 pub returns-in-Err-clause-prints : goal.returns-in-Err-clause-prints
 returns-in-Err-clause-prints g c =
-    let lines = appended_bytes c.args.out.now.items c.append.new.out.items in (
+    let lines = appended_bytes c.args.out.now.items c.append-in-Err.new.out.items in (
       Err c.in-Err.told,
       c.in-Err.ensures.audits,
-      explained_reported c.fault_told_lines.result (Err c.in-Err.told) c.append.result lines c.fault_told_lines.ensures c.append.ensures.prints,
+      explained_reported c.fault_told_lines.result (Err c.in-Err.told) c.append-in-Err.result lines c.fault_told_lines.ensures c.append-in-Err.ensures.prints,
     )
 
 pub returns-in-Err-clause-fits : goal.returns-in-Err-clause-fits
@@ -53,20 +53,20 @@ returns-in-Err-clause-fits g c =
     let t = c.explain_inputs.new.transcript in
     let d = c.explain_inputs.new.declaration in
     let w = c.explain_inputs.new.witness in
-    let lines = appended_bytes c.args.out.now.items c.append.new.out.items in
+    let lines = appended_bytes c.args.out.now.items c.append-in-Err.new.out.items in
     let audits = c.in-Err.ensures.audits (came_of t) (came_of d) (came_of w) (itself t) (itself d) (itself w) in
-    told_fits c.in-Err.told (came_of t) (came_of w) c.append.result lines audits.1
-    (explained_reported c.fault_told_lines.result (Err c.in-Err.told) c.append.result lines c.fault_told_lines.ensures c.append.ensures.prints)
+    told_fits c.in-Err.told (came_of t) (came_of w) c.append-in-Err.result lines audits.1
+    (explained_reported c.fault_told_lines.result (Err c.in-Err.told) c.append-in-Err.result lines c.fault_told_lines.ensures c.append-in-Err.ensures.prints)
 
 pub returns-in-Err-clause-yes : goal.returns-in-Err-clause-yes
 returns-in-Err-clause-yes g c =
-    yes_fits c.append.result (appended_bytes c.args.out.now.items c.append.new.out.items) (returns-in-Err-clause-fits g c)
+    yes_fits c.append-in-Err.result (appended_bytes c.args.out.now.items c.append-in-Err.new.out.items) (returns-in-Err-clause-fits g c)
 
 pub returns-in-Err-clause-accepts : goal.returns-in-Err-clause-accepts
 returns-in-Err-clause-accepts g c = λ done.
     let t = c.explain_inputs.new.transcript in
     let d = c.explain_inputs.new.declaration in
     let w = c.explain_inputs.new.witness in
-    let lines = appended_bytes c.args.out.now.items c.append.new.out.items in
-    let reported = explained_reported c.fault_told_lines.result (Err c.in-Err.told) c.append.result lines c.fault_told_lines.ensures c.append.ensures.prints in
-    absurd (told_not_done c.in-Err.told c.append.result lines reported done)
+    let lines = appended_bytes c.args.out.now.items c.append-in-Err.new.out.items in
+    let reported = explained_reported c.fault_told_lines.result (Err c.in-Err.told) c.append-in-Err.result lines c.fault_told_lines.ensures c.append-in-Err.ensures.prints in
+    absurd (told_not_done c.in-Err.told c.append-in-Err.result lines reported done)

@@ -1,8 +1,21 @@
+use Rattle.std.proofs.Common.{Err, [], sym}
+use Rattle.std.proofs.lemmas.List.{append-nil}
 use Rattle.std.specs.Io.{appended_bytes}
 use Rattle.kmipa_ttlv.specs.Input.{came_of}
 use Rattle.kmipa_ttlv.proofs.ReadLemmas.{itself}
-use Rattle.kmipa_telling.proofs.GivingUpLemmas.{done_is_decided}
+use Rattle.kmipa_runs.proofs.AppendLemmas.{since}
+use Rattle.kmipa_telling.proofs.GivingUpLemmas.{done_is_decided, fault_reported}
 use Rattle.kmipa_telling.proofs.giving_up.explain_search_run.Goals as goal
+
+pub returns-in-Err-clause-prints : goal.returns-in-Err-clause-prints
+returns-in-Err-clause-prints g c =
+    let lines = appended_bytes c.args.out.now.items c.append.new.out.items in
+    let made = c.args.made.now.items in (
+      Err c.in-Err.told,
+      c.in-Err.ensures.decides,
+      fault_reported c.fault_told_lines.result c.in-Err.told c.append.result lines (appended_bytes made made) c.fault_told_lines.ensures c.append.ensures.prints
+          (since made [] made (sym (append-nil made))),
+    )
 
 pub returns-in-Ok-clause-accepts : goal.returns-in-Ok-clause-accepts
 returns-in-Ok-clause-accepts g c = λ done.
