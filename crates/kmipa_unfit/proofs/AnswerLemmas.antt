@@ -1,5 +1,5 @@
 -- The fault of what a turn gives to a call, by the call's response and by the turn's answer.
-use Rattle.std.proofs.Common.{◌≡◌, ◌≢◌, ◌⊎◌, inl, inr, ℕ, ℤ, Bool, false, List, [], Option, Some, None, option_map, refl, sym, ap, ◌∙◌, subst}
+use Rattle.std.proofs.Common.{◌≡◌, ◌≢◌, ◌⊎◌, inl, inr, ℕ, Bool, false, List, [], Option, Some, None, option_map, refl, subst}
 use Rattle.std.specs.Prelude.{IfOk, Err, is_some}
 use Rattle.kmipa_msgs.specs.declared.fault.ReadFault.{ReadFault}
 use Rattle.kmipa_msgs.specs.declared.fault.ReadFault.TheVariants as read

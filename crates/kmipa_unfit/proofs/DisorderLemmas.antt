@@ -1,16 +1,14 @@
 -- Numbers with nothing wrong are an order of the answered items.
-use Rattle.std.proofs.Common.{◌≡◌, ◌≢◌, ◌<◌, ◌≤◌, ◌⊎◌, inl, inr, ◌↔◌, ℕ, zero, suc, ◌+◌, ◌-◌, ℤ, pos, Bool, true, false, List, [], ◌∷◌, map, length, Contains, Option, Some, None, slice_get, refl, sym, ap, ◌∙◌, subst, arith, add-one}
+use Rattle.std.proofs.Common.{◌≡◌, ◌<◌, ◌≤◌, inl, inr, ℕ, zero, suc, ◌+◌, ◌-◌, ℤ, pos, List, [], ◌∷◌, length, Contains, Option, Some, None, slice_get, refl, sym, ap, ◌∙◌, subst, arith, add-one}
 use Rattle.std.proofs.lemmas.List.{length-map}
-use Rattle.kmipa_msgs.specs.declared.request.BatchOption.TheVariants.{Continue}
 use Rattle.kmipa_msgs.specs.Messages.{RequestOf, ResponseOf}
 use Rattle.kmipa_batch.specs.Fits.{FailedAt}
-use Rattle.kmipa_batch.specs.Orders.{AreTakingOrder, IsAnswered}
 use Rattle.kmipa_batch.specs.Shapes.{IsFirstFailed, NoneFailed}
 use Rattle.kmipa_batch.specs.Standing.{EndsAt, StandOnce}
 use Rattle.kmipa_batch.proofs.StandingLemmas.{are_order}
 use Rattle.kmipa_check.specs.Places.{place_numbers}
-use Rattle.kmipa_check.proofs.PlaceLemmas.{apart, at_contains, contains_at, at_within, get_at, mapped_from}
-use Rattle.kmipa_unfit.specs.OrderFinding.{AreOnce, AreWithin, HasItem, HaveAll, IsBeyond, IsOrderless, IsWithin, StandsAhead}
+use Rattle.kmipa_check.proofs.PlaceLemmas.{apart, at_contains, at_within, get_at, mapped_from}
+use Rattle.kmipa_unfit.specs.OrderFinding.{AreOnce, AreWithin, HasItem, HaveAll, IsBeyond, IsOrderless, IsWithin}
 use Rattle.kmipa_unfit.specs.UnfitOrders.{AreAnswered, IsMissing, IsNotLast, IsUnanswered}
 
 -- numbers from 1 on are places

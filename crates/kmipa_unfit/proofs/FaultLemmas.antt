@@ -1,5 +1,5 @@
 -- The fault of a witness: of a turn, by what is found at it, or of a call that is left out.
-use Rattle.std.proofs.Common.{◌≡◌, ◌≤◌, ℕ, ◌+◌, ℤ, pos, ◌≤ℤ◌, List, map, Contains, Some, slice_get, refl, sym, ap, ◌∙◌, subst, arith}
+use Rattle.std.proofs.Common.{◌≡◌, ◌≤◌, ℕ, ◌+◌, ℤ, pos, ◌≤ℤ◌, List, map, Some, slice_get, refl, sym, ap, ◌∙◌, subst, arith}
 use mir.Syntax.{w32}
 use mir.Val.{SFits}
 use Rattle.std.proofs.lemmas.Int.{ints}
@@ -11,7 +11,7 @@ use Rattle.kmipa_check.specs.CallReading.{CallsFault}
 use Rattle.kmipa_check.specs.Fills
 use Rattle.kmipa_check.specs.declared.fault.CheckFault.{CheckFault}
 use Rattle.kmipa_check.specs.declared.fault.CheckFault.TheVariants.{Outside, Witness, Memory}
-use Rattle.kmipa_check.specs.Orders.{NamesAt, HasCall, NamesBefore, IsAnswerFault, answered, unanswered, formless, GivenFault, unfit_answer, unfit_places, unfilled, TurnFault, unknown, twice, unfit, WitnessFaultAt, in_turn, left_out}
+use Rattle.kmipa_check.specs.Orders.{NamesAt, HasCall, NamesBefore, answered, unanswered, formless, GivenFault, unfit_answer, unfit_places, unfilled, TurnFault, unknown, twice, unfit, WitnessFaultAt, in_turn, left_out}
 use Rattle.kmipa_check.specs.Places
 use Rattle.kmipa_check.specs.declared.fault.WitnessKind.{WitnessKind}
 use Rattle.kmipa_check.specs.declared.fault.WitnessKind.TheVariants.{UnknownCall, Twice, LeftOut}

@@ -1,5 +1,5 @@
 -- What the bytes of an answer say.
-use Rattle.std.proofs.Common.{ℕ, List, Option, Some, None, Result, Ok, Err, Bool, true, ◌≡◌, sym}
+use Rattle.std.proofs.Common.{ℕ, List, Some, Result, Ok, Err}
 use Rattle.kmipa_ttlv.specs.ViewTree.{view_tree}
 use Rattle.kmipa_ttlv.specs.declared.view.View.{View}
 use Rattle.kmipa_msgs.specs.Messages.{RequestOf, response_of}

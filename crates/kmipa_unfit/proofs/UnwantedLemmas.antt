@@ -1,5 +1,5 @@
 -- Fills that aren't wanted, that are missing, and that aren't of their form.
-use Rattle.std.proofs.Common.{◌≡◌, ◌≢◌, ◌<◌, ◌≤◌, ℕ, ◌+◌, ℤ, pos, List, length, get_or, Contains, Option, Some, None, slice_get, refl, sym, ap, ◌∙◌, subst, arith}
+use Rattle.std.proofs.Common.{◌≡◌, ◌≤◌, ℕ, ◌+◌, ℤ, pos, List, length, get_or, Option, Some, None, slice_get, refl, sym, ap, ◌∙◌, subst, arith}
 use Rattle.std.specs.Prelude.{MatchOption}
 use Rattle.std.proofs.lemmas.Option.{slice_get-get_or}
 use Rattle.kmipa_msgs.specs.declared.kind.OutsideKind.{OutsideKind}
@@ -13,7 +13,7 @@ use Rattle.kmipa_check.proofs.FillingLemmas.{is_wanted_here}
 use Rattle.kmipa_check.proofs.PlaceLemmas.{at_contains, at_within}
 use Rattle.kmipa_unfit.specs.FillFinding.{FillSays, IsAhead, IsAlone, IsWantedFill, UnwantedAt}
 use Rattle.kmipa_unfit.specs.UnfitOrders.{AreAnswered, IsUnanswered}
-use Rattle.kmipa_unfit.specs.UnfitFills.{IsFormlessAt, IsSecond, IsUnwantedAt, UnwantedAnswer, UnwantedFillAt, UnwantedItem}
+use Rattle.kmipa_unfit.specs.UnfitFills.{IsFormlessAt, IsUnwantedAt, UnwantedAnswer, UnwantedFillAt, UnwantedItem}
 use Rattle.kmipa_unfit.specs.declared.explanation.Unwanted.{Unwanted}
 use Rattle.kmipa_unfit.specs.declared.explanation.Unwanted.TheVariants.{Unanswered, Status, Present, Needless, Operations, Second}
 use Rattle.kmipa_unfit.proofs.BelowLemmas.{Below}

@@ -1,4 +1,4 @@
-use Rattle.std.proofs.Common.{rules, ◌∙◌, ℤ, map, refl, sym, subst}
+use Rattle.std.proofs.Common.{rules, ℤ, map, refl, subst}
 use mir.Val.{SFits}
 use mir.Syntax.{w32}
 use Rattle.std.proofs.lemmas.Int.{to_z-of_z}

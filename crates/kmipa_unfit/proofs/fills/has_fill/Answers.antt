@@ -1,4 +1,4 @@
-use Rattle.std.proofs.Common.{◌≡◌, map, arith}
+use Rattle.std.proofs.Common.{map, arith}
 use Rattle.std.proofs.lemmas.List.{length-map}
 use Rattle.kmipa_record.specs.Witnesses.{FillOf, fill_of}
 use Rattle.kmipa_check.specs.Fills.{IsFor}

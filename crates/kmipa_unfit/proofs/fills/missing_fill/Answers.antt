@@ -1,4 +1,4 @@
-use Rattle.std.proofs.Common.{rules, ◌≡◌, ◌∙◌, length, map, vec_len, refl, sym, ap, arith}
+use Rattle.std.proofs.Common.{rules, ◌≡◌, ◌∙◌, length, map, vec_len, refl, ap, arith}
 use Rattle.std.proofs.lemmas.List.{length-map}
 use Rattle.kmipa_msgs.specs.Messages.{AskOf, ask_of, request_of, response_of}
 use Rattle.kmipa_record.specs.Witnesses.{fill_of}

@@ -7,7 +7,6 @@ use Rattle.std.proofs.lemmas.Result.{IfOk-weaker}
 use Rattle.kmipa_record.specs.Witnesses.{TurnOf, turn_of}
 use Rattle.kmipa_check.specs.Calls.{call_of}
 use Rattle.kmipa_check.specs.Orders.{GivenFault, NamesBefore}
-use Rattle.kmipa_check.specs.declared.fault.WitnessKind.TheVariants.{Twice}
 use Rattle.kmipa_check.proofs.PlaceLemmas.{at_within, mapped_at}
 use Rattle.kmipa_unfit.specs.Finding.{IsEarliest}
 use Rattle.kmipa_unfit.proofs.LiftLemmas.{of_first}
