@@ -15,6 +15,7 @@ use Rattle.kmipa_check.specs.Verdicts.{Checks}
 use Rattle.kmipa_check.specs.declared.auditing.AuditFault.TheVariants as audit
 use Rattle.kmipa_check.specs.declared.fault.CheckFault.{CheckFault}
 use Rattle.kmipa_check.specs.declared.fault.CheckFault.TheVariants as check
+use Rattle.kmipa_check.specs.declared.fault.WitnessFault.{WitnessFault}
 use Rattle.kmipa_check.specs.declared.auditing.AuditFault.{AuditFault}
 use Rattle.kmipa_check.specs.declared.auditing.AuditRecords.{AuditRecords}
 use Rattle.kmipa_check.specs.declared.verdict.Verdict.{Verdict}
@@ -27,7 +28,7 @@ use Rattle.kmipa_runs.specs.declared.status.Status.{Status}
 use Rattle.kmipa_runs.specs.declared.status.Status.TheVariants as status
 use Rattle.kmipa_runs.proofs.LineLemmas.{done_is_yes}
 use Rattle.kmipa_telling.specs.Explaining.{AreExplained, AuditsExplained, IsExplained, PrintsExplained, PrintsMore, TellsRecords}
-use Rattle.kmipa_telling.specs.FaultsTold.{IsAuditMeaning, IsCheckMeaning, IsFaultOf, IsFaultToldOf, PrintsFaultMeaning, bare_fault}
+use Rattle.kmipa_telling.specs.FaultsTold.{IsAuditMeaning, IsCheckFaultOf, IsCheckMeaning, IsCheckToldOf, IsFaultOf, IsFaultToldOf, PrintsFaultMeaning, bare_fault}
 use Rattle.kmipa_telling.specs.declared.explained.Explained.{Explained}
 use Rattle.kmipa_telling.specs.declared.fault_told.FaultMeaning.{FaultMeaning}
 use Rattle.kmipa_telling.specs.declared.fault_told.FaultTold.{FaultTold}
@@ -175,7 +176,7 @@ module _ (records : AuditRecords) (t d w : List ℕ) (r : AreRecords records t d
       subst P (sym (bare ∙ ap (λ (f : CheckFault). bare_fault (audit.Check f)) is)) (bare_memory ft fd fw)
 
   pub fault_audited : (ft fd fw : Bool) (fault : CheckFault) (told : FaultTold) → Checks (transcript_of records.transcript) (declaration_of records.declaration) (witness_of records.witness) (Err fault)
-      → IsFaultToldOf (transcript_of records.transcript) fault told → AuditsExplained t d w ft fd fw (Err told)
+      → IsCheckToldOf (transcript_of records.transcript) (witness_of records.witness) fault told → AuditsExplained t d w ft fd fw (Err told)
   fault_audited ft fd fw fault told checks (inl is) =
       let P : AuditFault → Type 0 = λ f. AuditFails t d w ft fd fw f × IsAuditMeaning t w f told.meaning in
       subst P (sym is.0) (unjudged fault checks, (transcript_of records.transcript, witness_of records.witness, r.transcript, r.witness, is.1))
@@ -183,10 +184,10 @@ module _ (records : AuditRecords) (t d w : List ℕ) (r : AreRecords records t d
       let P : FaultTold → Type 0 = λ x. AuditsExplained t d w ft fd fw (Err x) in
       subst P (sym is) (bare_memory ft fd fw)
 
--- the fault of a check, where it is of a message
-pub fault_of : (marks : List MarkOf) (declared : DeclarationOf) (turns : List TurnOf) (fault : CheckFault) → Checks marks declared turns (Err fault) → IsFaultOf marks fault
+-- the fault of a check, where it is of a message or of the witness
+pub fault_of : (marks : List MarkOf) (declared : DeclarationOf) (turns : List TurnOf) (fault : CheckFault) → Checks marks declared turns (Err fault) → IsCheckFaultOf marks turns fault
 fault_of marks declared turns (check.Outside number side o) h = h
-fault_of marks declared turns (check.Witness w) h = tt
+fault_of marks declared turns (check.Witness w) h = h
 fault_of marks declared turns check.Memory h = tt
 
 -- a fault of reading is told alone
@@ -200,3 +201,15 @@ bare_reading t d w ft fd fw (audit.Check f) h = absurd h
 pub told_not_done : (told : FaultTold) (said : Status) (lines : List ℕ) → PrintsExplained (Err told) said lines ⊎ IsSilent said lines → said ≡ status.Done → ⊥
 told_not_done told said lines (inl (front, more, prints, tells, e)) done = fault_not_done told.fault (sym prints.0 ∙ done)
 told_not_done told said lines (inr silent) done = let clash : status.Failed ≡ status.Done = sym silent.0 ∙ done in absurd cc
+
+-- a fault of a message, and what it means, is told so of a check
+pub message_fault : (marks : List MarkOf) (turns : List TurnOf) (fault : CheckFault) → ((w : WitnessFault) → fault ≡ check.Witness w → ⊥) → IsCheckFaultOf marks turns fault → IsFaultOf marks fault
+message_fault marks turns (check.Outside number side o) apart h = h
+message_fault marks turns (check.Witness w) apart h = absurd (apart w refl)
+message_fault marks turns check.Memory apart h = h
+
+pub message_told : (marks : List MarkOf) (turns : List TurnOf) (fault : CheckFault) (told : FaultTold) → ((w : WitnessFault) → fault ≡ check.Witness w → ⊥) → IsFaultToldOf marks fault told
+    → IsCheckToldOf marks turns fault told
+message_told marks turns (check.Outside number side o) told apart h = h
+message_told marks turns (check.Witness w) told apart h = absurd (apart w refl)
+message_told marks turns check.Memory told apart h = h

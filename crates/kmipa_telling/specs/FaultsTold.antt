@@ -15,9 +15,13 @@ use Rattle.kmipa_runs.specs.declared.status.Status.{Status}
 use Rattle.kmipa_telling.specs.OutsideClaims.{outside_members}
 use Rattle.kmipa_telling.specs.OutsideLines.{outside_lines}
 use Rattle.kmipa_telling.specs.Telling.{TellsFault}
+use Rattle.kmipa_telling.specs.UnfitClaims.{unfit_members}
+use Rattle.kmipa_telling.specs.UnfitLines.{unfit_lines}
 use Rattle.kmipa_telling.specs.declared.fault_told.FaultMeaning.{FaultMeaning}
-use Rattle.kmipa_telling.specs.declared.fault_told.FaultMeaning.TheVariants.{Outside}
+use Rattle.kmipa_telling.specs.declared.fault_told.FaultMeaning.TheVariants.{Outside, Witness}
 use Rattle.kmipa_telling.specs.declared.fault_told.FaultTold.{FaultTold}
+use Rattle.kmipa_unfit.specs.Explanations.{ExplainsWitness}
+use Rattle.kmipa_unfit.specs.Finding.{HasFault}
 
 -- a fault of which its line is all that is told
 abbrev pub bare_fault : AuditFault → FaultTold
@@ -33,12 +37,16 @@ by_fault (Err told) = Err told.fault
 -- why a message of these calls is outside, in claims that hold; no other fault is told to mean anything
 abbrev pub IsOutsideMeaning : List MarkOf → CheckFault → Option FaultMeaning → Type 0
 IsOutsideMeaning marks (check.Outside number side o) (Some (Outside e)) = ExplainsOutside marks number side o.item o.kind e
+IsOutsideMeaning marks (check.Outside number side o) (Some (Witness e)) = ⊥
 IsOutsideMeaning marks (check.Outside number side o) None = ⊥
 IsOutsideMeaning marks fault None = Unit {0}
 IsOutsideMeaning marks fault (Some m) = ⊥
 
--- what a fault of a check means, of these calls and in these turns
+-- what a fault of a check means, of these calls and in these turns: why a message is outside, or why the turns don't fit, in claims that hold
 abbrev pub IsCheckMeaning : List MarkOf → List TurnOf → CheckFault → Option FaultMeaning → Type 0
+IsCheckMeaning marks turns (check.Witness f) (Some (Witness e)) = ExplainsWitness marks turns f.at f.kind e
+IsCheckMeaning marks turns (check.Witness f) (Some (Outside e)) = ⊥
+IsCheckMeaning marks turns (check.Witness f) None = ⊥
 IsCheckMeaning marks turns fault meaning = IsOutsideMeaning marks fault meaning
 
 -- the same of what these bytes are, of a transcript and of a witness; of a fault of a file nothing more is told
@@ -59,6 +67,7 @@ IsSearchMeaning t fault (Some m) = ⊥
 abbrev pub PrintsFaultMeaning : Option FaultMeaning → List ℕ → Type 0
 PrintsFaultMeaning None lines = lines ≡ []
 PrintsFaultMeaning (Some (Outside e)) lines = lines ≡ outside_lines e
+PrintsFaultMeaning (Some (Witness e)) lines = lines ≡ unfit_lines e
 
 -- the line of a fault, and behind it those of what it means
 abbrev pub PrintsFaultTold : FaultTold → Status → List ℕ → Type 0
@@ -70,6 +79,7 @@ PrintsFaultTold told said lines = (front more : List ℕ) × PrintsFault told.fa
 abbrev pub TellsFaultMeaning : Option FaultMeaning → Members → Members → Type 0
 TellsFaultMeaning None before after = after ≡ before
 TellsFaultMeaning (Some (Outside e)) before after = after ≡ put (codes "explanation") (object (outside_members e)) before
+TellsFaultMeaning (Some (Witness e)) before after = after ≡ put (codes "explanation") (object (unfit_members e)) before
 
 -- what is told of a fault elsewhere, with what it means
 abbrev pub TellsFaultTold : FaultTold → Status → Members → Members → Type 0
@@ -85,3 +95,12 @@ IsFaultOf marks fault = Unit {0}
 -- it is told with why the message is outside; or memory ran out
 abbrev pub IsFaultToldOf : List MarkOf → CheckFault → FaultTold → Type 0
 IsFaultToldOf marks fault told = ((told.fault ≡ audit.Check fault) × IsOutsideMeaning marks fault told.meaning) ⊎ (told ≡ bare_fault (audit.Check check.Memory))
+
+-- the fault of a check of these calls and these turns
+abbrev pub IsCheckFaultOf : List MarkOf → List TurnOf → CheckFault → Type 0
+IsCheckFaultOf marks turns (check.Witness f) = HasFault marks turns f.at f.kind
+IsCheckFaultOf marks turns fault = IsFaultOf marks fault
+
+-- it is told with what it means; or memory ran out
+abbrev pub IsCheckToldOf : List MarkOf → List TurnOf → CheckFault → FaultTold → Type 0
+IsCheckToldOf marks turns fault told = ((told.fault ≡ audit.Check fault) × IsCheckMeaning marks turns fault told.meaning) ⊎ (told ≡ bare_fault (audit.Check check.Memory))

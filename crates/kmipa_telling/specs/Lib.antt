@@ -35,3 +35,6 @@ pub mod StateCauses
 pub mod StateClaims
 pub mod Stories
 pub mod Telling
+pub mod UnfitClaims
+pub mod UnfitLines
+pub mod UnfitPhrases

@@ -8,7 +8,7 @@ ghost use Rattle.kmipa_check.specs.Audits.{AreRecords};
 ghost use Rattle.kmipa_telling.specs.Explaining.{AuditsExplained, IsExplained, TellsRecords};
 
 use crate::fault_told::FaultTold;
-use crate::faults::fault_told;
+use crate::faults::check_fault_told;
 use kmipa_check::{AuditFault, AuditRecords, CheckFault, Verdict, check};
 use kmipa_explain::{Explanation, explain};
 use std::alloc::Global;
@@ -22,7 +22,7 @@ pub struct Explained {
     pub explanation: Option<Explanation>,
 }
 
-/// Checks the witness of these records, and says what a no means, and why a message is outside.
+/// Checks the witness of these records, and says what a no means, why a message is outside, and why the witness doesn't fit.
 pub fn explain_records(alloc: Global, records: AuditRecords) -> Result<Explained, FaultTold>
     requires recorded { AreRecorded (transcript_of records.transcript) }
     requires declared { AreDeclared (declaration_of records.declaration) }
@@ -36,7 +36,12 @@ pub fn explain_records(alloc: Global, records: AuditRecords) -> Result<Explained
         &records.witness,
     ) {
         Ok(verdict) => verdict,
-        Err(fault) => return Err(fault_told(alloc, &records.transcript, fault)),
+        Err(fault) => return Err(check_fault_told(
+            alloc,
+            &records.transcript,
+            &records.witness,
+            fault,
+        )),
     };
     match explanation_of(alloc, &records, verdict) {
         Ok(explanation) => Ok(Explained {

@@ -2,6 +2,7 @@
 
 use kmipa_check::AuditFault;
 use kmipa_outside::OutsideExplanation;
+use kmipa_unfit::WitnessExplanation;
 
 /// A fault, and what it means.
 #[derive(Debug, Drop)]
@@ -16,6 +17,8 @@ pub struct FaultTold {
 pub enum FaultMeaning {
     /// Why a message is outside.
     Outside(OutsideExplanation),
+    /// Why a witness doesn't fit its transcript.
+    Witness(WitnessExplanation),
 }
 
 impl FaultTold {

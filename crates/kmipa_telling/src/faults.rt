@@ -1,20 +1,24 @@
 //! What a fault means, told as lines and as members of a JSON object.
 
-ghost use Rattle.std.specs.Prelude.{IfOk, OnOk, Some, string_bytes};
+ghost use Rattle.std.specs.Prelude.{IfOk, OnOk, string_bytes};
 ghost use Rattle.kmipa_json.specs.Told.{members_of};
 ghost use Rattle.kmipa_record.specs.Marks.{AreRecorded};
 ghost use Rattle.kmipa_record.specs.Transcripts.{transcript_of};
-ghost use Rattle.kmipa_telling.specs.FaultsTold.{IsFaultOf, IsFaultToldOf, PrintsFaultMeaning, PrintsFaultTold, TellsFaultMeaning, TellsFaultTold};
+ghost use Rattle.kmipa_record.specs.Witnesses.{witness_of};
+ghost use Rattle.kmipa_telling.specs.FaultsTold.{IsCheckFaultOf, IsCheckToldOf, IsFaultOf, IsFaultToldOf, PrintsFaultMeaning, PrintsFaultTold, TellsFaultMeaning, TellsFaultTold};
 
 use crate::fault_told::{FaultMeaning, FaultTold};
 use crate::outside_claims::outside_object;
 use crate::outside_lines::outside_text;
 use crate::telling::tell_fault;
+use crate::unfit_claims::unfit_object;
+use crate::unfit_lines::unfit_text;
 use kmipa_check::{AuditFault, CheckFault};
 use kmipa_json::JsonObject;
 use kmipa_outside::explain_outside;
-use kmipa_record::Transcript;
+use kmipa_record::{Transcript, Witness};
 use kmipa_runs::{Lines, Status, fault_lines};
+use kmipa_unfit::explain_witness;
 use std::alloc::{AllocError, Global};
 
 /// A fault that a check or a search of this transcript gave, and of a message that is outside why it is.
@@ -30,6 +34,29 @@ pub fn fault_told(alloc: Global, transcript: &Transcript, fault: CheckFault) -> 
         Ok(explanation) => FaultTold {
             fault: AuditFault::Check(fault),
             meaning: Some(FaultMeaning::Outside(explanation)),
+        },
+        Err(fault) => FaultTold::bare(AuditFault::Check(fault)),
+    }
+}
+
+/// A fault that a check of this transcript and this witness gave, and what it means.
+pub fn check_fault_told(
+    alloc: Global,
+    transcript: &Transcript,
+    witness: &Witness,
+    fault: CheckFault,
+) -> FaultTold
+    requires recorded { AreRecorded (transcript_of transcript.now) }
+    requires told { IsCheckFaultOf (transcript_of transcript.now) (witness_of witness.now) fault }
+    ensures { IsCheckToldOf (transcript_of transcript.now) (witness_of witness.now) fault result }
+{
+    let CheckFault::Witness(unfit) = fault else {
+        return fault_told(alloc, transcript, fault);
+    };
+    match explain_witness(alloc, transcript, witness, unfit) {
+        Ok(explanation) => FaultTold {
+            fault: AuditFault::Check(fault),
+            meaning: Some(FaultMeaning::Witness(explanation)),
         },
         Err(fault) => FaultTold::bare(AuditFault::Check(fault)),
     }
@@ -54,6 +81,7 @@ fn meaning_text(alloc: Global, meaning: &Option<FaultMeaning>) -> Result<String,
 {
     match meaning {
         Some(FaultMeaning::Outside(outside)) => outside_text(alloc, outside),
+        Some(FaultMeaning::Witness(unfit)) => unfit_text(alloc, unfit),
         None => Ok(String::new(alloc)),
     }
 }
@@ -80,21 +108,12 @@ fn tell_fault_meaning(
     ensures { OnOk result (TellsFaultMeaning meaning.now (members_of told.old) (members_of told.new)) }
 {
     match meaning {
-        Some(meaning) => tell_some_meaning(alloc, told, meaning),
-        None => Ok(()),
-    }
-}
-
-fn tell_some_meaning(
-    alloc: Global,
-    told: &mut JsonObject,
-    meaning: &FaultMeaning,
-) -> Result<(), AllocError>
-    ensures { OnOk result (TellsFaultMeaning (Some meaning.now) (members_of told.old) (members_of told.new)) }
-{
-    match meaning {
-        FaultMeaning::Outside(outside) => {
+        Some(FaultMeaning::Outside(outside)) => {
             told.put_object("explanation", outside_object(alloc, outside)?)
         }
+        Some(FaultMeaning::Witness(unfit)) => {
+            told.put_object("explanation", unfit_object(alloc, unfit)?)
+        }
+        None => Ok(()),
     }
 }

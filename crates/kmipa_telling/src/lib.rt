@@ -45,6 +45,9 @@ mod stories;
 mod stuck;
 mod telling;
 mod telling_found;
+mod unfit_claims;
+mod unfit_lines;
+mod unfit_phrases;
 
 pub use explained::Explained;
 pub use explained_json::explain_json;

@@ -42,7 +42,7 @@ pub fn calls_text(alloc: Global, numbers: &[i32]) -> Result<String, AllocError>
 }
 
 /// That there are more calls than are named.
-fn more_text(alloc: Global, count: usize) -> Result<String, AllocError>
+pub fn more_text(alloc: Global, count: usize) -> Result<String, AllocError>
     ensures { IfOk result (λ text. string_bytes text ≡ more_text count) }
 {
     if count <= MOST {
@@ -53,7 +53,7 @@ fn more_text(alloc: Global, count: usize) -> Result<String, AllocError>
 }
 
 /// Numbers, each behind a blank.
-fn numbers_text(alloc: Global, numbers: &[i32]) -> Result<String, AllocError>
+pub fn numbers_text(alloc: Global, numbers: &[i32]) -> Result<String, AllocError>
     ensures { IfOk result (λ text. string_bytes text ≡ flat_map numbered numbers.now) }
 {
     let mut text = String::new(alloc);

@@ -4,13 +4,13 @@ use Rattle.kmipa_record.specs.Witnesses.{witness_of}
 use Rattle.kmipa_telling.proofs.ExplainingLemmas.{fault_audited, fault_of, memory_audited}
 use Rattle.kmipa_telling.proofs.explained.explain_records.Goals as goal
 
-pub fault_told-requires-clause-told : goal.fault_told-requires-clause-told
-fault_told-requires-clause-told c =
+pub check_fault_told-requires-clause-told : goal.check_fault_told-requires-clause-told
+check_fault_told-requires-clause-told c =
     let records = c.args.records in
     fault_of (transcript_of records.transcript) (declaration_of records.declaration) (witness_of records.witness) c.in-Err.fault (c.in-Err.ensures c.requires.recorded)
 
 pub returns-in-Err : goal.returns-in-Err
-returns-in-Err c = λ t d w ft fd fw r. fault_audited c.args.records t d w r ft fd fw c.in-Err.fault c.fault_told.result (c.in-Err.ensures c.requires.recorded) c.fault_told.ensures
+returns-in-Err c = λ t d w ft fd fw r. fault_audited c.args.records t d w r ft fd fw c.in-Err.fault c.check_fault_told.result (c.in-Err.ensures c.requires.recorded) c.check_fault_told.ensures
 
 pub returns-in-Err-explanation_of : goal.returns-in-Err-explanation_of
 returns-in-Err-explanation_of c = λ t d w ft fd fw r.

@@ -1,0 +1,72 @@
+-- How a faulty turn is found, and what its explanation stands on. Not promised: each fault of a witness has it.
+use Rattle.std.specs.Prelude.{◌≡◌, ◌⊎◌, ◌<◌, ℕ, ℤ, List, Contains, slice_get, Some, Result, Ok, Err}
+use Rattle.kmipa_msgs.specs.declared.fault.ReadFault.{ReadFault}
+use Rattle.kmipa_msgs.specs.declared.fault.ReadFault.TheVariants as read
+use Rattle.kmipa_msgs.specs.declared.response.Response.{Response}
+use Rattle.kmipa_msgs.specs.Messages.{RequestOf, ResponseOf, response_of}
+use Rattle.kmipa_msgs.specs.Responses.{ResponseFault}
+use Rattle.kmipa_record.specs.Marks.{MarkOf, begins}
+use Rattle.kmipa_record.specs.Witnesses.{TurnOf}
+use Rattle.kmipa_check.specs.Calls.{CallOf, AreCalls, AreOutside, AreResponse}
+use Rattle.kmipa_check.specs.Fills.{FillFault}
+use Rattle.kmipa_check.specs.Orders.{GivenFault, IsLeftOut, NamesAt, NamesBefore, WitnessFaultAt}
+use Rattle.kmipa_check.specs.Places.{PlacesFault}
+use Rattle.kmipa_check.specs.declared.fault.CheckFault.{CheckFault}
+use Rattle.kmipa_check.specs.declared.fault.CheckFault.TheVariants.{Memory}
+use Rattle.kmipa_check.specs.declared.fault.WitnessKind.{WitnessKind}
+use Rattle.kmipa_check.specs.declared.fault.WitnessKind.TheVariants.{Twice}
+use Rattle.kmipa_unfit.specs.Explanations.{IsFirstNamed}
+use Rattle.kmipa_unfit.specs.UnfitTurns.{TellsGiven}
+use Rattle.kmipa_unfit.specs.declared.explanation.Unfit.{Unfit}
+use Rattle.kmipa_unfit.specs.declared.explanation.Unfit.TheVariants.{Answer}
+use Rattle.kmipa_unfit.specs.declared.explanation.Unfit.TheVariants as unfit
+
+-- the witness has this fault, among the calls of the transcript
+abbrev pub HasFault : List MarkOf → List TurnOf → ℕ → WitnessKind → Type 0
+HasFault marks turns at kind = (calls : List CallOf) × AreCalls marks calls × WitnessFaultAt calls turns at kind
+
+-- the call has its begin mark
+pub record IsBegun (marks : List MarkOf) (c : CallOf) : Type 0 where
+  pub client : List ℕ
+  pub asked : List ℕ
+  pub there : slice_get marks c.begin ≡ Some (begins c.number client asked)
+
+-- it is the call of this number
+abbrev pub IsFound : List CallOf → ℤ → CallOf → Type 0
+IsFound calls number c = Contains calls c × (c.number ≡ number)
+
+-- the call of this number is left out
+abbrev pub LeavesOut : List CallOf → List TurnOf → ℤ → Type 0
+LeavesOut calls turns number = (c : CallOf) × IsFound calls number c × IsLeftOut turns c
+
+-- the turn at this place stands before another, and is the first that names the call
+abbrev pub IsEarliest : List TurnOf → ℕ → ℤ → ℕ → Type 0
+IsEarliest turns place number earlier = (earlier < place) × NamesAt turns earlier number × (NamesBefore turns earlier number → ⊥)
+
+-- what the bytes of an answer say to a request, or where they are outside
+abbrev pub AnswerSays : RequestOf → List ℕ → Result Response ReadFault → Type 0
+AnswerSays request bytes (Ok response) = AreResponse request bytes (response_of response)
+AnswerSays request bytes (Err (read.Outside o)) = AreOutside (λ t. ResponseFault t request) bytes o.item o.kind
+AnswerSays request bytes (Err read.Memory) = Unit {0}
+
+-- the fault of a turn to a call with this response: of its places, or of its fills
+abbrev pub IsAnsweredFault : RequestOf → ResponseOf → TurnOf → WitnessKind → Type 0
+IsAnsweredFault request response t kind = PlacesFault request response t.places kind ⊎ FillFault request response t.fills kind
+
+-- what it comes to that an answer can't be read
+abbrev pub unread : ReadFault → Result Unfit CheckFault
+unread (read.Outside o) = Ok (Answer o)
+unread read.Memory = Err Memory
+
+-- the turn at this place names the call; where an earlier one does, too, the fault is that, and else it is that of what the turn gives
+abbrev pub IsNamedFault : CallOf → List TurnOf → ℕ → WitnessKind → Type 0
+IsNamedFault c turns place kind = (t : TurnOf) × (slice_get turns place ≡ Some t) × (t.call ≡ c.number) × (NamesBefore turns place t.call → kind ≡ Twice)
+    × ((NamesBefore turns place t.call → ⊥) → GivenFault c t kind)
+
+-- what is told of a turn that names a call
+abbrev pub TellsNamedBy : CallOf → List TurnOf → ℕ → TurnOf → WitnessKind → Unfit → Type 0
+TellsNamedBy c turns place t kind (unfit.Twice turn) = (kind ≡ Twice) × IsFirstNamed turns place t.call turn
+TellsNamedBy c turns place t kind other = (NamesBefore turns place t.call → ⊥) × TellsGiven c t kind other
+
+abbrev pub TellsNamed : CallOf → List TurnOf → ℕ → WitnessKind → Unfit → Type 0
+TellsNamed c turns place kind u = (t : TurnOf) × (slice_get turns place ≡ Some t) × TellsNamedBy c turns place t kind u

@@ -1,0 +1,242 @@
+//! The fills that a turn gives: which isn't wanted, which is missing, and which isn't of its form.
+
+ghost use Rattle.std.specs.Prelude.{◌≡◌, ◌<◌, IfErr, IfOk, MatchOption, length, map};
+ghost use Rattle.kmipa_msgs.specs.Messages.{answer_of, ask_of, request_of, response_of};
+ghost use Rattle.kmipa_msgs.specs.Wanted.{Wanted};
+ghost use Rattle.kmipa_record.specs.Witnesses.{fill_of};
+ghost use Rattle.kmipa_check.specs.Fills.{AreWanted, FillFault, IsFor, IsWanted, NoneMissing, SomeFormless};
+ghost use Rattle.kmipa_check.specs.Filling.{HasFillFor, IsWantedItem};
+ghost use Rattle.kmipa_check.specs.Ordering.{Decided};
+ghost use Rattle.kmipa_unfit.specs.UnfitFills.{IsFormlessFill, IsMissingFill, IsUnwantedFill, TellsFill, UnwantedAnswer, UnwantedItem};
+ghost use Rattle.kmipa_unfit.specs.FillFinding.{FillSays, IsAhead, IsAlone, IsWantedFill, UnwantedAt};
+
+use crate::explanation::{FormlessFill, MissingFill, Unfit, Unwanted, UnwantedFill};
+use crate::orders::{answered_count, is_item, place_of};
+use kmipa_check::{CheckFault, WitnessKind};
+use kmipa_msgs::{
+    Answer, Ask, OutsideKind, ReadFault, Request, Response, Status, is_wanted, read_payload,
+};
+use kmipa_record::Fill;
+use kmipa_ttlv::lend;
+use std::alloc::{AllocError, Global};
+
+/// What is wrong with the fills that a turn gives to a call with this response.
+pub fn fill_unfit(
+    alloc: Global,
+    request: &Request,
+    response: &Response,
+    fills: &[Fill],
+    kind: WitnessKind,
+) -> Result<Unfit, CheckFault>
+    requires { FillFault (request_of request.now) (response_of response.now) (map fill_of fills.now) kind }
+    ensures tells { IfOk result (TellsFill (request_of request.now) (response_of response.now) (map fill_of fills.now) kind) }
+    ensures memory { IfErr result (λ fault. fault ≡ CheckFault.Memory) }
+{
+    match kind {
+        WitnessKind::FillNotWanted => Ok(Unfit::FillUnwanted(unwanted_fill(
+            request, response, fills,
+        ))),
+        WitnessKind::FillMissing => Ok(Unfit::FillMissing(missing_fill(request, response, fills))),
+        _ => Ok(Unfit::FillFormless(formless_fill(alloc, request, response, fills)?)),
+    }
+}
+
+/// The first fill that isn't wanted.
+fn unwanted_fill(request: &Request, response: &Response, fills: &[Fill]) -> UnwantedFill
+    requires { AreWanted (request_of request.now) (response_of response.now) (map fill_of fills.now) → ⊥ }
+    ensures { IsUnwantedFill (request_of request.now) (response_of response.now) (map fill_of fills.now) result }
+{
+    let mut at = 0;
+    'fills: while at < fills.len() {
+        if let Some(why) = unwanted_at(request, response, fills, at) {
+            return UnwantedFill {
+                fill: at + 1,
+                item: fills[at].item,
+                why,
+            };
+        }
+        at += 1;
+    }
+    UnwantedFill {
+        fill: 0,
+        item: 0,
+        why: Unwanted::Present,
+    }
+}
+
+/// Why the fill at a place, counted from 0, isn't wanted.
+fn unwanted_at(
+    request: &Request,
+    response: &Response,
+    fills: &[Fill],
+    at: usize,
+) -> Option<Unwanted>
+    requires { at < length fills.now }
+    ensures { MatchOption result
+        (IsWantedFill (request_of request.now) (response_of response.now) (map fill_of fills.now) at)
+        (UnwantedAt (request_of request.now) (response_of response.now) (map fill_of fills.now) at) }
+{
+    let item = fills[at].item;
+    if let Some(why) = item_unwanted(request, response, item) {
+        return Some(why);
+    }
+    match earlier_fill(fills, at, item) {
+        Some(earlier) => Some(Unwanted::Second(earlier + 1)),
+        None => None,
+    }
+}
+
+/// Why no fill is wanted for the item of this number.
+fn item_unwanted(request: &Request, response: &Response, item: i32) -> Option<Unwanted>
+    ensures { MatchOption result (IsWantedItem (request_of request.now) (response_of response.now) item)
+        (UnwantedItem (request_of request.now) (response_of response.now) item) }
+{
+    let answered = answered_count(request, response);
+    if item < 1 {
+        return Some(Unwanted::Unanswered(answered));
+    }
+    let place = place_of(item);
+    if place >= answered {
+        return Some(Unwanted::Unanswered(answered));
+    }
+    answer_unwanted(&request.items[place], &response.items[place])
+}
+
+/// Why the payload of an answer isn't wanted.
+fn answer_unwanted(ask: &Ask, answer: &Answer) -> Option<Unwanted>
+    ensures { MatchOption result (Wanted (ask_of ask.now) (answer_of answer.now))
+        (UnwantedAnswer (ask_of ask.now) (answer_of answer.now)) }
+{
+    if answer.status != Status::Undone {
+        return Some(Unwanted::Status(answer.status));
+    }
+    if answer.payload.is_some() {
+        return Some(Unwanted::Present);
+    }
+    if is_wanted(ask, answer) {
+        return None;
+    }
+    match answer.operation {
+        Some(named) if named != ask.number() => { Some(Unwanted::Operations(ask.number(), named)) }
+        _ => Some(Unwanted::Needless(ask.number())),
+    }
+}
+
+/// The first fill before a place that names the item of this number.
+fn earlier_fill(fills: &[Fill], place: usize, item: i32) -> Option<usize>
+    requires { place < length fills.now }
+    ensures { MatchOption result (IsAlone (map fill_of fills.now) place item) (IsAhead (map fill_of fills.now) place item) }
+{
+    let mut at = 0;
+    'fills: while at < place {
+        if fills[at].item == item {
+            return Some(at);
+        }
+        at += 1;
+    }
+    None
+}
+
+/// The first item whose payload is wanted, and that has no fill.
+fn missing_fill(request: &Request, response: &Response, fills: &[Fill]) -> MissingFill
+    requires { NoneMissing (request_of request.now) (response_of response.now) (map fill_of fills.now) → ⊥ }
+    ensures { IsMissingFill (request_of request.now) (response_of response.now) (map fill_of fills.now) result }
+{
+    let mut place = 0;
+    'items: while place < request.items.len() {
+        if is_wanted_at(request, response, place) && !has_fill(fills, place) {
+            return MissingFill {
+                item: place + 1,
+                operation: request.items[place].number(),
+            };
+        }
+        place += 1;
+    }
+    MissingFill {
+        item: 0,
+        operation: 0,
+    }
+}
+
+/// Whether the answer at a place waits for its payload.
+fn is_wanted_at(request: &Request, response: &Response, place: usize) -> bool
+    ensures { Decided result (IsWanted (request_of request.now) (response_of response.now) place) }
+{
+    if place >= request.items.len() {
+        return false;
+    }
+    if place >= response.items.len() {
+        return false;
+    }
+    is_wanted(&request.items[place], &response.items[place])
+}
+
+/// Whether one of the fills is for the item at a place, counted from 0.
+fn has_fill(fills: &[Fill], place: usize) -> bool
+    ensures { Decided result (HasFillFor (map fill_of fills.now) place) }
+{
+    let mut at = 0;
+    'fills: while at < fills.len() {
+        if is_for(&fills[at], place) {
+            return true;
+        }
+        at += 1;
+    }
+    false
+}
+
+/// Whether a fill is for the item at a place, counted from 0.
+fn is_for(fill: &Fill, place: usize) -> bool
+    ensures { Decided result (IsFor (fill_of fill.now) place) }
+{
+    is_item(fill.item, place)
+}
+
+/// The first fill that isn't of its form.
+fn formless_fill(
+    alloc: Global,
+    request: &Request,
+    response: &Response,
+    fills: &[Fill],
+) -> Result<FormlessFill, AllocError>
+    requires wanted { AreWanted (request_of request.now) (response_of response.now) (map fill_of fills.now) }
+    requires formless { SomeFormless (request_of request.now) (response_of response.now) (map fill_of fills.now) }
+    ensures { IfOk result (IsFormlessFill (request_of request.now) (response_of response.now) (map fill_of fills.now)) }
+{
+    let mut at = 0;
+    'fills: while at < fills.len() {
+        let fill = &fills[at];
+        let place = place_of(fill.item);
+        let ask = &request.items[place];
+        if let Some(kind) = fill_kind(alloc, fill, ask)? {
+            return Ok(FormlessFill {
+                fill: at + 1,
+                item: place + 1,
+                operation: ask.number(),
+                kind,
+            });
+        }
+        at += 1;
+    }
+    Ok(FormlessFill {
+        fill: 0,
+        item: 0,
+        operation: 0,
+        kind: OutsideKind::Missing,
+    })
+}
+
+/// Why a fill isn't of the form of the payload that answers what was asked.
+fn fill_kind(alloc: Global, fill: &Fill, ask: &Ask) -> Result<Option<OutsideKind>, AllocError>
+    ensures { IfOk result (FillSays (fill_of fill.now) (ask_of ask.now)) }
+{
+    let view = lend(&fill.payload);
+    match read_payload(alloc, &view, ask) {
+        Ok(payload) => {
+            drop(payload);
+            Ok(None)
+        }
+        Err(ReadFault::Outside(outside)) => Ok(Some(outside.kind)),
+        Err(ReadFault::Memory) => Err(AllocError),
+    }
+}
