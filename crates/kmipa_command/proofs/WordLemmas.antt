@@ -16,8 +16,8 @@ use Rattle.clap.specs.declared.error.kind.ErrorKind.TheVariants.{OutOfMemory}
 use Rattle.kmipa_runs.specs.Statuses.{IsSilent}
 use Rattle.kmipa_runs.specs.declared.options.ShowOptions.{ShowOptions}
 use Rattle.kmipa_command.specs.Words.{IsCheck, IsChain, IsFlag, IsJob, IsNumber, IsSearch, IsText, IsTold, status_of, program_app, with_settings, check_app, search_app, chain_app, show_app, write_app}
-use Rattle.kmipa_command.specs.declared.words.Job.{Job}
-use Rattle.kmipa_command.specs.declared.words.Job.TheVariants.{Chain, Check, Search, Show, Write}
+use Rattle.kmipa_session.specs.declared.job.Job.{Job}
+use Rattle.kmipa_session.specs.declared.job.Job.TheVariants.{Chain, Check, Search, Show, Write}
 use Rattle.kmipa_command.specs.declared.words.Usage.{Usage}
 use Rattle.clap.specs.Simple.{App, app_of_fields, new_app, with_subcommand}
 use Rattle.clap.specs.declared.builder.command.Command.{Command}
