@@ -79,15 +79,18 @@ fn first(remaining: &Remaining, calls: &[Candidate], wishes: &Ranks, tried: Trie
 }
 
 /// The next call that was not tried and is wished most; or the number of calls, where there is none, or too many may be next.
+#[inline(never)]
 fn best(remaining: &Remaining, calls: &[Candidate], wishes: &Ranks, tried: Tried) -> usize
     ensures { (taken : List ℕ) → AreBegun (map candidate_step calls.now) → AreRemaining (map candidate_step calls.now) taken remaining.now
         → IsCursor (map candidate_step calls.now) taken tried.from → IsBest (map candidate_step calls.now) taken wishes.now.rank.items tried result }
 {
+    let least = remaining.least();
+    let soonest = remaining.soonest();
     let mut from = tried.from;
     let mut best = calls.len();
     let mut seen = 0;
     'run: while from < calls.len() {
-        let Some(place) = remaining.next(calls, from) else {
+        let Some(place) = remaining.next_led(calls, from, least, soonest) else {
             return best;
         };
         if place < from {

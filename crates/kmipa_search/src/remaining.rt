@@ -19,6 +19,7 @@ pub struct Remaining {
 impl Remaining {
     ghost use Rattle.std.specs.Prelude.{◌≡◌, ◌<◌, ◌^◌, ◌∷◌, [], ℕ, List, IfOk, IfSome, map, length};
     ghost use Rattle.kmipa_search.specs.Candidates.{candidate_step};
+    ghost use Rattle.kmipa_search.specs.Links.{at};
     ghost use Rattle.kmipa_search.specs.Next.{IsNext};
     ghost use Rattle.kmipa_search.specs.Progress.{AreBegun, IsNextFrom};
     ghost use Rattle.kmipa_search.specs.Remaining.{AreRemaining, IsCursor};
@@ -45,14 +46,30 @@ impl Remaining {
             → IsCursor (map candidate_step calls.now) taken from → IsNextFrom (map candidate_step calls.now) taken from result }
         ensures within { IfSome result (λ p. p < length calls.now) }
     {
+        self.next_led(calls, from, self.least(), self.soonest())
+    }
+
+    /// The same, where these are the places of the calls with the least stamp and with the least end.
+    #[inline(always)]
+    pub fn next_led(
+        &self,
+        calls: &[Candidate],
+        from: usize,
+        least: usize,
+        soonest: usize,
+    ) -> Option<usize>
+        requires least { least ≡ at self.now.stamps.order.items (at self.now.by_stamp.after.items 0) }
+        requires soonest { soonest ≡ at self.now.ends.order.items (at self.now.by_end.after.items 0) }
+        ensures next { (taken : List ℕ) → AreBegun (map candidate_step calls.now) → AreRemaining (map candidate_step calls.now) taken self.now
+            → IsCursor (map candidate_step calls.now) taken from → IsNextFrom (map candidate_step calls.now) taken from result }
+        ensures within { IfSome result (λ p. p < length calls.now) }
+    {
         let behind = self.stamps.rank_from(from);
         let rank = self.by_stamp.after(behind);
         if rank > calls.len() {
             return None;
         }
         let place = self.stamps.place(rank);
-        let least = self.stamps.place(self.by_stamp.after(0));
-        let soonest = self.ends.place(self.by_end.after(0));
         if leads(calls, place, least, soonest) {
             Some(place)
         } else {
@@ -66,12 +83,16 @@ impl Remaining {
     }
 
     /// The place of the call with the least stamp.
-    pub fn least(&self) -> usize {
+    pub fn least(&self) -> usize
+        ensures { result ≡ at self.now.stamps.order.items (at self.now.by_stamp.after.items 0) }
+    {
         self.stamps.place(self.by_stamp.after(0))
     }
 
     /// The place of the call with the least end.
-    pub fn soonest(&self) -> usize {
+    pub fn soonest(&self) -> usize
+        ensures { result ≡ at self.now.ends.order.items (at self.now.by_end.after.items 0) }
+    {
         self.ends.place(self.by_end.after(0))
     }
 

@@ -5,7 +5,7 @@ use Rattle.kmipa_search.specs.Links.{at}
 use Rattle.kmipa_search.specs.Progress.{IsNextFrom}
 use Rattle.kmipa_search.proofs.CandidateLemmas.{candidates_ended}
 use Rattle.kmipa_search.proofs.RemainingLemmas.{remaining_none, remaining_reported}
-use Rattle.kmipa_search.proofs.remaining.Remaining.next.Goals as goal
+use Rattle.kmipa_search.proofs.remaining.Remaining.next_led.Goals as goal
 
 pub returns-then-rank-calls-clause-next : goal.returns-then-rank-calls-clause-next
 returns-then-rank-calls-clause-next c = λ taken begun x cursor.
@@ -17,12 +17,12 @@ returns-then-leads-clause-next c = λ taken begun x cursor.
     let calls = map candidate_step c.args.calls.now in
     let P : Bool → Type 0 = λ b. IsNextFrom calls taken c.args.from (cond b (Some c.place-place.result) None) in
     subst P c.if-leads.true
-    (remaining_reported calls taken c.args.self.now x (candidates_ended c.args.calls.now) c.args.from cursor c.after-rank.result c.place-place.result c.place-least.result c.place-soonest.result
+    (remaining_reported calls taken c.args.self.now x (candidates_ended c.args.calls.now) c.args.from cursor c.after-rank.result c.place-place.result c.args.least c.args.soonest
     (c.after-rank.ensures ∙ ap (at c.args.self.now.by_stamp.after.items) c.rank_from-behind.ensures)
     (omega (arith, c.if-rank-calls.false, length-map c.args.calls.now candidate_step))
     c.place-place.ensures
-    (c.place-least.ensures ∙ ap (at c.args.self.now.stamps.order.items) c.after.ensures)
-    (c.place-soonest.ensures ∙ ap (at c.args.self.now.ends.order.items) c.after-2.ensures)
+    c.requires.least
+    c.requires.soonest
     begun c.leads.result
     (λ a b d. c.leads.ensures.reported (omega (arith, a, length-map c.args.calls.now candidate_step)) (omega (arith, b, length-map c.args.calls.now candidate_step)) (omega (arith, d, length-map c.args.calls.now candidate_step))))
 
@@ -31,11 +31,11 @@ returns-else-leads-clause-next c = λ taken begun x cursor.
     let calls = map candidate_step c.args.calls.now in
     let P : Bool → Type 0 = λ b. IsNextFrom calls taken c.args.from (cond b (Some c.place-place.result) None) in
     subst P c.if-leads.false
-    (remaining_reported calls taken c.args.self.now x (candidates_ended c.args.calls.now) c.args.from cursor c.after-rank.result c.place-place.result c.place-least.result c.place-soonest.result
+    (remaining_reported calls taken c.args.self.now x (candidates_ended c.args.calls.now) c.args.from cursor c.after-rank.result c.place-place.result c.args.least c.args.soonest
     (c.after-rank.ensures ∙ ap (at c.args.self.now.by_stamp.after.items) c.rank_from-behind.ensures)
     (omega (arith, c.if-rank-calls.false, length-map c.args.calls.now candidate_step))
     c.place-place.ensures
-    (c.place-least.ensures ∙ ap (at c.args.self.now.stamps.order.items) c.after.ensures)
-    (c.place-soonest.ensures ∙ ap (at c.args.self.now.ends.order.items) c.after-2.ensures)
+    c.requires.least
+    c.requires.soonest
     begun c.leads.result
     (λ a b d. c.leads.ensures.reported (omega (arith, a, length-map c.args.calls.now candidate_step)) (omega (arith, b, length-map c.args.calls.now candidate_step)) (omega (arith, d, length-map c.args.calls.now candidate_step))))
