@@ -62,6 +62,7 @@ pub fn known_of<L: Ledger>(ledger: &L, material: Material) -> Option<&[u8]>
 }
 
 /// Whether the objects of a ledger stand as these do.
+#[inline(never)]
 pub fn stand_so<L: Ledger>(ledger: &L, objects: &[Rc<Still>]) -> bool
     requires { IsSound (L.state ledger.now).now }
     ensures { result ≡ true → stills_shared objects.now ≡ stills (L.state ledger.now).now }
@@ -81,6 +82,7 @@ pub fn stand_so<L: Ledger>(ledger: &L, objects: &[Rc<Still>]) -> bool
 }
 
 /// Whether an object of a ledger stands as this one does.
+#[inline(always)]
 pub fn stands_so<L: Ledger>(ledger: &L, object: &Object, kept: &Still) -> bool
     requires { (secret : SecretNo) → object.now.life.material ≡ Secret secret → secret.number < length (L.state ledger.now).now.secrets }
     ensures { result ≡ true → still_of kept.now ≡ still (L.state ledger.now).now.secrets (held object.now) }
