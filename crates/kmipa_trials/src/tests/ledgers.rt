@@ -10,9 +10,9 @@ use std::alloc::Global;
 use std::process::Abort;
 use std::test::Fail;
 
-const K: [u8; 3] = [0, 1, 2];
+const K: [u8; 16] = [0, 1, 2, 3, 4, 5, 6, 7, 8, 9, 10, 11, 12, 13, 14, 15];
 
-const J: [u8; 3] = [0, 1, 31];
+const J: [u8; 16] = [0, 1, 2, 3, 4, 5, 6, 7, 8, 9, 10, 11, 12, 13, 14, 31];
 
 const T: i64 = 1_700_000_000;
 
@@ -26,9 +26,10 @@ const UNBORN: Life = Life {
     material: Material::Gone,
 };
 
-/// The life of an object that is active from the moment on, and the like of one that is destroyed then.
+/// The life of an object that is active from the moment on and for five seconds, and the like of one that is destroyed then.
 const ACTIVE: Life = Life {
     activation: Some(T),
+    deactivation: Some(T + 5),
     ..UNBORN
 };
 
@@ -70,12 +71,12 @@ fn put<L: Ledger>(ledger: &mut L, object: Object) -> Option<usize>
     ledger.add(object).ok()
 }
 
-/// A new secret; its number tells how many there were.
-fn make<L: Ledger>(rt: &impl Abort, ledger: &mut L) -> SecretNo
+/// A new secret under a rule; its number tells how many there were.
+fn make<L: Ledger>(rt: &impl Abort, ledger: &mut L, rule: Rule) -> SecretNo
     ensures there { result.number < length (L.state ledger.new).now.secrets }
     ensures marks { (L.state ledger.new).marks ≡ (L.state ledger.old).marks }
 {
-    ledger.new_secret(Rule::Any).expect(rt, "memory")
+    ledger.new_secret(rule).expect(rt, "memory")
 }
 
 /// Learns bytes.
@@ -96,32 +97,37 @@ fn has<L: Ledger>(ledger: &L, secret: SecretNo, bytes: Option<&[u8]>) -> bool
 
 /// What is learned stays when objects are undone, and goes when the ledger goes back.
 fn bytes_in_turn<L: Ledger>(rt: &impl Abort, alloc: Global, ledger: &mut L) -> bool {
-    let first = make(rt, ledger);
+    let first = make(rt, ledger, Rule::Bits(128));
     let a = put(ledger, object_of(rt, alloc, "a", "n", UNBORN));
     let older = ledger.mark().expect(rt, "memory");
     let newer = ledger.mark().expect(rt, "memory");
-    let second = make(rt, ledger);
+    let second = make(rt, ledger, Rule::Any);
     assert!(rt; first.number < second.number);
     let is_unknown = has(ledger, first, None);
+    let short = teach(ledger, first, &K[..8]);
     let learned = teach(ledger, first, &K);
     let b = put(ledger, object_of(rt, alloc, "b", "n", UNBORN));
     ledger.undo(newer);
-    let third = make(rt, ledger);
+    let third = make(rt, ledger, Rule::Any);
     assert!(rt; first.number < third.number);
     let is_kept = has(ledger, first, Some(&K));
     let other = teach(ledger, first, &J);
     let is_gone = ledger.find("b").is_none();
     ledger.back(older);
-    let fourth = make(rt, ledger);
+    let fourth = make(rt, ledger, Rule::Any);
     assert!(rt; first.number < fourth.number);
     let is_forgotten = has(ledger, first, None);
+    let learned_anew = teach(ledger, first, &J);
     are_all(&[
         (a, b) == (Some(0), Some(1)),
         (first.number, second.number) == (0, 1),
         (third.number, fourth.number) == (2, 1),
         is_unknown && is_kept && is_gone && is_forgotten,
+        short == Err(StoreFault::LengthImpossible),
         learned == Ok(()),
         other == Err(StoreFault::BytesDiffer),
+        learned_anew == Ok(()),
+        has(ledger, first, Some(&J)),
         ledger.find("a") == Some(0),
         ledger.len() == 1,
     ])
@@ -153,16 +159,18 @@ fn moments_in_turn<L: Ledger>(rt: &impl Abort, alloc: Global, ledger: &mut L) ->
     let a = put(ledger, object);
     let mark = ledger.mark().expect(rt, "memory");
     let is_active = live(ledger, 0, ACTIVE);
-    let late = state_at(ledger, 0, T);
+    let ended = state_at(ledger, 0, T + 5);
+    let last = state_at(ledger, 0, T + 4);
     let early = state_at(ledger, 0, T - 1);
-    let again = state_at(ledger, 0, T);
+    let first = state_at(ledger, 0, T);
     ledger.undo(mark);
     are_all(&[
         start == 0 && is_active,
         a == Some(0),
-        late == Some(State::Active),
+        ended == Some(State::Deactivated),
+        last == Some(State::Active),
         early == Some(State::PreActive),
-        again == Some(State::Active),
+        first == Some(State::Active),
         ledger.moment() == T,
         state_at(ledger, 0, T) == Some(State::PreActive),
         state_at(ledger, 1, T).is_none(),
