@@ -14,6 +14,9 @@ const KINDS: [(&str, [u8; 3]); 3] = [
     ("witness", [0x54, 0x00, 0x40]),
 ];
 
+/// How many bytes are asked for at once where digits are looked through.
+const PIECE: usize = 4_096;
+
 /// Opens a file. Why it can't be opened is reported on standard error.
 pub fn open_file<R: Files + AllocGlobal + Eprint>(
     rt: &R,
@@ -79,10 +82,10 @@ pub fn hint_digits<R: Files + AllocGlobal + Eprint>(rt: &R, name: &str, lines: &
     if lines != b"hex: refused\n".as_slice() {
         return;
     }
-    let Ok(text) = fs::read(rt, name) else {
+    let Ok(place) = first_other(rt, name) else {
         return;
     };
-    match text.iter().position(|byte| !may_stand_in_digits(*byte)) {
+    match place {
         Some(place) => rt.eprintln(format_args!(
             "kmip_audit: {name}: the byte at offset {place} is neither a hexadecimal digit nor white space"
         )),
@@ -91,6 +94,27 @@ pub fn hint_digits<R: Files + AllocGlobal + Eprint>(rt: &R, name: &str, lines: &
         )),
     }
     .ok();
+}
+
+/// Where the first byte of a file stands that is neither a digit nor white space. The file is read no further, since it may have no end.
+fn first_other<R: Files>(rt: &R, name: &str) -> io::Result<Option<u64>> {
+    let mut file = fs::open(rt, name)?;
+    let mut piece = [0u8; PIECE];
+    let mut before: u64 = 0;
+    'pieces: for _ in 0..u64::MAX {
+        let n = file.read(&mut piece)?;
+        if n == 0 {
+            return Ok(None);
+        }
+        if let Some(at) = piece[..n]
+            .iter()
+            .position(|byte| !may_stand_in_digits(*byte))
+        {
+            return Ok(Some(before.saturating_add(at as u64)));
+        }
+        before = before.saturating_add(n as u64);
+    }
+    Ok(None)
 }
 
 fn may_stand_in_digits(byte: u8) -> bool {

@@ -1,6 +1,6 @@
 -- What `show` and `write` tell of an input, and of the digits that are to be written.
-use Rattle.std.specs.Prelude.{◌≡◌, ◌⊎◌, ◌-◌, ◌==◌, ◌&&◌, ℕ, Bool, false, not, List, [], ◌∷◌, ◌++◌, length, filter, codes, IsTrue, Result, Ok, Err}
-use Rattle.hex.specs.Hex.{decode_of}
+use Rattle.std.specs.Prelude.{◌≡◌, ◌⊎◌, ◌-◌, ◌==◌, ◌&&◌, ℕ, Bool, false, not, List, [], ◌∷◌, ◌++◌, Contains, length, filter, codes, IsTrue, Result, Ok, Err}
+use Rattle.hex.specs.Hex.{decode_of, is_hex_digit}
 use Rattle.hex.specs.declared.error.FromHexError.{FromHexError}
 use Rattle.kmipa_ttlv.specs.Tree.{Tree, forest}
 use Rattle.kmipa_ttlv.specs.Stream.{Begins}
@@ -65,6 +65,10 @@ joined (t ∷ ts) = spelling t ++ joined ts
 -- not a space, a tab, a CR or an LF
 abbrev pub is_kept : ℕ → Bool
 is_kept b = not (b == 32) && not (b == 9) && not (b == 13) && not (b == 10)
+
+-- a byte of the text is neither white space nor a digit, so that it spells no bytes, whatever follows
+abbrev pub HasOther : List ℕ → Type 0
+HasOther text = (b : ℕ) × Contains text b × IsTrue (is_kept b) × (is_hex_digit b ≡ false)
 
 -- the bytes that the digits of a text spell, white space left out
 abbrev pub bytes_of : List ℕ → Result (List ℕ) FromHexError

@@ -21,6 +21,7 @@ mod searching;
 mod showing;
 mod shown;
 mod status;
+mod text;
 mod values;
 mod writing;
 

@@ -7,7 +7,7 @@ ghost use Rattle.kmipa_ttlv.specs.Reading.{TellsKnown};
 ghost use Rattle.kmipa_ttlv.specs.Spelling.{Spells};
 ghost use Rattle.kmipa_ttlv.specs.Tree.{Tree};
 ghost use Rattle.kmipa_ttlv.specs.Written.{spelling};
-ghost use Rattle.kmipa_runs.specs.Inputs.{AreWritten, MakesOrTells, TellsFirst, Writes, refused_line};
+ghost use Rattle.kmipa_runs.specs.Inputs.{AreWritten, HasOther, MakesOrTells, TellsFirst, Writes, refused_line};
 ghost use Rattle.kmipa_runs.specs.Statuses.{IsSilent};
 
 use crate::digits::read_digits;
@@ -15,8 +15,9 @@ use crate::flaws::tell_flaw;
 use crate::lines::Lines;
 use crate::reporting::append;
 use crate::status::Status;
+use crate::text::read_text;
 use hex::FromHexError;
-use kmipa_ttlv::{FaultKind, Input, TtlvFault, decode, encode, read_all};
+use kmipa_ttlv::{FaultKind, Input, TtlvFault, decode, encode};
 use std::alloc::{AllocError, Global};
 use std::io::Read;
 
@@ -30,16 +31,16 @@ pub fn write_run<R: Read>(
     made: &mut Vec<u8>,
 ) -> Status
     requires { came_of input.old ≡ [] }
-    // What is made and printed is that of the bytes that came, to the end that was seen unless the input is failed, or memory ran out.
+    // What is made and printed is that of the bytes that came; they are refused where one of them is no digit, whatever follows.
     ensures writes { Writes (came_of input.new) (is_failed input.new) result
         (appended_bytes out.old.items out.new.items) (appended_bytes made.old.items made.new.items) }
-    // Nothing else than want of memory or a failed input is reported before the end was seen.
-    ensures whole { result ≢ Status.Failed → IsTrue (is_ended input.new) }
+    // Nothing else is reported before the end was seen, but want of memory or a failed input.
+    ensures whole { result ≢ Status.Failed → IsTrue (is_ended input.new) ⊎ HasOther (came_of input.new) }
     ensures appends { StartsWith out.new.items out.old.items }
     ensures makes { StartsWith made.new.items made.old.items }
 {
     let mut text = Vec::new(alloc);
-    if let Err(fault) = read_all(input, &mut text) {
+    if let Err(fault) = read_text(input, &mut text) {
         return tell_flaw(alloc, fault, out);
     }
     match read_digits(alloc, &text) {
