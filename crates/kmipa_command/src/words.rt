@@ -492,7 +492,8 @@ fn chain_of<'a>(words: &ArgMatches<'a>) -> Option<Job<'a>>
 }
 
 fn usage_of(alloc: Global, error: &Error) -> Usage
-    ensures { IsSilent result.status (string_bytes result.text) ⊎ ((kind_of error.now ≢ ErrorKind.OutOfMemory) × (result.status ≡ status_of (kind_of error.now))) }
+    ensures { IsSilent result.status (string_bytes result.text)
+        ⊎ ((kind_of error.now ≢ ErrorKind.OutOfMemory) × (result.status ≡ status_of (kind_of error.now))) }
 {
     let status = match error.kind() {
         ErrorKind::OutOfMemory => return out_of_memory(alloc),

@@ -37,7 +37,8 @@ fn add_items(
     turn: usize,
     step: &Step,
 ) -> Result<(), AllocError>
-    ensures { OnOk result (map seen_item items.new.items ≡ map seen_item items.old.items ++ items_of_call turn (step_of step.now)) }
+    ensures { OnOk result (map seen_item items.new.items
+        ≡ map seen_item items.old.items ++ items_of_call turn (step_of step.now)) }
 {
     let count = count_of(step);
     let mut held = None;
@@ -62,7 +63,8 @@ pub fn count_of(step: &Step) -> usize
 /// The place, counted from 0, that is taken at a position.
 pub fn place_at(step: &Step, position: usize) -> usize
     requires { position < length (places_taken (order_of (step_of step.now)) (length (step_of step.now).request.items)) }
-    ensures { slice_get (places_taken (order_of (step_of step.now)) (length (step_of step.now).request.items)) position ≡ Some result }
+    ensures { slice_get (places_taken (order_of (step_of step.now)) (length (step_of step.now).request.items)) position
+        ≡ Some result }
 {
     match step.places() {
         Some(places) => places[position].saturating_sub(1),
@@ -81,7 +83,8 @@ fn add_item(
     held: Option<String>,
 ) -> Result<Option<String>, AllocError>
     ensures { IfOk result (λ after. (behind : Option (List ℕ) → List ItemOf)
-        → map seen_item items.old.items ++ item_then turn (step_of step.now) place (text_of held) (slice_get (pairs_of (step_of step.now).request (step_of step.now).response) place) behind
+        → map seen_item items.old.items ++ item_then turn (step_of step.now) place (text_of held)
+        (slice_get (pairs_of (step_of step.now).request (step_of step.now).response) place) behind
         ≡ map seen_item items.new.items ++ behind (text_of after)) }
 {
     let Some(ask) = step.request.items.get(place) else {
@@ -124,7 +127,8 @@ pub fn about_in(
     answer: &Answer,
     held: &Option<String>,
 ) -> Result<Option<String>, AllocError>
-    ensures { IfOk result (λ id. text_of id ≡ about (text_of held.now) (ask_of ask.now).asked (answer_of answer.now).payload) }
+    ensures { IfOk result
+        (λ id. text_of id ≡ about (text_of held.now) (ask_of ask.now).asked (answer_of answer.now).payload) }
 {
     match &ask.asked {
         Asked::Create(_) => copied(alloc, id_created(answer)),
@@ -147,7 +151,10 @@ fn held_after(
     answer: &Answer,
     held: Option<String>,
 ) -> Result<Option<String>, AllocError>
-    ensures { IfOk result (λ after. text_of after ≡ placeholder_after (answer_of answer.now).status (text_of held) (ask_of ask.now).asked (answer_of answer.now).payload) }
+    ensures { IfOk result
+        (λ after. text_of after
+        ≡ placeholder_after (answer_of answer.now).status (text_of held) (ask_of ask.now).asked
+        (answer_of answer.now).payload) }
 {
     match answer.status {
         Status::Success => held_done(alloc, ask, answer, held),
@@ -163,7 +170,9 @@ fn held_done(
     answer: &Answer,
     held: Option<String>,
 ) -> Result<Option<String>, AllocError>
-    ensures { IfOk result (λ after. text_of after ≡ placeholder_done (text_of held) (ask_of ask.now).asked (answer_of answer.now).payload) }
+    ensures { IfOk result
+        (λ after. text_of after
+        ≡ placeholder_done (text_of held) (ask_of ask.now).asked (answer_of answer.now).payload) }
 {
     match &ask.asked {
         Asked::Create(_) => newest(alloc, id_created(answer), held),
@@ -211,7 +220,8 @@ fn only_listed(
     answer: &Answer,
     held: Option<String>,
 ) -> Result<Option<String>, AllocError>
-    ensures { IfOk result (λ after. text_of after ≡ names_only (text_of held) (listed_in (answer_of answer.now).payload)) }
+    ensures { IfOk result
+        (λ after. text_of after ≡ names_only (text_of held) (listed_in (answer_of answer.now).payload)) }
 {
     let Some(payload) = &answer.payload else {
         return Ok(held);

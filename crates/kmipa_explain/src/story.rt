@@ -68,7 +68,8 @@ fn story_at(
 
 /// The place of the refused item among these, where it is there and is about an identifier.
 fn place_of(items: &[Item], refused: Refused) -> Option<usize>
-    ensures found { MatchOption result (AreNone (is_that refused) (map seen_item items.now)) (PassesAt (is_that refused) (map seen_item items.now)) }
+    ensures found { MatchOption result (AreNone (is_that refused) (map seen_item items.now))
+        (PassesAt (is_that refused) (map seen_item items.now)) }
     ensures within { IfSome result (λ place. place < length items.now) }
 {
     let mut place = 0;
@@ -96,7 +97,8 @@ fn events_ahead(
     id: &str,
 ) -> Result<Vec<Event>, AllocError>
     requires { at ≤ length items.now }
-    ensures { IfOk result (λ events. events.items ≡ map event_of (filter (happens_to id.now) (take at (map seen_item items.now)))) }
+    ensures { IfOk result
+        (λ events. events.items ≡ map event_of (filter (happens_to id.now) (take at (map seen_item items.now)))) }
 {
     let mut events = Vec::new(alloc);
     let mut place = 0;
@@ -109,7 +111,8 @@ fn events_ahead(
 
 /// Notes what happened by an item to the object of this identifier.
 fn note(events: &mut Vec<Event>, item: &Item, id: &str) -> Result<(), AllocError>
-    ensures { OnOk result (events.new.items ≡ events.old.items ++ one_if (event_of (seen_item item.now)) (happens_to id.now (seen_item item.now))) }
+    ensures { OnOk result (events.new.items
+        ≡ events.old.items ++ one_if (event_of (seen_item item.now)) (happens_to id.now (seen_item item.now))) }
 {
     if happens_to(item, id) {
         events.push(event_of(item))?;

@@ -68,7 +68,8 @@ impl JsonObject {
 
     /// The same with an object.
     pub fn put_object(&mut self, name: &str, inner: JsonObject) -> Result<(), AllocError>
-        ensures ok { OnOk result (members_of self.new ≡ with_member name.now (object (members_of inner)) (members_of self.old)) }
+        ensures ok { OnOk result (members_of self.new
+            ≡ with_member name.now (object (members_of inner)) (members_of self.old)) }
         ensures err { OnErr result (members_of self.new ≡ members_of self.old) }
     {
         self.put(name, inner.into_value())
@@ -76,7 +77,8 @@ impl JsonObject {
 
     /// The same with a list.
     pub fn put_list(&mut self, name: &str, list: JsonList) -> Result<(), AllocError>
-        ensures ok { OnOk result (members_of self.new ≡ with_member name.now (array (items_of list)) (members_of self.old)) }
+        ensures ok { OnOk result (members_of self.new
+            ≡ with_member name.now (array (items_of list)) (members_of self.old)) }
         ensures err { OnErr result (members_of self.new ≡ members_of self.old) }
     {
         self.put(name, list.into_value())

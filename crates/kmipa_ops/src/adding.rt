@@ -106,7 +106,15 @@ pub(crate) fn add<L: Ledger>(
 
 /// The life of a new object: its Initial Date is the moment.
 fn new_life(t: i64, activation: Option<i64>, deactivation: Option<i64>, secret: SecretNo) -> Life
-    ensures dates { dates_of result ≡ record { initial = Some t; activation = activation; deactivation = deactivation; destroy = None; compromise = None } }
+    ensures dates { dates_of result
+        ≡ record {
+          initial = Some t;
+          activation = activation;
+          deactivation = deactivation;
+          destroy = None;
+          compromise =
+              None;
+        } }
     ensures material { result.material ≡ Material.Secret secret }
 {
     Life {

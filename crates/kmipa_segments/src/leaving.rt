@@ -45,13 +45,17 @@ pub fn segment_run<R: Read>(
     // What is made and printed tells what a check answers of whatever the inputs may be, or memory ran out.
     ensures prints { (outcome : Result Segment AuditFault)
         × ((t d w : List ℕ) → IsFileOf t transcript.new → IsFileOf d declaration.new → IsFileOf w witness.new
-        → ChecksSegment t d w (is_failed transcript.new) (is_failed declaration.new) (is_failed witness.new) since outcome)
-        × (PrintsSegment leaves outcome result (appended_bytes out.old.items out.new.items) (appended_bytes made.old.items made.new.items)
-        ⊎ (IsSilent result (appended_bytes out.old.items out.new.items) × (appended_bytes made.old.items made.new.items ≡ []))) }
+        → ChecksSegment t d w (is_failed transcript.new) (is_failed declaration.new) (is_failed witness.new) since
+        outcome)
+        × (PrintsSegment leaves outcome result (appended_bytes out.old.items out.new.items)
+        (appended_bytes made.old.items made.new.items)
+        ⊎ (IsSilent result (appended_bytes out.old.items out.new.items)
+        × (appended_bytes made.old.items made.new.items ≡ []))) }
     // Status 0 is answered only where the bytes that came, to the ends that were seen, are accepted from the moment on; and where it is asked
     // for, what they lead to is made.
     ensures leads { result ≡ Status.Done
-        → LeadsAsAsked leaves (came_of transcript.new) (came_of declaration.new) (came_of witness.new) since (appended_bytes made.old.items made.new.items)
+        → LeadsAsAsked leaves (came_of transcript.new) (came_of declaration.new) (came_of witness.new) since
+        (appended_bytes made.old.items made.new.items)
         × IsTrue (is_ended transcript.new) × IsTrue (is_ended declaration.new) × IsTrue (is_ended witness.new) }
     ensures nothing { result ≢ Status.Done → made.new.items ≡ made.old.items }
     ensures appends { StartsWith out.new.items out.old.items }
@@ -75,8 +79,10 @@ fn check_inputs<R: Read>(
     requires declaration { came_of declaration.old ≡ [] }
     requires witness { came_of witness.old ≡ [] }
     ensures checks { (t d w : List ℕ) → IsFileOf t transcript.new → IsFileOf d declaration.new → IsFileOf w witness.new
-        → ChecksSegment t d w (is_failed transcript.new) (is_failed declaration.new) (is_failed witness.new) since result }
-    ensures ended { OnOk result (IsTrue (is_ended transcript.new) × IsTrue (is_ended declaration.new) × IsTrue (is_ended witness.new)) }
+        → ChecksSegment t d w (is_failed transcript.new) (is_failed declaration.new) (is_failed witness.new) since
+        result }
+    ensures ended { OnOk result (IsTrue (is_ended transcript.new) × IsTrue (is_ended declaration.new)
+        × IsTrue (is_ended witness.new)) }
 {
     let records = match read_records(alloc, transcript, declaration, witness) {
         Ok(records) => records,
@@ -103,8 +109,10 @@ fn tell_segment(
     out: &mut Vec<u8>,
     made: &mut Vec<u8>,
 ) -> Status
-    ensures tells { TellsSegment leaves segment.now result (appended_bytes out.old.items out.new.items) (appended_bytes made.old.items made.new.items)
-        ⊎ (IsSilent result (appended_bytes out.old.items out.new.items) × (appended_bytes made.old.items made.new.items ≡ [])) }
+    ensures tells { TellsSegment leaves segment.now result (appended_bytes out.old.items out.new.items)
+        (appended_bytes made.old.items made.new.items)
+        ⊎ (IsSilent result (appended_bytes out.old.items out.new.items)
+        × (appended_bytes made.old.items made.new.items ≡ [])) }
     ensures nothing { result ≢ Status.Done → made.new.items ≡ made.old.items }
     ensures appends { StartsWith out.new.items out.old.items }
     ensures makes { StartsWith made.new.items made.old.items }
@@ -118,9 +126,11 @@ fn tell_segment(
 
 /// The same where what is left is asked for.
 fn tell_checked(alloc: Global, segment: &Segment, out: &mut Vec<u8>, made: &mut Vec<u8>) -> Status
-    ensures tells { TellsChecked (transcript_of segment.now.records.transcript) (witness_of segment.now.records.witness) segment.now.checked.verdict segment.now.checked.left
+    ensures tells { TellsChecked (transcript_of segment.now.records.transcript) (witness_of segment.now.records.witness)
+        segment.now.checked.verdict segment.now.checked.left
         result (appended_bytes out.old.items out.new.items) (appended_bytes made.old.items made.new.items)
-        ⊎ (IsSilent result (appended_bytes out.old.items out.new.items) × (appended_bytes made.old.items made.new.items ≡ [])) }
+        ⊎ (IsSilent result (appended_bytes out.old.items out.new.items)
+        × (appended_bytes made.old.items made.new.items ≡ [])) }
     ensures nothing { result ≢ Status.Done → made.new.items ≡ made.old.items }
     ensures appends { StartsWith out.new.items out.old.items }
     ensures makes { StartsWith made.new.items made.old.items }
@@ -133,7 +143,8 @@ fn tell_checked(alloc: Global, segment: &Segment, out: &mut Vec<u8>, made: &mut 
 
 /// Appends the lines of the verdict.
 fn tell_verdict(alloc: Global, segment: &Segment, out: &mut Vec<u8>) -> Status
-    ensures prints { PrintsVerdict (transcript_of segment.now.records.transcript) (witness_of segment.now.records.witness) segment.now.checked.verdict
+    ensures prints { PrintsVerdict (transcript_of segment.now.records.transcript) (witness_of segment.now.records.witness)
+        segment.now.checked.verdict
         result (appended_bytes out.old.items out.new.items)
         ⊎ IsSilent result (appended_bytes out.old.items out.new.items) }
     ensures appends { StartsWith out.new.items out.old.items }
@@ -156,8 +167,10 @@ pub fn tell_left(
     out: &mut Vec<u8>,
     made: &mut Vec<u8>,
 ) -> Status
-    ensures tells { TellsLeft answer.now left.now result (appended_bytes out.old.items out.new.items) (appended_bytes made.old.items made.new.items)
-        ⊎ (IsSilent result (appended_bytes out.old.items out.new.items) × (appended_bytes made.old.items made.new.items ≡ [])) }
+    ensures tells { TellsLeft answer.now left.now result (appended_bytes out.old.items out.new.items)
+        (appended_bytes made.old.items made.new.items)
+        ⊎ (IsSilent result (appended_bytes out.old.items out.new.items)
+        × (appended_bytes made.old.items made.new.items ≡ [])) }
     ensures nothing { result ≢ Status.Done → made.new.items ≡ made.old.items }
     ensures appends { StartsWith out.new.items out.old.items }
     ensures makes { StartsWith made.new.items made.old.items }
@@ -178,7 +191,8 @@ pub fn tell_left(
 
 /// The lines of an answer, and behind them the line of what is left.
 pub fn left_lines(alloc: Global, answer: &str, left: &Left) -> Result<String, AllocError>
-    ensures { IfOk result (λ text. (told : List ℕ) × PrintsLeft left.now told × (string_bytes text ≡ answer.now ++ told)) }
+    ensures { IfOk result
+        (λ text. (told : List ℕ) × PrintsLeft left.now told × (string_bytes text ≡ answer.now ++ told)) }
 {
     let line = left_line(alloc, left)?;
     format!(in alloc; "{answer}{line}")
@@ -223,7 +237,9 @@ fn tell_unwritten(
 
 /// The line of a declaration that no bytes are.
 fn unwritten_lines(alloc: Global, declaration: &Declaration) -> Result<Lines, AllocError>
-    ensures { IfOk result (λ lines. (lines.status ≡ Status.Refused) × PrintsUnwritten (declaration_of declaration.now).entries (string_bytes lines.text)) }
+    ensures { IfOk result
+        (λ lines. (lines.status ≡ Status.Refused)
+        × PrintsUnwritten (declaration_of declaration.now).entries (string_bytes lines.text)) }
 {
     Ok(Lines {
         text: unwritten_text(alloc, &declaration.entries)?,
@@ -255,7 +271,8 @@ fn unwritable_text(alloc: Global) -> Result<String, AllocError>
 
 /// The place of the first of these entries that is too long for a declaration.
 fn first_too_long(alloc: Global, entries: &[Entry]) -> Result<Option<usize>, AllocError>
-    ensures first { IfOk result (λ found. MatchOption found (NoneTooLongBefore (map entry_of entries.now) (length entries.now))
+    ensures first { IfOk result
+        (λ found. MatchOption found (NoneTooLongBefore (map entry_of entries.now) (length entries.now))
         (λ place. NoneTooLongBefore (map entry_of entries.now) place × IsTooLongAt (map entry_of entries.now) place)) }
     ensures within { IfOk result (λ found. IfSome found (λ place. place < length entries.now)) }
 {

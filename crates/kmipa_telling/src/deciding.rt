@@ -23,7 +23,8 @@ pub fn decide(
     budget: u64,
     count: u64,
 ) -> Result<Decision, CheckFault>
-    ensures { AreRecorded (transcript_of transcript.now) → TellsDecision (transcript_of transcript.now) budget count result }
+    ensures { AreRecorded (transcript_of transcript.now)
+        → TellsDecision (transcript_of transcript.now) budget count result }
 {
     let calls = read_calls(alloc, transcript)?;
     decide_calls(alloc, transcript, &calls, budget, count)
@@ -37,7 +38,8 @@ fn decide_calls(
     budget: u64,
     count: u64,
 ) -> Result<Decision, CheckFault>
-    ensures { AreRecorded (transcript_of transcript.now) → AreCalls (transcript_of transcript.now) (map call_of calls.now)
+    ensures { AreRecorded (transcript_of transcript.now)
+        → AreCalls (transcript_of transcript.now) (map call_of calls.now)
         → TellsDecision (transcript_of transcript.now) budget count result }
 {
     let numbers = unplain(alloc, calls)?;
@@ -55,8 +57,10 @@ fn decide_plain(
     budget: u64,
     count: u64,
 ) -> Result<Decision, CheckFault>
-    ensures { AreRecorded (transcript_of transcript.now) → AreCalls (transcript_of transcript.now) (map call_of calls.now)
-        → ((steps : List StepOf) × ArePlain (map call_of calls.now) steps) → TellsDecision (transcript_of transcript.now) budget count result }
+    ensures { AreRecorded (transcript_of transcript.now)
+        → AreCalls (transcript_of transcript.now) (map call_of calls.now)
+        → ((steps : List StepOf) × ArePlain (map call_of calls.now) steps)
+        → TellsDecision (transcript_of transcript.now) budget count result }
 {
     if count < budget {
         return Ok(Decision::Decided);

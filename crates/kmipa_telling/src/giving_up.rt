@@ -43,10 +43,13 @@ pub fn explain_search_run<R: Read, W: Watch>(
     ensures prints { (outcome : Result Judged FaultTold)
         × ((t d : List ℕ) → IsFileOf t transcript.new → IsFileOf d declaration.new
         → DecidesFiles t d (is_failed transcript.new) (is_failed declaration.new) budget forced outcome)
-        × (PrintsGivingUp outcome result (appended_bytes out.old.items out.new.items) (appended_bytes made.old.items made.new.items)
-        ⊎ (IsSilent result (appended_bytes out.old.items out.new.items) × (appended_bytes made.old.items made.new.items ≡ []))) }
+        × (PrintsGivingUp outcome result (appended_bytes out.old.items out.new.items)
+        (appended_bytes made.old.items made.new.items)
+        ⊎ (IsSilent result (appended_bytes out.old.items out.new.items)
+        × (appended_bytes made.old.items made.new.items ≡ []))) }
     // Status 0 is answered only where the bytes that came, to the ends that were seen, are accepted with the witness that is made.
-    ensures accepts { result ≡ Status.Done → AreAccepted (came_of transcript.new) (came_of declaration.new) (appended_bytes made.old.items made.new.items)
+    ensures accepts { result ≡ Status.Done
+        → AreAccepted (came_of transcript.new) (came_of declaration.new) (appended_bytes made.old.items made.new.items)
         × IsTrue (is_ended transcript.new) × IsTrue (is_ended declaration.new) }
     ensures nothing { result ≢ Status.Done → made.new.items ≡ made.old.items }
     ensures appends { StartsWith out.new.items out.old.items }
@@ -99,8 +102,10 @@ fn judge_inputs<R: Read, W: Watch>(
 /// Appends the lines of what was found to `out`, with what giving up says, and a witness that was found to `made`; nothing to either where
 /// memory runs out.
 fn tell_judged(alloc: Global, judged: &Judged, out: &mut Vec<u8>, made: &mut Vec<u8>) -> Status
-    ensures tells { PrintsGivingUp (Ok judged.now) result (appended_bytes out.old.items out.new.items) (appended_bytes made.old.items made.new.items)
-        ⊎ (IsSilent result (appended_bytes out.old.items out.new.items) × (appended_bytes made.old.items made.new.items ≡ [])) }
+    ensures tells { PrintsGivingUp (Ok judged.now) result (appended_bytes out.old.items out.new.items)
+        (appended_bytes made.old.items made.new.items)
+        ⊎ (IsSilent result (appended_bytes out.old.items out.new.items)
+        × (appended_bytes made.old.items made.new.items ≡ [])) }
     ensures nothing { result ≢ Status.Done → made.new.items ≡ made.old.items }
     ensures appends { StartsWith out.new.items out.old.items }
     ensures makes { StartsWith made.new.items made.old.items }

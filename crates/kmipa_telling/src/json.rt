@@ -36,11 +36,14 @@ pub fn check_json<R: Read>(
     requires declaration { came_of declaration.old ≡ [] }
     requires witness { came_of witness.old ≡ [] }
     // What is printed tells what an audit answers of whatever the inputs may be, or memory ran out.
-    ensures prints { ((outcome : Result Audited AuditFault) × AuditsInputs transcript.new declaration.new witness.new outcome
-        × PrintsJson transcript.new declaration.new witness.new outcome result (appended_bytes out.old.items out.new.items))
+    ensures prints { ((outcome : Result Audited AuditFault)
+        × AuditsInputs transcript.new declaration.new witness.new outcome
+        × PrintsJson transcript.new declaration.new witness.new outcome result
+        (appended_bytes out.old.items out.new.items))
         ⊎ IsSilent result (appended_bytes out.old.items out.new.items) }
     // Status 0 is answered only where the bytes that came, to the ends that were seen, are accepted.
-    ensures accepts { result ≡ Status.Done → AreAccepted (came_of transcript.new) (came_of declaration.new) (came_of witness.new)
+    ensures accepts { result ≡ Status.Done
+        → AreAccepted (came_of transcript.new) (came_of declaration.new) (came_of witness.new)
         × AreEnded transcript.new declaration.new witness.new }
     ensures appends { StartsWith out.new.items out.old.items }
 {
@@ -57,7 +60,9 @@ fn check_object<R: Read>(
     requires transcript { came_of transcript.old ≡ [] }
     requires declaration { came_of declaration.old ≡ [] }
     requires witness { came_of witness.old ≡ [] }
-    ensures { IfOk result (λ lines. (outcome : Result Audited AuditFault) × AuditsInputs transcript.new declaration.new witness.new outcome
+    ensures { IfOk result
+        (λ lines. (outcome : Result Audited AuditFault)
+        × AuditsInputs transcript.new declaration.new witness.new outcome
         × PrintsJson transcript.new declaration.new witness.new outcome lines.status (string_bytes lines.text)) }
 {
     let mut held = Held::new(alloc);

@@ -48,12 +48,15 @@ pub fn search_json<R: Read, W: Watch>(
     requires transcript { came_of transcript.old ≡ [] }
     requires declaration { came_of declaration.old ≡ [] }
     // What is made and printed tells what a search answers of whatever the inputs may be, or memory ran out.
-    ensures prints { ((outcome : Result Judged FaultTold) × DecidesInputs transcript.new declaration.new budget forced outcome
+    ensures prints { ((outcome : Result Judged FaultTold)
+        × DecidesInputs transcript.new declaration.new budget forced outcome
         × PrintsJsonSearch transcript.new declaration.new outcome result (appended_bytes out.old.items out.new.items)
         (appended_bytes made.old.items made.new.items))
-        ⊎ (IsSilent result (appended_bytes out.old.items out.new.items) × (appended_bytes made.old.items made.new.items ≡ [])) }
+        ⊎ (IsSilent result (appended_bytes out.old.items out.new.items)
+        × (appended_bytes made.old.items made.new.items ≡ [])) }
     // Status 0 is answered only where the bytes that came, to the ends that were seen, are accepted with the witness that is made.
-    ensures accepts { result ≡ Status.Done → AreAccepted (came_of transcript.new) (came_of declaration.new) (appended_bytes made.old.items made.new.items)
+    ensures accepts { result ≡ Status.Done
+        → AreAccepted (came_of transcript.new) (came_of declaration.new) (appended_bytes made.old.items made.new.items)
         × BothEnded transcript.new declaration.new }
     ensures appends { StartsWith out.new.items out.old.items }
     ensures makes { StartsWith made.new.items made.old.items }
@@ -64,9 +67,11 @@ pub fn search_json<R: Read, W: Watch>(
 
 /// Appends what is printed to `out` and what is made to `made`; nothing to either where memory runs out.
 fn append_both(answer: Result<Answer, AllocError>, out: &mut Vec<u8>, made: &mut Vec<u8>) -> Status
-    ensures appended { IsOkAnd answer (λ a. (result ≡ a.lines.status) × (appended_bytes out.old.items out.new.items ≡ string_bytes a.lines.text)
+    ensures appended { IsOkAnd answer
+        (λ a. (result ≡ a.lines.status) × (appended_bytes out.old.items out.new.items ≡ string_bytes a.lines.text)
         × (appended_bytes made.old.items made.new.items ≡ a.made.items))
-        ⊎ (IsSilent result (appended_bytes out.old.items out.new.items) × (appended_bytes made.old.items made.new.items ≡ [])) }
+        ⊎ (IsSilent result (appended_bytes out.old.items out.new.items)
+        × (appended_bytes made.old.items made.new.items ≡ [])) }
     ensures appends { StartsWith out.new.items out.old.items }
     ensures makes { StartsWith made.new.items made.old.items }
 {
@@ -96,8 +101,11 @@ fn answer_of<R: Read, W: Watch>(
 ) -> Result<Answer, AllocError>
     requires transcript { came_of transcript.old ≡ [] }
     requires declaration { came_of declaration.old ≡ [] }
-    ensures { IfOk result (λ answer. (outcome : Result Judged FaultTold) × DecidesInputs transcript.new declaration.new budget forced outcome
-        × PrintsJsonSearch transcript.new declaration.new outcome answer.lines.status (string_bytes answer.lines.text) answer.made.items) }
+    ensures { IfOk result
+        (λ answer. (outcome : Result Judged FaultTold)
+        × DecidesInputs transcript.new declaration.new budget forced outcome
+        × PrintsJsonSearch transcript.new declaration.new outcome answer.lines.status (string_bytes answer.lines.text)
+        answer.made.items) }
 {
     let mut first = Vec::new(alloc);
     let mut second = Vec::new(alloc);

@@ -22,7 +22,9 @@ pub fn tell_verdict(
     transcript: &Transcript,
     witness: &Witness,
 ) -> Result<Status, AllocError>
-    ensures { IfOk result (λ status. TellsVerdict (transcript_of transcript.now) (witness_of witness.now) verdict.now status (members_of told.old) (members_of told.new)) }
+    ensures { IfOk result
+        (λ status. TellsVerdict (transcript_of transcript.now) (witness_of witness.now) verdict.now status
+        (members_of told.old) (members_of told.new)) }
 {
     match verdict {
         Verdict::Yes => {
@@ -96,7 +98,8 @@ fn tell_record(
     fault: &RecordFault,
 ) -> Result<Status, AllocError>
     ensures status { IfOk result (λ status. status ≡ record_status fault.now.kind) }
-    ensures told { OnOk result (members_of told.new ≡ record_members file.now fault.now.offset fault.now.kind (members_of told.old)) }
+    ensures told { OnOk result (members_of told.new
+        ≡ record_members file.now fault.now.offset fault.now.kind (members_of told.old)) }
 {
     let RecordFault { offset, kind } = *fault;
     match kind {

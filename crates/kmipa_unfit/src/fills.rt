@@ -125,7 +125,8 @@ fn answer_unwanted(ask: &Ask, answer: &Answer) -> Option<Unwanted>
 /// The first fill before a place that names the item of this number.
 fn earlier_fill(fills: &[Fill], place: usize, item: i32) -> Option<usize>
     requires { place < length fills.now }
-    ensures { MatchOption result (IsAlone (map fill_of fills.now) place item) (IsAhead (map fill_of fills.now) place item) }
+    ensures { MatchOption result (IsAlone (map fill_of fills.now) place item)
+        (IsAhead (map fill_of fills.now) place item) }
 {
     let mut at = 0;
     'fills: while at < place {
