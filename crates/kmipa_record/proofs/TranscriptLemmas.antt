@@ -1,5 +1,5 @@
 -- A transcript that is taken mark by mark.
-use Rattle.std.proofs.Common.{◌≡◌, ◌≢◌, ℕ, ℤ, List, [], ◌∷◌, ◌++◌, length, drop, Bool, true, Some, None, refl, sym, ap, subst, ◌∙◌, arith, map, ◌⊎◌, inl, inr}
+use Rattle.std.proofs.Common.{◌≡◌, ◌≢◌, ℕ, ℤ, List, [], ◌∷◌, ◌++◌, length, drop, Bool, true, Some, None, refl, sym, ap, subst, ◌∙◌, arith, map, inl, inr}
 use Rattle.std.proofs.lemmas.List.{map-append, append-nil, length-append}
 use Rattle.kmipa_ttlv.specs.Tree.{Tree}
 use Rattle.kmipa_ttlv.specs.Stream.{IsSplit}
@@ -7,15 +7,16 @@ use Rattle.kmipa_record.specs.Calls.{HasNone}
 use Rattle.kmipa_record.specs.Calls as calls
 use Rattle.kmipa_record.specs.Files.{in_bytes, in_item, at_end, IsUpTo, Tells, TellsItem, IsOneItemAtMost}
 use Rattle.kmipa_record.specs.Marks.{MarkOf, ends, mark_of, mark_item, AreRecorded}
-use Rattle.kmipa_record.specs.MarkReading.{AreThese, IsNoMark, HasNoHeader, FaultBehind, IsRightBehind, AreGivenOf, HasGiven, GivesNext, StandsAt, input_of, reported_of}
+use Rattle.kmipa_record.specs.MarkReading.{AreThese, IsNoMark, HasNoHeader, FaultBehind, IsRightBehind, AreGivenOf, HasGiven, GivesNext, StandsAt, input_of}
 use Rattle.kmipa_record.specs.Reading.{IsReading, Takes}
 use Rattle.kmipa_record.specs.Transcripts.{transcript_header, AreRightInTranscript, TranscriptItemFault, TranscriptEndFault, MarkItemFault, no_mark, in_mark, TranscriptFault, IsTranscriptUpTo}
-use Rattle.kmipa_record.specs.TranscriptReading.{AreTaken}
+use Rattle.kmipa_record.specs.TranscriptReading.{HaveCome, reported_of}
 use Rattle.kmipa_record.specs.declared.calls.Calls.{Calls}
 use Rattle.kmipa_record.specs.declared.fault.RecordFault.{RecordFault}
 use Rattle.kmipa_record.specs.declared.fault.RecordKind.{RecordKind}
 use Rattle.kmipa_record.specs.declared.fault.RecordKind.TheVariants.{Memory}
 use Rattle.kmipa_record.specs.declared.marks.Marks.{Marks}
+use Rattle.kmipa_record.specs.declared.recorded_marks.RecordedMarks.{RecordedMarks}
 use Rattle.kmipa_record.specs.declared.transcript.Mark.{Mark}
 use Rattle.kmipa_record.proofs.KindLemmas.{ByCause-map, caused}
 use Rattle.kmipa_record.proofs.FileLemmas.{goes_on, Stands, item_reported, right_here}
@@ -62,21 +63,32 @@ refused_item : (marks : List MarkOf) (old : Calls) (mark : MarkOf) (kind : Recor
     → MarkItemFault (map mark_item marks) (mark_item mark) kind
 refused_item marks old mark kind follow ne r = in_mark marks mark refl refl (refused_mark marks old mark kind follow ne r)
 
+stands_right : (file came after : List ℕ) (marks : List MarkOf) (mark : MarkOf) (place : ℕ) → file ≡ came ++ after → AreRecorded marks → (s : StandsAt marks mark place came after)
+    → Stands AreRightInTranscript file (items_of marks) s.left place
+stands_right file came after marks mark place e recorded s = record {
+  right = (refl, record { marks = marks; are = refl; recorded = recorded });
+  reading = subst (λ (l : List ℕ). IsReading l (items_of marks) s.left place) (sym e) s.reading;
+}
+
+stands_up_to : (file came after : List ℕ) (marks : List MarkOf) (mark : MarkOf) (place offset : ℕ) → file ≡ came ++ after → AreRecorded marks → StandsAt marks mark place came after → offset ≡ place
+    → IsTranscriptUpTo file offset
+stands_up_to file came after marks mark place offset e recorded s o =
+    subst (IsTranscriptUpTo file) (sym o) (right_here AreRightInTranscript file (items_of marks) s.left place (stands_right file came after marks mark place e recorded s))
+
+-- the calls refuse the mark that stands here
 pub refused_reported : (file came after : List ℕ) (marks : List MarkOf) (old : Calls) (mark : MarkOf) (place : ℕ) (failed : Bool) (f : RecordFault) → file ≡ came ++ after
-    → AreRecorded marks → calls.Follow marks old → StandsAt marks mark place came after → f.offset ≡ place → (f.kind ≡ Memory) ⊎ calls.Refuses old mark f.kind
+    → AreRecorded marks → calls.Follow marks old → StandsAt marks mark place came after → f.offset ≡ place → calls.Refuses old mark f.kind
     → Tells TranscriptFault IsTranscriptUpTo file failed f
 refused_reported file came after marks old mark place failed f e recorded follow s o r =
-    let reading : IsReading file (items_of marks) s.left place = subst (λ (l : List ℕ). IsReading l (items_of marks) s.left place) (sym e) s.reading in
-    let here : Stands AreRightInTranscript file (items_of marks) s.left place =
-    record { right = (refl, record { marks = marks; are = refl; recorded = recorded }); reading = reading } in
-    let right : IsTranscriptUpTo file f.offset = subst (IsTranscriptUpTo file) (sym o) (right_here AreRightInTranscript file (items_of marks) s.left place here) in
-    elim r [
-      | inl m ↦ caused f.kind Memory _ _ _ m right
-      | inr q ↦ refused_cause old mark f.kind _ _ _ q right
-          (λ ne. subst (λ (n : ℕ). TranscriptFault file n f.kind) (sym o)
-          (item_reported AreRightInTranscript TranscriptItemFault TranscriptEndFault file (items_of marks) (mark_item mark) s.left after place (length came) f.kind here s.taken
-          (refused_item marks old mark f.kind follow ne q)))
-    ]
+    refused_cause old mark f.kind _ _ _ r (stands_up_to file came after marks mark place f.offset e recorded s o)
+    (λ ne. subst (λ (n : ℕ). TranscriptFault file n f.kind) (sym o)
+    (item_reported AreRightInTranscript TranscriptItemFault TranscriptEndFault file (items_of marks) (mark_item mark) s.left after place (length came) f.kind
+    (stands_right file came after marks mark place e recorded s) s.taken (refused_item marks old mark f.kind follow ne r)))
+
+-- memory runs out at the mark that stands here
+pub unkept_reported : (file came after : List ℕ) (marks : List MarkOf) (mark : MarkOf) (place : ℕ) (failed : Bool) (f : RecordFault) → file ≡ came ++ after
+    → AreRecorded marks → StandsAt marks mark place came after → f.offset ≡ place → f.kind ≡ Memory → Tells TranscriptFault IsTranscriptUpTo file failed f
+unkept_reported file came after marks mark place failed f e recorded s o m = caused f.kind Memory _ _ _ m (stands_up_to file came after marks mark place f.offset e recorded s o)
 
 -- the mark was read whole, and nothing after it
 whole_mark : (came : List ℕ) (marks : List MarkOf) (mark : MarkOf) (place offset : ℕ) → StandsAt marks mark place came [] → offset ≡ place → IsOneItemAtMost (drop offset came)
@@ -88,13 +100,11 @@ whole_mark came marks mark place offset s o =
     one_whole b.0 came front offset (omega (arith, o, s.taken.taken, ap length same, length-append b.0 front)) same (spelled_whole (mark_item mark) front s.taken.spelled)
 
 pub refused_place : (came : List ℕ) (marks : List MarkOf) (old : Calls) (mark : MarkOf) (place : ℕ) (f : RecordFault) → StandsAt marks mark place came [] → f.offset ≡ place
-    → (f.kind ≡ Memory) ⊎ calls.Refuses old mark f.kind → TellsItem came f
-refused_place came marks old mark place f s o r =
-    let whole = whole_mark came marks mark place f.offset s o in
-    elim r [
-      | inl m ↦ caused f.kind Memory _ _ _ m whole
-      | inr q ↦ refused_cause old mark f.kind _ _ _ q whole (λ ne. tt)
-    ]
+    → calls.Refuses old mark f.kind → TellsItem came f
+refused_place came marks old mark place f s o r = refused_cause old mark f.kind _ _ _ r (whole_mark came marks mark place f.offset s o) (λ ne. tt)
+
+pub unkept_place : (came : List ℕ) (marks : List MarkOf) (mark : MarkOf) (place : ℕ) (f : RecordFault) → StandsAt marks mark place came [] → f.offset ≡ place → f.kind ≡ Memory → TellsItem came f
+unkept_place came marks mark place f s o m = caused f.kind Memory _ _ _ m (whole_mark came marks mark place f.offset s o)
 
 pub one_more : (file : List ℕ) (marks : List MarkOf) (mark : MarkOf) (left after : List ℕ) (place place' : ℕ) → Takes (mark_item mark) left after place place'
     → IsReading file (items_of marks) left place → IsReading file (items_of (marks ++ mark ∷ [])) after place'
@@ -104,7 +114,7 @@ one_more file marks mark left after place place' t r =
 given_now : {R : Type 0} (source : Marks R) (marks : List MarkOf) → source.begun ≡ true → AreGivenOf true marks (input_of source) → HasGiven marks source
 given_now source marks begun given = subst (λ (b : Bool). AreGivenOf b marks (input_of source)) (sym begun) given
 
--- ---- what was taken
+-- ---- what has come
 
 no_end : (before after : List MarkOf) (call : ℤ) (message : List ℕ) → [] ≡ before ++ ends call message ∷ after → ⊥
 no_end [] after call message e = cc
@@ -118,14 +128,15 @@ none_recorded = record {
   answered = λ before after call message e. absurd (no_end before after call message e);
 }
 
-pub none_taken : {R : Type 0} (source : Marks R) (of : Calls) (marks : List Mark) → marks ≡ [] → HasGiven [] source → reported_of source ≡ None → HasNone of → AreTaken (map mark_of marks) of source
-none_taken source of marks e given untold none =
-    subst (λ (l : List Mark). AreTaken (map mark_of l) of source) (sym e) (record { given = given; untold = untold; recorded = none_recorded; follow = follow_none of none })
+pub none_come : {R : Type 0} (m : RecordedMarks R) → HasGiven [] m.source → reported_of m ≡ None → HasNone m.calls → HaveCome [] m
+none_come m given untold none = record { given = given; untold = untold; recorded = none_recorded; follow = follow_none m.calls none }
 
-pub mark_taken : {R : Type 0} (source : Marks R) (marks more : List Mark) (mark : Mark) (old new : Calls) → more ≡ marks ++ mark ∷ [] → AreRecorded (map mark_of marks)
-    → calls.Follow (map mark_of marks) old → calls.Takes old new (mark_of mark) → GivesNext (map mark_of marks) source (Some mark) → reported_of source ≡ None → AreTaken (map mark_of more) new source
-mark_taken source marks more mark old new e recorded follow takes gives untold =
-    let same : map mark_of more ≡ map mark_of marks ++ mark_of mark ∷ [] = ap (map mark_of) e ∙ map-append mark_of marks (mark ∷ []) in
-    let next = one_more_taken (map mark_of marks) (mark_of mark) old new takes recorded follow in
-    subst (λ (l : List MarkOf). AreTaken l new source) (sym same)
-    (record { given = given_now source _ gives.1 gives.0; untold = untold; recorded = next.0; follow = next.1 })
+pub one_more_come : {R : Type 0} (m : RecordedMarks R) (marks : List MarkOf) (mark : Mark) (old : Calls) → AreRecorded marks → calls.Follow marks old → calls.Takes old m.calls (mark_of mark)
+    → GivesNext marks m.source (Some mark) → reported_of m ≡ None → HaveCome (marks ++ mark_of mark ∷ []) m
+one_more_come m marks mark old recorded follow takes gives untold =
+    let next = one_more_taken marks (mark_of mark) old m.calls takes recorded follow in
+    record { given = given_now m.source _ gives.1 gives.0; untold = untold; recorded = next.0; follow = next.1 }
+
+-- the same, of a list of marks to which the one was put
+pub one_more_kept : {R : Type 0} (m : RecordedMarks R) (marks more : List Mark) (mark : Mark) → more ≡ marks ++ mark ∷ [] → HaveCome (map mark_of marks ++ mark_of mark ∷ []) m → HaveCome (map mark_of more) m
+one_more_kept m marks more mark e h = subst (λ (l : List MarkOf). HaveCome l m) (sym (ap (map mark_of) e ∙ map-append mark_of marks (mark ∷ []))) h

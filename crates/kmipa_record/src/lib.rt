@@ -18,6 +18,7 @@ mod mark_reading;
 mod marks;
 mod number_map;
 mod record;
+mod recorded_marks;
 mod records;
 mod row;
 mod shape;
@@ -40,6 +41,7 @@ pub use laws::{
 };
 pub use marks::Marks;
 pub use number_map::NumberMap;
+pub use recorded_marks::RecordedMarks;
 pub use transcript::{Begin, End, Mark, Transcript, read_transcript};
 pub use transcript_writing::write_transcript;
 pub use turn::Turn;

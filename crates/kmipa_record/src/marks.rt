@@ -71,6 +71,21 @@ impl<'a, R: Read> Marks<'a, R> {
         self.place
     }
 
+    /// Refuses the mark that was given last: the fault that is reported from now on.
+    pub(crate) fn refuse(&mut self, kind: RecordKind) -> RecordFault
+        ensures fault { result ≡ record { offset = place_of self.old; kind = kind } }
+        ensures reported { reported_of self.new ≡ Some result }
+        ensures input { input_of self.new ≡ input_of self.old }
+        ensures same_reference { reference_of self.new ≡ reference_of self.old }
+    {
+        let fault = RecordFault {
+            offset: self.place,
+            kind,
+        };
+        self.fault = Some(fault);
+        fault
+    }
+
     /// The next mark; `None` at the end of the transcript.
     pub fn next(&mut self) -> Result<Option<Mark>, RecordFault>
         // The marks that are given are those of the transcript, in order, and all of them once there is none.

@@ -5,17 +5,14 @@ ghost use Rattle.std.specs.String.{string_bytes};
 ghost use Rattle.kmipa_ttlv.specs.Input.{came_of, taken_of, is_ended, is_failed, IsFileOf, StaysOver};
 ghost use Rattle.kmipa_ttlv.specs.Tree.{Tree};
 ghost use Rattle.kmipa_ttlv.specs.ViewTree.{view_tree, view_trees};
-ghost use Rattle.kmipa_record.specs.Calls.{Takes, Refuses};
 ghost use Rattle.kmipa_record.specs.Files.{Tells, TellsItem};
-ghost use Rattle.kmipa_record.specs.MarkReading.{input_of, reference_of};
 ghost use Rattle.kmipa_record.specs.Marks.{MarkOf, mark_of, mark_item, begin_fields, end_fields, AreRecorded};
 ghost use Rattle.kmipa_record.specs.Transcripts.{transcript_of, IsTranscript, TranscriptFault, IsTranscriptUpTo};
-ghost use Rattle.kmipa_record.specs.TranscriptReading.{AreTaken};
+ghost use Rattle.kmipa_record.specs.TranscriptReading.{input_of, reference_of, HaveCome};
 
-use crate::calls::Calls;
 use crate::fault::{RecordFault, RecordKind};
-use crate::marks::Marks;
 use crate::record::Record;
+use crate::recorded_marks::RecordedMarks;
 use crate::shape::{bytes_of, children_of, integer_of, text_of};
 use crate::tags::{BEGIN_MARK, CALL, CLIENT, END_MARK, MESSAGE};
 use kmipa_ttlv::{Children, Input, View};
@@ -158,10 +155,9 @@ pub fn read_transcript<R: Read>(
     // Over a reader whose bytes are known what came is their front, and all where the end was seen.
     ensures over { StaysOver R.remaining input.old input.new }
 {
-    let mut source = Marks::new(alloc, input);
-    let mut calls = Calls::new(alloc);
+    let mut source = RecordedMarks::new(alloc, input);
     let mut marks = Vec::new(alloc);
-    let taken = take_marks(&mut source, &mut calls, &mut marks);
+    let taken = take_marks(&mut source, &mut marks);
     let _ = source.into_input();
     match taken {
         Ok(()) => Ok(Transcript { marks }),
@@ -171,11 +167,10 @@ pub fn read_transcript<R: Read>(
 
 /// Takes the marks of a transcript up to its end.
 fn take_marks<R: Read>(
-    source: &mut Marks<'_, R>,
-    calls: &mut Calls,
+    source: &mut RecordedMarks<'_, R>,
     marks: &mut Vec<Mark>,
 ) -> Result<(), RecordFault>
-    requires { AreTaken (map mark_of marks.old.items) calls.old source.old }
+    requires { HaveCome (map mark_of marks.old.items) source.old }
     ensures found { OnOk result
         (IsTranscript (came_of (input_of source.new)) (map mark_of marks.new.items)
         × IsTrue (is_ended (input_of source.new))) }
@@ -187,18 +182,17 @@ fn take_marks<R: Read>(
     ensures same_reference { reference_of source.new ≡ reference_of source.old }
     ensures over { StaysOver R.remaining (input_of source.old) (input_of source.new) }
 {
-    'marks: while take_mark(source, calls, marks)? {}
+    'marks: while take_mark(source, marks)? {}
     Ok(())
 }
 
 /// Takes the next mark of a transcript after those before it; `false` at the end.
 fn take_mark<R: Read>(
-    source: &mut Marks<'_, R>,
-    calls: &mut Calls,
+    source: &mut RecordedMarks<'_, R>,
     marks: &mut Vec<Mark>,
 ) -> Result<bool, RecordFault>
-    requires { AreTaken (map mark_of marks.old.items) calls.old source.old }
-    ensures taken { OnOk result (AreTaken (map mark_of marks.new.items) calls.new source.new) }
+    requires { HaveCome (map mark_of marks.old.items) source.old }
+    ensures taken { IfOk result (λ more. more ≡ true → HaveCome (map mark_of marks.new.items) source.new) }
     ensures end { IfOk result
         (λ more. more ≡ false → IsTranscript (came_of (input_of source.new)) (map mark_of marks.new.items)
         × IsTrue (is_ended (input_of source.new))) }
@@ -212,34 +206,13 @@ fn take_mark<R: Read>(
     ensures same_reference { reference_of source.new ≡ reference_of source.old }
     ensures over { StaysOver R.remaining (input_of source.old) (input_of source.new) }
 {
-    match source.next()? {
-        None => Ok(false),
-        Some(mark) => {
-            keep_mark(calls, marks, mark, source.place())?;
-            Ok(true)
-        }
-    }
-}
-
-/// Puts a mark that stands at this place after the others.
-fn keep_mark(
-    calls: &mut Calls,
-    marks: &mut Vec<Mark>,
-    mark: Mark,
-    offset: u64,
-) -> Result<(), RecordFault>
-    ensures { MatchResult result
-        (λ _. Takes calls.old calls.new (mark_of mark) × (marks.new.items ≡ marks.old.items ++ mark ∷ []))
-        (λ f. (f.offset ≡ offset) × ((f.kind ≡ RecordKind.Memory) ⊎ Refuses calls.old (mark_of mark) f.kind)) }
-{
-    match calls.take(&mark) {
-        Ok(()) => {}
-        Err(kind) => return Err(RecordFault { offset, kind }),
-    }
+    let Some(mark) = source.next()? else {
+        return Ok(false);
+    };
     match marks.push(mark) {
-        Ok(()) => Ok(()),
+        Ok(()) => Ok(true),
         Err(_) => Err(RecordFault {
-            offset,
+            offset: source.place(),
             kind: RecordKind::Memory,
         }),
     }
