@@ -1,8 +1,9 @@
 """Checks copies of a crate in which edits stand, and reads whether the functions that they change are refused.
 
 A proof knows nothing of a function that it calls but its contract. So edits of different bodies don't touch each
-other's goals, and one check of the functions that they change judges them all. What these call has only to be stated:
-in the copy its proofs are left out, and that a function calls what isn't proved doesn't count.
+other's goals, and one check of the functions that they change judges them all. Nor does a copy of a function, under a
+name of its own, to which a further edit of the function is made. What these call has only to be stated: in the copy its
+proofs are left out, and that a function calls what isn't proved doesn't count.
 """
 from __future__ import annotations
 
@@ -11,10 +12,11 @@ import re
 import shutil
 import subprocess
 import tempfile
-from dataclasses import dataclass, field
+from dataclasses import dataclass, field, replace
 from pathlib import Path
+from typing import Optional
 
-from edit_files import BadEdit, Edit, functions_of, module_of, put_in
+from edit_files import BadEdit, Edit, Function, functions_of, module_of, put_in
 
 PARTS = ("src", "specs", "proofs")
 # What an answer by hand is told where it names something that the body no longer has.
@@ -113,9 +115,9 @@ class Crate:
         with tempfile.TemporaryDirectory(prefix="wrong-bodies-") as made:
             room = Path(made)
             self.copy_to(room)
-            changed = edited(self, edits)
-            for path, text in changed.items():
+            for path, text in edited(self, edits).items():
                 (room / path).write_text(text, encoding="utf-8")
+            copy_proofs(room, edits)
             if not whole:
                 leave_out_others(room, edits)
             only = [word for it in edits for word in ("--only", it.function)]
@@ -123,24 +125,55 @@ class Crate:
             return self.run_rattle(room, words)
 
 
+def texts_in(room: Path) -> dict[str, str]:
+    """The texts of a crate's files of src/, by their paths."""
+    return {it.relative_to(room).as_posix(): it.read_text(encoding="utf-8") for it in (room / "src").rglob("*.rt")}
+
+
+def full_names(texts: dict[str, str], path: str) -> list[tuple[Function, Optional[str]]]:
+    """The functions of a file, each with its path below the crate, or None where its type stands in no file."""
+    homes = {name: module_of(it) for it, text in texts.items() for name in TYPE.findall(text)}
+    homes.update(dict.fromkeys(TYPE.findall(texts[path]), module_of(path)))
+    found: list[tuple[Function, Optional[str]]] = []
+    for it in functions_of(texts[path], path):
+        owner = it.name.rpartition("::")[0]
+        module = "" if owner == module_of(path) else homes.get(owner)
+        found.append((it, f"{module}::{it.name}" if module else it.name if module == "" else None))
+    return found
+
+
 def leave_out_others(room: Path, edits: list[Edit]) -> None:
-    """Leaves out the body and the proof of each function of a copy of a crate that none of these edits is to be judged by: it
-    has only to be stated. What is of a trait or of a cycle of calls stays."""
+    """Leaves out the body and the proof of each function of a copy of a crate that none of these edits is to be judged
+    by: it has only to be stated. What is of a trait or of a cycle of calls stays."""
     judged = [f"::{it.function}" for it in edits]
-    texts = {it.relative_to(room).as_posix(): it.read_text(encoding="utf-8") for it in (room / "src").rglob("*.rt")}
-    homes = {name: module_of(path) for path, text in texts.items() for name in TYPE.findall(text)}
+    texts = texts_in(room)
     for path, text in texts.items():
         lines = text.split("\n")
-        own = dict.fromkeys(TYPE.findall(text), module_of(path))
-        for it in reversed(functions_of(text, path)):
-            owner = it.name.rpartition("::")[0]
-            module = "" if owner == module_of(path) else {**homes, **own}.get(owner)
-            name = f"{module}::{it.name}" if module else it.name
-            if module is None or it.cycle or not it.is_plain or any(f"::{name}".endswith(end) for end in judged):
+        for it, name in reversed(full_names(texts, path)):
+            if name is None or it.cycle or not it.is_plain or any(f"::{name}".endswith(end) for end in judged):
                 continue
             lines[it.body + 1 : it.last] = ["unreachable!()"]
             prove_nothing(room / "proofs" / name.replace("::", "/"))
         (room / path).write_text("\n".join(lines), encoding="utf-8")
+
+
+def copy_proofs(room: Path, edits: list[Edit]) -> None:
+    """Copies the files of the proof of each function that has copies in a copy of a crate, for each of these."""
+    texts = texts_in(room)
+    for edit in edits:
+        if not edit.copy:
+            continue
+        path = edit.changes[0].path
+        name = next(name for it, name in full_names(texts, path) if it.name == edit.own)
+        if name is None or not (room / "proofs" / name.replace("::", "/")).is_dir():
+            continue
+        folder = room / "proofs" / name.replace("::", "/")
+        own = re.compile(rf"(\bproofs\.{re.escape(name.replace('::', '.'))})(?![-\w])")
+        copy = folder.with_name(folder.name + edit.ending())
+        copy.mkdir()
+        for file in folder.glob("*.antt"):
+            text = own.sub(lambda it: it[1] + edit.ending(), file.read_text(encoding="utf-8"))
+            (copy / file.name).write_text(text, encoding="utf-8")
 
 
 def prove_nothing(folder: Path) -> None:
@@ -152,17 +185,44 @@ def prove_nothing(folder: Path) -> None:
 
 
 def edited(crate: Crate, edits: list[Edit]) -> dict[str, str]:
-    """The texts of the crate's files that these edits change, with all of them in."""
+    """The texts of the crate's files that these edits change, with all of them in, in their functions or in copies."""
     paths = {change.path for it in edits for change in it.changes}
-    texts = {path: (crate.folder / path).read_text(encoding="utf-8") for path in paths}
+    own = {path: (crate.folder / path).read_text(encoding="utf-8") for path in paths}
+    texts = own
     for it in edits:
-        texts = put_in(texts, it.changes)
+        texts = put_in(texts, it.changes) if not it.copy else texts
+    for it in edits:
+        path = it.changes[0].path
+        if it.copy:
+            texts[path] = put_copy(texts[path], put_in(own, it.changes)[path], it)
     return texts
 
 
+def put_copy(text: str, alone: str, edit: Edit) -> str:
+    """The text of a file, with a copy of an edit's function behind it, as the function stands in the text that has that
+    edit alone."""
+    path, name = edit.changes[0].path, edit.own.rpartition("::")[2]
+    source, it = alone.split("\n"), function_named(alone, path, edit.own)
+    first = it.first
+    while first and re.search(r"[^\s;{}]$", source[first - 1]):
+        first -= 1
+    copy = source[first : it.last + 1]
+    copy[it.first - first] = re.sub(rf"\bfn {name}\b", f"fn {name}{edit.ending()}", source[it.first])
+    lines = text.split("\n")
+    behind = function_named(text, path, edit.own).last + 1
+    lines[behind:behind] = ["", *copy]
+    return "\n".join(lines)
+
+
+def function_named(text: str, path: str, name: str) -> Function:
+    """The function of this name in a file's text."""
+    return next(it for it in functions_of(text, path) if it.name == name)
+
+
 def stand_together(crate: Crate, edits: list[Edit]) -> bool:
-    """Whether one check can judge these: each is in one body, no two share a proof, each text still stands once."""
-    if len({it.proof for it in edits}) < len(edits) or len(edits) > 1 and not all(it.in_body for it in edits):
+    """Whether one check can judge these: each is in one body, no two in the same, each text still stands once."""
+    in_place = [it.proof for it in edits if not it.copy]
+    if len({*in_place}) < len(in_place) or len(edits) > 1 and not all(it.in_body for it in edits):
         return False
     try:
         edited(crate, edits)
@@ -172,15 +232,24 @@ def stand_together(crate: Crate, edits: list[Edit]) -> bool:
 
 
 def rounds_of(crate: Crate, edits: list[Edit]) -> list[list[Edit]]:
-    """The edits, shared out over as few rounds as come by taking each into the first where it may stand."""
+    """The edits, shared out over as few rounds as come by taking each into the first where it may stand: the first of a
+    function changes it, and each other one a copy of it that stands beside it."""
     rounds: list[list[Edit]] = []
     for it in edits:
-        fits = next((some for some in rounds if stand_together(crate, [*some, it])), None)
-        if fits is None:
-            rounds.append([it])
+        for some in rounds:
+            fitting = next((one for one in ways_beside(it, some) if stand_together(crate, [*some, one])), None)
+            if fitting:
+                some.append(fitting)
+                break
         else:
-            fits.append(it)
+            rounds.append([it])
     return rounds
+
+
+def ways_beside(edit: Edit, others: list[Edit]) -> list[Edit]:
+    """How an edit may stand beside these: in its function, or in a copy of it."""
+    number = 1 + sum(it.proof == edit.proof for it in others)
+    return [edit, replace(edit, copy=number)] if edit.has_copies else [edit]
 
 
 def first_error(said: str) -> str:

@@ -44,14 +44,26 @@ class Function:
 
 @dataclass(frozen=True)
 class Edit:
-    """One edit: its changes, the function to be refused, what is proved with it, and whether all is in that body."""
+    """One edit: its changes, the function to be refused, what is proved with it, whether all is in that body, whether a
+    copy of the function may stand beside it, and where the edit is made in such a copy, that copy's number."""
 
     name: str
     changes: tuple[Change, ...]
-    function: str
+    own: str
     cycle: Optional[str]
     proof: str
     in_body: bool
+    has_copies: bool
+    copy: int = 0
+
+    @property
+    def function(self) -> str:
+        """The name of the function that is to be refused."""
+        return f"{self.own}{self.ending()}"
+
+    def ending(self) -> str:
+        """What the name of its copy has behind the function's."""
+        return f"_copy_{self.copy}" if self.copy else ""
 
 
 def read_lines(text: str) -> tuple[list[Change], Optional[str]]:
@@ -100,14 +112,18 @@ def read_edit(file: Path, crate: Path) -> Edit:
         before = texts[it.path]
         texts = put_in(texts, (it,))
         first = before.count("\n", 0, before.index(it.old))
-        places.append((function_at(before, it.path, first, first + it.old.count("\n")), first))
-    found = {place.name: place for place, _ in places if place}
-    in_body = len(found) == 1 and all(place and is_inside(place, line) for place, line in places)
+        place = function_at(before, it.path, first, first + it.old.count("\n"))
+        places.append((place, first, it.old.startswith("///") and it.new.endswith(it.old)))
+    found = {place.name: place for place, _, _ in places if place}
+    in_body = len(found) == 1 and all(is_inside(place, line) if place else adds for place, line, adds in places)
     if not named and len(found) != 1:
         raise BadEdit("it changes no body, or several: name the function that is to be refused by a line 'fn: NAME'")
     name = named or next(iter(found))
     cycle = found[name].cycle if name in found else None
-    return Edit(file.stem, tuple(changes), name, cycle, f"+{cycle}" if cycle else f"{changes[0].path} {name}", in_body)
+    proof = f"+{cycle}" if cycle else f"{changes[0].path} {name}"
+    is_alone = in_body and name in found and all(place for place, _, _ in places)
+    has_copies = is_alone and found[name].is_plain and not cycle
+    return Edit(file.stem, tuple(changes), name, cycle, proof, in_body, has_copies)
 
 
 def is_inside(function: Function, line: int) -> bool:

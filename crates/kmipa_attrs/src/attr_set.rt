@@ -9,7 +9,7 @@ use std::alloc::{AllocError, Global};
 pub const NAMES: usize = 1;
 
 /// The judged attributes that an item says: a set of names, and at most one value of each other kind.
-#[derive(Debug, Drop)]
+#[derive(Drop)]
 pub struct AttrSet {
     /// Each name once, in the order of first appearance.
     pub names: SmallVec<Name, NAMES>,

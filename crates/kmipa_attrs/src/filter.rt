@@ -8,7 +8,7 @@ use std::alloc::{AllocError, Global};
 
 /// A Locate's filter: what its Attributes ask of an object, and how many objects may be listed (KMIP 2.1, section 6.1, Locate).
 /// Of each kind that has one value the first filter counts.
-#[derive(Debug, Drop)]
+#[derive(Drop)]
 pub struct Filter {
     /// Names that the object must all have, each once, in the order of first appearance.
     pub names: SmallVec<Name, NAMES>,

@@ -4,7 +4,7 @@ use std::alloc::{AllocError, Global};
 use std::default::MadeWith;
 
 /// The attribute Name: a value and a type (KMIP 2.1, section 4.38). Two names are equal where both are.
-#[derive(Debug, PartialEq, Eq, Drop)]
+#[derive(PartialEq, Eq, Drop)]
 pub struct Name {
     /// Name Value.
     pub value: String,

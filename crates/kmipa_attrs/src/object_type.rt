@@ -1,7 +1,7 @@
 //! The types of objects that are judged.
 
 /// Object Type (KMIP 2.1, section 11.33), of the two types that are judged.
-#[derive(Clone, Copy, Debug, PartialEq, Eq)]
+#[derive(Clone, Copy, PartialEq, Eq)]
 pub enum ObjectType {
     SymmetricKey = 2,
     SecretData = 7,

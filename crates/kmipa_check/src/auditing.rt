@@ -19,7 +19,7 @@ use std::io::Read;
 use thiserror::Error;
 
 /// A verdict, with the records that it is of.
-#[derive(Debug, Drop)]
+#[derive(Drop)]
 pub struct Audited {
     pub verdict: Verdict,
     pub transcript: Transcript,
@@ -27,7 +27,7 @@ pub struct Audited {
 }
 
 /// The records that the three inputs of an audit are.
-#[derive(Debug, Drop)]
+#[derive(Drop)]
 pub struct AuditRecords {
     pub transcript: Transcript,
     pub declaration: Declaration,

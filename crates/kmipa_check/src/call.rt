@@ -3,7 +3,7 @@
 use kmipa_msgs::{Request, Response};
 
 /// A recorded call, as its messages say it.
-#[derive(Debug, Drop)]
+#[derive(Drop)]
 pub struct Call<'a> {
     /// Its number in the transcript.
     pub number: i32,

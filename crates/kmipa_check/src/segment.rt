@@ -31,7 +31,7 @@ use kmipa_store::Ledger;
 use std::alloc::Global;
 
 /// What a run leaves to the next segment.
-#[derive(Debug, Drop)]
+#[derive(Drop)]
 pub struct Left {
     /// The objects that the server holds behind the run, with its rules.
     pub declaration: Declaration,
@@ -40,7 +40,7 @@ pub struct Left {
 }
 
 /// A verdict, and at a yes what the run leaves.
-#[derive(Debug, Drop)]
+#[derive(Drop)]
 pub struct Checked {
     pub verdict: Verdict,
     /// None at a no.

@@ -4,7 +4,7 @@ use kmipa_msgs::{Request, Response};
 use std::alloc::{AllocError, Global};
 
 /// A call that a turn of a witness takes, and the response that it is to give.
-#[derive(Debug, Drop)]
+#[derive(Drop)]
 pub struct Step<'b, 'a> {
     /// The number of the call in the transcript.
     pub number: i32,
@@ -42,7 +42,7 @@ impl<'b, 'a> Step<'b, 'a> {
 }
 
 /// The response that a step is to give.
-#[derive(Debug, Drop)]
+#[derive(Drop)]
 pub enum Given<'b, 'a> {
     /// As it was recorded.
     Recorded(&'b Response<'a>),

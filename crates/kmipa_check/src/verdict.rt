@@ -3,7 +3,7 @@
 use kmipa_ops::Why;
 
 /// What a check says of a transcript, a declaration and a witness.
-#[derive(Clone, Copy, Debug, PartialEq, Eq)]
+#[derive(Clone, Copy, PartialEq, Eq)]
 pub enum Verdict {
     /// A run in the witness's order gives every recorded response.
     Yes,
@@ -12,7 +12,7 @@ pub enum Verdict {
 }
 
 /// The first answer that is impossible.
-#[derive(Clone, Copy, Debug, PartialEq, Eq)]
+#[derive(Clone, Copy, PartialEq, Eq)]
 pub struct Refused {
     /// The turn, counted from 1.
     pub turn: usize,

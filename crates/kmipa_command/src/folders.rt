@@ -20,7 +20,7 @@ const ENDING: &str = ".ttlv";
 const FIRST: &str = "declaration.ttlv";
 
 /// The names of a folder's files, by their kind.
-#[derive(Debug, Drop)]
+#[derive(Drop)]
 struct Names {
     transcripts: Vec<String>,
     declarations: Vec<String>,

@@ -146,7 +146,7 @@ Status: 0 written; 2 the digits are refused; 3 a device failed or memory ran out
 
 /// What is printed in place of a job: help with `Done`, a mistake with `Usage`, and nothing with `Failed`, where
 /// memory ran out.
-#[derive(Debug, Drop)]
+#[derive(Drop)]
 pub struct Usage {
     pub status: Status,
     pub text: String,

@@ -8,7 +8,7 @@ use crate::source::Whence;
 use kmipa_msgs::{BatchOption, Status};
 
 /// What a no means.
-#[derive(Debug, Drop)]
+#[derive(Drop)]
 pub struct Explanation {
     /// The client of the call, as its begin mark names it.
     pub client: String,
@@ -27,7 +27,7 @@ pub struct Explanation {
 }
 
 /// What the reason of a no rests on.
-#[derive(Debug, Drop)]
+#[derive(Drop)]
 pub enum Cause {
     /// Of `EarlierCallLate`: the numbers of the calls that ended before this one began, and that stand behind it in the order.
     EarlierCalls(Vec<i32>),
@@ -66,7 +66,7 @@ pub enum Cause {
 }
 
 /// The turn before one.
-#[derive(Clone, Copy, Debug, PartialEq, Eq)]
+#[derive(Clone, Copy, PartialEq, Eq)]
 pub struct TurnBefore {
     /// The turn, counted from 1.
     pub turn: usize,
@@ -77,7 +77,7 @@ pub struct TurnBefore {
 }
 
 /// What the shape of an item is judged by.
-#[derive(Clone, Copy, Debug, PartialEq, Eq)]
+#[derive(Clone, Copy, PartialEq, Eq)]
 pub struct Shape {
     pub option: BatchOption,
     /// The first item that failed, counted from 1.
@@ -89,7 +89,7 @@ pub struct Shape {
 }
 
 /// The operation of an item, twice, by its number.
-#[derive(Clone, Copy, Debug, PartialEq, Eq)]
+#[derive(Clone, Copy, PartialEq, Eq)]
 pub struct Operations {
     /// The one that the request asks for.
     pub asked: u32,
@@ -98,7 +98,7 @@ pub struct Operations {
 }
 
 /// What happened to the object of an identifier up to a refused item.
-#[derive(Debug, Drop)]
+#[derive(Drop)]
 pub struct Story {
     pub identifier: String,
     /// Whether the declaration has an object of this identifier.
@@ -110,7 +110,7 @@ pub struct Story {
 }
 
 /// An item that was done.
-#[derive(Clone, Copy, Debug, PartialEq, Eq)]
+#[derive(Clone, Copy, PartialEq, Eq)]
 pub struct Event {
     /// Its turn, counted from 1.
     pub turn: usize,

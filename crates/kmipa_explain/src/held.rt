@@ -6,7 +6,7 @@ use kmipa_object::{Act, State};
 use kmipa_ops::Judged;
 
 /// Of `WrongState`: the object as it is judged.
-#[derive(Clone, Copy, Debug, PartialEq, Eq)]
+#[derive(Clone, Copy, PartialEq, Eq)]
 pub struct StateHeld {
     /// Its row in the table of states.
     pub act: Act,
@@ -16,7 +16,7 @@ pub struct StateHeld {
 }
 
 /// The dates of an object, in seconds since 1970.
-#[derive(Clone, Copy, Debug, PartialEq, Eq)]
+#[derive(Clone, Copy, PartialEq, Eq)]
 pub struct DatesHeld {
     /// Initial Date.
     pub initial: Option<i64>,
@@ -32,7 +32,7 @@ pub struct DatesHeld {
 
 /// Of `BytesDiffer`: the bytes that are known of an object, and those that are shown. They are told by their lengths and the place where
 /// they part.
-#[derive(Clone, Copy, Debug, PartialEq, Eq)]
+#[derive(Clone, Copy, PartialEq, Eq)]
 pub struct BytesHeld {
     /// How many bytes are known.
     pub known: usize,
@@ -43,7 +43,7 @@ pub struct BytesHeld {
 }
 
 /// Of `NameTaken`: a name that is asked for, and a live object that has it.
-#[derive(Debug, Drop)]
+#[derive(Drop)]
 pub struct NameHeld {
     pub name: Name,
     /// The identifier of the object.
@@ -51,7 +51,7 @@ pub struct NameHeld {
 }
 
 /// Of `LengthImpossible`: what these bytes, or any, can not be the key of.
-#[derive(Clone, Copy, Debug, PartialEq, Eq)]
+#[derive(Clone, Copy, PartialEq, Eq)]
 pub struct LengthHeld {
     pub object_type: ObjectType,
     /// Cryptographic Algorithm, by its number.
@@ -63,7 +63,7 @@ pub struct LengthHeld {
 }
 
 /// Of `AttributeDiffers` and `AttributeMissing`: the attributes that speak against the answer.
-#[derive(Debug, Drop)]
+#[derive(Drop)]
 pub struct AttributesHeld {
     /// Of `AttributeDiffers` the names that are shown and that the object doesn't have; of `AttributeMissing` those that it has and that
     /// aren't shown.
@@ -73,7 +73,7 @@ pub struct AttributesHeld {
 }
 
 /// An attribute other than a name, as it is shown and as the object has it: a number, or seconds since 1970.
-#[derive(Clone, Copy, Debug, PartialEq, Eq)]
+#[derive(Clone, Copy, PartialEq, Eq)]
 pub struct ValueHeld {
     pub attribute: Judged,
     pub shown: Option<i64>,
@@ -81,7 +81,7 @@ pub struct ValueHeld {
 }
 
 /// Of `ListedWrongly`: a list that holds what may not be listed, or too much.
-#[derive(Debug, Drop)]
+#[derive(Drop)]
 pub struct ListHeld {
     /// How many identifiers are listed.
     pub listed: usize,
@@ -92,14 +92,14 @@ pub struct ListHeld {
 }
 
 /// An identifier that may not be listed.
-#[derive(Debug, Drop)]
+#[derive(Drop)]
 pub struct WronglyListed {
     pub identifier: String,
     pub fault: ListFault,
 }
 
 /// Why an identifier may not be listed.
-#[derive(Clone, Copy, Debug, PartialEq, Eq)]
+#[derive(Clone, Copy, PartialEq, Eq)]
 pub enum ListFault {
     /// It stands further ahead in the list, too.
     Again,
@@ -110,7 +110,7 @@ pub enum ListFault {
 }
 
 /// Of `ListedTooFew`: an object that must be listed, and isn't.
-#[derive(Debug, Drop)]
+#[derive(Drop)]
 pub struct LeftOutHeld {
     pub identifier: String,
     /// Initial Date: when it was made, in seconds since 1970.
@@ -118,7 +118,7 @@ pub struct LeftOutHeld {
 }
 
 /// Of `ReasonUnfounded`: a Result Reason of which no cause holds.
-#[derive(Debug, Drop)]
+#[derive(Drop)]
 pub struct ReasonHeld {
     /// Result Reason, by its number.
     pub reason: u32,
@@ -129,7 +129,7 @@ pub struct ReasonHeld {
 }
 
 /// Of `EchoDiffers`: what the answer repeats otherwise than it was asked.
-#[derive(Debug, Drop)]
+#[derive(Drop)]
 pub enum EchoHeld {
     /// Unique Batch Item ID: as it was asked, and as it is answered.
     BatchItem(Vec<u8>, Vec<u8>),

@@ -4,7 +4,7 @@ use crate::held::DatesHeld;
 use kmipa_msgs::Status;
 
 /// An item that was asked and answered.
-#[derive(Debug, Drop)]
+#[derive(Drop)]
 pub struct Item {
     /// Its turn, counted from 1.
     pub turn: usize,

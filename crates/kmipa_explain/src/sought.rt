@@ -13,7 +13,7 @@ use kmipa_msgs::Status;
 use kmipa_ops::Judged;
 
 /// What is sought of an object.
-#[derive(Clone, Copy, Debug)]
+#[derive(Clone, Copy)]
 pub enum Sought {
     /// What made it.
     Birth,

@@ -4,7 +4,7 @@ use crate::explanation::Event;
 use kmipa_ops::Judged;
 
 /// Whence a server has what it holds.
-#[derive(Clone, Copy, Debug, PartialEq, Eq)]
+#[derive(Clone, Copy, PartialEq, Eq)]
 pub enum Source {
     /// The declaration says it.
     Declared,
@@ -13,7 +13,7 @@ pub enum Source {
 }
 
 /// Whence an object is, and what it has: of each the source, where it has such a thing.
-#[derive(Clone, Copy, Debug, PartialEq, Eq)]
+#[derive(Clone, Copy, PartialEq, Eq)]
 pub struct Whence {
     /// The object itself, with its type, its names, its algorithm, its length and its mask.
     pub object: Option<Source>,

@@ -24,7 +24,7 @@ use kmipa_record::Declaration;
 use std::alloc::{AllocError, Global};
 
 /// What a declaration says of an object.
-#[derive(Clone, Copy, Debug)]
+#[derive(Clone, Copy)]
 pub struct Start {
     pub declared: bool,
     pub dates: DatesHeld,

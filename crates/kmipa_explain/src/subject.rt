@@ -24,7 +24,7 @@ pub struct Resting {
 }
 
 /// An object that was held.
-#[derive(Debug, Drop)]
+#[derive(Drop)]
 pub struct Subject {
     pub identifier: String,
     pub dates: DatesHeld,

@@ -9,7 +9,7 @@ use serde_json::Value;
 use std::alloc::{AllocError, Global};
 
 /// A JSON list, in which numbers are whole.
-#[derive(Debug, Drop)]
+#[derive(Drop)]
 pub struct JsonList {
     alloc: Global,
     items: Vec<Value>,

@@ -9,7 +9,7 @@ use serde_json::{Map, Value, put};
 use std::alloc::{AllocError, Global};
 
 /// A JSON object, in which numbers are whole. Its text has the members in the order of their names.
-#[derive(Debug, Drop)]
+#[derive(Drop)]
 pub struct JsonObject {
     alloc: Global,
     members: Map<String, Value>,

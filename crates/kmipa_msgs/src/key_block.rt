@@ -3,7 +3,7 @@
 ghost use Rattle.std.specs.Prelude.{◌≡◌};
 
 /// Key Format Type (KMIP 2.1, section 11), of the two forms that are plain bytes.
-#[derive(Clone, Copy, Debug, PartialEq, Eq)]
+#[derive(Clone, Copy, PartialEq, Eq)]
 pub enum KeyFormat {
     Raw = 1,
     Opaque = 2,
@@ -32,7 +32,7 @@ impl KeyFormat {
 }
 
 /// A key that isn't wrapped (KMIP 2.1, section 3.1).
-#[derive(Clone, Copy, Debug)]
+#[derive(Clone, Copy)]
 pub struct KeyBlock<'a> {
     pub format: KeyFormat,
     /// Key Material: the bytes of the key.

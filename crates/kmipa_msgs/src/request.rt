@@ -7,7 +7,7 @@ use crate::operation::Operation;
 use kmipa_attrs::{AttrSet, Filter, ObjectType};
 
 /// Batch Error Continuation Option (KMIP 2.1, section 11): what a failed item means for the others.
-#[derive(Clone, Copy, Debug, PartialEq, Eq)]
+#[derive(Clone, Copy, PartialEq, Eq)]
 pub enum BatchOption {
     Continue = 1,
     Stop = 2,
@@ -38,7 +38,7 @@ impl BatchOption {
 }
 
 /// A Request Message.
-#[derive(Debug, Drop)]
+#[derive(Drop)]
 pub struct Request<'a> {
     pub option: BatchOption,
     /// Whether the items are to be taken in their order: Batch Order Option.
@@ -48,7 +48,7 @@ pub struct Request<'a> {
 }
 
 /// A Batch Item of a request.
-#[derive(Debug, Drop)]
+#[derive(Drop)]
 pub struct Ask<'a> {
     /// Unique Batch Item ID.
     pub batch_id: Option<&'a [u8]>,
@@ -57,7 +57,7 @@ pub struct Ask<'a> {
 
 /// What an item asks for: the payload of an operation. Attributes and filters lie in memory of their own, so that an item without
 /// them takes little room.
-#[derive(Debug, Drop)]
+#[derive(Drop)]
 pub enum Asked<'a> {
     Create(Create),
     Register(Register<'a>),
@@ -74,14 +74,14 @@ pub enum Asked<'a> {
 }
 
 /// What a Create of a Symmetric Key asks for (KMIP 2.1, section 6.1).
-#[derive(Debug, Drop)]
+#[derive(Drop)]
 pub struct Create {
     /// The attributes of the new key, algorithm, length and usage mask among them.
     pub attributes: Box<AttrSet>,
 }
 
 /// What a Register brings (KMIP 2.1, section 6.1).
-#[derive(Debug, Drop)]
+#[derive(Drop)]
 pub struct Register<'a> {
     /// The type of the object, also as its attribute and as its tag say it.
     pub object_type: ObjectType,
@@ -91,21 +91,21 @@ pub struct Register<'a> {
 }
 
 /// What a Locate asks for (KMIP 2.1, section 6.1).
-#[derive(Debug, Drop)]
+#[derive(Drop)]
 pub struct Locate {
     /// What an object is to be, and how many may be listed.
     pub filter: Box<Filter>,
 }
 
 /// What a Get asks for (KMIP 2.1, section 6.1).
-#[derive(Clone, Copy, Debug)]
+#[derive(Clone, Copy)]
 pub struct Get<'a> {
     /// Unique Identifier; where it is absent the ID Placeholder is meant.
     pub id: Option<&'a str>,
 }
 
 /// What a Get Attributes asks for (KMIP 2.1, section 6.1).
-#[derive(Debug, Drop)]
+#[derive(Drop)]
 pub struct GetAttributes<'a> {
     /// Unique Identifier; where it is absent the ID Placeholder is meant.
     pub id: Option<&'a str>,
@@ -118,14 +118,14 @@ pub struct GetAttributes<'a> {
 }
 
 /// What an Activate asks for (KMIP 2.1, section 6.1).
-#[derive(Clone, Copy, Debug)]
+#[derive(Clone, Copy)]
 pub struct Activate<'a> {
     /// Unique Identifier; where it is absent the ID Placeholder is meant.
     pub id: Option<&'a str>,
 }
 
 /// What a Revoke asks for (KMIP 2.1, section 6.1).
-#[derive(Clone, Copy, Debug)]
+#[derive(Clone, Copy)]
 pub struct Revoke<'a> {
     /// Unique Identifier; where it is absent the ID Placeholder is meant.
     pub id: Option<&'a str>,
@@ -134,7 +134,7 @@ pub struct Revoke<'a> {
 }
 
 /// What a Destroy asks for (KMIP 2.1, section 6.1).
-#[derive(Clone, Copy, Debug)]
+#[derive(Clone, Copy)]
 pub struct Destroy<'a> {
     /// Unique Identifier; where it is absent the ID Placeholder is meant.
     pub id: Option<&'a str>,

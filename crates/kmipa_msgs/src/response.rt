@@ -6,7 +6,7 @@ use crate::key_block::KeyBlock;
 use kmipa_attrs::{AttrSet, ObjectType};
 
 /// Result Status (KMIP 2.1, section 11), of what is done.
-#[derive(Clone, Copy, Debug, PartialEq, Eq)]
+#[derive(Clone, Copy, PartialEq, Eq)]
 pub enum Status {
     Success = 0,
     Failed = 1,
@@ -37,7 +37,7 @@ impl Status {
 }
 
 /// A Response Message.
-#[derive(Debug, Drop)]
+#[derive(Drop)]
 pub struct Response<'a> {
     /// Time Stamp, in seconds since 1970-01-01T00:00:00Z.
     pub stamp: i64,
@@ -46,7 +46,7 @@ pub struct Response<'a> {
 }
 
 /// A Batch Item of a response.
-#[derive(Debug, Drop)]
+#[derive(Drop)]
 pub struct Answer<'a> {
     /// Operation, by its number.
     pub operation: Option<u32>,
@@ -60,7 +60,7 @@ pub struct Answer<'a> {
 }
 
 /// The payload of an operation's answer. Attributes lie in memory of their own, so that an answer without them takes little room.
-#[derive(Debug, Drop)]
+#[derive(Drop)]
 pub enum Payload<'a> {
     Create(Registered<'a>),
     Register(Registered<'a>),
@@ -72,7 +72,7 @@ pub enum Payload<'a> {
 }
 
 /// The answer of a Create or a Register.
-#[derive(Clone, Copy, Debug)]
+#[derive(Clone, Copy)]
 pub struct Registered<'a> {
     /// Object Type, by its number.
     pub object_type: Option<u32>,
@@ -81,14 +81,14 @@ pub struct Registered<'a> {
 }
 
 /// The answer of a Locate.
-#[derive(Debug, Drop)]
+#[derive(Drop)]
 pub struct Located<'a> {
     /// The Unique Identifiers that are listed, in their order.
     pub ids: Vec<&'a str>,
 }
 
 /// The answer of a Get. Fields lie in memory as they stand here, and so the two types take the room of one.
-#[derive(Clone, Copy, Debug)]
+#[derive(Clone, Copy)]
 pub struct Got<'a> {
     /// Object Type, which may be another than the object's own.
     pub object_type: Option<ObjectType>,
@@ -100,7 +100,7 @@ pub struct Got<'a> {
 }
 
 /// The answer of a Get Attributes.
-#[derive(Debug, Drop)]
+#[derive(Drop)]
 pub struct GotAttributes<'a> {
     /// Unique Identifier.
     pub id: Option<&'a str>,
@@ -109,7 +109,7 @@ pub struct GotAttributes<'a> {
 }
 
 /// The answer of an operation that changes an object: an Activate, a Revoke or a Destroy.
-#[derive(Clone, Copy, Debug)]
+#[derive(Clone, Copy)]
 pub struct Changed<'a> {
     /// Unique Identifier.
     pub id: Option<&'a str>,

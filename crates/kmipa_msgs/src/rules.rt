@@ -5,7 +5,7 @@ ghost use Rattle.std.specs.Prelude.{◌≡◌};
 use std::alloc::{AllocError, Global};
 
 /// What may be behind a Result Reason.
-#[derive(Clone, Copy, Debug, PartialEq, Eq)]
+#[derive(Clone, Copy, PartialEq, Eq)]
 pub enum Cause {
     /// The object isn't there, or is destroyed.
     NotFound = 1,
@@ -39,14 +39,14 @@ impl Cause {
 }
 
 /// A Result Reason, by its number, and a cause that it may have.
-#[derive(Clone, Copy, Debug, PartialEq, Eq)]
+#[derive(Clone, Copy, PartialEq, Eq)]
 pub struct Row {
     pub reason: u32,
     pub cause: Cause,
 }
 
 /// What a server declares. A reason may have several rows; one without rows is never judged.
-#[derive(Debug, Drop)]
+#[derive(Drop)]
 pub struct Rules {
     /// Whether no two live objects share a name.
     pub unique_names: bool,

@@ -6,7 +6,7 @@ ghost use Rattle.kmipa_object.specs.Table.{allowed, row};
 use crate::state::State;
 
 /// An operation on an object, as far as its state matters.
-#[derive(Clone, Copy, Debug, PartialEq, Eq)]
+#[derive(Clone, Copy, PartialEq, Eq)]
 pub enum Act {
     Get,
     GetAttributes,
@@ -19,7 +19,7 @@ pub enum Act {
 }
 
 /// What a state says of an operation.
-#[derive(Clone, Copy, Debug, PartialEq, Eq)]
+#[derive(Clone, Copy, PartialEq, Eq)]
 pub enum Allow {
     /// Success is possible, and a refusal for the state unfounded.
     Must,

@@ -9,13 +9,13 @@ use crate::fault::WrongState;
 use crate::state::{State, state_at};
 
 /// The number of a secret: of the bytes of one object, known or not.
-#[derive(Clone, Copy, Debug, PartialEq, Eq)]
+#[derive(Clone, Copy, PartialEq, Eq)]
 pub struct SecretNo {
     pub number: usize,
 }
 
 /// Where the bytes of an object are.
-#[derive(Clone, Copy, Debug, PartialEq, Eq)]
+#[derive(Clone, Copy, PartialEq, Eq)]
 pub enum Material {
     /// Destroyed.
     Gone,
@@ -24,7 +24,7 @@ pub enum Material {
 }
 
 /// The dates of an object, in seconds since 1970-01-01T00:00:00Z, and where its bytes are.
-#[derive(Clone, Copy, Debug, PartialEq, Eq)]
+#[derive(Clone, Copy, PartialEq, Eq)]
 pub struct Life {
     /// Initial Date.
     pub initial: Option<i64>,

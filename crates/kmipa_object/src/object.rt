@@ -10,7 +10,7 @@ use kmipa_attrs::{AttrSet, ObjectType};
 use std::alloc::{AllocError, Global};
 
 /// An object: its identifier, its type, the attributes that its client gave, and its life.
-#[derive(Debug, Drop)]
+#[derive(Drop)]
 pub struct Object {
     /// Unique Identifier.
     pub id: String,

@@ -10,7 +10,7 @@ use kmipa_attrs::{AttrSet, ObjectType};
 const AES: u32 = 3;
 
 /// What the bytes of an object must be.
-#[derive(Clone, Copy, Debug, PartialEq, Eq)]
+#[derive(Clone, Copy, PartialEq, Eq)]
 pub enum Rule {
     /// Any bytes, also none.
     Any,

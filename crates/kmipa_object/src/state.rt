@@ -6,7 +6,7 @@ ghost use Rattle.kmipa_object.specs.Life.{dates_of, has_come, state, state_by_ac
 use crate::life::Life;
 
 /// State (KMIP 2.1, section 11).
-#[derive(Clone, Copy, Debug, PartialEq, Eq)]
+#[derive(Clone, Copy, PartialEq, Eq)]
 pub enum State {
     PreActive = 1,
     Active = 2,

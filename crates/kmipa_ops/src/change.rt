@@ -20,7 +20,7 @@ use kmipa_store::Ledger;
 use std::alloc::AllocError;
 
 /// An operation that changes an object.
-#[derive(Clone, Copy, Debug, PartialEq, Eq)]
+#[derive(Clone, Copy, PartialEq, Eq)]
 pub enum Change {
     Activate,
     /// With this Revocation Reason Code.

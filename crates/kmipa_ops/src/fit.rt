@@ -13,7 +13,7 @@ use kmipa_attrs::Filter;
 use kmipa_object::{Object, State};
 
 /// How an object fits a filter.
-#[derive(Clone, Copy, Debug, PartialEq, Eq)]
+#[derive(Clone, Copy, PartialEq, Eq)]
 pub enum Fit {
     /// It is to be listed, unless as many as the maximum are.
     Must,

@@ -1,7 +1,7 @@
 //! The attributes that are judged.
 
 /// A judged attribute, by its tag (KMIP 2.1, the Tag enumeration).
-#[derive(Clone, Copy, Debug, PartialEq, Eq)]
+#[derive(Clone, Copy, PartialEq, Eq)]
 pub enum Judged {
     ActivationDate = 0x42_0001,
     CompromiseDate = 0x42_0020,

@@ -1,7 +1,7 @@
 //! The ID Placeholder.
 
 /// The ID Placeholder (KMIP 2.1, section 6): the identifier that an item without one means, or none.
-#[derive(Debug, Drop)]
+#[derive(Drop)]
 pub struct Placeholder {
     /// The identifier, if one is held.
     pub id: Option<String>,

@@ -1,7 +1,7 @@
 //! Why an answer is impossible.
 
 /// Why an answer is impossible. Of several that hold at one item the lowest is told.
-#[derive(Clone, Copy, Debug, PartialEq, Eq)]
+#[derive(Clone, Copy, PartialEq, Eq)]
 pub enum Why {
     /// Some call not yet taken ended before this call began.
     EarlierCallLate = 1,
@@ -74,7 +74,7 @@ impl Why {
 }
 
 /// Why an item wasn't taken.
-#[derive(Clone, Copy, Debug, PartialEq, Eq)]
+#[derive(Clone, Copy, PartialEq, Eq)]
 pub enum Refusal {
     /// No inventory that the ledger stands for allows the answer.
     Impossible(Why),

@@ -7,7 +7,7 @@ use crate::types::ItemType;
 use kmipa_msgs::OutsideKind;
 
 /// What the profile wants of a field of a header, of an item or of a payload.
-#[derive(Clone, Copy, Debug, PartialEq, Eq)]
+#[derive(Clone, Copy, PartialEq, Eq)]
 pub struct Demand {
     /// The structure that it stands in.
     pub inside: Inside,
@@ -18,7 +18,7 @@ pub struct Demand {
 }
 
 /// The structure that a field stands in.
-#[derive(Clone, Copy, Debug, PartialEq, Eq)]
+#[derive(Clone, Copy, PartialEq, Eq)]
 pub enum Inside {
     /// The header, the item or the payload itself.
     Here,
@@ -35,7 +35,7 @@ pub enum Inside {
 }
 
 /// How a field is found.
-#[derive(Clone, Copy, Debug, PartialEq, Eq)]
+#[derive(Clone, Copy, PartialEq, Eq)]
 pub enum Step {
     /// By its tag.
     Tag(u32),
@@ -44,7 +44,7 @@ pub enum Step {
 }
 
 /// What is wanted of a field. Where nothing else is said, it is the first with its tag.
-#[derive(Clone, Copy, Debug, PartialEq, Eq)]
+#[derive(Clone, Copy, PartialEq, Eq)]
 pub enum Wanted {
     /// That it is there, of whatever type.
     There,
@@ -75,7 +75,7 @@ pub enum Wanted {
 }
 
 /// Where the same is to stand as in a field of a Request Payload.
-#[derive(Clone, Copy, Debug, PartialEq, Eq)]
+#[derive(Clone, Copy, PartialEq, Eq)]
 pub enum Beside {
     /// In the payload itself.
     Payload,
@@ -86,7 +86,7 @@ pub enum Beside {
 }
 
 /// Numbers of an enumeration that the profile knows.
-#[derive(Clone, Copy, Debug, PartialEq, Eq)]
+#[derive(Clone, Copy, PartialEq, Eq)]
 pub enum Numbers {
     /// The types of objects.
     ObjectTypes,

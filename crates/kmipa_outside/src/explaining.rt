@@ -21,7 +21,7 @@ use kmipa_ttlv::{View, decode_view};
 use std::alloc::Global;
 
 /// Why a message of a call is outside.
-#[derive(Debug, Drop)]
+#[derive(Drop)]
 pub struct OutsideExplanation {
     /// Which of the two messages is outside.
     pub side: Side,

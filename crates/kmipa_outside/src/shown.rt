@@ -22,7 +22,7 @@ use kmipa_ttlv::{Children, View};
 use std::alloc::{AllocError, Global};
 
 /// How the Response Payload of an answer is read.
-#[derive(Clone, Copy, Debug)]
+#[derive(Clone, Copy)]
 pub(crate) enum Shown {
     /// It isn't.
     Unread,

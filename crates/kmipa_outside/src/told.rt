@@ -5,7 +5,7 @@ use crate::types::ItemType;
 use kmipa_ttlv::TtlvFault;
 
 /// Why a message is outside.
-#[derive(Debug, Drop)]
+#[derive(Drop)]
 pub enum MessageTold {
     /// Its bytes begin with no item: the first thing that is wrong.
     Flaw(TtlvFault),
@@ -18,7 +18,7 @@ pub enum MessageTold {
 }
 
 /// A field that is otherwise than the profile wants it.
-#[derive(Clone, Copy, Debug, PartialEq, Eq)]
+#[derive(Clone, Copy, PartialEq, Eq)]
 pub struct FieldTold {
     /// The tag of the header or the payload that it stands in; none where it stands in the message or the item itself.
     pub within: Option<u32>,
@@ -29,7 +29,7 @@ pub struct FieldTold {
 }
 
 /// What stands in place of a field.
-#[derive(Clone, Copy, Debug, PartialEq, Eq)]
+#[derive(Clone, Copy, PartialEq, Eq)]
 pub enum Stands {
     /// Nothing.
     Absent,

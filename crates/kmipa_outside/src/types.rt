@@ -7,7 +7,7 @@ ghost use Rattle.kmipa_outside.specs.ItemTypes.{item_type};
 use kmipa_ttlv::{View, ViewValue};
 
 /// The type of an item (KMIP 2.1, TTLV Encoding).
-#[derive(Clone, Copy, Debug, PartialEq, Eq)]
+#[derive(Clone, Copy, PartialEq, Eq)]
 pub enum ItemType {
     Structure = 1,
     Integer = 2,

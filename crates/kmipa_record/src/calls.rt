@@ -13,7 +13,7 @@ use std::alloc::Global;
 const MOST: usize = 100_000;
 
 /// Where a call stands that was begun.
-#[derive(Clone, Copy, Debug, PartialEq, Eq)]
+#[derive(Clone, Copy, PartialEq, Eq)]
 pub enum Progress {
     /// It has not ended.
     Open,

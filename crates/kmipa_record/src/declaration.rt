@@ -18,7 +18,7 @@ use std::alloc::Global;
 use std::io::Read;
 
 /// What is declared of a server.
-#[derive(Debug, Drop)]
+#[derive(Drop)]
 pub struct Declaration {
     /// Whether no two live objects may have a name in common.
     pub unique_names: bool,

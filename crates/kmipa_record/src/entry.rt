@@ -38,7 +38,7 @@ const LISTED: [u32; 9] = [
 const AES: u32 = 3;
 
 /// An object that the server held.
-#[derive(Debug, Drop)]
+#[derive(Drop)]
 pub struct Entry {
     /// Unique Identifier.
     pub id: String,

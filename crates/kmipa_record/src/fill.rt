@@ -13,7 +13,7 @@ use kmipa_ttlv::{Children, Item, Tag, Value, View, copy_item, lend};
 use std::alloc::{AllocError, Global};
 
 /// A payload that a response leaves out.
-#[derive(Debug, Drop)]
+#[derive(Drop)]
 pub struct Fill {
     /// The place of its item in the response, counted from 1.
     pub item: i32,

@@ -20,20 +20,20 @@ use std::alloc::{AllocError, Global};
 use std::io::Read;
 
 /// What a laboratory saw of the calls to a server: marks in the order in which it saw them.
-#[derive(Debug, Drop)]
+#[derive(Drop)]
 pub struct Transcript {
     pub marks: Vec<Mark>,
 }
 
 /// One thing that was seen of a call.
-#[derive(Debug, Drop)]
+#[derive(Drop)]
 pub enum Mark {
     Begin(Begin),
     End(End),
 }
 
 /// A call began: its number, who made it, and its request message as it came.
-#[derive(Debug, Drop)]
+#[derive(Drop)]
 pub struct Begin {
     pub call: i32,
     pub client: String,
@@ -41,7 +41,7 @@ pub struct Begin {
 }
 
 /// A call ended: its number, and its response message as it came.
-#[derive(Debug, Drop)]
+#[derive(Drop)]
 pub struct End {
     pub call: i32,
     pub message: Vec<u8>,

@@ -17,7 +17,7 @@ use kmipa_ttlv::{Children, Item, Tag, View};
 use std::alloc::{AllocError, Global};
 
 /// The turn of one call.
-#[derive(Debug, Drop)]
+#[derive(Drop)]
 pub struct Turn {
     /// The number of the call.
     pub call: i32,

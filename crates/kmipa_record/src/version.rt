@@ -4,7 +4,7 @@ ghost use Rattle.std.specs.Prelude.{◌≡◌, ◌≢◌, ◌≤◌, ◌⊎◌, 
 ghost use Rattle.kmipa_record.specs.Witnesses.{version_number};
 
 /// The version of a witness.
-#[derive(Clone, Copy, Debug)]
+#[derive(Clone, Copy)]
 pub enum Version {
     /// Turns with fills.
     First,

@@ -18,7 +18,7 @@ use std::alloc::Global;
 use std::io::Read;
 
 /// Calls in the order in which they are to be taken, one at a time.
-#[derive(Debug, Drop)]
+#[derive(Drop)]
 pub struct Witness {
     pub turns: Vec<Turn>,
 }

@@ -12,7 +12,7 @@ use kmipa_record::{RecordFault, RecordKind, Transcript, Witness};
 use std::alloc::{AllocError, Global};
 
 /// Whole lines, each ended by a line feed, and the status that goes with them.
-#[derive(Debug, Drop)]
+#[derive(Drop)]
 pub struct Lines {
     pub text: String,
     pub status: Status,

@@ -8,7 +8,7 @@ use crate::front::front_of;
 use kmipa_ttlv::Tag;
 
 /// A print failed. Why is the printer's to tell: a line is made of many prints, which hand on what they answer.
-#[derive(Clone, Copy, Debug)]
+#[derive(Clone, Copy)]
 pub struct Unprinted;
 
 /// An output that takes its bytes in pieces.

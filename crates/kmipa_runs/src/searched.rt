@@ -3,7 +3,7 @@
 use kmipa_search::Found;
 
 /// What a search found, and whether the transcript is forced, where that was asked for.
-#[derive(Debug, Drop)]
+#[derive(Drop)]
 pub struct Searched {
     pub forced: Option<bool>,
     pub found: Found,

@@ -1,7 +1,7 @@
 //! What the process ends with.
 
 /// The outcome of a run, as the status that the process ends with.
-#[derive(Clone, Copy, Debug, PartialEq, Eq)]
+#[derive(Clone, Copy, PartialEq, Eq)]
 pub enum Status {
     /// The answer is yes, or what was asked for is printed.
     Done = 0,

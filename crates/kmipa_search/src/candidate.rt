@@ -4,7 +4,7 @@ use kmipa_check::Call;
 use kmipa_msgs::{Request, Response};
 
 /// A call as a search takes it: it has ended, and gives the response that was recorded, or a completion of it.
-#[derive(Debug, Drop)]
+#[derive(Drop)]
 pub struct Candidate<'b, 'a> {
     /// Its number in the transcript.
     pub number: i32,

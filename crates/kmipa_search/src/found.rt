@@ -3,7 +3,7 @@
 use kmipa_record::Witness;
 
 /// What a search finds.
-#[derive(Debug, Drop)]
+#[derive(Drop)]
 pub enum Found {
     /// A witness that a check accepts, and how many calls were tried.
     Yes(Witness, u64),

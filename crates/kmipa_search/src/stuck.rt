@@ -3,7 +3,7 @@
 use kmipa_check::Refused;
 
 /// Calls that can be taken one after the other, and what is told of each that may be next behind them.
-#[derive(Debug, Drop)]
+#[derive(Drop)]
 pub struct Reached {
     /// The numbers of the calls, in the order in which they are taken.
     pub taken: Vec<i32>,
@@ -12,7 +12,7 @@ pub struct Reached {
 }
 
 /// A call that may be next.
-#[derive(Clone, Copy, Debug, PartialEq, Eq)]
+#[derive(Clone, Copy, PartialEq, Eq)]
 pub struct NextCall {
     /// The number of the call.
     pub call: i32,

@@ -13,7 +13,7 @@ pub trait Watch {
 }
 
 /// Nobody watches.
-#[derive(Debug, Drop)]
+#[derive(Drop)]
 pub struct Unwatched {}
 
 impl Watch for Unwatched {

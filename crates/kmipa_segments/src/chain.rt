@@ -23,7 +23,7 @@ use std::alloc::Global;
 use std::io::Read;
 
 /// What the segments that were judged so far leave to the next.
-#[derive(Debug, Drop)]
+#[derive(Drop)]
 pub struct Chain {
     pub held: Left,
     /// How many calls were taken by now.

@@ -16,7 +16,7 @@ use std::collections::BTreeMap;
 use std::io::Read;
 
 /// How what a server tells of its objects differs from what its answers leave.
-#[derive(Debug, Drop)]
+#[derive(Drop)]
 pub enum Difference {
     /// A live object of this identifier is left, and isn't told.
     Untold(String),
@@ -27,7 +27,7 @@ pub enum Difference {
 }
 
 /// What came of comparing a declaration.
-#[derive(Debug, Drop)]
+#[derive(Drop)]
 pub struct Compared {
     /// How many objects it tells of.
     pub entries: usize,

@@ -19,7 +19,7 @@ use std::alloc::{AllocError, Global};
 use std::io::Read;
 
 /// A segment that was checked, with the records that it is of.
-#[derive(Debug, Drop)]
+#[derive(Drop)]
 pub struct Segment {
     pub records: AuditRecords,
     pub checked: Checked,

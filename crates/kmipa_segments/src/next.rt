@@ -14,7 +14,7 @@ use std::alloc::Global;
 use std::io::Read;
 
 /// A segment that was checked from what those before it leave, with the records that it is of.
-#[derive(Debug, Drop)]
+#[derive(Drop)]
 pub struct NextSegment {
     pub transcript: Transcript,
     pub witness: Witness,

@@ -13,7 +13,7 @@ use kmipa_attrs::{Name, ObjectType};
 use kmipa_record::Entry;
 
 /// A part of an object that is held against what is told of it.
-#[derive(Clone, Copy, Debug, PartialEq, Eq)]
+#[derive(Clone, Copy, PartialEq, Eq)]
 pub enum Part {
     ObjectType,
     /// Its names, in whatever order.

@@ -27,7 +27,7 @@ use std::alloc::Global;
 use std::io::Read;
 
 /// What a search of a segment found, and what the witness that it found leaves, if it found one.
-#[derive(Debug, Drop)]
+#[derive(Drop)]
 pub struct FoundSegment {
     pub searched: Searched,
     pub left: Option<Left>,

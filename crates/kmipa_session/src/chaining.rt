@@ -17,7 +17,7 @@ use kmipa_segments::{Chain, chain_end};
 use std::alloc::Global;
 
 /// What is asked of a chain.
-#[derive(Clone, Copy, Debug, PartialEq, Eq)]
+#[derive(Clone, Copy, PartialEq, Eq)]
 pub struct ChainWords<'a> {
     /// The most steps that are made for each segment without a witness.
     pub budget: u64,

@@ -27,7 +27,7 @@ pub enum Did<'n, F, M, E> {
 }
 
 /// What a run said: its status, and the lines that are to be printed.
-#[derive(Debug, Drop)]
+#[derive(Drop)]
 pub struct Said {
     pub status: Status,
     pub lines: Vec<u8>,

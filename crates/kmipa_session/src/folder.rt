@@ -1,7 +1,7 @@
 //! The folder of a chain: its segments, in the order of their names.
 
 /// A folder of segments.
-#[derive(Debug, Drop)]
+#[derive(Drop)]
 pub struct Folder {
     /// The path of the declaration that they begin with.
     pub declaration: String,
@@ -11,7 +11,7 @@ pub struct Folder {
 }
 
 /// A declaration that the server was asked for.
-#[derive(Debug, Drop)]
+#[derive(Drop)]
 pub struct AskedFor {
     /// Its name.
     pub name: String,
@@ -20,7 +20,7 @@ pub struct AskedFor {
 }
 
 /// The files of a segment.
-#[derive(Debug, Drop)]
+#[derive(Drop)]
 pub struct FolderSegment {
     /// The name of the transcript.
     pub name: String,

@@ -6,7 +6,7 @@ ghost use Rattle.kmipa_session.specs.Jobs.{asked_of};
 use kmipa_runs::ShowOptions;
 
 /// What is asked of the form of an answer.
-#[derive(Clone, Copy, Debug, PartialEq, Eq)]
+#[derive(Clone, Copy, PartialEq, Eq)]
 pub struct FormWords {
     /// Prints one JSON object in place of the lines.
     pub json: bool,
@@ -15,7 +15,7 @@ pub struct FormWords {
 }
 
 /// What is asked of a segment of an audit that goes on from file to file.
-#[derive(Clone, Copy, Debug, PartialEq, Eq)]
+#[derive(Clone, Copy, PartialEq, Eq)]
 pub struct SegmentWords<'a> {
     /// The declaration that is written of what the run leaves.
     pub leaves: Option<&'a str>,
@@ -33,7 +33,7 @@ impl SegmentWords<'_> {
 }
 
 /// What is asked of how a search goes.
-#[derive(Clone, Copy, Debug, PartialEq, Eq)]
+#[derive(Clone, Copy, PartialEq, Eq)]
 pub struct SearchWords {
     /// The most steps that are made.
     pub budget: u64,
@@ -46,7 +46,7 @@ pub struct SearchWords {
 }
 
 /// What the words ask for, with the names of the files that it reads.
-#[derive(Clone, Copy, Debug, PartialEq, Eq)]
+#[derive(Clone, Copy, PartialEq, Eq)]
 pub enum Job<'a> {
     /// Whether the calls of a transcript are possible in the order of a witness.
     Check {
@@ -89,7 +89,7 @@ pub enum Job<'a> {
 }
 
 /// How a check or a search of whole files is told.
-#[derive(Clone, Copy, Debug, PartialEq, Eq)]
+#[derive(Clone, Copy, PartialEq, Eq)]
 pub enum Form {
     /// By its lines alone.
     Lines,
@@ -102,7 +102,7 @@ pub enum Form {
 }
 
 /// What a check or a search is asked for.
-#[derive(Clone, Copy, Debug, PartialEq, Eq)]
+#[derive(Clone, Copy, PartialEq, Eq)]
 pub enum Asked {
     /// Whole files, told in this form.
     Files(Form),

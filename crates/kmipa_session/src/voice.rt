@@ -6,7 +6,7 @@ ghost use Rattle.kmipa_session.specs.Printing.{device_text, memory_text, voice_o
 use crate::job::Form;
 
 /// Whether lines are printed, or an object.
-#[derive(Clone, Copy, Debug, PartialEq, Eq)]
+#[derive(Clone, Copy, PartialEq, Eq)]
 pub enum Voice {
     Lines,
     Object,

@@ -14,7 +14,7 @@ use crate::secrets::Secrets;
 use kmipa_object::{Life, Object, Rule};
 
 /// A change of the objects, and the dates that it brought.
-#[derive(Clone, Copy, Debug, PartialEq, Eq)]
+#[derive(Clone, Copy, PartialEq, Eq)]
 pub enum ObjectChange {
     /// An object was added.
     Added(Brought),
@@ -23,7 +23,7 @@ pub enum ObjectChange {
 }
 
 /// A change of the secrets.
-#[derive(Clone, Copy, Debug, PartialEq, Eq)]
+#[derive(Clone, Copy, PartialEq, Eq)]
 pub enum SecretChange {
     /// A secret was made.
     Made,
@@ -32,7 +32,7 @@ pub enum SecretChange {
 }
 
 /// A mark: how many changes there were.
-#[derive(Clone, Copy, Debug, PartialEq, Eq)]
+#[derive(Clone, Copy, PartialEq, Eq)]
 pub struct Place {
     pub objects: usize,
     pub secrets: usize,

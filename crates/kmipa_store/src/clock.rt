@@ -27,7 +27,7 @@ pub struct Clock {
 }
 
 /// The dates that a change brought: those that did not stand in order for its place before.
-#[derive(Clone, Copy, Debug, PartialEq, Eq)]
+#[derive(Clone, Copy, PartialEq, Eq)]
 pub struct Brought {
     activation: Option<i64>,
     deactivation: Option<i64>,

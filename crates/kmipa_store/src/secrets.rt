@@ -13,7 +13,7 @@ pub struct Secret {
 }
 
 /// What it is to learn bytes.
-#[derive(Clone, Copy, Debug, PartialEq, Eq)]
+#[derive(Clone, Copy, PartialEq, Eq)]
 pub enum Lesson {
     /// They are known already.
     Old,

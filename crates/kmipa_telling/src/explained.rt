@@ -14,7 +14,7 @@ use kmipa_explain::{Explanation, explain};
 use std::alloc::Global;
 
 /// A verdict with the records that it is of, and at a no what it means.
-#[derive(Debug, Drop)]
+#[derive(Drop)]
 pub struct Explained {
     pub records: AuditRecords,
     pub verdict: Verdict,

@@ -5,7 +5,7 @@ use kmipa_outside::OutsideExplanation;
 use kmipa_unfit::WitnessExplanation;
 
 /// A fault, and what it means.
-#[derive(Debug, Drop)]
+#[derive(Drop)]
 pub struct FaultTold {
     pub fault: AuditFault,
     /// None where the line of the fault is all that is told.
@@ -13,7 +13,7 @@ pub struct FaultTold {
 }
 
 /// What a fault means.
-#[derive(Debug, Drop)]
+#[derive(Drop)]
 pub enum FaultMeaning {
     /// Why a message is outside.
     Outside(OutsideExplanation),

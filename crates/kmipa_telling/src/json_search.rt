@@ -24,7 +24,7 @@ use std::alloc::{AllocError, Global};
 use std::io::Read;
 
 /// What is printed and what is made of a search.
-#[derive(Debug, Drop)]
+#[derive(Drop)]
 struct Answer {
     lines: Lines,
     made: Vec<u8>,

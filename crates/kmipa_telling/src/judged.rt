@@ -14,7 +14,7 @@ use kmipa_search::{Deepest, Found, Reached, Watch};
 use std::alloc::Global;
 
 /// What a search says by giving up.
-#[derive(Debug, Drop)]
+#[derive(Drop)]
 pub enum Decision {
     /// No order explains the transcript.
     Decided,
@@ -25,7 +25,7 @@ pub enum Decision {
 }
 
 /// What a search found, and, where it gave up, what that says.
-#[derive(Debug, Drop)]
+#[derive(Drop)]
 pub struct Judged {
     pub searched: Searched,
     /// None at a yes.

@@ -8,7 +8,7 @@ use crate::tag::Tag;
 use std::alloc::{AllocError, Global};
 
 /// One TTLV item: a tag and a value.
-#[derive(Debug, Drop)]
+#[derive(Drop)]
 #[cycle(item)]
 pub struct Item {
     pub tag: Tag,
@@ -16,7 +16,7 @@ pub struct Item {
 }
 
 /// The value of an item, by its kind.
-#[derive(Debug, Drop)]
+#[derive(Drop)]
 #[cycle(item)]
 pub enum Value {
     /// The children, in order.

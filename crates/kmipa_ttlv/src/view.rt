@@ -4,14 +4,14 @@ use crate::item::Item;
 use crate::tag::Tag;
 
 /// One TTLV item: the same tree as an `Item`, with texts and bytes lent.
-#[derive(Clone, Copy, Debug)]
+#[derive(Clone, Copy)]
 pub struct View<'a> {
     pub tag: Tag,
     pub value: ViewValue<'a>,
 }
 
 /// The value of a view, by its kind.
-#[derive(Clone, Copy, Debug)]
+#[derive(Clone, Copy)]
 pub enum ViewValue<'a> {
     /// The children, in order.
     Structure(Children<'a>),
@@ -32,13 +32,13 @@ pub enum ViewValue<'a> {
 }
 
 /// The children of a structure that are left, in order: each is lent where it is asked for, and none is kept.
-#[derive(Clone, Copy, Debug)]
+#[derive(Clone, Copy)]
 pub struct Children<'a> {
     pub(crate) source: Source<'a>,
 }
 
 /// What children are lent from.
-#[derive(Clone, Copy, Debug)]
+#[derive(Clone, Copy)]
 pub(crate) enum Source<'a> {
     /// Bytes that spell them, which were tested.
     Spelled(&'a [u8]),

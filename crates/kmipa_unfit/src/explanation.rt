@@ -3,7 +3,7 @@
 use kmipa_msgs::{Outside, OutsideKind, Status};
 
 /// Why a witness doesn't fit its transcript.
-#[derive(Debug, Drop)]
+#[derive(Drop)]
 pub struct WitnessExplanation {
     /// The faulty turn, counted from 1; none where a call is left out.
     pub turn: Option<usize>,
@@ -16,7 +16,7 @@ pub struct WitnessExplanation {
 }
 
 /// What is wrong with a turn; or that there is none.
-#[derive(Debug, Drop)]
+#[derive(Drop)]
 pub enum Unfit {
     /// Of `UnknownCall`: how many calls the transcript has, none of them with the number.
     Unknown(usize),
@@ -43,7 +43,7 @@ pub enum Unfit {
 }
 
 /// Places that a turn gives, where none are wanted.
-#[derive(Debug, Drop)]
+#[derive(Drop)]
 pub struct Ordered {
     /// The places, as the turn gives them.
     pub places: Vec<i32>,
@@ -51,7 +51,7 @@ pub struct Ordered {
 }
 
 /// Why a call wants no places.
-#[derive(Clone, Copy, Debug, PartialEq, Eq)]
+#[derive(Clone, Copy, PartialEq, Eq)]
 pub enum OrderTold {
     /// The response refuses the message as a whole.
     Refused,
@@ -62,7 +62,7 @@ pub enum OrderTold {
 }
 
 /// Places that a turn gives, and that are no order of the answered items.
-#[derive(Debug, Drop)]
+#[derive(Drop)]
 pub struct Disorder {
     /// The places, as the turn gives them.
     pub places: Vec<i32>,
@@ -72,7 +72,7 @@ pub struct Disorder {
 }
 
 /// What is wrong with places.
-#[derive(Clone, Copy, Debug, PartialEq, Eq)]
+#[derive(Clone, Copy, PartialEq, Eq)]
 pub enum Wrong {
     /// This number stands there, and is that of no item that is answered.
     Unanswered(i32),
@@ -85,7 +85,7 @@ pub enum Wrong {
 }
 
 /// A fill that isn't wanted.
-#[derive(Clone, Copy, Debug, PartialEq, Eq)]
+#[derive(Clone, Copy, PartialEq, Eq)]
 pub struct UnwantedFill {
     /// Which of the turn's fills it is, counted from 1.
     pub fill: usize,
@@ -95,7 +95,7 @@ pub struct UnwantedFill {
 }
 
 /// Why a fill isn't wanted.
-#[derive(Clone, Copy, Debug, PartialEq, Eq)]
+#[derive(Clone, Copy, PartialEq, Eq)]
 pub enum Unwanted {
     /// The call has no such item that is answered; the answered ones are those from 1 to this one.
     Unanswered(usize),
@@ -112,7 +112,7 @@ pub enum Unwanted {
 }
 
 /// An item whose payload is wanted, and that has no fill.
-#[derive(Clone, Copy, Debug, PartialEq, Eq)]
+#[derive(Clone, Copy, PartialEq, Eq)]
 pub struct MissingFill {
     /// The item, counted from 1.
     pub item: usize,
@@ -121,7 +121,7 @@ pub struct MissingFill {
 }
 
 /// A fill that isn't of the form of the payload that it is for.
-#[derive(Clone, Copy, Debug, PartialEq, Eq)]
+#[derive(Clone, Copy, PartialEq, Eq)]
 pub struct FormlessFill {
     /// Which of the turn's fills it is, counted from 1.
     pub fill: usize,

@@ -9,7 +9,7 @@ use kmipa_attrs::AttrFault;
 use std::alloc::{AllocError, AllocFailed};
 
 /// Why a part of a message is not read.
-#[derive(Clone, Copy, Debug, PartialEq, Eq)]
+#[derive(Clone, Copy, PartialEq, Eq)]
 pub enum Unread {
     /// The part is outside the profile for this reason.
     Outside(OutsideKind),

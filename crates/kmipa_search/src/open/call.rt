@@ -5,7 +5,7 @@ use kmipa_check::Call;
 use kmipa_msgs::{Ask, Asked};
 
 /// What the success of an item leaves, which shows in a date of its object.
-#[derive(Clone, Copy, Debug, PartialEq, Eq)]
+#[derive(Clone, Copy, PartialEq, Eq)]
 pub enum Event {
     /// A new object, with its Initial Date.
     Made,

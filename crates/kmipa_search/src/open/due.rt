@@ -10,7 +10,7 @@ const LOOKED_AT: usize = 1024;
 const TRIED: usize = 16;
 
 /// An open call that can have left the date that an answer shows of an object.
-#[derive(Clone, Copy, Debug, PartialEq, Eq, PartialOrd, Ord)]
+#[derive(Clone, Copy, PartialEq, Eq, PartialOrd, Ord)]
 pub struct Due<'b> {
     pub date: i64,
     pub open: usize,

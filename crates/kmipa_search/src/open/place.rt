@@ -10,7 +10,7 @@ use kmipa_store::Ledger;
 use std::alloc::{AllocError, Global};
 
 /// What is tried at a place now.
-#[derive(Clone, Copy, Debug, PartialEq, Eq)]
+#[derive(Clone, Copy, PartialEq, Eq)]
 enum Stage {
     /// Nothing yet.
     Fresh,

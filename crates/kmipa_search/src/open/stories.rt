@@ -12,7 +12,7 @@ use std::alloc::{AllocError, Global};
 const DATES: usize = 16;
 
 /// A date that an answer shows of an object, and what left it.
-#[derive(Clone, Copy, Debug, PartialEq, Eq)]
+#[derive(Clone, Copy, PartialEq, Eq)]
 pub struct ShownDate {
     pub event: Event,
     pub date: i64,
