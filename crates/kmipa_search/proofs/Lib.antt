@@ -22,6 +22,7 @@ pub mod ApartLemmas
 pub mod GuessLemmas
 pub mod DescentLemmas
 pub mod PickLemmas
+pub mod WishLemmas
 pub mod IdleLemmas
 pub mod EndLemmas
 pub mod StillLemmas

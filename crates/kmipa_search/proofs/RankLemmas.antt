@@ -152,6 +152,73 @@ module _ (calls : List StepOf) (taken order rank A B ends place C D : List ℕ)
     ]
   ]
 
+  -- the least stamp, and the least end
+  abbrev pub h : ℕ
+  h = at order (at A 0)
+
+  abbrev pub s : ℕ
+  s = at ends (at C 0)
+
+  h_first : (q : ℕ) → q < length calls → (Contains taken q → ⊥) → at A 0 ≤ at rank q
+  h_first q below left = not_between (length calls) rank (ByStamp calls) order by_stamp taken A B stamps 0 (inr refl) q below left (by_stamp.placed q below).0
+
+  s_first : (q : ℕ) → q < length calls → (Contains taken q → ⊥) → at C 0 ≤ at place q
+  s_first q below left = not_between (length calls) place (ByEnd calls) ends by_end taken C D closes 0 (inr refl) q below left (by_end.placed q below).0
+
+  -- where a call is left, these are those of calls that are left
+  module _ (p : ℕ) (inside : p < length calls) (free : Contains taken p → ⊥) where
+    pub h_here : (h < length calls) × (at rank h ≡ at A 0) × (Contains taken h → ⊥)
+    h_here = left_place (length calls) rank (ByStamp calls) order by_stamp taken A B stamps 0 (inr refl) (omega (arith, h_first p inside free, (by_stamp.placed p inside).1))
+
+    pub s_here : (s < length calls) × (at place s ≡ at C 0) × (Contains taken s → ⊥)
+    s_here = left_place (length calls) place (ByEnd calls) ends by_end taken C D closes 0 (inr refl) (omega (arith, s_first p inside free, (by_end.placed p inside).1))
+
+    h_least : (q : ℕ) → q < length calls → (Contains taken q → ⊥) → (step_at calls h).response.stamp ≤ℤ (step_at calls q).response.stamp
+    h_least q below left =
+        by_stamp_least calls h q (ranked_from (length calls) rank (ByStamp calls) order by_stamp h q h_here.0 below (omega (arith, h_here.1, h_first q below left)))
+
+    s_least : (q : ℕ) → q < length calls → (Contains taken q → ⊥) → end_of (step_at calls s) ≤ end_of (step_at calls q)
+    s_least q below left =
+        elim (ranked_from (length calls) place (ByEnd calls) ends by_end s q s_here.0 below (omega (arith, s_here.1, s_first q below left))) [
+          | inl e ↦ omega (arith, ap (λ (k : ℕ). end_of (step_at calls k)) e)
+          | inr l ↦ l
+        ]
+
+    -- it is next, where it has this stamp, and none of the others ended before it
+    pub is_next_here : (step_at calls p).response.stamp ≤ℤ (step_at calls h).response.stamp → (end_of (step_at calls s) < (step_at calls p).begin → ⊥) → IsNext calls taken p
+    is_next_here least none_ended = record {
+      call = step_at calls p;
+      there = here_at p inside;
+      left = free;
+      least = λ other d there left.
+          let P : StepOf → Type 0 = λ x. (step_at calls p).response.stamp ≤ℤ x.response.stamp in
+          subst P (get_or_from_slice_get calls other d no_step there) (over least (h_least other (slice_get_within calls other d there) left));
+      first = λ other d there left before.
+          let P : StepOf → Type 0 = λ x. Before x (step_at calls p) in
+          let within = slice_get_within calls other d there in
+          let b = before_less (step_at calls other) (step_at calls p) (ended other within) (subst P (sym (get_or_from_slice_get calls other d no_step there)) before) in
+          none_ended (omega (arith, b, s_least other within left));
+    }
+
+    -- so says the test
+    pub next_allowed : allows (step_at calls p) (step_at calls h) (step_at calls s) ≡ true → IsNext calls taken p
+    next_allowed is =
+        let t = both_true (int_le (step_at calls p).response.stamp (step_at calls h).response.stamp) (not (nat_lt (end_of (step_at calls s)) (step_at calls p).begin)) is in
+        let n = t.1 in
+        is_next_here (le_z_yes (T_from_true _ t.0)) (λ b. let e : nat_lt (end_of (step_at calls s)) (step_at calls p).begin ≡ true = lt-ltb (end_of (step_at calls s)) (step_at calls p).begin b in cc)
+
+    pub next_refused : allows (step_at calls p) (step_at calls h) (step_at calls s) ≡ false → IsNext calls taken p → ⊥
+    next_refused is n =
+        elim (one_false (int_le (step_at calls p).response.stamp (step_at calls h).response.stamp) (not (nat_lt (end_of (step_at calls s)) (step_at calls p).begin)) is) [
+          | inl a ↦
+              let le = next_least p h n h_here.0 h_here.2 in
+              let yes_is : int_le (step_at calls p).response.stamp (step_at calls h).response.stamp ≡ true = true_of _ le.le in
+              let clash : true ≡ false = sym yes_is ∙ a in absurd cc
+          | inr b ↦
+              let past = ltb-true (end_of (step_at calls s)) (step_at calls p).begin (true_from_not (nat_lt (end_of (step_at calls s)) (step_at calls p).begin) b) in
+              next_first p s n s_here.0 s_here.2 (less_before (step_at calls s) (step_at calls p) (ended s s_here.0) past)
+        ]
+
   module _ (from : ℕ) (cursor : IsCursor calls taken from) where
     behind : LeftRank (length calls) rank taken (rank_from rank from) ⊎ (rank_from rank from ≡ 0)
     behind = elim cursor [
@@ -185,36 +252,6 @@ module _ (calls : List StepOf) (taken order rank A B ends place C D : List ℕ)
       pub here : (p < length calls) × (at rank p ≡ j) × (Contains taken p → ⊥)
       here = left_place (length calls) rank (ByStamp calls) order by_stamp taken A B stamps (rank_from rank from) behind within
 
-      -- the least stamp, and the least end
-      abbrev pub h : ℕ
-      h = at order (at A 0)
-
-      abbrev pub s : ℕ
-      s = at ends (at C 0)
-
-      h_first : (q : ℕ) → q < length calls → (Contains taken q → ⊥) → at A 0 ≤ at rank q
-      h_first q below left = not_between (length calls) rank (ByStamp calls) order by_stamp taken A B stamps 0 (inr refl) q below left (by_stamp.placed q below).0
-
-      s_first : (q : ℕ) → q < length calls → (Contains taken q → ⊥) → at C 0 ≤ at place q
-      s_first q below left = not_between (length calls) place (ByEnd calls) ends by_end taken C D closes 0 (inr refl) q below left (by_end.placed q below).0
-
-      pub h_here : (h < length calls) × (at rank h ≡ at A 0) × (Contains taken h → ⊥)
-      h_here = left_place (length calls) rank (ByStamp calls) order by_stamp taken A B stamps 0 (inr refl) (omega (arith, h_first p here.0 here.2, here.1, within))
-
-      pub s_here : (s < length calls) × (at place s ≡ at C 0) × (Contains taken s → ⊥)
-      s_here = left_place (length calls) place (ByEnd calls) ends by_end taken C D closes 0 (inr refl) (omega (arith, s_first p here.0 here.2, (by_end.placed p here.0).1))
-
-      h_least : (q : ℕ) → q < length calls → (Contains taken q → ⊥) → (step_at calls h).response.stamp ≤ℤ (step_at calls q).response.stamp
-      h_least q below left =
-          by_stamp_least calls h q (ranked_from (length calls) rank (ByStamp calls) order by_stamp h q h_here.0 below (omega (arith, h_here.1, h_first q below left)))
-
-      s_least : (q : ℕ) → q < length calls → (Contains taken q → ⊥) → end_of (step_at calls s) ≤ end_of (step_at calls q)
-      s_least q below left =
-          elim (ranked_from (length calls) place (ByEnd calls) ends by_end s q s_here.0 below (omega (arith, s_here.1, s_first q below left))) [
-            | inl e ↦ omega (arith, ap (λ (k : ℕ). end_of (step_at calls k)) e)
-            | inr l ↦ l
-          ]
-
       -- each next call from there on is this one, or stands after it
       at_or_behind : (q : ℕ) → from ≤ q → IsNext calls taken q → (p ≡ q) ⊎ ByStamp calls p q
       at_or_behind q low n = ranked_from (length calls) rank (ByStamp calls) order by_stamp p q here.0 (below_next q n) (omega (arith, here.1, rank_least q low n))
@@ -225,21 +262,6 @@ module _ (calls : List StepOf) (taken order rank A B ends place C D : List ℕ)
       not_less q n (inr same) = same.1
 
       module _ (least : (step_at calls p).response.stamp ≤ℤ (step_at calls h).response.stamp) (none_ended : end_of (step_at calls s) < (step_at calls p).begin → ⊥) where
-        is_next_here : IsNext calls taken p
-        is_next_here = record {
-          call = step_at calls p;
-          there = here_at p here.0;
-          left = here.2;
-          least = λ other d there left.
-              let P : StepOf → Type 0 = λ x. (step_at calls p).response.stamp ≤ℤ x.response.stamp in
-              subst P (get_or_from_slice_get calls other d no_step there) (over least (h_least other (slice_get_within calls other d there) left));
-          first = λ other d there left before.
-              let P : StepOf → Type 0 = λ x. Before x (step_at calls p) in
-              let within = slice_get_within calls other d there in
-              let b = before_less (step_at calls other) (step_at calls p) (ended other within) (subst P (sym (get_or_from_slice_get calls other d no_step there)) before) in
-              none_ended (omega (arith, b, s_least other within left));
-        }
-
         from_below : from ≤ p
         from_below = elim cursor [
           | inl z ↦ omega (arith, z)
@@ -247,7 +269,7 @@ module _ (calls : List StepOf) (taken order rank A B ends place C D : List ℕ)
               let P : ℕ → Type 0 = λ k. rank_from rank k < j in
               let onward : at rank q.0 < j = subst P q.1 (stamps.afters (rank_from rank from) behind).onward in
               elim (by_stamp.sorted q.0 p (below_next q.0 q.2) here.0 (omega (arith, onward, here.1))) [
-                | inl less ↦ absurd (clash_ℤ less (over least (h_least q.0 (below_next q.0 q.2) q.2.left)))
+                | inl less ↦ absurd (clash_ℤ less (over least (h_least p here.0 here.2 q.0 (below_next q.0 q.2) q.2.left)))
                 | inr same ↦ omega (arith, same.1, q.1)
               ]
         ]
@@ -255,7 +277,7 @@ module _ (calls : List StepOf) (taken order rank A B ends place C D : List ℕ)
         next_here : IsNextFrom calls taken from (Some p)
         next_here = (
           from_below,
-          is_next_here,
+          is_next_here p here.0 here.2 least none_ended,
           λ q low less n. elim (at_or_behind q low n) [
             | inl e ↦ omega (arith, e, less)
             | inr b ↦ omega (arith, not_less q n b, less)
@@ -264,14 +286,14 @@ module _ (calls : List StepOf) (taken order rank A B ends place C D : List ℕ)
 
       not_least : int_le (step_at calls p).response.stamp (step_at calls h).response.stamp ≡ false → IsNextFrom calls taken from None
       not_least is q low n =
-          let le = over (by_stamp_least calls p q (at_or_behind q low n)) (next_least q h n h_here.0 h_here.2) in
+          let le = over (by_stamp_least calls p q (at_or_behind q low n)) (next_least q h n (h_here p here.0 here.2).0 (h_here p here.0 here.2).2) in
           let yes_is : int_le (step_at calls p).response.stamp (step_at calls h).response.stamp ≡ true = true_of _ le.le in
           cc
 
       not_open : AreBegun calls → end_of (step_at calls s) < (step_at calls p).begin → IsNextFrom calls taken from None
       not_open begun past q low n = elim (at_or_behind q low n) [
-        | inl e ↦ next_first q s n s_here.0 s_here.2 (less_before (step_at calls s) (step_at calls q) (ended s s_here.0) (omega (arith, past, ap (λ (k : ℕ). (step_at calls k).begin) e)))
-        | inr b ↦ next_first q s n s_here.0 s_here.2 (less_before (step_at calls s) (step_at calls q) (ended s s_here.0) (omega (arith, past, begun p q (not_less q n b) (below_next q n))))
+        | inl e ↦ next_first q s n (s_here p here.0 here.2).0 (s_here p here.0 here.2).2 (less_before (step_at calls s) (step_at calls q) (ended s (s_here p here.0 here.2).0) (omega (arith, past, ap (λ (k : ℕ). (step_at calls k).begin) e)))
+        | inr b ↦ next_first q s n (s_here p here.0 here.2).0 (s_here p here.0 here.2).2 (less_before (step_at calls s) (step_at calls q) (ended s (s_here p here.0 here.2).0) (omega (arith, past, begun p q (not_less q n b) (below_next q n))))
       ]
 
       pub next_reported : AreBegun calls → (b : Bool) → allows (step_at calls p) (step_at calls h) (step_at calls s) ≡ b → IsNextFrom calls taken from (cond b (Some p) None)

@@ -1,5 +1,5 @@
 -- The calls that wait, by the lines.
-use Rattle.std.proofs.Common.{◌≡◌, ◌<◌, ◌≤◌, ℕ, Bool, cond, List, [], ◌∷◌, length, Some, None, sym, ap, ◌∙◌, subst, arith}
+use Rattle.std.proofs.Common.{◌≡◌, ◌<◌, ◌≤◌, ℕ, Bool, true, false, cond, List, [], ◌∷◌, length, Contains, Some, None, sym, ap, ◌∙◌, subst, arith}
 use Rattle.std.proofs.lemmas.Option.{slice_get_within}
 use Rattle.kmipa_check.specs.Steps.{StepOf}
 use Rattle.kmipa_search.specs.Next.{IsNext}
@@ -11,7 +11,7 @@ use Rattle.kmipa_search.specs.declared.links.Links.{Links}
 use Rattle.kmipa_search.specs.declared.ranks.Ranks.{Ranks}
 use Rattle.kmipa_search.specs.declared.remaining.Remaining.{Remaining}
 use Rattle.kmipa_search.proofs.LinksLemmas.{links_same}
-use Rattle.kmipa_search.proofs.RankLemmas.{linked_now, linked_without, none_behind, next_reported, here, h_here, s_here}
+use Rattle.kmipa_search.proofs.RankLemmas.{linked_now, linked_without, none_behind, next_reported, next_allowed, next_refused, here, h_here, s_here}
 
 module _ (calls : List StepOf) (taken : List ℕ) (w : Remaining) (x : AreRemaining calls taken w) (ended : AreEnded calls) where
   stamps : AreLinked (length calls) (LeftRank (length calls) w.stamps.rank.items taken) w.by_stamp.after.items w.by_stamp.before.items
@@ -40,9 +40,10 @@ module _ (calls : List StepOf) (taken : List ℕ) (w : Remaining) (x : AreRemain
         let C = w.by_end.after.items in
         let D = w.by_end.before.items in
         let p_same : p ≡ at O (at A (rank_from K from)) = p_is ∙ ap (at O) is in
-        let p_in : p < length calls = omega (arith, p_same, (here calls taken O K A B E F C D x.stamps x.ends stamps closes ended from cursor few).0) in
-        let h_in : h < length calls = omega (arith, h_is, (h_here calls taken O K A B E F C D x.stamps x.ends stamps closes ended from cursor few).0) in
-        let s_in : s < length calls = omega (arith, s_is, (s_here calls taken O K A B E F C D x.stamps x.ends stamps closes ended from cursor few).0) in
+        let own = here calls taken O K A B E F C D x.stamps x.ends stamps closes ended from cursor few in
+        let p_in : p < length calls = omega (arith, p_same, own.0) in
+        let h_in : h < length calls = omega (arith, h_is, (h_here calls taken O K A B E F C D x.stamps x.ends stamps closes ended (at O (at A (rank_from K from))) own.0 own.2).0) in
+        let s_in : s < length calls = omega (arith, s_is, (s_here calls taken O K A B E F C D x.stamps x.ends stamps closes ended (at O (at A (rank_from K from))) own.0 own.2).0) in
         let P : ℕ → Type 0 = λ k. IsNextFrom calls taken from (cond b (Some k) None) in
         subst P (sym p_same)
         (next_reported calls taken O K A B E F C D x.stamps x.ends stamps closes ended from cursor few begun b
@@ -50,6 +51,40 @@ module _ (calls : List StepOf) (taken : List ℕ) (w : Remaining) (x : AreRemain
         ∙ ap (λ (k : ℕ). allows (step_at calls p) (step_at calls k) (step_at calls (at E (at C 0)))) (sym h_is)
         ∙ ap (λ (k : ℕ). allows (step_at calls p) (step_at calls h) (step_at calls k)) (sym s_is)
         ∙ sym (reported p_in h_in s_in)))
+
+  -- a call that is left is next, or is not, by the test
+  module _ (p h s : ℕ) (h_is : h ≡ at w.stamps.order.items (at w.by_stamp.after.items 0)) (s_is : s ≡ at w.ends.order.items (at w.by_end.after.items 0)) (inside : p < length calls) (free : Contains taken p → ⊥) where
+    least_in : h < length calls
+    least_in = omega (
+      arith,
+      h_is,
+      (h_here calls taken w.stamps.order.items w.stamps.rank.items w.by_stamp.after.items w.by_stamp.before.items w.ends.order.items w.ends.rank.items w.by_end.after.items w.by_end.before.items
+          x.stamps x.ends stamps closes ended p inside free).0,
+    )
+
+    soonest_in : s < length calls
+    soonest_in = omega (
+      arith,
+      s_is,
+      (s_here calls taken w.stamps.order.items w.stamps.rank.items w.by_stamp.after.items w.by_stamp.before.items w.ends.order.items w.ends.rank.items w.by_end.after.items w.by_end.before.items
+          x.stamps x.ends stamps closes ended p inside free).0,
+    )
+
+    same_test : allows (step_at calls p) (step_at calls h) (step_at calls s)
+        ≡ allows (step_at calls p) (step_at calls (at w.stamps.order.items (at w.by_stamp.after.items 0))) (step_at calls (at w.ends.order.items (at w.by_end.after.items 0)))
+    same_test =
+        ap (λ (k : ℕ). allows (step_at calls p) (step_at calls k) (step_at calls s)) h_is
+        ∙ ap (λ (k : ℕ). allows (step_at calls p) (step_at calls (at w.stamps.order.items (at w.by_stamp.after.items 0))) (step_at calls k)) s_is
+
+    pub remaining_next : (h < length calls → s < length calls → allows (step_at calls p) (step_at calls h) (step_at calls s) ≡ true) → IsNext calls taken p
+    remaining_next is =
+        next_allowed calls taken w.stamps.order.items w.stamps.rank.items w.by_stamp.after.items w.by_stamp.before.items w.ends.order.items w.ends.rank.items w.by_end.after.items w.by_end.before.items
+        x.stamps x.ends stamps closes ended p inside free (sym same_test ∙ is least_in soonest_in)
+
+    pub remaining_other : (h < length calls → s < length calls → allows (step_at calls p) (step_at calls h) (step_at calls s) ≡ false) → IsNext calls taken p → ⊥
+    remaining_other is =
+        next_refused calls taken w.stamps.order.items w.stamps.rank.items w.by_stamp.after.items w.by_stamp.before.items w.ends.order.items w.ends.rank.items w.by_end.after.items w.by_end.before.items
+        x.stamps x.ends stamps closes ended p inside free (sym same_test ∙ is least_in soonest_in)
 
   -- a next call is taken
   pub remaining_taken : (p r e : ℕ) (l m : Links) → IsNext calls taken p → r ≡ at w.stamps.rank.items p → e ≡ at w.ends.rank.items p

@@ -16,5 +16,6 @@ pub mod Reached
 pub mod Reaching
 pub mod Guessing
 pub mod Tries
+pub mod Wished
 pub mod Idle
 pub mod Ends

@@ -12,7 +12,8 @@ ghost use Rattle.kmipa_search.specs.Outcomes.{TellsOutcome, not_taken};
 use crate::candidate::Candidate;
 use crate::ends::Ends;
 use crate::idle::is_idle_place;
-use crate::picking::pick;
+use crate::links::Links;
+use crate::picking::pick_left;
 use crate::ranks::Ranks;
 use crate::remaining::Remaining;
 use crate::taken::TakenCalls;
@@ -53,6 +54,7 @@ pub fn find_order<L: Ledger, W: Watch>(
 {
     let mut remaining = Remaining::new(alloc, calls)?;
     let wishes = Ranks::by_wish(alloc, calls)?;
+    let mut by_wish = Links::new(alloc, calls.len())?;
     let mut taken = TakenCalls::new(alloc, calls.len())?;
     let mut ends = Ends::new(alloc);
     let mut path = Vec::new(alloc);
@@ -60,7 +62,16 @@ pub fn find_order<L: Ledger, W: Watch>(
     let mut depth = 0;
     let mut steps = 0;
     'tries: while path.len() < calls.len() {
-        match pick(&remaining, calls, &wishes, tried, steps >= EARLY) {
+        let left = calls.len() - path.len();
+        match pick_left(
+            &remaining,
+            calls,
+            &wishes,
+            &by_wish,
+            tried,
+            left,
+            steps >= EARLY,
+        ) {
             Some(pick) => {
                 if steps == budget {
                     return Ok(Outcome { order: None, steps });
@@ -76,6 +87,7 @@ pub fn find_order<L: Ledger, W: Watch>(
                             idle: is_idle_place(calls, place),
                         })?;
                         remaining.take(calls, place);
+                        by_wish.remove(wishes.rank(place));
                         taken.take(place);
                         watch.taken(calls[place].number);
                         depth = mark;
@@ -92,6 +104,7 @@ pub fn find_order<L: Ledger, W: Watch>(
                 ledger.back(Mark { depth });
                 depth -= 1;
                 remaining.give_back(calls, visit.place);
+                by_wish.restore(wishes.rank(visit.place));
                 taken.give_back(visit.place);
                 watch.given_back();
                 tried = visit.behind(steps >= EARLY);

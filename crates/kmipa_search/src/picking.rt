@@ -1,18 +1,137 @@
 //! Which call is tried next.
 
-ghost use Rattle.std.specs.Prelude.{◌≡◌, ◌<◌, ℕ, List, IfSome, length, map};
+ghost use Rattle.std.specs.Prelude.{◌≡◌, ◌<◌, ◌≤◌, ℕ, List, true, false, IfSome, length, map};
 ghost use Rattle.kmipa_search.specs.Candidates.{candidate_step};
-ghost use Rattle.kmipa_search.specs.Progress.{AreBegun};
+ghost use Rattle.kmipa_search.specs.Progress.{AreBegun, step_at};
+ghost use Rattle.kmipa_search.specs.Ranks.{InAnyOrder, IsRanked, WereLinked, allows};
 ghost use Rattle.kmipa_search.specs.Remaining.{AreRemaining, IsCursor};
 ghost use Rattle.kmipa_search.specs.Tries.{IsBest, IsBetter, IsFirst, IsPicked, IsPreferred};
+ghost use Rattle.kmipa_search.specs.Wished.{IsMostWished};
 
 use crate::candidate::Candidate;
+use crate::links::Links;
 use crate::ranks::Ranks;
-use crate::remaining::Remaining;
+use crate::remaining::{Remaining, leads};
 use crate::tried::{Pick, Tried};
 
 /// Where more calls than these may be next, they are tried in the order of their begin marks.
 const WINDOW: usize = 64;
+
+/// The call to try next where so many calls are left, which are linked by their wishes too. Late, and where they are few, that line is gone
+/// along: the first on it that may be next and was not tried is the one that is wished most.
+pub fn pick_left(
+    remaining: &Remaining,
+    calls: &[Candidate],
+    wishes: &Ranks,
+    by_wish: &Links,
+    tried: Tried,
+    left: usize,
+    late: bool,
+) -> Option<Pick>
+    ensures picked { (taken : List ℕ) → AreBegun (map candidate_step calls.now) → AreRemaining (map candidate_step calls.now) taken remaining.now
+        → IsCursor (map candidate_step calls.now) taken tried.from
+        → IsRanked (length (map candidate_step calls.now)) InAnyOrder wishes.now.order.items wishes.now.rank.items
+        → WereLinked (length (map candidate_step calls.now)) wishes.now.rank.items taken by_wish.now.after.items by_wish.now.before.items
+        → IsPicked (map candidate_step calls.now) taken wishes.now.rank.items tried result }
+    ensures within { IfSome result (λ pick. pick.place < length calls.now) }
+{
+    if late {
+        if left <= WINDOW {
+            return pick_wished(remaining, calls, wishes, by_wish, tried);
+        }
+    }
+    pick(remaining, calls, wishes, tried, late)
+}
+
+/// The next call that was not tried and is wished most.
+fn pick_wished(
+    remaining: &Remaining,
+    calls: &[Candidate],
+    wishes: &Ranks,
+    by_wish: &Links,
+    tried: Tried,
+) -> Option<Pick>
+    ensures picked { (taken : List ℕ) → AreBegun (map candidate_step calls.now) → AreRemaining (map candidate_step calls.now) taken remaining.now
+        → IsCursor (map candidate_step calls.now) taken tried.from
+        → IsRanked (length (map candidate_step calls.now)) InAnyOrder wishes.now.order.items wishes.now.rank.items
+        → WereLinked (length (map candidate_step calls.now)) wishes.now.rank.items taken by_wish.now.after.items by_wish.now.before.items
+        → IsPicked (map candidate_step calls.now) taken wishes.now.rank.items tried result }
+    ensures within { IfSome result (λ pick. pick.place < length calls.now) }
+{
+    if tried.closed {
+        return None;
+    }
+    match most_wished(remaining, calls, wishes, by_wish, tried) {
+        Some(place) => Some(Pick {
+            place,
+            tried: Tried {
+                from: tried.from,
+                done: wishes.rank(place),
+                closed: false,
+            },
+        }),
+        None => None,
+    }
+}
+
+/// Its place.
+fn most_wished(
+    remaining: &Remaining,
+    calls: &[Candidate],
+    wishes: &Ranks,
+    by_wish: &Links,
+    tried: Tried,
+) -> Option<usize>
+    ensures most { (taken : List ℕ) → AreRemaining (map candidate_step calls.now) taken remaining.now
+        → IsRanked (length (map candidate_step calls.now)) InAnyOrder wishes.now.order.items wishes.now.rank.items
+        → WereLinked (length (map candidate_step calls.now)) wishes.now.rank.items taken by_wish.now.after.items by_wish.now.before.items
+        → IsMostWished (map candidate_step calls.now) taken wishes.now.rank.items tried result }
+    ensures within { IfSome result (λ place. place < length calls.now) }
+{
+    let least = remaining.least();
+    let soonest = remaining.soonest();
+    let mut rank = by_wish.after(0);
+    'run: while rank <= calls.len() {
+        let place = wishes.place(rank);
+        if is_open(calls, tried, rank, place, least, soonest) {
+            return Some(place);
+        }
+        let after = by_wish.after(rank);
+        if after <= rank {
+            return None;
+        }
+        rank = after;
+    }
+    None
+}
+
+/// Whether the call of this rank, at this place, was not tried and is a next one, where those at these places have the least stamp and the
+/// least end.
+fn is_open(
+    calls: &[Candidate],
+    tried: Tried,
+    rank: usize,
+    place: usize,
+    least: usize,
+    soonest: usize,
+) -> bool
+    ensures done { result ≡ true → tried.done < rank }
+    ensures from { result ≡ true → tried.from ≤ place }
+    ensures within { result ≡ true → place < length calls.now }
+    ensures yes { result ≡ true → least < length calls.now → soonest < length calls.now
+        → allows (step_at (map candidate_step calls.now) place) (step_at (map candidate_step calls.now) least) (step_at (map candidate_step calls.now) soonest) ≡ true }
+    ensures no { result ≡ false → tried.done < rank → tried.from ≤ place → place < length calls.now → least < length calls.now
+        → soonest < length calls.now
+        → allows (step_at (map candidate_step calls.now) place) (step_at (map candidate_step calls.now) least) (step_at (map candidate_step calls.now) soonest) ≡ false }
+{
+    if rank <= tried.done {
+        return false;
+    }
+    if place < tried.from {
+        return false;
+    }
+    leads(calls, place, least, soonest)
+}
 
 /// The call to try next: of the next calls that were not tried the first, or, late, the one that is wished most.
 pub fn pick(

@@ -101,6 +101,7 @@ impl Pool {
 }
 
 /// One of the newest of these states, in which an object of a ledger stands.
+#[inline(never)]
 fn state_among<'s, L: Ledger>(
     ledger: &L,
     object: &Object,

@@ -58,7 +58,7 @@ impl Ranks {
 
     /// Calls without effect first, and each by its end.
     pub fn by_wish(alloc: Global, calls: &[Candidate]) -> Result<Ranks, AllocError>
-        ensures { IfOk result (λ r. IsRanked (length calls.now) InAnyOrder r.order.items r.rank.items) }
+        ensures { IfOk result (λ r. IsRanked (length calls.now) InAnyOrder r.order.items r.rank.items × HasRank (length calls.now) r.rank.items) }
     {
         let mut keys = Vec::new(alloc);
         let mut place = 0;

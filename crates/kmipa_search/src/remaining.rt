@@ -19,6 +19,7 @@ pub struct Remaining {
 impl Remaining {
     ghost use Rattle.std.specs.Prelude.{◌≡◌, ◌<◌, ◌^◌, ◌∷◌, [], ℕ, List, IfOk, IfSome, map, length};
     ghost use Rattle.kmipa_search.specs.Candidates.{candidate_step};
+    ghost use Rattle.kmipa_search.specs.Links.{at};
     ghost use Rattle.kmipa_search.specs.Next.{IsNext};
     ghost use Rattle.kmipa_search.specs.Progress.{AreBegun, IsNextFrom};
     ghost use Rattle.kmipa_search.specs.Remaining.{AreRemaining, IsCursor};
@@ -66,12 +67,16 @@ impl Remaining {
     }
 
     /// The place of the call with the least stamp.
-    pub fn least(&self) -> usize {
+    pub fn least(&self) -> usize
+        ensures { result ≡ at self.now.stamps.order.items (at self.now.by_stamp.after.items 0) }
+    {
         self.stamps.place(self.by_stamp.after(0))
     }
 
     /// The place of the call with the least end.
-    pub fn soonest(&self) -> usize {
+    pub fn soonest(&self) -> usize
+        ensures { result ≡ at self.now.ends.order.items (at self.now.by_end.after.items 0) }
+    {
         self.ends.place(self.by_end.after(0))
     }
 
@@ -100,7 +105,7 @@ ghost use Rattle.kmipa_search.specs.Progress.{step_at};
 ghost use Rattle.kmipa_search.specs.Ranks.{allows};
 
 /// Whether the call at a place is a next one, where those at these places have the least stamp and the least end.
-fn leads(calls: &[Candidate], place: usize, least: usize, soonest: usize) -> bool
+pub fn leads(calls: &[Candidate], place: usize, least: usize, soonest: usize) -> bool
     ensures reported { place < length calls.now → least < length calls.now → soonest < length calls.now
         → result ≡ allows (step_at (map candidate_step calls.now) place) (step_at (map candidate_step calls.now) least) (step_at (map candidate_step calls.now) soonest) }
     ensures within { result ≡ true → place < length calls.now }

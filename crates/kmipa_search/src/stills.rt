@@ -62,6 +62,7 @@ pub fn known_of<L: Ledger>(ledger: &L, material: Material) -> Option<&[u8]>
 }
 
 /// Whether the objects of a ledger stand as these do.
+#[inline(never)]
 pub fn stand_so<L: Ledger>(ledger: &L, objects: &[Rc<Still>]) -> bool
     requires { IsSound (L.state ledger.now).now }
     ensures { result ≡ true → stills_shared objects.now ≡ stills (L.state ledger.now).now }
@@ -81,6 +82,7 @@ pub fn stand_so<L: Ledger>(ledger: &L, objects: &[Rc<Still>]) -> bool
 }
 
 /// Whether an object of a ledger stands as this one does.
+#[inline(always)]
 pub fn stands_so<L: Ledger>(ledger: &L, object: &Object, kept: &Still) -> bool
     requires { (secret : SecretNo) → object.now.life.material ≡ Secret secret → secret.number < length (L.state ledger.now).now.secrets }
     ensures { result ≡ true → still_of kept.now ≡ still (L.state ledger.now).now.secrets (held object.now) }
@@ -92,6 +94,7 @@ pub fn stands_so<L: Ledger>(ledger: &L, object: &Object, kept: &Still) -> bool
 }
 
 /// Whether known bytes are the same, or unknown both times.
+#[inline(always)]
 fn are_known(kept: &Option<Vec<u8>>, known: Option<&[u8]>) -> bool
     ensures { result ≡ true → option_map items_of kept.now ≡ option_map (λ bytes. bytes.now) known.entry }
 {
@@ -108,6 +111,7 @@ fn are_known(kept: &Option<Vec<u8>>, known: Option<&[u8]>) -> bool
 }
 
 /// Whether two objects are equal, the numbers of their secrets included.
+#[inline(always)]
 fn is_equal(one: &Object, other: &Object) -> bool
     ensures { result ≡ true → held one.now ≡ held other.now }
 {
@@ -124,6 +128,7 @@ fn is_equal(one: &Object, other: &Object) -> bool
 }
 
 /// Whether two lives are equal.
+#[inline(always)]
 fn is_same_life(one: &Life, other: &Life) -> bool
     ensures dates { result ≡ true → dates_of one.now ≡ dates_of other.now }
     ensures material { result ≡ true → one.now.material ≡ other.now.material }
@@ -146,6 +151,7 @@ fn is_same_life(one: &Life, other: &Life) -> bool
     is_same_material(one.material, other.material)
 }
 
+#[inline(always)]
 fn is_same_material(one: Material, other: Material) -> bool
     ensures { result ≡ true → one ≡ other }
 {
@@ -162,6 +168,7 @@ fn is_same_material(one: Material, other: Material) -> bool
 }
 
 /// Whether names, algorithm, length and mask are the same.
+#[inline(always)]
 fn gives_same(one: &AttrSet, other: &AttrSet) -> bool
     ensures { result ≡ true → given_of (attributes_of one.now) ≡ given_of (attributes_of other.now) }
 {
@@ -178,6 +185,7 @@ fn gives_same(one: &AttrSet, other: &AttrSet) -> bool
 }
 
 /// Whether names are the same, in the same order.
+#[inline(always)]
 fn are_same_names(names: &[Name], others: &[Name]) -> bool
     ensures { result ≡ true → map name_of names.now ≡ map name_of others.now }
 {
@@ -194,6 +202,7 @@ fn are_same_names(names: &[Name], others: &[Name]) -> bool
     true
 }
 
+#[inline(always)]
 fn is_same_name(name: &Name, other: &Name) -> bool
     ensures { result ≡ true → name_of name.now ≡ name_of other.now }
 {
