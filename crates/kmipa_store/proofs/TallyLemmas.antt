@@ -11,7 +11,7 @@ use Rattle.kmipa_object.proofs.ListLemmas.{get-append_last, get-updated_same}
 use Rattle.kmipa_store.specs.Ledger.{Held, relived, with_life}
 use Rattle.kmipa_store.specs.Hashes.{name_hash}
 use Rattle.kmipa_store.specs.Queries.{any_live_named, has_name, is_name}
-use Rattle.kmipa_store.specs.Tally.{Counts, Lowers, Raises, Stays, all_with, count_at, live_with, names_with, one_at}
+use Rattle.kmipa_store.specs.Tally.{Counts, Lowers, Raises, all_with, count_at, live_with, names_with, one_at}
 use Rattle.kmipa_store.specs.declared.tally.Tally.{Tally}
 use Rattle.kmipa_store.proofs.NameLemmas.{hash_same}
 use Rattle.kmipa_store.proofs.QueryLemmas.{drop-one, drop-past}
@@ -88,11 +88,6 @@ all_popped k (g ∷ f ∷ hs) zero h l at = absurd (omega (arith, l))
 all_popped k (g ∷ hs) (suc last) h l at = let n : length hs ≡ suc last = omega (arith, l) in let i = all_popped k hs last h n at in omega (arith, i)
 
 -- counts after a change
-pub counts_stay : (old new : Tally) (hs : List Held) → Counts old hs → Stays old new → Counts new hs
-counts_stay old new hs c s = record {
-  all = λ e k. s.counts k ∙ c.all (sym s.exact ∙ e) k;
-}
-
 pub counts_pushed : (old new : Tally) (hs : List Held) (h : Held) → Counts old hs → Raises old (λ k. live_with k h) new → Counts new (hs ++ h ∷ [])
 counts_pushed old new hs h c r = record {
   all = λ e k.
@@ -160,12 +155,12 @@ same_key a b = (elim (nat_lt a b) as (λ t. nat_lt a b ≡ t → is_eq (cond t L
 ]) refl
 
 -- an object more, found at its place
-pub counts_more : (old mid new : Tally) (hs ys : List Held) (h g : Held) (place : ℕ) → Counts old hs → Stays old mid → ys ≡ hs ++ h ∷ [] → place ≡ length hs → slice_get ys place ≡ Some g
-    → Raises mid (λ k. live_with k g) new → Counts new ys
-counts_more old mid new hs ys h g place c s e at is r =
+pub counts_more : (old new : Tally) (hs ys : List Held) (h g : Held) (place : ℕ) → Counts old hs → ys ≡ hs ++ h ∷ [] → place ≡ length hs → slice_get ys place ≡ Some g
+    → Raises old (λ k. live_with k g) new → Counts new ys
+counts_more old new hs ys h g place c e at is r =
     let one : Some h ≡ Some g = sym (get-append_last hs h) ∙ ap (slice_get (hs ++ h ∷ [])) (sym at) ∙ ap (λ (x : List Held). slice_get x place) (sym e) ∙ is in
     let same : h ≡ g = cc in
-    subst (λ (x : List Held). Counts new x) (ap (λ (x : Held). hs ++ x ∷ []) (sym same) ∙ sym e) (counts_pushed mid new hs g (counts_stay old mid hs c s) r)
+    subst (λ (x : List Held). Counts new x) (ap (λ (x : Held). hs ++ x ∷ []) (sym same) ∙ sym e) (counts_pushed old new hs g c r)
 
 -- an object that leads another life, found at its place
 pub counts_led : (old mid new : Tally) (hs ys : List Held) (place : ℕ) (h g : Held) (life : Life) → Counts old hs → slice_get hs place ≡ Some h → ys ≡ relived hs place life → slice_get ys place ≡ Some g

@@ -46,8 +46,3 @@ pub record Raises (old : Tally) (more : ℕ → ℕ) (new : Tally) : Type 0 wher
 pub record Lowers (old : Tally) (fewer : ℕ → ℕ) (new : Tally) : Type 0 where
   pub was : new.exact ≡ true → old.exact ≡ true
   pub counts : new.exact ≡ true → (k : ℕ) → count_at old k ≡ fewer k + count_at new k
-
--- nothing is counted
-pub record Stays (old new : Tally) : Type 0 where
-  pub exact : new.exact ≡ old.exact
-  pub counts : (k : ℕ) → count_at new k ≡ count_at old k

@@ -76,7 +76,6 @@ impl Counted {
         requires { place_of (string_bytes object.id) (cards_of self.old) ≡ None }
         ensures { Pushes self.old (held object) result self.new }
     {
-        self.tally.make_room(object.given.names.as_slice())?;
         let place = self.objects.len();
         self.objects.push(object)?;
         self.tally.add(self.objects.at(place));

@@ -1,6 +1,5 @@
 //! How many live objects have a name.
 
-use crate::fault::StoreFault;
 use crate::hashes::name_hash;
 use kmipa_attrs::Name;
 use kmipa_object::Object;
@@ -18,11 +17,11 @@ pub struct Tally {
 }
 
 impl Tally {
-    ghost use Rattle.std.specs.Prelude.{◌≡◌, [], true, map, IfErr};
+    ghost use Rattle.std.specs.Prelude.{◌≡◌, ◌+◌, [], true, map};
     ghost use Rattle.kmipa_attrs.specs.Sets.{name_of};
     ghost use Rattle.kmipa_store.specs.Ledger.{held};
     ghost use Rattle.kmipa_store.specs.Hashes.{name_hash};
-    ghost use Rattle.kmipa_store.specs.Tally.{Counts, Lowers, Raises, Stays, Writes, count_at, live_with, names_with, one_at};
+    ghost use Rattle.kmipa_store.specs.Tally.{Counts, Lowers, Raises, Writes, count_at, live_with, names_with, one_at};
 
     /// Counts of no objects.
     pub fn new(alloc: Global) -> Tally
@@ -40,19 +39,6 @@ impl Tally {
         ensures none { result ≡ true → count_at self.now (name_hash value.now kind) ≡ 0 }
     {
         self.exact && self.count(name_hash(value, kind)) == 0
-    }
-
-    /// Makes room for the counts of these names.
-    pub fn make_room(&mut self, names: &[Name]) -> Result<(), StoreFault>
-        ensures same { Stays self.old self.new }
-        ensures err { IfErr result (λ fault. fault ≡ StoreFault.Memory) }
-    {
-        for i in 0..names.len() {
-            let name = &names[i];
-            let hash = name_hash(name.value.as_str(), name.kind);
-            self.open(hash)?;
-        }
-        Ok(())
     }
 
     /// Counts the names of an object, unless it is destroyed.
@@ -95,10 +81,22 @@ impl Tally {
         }
     }
 
+    /// A hash that is not there yet is counted once, by one look at the counts.
     fn raise(&mut self, hash: u64)
         ensures { Raises self.old (λ k. one_at hash k) self.new }
     {
-        let Some(more) = self.count(hash).checked_add(1) else {
+        match self.live.insert(hash, 1) {
+            Ok(None) => {}
+            Ok(Some(count)) => self.raise_from(hash, count),
+            Err(_) => self.exact = false,
+        }
+    }
+
+    /// One more than this count.
+    fn raise_from(&mut self, hash: u64, count: usize)
+        ensures { Writes self.old hash (count + 1) self.new }
+    {
+        let Some(more) = count.checked_add(1) else {
             self.exact = false;
             return;
         };
@@ -123,18 +121,6 @@ impl Tally {
             return;
         };
         self.exact = false;
-    }
-
-    /// A hash that is not there yet is counted zero times.
-    fn open(&mut self, hash: u64) -> Result<(), StoreFault>
-        ensures same { Stays self.old self.new }
-        ensures err { IfErr result (λ fault. fault ≡ StoreFault.Memory) }
-    {
-        if self.live.contains_key(&hash) {
-            return Ok(());
-        }
-        self.live.insert(hash, 0)?;
-        Ok(())
     }
 
     fn count(&self, hash: u64) -> usize
