@@ -23,6 +23,14 @@ PARTS = ("src", "specs", "proofs")
 STALE = re.compile(r"has no field|is not in scope|has no `|was not admitted|\(nearest: |this file exports no `")
 # What a function is told whose own goals are all proved.
 PROVED = re.compile(r"proved|(no proof|not proved)[:;] (in `\S+`, of this cycle of calls: )?it (calls|passes|drops) ")
+# What is told ahead of a function's own line of each of its goals that `search` left open.
+OPEN = re.compile(
+    r"^note: (?:\S+: it is not proved that [^\n]*?\("
+    r"|what antt said of a `search` in the proof that rattle made: \S+: error: )`([^`]+)`",
+    re.M,
+)
+# Answers of nothing.
+NO_OFFERS = "no-goal : no-type\nno-goal = no-answer\n"
 TYPE = re.compile(r"^(?:pub(?:\([^)]*\))? )?(?:struct|enum) (\w+)", re.M)
 ENDED = re.compile(r"^only=\d+ ", re.M)
 
@@ -120,6 +128,7 @@ class Crate:
             copy_proofs(room, edits)
             if not whole:
                 leave_out_others(room, edits)
+                want_no_offers(room, edits)
             only = [word for it in edits for word in ("--only", it.function)]
             words = ["check", *self.rattle_words(), "--jobs", "1", "--incremental", str(kept), *only]
             return self.run_rattle(room, words)
@@ -144,17 +153,35 @@ def full_names(texts: dict[str, str], path: str) -> list[tuple[Function, Optiona
 
 def leave_out_others(room: Path, edits: list[Edit]) -> None:
     """Leaves out the body and the proof of each function of a copy of a crate that none of these edits is to be judged
-    by: it has only to be stated. What is of a trait or of a cycle of calls stays."""
+    by: it has only to be stated. What is of a trait or of a cycle of calls stays, and what has a text of an edit."""
     judged = [f"::{it.function}" for it in edits]
     texts = texts_in(room)
     for path, text in texts.items():
         lines = text.split("\n")
+        changed = [change.new.strip() for it in edits for change in it.changes if change.path == path]
         for it, name in reversed(full_names(texts, path)):
             if name is None or it.cycle or not it.is_plain or any(f"::{name}".endswith(end) for end in judged):
+                continue
+            if any(new in line for line in lines[it.first : it.last + 1] for new in changed if new):
                 continue
             lines[it.body + 1 : it.last] = ["unreachable!()"]
             prove_nothing(room / "proofs" / name.replace("::", "/"))
         (room / path).write_text("\n".join(lines), encoding="utf-8")
+
+
+def want_no_offers(room: Path, edits: list[Edit]) -> None:
+    """Puts beside each function that is judged and has no answers by hand one of nothing, at a name of nothing: where
+    the answers are not in order, rattle makes none up for the goals that it leaves open, and prints none of these."""
+    judged = [f"::{it.function}" for it in edits]
+    texts = texts_in(room)
+    for path in texts:
+        for it, name in full_names(texts, path):
+            if name is None or it.cycle or not it.is_plain or not any(f"::{name}".endswith(end) for end in judged):
+                continue
+            folder = room / "proofs" / name.replace("::", "/")
+            if not (folder / "Answers.antt").exists() and not (folder / "Proof.antt").exists():
+                folder.mkdir(parents=True, exist_ok=True)
+                (folder / "Answers.antt").write_text(NO_OFFERS, encoding="utf-8")
 
 
 def copy_proofs(room: Path, edits: list[Edit]) -> None:
@@ -270,14 +297,18 @@ def unknown_names(edits: list[Edit], said: str) -> list[Edit]:
 
 def verdict_of(edit: Edit, said: str) -> Verdict:
     """What a check that came to its end says of the very function that the edit changes."""
-    lines = re.findall(r"^fn (\S+: .*)", said, re.M)
-    ends = [it for it in lines if f"::{it.partition(': ')[0]}".endswith(f"::{edit.function}")]
+    lines = list(re.finditer(r"^fn (\S+): (.*)", said, re.M))
+    ends = [it for it in lines if f"::{it[1]}".endswith(f"::{edit.function}")]
     if len(ends) != 1:
         return Verdict("not judged", f"{len(ends)} functions are called {edit.function}: name one by a line 'fn: NAME'")
-    path, _, told = ends[0].partition(": ")
+    path, told = ends[0][1], ends[0][2]
     goals = re.search(r"`search` did not prove ((?:`[^`]+`(?:, )?)+)", told)
     if goals:
         return Verdict("refused", f"not proved: {goals[1]}")
+    ahead = max((it.end() for it in lines if it.end() < ends[0].start()), default=0)
+    left_open = OPEN.findall(said, ahead, ends[0].start())
+    if told.startswith("not proved") and left_open:
+        return Verdict("refused", "not proved: " + ", ".join(f"`{it}`" for it in left_open))
     modules = path.split("::")[1:]
     own = "/".join([*modules[:-1], f"+{edit.cycle}" if edit.cycle else modules[-1]])
     errors = re.findall(rf"^(?:\./)?proofs/{re.escape(own)}/\w+\.antt:\d+:\d+: error: (.*)", said, re.M)

@@ -28,6 +28,12 @@ class Change:
     old: str
     new: str
 
+    @property
+    def added(self) -> str:
+        """What it puts ahead of a comment, if that is all it does."""
+        is_kept = self.old.startswith("///") and self.new.endswith(self.old)
+        return self.new[: -len(self.old)].rstrip() if is_kept else ""
+
 
 @dataclass(frozen=True)
 class Function:
@@ -89,13 +95,14 @@ def read_lines(text: str) -> tuple[list[Change], Optional[str]]:
 
 
 def put_in(texts: dict[str, str], changes: tuple[Change, ...]) -> dict[str, str]:
-    """The texts of files, by their paths, with these changes; a text that is to be changed has to stand there once."""
+    """The texts of files, by their paths, with these changes; a text that is to be changed has to stand there once.
+    What is put ahead of a comment stands on a line of its own."""
     made = dict(texts)
     for it in changes:
         found = made[it.path].count(it.old)
         if found != 1:
             raise BadEdit(f"an 'old:' text stands in {it.path} {found} times, and not once")
-        made[it.path] = made[it.path].replace(it.old, it.new)
+        made[it.path] = made[it.path].replace(it.old, f"{it.added}\n{it.old}" if it.added else it.new)
     return made
 
 
@@ -113,7 +120,7 @@ def read_edit(file: Path, crate: Path) -> Edit:
         texts = put_in(texts, (it,))
         first = before.count("\n", 0, before.index(it.old))
         place = function_at(before, it.path, first, first + it.old.count("\n"))
-        places.append((place, first, it.old.startswith("///") and it.new.endswith(it.old)))
+        places.append((place, first, bool(it.added)))
     found = {place.name: place for place, _, _ in places if place}
     in_body = len(found) == 1 and all(is_inside(place, line) if place else adds for place, line, adds in places)
     if not named and len(found) != 1:
