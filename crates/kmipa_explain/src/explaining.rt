@@ -59,15 +59,18 @@ fn explained(
 {
     let turn = refused.turn - 1;
     let step = &steps[turn];
+    let client = client_of(alloc, marks, step)?;
+    let overlapping = overlapping_calls(alloc, steps, turn)?;
+    let story = story_of(alloc, declaration, steps, refused)?;
     let rest = cause_of(alloc, declaration, steps, turn, refused.item, refused.why)?;
     Ok(Explanation {
-        client: client_of(alloc, marks, step)?,
+        client,
         stamp: step.stamp(),
         operation: operation_at(step, refused.item),
-        overlapping: overlapping_calls(alloc, steps, turn)?,
+        overlapping,
         whence: whence_of(alloc, declaration, steps, refused, &rest.subject)?,
         cause: rest.cause,
-        story: story_of(alloc, declaration, steps, refused)?,
+        story,
     })
 }
 

@@ -72,8 +72,24 @@ fn explained_object<R: Read>(
 {
     let mut held = Held::new(alloc);
     let outcome = explain_held(alloc, transcript, declaration, witness, &mut held)?;
-    let mut told = open_files(alloc, transcript, declaration, witness, &held)?;
-    let status = tell_explained(alloc, &mut told, &outcome)?;
+    lines_of(alloc, transcript, declaration, witness, &held, &outcome)
+}
+
+/// The object of a check of files whose bytes are held, with this outcome, on a line.
+fn lines_of<R>(
+    alloc: Global,
+    transcript: &Input<R>,
+    declaration: &Input<R>,
+    witness: &Input<R>,
+    held: &Held,
+    outcome: &Result<Explained, FaultTold>,
+) -> Result<Lines, AllocError>
+    requires { HoldsAll held.now transcript.now declaration.now witness.now }
+    ensures { IfOk result (λ lines. PrintsExplainedJson transcript.now declaration.now witness.now outcome.now lines.status
+        (string_bytes lines.text)) }
+{
+    let mut told = open_files(alloc, transcript, declaration, witness, held)?;
+    let status = tell_explained(alloc, &mut told, outcome)?;
     Ok(Lines {
         text: told.into_line()?,
         status,

@@ -120,13 +120,30 @@ fn answer_of<R: Read, W: Watch>(
         open,
         watch,
     )?;
-    let made = made_of(alloc, &outcome)?;
+    told_of(alloc, transcript, declaration, &first, &second, &outcome)
+}
+
+/// What is printed and made of this outcome of a search of files whose bytes are held.
+fn told_of<R>(
+    alloc: Global,
+    transcript: &Input<R>,
+    declaration: &Input<R>,
+    first: &[u8],
+    second: &[u8],
+    outcome: &Result<Judged, FaultTold>,
+) -> Result<Answer, AllocError>
+    requires first { first.now ≡ came_of transcript.now }
+    requires second { second.now ≡ came_of declaration.now }
+    ensures { IfOk result (λ answer. PrintsJsonSearch transcript.now declaration.now outcome.now answer.lines.status
+        (string_bytes answer.lines.text) answer.made.items) }
+{
+    let made = made_of(alloc, outcome)?;
     let mut files = JsonList::new(alloc);
-    files.push_object(read_object(alloc, "transcript", transcript, &first)?)?;
-    files.push_object(read_object(alloc, "declaration", declaration, &second)?)?;
-    push_made(alloc, &mut files, &outcome, made.as_slice())?;
+    files.push_object(read_object(alloc, "transcript", transcript, first)?)?;
+    files.push_object(read_object(alloc, "declaration", declaration, second)?)?;
+    push_made(alloc, &mut files, outcome, made.as_slice())?;
     let mut told = open_object(alloc, files)?;
-    let status = tell_search(alloc, &mut told, &outcome)?;
+    let status = tell_search(alloc, &mut told, outcome)?;
     let text = told.into_line()?;
     Ok(Answer {
         lines: Lines { text, status },
