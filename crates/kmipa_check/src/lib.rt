@@ -36,9 +36,10 @@ pub use laws::{
 };
 pub use leaving::declaration_left;
 pub use opening::{open_ledger, rules_of_declaration};
+pub use numbers::{FirstPlaces, Numbered};
 pub use order::steps_of;
 pub use plain_laws::{plain_call_has_one_step, plain_call_is_taken_bare};
-pub use reading::read_calls;
+pub use reading::{read_calls, request_in, response_in};
 pub use segment::{Checked, Left, check_segment};
 pub use stamp::stamp_of;
 pub use step::{Given, Step};

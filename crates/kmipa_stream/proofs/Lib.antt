@@ -1,0 +1,10 @@
+pub mod ListLemmas
+pub mod AheadLemmas
+pub mod SeeingLemmas
+pub mod WaitingLemmas
+pub mod ReadingLemmas
+pub mod OrderLemmas
+pub mod ReplayingLemmas
+pub mod StandingLemmas
+pub mod ConcludingLemmas
+pub mod StreamLemmas

@@ -1,0 +1,86 @@
+-- What the three files and the audit of the transcript come to together.
+use Rattle.std.proofs.Common.{◌≡◌, ℕ, ℤ, List, Bool, IsTrue, Option, Some, Result, Ok, Err, refl, sym, subst}
+use Rattle.kmipa_ttlv.specs.Input.{came_of, is_ended, IsFileOf}
+use Rattle.kmipa_ttlv.specs.declared.input.Input.{Input}
+use Rattle.kmipa_ttlv.proofs.ReadLemmas.{whole_file}
+use Rattle.kmipa_record.specs.Declarations.{DeclarationOf, IsDeclaration, DeclarationFault, IsDeclarationUpTo}
+use Rattle.kmipa_record.specs.Files.{Tells}
+use Rattle.kmipa_record.specs.Marks.{MarkOf}
+use Rattle.kmipa_record.specs.Transcripts.{IsTranscript}
+use Rattle.kmipa_record.specs.Witnesses.{TurnOf, IsWitness, WitnessFault, IsWitnessUpTo}
+use Rattle.kmipa_record.specs.declared.fault.RecordFault.{RecordFault}
+use Rattle.kmipa_check.specs.Audits.{AreAccepted, AreJudgedAs, AreUnjudged, AreATranscript, AreADeclaration, AuditFails, AuditsAs}
+use Rattle.kmipa_check.specs.Verdicts.{Checks, TellsVerdict}
+use Rattle.kmipa_check.specs.declared.auditing.AuditFault.{AuditFault}
+use Rattle.kmipa_check.specs.declared.auditing.AuditFault.TheVariants as audit
+use Rattle.kmipa_check.specs.declared.fault.CheckFault.{CheckFault}
+use Rattle.kmipa_check.specs.declared.verdict.Verdict.{Verdict}
+use Rattle.kmipa_check.specs.declared.verdict.Verdict.TheVariants.{Yes, No}
+use Rattle.kmipa_stream.specs.Standing.{Judges, DatesSo}
+use Rattle.kmipa_stream.specs.Streams.{TellsDate}
+use Rattle.kmipa_stream.specs.declared.judged.Judged.{Judged}
+
+-- the file whose bytes came to the end that was seen
+pub a_transcript : {R : Type 0} (ti : Input R) (t : List ℕ) (marks : List MarkOf) → IsFileOf t ti → IsTranscript (came_of ti) marks → IsTrue (is_ended ti) → AreATranscript t
+a_transcript ti t marks tf p ended = (marks, whole_file t ti (λ bytes. IsTranscript bytes marks) ended tf p)
+
+-- the records of the three files, and what is answered of them
+pub record AreTheseRecords (t d w : List ℕ) (marks : List MarkOf) (declared : DeclarationOf) (turns : List TurnOf) : Type 0 where
+  pub transcript : IsTranscript t marks
+  pub declaration : IsDeclaration d declared
+  pub witness : IsWitness w turns
+
+pub these_records : {R : Type 0} (ti di wi : Input R) (t d w : List ℕ) (marks : List MarkOf) (declared : DeclarationOf) (turns : List TurnOf)
+    → IsFileOf t ti → IsFileOf d di → IsFileOf w wi → IsTranscript (came_of ti) marks → IsTrue (is_ended ti) → IsDeclaration (came_of di) declared × IsTrue (is_ended di)
+    → IsWitness (came_of wi) turns × IsTrue (is_ended wi) → AreTheseRecords t d w marks declared turns
+these_records ti di wi t d w marks declared turns tf df wf p ended q s = record {
+  transcript = whole_file t ti (λ bytes. IsTranscript bytes marks) ended tf p;
+  declaration = whole_file d di (λ bytes. IsDeclaration bytes declared) q.1 df q.0;
+  witness = whole_file w wi (λ bytes. IsWitness bytes turns) s.1 wf s.0;
+}
+
+pub judged_so : (t d w : List ℕ) (marks : List MarkOf) (declared : DeclarationOf) (turns : List TurnOf) (verdict : Verdict) → AreTheseRecords t d w marks declared turns
+    → TellsVerdict marks declared turns verdict → AreJudgedAs verdict t d w
+judged_so t d w marks declared turns verdict r told = record {
+  marks = marks;
+  transcript = r.transcript;
+  declared = declared;
+  declaration = r.declaration;
+  turns = turns;
+  witness = r.witness;
+  verdict = told;
+}
+
+pub unjudged_so : (t d w : List ℕ) (marks : List MarkOf) (declared : DeclarationOf) (turns : List TurnOf) (fault : CheckFault) → AreTheseRecords t d w marks declared turns
+    → Checks marks declared turns (Err fault) → AreUnjudged fault t d w
+unjudged_so t d w marks declared turns fault r told = record {
+  marks = marks;
+  transcript = r.transcript;
+  declared = declared;
+  declaration = r.declaration;
+  turns = turns;
+  witness = r.witness;
+  checks = told;
+}
+
+pub accepted_so : (t d w : List ℕ) (marks : List MarkOf) (declared : DeclarationOf) (turns : List TurnOf) (verdict : Verdict) → verdict ≡ Yes → AreTheseRecords t d w marks declared turns
+    → TellsVerdict marks declared turns verdict → AreAccepted t d w
+accepted_so t d w marks declared turns Yes e r told = record {
+  marks = marks;
+  transcript = r.transcript;
+  declared = declared;
+  declaration = r.declaration;
+  turns = turns;
+  witness = r.witness;
+  accepted = told;
+}
+accepted_so t d w marks declared turns (No refused) e r told = absurd cc
+
+pub dated_so : (t d w : List ℕ) (marks : List MarkOf) (declared : DeclarationOf) (turns : List TurnOf) (verdict : Verdict) (stamp : Option ℤ) → AreTheseRecords t d w marks declared turns
+    → DatesSo marks turns verdict stamp → TellsDate t w verdict stamp
+dated_so t d w marks declared turns Yes stamp r dates = tt
+dated_so t d w marks declared turns (No refused) stamp r dates = (
+  dates.0,
+  dates.1,
+  record { marks = marks; transcript = r.transcript; turns = turns; witness = r.witness; answered = dates.2 },
+)

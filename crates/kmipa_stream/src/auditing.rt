@@ -1,0 +1,185 @@
+//! Audits of three inputs, the transcript of which is read once and not kept.
+
+ghost use Rattle.std.specs.Prelude.{◌≡◌, ℕ, Bool, List, [], true, false, IsTrue, IfOk, IfErr, OnOk};
+ghost use Rattle.kmipa_ttlv.specs.Input.{came_of, is_ended, is_failed, IsFileOf};
+ghost use Rattle.kmipa_record.specs.Declarations.{AreDeclared, DeclarationFault, DeclarationOf, IsDeclarationUpTo, declaration_of};
+ghost use Rattle.kmipa_record.specs.Files.{Tells};
+ghost use Rattle.kmipa_record.specs.Marks.{MarkOf};
+ghost use Rattle.kmipa_record.specs.TranscriptReading.{HaveCome, input_of, reference_of};
+ghost use Rattle.kmipa_record.specs.Transcripts.{IsTranscript, IsTranscriptUpTo, TranscriptFault};
+ghost use Rattle.kmipa_record.specs.Witnesses.{IsWitnessUpTo, WitnessFault, witness_of};
+ghost use Rattle.kmipa_record.specs.declared.turn.Turn as turns;
+ghost use Rattle.kmipa_check.specs.Audits.{AreADeclaration, AreAccepted, AuditFails, AuditsAs};
+ghost use Rattle.kmipa_check.specs.declared.verdict.Verdict.TheVariants.{Yes};
+ghost use Rattle.kmipa_stream.specs.Standing.{IsJudged, Stands};
+ghost use Rattle.kmipa_stream.specs.Streams.{IsPassed, TellsDate, verdict_alone};
+
+use crate::auditor::Auditor;
+use crate::judged::Judged;
+use kmipa_check::{AuditFault, CheckFault};
+use kmipa_record::{
+    Declaration, RecordFault, RecordedMarks, Witness, read_declaration, read_witness,
+};
+use kmipa_ttlv::Input;
+use std::alloc::Global;
+use std::io::Read;
+
+/// The verdict on three inputs of which nothing was read, as `audit` gives it. A turn is taken as soon as its call has ended in the
+/// transcript and it stands next in the witness, and the messages of the call are let go then: what is kept of the transcript is what
+/// the witness puts later.
+///
+/// The declaration and the witness are read first, the transcript to its end in any case: the first fault is still told in the order
+/// transcript, declaration, witness. Where the declaration is faulty the witness isn't read.
+pub fn audit_stream<R: Read>(
+    alloc: Global,
+    transcript: &mut Input<R>,
+    declaration: &mut Input<R>,
+    witness: &mut Input<R>,
+) -> Result<Judged, AuditFault>
+    requires transcript { came_of transcript.old ≡ [] }
+    requires declaration { came_of declaration.old ≡ [] }
+    requires witness { came_of witness.old ≡ [] }
+    // Whatever follows what came, and nothing where the end was seen: what `audit` answers.
+    ensures audits { (t d w : List ℕ) → IsFileOf t transcript.new → IsFileOf d declaration.new → IsFileOf w witness.new
+        → AuditsAs t d w (is_failed transcript.new) (is_failed declaration.new) (is_failed witness.new)
+        (verdict_alone result) }
+    // So a yes is reported only of accepted bytes.
+    ensures accepted { IfOk result
+        (λ judged. judged.verdict ≡ Yes
+        → AreAccepted (came_of transcript.new) (came_of declaration.new) (came_of witness.new)) }
+    // A no comes with the Time Stamp of its call's response.
+    ensures dated { IfOk result
+        (λ judged. TellsDate (came_of transcript.new) (came_of witness.new) judged.verdict judged.stamp) }
+    ensures ended { OnOk result
+        (IsTrue (is_ended transcript.new) × IsTrue (is_ended declaration.new) × IsTrue (is_ended witness.new)) }
+{
+    let declaration = match read_declaration(alloc, declaration) {
+        Ok(declaration) => declaration,
+        Err(fault) => return Err(declaration_fault(alloc, transcript, fault)),
+    };
+    let witness = match read_witness(alloc, witness) {
+        Ok(witness) => witness,
+        Err(fault) => return Err(witness_fault(alloc, transcript, fault)),
+    };
+    match judge(alloc, transcript, &declaration, &witness) {
+        Ok(Ok(judged)) => Ok(judged),
+        Ok(Err(fault)) => Err(AuditFault::Check(fault)),
+        Err(fault) => Err(AuditFault::Transcript(fault)),
+    }
+}
+
+/// The first fault of the transcript, or, where it has none, this one of the declaration.
+fn declaration_fault<R: Read>(
+    alloc: Global,
+    transcript: &mut Input<R>,
+    fault: RecordFault,
+) -> AuditFault
+    requires { came_of transcript.old ≡ [] }
+    ensures { (t d w : List ℕ) (failed_d failed_w : Bool) → IsFileOf t transcript.new
+        → Tells DeclarationFault IsDeclarationUpTo d failed_d fault
+        → AuditFails t d w (is_failed transcript.new) failed_d failed_w result }
+{
+    match pass(alloc, transcript) {
+        Ok(()) => AuditFault::Declaration(fault),
+        Err(first) => AuditFault::Transcript(first),
+    }
+}
+
+/// The first fault of the transcript, or, where it has none, this one of the witness.
+fn witness_fault<R: Read>(
+    alloc: Global,
+    transcript: &mut Input<R>,
+    fault: RecordFault,
+) -> AuditFault
+    requires { came_of transcript.old ≡ [] }
+    ensures { (t d w : List ℕ) (failed_d failed_w : Bool) → IsFileOf t transcript.new → AreADeclaration d
+        → Tells WitnessFault IsWitnessUpTo w failed_w fault
+        → AuditFails t d w (is_failed transcript.new) failed_d failed_w result }
+{
+    match pass(alloc, transcript) {
+        Ok(()) => AuditFault::Witness(fault),
+        Err(first) => AuditFault::Transcript(first),
+    }
+}
+
+/// Reads a transcript to its end, and keeps nothing of it.
+fn pass<R: Read>(alloc: Global, transcript: &mut Input<R>) -> Result<(), RecordFault>
+    requires { came_of transcript.old ≡ [] }
+    ensures ended { OnOk result (IsPassed transcript.new) }
+    ensures fault { (file : List ℕ) → IsFileOf file transcript.new
+        → IfErr result (Tells TranscriptFault IsTranscriptUpTo file (is_failed transcript.new)) }
+{
+    let mut source = RecordedMarks::new(alloc, transcript);
+    let passed = pass_marks(&mut source);
+    let _ = source.into_input();
+    match passed {
+        Ok(()) => Ok(()),
+        Err(fault) => Err(fault),
+    }
+}
+
+/// Reads the marks of a transcript up to the end.
+fn pass_marks<R: Read>(source: &mut RecordedMarks<'_, R>) -> Result<(), RecordFault>
+    requires { HaveCome [] source.old }
+    ensures ended { OnOk result (IsPassed (input_of source.new)) }
+    ensures fault { (file : List ℕ) → IsFileOf file (input_of source.new)
+        → IfErr result (Tells TranscriptFault IsTranscriptUpTo file (is_failed (input_of source.new))) }
+    ensures same_reference { reference_of source.new ≡ reference_of source.old }
+{
+    'marks: while let Some(_) = source.next()? {}
+    Ok(())
+}
+
+/// What the check answers of a transcript, or its first fault.
+fn judge<R: Read>(
+    alloc: Global,
+    transcript: &mut Input<R>,
+    declaration: &Declaration,
+    witness: &Witness,
+) -> Result<Result<Judged, CheckFault>, RecordFault>
+    requires came { came_of transcript.old ≡ [] }
+    requires declared { AreDeclared (declaration_of declaration.now) }
+    ensures judged { IfOk result
+        (IsJudged transcript.new (declaration_of declaration.now) (witness_of witness.now)) }
+    ensures fault { (file : List ℕ) → IsFileOf file transcript.new
+        → IfErr result (Tells TranscriptFault IsTranscriptUpTo file (is_failed transcript.new)) }
+{
+    let Ok(mut auditor) = Auditor::new(alloc, declaration, &witness.turns) else {
+        return match pass(alloc, transcript) {
+            Ok(()) => Ok(Err(CheckFault::Memory)),
+            Err(fault) => Err(fault),
+        };
+    };
+    let mut source = RecordedMarks::new(alloc, transcript);
+    let taken = take_marks(&mut source, &mut auditor);
+    let _ = source.into_input();
+    match taken {
+        Ok(true) => Ok(auditor.judge()),
+        Ok(false) => Ok(Err(CheckFault::Memory)),
+        Err(fault) => Err(fault),
+    }
+}
+
+/// Hands the marks of a transcript to an auditor, up to the end: whether memory sufficed. Where it runs out the rest is only read.
+fn take_marks<R: Read>(
+    source: &mut RecordedMarks<'_, R>,
+    auditor: &mut Auditor<'_>,
+) -> Result<bool, RecordFault>
+    requires come { HaveCome [] source.old }
+    requires first { (turns : List turns.Turn) × (declared : DeclarationOf) × Stands false [] turns declared auditor.old }
+    ensures taken { (turns : List turns.Turn) (declared : DeclarationOf) → Stands false [] turns declared auditor.old
+        → IfOk result (λ sufficed. (marks : List MarkOf) × IsTranscript (came_of (input_of source.new)) marks
+        × IsTrue (is_ended (input_of source.new))
+        × (sufficed ≡ true → Stands false marks turns declared auditor.new)) }
+    ensures fault { (file : List ℕ) → IsFileOf file (input_of source.new)
+        → IfErr result (Tells TranscriptFault IsTranscriptUpTo file (is_failed (input_of source.new))) }
+    ensures same_reference { reference_of source.new ≡ reference_of source.old }
+{
+    let mut sufficed = true;
+    'marks: while let Some(mark) = source.next()? {
+        if sufficed {
+            sufficed = auditor.take(mark).is_ok();
+        }
+    }
+    Ok(sufficed)
+}

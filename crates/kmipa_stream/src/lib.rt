@@ -1,0 +1,16 @@
+//! The audit of a transcript as it comes: a turn is taken as soon as its call has ended, and its messages are let go then.
+#![tactic(auto)]
+
+mod auditing;
+mod auditor;
+mod ends;
+mod judged;
+mod lowest;
+mod naming;
+mod reading;
+mod replaying;
+mod seen;
+mod taking;
+
+pub use auditing::audit_stream;
+pub use judged::Judged;
