@@ -9,12 +9,11 @@ use Rattle.kmipa_record.specs.Kinds as files
 use Rattle.kmipa_record.specs.declared.fault.RecordKind.{RecordKind}
 use Rattle.kmipa_record.specs.declared.fault.RecordKind.TheVariants.{Ttlv, Device, Memory}
 use Rattle.kmipa_record.specs.Marks.{MarkOf}
-use Rattle.kmipa_record.specs.Witnesses.{TurnOf, witness_of, IsWitness}
-use Rattle.kmipa_record.specs.Transcripts.{transcript_of, IsTranscript}
+use Rattle.kmipa_record.specs.Witnesses.{TurnOf, IsWitness}
+use Rattle.kmipa_record.specs.Transcripts.{IsTranscript}
 use Rattle.kmipa_check.specs.Audits.{AreAccepted}
 use Rattle.kmipa_check.specs.Kinds as witnesses
 use Rattle.kmipa_check.specs.Stamps.{IsAnsweredAt, TellsStamp}
-use Rattle.kmipa_check.specs.declared.auditing.Audited.{Audited}
 use Rattle.kmipa_check.specs.declared.auditing.AuditFault.{AuditFault}
 use Rattle.kmipa_check.specs.declared.auditing.AuditFault.TheVariants as audit
 use Rattle.kmipa_check.specs.declared.fault.CheckFault.{CheckFault}
@@ -24,6 +23,7 @@ use Rattle.kmipa_check.specs.declared.fault.Side.TheVariants.{Client, Server}
 use Rattle.kmipa_check.specs.declared.verdict.Refused.{Refused}
 use Rattle.kmipa_check.specs.declared.verdict.Verdict.{Verdict}
 use Rattle.kmipa_check.specs.declared.verdict.Verdict.TheVariants as verdict
+use Rattle.kmipa_stream.specs.Streams.{WasAnsweredAt}
 use Rattle.kmipa_runs.specs.Dates.{HasDate}
 use Rattle.kmipa_runs.specs.Statuses.{IsSilent}
 use Rattle.kmipa_runs.specs.declared.status.Status.{Status}
@@ -92,6 +92,12 @@ PrintsDate None lines = lines ≡ []
 PrintsDate (Some second) lines =
     (date : List ℕ) × (¬ (HasDate second) → date ≡ signed_decimal second) × (lines ≡ line (codes "at " ∷ date ∷ []))
 
+-- what is printed of a verdict: after a no the date of this moment
+abbrev pub PrintsStamped : Verdict → Option ℤ → Status → List ℕ → Type 0
+PrintsStamped verdict.Yes stamp said lines = (said ≡ status.Done) × (lines ≡ yes_line)
+PrintsStamped (verdict.No refused) stamp said lines = (said ≡ status.No)
+    × ((dated : List ℕ) × (PrintsDate stamp dated) × (lines ≡ no_line refused ++ dated))
+
 -- what is printed of a verdict on these marks and turns: after a no the date of its turn, which is the Time Stamp of its call's response
 abbrev pub PrintsVerdict : List MarkOf → List TurnOf → Verdict → Status → List ℕ → Type 0
 PrintsVerdict marks turns verdict.Yes said lines = (said ≡ status.Done) × (lines ≡ yes_line)
@@ -116,10 +122,12 @@ pub record IsDated (lines transcript declaration witness : List ℕ) : Type 0 wh
 abbrev pub PrintsFault : AuditFault → Status → List ℕ → Type 0
 PrintsFault fault said lines = (said ≡ fault_status fault) × (lines ≡ fault_text fault)
 
--- what is printed of an audit
-abbrev pub PrintsOutcome : Result Audited AuditFault → Status → List ℕ → Type 0
-PrintsOutcome (Ok audited) said lines = PrintsVerdict (transcript_of audited.transcript) (witness_of audited.witness) audited.verdict said lines
-PrintsOutcome (Err fault) said lines = PrintsFault fault said lines
+-- what is printed of an audit of this transcript and this witness: after a no the date at which the call was answered that it refuses
+abbrev pub PrintsOutcome : List ℕ → List ℕ → Result Verdict AuditFault → Status → List ℕ → Type 0
+PrintsOutcome t w (Ok verdict.Yes) said lines = (said ≡ status.Done) × (lines ≡ yes_line)
+PrintsOutcome t w (Ok (verdict.No refused)) said lines = (said ≡ status.No)
+    × ((stamp : ℤ) × WasAnsweredAt t w refused.call stamp × ((dated : List ℕ) × (PrintsDate (Some stamp) dated) × (lines ≡ no_line refused ++ dated)))
+PrintsOutcome t w (Err fault) said lines = PrintsFault fault said lines
 
 -- where the bytes are accepted, and no input failed, the answer is yes, or memory ran out
 abbrev pub SaysYes : Bool → Bool → Bool → Status → List ℕ → List ℕ → List ℕ → List ℕ → Type 0

@@ -3,7 +3,7 @@
 ghost use Rattle.std.specs.Prelude.{◌≡◌, IfOk, string_bytes};
 ghost use Rattle.kmipa_record.specs.Transcripts.{transcript_of};
 ghost use Rattle.kmipa_record.specs.Witnesses.{witness_of};
-ghost use Rattle.kmipa_runs.specs.Lines.{PrintsVerdict, PrintsDate, PrintsFault, no_line, record_text, record_status, check_text, check_status, side_name};
+ghost use Rattle.kmipa_runs.specs.Lines.{PrintsVerdict, PrintsStamped, PrintsDate, PrintsFault, no_line, record_text, record_status, check_text, check_status, side_name};
 
 use crate::dates::date_text;
 use crate::status::Status;
@@ -28,13 +28,29 @@ pub fn verdict_lines(
     ensures { IfOk result (λ lines. PrintsVerdict (transcript_of transcript.now) (witness_of witness.now) verdict.now lines.status (string_bytes lines.text)) }
 {
     match verdict {
+        Verdict::Yes => stamped_lines(alloc, verdict, None),
+        Verdict::No(refused) => {
+            let stamp = stamp_of(alloc, transcript, witness, refused.call)?;
+            stamped_lines(alloc, verdict, stamp)
+        }
+    }
+}
+
+/// The lines of a verdict; behind that of a no the date of this moment.
+pub fn stamped_lines(
+    alloc: Global,
+    verdict: &Verdict,
+    stamp: Option<i64>,
+) -> Result<Lines, AllocError>
+    ensures { IfOk result (λ lines. PrintsStamped verdict.now stamp lines.status (string_bytes lines.text)) }
+{
+    match verdict {
         Verdict::Yes => Ok(Lines {
             text: String::from_str(alloc, "yes\n")?,
             status: Status::Done,
         }),
         Verdict::No(refused) => {
             let line = no_text(alloc, refused)?;
-            let stamp = stamp_of(alloc, transcript, witness, refused.call)?;
             let date = date_lines(alloc, stamp)?;
             Ok(Lines {
                 text: format!(in alloc; "{line}{date}")?,

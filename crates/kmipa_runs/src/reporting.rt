@@ -5,12 +5,13 @@ ghost use Rattle.std.specs.Io.{StartsWith, appended_bytes};
 ghost use Rattle.kmipa_record.specs.Transcripts.{transcript_of};
 ghost use Rattle.kmipa_record.specs.Witnesses.{witness_of};
 ghost use Rattle.kmipa_runs.specs.Statuses.{IsSilent};
-ghost use Rattle.kmipa_runs.specs.Lines.{PrintsVerdict};
+ghost use Rattle.kmipa_runs.specs.Lines.{PrintsStamped, PrintsVerdict};
 
-use crate::lines::{Lines, verdict_lines};
+use crate::lines::{Lines, stamped_lines, verdict_lines};
 use crate::status::Status;
 use kmipa_check::Verdict;
 use kmipa_record::{Transcript, Witness};
+use kmipa_stream::Judged;
 use std::alloc::{AllocError, Global};
 
 /// Appends the lines of a verdict on this transcript and this witness, and answers their status. Where memory runs out nothing is
@@ -27,6 +28,15 @@ pub fn report(
     ensures appends { StartsWith out.new.items out.old.items }
 {
     append(verdict_lines(alloc, verdict, transcript, witness), out)
+}
+
+/// The same of a verdict that comes with the moment at which the call was answered that it refuses.
+pub fn report_judged(alloc: Global, judged: &Judged, out: &mut Vec<u8>) -> Status
+    ensures prints { PrintsStamped judged.now.verdict judged.now.stamp result (appended_bytes out.old.items out.new.items)
+        ⊎ IsSilent result (appended_bytes out.old.items out.new.items) }
+    ensures appends { StartsWith out.new.items out.old.items }
+{
+    append(stamped_lines(alloc, &judged.verdict, judged.stamp), out)
 }
 
 /// Appends lines, all or, where memory runs out, none.

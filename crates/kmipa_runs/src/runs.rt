@@ -5,12 +5,13 @@ ghost use Rattle.std.specs.Io.{StartsWith, appended_bytes};
 ghost use Rattle.kmipa_ttlv.specs.Input.{came_of, is_ended, is_failed, IsFileOf};
 ghost use Rattle.kmipa_runs.specs.Statuses.{IsSilent};
 ghost use Rattle.kmipa_runs.specs.Lines.{FitsStatus, IsDated, PrintsOutcome, SaysYes, yes_line};
-ghost use Rattle.kmipa_check.specs.Audits.{AreAccepted, Audits};
+ghost use Rattle.kmipa_check.specs.Audits.{AreAccepted, AuditsAs};
 
 use crate::lines::fault_lines;
-use crate::reporting::{append, report};
+use crate::reporting::{append, report_judged};
 use crate::status::Status;
-use kmipa_check::{AuditFault, Audited, audit_with};
+use kmipa_check::{AuditFault, Verdict};
+use kmipa_stream::audit_stream;
 use kmipa_ttlv::Input;
 use std::alloc::Global;
 use std::io::Read;
@@ -28,10 +29,11 @@ pub fn check_run<R: Read>(
     requires declaration { came_of declaration.old ≡ [] }
     requires witness { came_of witness.old ≡ [] }
     // What is printed tells what an audit answers of whatever the inputs may be, or memory ran out.
-    ensures prints { (outcome : Result Audited AuditFault)
+    ensures prints { (outcome : Result Verdict AuditFault)
         × ((t d w : List ℕ) → IsFileOf t transcript.new → IsFileOf d declaration.new → IsFileOf w witness.new
-        → Audits t d w (is_failed transcript.new) (is_failed declaration.new) (is_failed witness.new) outcome)
-        × (PrintsOutcome outcome result (appended_bytes out.old.items out.new.items) ⊎ IsSilent result (appended_bytes out.old.items out.new.items)) }
+        → AuditsAs t d w (is_failed transcript.new) (is_failed declaration.new) (is_failed witness.new) outcome)
+        × (PrintsOutcome (came_of transcript.new) (came_of witness.new) outcome result (appended_bytes out.old.items out.new.items)
+        ⊎ IsSilent result (appended_bytes out.old.items out.new.items)) }
     // `yes` is printed with status 0, and there alone.
     ensures fits { FitsStatus result (appended_bytes out.old.items out.new.items) }
     ensures yes { (result ≡ Status.Done) ↔ (appended_bytes out.old.items out.new.items ≡ yes_line) }
@@ -45,14 +47,8 @@ pub fn check_run<R: Read>(
     // A no has its date.
     ensures dated { result ≡ Status.No → IsDated (appended_bytes out.old.items out.new.items) (came_of transcript.new) (came_of declaration.new) (came_of witness.new) }
 {
-    match audit_with(alloc, transcript, declaration, witness) {
-        Ok(audited) => report(
-            alloc,
-            &audited.verdict,
-            &audited.transcript,
-            &audited.witness,
-            out,
-        ),
+    match audit_stream(alloc, transcript, declaration, witness) {
+        Ok(judged) => report_judged(alloc, &judged, out),
         Err(fault) => append(fault_lines(alloc, &fault), out),
     }
 }

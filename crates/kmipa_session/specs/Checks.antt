@@ -2,9 +2,10 @@
 use Rattle.std.specs.Prelude.{◌≡◌, ◌≢◌, ◌⊎◌, ◌↔◌, ℕ, ℤ, List, [], Bool, IsTrue, Option, Result}
 use Rattle.kmipa_ttlv.specs.Input.{came_of, is_ended, is_failed, IsFileOf}
 use Rattle.kmipa_ttlv.specs.declared.input.Input.{Input}
-use Rattle.kmipa_check.specs.Audits.{AreAccepted, Audits}
+use Rattle.kmipa_check.specs.Audits.{AreAccepted, AuditsAs}
 use Rattle.kmipa_check.specs.declared.auditing.Audited.{Audited}
 use Rattle.kmipa_check.specs.declared.auditing.AuditFault.{AuditFault}
+use Rattle.kmipa_check.specs.declared.verdict.Verdict.{Verdict}
 use Rattle.kmipa_runs.specs.Lines.{FitsStatus, IsDated, PrintsOutcome, SaysYes, yes_line}
 use Rattle.kmipa_runs.specs.Statuses.{IsSilent}
 use Rattle.kmipa_runs.specs.declared.status.Status.{Status}
@@ -27,9 +28,9 @@ AcceptsWhenDone t d w said = said ≡ status.Done → AreAccepted (came_of t) (c
 -- Its lines alone.
 pub record ChecksInLines {R : Type 0} (t d w : Input R) (said : Status) (lines : List ℕ) : Type 0 where
   -- they tell what an audit answers of whatever the files may be, or memory ran out
-  pub prints : (outcome : Result Audited AuditFault)
-      × ((a b c : List ℕ) → IsFileOf a t → IsFileOf b d → IsFileOf c w → Audits a b c (is_failed t) (is_failed d) (is_failed w) outcome)
-      × (PrintsOutcome outcome said lines ⊎ IsSilent said lines)
+  pub prints : (outcome : Result Verdict AuditFault)
+      × ((a b c : List ℕ) → IsFileOf a t → IsFileOf b d → IsFileOf c w → AuditsAs a b c (is_failed t) (is_failed d) (is_failed w) outcome)
+      × (PrintsOutcome (came_of t) (came_of w) outcome said lines ⊎ IsSilent said lines)
   -- `yes` is printed with status 0, and there alone
   pub fits : FitsStatus said lines
   pub yes : (said ≡ status.Done) ↔ (lines ≡ yes_line)

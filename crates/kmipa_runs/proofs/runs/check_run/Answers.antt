@@ -1,37 +1,50 @@
 use Rattle.std.proofs.Common.{Ok, Err}
 use Rattle.std.specs.Io.{appended_bytes}
 use Rattle.kmipa_ttlv.specs.Input.{came_of}
-use Rattle.kmipa_ttlv.proofs.ReadLemmas.{itself}
-use Rattle.kmipa_record.specs.Witnesses.{witness_of}
-use Rattle.kmipa_record.specs.Transcripts.{transcript_of}
-use Rattle.kmipa_check.proofs.AuditLemmas.{yes_accepted}
-use Rattle.kmipa_runs.proofs.LineLemmas.{verdict_dated, done_is_yes}
-use Rattle.kmipa_runs.proofs.YesLemmas.{accepted_reported, fault_reported}
+use Rattle.kmipa_runs.proofs.LineLemmas.{judged_told, outcome_dated, stamped_done_is_yes}
+use Rattle.kmipa_runs.proofs.YesLemmas.{accepted_printed, fault_printed}
 use Rattle.kmipa_runs.proofs.runs.check_run.Goals as goal
+
+pub returns-in-Ok-clause-prints : goal.returns-in-Ok-clause-prints
+returns-in-Ok-clause-prints g c =
+    let t = came_of c.audit_stream.new.transcript in
+    let w = came_of c.audit_stream.new.witness in
+    let judged = c.in-Ok.judged in
+    let lines = appended_bytes c.args.out.now.items c.report_judged.new.out.items in
+    (Ok judged.verdict, c.in-Ok.ensures.audits, judged_told t w judged.verdict judged.stamp c.report_judged.result lines c.in-Ok.ensures.dated c.report_judged.ensures.prints)
+
+pub returns-in-Err-clause-prints : goal.returns-in-Err-clause-prints
+returns-in-Err-clause-prints g c =
+    (Err c.in-Err.fault, c.in-Err.ensures.audits, fault_printed c.fault_lines.result c.in-Err.fault c.append.result (appended_bytes c.args.out.now.items c.append.new.out.items) c.fault_lines.ensures c.append.ensures.prints)
 
 pub returns-in-Ok-clause-dated : goal.returns-in-Ok-clause-dated
 returns-in-Ok-clause-dated g c =
-    let t = c.audit_with.new.transcript in
-    let d = c.audit_with.new.declaration in
-    let w = c.audit_with.new.witness in
-    verdict_dated (came_of t) (came_of d) (came_of w)
-    c.in-Ok.audited c.report.result (appended_bytes c.args.out.now.items c.report.new.out.items) (c.in-Ok.ensures.audits (came_of t) (came_of d) (came_of w) (itself t) (itself d) (itself w)) c.report.ensures.prints
+    let t = came_of c.audit_stream.new.transcript in
+    let d = came_of c.audit_stream.new.declaration in
+    let w = came_of c.audit_stream.new.witness in
+    let judged = c.in-Ok.judged in
+    let lines = appended_bytes c.args.out.now.items c.report_judged.new.out.items in
+    outcome_dated t d w judged.verdict c.report_judged.result lines (judged_told t w judged.verdict judged.stamp c.report_judged.result lines c.in-Ok.ensures.dated c.report_judged.ensures.prints)
 
 pub returns-in-Ok-clause-accepted : goal.returns-in-Ok-clause-accepted
 returns-in-Ok-clause-accepted g c = λ t d w tf df wf.
-    accepted_reported t d w _ _ _
-    (Ok c.in-Ok.audited) c.report.result (appended_bytes c.args.out.now.items c.report.new.out.items) (c.in-Ok.ensures.audits t d w tf df wf) c.report.ensures.prints
+    let came_t = came_of c.audit_stream.new.transcript in
+    let came_w = came_of c.audit_stream.new.witness in
+    let judged = c.in-Ok.judged in
+    let lines = appended_bytes c.args.out.now.items c.report_judged.new.out.items in
+    accepted_printed came_t came_w t d w _ _ _ (Ok judged.verdict) c.report_judged.result lines (c.in-Ok.ensures.audits t d w tf df wf)
+    (judged_told came_t came_w judged.verdict judged.stamp c.report_judged.result lines c.in-Ok.ensures.dated c.report_judged.ensures.prints)
 
 pub returns-in-Err-clause-accepted : goal.returns-in-Err-clause-accepted
 returns-in-Err-clause-accepted g c = λ t d w tf df wf.
-    accepted_reported t d w _ _ _
+    let came_t = came_of c.audit_stream.new.transcript in
+    let came_w = came_of c.audit_stream.new.witness in
+    accepted_printed came_t came_w t d w _ _ _
     (Err c.in-Err.fault) c.append.result (appended_bytes c.args.out.now.items c.append.new.out.items) (c.in-Err.ensures.audits t d w tf df wf)
-    (fault_reported c.fault_lines.result c.in-Err.fault c.append.result (appended_bytes c.args.out.now.items c.append.new.out.items) c.fault_lines.ensures c.append.ensures.prints)
+    (fault_printed c.fault_lines.result c.in-Err.fault c.append.result (appended_bytes c.args.out.now.items c.append.new.out.items) c.fault_lines.ensures c.append.ensures.prints)
 
 pub returns-in-Ok-clause-accepts : goal.returns-in-Ok-clause-accepts
 returns-in-Ok-clause-accepts g c = λ done.
-    let t = c.audit_with.new.transcript in
-    let d = c.audit_with.new.declaration in
-    let w = c.audit_with.new.witness in
-    let yes = done_is_yes (transcript_of c.in-Ok.audited.transcript) (witness_of c.in-Ok.audited.witness) c.in-Ok.audited.verdict c.report.result (appended_bytes c.args.out.now.items c.report.new.out.items) c.report.ensures.prints done in
-    (yes_accepted (came_of t) (came_of d) (came_of w) c.in-Ok.audited yes (c.in-Ok.ensures.audits (came_of t) (came_of d) (came_of w) (itself t) (itself d) (itself w)), c.in-Ok.ensures.ended.0, c.in-Ok.ensures.ended.1, c.in-Ok.ensures.ended.2)
+    let judged = c.in-Ok.judged in
+    let yes = stamped_done_is_yes judged.verdict judged.stamp c.report_judged.result (appended_bytes c.args.out.now.items c.report_judged.new.out.items) c.report_judged.ensures.prints done in
+    (c.in-Ok.ensures.accepted yes, c.in-Ok.ensures.ended.0, c.in-Ok.ensures.ended.1, c.in-Ok.ensures.ended.2)
