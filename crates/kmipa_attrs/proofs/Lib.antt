@@ -2,6 +2,7 @@ pub mod FieldLemmas
 pub mod ReadingLemmas
 pub mod ViewLemmas
 pub mod SideLemmas
+pub mod LifeLemmas
 pub mod NameLemmas
 pub mod DistinctLemmas
 pub mod AttrLemmas

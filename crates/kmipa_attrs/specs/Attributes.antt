@@ -1,6 +1,6 @@
 -- What the children of an Attributes structure say, and what is wrong with them.
-use Rattle.std.specs.Prelude.{◌≡◌, ◌≤◌, ℕ, ℤ, List, [], ◌∷◌, map, length, Option, Some, None, Result, Ok, Err, codes}
-use Rattle.kmipa_ttlv.specs.Tree.{Tree, Trees, structure, scalar}
+use Rattle.std.specs.Prelude.{◌≡◌, ◌≤◌, ◌==◌, ◌||◌, ℕ, ℤ, Bool, false, List, [], ◌∷◌, map, length, Option, Some, None, Result, Ok, Err, codes}
+use Rattle.kmipa_ttlv.specs.Tree.{Tree, Trees, structure, scalar, none, more, tag_of}
 use Rattle.kmipa_attrs.specs.Tags.{activation_date, compromise_date, cryptographic_algorithm, cryptographic_length, cryptographic_usage_mask, deactivation_date, destroy_date, initial_date, name_tag, object_type_tag, state_tag, unique_identifier}
 use Rattle.kmipa_attrs.specs.Sets.{NameOf, Attributes, attributes_of}
 use Rattle.kmipa_attrs.specs.Names.{as_name, distinct}
@@ -190,6 +190,16 @@ ends_in side ts =
     both attr_number
     (both attr_number (server_single as_date destroy_date side ts) (server_single as_date compromise_date side ts))
     (server_only side (first unique_identifier ts))
+
+-- a tag of what tells of the object's life, or names it
+abbrev pub is_of_life : ℕ → Bool
+is_of_life tag =
+    (tag == state_tag) || (tag == initial_date) || (tag == activation_date) || (tag == deactivation_date) || (tag == destroy_date) || (tag == compromise_date) || (tag == unique_identifier)
+
+-- there is such a child
+unfoldable pub tells_of_life : Trees → Bool
+tells_of_life none = false
+tells_of_life (more t ts) = is_of_life (tag_of t) || tells_of_life ts
 
 abbrev pub Rows : Type 0
 Rows = List NameOf × (Description × (Stages × Ends))

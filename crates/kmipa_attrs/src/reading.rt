@@ -2,7 +2,8 @@
 
 ghost use Rattle.std.specs.Prelude.{◌≡◌};
 ghost use Rattle.kmipa_ttlv.specs.ViewTree.{view_tree, view_trees};
-ghost use Rattle.kmipa_attrs.specs.Attributes.{GivesAttributes, ReadsSet, description_in, stages_in, ends_in, attributes_in};
+ghost use Rattle.kmipa_attrs.specs.Attributes.{GivesAttributes, ReadsSet, attr_number, description_in, stages_in, ends_in, attributes_in, is_of_life, tells_of_life};
+ghost use Rattle.kmipa_attrs.specs.Readings.{both};
 
 use crate::attr_set::AttrSet;
 use crate::fault::AttrFault;
@@ -34,10 +35,7 @@ pub fn read_children(alloc: Global, children: Children, side: Side) -> Result<At
     ensures { GivesAttributes result (attributes_in side (view_trees children.entry)) }
 {
     let names = read_names(alloc, children)?;
-    let rest = both(
-        description(children),
-        both(stages(children, side), ends(children, side)),
-    );
+    let rest = both(description(children), life(children, side));
     let (
         ((object_type, algorithm), (length, mask)),
         (((state, initial), (activation, deactivation)), ((destroy, compromise), ())),
@@ -73,6 +71,40 @@ fn description(children: Children) -> Result<Description, AttrFault>
             single::<i32>(children, CRYPTOGRAPHIC_USAGE_MASK),
         ),
     )
+}
+
+/// What tells of the object's life. Most descriptions tell nothing of it, which one look at the tags shows.
+fn life(children: Children, side: Side) -> Result<(Stages, Ends), AttrFault>
+    ensures { result ≡ both attr_number (stages_in side (view_trees children.entry)) (ends_in side (view_trees children.entry)) }
+{
+    if !tells_of_life(children) {
+        return Ok((((None, None), (None, None)), ((None, None), ())));
+    }
+    both(stages(children, side), ends(children, side))
+}
+
+fn tells_of_life(children: Children) -> bool
+    ensures { result ≡ tells_of_life (view_trees children.entry) }
+{
+    let mut left = children;
+    'children: while let Some(child) = left.next() {
+        if is_of_life(child.tag.number) {
+            return true;
+        }
+    }
+    false
+}
+
+fn is_of_life(tag: u32) -> bool
+    ensures { result ≡ is_of_life tag }
+{
+    tag == STATE
+        || tag == INITIAL_DATE
+        || tag == ACTIVATION_DATE
+        || tag == DEACTIVATION_DATE
+        || tag == DESTROY_DATE
+        || tag == COMPROMISE_DATE
+        || tag == UNIQUE_IDENTIFIER
 }
 
 /// State and Initial Date, Activation and Deactivation Date.

@@ -1,15 +1,24 @@
 -- Records that are put after others.
-use Rattle.std.proofs.Common.{◌≡◌, ◌≢◌, ◌<◌, ◌||◌, ℕ, List, [], ◌∷◌, ◌++◌, length, map, get_or, Bool, true, false, not, cond, refl, sym, ap, subst, ◌∙◌, bytes_eq, string_bytes}
-use Rattle.std.specs.BTreeSet.{contains_text}
+use Rattle.std.proofs.Common.{◌≡◌, ◌≢◌, ◌<◌, ◌||◌, ◌⊎◌, ℕ, zero, suc, List, [], ◌∷◌, ◌++◌, length, map, get_or, slice_get, Option, Some, None, Bool, true, false, not, cond, refl, sym, ap, subst, ◌∙◌, inl, inr, bytes_eq, string_bytes, String, arith}
+use Rattle.std.specs.Global.{Global}
+use Rattle.std.specs.BTreeMap.{BTreeMap, get, Updates, is_at}
+use Rattle.std.specs.BTreeSet.{BTreeSet, contains_text}
+use Rattle.std.specs.Ordering.{nat_cmp, is_eq}
+use Rattle.std.specs.declared.cmp.Ordering.{Ordering}
+use Rattle.std.specs.declared.cmp.Ordering.TheVariants.{Less, Equal, Greater}
+use Rattle.std.proofs.lemmas.Bool.{cases_eq}
+use Rattle.std.proofs.lemmas.Cmp.{ranked}
+use Rattle.std.proofs.lemmas.Option.{slice_get-get_or, slice_get_cases}
 use Rattle.std.specs.List.{list_any}
 use Rattle.std.specs.Prelude.{All, AllPairs, Any}
 use Rattle.std.proofs.lemmas.Bool.Decides.{same_from_decides, Decides-like}
-use Rattle.std.proofs.lemmas.List.{map-append}
+use Rattle.std.proofs.lemmas.List.{length-map, map-append}
 use Rattle.std.proofs.lemmas.List.Elements.{All-push}
 use Rattle.std.proofs.lemmas.List.Folds.{Any-from_list_any, list_any_at, list_any-append}
 use Rattle.std.proofs.lemmas.List.Quantifiers.{all_pairs_push}
 use Rattle.std.proofs.lemmas.Slice.Eq.{bytes_eq-Decides}
-use Rattle.kmipa_record.specs.DeclarationReading.{entries_in, AreKept}
+use Rattle.kmipa_record.specs.DeclarationReading.{entries_in, AreKept, AreOthers, IsFound, has_id}
+use Rattle.kmipa_record.specs.Hashes.{identifier_hash}
 use Rattle.kmipa_record.specs.Entries.{EntryOf, entry_of, IsDeclarable}
 use Rattle.kmipa_record.specs.declared.entry.Entry.{Entry}
 use Rattle.kmipa_record.specs.declared.records.Records.{Records}
@@ -24,12 +33,6 @@ not_false false e = absurd cc
 pub not_true : (b : Bool) → true ≡ not b → b ≡ false
 not_true true e = absurd cc
 not_true false e = refl
-
--- an identifier that is known is that of an entry
-pub used_before : (records : Records) (id : List ℕ) → AreKept records → contains_text records.identifiers id ≡ true → Any (λ (other : EntryOf). other.id ≡ id) (entries_in records)
-used_before records id kept t =
-    let any = Any-from_list_any (λ (x : EntryOf). bytes_eq id x.id) (entries_in records) (sym (kept.known id) ∙ t) in
-    (any.0, any.1, any.2, any.3, sym ((bytes_eq-Decides id any.1.id).0 any.4))
 
 pub unused : (entries : List EntryOf) (id : List ℕ) → list_any (λ (x : EntryOf). bytes_eq id x.id) entries ≡ false → (k : ℕ) (d : EntryOf) → k < length entries → (get_or entries k d).id ≢ id
 unused entries id none k d lt same =
@@ -53,15 +56,158 @@ known_more entries e old new id cs is after before =
     ∙ ap (λ (b : Bool). list_any p entries || (b || false)) (same_bytes id cs ∙ ap (bytes_eq cs) (sym is))
     ∙ sym (list_any-append p entries (e ∷ []))
 
-pub kept_more : (old new : Records) (e : Entry) (id : List ℕ) → AreKept old → IsDeclarable (entry_of e) → string_bytes e.id ≡ id → new.entries.items ≡ old.entries.items ++ e ∷ []
-    → contains_text old.identifiers id ≡ false → ((cs : List ℕ) → contains_text new.identifiers cs ≡ cond (bytes_eq id cs) true (contains_text old.identifiers cs)) → AreKept new
-kept_more old new e id kept fit is entries fresh known =
+-- ---- identifiers by their hashes
+
+not_at : (hash other : ℕ) → other ≢ hash → is_at (nat_cmp hash) other ≡ false
+not_at hash other ne = by (nat_cmp hash other) refl
+  where
+    by : (o : Ordering) → nat_cmp hash other ≡ o → is_eq o ≡ false
+    by Less e = refl
+    by Equal e = absurd (ne (sym (ranked hash other Equal (sym e))))
+    by Greater e = refl
+
+module _ {X : Type 0} where
+  get-append_cases : (xs : List X) (y : X) (k : ℕ) (x : X) → slice_get (xs ++ y ∷ []) k ≡ Some x → (slice_get xs k ≡ Some x) ⊎ ((k ≡ length xs) × (x ≡ y))
+  get-append_cases [] y zero x e = inr (refl, cc)
+  get-append_cases [] y (suc k) x e = inl e
+  get-append_cases (z ∷ xs) y zero x e = inl e
+  get-append_cases (z ∷ xs) y (suc k) x e = elim (get-append_cases xs y k x e) [ inl a ↦ inl a | inr b ↦ inr (ap suc b.0, b.1) ]
+
+or_left : (a b : Bool) → a ≡ true → (a || b) ≡ true
+or_left true b e = refl
+or_left false b e = absurd cc
+
+or_right : (a b : Bool) → b ≡ true → (a || b) ≡ true
+or_right true b e = refl
+or_right false b e = e
+
+or_cases : (a b : Bool) → (a || b) ≡ true → (a ≡ true) ⊎ (b ≡ true)
+or_cases true b e = inl refl
+or_cases false b e = inr e
+
+same_id : (xs ys : List ℕ) → xs ≡ ys → bytes_eq xs ys ≡ true
+same_id xs ys e = (bytes_eq-Decides xs ys).1 e
+
+stays_among : (old new : BTreeSet (String Global)) (entries : List EntryOf) (earlier : Option ℕ) → AreOthers old entries earlier new → (id : List ℕ) → contains_text old id ≡ true → contains_text new id ≡ true
+stays_among old new entries None o id t = o id ∙ t
+stays_among old new entries (Some place) o id t = o id ∙ or_left (contains_text old id) (has_id (slice_get entries place) id) t
+
+joins : (old new : BTreeSet (String Global)) (entries : List EntryOf) (earlier : Option ℕ) (place : ℕ) (e : EntryOf) → AreOthers old entries earlier new → earlier ≡ Some place → slice_get entries place ≡ Some e
+    → contains_text new e.id ≡ true
+joins old new entries earlier place e o is at =
+    let others : AreOthers old entries (Some place) new = subst (λ (x : Option ℕ). AreOthers old entries x new) is o in
+    others e.id ∙ or_right (contains_text old e.id) (has_id (slice_get entries place) e.id) (ap (λ (x : Option EntryOf). has_id x e.id) at ∙ same_id e.id e.id refl)
+
+-- the identifier of an entry joins the others
+get-map : {X Y : Type 0} (f : X → Y) (xs : List X) (k : ℕ) (x : X) → slice_get xs k ≡ Some x → slice_get (map f xs) k ≡ Some (f x)
+get-map f [] k x e = cc
+get-map {X} f (z ∷ xs) zero x e = let q : z ≡ x = cc in ap (λ (y : X). Some (f y)) q
+get-map f (z ∷ xs) (suc k) x e = get-map f xs k x e
+
+or_swap : (a b : Bool) → cond a true b ≡ (b || a)
+or_swap true true = refl
+or_swap true false = refl
+or_swap false true = refl
+or_swap false false = refl
+
+pub joined : (old new : BTreeSet (String Global)) (entries : List Entry) (earlier : Option ℕ) (place : ℕ) (e : Entry) (id : List ℕ) → earlier ≡ Some place → slice_get entries place ≡ Some e → id ≡ string_bytes e.id
+    → ((cs : List ℕ) → contains_text new cs ≡ cond (bytes_eq id cs) true (contains_text old cs)) → AreOthers old (map entry_of entries) earlier new
+joined old new entries earlier place e id some at is updates =
+    let by : AreOthers old (map entry_of entries) (Some place) new = λ cs.
+    updates cs
+    ∙ or_swap (bytes_eq id cs) (contains_text old cs)
+    ∙ ap (λ (bs : List ℕ). contains_text old cs || bytes_eq bs cs) is
+    ∙ ap (λ (x : Option EntryOf). contains_text old cs || has_id x cs) (sym (get-map entry_of entries place e at)) in
+    subst (λ (x : Option ℕ). AreOthers old (map entry_of entries) x new) (sym some) by
+
+-- an entry whose hash is looked for is among the others then
+among_others : (old : Records) (others : BTreeSet (String Global)) (earlier : Option ℕ) (hash place : ℕ) (e : EntryOf) → AreKept old → AreOthers old.others (entries_in old) earlier others
+    → earlier ≡ get nat_cmp old.places hash → identifier_hash e.id ≡ hash → slice_get (entries_in old) place ≡ Some e → contains_text others e.id ≡ true
+among_others old others earlier hash place e kept o is same at = elim (kept.found place e at) [
+  | inl last ↦ joins old.others others (entries_in old) earlier place e o (is ∙ ap (get nat_cmp old.places) (sym same) ∙ last) at
+  | inr among ↦ stays_among old.others others (entries_in old) earlier o e.id among
+]
+
+-- each of the others is that of an entry
+id_of : (entries : List EntryOf) (place : ℕ) (id : List ℕ) → has_id (slice_get entries place) id ≡ true → Any (λ (e : EntryOf). e.id ≡ id) entries
+id_of entries place id t = elim (slice_get_cases entries place).1 [
+  | inl there ↦
+      let e = there.0 in
+      let h : bytes_eq e.id id ≡ true = ap (λ (x : Option EntryOf). has_id x id) (sym there.2) ∙ t in
+      (place, e, there.1, there.3, (bytes_eq-Decides e.id id).0 h)
+  | inr past ↦
+      let h : false ≡ true = ap (λ (x : Option EntryOf). has_id x id) (sym past.1) ∙ t in
+      absurd cc
+]
+
+pub met_still : (old : Records) (others : BTreeSet (String Global)) (earlier : Option ℕ) → AreKept old → AreOthers old.others (entries_in old) earlier others → (id : List ℕ) → contains_text others id ≡ true
+    → Any (λ (e : EntryOf). e.id ≡ id) (entries_in old)
+met_still old others None kept o id t = kept.met id (sym (o id) ∙ t)
+met_still old others (Some place) kept o id t = elim (or_cases (contains_text old.others id) (has_id (slice_get (entries_in old) place) id) (sym (o id) ∙ t)) [
+  | inl before ↦ kept.met id before
+  | inr here ↦ id_of (entries_in old) place id here
+]
+
+any_more : (entries : List EntryOf) (e : EntryOf) (id : List ℕ) → Any (λ (x : EntryOf). x.id ≡ id) entries → Any (λ (x : EntryOf). x.id ≡ id) (entries ++ e ∷ [])
+any_more entries e id any =
+    let p : EntryOf → Bool = λ x. bytes_eq x.id id in
+    let found = list_any_at p entries any.0 any.1 any.2 (same_id (get_or entries any.0 any.1).id id (ap (λ (x : EntryOf). x.id) any.3 ∙ any.4)) in
+    let more = Any-from_list_any p (entries ++ e ∷ []) (list_any-append p entries (e ∷ []) ∙ or_left (list_any p entries) (list_any p (e ∷ [])) found) in
+    (more.0, more.1, more.2, more.3, (bytes_eq-Decides more.1.id id).0 more.4)
+
+-- no records
+pub kept_none : (records : Records) → records.entries.items ≡ [] → records.others.keys ≡ [] → AreKept records
+kept_none records none others =
+    let empty : entries_in records ≡ [] = ap (map entry_of) none in
+    record {
+      each = subst (All IsDeclarable) (sym empty) (λ k d lt. absurd (omega (arith, lt)));
+      distinct = subst (AllPairs (λ (a b : EntryOf). a.id ≢ b.id)) (sym empty) (λ i j d before lt. absurd (omega (arith, lt)));
+      found = λ place e at. let clash : None ≡ Some e = sym (ap (λ (l : List EntryOf). slice_get l place) empty) ∙ at in absurd cc;
+      met = λ id t. let clash : false ≡ true = sym (ap (λ (ks : List (String Global)). contains_text (record { keys = ks }) id) others) ∙ t in absurd cc;
+    }
+
+-- an entry more, whose identifier is not among the others
+pub kept_more : (old new : Records) (e : Entry) (earlier : Option ℕ) (hash count : ℕ) (placed : BTreeMap ℕ ℕ) (others : BTreeSet (String Global)) → AreKept old → IsDeclarable (entry_of e)
+    → AreOthers old.others (entries_in old) earlier others → earlier ≡ get nat_cmp old.places hash → hash ≡ identifier_hash (string_bytes e.id) → contains_text others (string_bytes e.id) ≡ false
+    → Updates nat_cmp old.places placed hash (Some count) → count ≡ length old.entries.items
+    → new.others ≡ others → new.places ≡ placed → new.entries.items ≡ old.entries.items ++ e ∷ [] → AreKept new
+kept_more old new e earlier hash count placed others kept fit o is hashed fresh updates counted same_others same_places entries =
     let grown : entries_in new ≡ entries_in old ++ entry_of e ∷ [] = ap (map entry_of) entries ∙ map-append entry_of old.entries.items (e ∷ []) in
     record {
       each = subst (All IsDeclarable) (sym grown) (All-push IsDeclarable (entries_in old) (entry_of e) kept.each fit);
       distinct = subst (AllPairs (λ (a b : EntryOf). a.id ≢ b.id)) (sym grown)
-          (all_pairs_push (λ (a b : EntryOf). a.id ≢ b.id) (entries_in old) (entry_of e) kept.distinct
-          (λ k d lt same. unused (entries_in old) id (sym (kept.known id) ∙ fresh) k d lt (same ∙ is)));
-      known = λ cs. subst (λ (l : List EntryOf). contains_text new.identifiers cs ≡ list_any (λ (x : EntryOf). bytes_eq cs x.id) l) (sym grown)
-          (known_more (entries_in old) (entry_of e) (contains_text old.identifiers cs) (contains_text new.identifiers cs) id cs is (known cs) (kept.known cs));
+          (all_pairs_push (λ (a b : EntryOf). a.id ≢ b.id) (entries_in old) (entry_of e) kept.distinct apart);
+      found = λ place x at. finds place x (ap (λ (l : List EntryOf). slice_get l place) (sym grown) ∙ at);
+      met = λ id t. subst (Any (λ (x : EntryOf). x.id ≡ id)) (sym grown)
+          (any_more (entries_in old) (entry_of e) id (met_still old others earlier kept o id (ap (λ (s : BTreeSet (String Global)). contains_text s id) (sym same_others) ∙ t)));
     }
+  where
+    apart : (k : ℕ) (d : EntryOf) → k < length (entries_in old) → (get_or (entries_in old) k d).id ≢ (entry_of e).id
+    apart k d lt same =
+        let x = get_or (entries_in old) k d in
+        let among = among_others old others earlier hash k x kept o is (ap identifier_hash same ∙ sym hashed) (slice_get-get_or (entries_in old) k d lt) in
+        let clash : false ≡ true = sym fresh ∙ ap (contains_text others) (sym same) ∙ among in
+        absurd cc
+
+    at_hash : (k : ℕ) → get nat_cmp new.places k ≡ get nat_cmp placed k
+    at_hash k = ap (λ (m : BTreeMap ℕ ℕ). get nat_cmp m k) same_places
+
+    in_others : (id : List ℕ) → contains_text others id ≡ true → contains_text new.others id ≡ true
+    in_others id t = ap (λ (s : BTreeSet (String Global)). contains_text s id) same_others ∙ t
+
+    finds : (place : ℕ) (x : EntryOf) → slice_get (entries_in old ++ entry_of e ∷ []) place ≡ Some x → IsFound new place x
+    finds place x at = elim (get-append_cases (entries_in old) (entry_of e) place x at) [
+      | inl before ↦ elim (cases_eq (identifier_hash x.id) hash) [
+        | inl same ↦ inr (in_others x.id (among_others old others earlier hash place x kept o is same before))
+        | inr other ↦ elim (kept.found place x before) [
+          | inl last ↦ inl (at_hash (identifier_hash x.id) ∙ updates.2 (identifier_hash x.id) (not_at hash (identifier_hash x.id) other) ∙ last)
+          | inr among ↦ inr (in_others x.id (stays_among old.others others (entries_in old) earlier o x.id among))
+        ]
+      ]
+      | inr last ↦
+          inl (ap (λ (y : EntryOf). get nat_cmp new.places (identifier_hash y.id)) last.1
+          ∙ ap (get nat_cmp new.places) (sym hashed)
+          ∙ at_hash hash
+          ∙ updates.1
+          ∙ ap Some (counted ∙ sym (length-map old.entries.items entry_of) ∙ sym last.0))
+    ]

@@ -1,12 +1,16 @@
 -- How a declaration is read record by record. Not promised.
-use Rattle.std.specs.Prelude.{◌≡◌, ◌≢◌, ◌⊎◌, ◌%◌, ◌==◌, ◌&&◌, nat_lt, ℕ, ℤ, pos, negsuc, Bool, false, List, [], ◌∷◌, ◌++◌, map, All, AllPairs, Any}
-use Rattle.std.specs.BTreeSet.{contains_text}
-use Rattle.std.specs.List.{AllZip, list_any}
+use Rattle.std.specs.Prelude.{◌≡◌, ◌≢◌, ◌⊎◌, ◌%◌, ◌==◌, ◌&&◌, ◌||◌, nat_lt, ℕ, ℤ, pos, negsuc, Bool, true, false, List, [], ◌∷◌, ◌++◌, map, Option, Some, None, slice_get, String, Result, MatchResult, All, AllPairs, Any}
+use Rattle.std.specs.BTreeMap.{get}
+use Rattle.std.specs.BTreeSet.{BTreeSet, contains_text}
+use Rattle.std.specs.Global.{Global}
+use Rattle.std.specs.List.{AllZip}
+use Rattle.std.specs.Ordering.{nat_cmp}
 use Rattle.std.specs.Str.{bytes_eq}
 use Rattle.kmipa_record.specs.Reading.{IsReading}
 use Rattle.kmipa_ttlv.specs.Tree.{Tree}
 use Rattle.kmipa_msgs.specs.Messages.{RowOf, row_of}
 use Rattle.kmipa_record.specs.Declarations.{DeclarationOf, declaration_header, RecordOf, row, entry, SaysRecord, records_of}
+use Rattle.kmipa_record.specs.Hashes.{identifier_hash}
 use Rattle.kmipa_record.specs.Entries.{EntryOf, entry_of, IsDeclarable}
 use Rattle.kmipa_record.specs.declared.fault.RecordKind.{RecordKind}
 use Rattle.kmipa_record.specs.declared.fault.RecordKind.TheVariants as kinds
@@ -46,11 +50,32 @@ entries_in records = map entry_of records.entries.items
 abbrev pub declared_by : Bool → Records → DeclarationOf
 declared_by unique records = record { unique_names = unique; rows = rows_in records; entries = entries_in records }
 
--- the entries may be declared, no identifier stands twice, and the identifiers are known
+-- the entry, if there is one, has the identifier
+abbrev pub has_id : Option EntryOf → List ℕ → Bool
+has_id None id = false
+has_id (Some e) id = bytes_eq e.id id
+
+-- the entry at a place is the last of its identifier's hash, or its identifier is among the others
+abbrev pub IsFound : Records → ℕ → EntryOf → Type 0
+IsFound records place e = (get nat_cmp records.places (identifier_hash e.id) ≡ Some place) ⊎ (contains_text records.others e.id ≡ true)
+
+-- the entries may be declared, no identifier stands twice, each is found, and each of the others is that of an entry
 pub record AreKept (records : Records) : Type 0 where
   pub each : All IsDeclarable (entries_in records)
   pub distinct : AllPairs (λ (a b : EntryOf). a.id ≢ b.id) (entries_in records)
-  pub known : (id : List ℕ) → contains_text records.identifiers id ≡ list_any (λ (e : EntryOf). bytes_eq id e.id) (entries_in records)
+  pub found : (place : ℕ) (e : EntryOf) → slice_get (entries_in records) place ≡ Some e → IsFound records place e
+  pub met : (id : List ℕ) → contains_text records.others id ≡ true → Any (λ (e : EntryOf). e.id ≡ id) (entries_in records)
+
+-- the others, which the identifier of the entry at an earlier place joined, if there is one
+abbrev pub AreOthers : BTreeSet (String Global) → List EntryOf → Option ℕ → BTreeSet (String Global) → Type 0
+AreOthers old entries None new = (id : List ℕ) → contains_text new id ≡ contains_text old id
+AreOthers old entries (Some place) new = (id : List ℕ) → contains_text new id ≡ (contains_text old id || has_id (slice_get entries place) id)
+
+pub record Displaces (old : Records) (earlier : Option ℕ) (result : Result (Unit {0}) RecordKind) (new : Records) : Type 0 where
+  pub rows : new.rows ≡ old.rows
+  pub entries : new.entries ≡ old.entries
+  pub places : new.places ≡ old.places
+  pub others : MatchResult result (λ _. AreOthers old.others (entries_in old) earlier new.others) (λ kind. kind ≡ kinds.Memory)
 
 -- a record is put after the others
 abbrev pub Puts : Records → Records → RecordOf → Type 0

@@ -3,6 +3,7 @@ pub mod Kinds
 pub mod Files
 pub mod Marks
 pub mod Transcripts
+pub mod Hashes
 pub mod Entries
 pub mod Declarations
 pub mod Witnesses

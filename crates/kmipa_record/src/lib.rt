@@ -12,6 +12,7 @@ mod declaration_writing;
 mod entry;
 mod fault;
 mod fill;
+mod hashes;
 mod header;
 mod laws;
 mod mark_reading;

@@ -1,18 +1,19 @@
 //! The records of a declaration, as far as it was read.
 
 ghost use Rattle.std.specs.Prelude.{◌≡◌, [], Bool, IfOk, MatchResult};
-ghost use Rattle.kmipa_record.specs.DeclarationReading.{record_of, IsFit, SaysFit, IsRecord, declared_by, AreKept, Puts, Refuses};
+ghost use Rattle.kmipa_record.specs.DeclarationReading.{record_of, IsFit, SaysFit, IsRecord, declared_by, AreKept, Puts, Refuses, Displaces};
 ghost use Rattle.kmipa_record.specs.Declarations.{declaration_of};
 
 use crate::declaration::Declaration;
 use crate::entry::{Entry, entry_in};
 use crate::fault::RecordKind;
+use crate::hashes::identifier_hash;
 use crate::record::Record;
 use crate::row::row_in;
 use kmipa_msgs::Row;
 use kmipa_ttlv::View;
 use std::alloc::{AllocError, Global};
-use std::collections::BTreeSet;
+use std::collections::{BTreeMap, BTreeSet};
 
 /// A record of a declaration.
 #[derive(Drop)]
@@ -37,12 +38,18 @@ impl Record for DeclarationRecord {
     }
 }
 
-/// Rows and entries, and the identifiers of these.
+/// Rows and entries, and where the identifiers of these stand.
+///
+/// # What an identifier costs
+/// It is found by its whole hash, and not copied. Where a later identifier has the same hash, the earlier one joins the others.
 #[derive(Drop)]
 pub struct Records {
     rows: Vec<Row>,
     entries: Vec<Entry>,
-    identifiers: BTreeSet<String>,
+    /// The place of the last entry whose identifier has a hash.
+    places: BTreeMap<u64, usize>,
+    /// Identifiers whose hash a later one has.
+    others: BTreeSet<String>,
 }
 
 impl Records {
@@ -55,7 +62,8 @@ impl Records {
         Records {
             rows: Vec::new(alloc),
             entries: Vec::new(alloc),
-            identifiers: BTreeSet::new(alloc),
+            places: BTreeMap::new(alloc),
+            others: BTreeSet::new(alloc),
         }
     }
 
@@ -95,16 +103,35 @@ impl Records {
             (Refuses self.old (record_of (DeclarationRecord.Entry entry))) }
         ensures kept { IfOk result (λ _. AreKept self.new) }
     {
-        let Ok(id) = entry.id.clone() else {
+        let hash = identifier_hash(entry.id.as_str());
+        let Ok(earlier) = self.places.insert(hash, self.entries.len()) else {
             return Err(RecordKind::Memory);
         };
-        match self.identifiers.insert(id) {
-            Ok(true) => {}
-            Ok(false) => return Err(RecordKind::Identifier),
-            Err(_) => return Err(RecordKind::Memory),
+        self.displace(earlier)?;
+        if self.others.contains(entry.id.as_str()) {
+            return Err(RecordKind::Identifier);
         }
         match self.entries.push(entry) {
             Ok(()) => Ok(()),
+            Err(_) => Err(RecordKind::Memory),
+        }
+    }
+
+    /// The identifier of the entry at an earlier place, if there is one, joins the others.
+    fn displace(&mut self, earlier: Option<usize>) -> Result<(), RecordKind>
+        ensures { Displaces self.old earlier result self.new }
+    {
+        let Some(place) = earlier else {
+            return Ok(());
+        };
+        let Some(entry) = self.entries.get(place) else {
+            return Ok(());
+        };
+        let Ok(id) = entry.id.clone() else {
+            return Err(RecordKind::Memory);
+        };
+        match self.others.insert(id) {
+            Ok(_) => Ok(()),
             Err(_) => Err(RecordKind::Memory),
         }
     }

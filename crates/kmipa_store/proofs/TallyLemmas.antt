@@ -4,6 +4,7 @@ use Rattle.std.specs.List.{list_any}
 use Rattle.std.specs.Ordering.{nat_cmp, is_eq}
 use Rattle.std.specs.declared.cmp.Ordering.TheVariants.{Less, Equal, Greater}
 use Rattle.std.proofs.lemmas.Bool.Decides.{nat_tests}
+use Rattle.std.proofs.lemmas.List.{take_all}
 use Rattle.kmipa_attrs.specs.Sets.{NameOf}
 use Rattle.kmipa_object.specs.Inventory.{live}
 use Rattle.kmipa_object.specs.declared.life.Life.{Life}
@@ -96,6 +97,9 @@ counts_pushed old new hs h c r = record {
       let d = all_pushed k hs h in
       omega (arith, a, b, d);
 }
+
+pub counts_all : (t : Tally) (hs : List Held) (i : ℕ) → length hs ≤ i → Counts t (take i hs) → Counts t hs
+counts_all t hs i past c = subst (λ (x : List Held). Counts t x) (take_all i hs past) c
 
 pub counts_relived : (old mid new : Tally) (hs : List Held) (place : ℕ) (h : Held) (life : Life) → Counts old hs → slice_get hs place ≡ Some h
     → Lowers old (λ k. live_with k h) mid → Raises mid (λ k. live_with k (with_life h life)) new → Counts new (relived hs place life)

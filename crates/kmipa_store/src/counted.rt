@@ -1,4 +1,6 @@
 //! Objects, and how many of the live ones have each name.
+//!
+//! They are counted from the first on that is destroyed.
 
 use crate::fault::StoreFault;
 use crate::objects::Objects;
@@ -10,6 +12,7 @@ use std::marker::Model;
 /// Objects, and how many of the live ones have each name.
 #[derive(Drop)]
 pub struct Counted {
+    alloc: Global,
     objects: Objects,
     tally: Tally,
 }
@@ -37,6 +40,7 @@ impl Counted {
         ensures { result ≡ [] }
     {
         Counted {
+            alloc,
             objects: Objects::new(alloc),
             tally: Tally::new(alloc),
         }
@@ -78,7 +82,12 @@ impl Counted {
     {
         let place = self.objects.len();
         self.objects.push(object)?;
-        self.tally.add(self.objects.at(place));
+        let added = self.objects.at(place);
+        if self.tally.begins_with(added) {
+            self.tally = Tally::of(self.alloc, &self.objects);
+            return Ok(());
+        }
+        self.tally.add(added);
         Ok(())
     }
 
@@ -91,7 +100,12 @@ impl Counted {
         }
         self.tally.remove(self.objects.at(place));
         self.objects.set_life(place, life);
-        self.tally.add(self.objects.at(place));
+        let led = self.objects.at(place);
+        if self.tally.begins_with(led) {
+            self.tally = Tally::of(self.alloc, &self.objects);
+            return;
+        }
+        self.tally.add(led);
     }
 
     /// Takes the last object away, if there is one.

@@ -1,6 +1,7 @@
 //! How many live objects have a name.
 
 use crate::hashes::name_hash;
+use crate::objects::Objects;
 use kmipa_attrs::Name;
 use kmipa_object::Object;
 use std::alloc::Global;
@@ -8,29 +9,58 @@ use std::collections::BTreeMap;
 
 /// How many names of live objects have each hash. A count of zero stays, so that it can be raised again without memory.
 ///
+/// # Counts that are not begun
+/// Until an object is destroyed nothing is counted: each that has a name is live then, and the first that is looked at tells it.
+///
 /// # Counts that are given up
 /// Where a count does not fit its number, or has no room, the counts are no longer exact, and tell nothing.
 #[derive(Drop)]
 pub struct Tally {
     live: BTreeMap<u64, usize>,
     exact: bool,
+    begun: bool,
 }
 
 impl Tally {
-    ghost use Rattle.std.specs.Prelude.{◌≡◌, ◌+◌, [], true, map};
+    ghost use Rattle.std.specs.Prelude.{◌≡◌, ◌+◌, ◌&&◌, [], true, false, not, map, is_some};
     ghost use Rattle.kmipa_attrs.specs.Sets.{name_of};
     ghost use Rattle.kmipa_store.specs.Ledger.{held};
     ghost use Rattle.kmipa_store.specs.Hashes.{name_hash};
     ghost use Rattle.kmipa_store.specs.Tally.{Counts, Lowers, Raises, Writes, count_at, live_with, names_with, one_at};
 
-    /// Counts of no objects.
+    /// Counts that are not begun.
     pub fn new(alloc: Global) -> Tally
-        ensures { Counts result [] }
+        ensures counts { Counts result [] }
+        ensures exact { result.exact ≡ false }
+        ensures begun { result.begun ≡ false }
     {
         Tally {
             live: BTreeMap::new(alloc),
-            exact: true,
+            exact: false,
+            begun: false,
         }
+    }
+
+    /// Counts of these objects.
+    pub fn of(alloc: Global, objects: &Objects) -> Tally
+        ensures { Counts result objects.now }
+    {
+        let mut tally = Tally {
+            live: BTreeMap::new(alloc),
+            exact: true,
+            begun: true,
+        };
+        for place in 0..objects.len() {
+            tally.add(objects.at(place));
+        }
+        tally
+    }
+
+    /// Whether the counts are not begun, and the object is destroyed.
+    pub fn begins_with(&self, object: &Object) -> bool
+        ensures { result ≡ (not self.now.begun && is_some object.now.life.destroy) }
+    {
+        !self.begun && object.life.destroy.is_some()
     }
 
     /// Whether it is known that no live object has a name of the hash of this one.
@@ -45,7 +75,7 @@ impl Tally {
     pub fn add(&mut self, object: &Object)
         ensures { Raises self.old (λ k. live_with k (held object.now)) self.new }
     {
-        if object.life.destroy.is_some() {
+        if !self.exact || object.life.destroy.is_some() {
             return;
         }
         self.raise_all(object.given.names.as_slice());
@@ -55,7 +85,7 @@ impl Tally {
     pub fn remove(&mut self, object: &Object)
         ensures { Lowers self.old (λ k. live_with k (held object.now)) self.new }
     {
-        if object.life.destroy.is_some() {
+        if !self.exact || object.life.destroy.is_some() {
             return;
         }
         self.lower_all(object.given.names.as_slice());

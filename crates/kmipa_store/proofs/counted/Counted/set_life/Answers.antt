@@ -10,16 +10,16 @@ returns-then-place-len c =
     let past : length hs ≤ c.args.place = let h = c.if-place-len.true in let e = c.len.ensures in omega (arith, h, e) in
     sym c.self.view_is ∙ sym (updated-none hs c.args.place (λ x. with_life x c.args.life) (get_past hs c.args.place past)) ∙ ap (λ (x : List Held). relived x c.args.place c.args.life) c.self.view_is
 
-pub at-requires-2 : goal.at-requires-2
-at-requires-2 c =
+pub at-led-requires : goal.at-led-requires
+at-led-requires c =
     let hs : List Held = c.self.inside.objects in
     let h = c.if-place-len.false in
     let e = c.len.ensures in
     let n : length c.set_life.new.self ≡ length hs = ap (λ (x : List Held). length x) c.set_life.ensures ∙ length-updated hs c.args.place (λ x. with_life x c.args.life) in
     omega (arith, h, e, n)
 
-pub invariant_of-self : goal.invariant_of-self
-invariant_of-self c =
+pub invariant_of-self-2 : goal.invariant_of-self-2
+invariant_of-self-2 c =
     let i = c.self.inside in
-    counts_led i.tally c.remove.new.self c.add.new.self i.objects c.set_life.new.self c.args.place (held c.at.result.now) (held c.at-2.result.now) c.args.life
-    c.self.invariant c.at.ensures c.set_life.ensures c.at-2.ensures c.remove.ensures c.add.ensures
+    counts_led i.tally c.remove.new.self c.add.new.self i.objects c.set_life.new.self c.args.place (held c.at.result.now) (held c.at-led.result.now) c.args.life
+    c.self.invariant c.at.ensures c.set_life.ensures c.at-led.ensures c.remove.ensures c.add.ensures
