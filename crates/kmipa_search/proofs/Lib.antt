@@ -25,6 +25,7 @@ pub mod PickLemmas
 pub mod WishLemmas
 pub mod IdleLemmas
 pub mod EndLemmas
+pub mod FrontLemmas
 pub mod StillLemmas
 pub mod RememberLemmas
 pub mod TakenLemmas

@@ -4,10 +4,10 @@ use Rattle.kmipa_store.specs.Ledger.{Meaning, LedgerState}
 use Rattle.kmipa_record.specs.Declarations.{DeclarationOf}
 use Rattle.kmipa_msgs.specs.Messages.{RulesOf}
 use Rattle.kmipa_check.specs.Steps.{StepOf}
-use Rattle.kmipa_search.specs.Progress.{AreBegun, IsDead, Opens, Searching, places}
+use Rattle.kmipa_search.specs.Progress.{so_far, AreBegun, IsDead, Opens, Searching, places}
 use Rattle.kmipa_search.specs.Cursors.{IsCursor}
 use Rattle.kmipa_search.specs.Tries.{IsPicked, closed, none_tried, all_tried}
-use Rattle.kmipa_search.specs.Ends.{AreFlagged, AreSame, IsSetOf, IsArrival, IsNoted, Remembers}
+use Rattle.kmipa_search.specs.Ends.{stills, stills_shared, AreFlagged, AreSame, IsSetOf, IsArrival, IsNoted, Remembers}
 use Rattle.kmipa_search.specs.declared.ends.End.{End}
 use Rattle.kmipa_search.specs.declared.remaining.Remaining.{Remaining}
 use Rattle.kmipa_search.specs.declared.taken.CallSet.{CallSet}
@@ -15,6 +15,8 @@ use Rattle.kmipa_search.specs.declared.taken.TakenCalls.{TakenCalls}
 use Rattle.kmipa_search.specs.declared.tried.Tried.{Tried}
 use Rattle.kmipa_search.specs.declared.tried.Visit.{Visit}
 use Rattle.kmipa_search.proofs.EndLemmas.{equal_is_equal}
+use Rattle.kmipa_search.proofs.FrontLemmas.{same_stills}
+use Rattle.kmipa_search.proofs.StillLemmas.{alike_between}
 use Rattle.kmipa_search.proofs.IdleLemmas.{dead_more}
 use Rattle.kmipa_search.proofs.PermutationLemmas.{once_pairs}
 use Rattle.kmipa_search.proofs.ProgressLemmas.{Progress}
@@ -62,7 +64,7 @@ module _ (rules : RulesOf) (calls : List StepOf) (first : Meaning) where
 
     -- a call was taken: all is left to try, or this end is known
     pub progress_arrived : (visits : List Visit) (t : Tried) (depth steps : ℕ) (u : LedgerState) (f : TakenCalls) (ends : List End) → Progress rules calls wishes budget first w visits none_tried depth steps u
-        → Remembers rules calls first (places visits) f ends → (AreBegun calls → IsArrival ends (places visits) u.now t) → Progress rules calls wishes budget first w visits t depth steps u
+        → Remembers rules calls first (places visits) f ends → (AreBegun calls → IsArrival (length first.objects) ends (places visits) u.now t) → Progress rules calls wishes budget first w visits t depth steps u
     progress_arrived visits t depth steps u f ends g r arrival = record {
       searching = λ declared o. searching declared o (arrival o.begun);
       sound = g.sound;
@@ -75,7 +77,7 @@ module _ (rules : RulesOf) (calls : List StepOf) (first : Meaning) where
       few = g.few;
     }
       where
-        searching : (declared : DeclarationOf) → Opens declared rules calls first → IsArrival ends (places visits) u.now t → Searching declared calls wishes visits t steps u.now u.marks
+        searching : (declared : DeclarationOf) → Opens declared rules calls first → IsArrival (length first.objects) ends (places visits) u.now t → Searching declared calls wishes visits t steps u.now u.marks
         searching declared o (inl is) = let P : Tried → Type 0 = λ x. Searching declared calls wishes visits x steps u.now u.marks in subst P (sym is) (g.searching declared o)
         searching declared o (inr h) =
             let P : Tried → Type 0 = λ x. Searching declared calls wishes visits x steps u.now u.marks in
@@ -83,14 +85,14 @@ module _ (rules : RulesOf) (calls : List StepOf) (first : Meaning) where
             let k = knows_now declared calls (places visits) u.now u.marks s.knows in
             subst P (sym h.0) (searching_closed declared visits steps u o s (r.dead declared o h.1.0 h.1.1 (places visits) u.now s.nexts k.0 k.1 h.1.2))
 
-        cursor : IsArrival ends (places visits) u.now t → IsCursor calls (places visits) t.from
+        cursor : IsArrival (length first.objects) ends (places visits) u.now t → IsCursor calls (places visits) t.from
         cursor (inl is) = inl (ap (λ (z : Tried). z.from) is)
         cursor (inr h) = inl (ap (λ (z : Tried). z.from) h.0)
 
     -- no next call is left: the end is noted, and the newest call goes back
     pub remembers_back : (v : Visit) (visits : List Visit) (t : Tried) (depth steps : ℕ) (u : LedgerState) (f g : TakenCalls) (ends new : List End)
         → Progress rules calls wishes budget first w (v ∷ visits) t depth steps u → (AreBegun calls → IsPicked calls (places (v ∷ visits)) wishes t None) → suc (length visits) < length calls
-        → Remembers rules calls first (places (v ∷ visits)) f ends → (AreBegun calls → IsNoted ends (places (v ∷ visits)) u.now new) → (AreBegun calls → AreFlagged (length calls) (places visits) g)
+        → Remembers rules calls first (places (v ∷ visits)) f ends → (AreBegun calls → IsNoted (length first.objects) ends (places (v ∷ visits)) u.now new) → (AreBegun calls → AreFlagged (length calls) (places visits) g)
         → Remembers rules calls first (places visits) g new
     remembers_back v visits t depth steps u f g ends new p none few r noted flagged = record {
       flagged = flagged;
@@ -100,7 +102,7 @@ module _ (rules : RulesOf) (calls : List StepOf) (first : Meaning) where
             let s = p.searching declared o in
             let k = knows_now declared calls (places (v ∷ visits)) u.now u.marks s.knows in
             equal_is_equal declared calls (places (v ∷ visits)) taken u.now m o.once s.nexts nexts (same_set (places (v ∷ visits)) taken e.set at.set seen.set) k.0 k.1 known sound
-            (sym at.stands ∙ seen.stands)
+            (same_stills declared first (so_far calls (places (v ∷ visits))) (so_far calls taken) u.now m o.known k.0 k.1 known sound (alike_between (length first.objects) (stills_shared e.objects.items) (stills u.now) (stills m) at.stands seen.stands))
             (search_ends declared calls wishes (v ∷ visits) t steps u.now u.marks s rules first o few (none o.begun))
       ];
     }

@@ -1,5 +1,5 @@
 -- Dead ends that are remembered: which calls were taken, and what the ledger stood for. Not promised.
-use Rattle.std.specs.Prelude.{◌≡◌, ◌≢◌, ◌<◌, ◌⊎◌, ℕ, Vec, Bool, true, false, List, length, map, slice_index_or, AllPairs, Contains, Option, option_map}
+use Rattle.std.specs.Prelude.{◌≡◌, ◌≢◌, ◌<◌, ◌≤◌, ◌⊎◌, ℕ, Vec, Bool, true, false, List, length, map, slice_get, slice_index_or, AllPairs, Contains, Option, Some, option_map}
 use Rattle.std.specs.declared.alloc.Global.{Global}
 use Rattle.std.specs.declared.rc.Rc.{Rc}
 use Rattle.kmipa_store.specs.Ledger.{Held, Known, Meaning, held}
@@ -46,6 +46,21 @@ still_shared s = still_of s.value
 abbrev pub stills_shared : List Shared → List StillOf
 stills_shared objects = map still_shared objects
 
+-- two objects stand alike as far as they can change: their dates, their secrets, and their bytes where they are known
+pub record LiveAlike (a b : StillOf) : Type 0 where
+  pub dates : a.held.card.dates ≡ b.held.card.dates
+  pub material : a.held.material ≡ b.held.material
+  pub bytes : a.bytes ≡ b.bytes
+
+-- and of the places behind the first so many in full
+abbrev pub IsAlikeAt : ℕ → ℕ → StillOf → StillOf → Type 0
+IsAlikeAt front place a b = LiveAlike a b × (front ≤ place → a ≡ b)
+
+-- all objects stand so, place by place
+pub record AreAlike (front : ℕ) (ones others : List StillOf) : Type 0 where
+  pub long : length ones ≡ length others
+  pub each : (place : ℕ) (a b : StillOf) → slice_get ones place ≡ Some a → slice_get others place ≡ Some b → IsAlikeAt front place a b
+
 -- WHICH CALLS ARE TAKEN
 
 -- whether a place is marked
@@ -74,33 +89,34 @@ pub record AreSame (taken others : List ℕ) : Type 0 where
 
 -- ENDS
 
--- an end is that of these calls over this ledger
-pub record IsEndAt (taken : List ℕ) (m : Meaning) (e : End) : Type 0 where
+-- an end is that of these calls over a ledger whose objects stand alike: those of the first so many places as far as they can change, and the
+-- others in full.
+pub record IsEndLike (front : ℕ) (taken : List ℕ) (m : Meaning) (e : End) : Type 0 where
   pub set : IsSetOf taken e.set
-  pub stands : stills_shared e.objects.items ≡ stills m
+  pub stands : AreAlike front (stills_shared e.objects.items) (stills m)
 
 -- However these calls were taken, if the ledger stands for this, no run begins so.
-abbrev pub IsDeadEnd : DeclarationOf → List StepOf → End → Type 0
-IsDeadEnd declared calls e = (taken : List ℕ) (m : Meaning) → AreNext calls taken → AreKnown declared (so_far calls taken) m → IsSound m → IsEndAt taken m e → IsDead declared calls taken
+abbrev pub IsDeadEnd : ℕ → DeclarationOf → List StepOf → End → Type 0
+IsDeadEnd front declared calls e = (taken : List ℕ) (m : Meaning) → AreNext calls taken → AreKnown declared (so_far calls taken) m → IsSound m → IsEndLike front taken m e → IsDead declared calls taken
 
-abbrev pub AreDeadEnds : DeclarationOf → List StepOf → List End → Type 0
-AreDeadEnds declared calls ends = (e : End) → Contains ends e → IsDeadEnd declared calls e
+abbrev pub AreDeadEnds : ℕ → DeclarationOf → List StepOf → List End → Type 0
+AreDeadEnds front declared calls ends = (e : End) → Contains ends e → IsDeadEnd front declared calls e
 
 -- one of the ends is that of these calls over this ledger
-abbrev pub HasEnd : List End → List ℕ → Meaning → Type 0
-HasEnd ends taken m = (e : End) × Contains ends e × IsEndAt taken m e
+abbrev pub HasEnd : ℕ → List End → List ℕ → Meaning → Type 0
+HasEnd front ends taken m = (e : End) × Contains ends e × IsEndLike front taken m e
 
 -- where a call was taken: all is left to try, or nothing, since this end is known
-abbrev pub IsArrival : List End → List ℕ → Meaning → Tried → Type 0
-IsArrival ends taken m t = (t ≡ none_tried) ⊎ ((t ≡ all_tried) × HasEnd ends taken m)
+abbrev pub IsArrival : ℕ → List End → List ℕ → Meaning → Tried → Type 0
+IsArrival front ends taken m t = (t ≡ none_tried) ⊎ ((t ≡ all_tried) × HasEnd front ends taken m)
 
 -- no end is there but the old ones and one of this set and these objects
 abbrev pub IsAdded : List End → CallSet → Vec Shared Global → List End → Type 0
 IsAdded old set objects new = (e : End) → Contains new e → Contains old e ⊎ ((e.set ≡ set) × (e.objects ≡ objects))
 
 -- no end is there but the old ones and this one
-abbrev pub IsNoted : List End → List ℕ → Meaning → List End → Type 0
-IsNoted old taken m new = (e : End) → Contains new e → Contains old e ⊎ IsEndAt taken m e
+abbrev pub IsNoted : ℕ → List End → List ℕ → Meaning → List End → Type 0
+IsNoted front old taken m new = (e : End) → Contains new e → Contains old e ⊎ IsEndLike front taken m e
 
 -- THE LAW
 
@@ -112,7 +128,8 @@ EqualIsEqual =
     → AreKnown declared (so_far calls taken) m → IsSound m → AreKnown declared (so_far calls others) n → IsSound n → stills m ≡ stills n
     → IsDead declared calls taken → IsDead declared calls others
 
--- what a search remembers: the calls taken are marked, where these begin in their order, and each end leads to no run
+-- What a search remembers: the calls taken are marked, where these begin in their order, and each end leads to no run. The front are the objects
+-- with which it began.
 pub record Remembers (rules : RulesOf) (calls : List StepOf) (first : Meaning) (taken : List ℕ) (f : TakenCalls) (ends : List End) : Type 0 where
   pub flagged : AreBegun calls → AreFlagged (length calls) taken f
-  pub dead : (declared : DeclarationOf) → Opens declared rules calls first → AreDeadEnds declared calls ends
+  pub dead : (declared : DeclarationOf) → Opens declared rules calls first → AreDeadEnds (length first.objects) declared calls ends

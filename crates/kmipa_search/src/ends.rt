@@ -20,6 +20,12 @@ const END_BYTES: usize = 256;
 /// How many chains of ends there are.
 const CHAINS: usize = 1 << 18;
 
+/// So many places they have together at first: the table grows with the ends, since a large one costs more than a short search.
+const FIRST_PLACES: usize = 1 << 10;
+
+/// Where there are as many ends as places, there are so many times as many places.
+const GROWTH: usize = 8;
+
 /// So many ends of the same calls are compared with a ledger at most, the newest first. Calls that add objects leave as
 /// many ledgers as they have orders, and looking at each would cost more than trying what follows.
 const MOST_COMPARED: usize = 64;
@@ -31,16 +37,16 @@ pub struct End {
     pub set: CallSet,
     pub objects: Vec<Rc<Still>>,
     hash: u64,
-    /// One more than the number of the end before it in its chain, or 0.
-    older: usize,
 }
 
-/// Dead ends, in chains by a hash of their calls. It only says which ends are looked at: what is equal is compared in
-/// full.
+/// Dead ends, in chains by a hash of their calls. It only says which ends are looked at: what is alike is
+/// compared.
 #[derive(Drop)]
 pub struct Ends {
     ends: Vec<End>,
-    /// One more than the number of each chain's newest end, or 0; empty where there is no end.
+    /// Of each end, one more than the number of the end before it at its place of the table, or 0.
+    older: Vec<usize>,
+    /// One more than the number of the newest end at each place of the table, or 0; empty where there is no end.
     newest: Vec<usize>,
     pool: Pool,
     /// More bytes than the ends take, besides the pool.
@@ -60,6 +66,7 @@ impl Ends {
     {
         Ends {
             ends: Vec::new(alloc),
+            older: Vec::new(alloc),
             newest: Vec::new(alloc),
             pool: Pool::new(alloc),
             bytes: 0,
@@ -67,24 +74,25 @@ impl Ends {
         }
     }
 
-    /// What is to be tried once these calls were taken, which are so many: late, nothing at an end that is known.
+    /// What is to be tried once these calls were taken, which are so many: late, nothing at an end that is known. So many objects were there
+    /// when the search began.
     pub fn arrive<L: Ledger>(
         &self,
-        alloc: Global,
         ledger: &L,
         taken: &TakenCalls,
         count: usize,
+        front: usize,
         late: bool,
     ) -> Result<Tried, AllocError>
         requires { IsSound (L.state ledger.now).now }
         ensures { (all : ℕ) (places : List ℕ) → AreFlagged all places taken.now → length places ≡ count
-            → IfOk result (IsArrival self.now.ends.items places (L.state ledger.now).now) }
+            → IfOk result (IsArrival front self.now.ends.items places (L.state ledger.now).now) }
     {
         self.is_met.set(false);
         if !late {
             return Ok(Tried::none());
         }
-        if self.has(ledger, taken, count) {
+        if self.has(ledger, taken, count, front) {
             self.is_met.set(true);
             return Ok(Tried::all());
         }
@@ -99,11 +107,12 @@ impl Ends {
         ledger: &L,
         taken: &TakenCalls,
         count: usize,
+        front: usize,
         late: bool,
     ) -> Result<(), AllocError>
         requires { IsSound (L.state ledger.now).now }
         ensures { (all : ℕ) (places : List ℕ) → AreFlagged all places taken.now → length places ≡ count
-            → IsNoted self.old.ends.items places (L.state ledger.now).now self.new.ends.items }
+            → IsNoted front self.old.ends.items places (L.state ledger.now).now self.new.ends.items }
     {
         let is_met = self.is_met.get();
         self.is_met.set(false);
@@ -114,33 +123,33 @@ impl Ends {
             return Ok(());
         }
         let set = taken.set(alloc, count)?;
-        self.keep(alloc, ledger, set, taken.hash)
+        self.keep(alloc, ledger, set, taken.hash, front)
     }
 
     /// Whether an end of these calls is known, over a ledger whose objects stand as they do here.
-    fn has<L: Ledger>(&self, ledger: &L, taken: &TakenCalls, count: usize) -> bool
+    fn has<L: Ledger>(&self, ledger: &L, taken: &TakenCalls, count: usize, front: usize) -> bool
         requires { IsSound (L.state ledger.now).now }
         ensures { (all : ℕ) (places : List ℕ) → AreFlagged all places taken.now → length places ≡ count
-            → result ≡ true → HasEnd self.now.ends.items places (L.state ledger.now).now }
+            → result ≡ true → HasEnd front self.now.ends.items places (L.state ledger.now).now }
     {
-        self.has_from(ledger, taken, count, self.alike(taken.hash))
+        self.has_from(ledger, taken, count, front, self.alike(taken.hash))
     }
 
     /// The number of the newest end of this hash, and one more; or 0, where there is none.
     fn alike(&self, hash: u64) -> usize {
-        let mut number = newest_of(&self.newest, chain_of(hash));
+        let mut number = number_at(&self.newest, place_of(hash, self.newest.len()));
         'chain: while number > 0 {
             if number > self.ends.len() {
                 return 0;
             }
-            let end = &self.ends[number - 1];
-            if end.hash == hash {
+            if self.ends[number - 1].hash == hash {
                 return number;
             }
-            if end.older >= number {
+            let older = number_at(&self.older, number - 1);
+            if older >= number {
                 return 0;
             }
-            number = end.older;
+            number = older;
         }
         0
     }
@@ -152,11 +161,12 @@ impl Ends {
         ledger: &L,
         taken: &TakenCalls,
         count: usize,
+        front: usize,
         newest: usize,
     ) -> bool
         requires { IsSound (L.state ledger.now).now }
         ensures { (all : ℕ) (places : List ℕ) → AreFlagged all places taken.now → length places ≡ count
-            → result ≡ true → HasEnd self.now.ends.items places (L.state ledger.now).now }
+            → result ≡ true → HasEnd front self.now.ends.items places (L.state ledger.now).now }
     {
         let mut number = newest;
         let mut compared = 0;
@@ -167,15 +177,16 @@ impl Ends {
             if compared >= MOST_COMPARED {
                 return false;
             }
-            compared += 1;
             let end = &self.ends[number - 1];
-            if is_end(ledger, end, taken, count) {
+            compared += in_chain(end.hash, taken.hash);
+            if is_end(ledger, end, taken, count, front) {
                 return true;
             }
-            if end.older >= number {
+            let older = number_at(&self.older, number - 1);
+            if older >= number {
                 return false;
             }
-            number = end.older;
+            number = older;
         }
         false
     }
@@ -187,13 +198,14 @@ impl Ends {
         ledger: &L,
         set: CallSet,
         hash: u64,
+        front: usize,
     ) -> Result<(), AllocError>
         requires { IsSound (L.state ledger.now).now }
-        ensures { (places : List ℕ) → IsSetOf places set → IsNoted self.old.ends.items places (L.state ledger.now).now self.new.ends.items }
+        ensures { (places : List ℕ) → IsSetOf places set → IsNoted front self.old.ends.items places (L.state ledger.now).now self.new.ends.items }
     {
         self.bytes = self.bytes.saturating_add(cost(&set, ledger.len()));
         let room = MOST_BYTES.saturating_sub(self.bytes);
-        match self.pool.share_all(alloc, ledger, room)? {
+        match self.pool.share_all(alloc, ledger, front, room)? {
             Some(objects) => self.add(alloc, set, objects, hash),
             None => Ok(()),
         }
@@ -214,63 +226,112 @@ impl Ends {
     ) -> Result<(), AllocError>
         ensures { IsAdded self.old.ends.items set objects self.new.ends.items }
     {
-        open_chains(alloc, &mut self.newest)?;
-        let chain = chain_of(hash);
-        let older = newest_of(&self.newest, chain);
-        self.ends.push(End {
-            set,
-            objects,
-            hash,
-            older,
-        })?;
+        grow(alloc, &self.ends, &mut self.older, &mut self.newest)?;
+        let place = place_of(hash, self.newest.len());
+        append(&mut self.older, number_at(&self.newest, place))?;
+        self.ends.push(End { set, objects, hash })?;
         let number = self.ends.len();
-        point(&mut self.newest, chain, number);
+        put(&mut self.newest, place, number);
         Ok(())
     }
 }
 
-ghost use Rattle.std.specs.Prelude.{◌≡◌, ℕ, List, true, length};
+ghost use Rattle.std.specs.Prelude.{◌≡◌, ◌≤◌, ℕ, List, true, length};
 ghost use Rattle.kmipa_store.specs.Choices.{IsSound};
-ghost use Rattle.kmipa_search.specs.Ends.{AreFlagged, IsEndAt};
+ghost use Rattle.kmipa_search.specs.Ends.{AreFlagged, IsEndLike};
 
-/// All chains, empty; unless they are there.
-fn open_chains(alloc: Global, newest: &mut Vec<usize>) -> Result<(), AllocError> {
-    if newest.is_empty() {
-        *newest = Vec::from_elem(alloc, 0, CHAINS)?;
+/// Makes a table of all ends that has more places, where one end more wants them.
+fn grow(
+    alloc: Global,
+    ends: &[End],
+    older: &mut Vec<usize>,
+    newest: &mut Vec<usize>,
+) -> Result<(), AllocError> {
+    let places = places_for(ends.len(), newest.len());
+    if places != newest.len() {
+        *newest = Vec::from_elem(alloc, 0, places)?;
+        spread(ends, older, newest);
     }
     Ok(())
 }
 
-/// One more than the number of a chain's newest end, or 0.
-fn newest_of(newest: &[usize], chain: usize) -> usize {
-    match newest.get(chain) {
+/// How many places the table has with one end more than so many, where it had so many before.
+fn places_for(ends: usize, places: usize) -> usize {
+    if places == 0 {
+        return FIRST_PLACES;
+    }
+    if ends < places {
+        return places;
+    }
+    usize::min(places.saturating_mul(GROWTH), CHAINS)
+}
+
+/// Puts all ends into an empty table, the oldest first.
+fn spread(ends: &[End], older: &mut Vec<usize>, newest: &mut Vec<usize>) {
+    let mut count = 0;
+    'ends: while count < ends.len() {
+        let place = place_of(ends[count].hash, newest.len());
+        put(older, count, number_at(newest, place));
+        count += 1;
+        put(newest, place, count);
+    }
+}
+
+/// Adds a number after the others.
+fn append(numbers: &mut Vec<usize>, number: usize) -> Result<(), AllocError> {
+    numbers.push(number)?;
+    Ok(())
+}
+
+/// The number at a place, or 0.
+fn number_at(numbers: &[usize], place: usize) -> usize {
+    match numbers.get(place) {
         Some(number) => *number,
         None => 0,
     }
 }
 
-/// Writes the number of a chain's newest end, if there is such a chain.
-fn point(newest: &mut Vec<usize>, chain: usize, number: usize) {
-    if chain < newest.len() {
-        newest[chain] = number;
+/// Writes a number at a place, if there is one.
+fn put(numbers: &mut Vec<usize>, place: usize, number: usize) {
+    if place < numbers.len() {
+        numbers[place] = number;
     }
 }
 
 /// Whether an end is that of these calls, which are so many, over a ledger whose objects stand as they do here.
-fn is_end<L: Ledger>(ledger: &L, end: &End, taken: &TakenCalls, count: usize) -> bool
+fn is_end<L: Ledger>(ledger: &L, end: &End, taken: &TakenCalls, count: usize, front: usize) -> bool
     requires { IsSound (L.state ledger.now).now }
     ensures { (all : ℕ) (places : List ℕ) → AreFlagged all places taken.now → length places ≡ count
-        → result ≡ true → IsEndAt places (L.state ledger.now).now end.now }
+        → result ≡ true → IsEndLike front places (L.state ledger.now).now end.now }
 {
     if end.hash != taken.hash {
         return false;
     }
-    taken.are(&end.set, count) && stand_so(ledger, &end.objects)
+    taken.are(&end.set, count) && stand_so(ledger, &end.objects, front)
 }
 
 /// The chain of a hash.
 fn chain_of(hash: u64) -> usize {
     (hash >> 32) as usize % CHAINS
+}
+
+/// The place of a hash in a table of so many, which it shares with other chains.
+fn place_of(hash: u64, places: usize) -> usize {
+    if places == 0 {
+        return 0;
+    }
+    chain_of(hash) % places
+}
+
+/// 1 if two hashes are of one chain, or else 0.
+fn in_chain(one: u64, other: u64) -> usize
+    ensures { result ≤ 1 }
+{
+    if chain_of(one) == chain_of(other) {
+        1
+    } else {
+        0
+    }
 }
 
 /// More bytes than an end of this set and so many objects takes, besides their states.

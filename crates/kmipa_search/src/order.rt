@@ -57,6 +57,7 @@ pub fn find_order<L: Ledger, W: Watch>(
     let mut by_wish = Links::new(alloc, calls.len())?;
     let mut taken = TakenCalls::new(alloc, calls.len())?;
     let mut ends = Ends::new(alloc);
+    let front = ledger.len();
     let mut path = Vec::new(alloc);
     let mut tried = Tried::none();
     let mut depth = 0;
@@ -91,7 +92,7 @@ pub fn find_order<L: Ledger, W: Watch>(
                         taken.take(place);
                         watch.taken(calls[place].number);
                         depth = mark;
-                        tried = ends.arrive(alloc, ledger, &taken, path.len(), steps >= EARLY)?;
+                        tried = ends.arrive(ledger, &taken, path.len(), front, steps >= EARLY)?;
                     }
                     None => tried = pick.tried,
                 }
@@ -100,7 +101,7 @@ pub fn find_order<L: Ledger, W: Watch>(
                 let Some(visit) = path.pop() else {
                     return Ok(Outcome { order: None, steps });
                 };
-                ends.note(alloc, ledger, &taken, path.len() + 1, steps >= EARLY)?;
+                ends.note(alloc, ledger, &taken, path.len() + 1, front, steps >= EARLY)?;
                 ledger.back(Mark { depth });
                 depth -= 1;
                 remaining.give_back(calls, visit.place);

@@ -5,9 +5,9 @@ ghost use Rattle.kmipa_object.specs.declared.life.SecretNo.{SecretNo};
 ghost use Rattle.kmipa_object.specs.declared.life.Material.TheVariants.{Secret};
 ghost use Rattle.kmipa_store.specs.Ledger.{held};
 ghost use Rattle.kmipa_store.specs.Choices.{IsSound};
-ghost use Rattle.kmipa_search.specs.Ends.{still, still_shared, stills, stills_shared};
+ghost use Rattle.kmipa_search.specs.Ends.{AreAlike, IsAlikeAt, still, still_shared, stills, stills_shared};
 
-use crate::stills::{Still, copy_of, known_of, stands_so};
+use crate::stills::{Still, copy_of, known_of, stands_at};
 use kmipa_attrs::Name;
 use kmipa_object::Object;
 use kmipa_store::Ledger;
@@ -23,7 +23,8 @@ const NAME_BYTES: usize = 64;
 const MOST_COMPARED: usize = 64;
 
 /// States of objects, by their places. An end has them from here, so that what doesn't change from one end to the next
-/// is there once. A state is handed out only where it was compared in full with the object, or copied of it.
+/// is there once. A state is handed out only where it was compared with the object, or copied of it: of the objects with which a search
+/// began as far as they can change, and of the others in full.
 #[derive(Drop)]
 pub struct Pool {
     places: Vec<Vec<Rc<Still>>>,
@@ -40,17 +41,18 @@ impl Pool {
         }
     }
 
-    /// The states of all objects of a ledger, in the order of arrival; or none, where they would take more bytes than
-    /// these.
+    /// The states of all objects of a ledger, in the order of arrival, so many of which were there when the search began; or none, where they
+    /// would take more bytes than these.
     pub fn share_all<L: Ledger>(
         &mut self,
         alloc: Global,
         ledger: &L,
+        front: usize,
         room: usize,
     ) -> Result<Option<Vec<Rc<Still>>>, AllocError>
         requires { IsSound (L.state ledger.now).now }
         ensures { IfOk result (λ objects. IfSome objects
-            (λ objects. stills_shared objects.items ≡ stills (L.state ledger.now).now)) }
+            (λ objects. AreAlike front (stills_shared objects.items) (stills (L.state ledger.now).now))) }
     {
         let mut objects = Vec::with_capacity(alloc, ledger.len())?;
         let mut place = 0;
@@ -59,7 +61,7 @@ impl Pool {
                 return Ok(None);
             }
             let object = ledger.at(place);
-            objects.push(self.share(alloc, ledger, object, place)?)?;
+            objects.push(self.share(alloc, ledger, object, place, front)?)?;
             place += 1;
         }
         Ok(Some(objects))
@@ -72,13 +74,14 @@ impl Pool {
         ledger: &L,
         object: &Object,
         place: usize,
+        front: usize,
     ) -> Result<Rc<Still>, AllocError>
         requires { (secret : SecretNo) → object.now.life.material ≡ Secret secret
             → secret.number < length (L.state ledger.now).now.secrets }
-        ensures { IfOk result (λ state. still_shared state ≡ still (L.state ledger.now).now.secrets (held object.now)) }
+        ensures { IfOk result (λ state. IsAlikeAt front place (still_shared state) (still (L.state ledger.now).now.secrets (held object.now))) }
     {
         if let Some(states) = self.places.get(place) {
-            if let Some(state) = state_among(ledger, object, states.as_slice()) {
+            if let Some(state) = state_among(ledger, object, states.as_slice(), place, front) {
                 return state.clone();
             }
         }
@@ -100,17 +103,19 @@ impl Pool {
     }
 }
 
-/// One of the newest of these states, in which an object of a ledger stands.
+/// One of the newest of these states, in which the object of a ledger at a place stands.
 #[inline(never)]
 fn state_among<'s, L: Ledger>(
     ledger: &L,
     object: &Object,
     states: &'s [Rc<Still>],
+    at: usize,
+    front: usize,
 ) -> Option<&'s Rc<Still>>
     requires { (secret : SecretNo) → object.now.life.material ≡ Secret secret
         → secret.number < length (L.state ledger.now).now.secrets }
     ensures { IfSome result
-        (λ state. still_shared state.now ≡ still (L.state ledger.now).now.secrets (held object.now)) }
+        (λ state. IsAlikeAt front at (still_shared state.now) (still (L.state ledger.now).now.secrets (held object.now))) }
 {
     let mut place = states.len();
     let mut compared = 0;
@@ -121,7 +126,7 @@ fn state_among<'s, L: Ledger>(
         compared += 1;
         place -= 1;
         let state = &states[place];
-        if stands_so(ledger, object, state) {
+        if stands_at(ledger, object, state, at, front) {
             return Some(state);
         }
     }

@@ -10,7 +10,7 @@ ghost use Rattle.kmipa_store.specs.Ledger.{held};
 ghost use Rattle.kmipa_store.specs.Choices.{IsSound};
 ghost use Rattle.kmipa_record.specs.Entries.{items_of};
 ghost use Rattle.kmipa_check.specs.Left.{bytes_left};
-ghost use Rattle.kmipa_search.specs.Ends.{still, still_of, stills, stills_shared};
+ghost use Rattle.kmipa_search.specs.Ends.{AreAlike, IsAlikeAt, still, still_of, stills, stills_shared};
 
 use kmipa_attrs::{AttrSet, Name};
 use kmipa_object::{Life, Material, Object};
@@ -61,11 +61,11 @@ pub fn known_of<L: Ledger>(ledger: &L, material: Material) -> Option<&[u8]>
     }
 }
 
-/// Whether the objects of a ledger stand as these do.
+/// Whether the objects of a ledger stand as these do. Of the first so many, with which a search begins, only what can change is looked at.
 #[inline(never)]
-pub fn stand_so<L: Ledger>(ledger: &L, objects: &[Rc<Still>]) -> bool
+pub fn stand_so<L: Ledger>(ledger: &L, objects: &[Rc<Still>], front: usize) -> bool
     requires { IsSound (L.state ledger.now).now }
-    ensures { result ≡ true → stills_shared objects.now ≡ stills (L.state ledger.now).now }
+    ensures { result ≡ true → AreAlike front (stills_shared objects.now) (stills (L.state ledger.now).now) }
 {
     if objects.len() != ledger.len() {
         return false;
@@ -74,16 +74,38 @@ pub fn stand_so<L: Ledger>(ledger: &L, objects: &[Rc<Still>]) -> bool
     'objects: while place > 0 {
         place -= 1;
         let object = ledger.at(place);
-        if !stands_so(ledger, object, &objects[place]) {
+        if !stands_at(ledger, object, &objects[place], place, front) {
             return false;
         }
     }
     true
 }
 
+/// Whether the object at a place stands as this one does; of the first so many places as far as it can change.
+#[inline(always)]
+pub fn stands_at<L: Ledger>(
+    ledger: &L,
+    object: &Object,
+    kept: &Still,
+    place: usize,
+    front: usize,
+) -> bool
+    requires { (secret : SecretNo) → object.now.life.material ≡ Secret secret → secret.number < length (L.state ledger.now).now.secrets }
+    ensures { result ≡ true → IsAlikeAt front place (still_of kept.now) (still (L.state ledger.now).now.secrets (held object.now)) }
+{
+    if place >= front {
+        return stands_so(ledger, object, kept);
+    }
+    if !is_same_life(&kept.object.life, &object.life) {
+        return false;
+    }
+    let known = known_of(ledger, object.life.material);
+    are_known(&kept.bytes, known)
+}
+
 /// Whether an object of a ledger stands as this one does.
 #[inline(always)]
-pub fn stands_so<L: Ledger>(ledger: &L, object: &Object, kept: &Still) -> bool
+fn stands_so<L: Ledger>(ledger: &L, object: &Object, kept: &Still) -> bool
     requires { (secret : SecretNo) → object.now.life.material ≡ Secret secret → secret.number < length (L.state ledger.now).now.secrets }
     ensures { result ≡ true → still_of kept.now ≡ still (L.state ledger.now).now.secrets (held object.now) }
 {

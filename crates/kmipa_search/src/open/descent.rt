@@ -42,6 +42,7 @@ pub fn find_turns<'b, 'a, L: Ledger, W: Watch>(
 {
     let mut standing = Standing::new(alloc, tables)?;
     let mut ends = Ends::new(alloc);
+    let front = ledger.len();
     let mut place = Place::first(alloc);
     let mut path = Vec::new(alloc);
     let mut turns = Vec::new(alloc);
@@ -64,7 +65,7 @@ pub fn find_turns<'b, 'a, L: Ledger, W: Watch>(
                     path.push(Visit { attempt, place })?;
                     standing.take(tables, attempt);
                     let late = steps >= EARLY;
-                    let tried = ends.arrive(alloc, ledger, &standing.taken, path.len(), late)?;
+                    let tried = ends.arrive(ledger, &standing.taken, path.len(), front, late)?;
                     place = Place::behind(alloc, attempt, tried);
                 }
             }
@@ -73,7 +74,7 @@ pub fn find_turns<'b, 'a, L: Ledger, W: Watch>(
                     return Ok(Guessed { turns: None, steps });
                 };
                 let late = steps >= EARLY && place.was_possible;
-                ends.note(alloc, ledger, &standing.taken, path.len() + 1, late)?;
+                ends.note(alloc, ledger, &standing.taken, path.len() + 1, front, late)?;
                 turns.pop();
                 ledger.back(Mark { depth });
                 depth -= 1;

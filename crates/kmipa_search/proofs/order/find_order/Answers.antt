@@ -7,7 +7,7 @@ use Rattle.kmipa_msgs.specs.Messages.{rules_of}
 use Rattle.kmipa_search.specs.Candidates.{candidate_step}
 use Rattle.kmipa_search.specs.Progress.{no_step, AreBegun, CallTried, ComesTo, places}
 use Rattle.kmipa_search.specs.Tries.{IsPick, IsPicked, none_tried}
-use Rattle.kmipa_search.specs.Ends.{AreFlagged, Remembers}
+use Rattle.kmipa_search.specs.Ends.{AreFlagged, IsArrival, IsNoted, Remembers}
 use Rattle.kmipa_search.specs.Idle.{IsIdleStep}
 use Rattle.kmipa_search.specs.Ranks.{IsRanked, InAnyOrder, WereLinked}
 use Rattle.kmipa_search.specs.declared.tried.Tried.{Tried}
@@ -97,6 +97,7 @@ tries-preserved-in-Some-2 g c =
     let memory : Remembers rules calls first (places (visit ∷ visits)) F E =
     remembers_taken rules calls first (places visits) place c.tries.taken F E c.tries.invariant.memory
     (λ b. c.take-in-Some-2.ensures (length calls) (places visits) (c.tries.invariant.memory.flagged b) (omega (arith, c.in-Some.ensures.within, length-map c.args.calls.now candidate_step))) in
+    let A : ℕ → Type 0 = λ n. IsArrival n E (places (visit ∷ visits)) v.now c.in_ok-tried-in-Some-2.tried in
     let longer : reverse c.push.new.self.items ≡ visit ∷ visits = popped c.push.new.self.items c.tries.path.items visit c.in_ok-push-in-Some-2.ensures.items in
     let long : length (places (visit ∷ visits)) ≡ c.len-in-Some-2.result =
     length-map (visit ∷ visits) (λ (x : Visit). x.place) ∙ ap length (sym longer) ∙ length-reverse c.push.new.self.items ∙ sym c.push.new.self.ok.0 ∙ sym c.len-in-Some-2.ensures in
@@ -107,7 +108,7 @@ tries-preserved-in-Some-2 g c =
       progress =
           subst P (sym longer)
           (progress_arrived rules calls first W.rank.items c.args.budget c.take.new.self (visit ∷ visits) c.in_ok-tried-in-Some-2.tried c.in-Some-2.mark (c.tries.steps + 1) v F E taken memory
-          (λ b. c.in_ok-tried-in-Some-2.ensures (length calls) (places (visit ∷ visits)) (memory.flagged b) long));
+          (λ b. subst A c.len-front.ensures (c.in_ok-tried-in-Some-2.ensures (length calls) (places (visit ∷ visits)) (memory.flagged b) long)));
       wished = λ b.
           subst J (sym longer)
           (wished_without (length calls) W (places visits) c.tries.by_wish c.remove.new.self place c.rank.result c.rank.ensures wishes
@@ -173,6 +174,7 @@ tries-preserved g c =
     let t = subst T is c.tries.invariant.progress in
     let m = subst M is c.tries.invariant.memory in
     let K : List Visit → Type 0 = λ xs. WereLinked (length calls) W.rank.items (places xs) c.tries.by_wish.after.items c.tries.by_wish.before.items in
+    let N : ℕ → Type 0 = λ n. IsNoted n c.tries.ends.ends.items (places (visit ∷ visits)) u.now c.note.new.self.ends.items in
     let none : AreBegun calls → IsPicked calls (places (visit ∷ visits)) W.rank.items c.tries.tried None = λ b. c.in-None.ensures.picked (places (visit ∷ visits)) b (t.remaining b) (t.cursor b) wishes (subst K is (c.tries.invariant.wished b)) in
     let few : suc (length visits) < length calls = omega (arith, c.tries-test.true, c.len.ensures, length-reverse c.tries.path.items, ap length is, length-map c.args.calls.now candidate_step) in
     let long : length (places (visit ∷ visits)) ≡ c.len-in-None.result + 1 = omega (arith, length-map (visit ∷ visits) (λ (x : Visit). x.place), length-reverse c.pop.new.self.items, c.pop.new.self.ok.0, c.len-in-None.ensures) in
@@ -187,7 +189,7 @@ tries-preserved g c =
           c.restore.ensures.before;
       memory =
           remembers_back rules calls first W.rank.items c.args.budget c.tries.remaining visit visits c.tries.tried c.tries.depth c.tries.steps u c.tries.taken c.give_back-in-None.new.self c.tries.ends.ends.items c.note.new.self.ends.items
-          t none few m (λ b. c.note.ensures (length calls) (places (visit ∷ visits)) (m.flagged b) long)
+          t none few m (λ b. subst N c.len-front.ensures (c.note.ensures (length calls) (places (visit ∷ visits)) (m.flagged b) long))
           (λ b. c.give_back-in-None.ensures (length calls) (places visits) (m.flagged b) (c.give_back.ensures.cursor (places visits) (t.remaining b)).left);
     }
 

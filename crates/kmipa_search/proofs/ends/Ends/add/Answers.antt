@@ -6,5 +6,5 @@ returns-in_err-push c = added_none c.args.self.now.ends.items c.push.new.self.it
 
 pub returns : goal.returns
 returns c =
-    added_last c.args.self.now.ends.items c.push.new.self.items (record { set = c.args.set; objects = c.args.objects; hash = c.args.hash; older = c.newest_of-older.result })
+    added_last c.args.self.now.ends.items c.push.new.self.items (record { set = c.args.set; objects = c.args.objects; hash = c.args.hash })
     c.in_ok-push.ensures.items

@@ -1,11 +1,12 @@
 use Rattle.std.proofs.Common.{◌≡◌, ◌≤◌, ◌-◌, length, take}
-use Rattle.kmipa_search.specs.Ends.{stills, stills_shared}
+use Rattle.kmipa_search.specs.Ends.{AreAlike, stills, stills_shared}
 use Rattle.kmipa_search.proofs.pool.Pool.share_all.Given as goal
 
 abbrev pub invariant-objects : goal.invariant-objects
 invariant-objects g l = record {
   within : l.place ≤ length (g.L.Ledger.state l.ledger).now.objects;
-  copied : stills_shared l.objects.items ≡ take l.place (stills (g.L.Ledger.state l.ledger).now);
+  long : length l.objects.items ≡ l.place;
+  copied : AreAlike l.front (stills_shared l.objects.items) (take l.place (stills (g.L.Ledger.state l.ledger).now));
 }
 
 abbrev pub decreases-objects : goal.decreases-objects

@@ -1,0 +1,16 @@
+use Rattle.std.proofs.Common.{◌≡◌, ◌∙◌, true, arith, rules}
+use Rattle.kmipa_store.specs.Ledger.{held}
+use Rattle.kmipa_search.specs.Ends.{still, still_of}
+use Rattle.kmipa_search.proofs.StillLemmas.{alike_at}
+use Rattle.kmipa_search.proofs.stills.stands_at.Goals as goal
+
+pub returns-then-place-front : goal.returns-then-place-front
+returns-then-place-front g c = λ t.
+    alike_at c.args.front c.args.place (still_of c.args.kept.now) (still (g.L.Ledger.state c.args.ledger.now).now.secrets (held c.args.object.now)) (c.stands_so.ensures t)
+
+pub returns : goal.returns
+returns g c = λ t.
+    let same : c.is_same_life.result ≡ true = search rules in (
+      record { dates = c.is_same_life.ensures.dates same; material = c.is_same_life.ensures.material same; bytes = c.are_known.ensures t ∙ c.known_of-known.ensures },
+      λ past. absurd (omega (arith, past, c.if-place-front.false)),
+    )
