@@ -3,7 +3,7 @@
 use kmipa_check::Verdict;
 
 /// A verdict, and when the call that it refuses was answered.
-#[derive(Clone, Copy, Debug, PartialEq, Eq)]
+#[derive(Clone, Copy, PartialEq, Eq)]
 pub struct Judged {
     pub verdict: Verdict,
     /// Of a no, the Time Stamp of the response of the call that it refuses.
