@@ -35,8 +35,8 @@ pub use laws::{
     taken_is_known,
 };
 pub use leaving::declaration_left;
-pub use opening::{open_ledger, rules_of_declaration};
 pub use numbers::{FirstPlaces, Numbered};
+pub use opening::{open_ledger, rules_of_declaration};
 pub use order::steps_of;
 pub use plain_laws::{plain_call_has_one_step, plain_call_is_taken_bare};
 pub use reading::{read_calls, request_in, response_in};
