@@ -8,3 +8,4 @@ pub mod ReplayingLemmas
 pub mod StandingLemmas
 pub mod ConcludingLemmas
 pub mod StreamLemmas
+pub mod OpeningLemmas

@@ -61,7 +61,7 @@ pub fn audit_stream<R: Read>(
         Ok(witness) => witness,
         Err(fault) => return Err(witness_fault(alloc, transcript, fault)),
     };
-    match judge(alloc, transcript, &declaration, &witness) {
+    match judge(alloc, transcript, declaration, &witness) {
         Ok(Ok(judged)) => Ok(judged),
         Ok(Err(fault)) => Err(AuditFault::Check(fault)),
         Err(fault) => Err(AuditFault::Transcript(fault)),
@@ -134,13 +134,13 @@ fn pass_marks<R: Read>(source: &mut RecordedMarks<'_, R>) -> Result<(), RecordFa
 fn judge<R: Read>(
     alloc: Global,
     transcript: &mut Input<R>,
-    declaration: &Declaration,
+    declaration: Declaration,
     witness: &Witness,
 ) -> Result<Result<Judged, CheckFault>, RecordFault>
     requires came { came_of transcript.old ≡ [] }
-    requires declared { AreDeclared (declaration_of declaration.now) }
+    requires declared { AreDeclared (declaration_of declaration) }
     ensures judged { IfOk result
-        (IsJudged transcript.new (declaration_of declaration.now) (witness_of witness.now)) }
+        (IsJudged transcript.new (declaration_of declaration) (witness_of witness.now)) }
     ensures fault { (file : List ℕ) → IsFileOf file transcript.new
         → IfErr result (Tells TranscriptFault IsTranscriptUpTo file (is_failed transcript.new)) }
 {

@@ -37,11 +37,11 @@ impl<'w> Auditor<'w> {
     /// Before the first mark.
     pub fn new(
         alloc: Global,
-        declaration: &Declaration,
+        declaration: Declaration,
         turns: &'w [Turn],
     ) -> Result<Auditor<'w>, CheckFault>
-        requires { AreDeclared (declaration_of declaration.now) }
-        ensures { IfOk result (Stands false [] turns.now (declaration_of declaration.now)) }
+        requires { AreDeclared (declaration_of declaration) }
+        ensures { IfOk result (Stands false [] turns.now (declaration_of declaration)) }
     {
         let replay = Replay::new(alloc, declaration, turns)?;
         Ok(Auditor {

@@ -7,6 +7,7 @@ mod ends;
 mod judged;
 mod lowest;
 mod naming;
+mod opening;
 mod reading;
 mod replaying;
 mod seen;
