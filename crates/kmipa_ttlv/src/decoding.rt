@@ -16,6 +16,7 @@ use crate::fault::{FaultKind, TtlvFault};
 use crate::head::{HEADER, Head, Kind, LEVELS, child_head, fault, outer_head, value_of};
 use crate::item::Item;
 use crate::spelled::view_of;
+use crate::standing::holds;
 use crate::view::View;
 use byteorder::{BigEndian, ByteOrder};
 use std::alloc::Global;
@@ -61,8 +62,21 @@ fn read_outermost(bytes: &[u8]) -> Result<(View<'_>, usize), TtlvFault>
 {
     let head = outer_head(bytes)?;
     let value = value_of(bytes, head.len);
-    test_value(LEVELS - 1, 0, head, value)?;
+    test_outermost(head, value)?;
     Ok((view_of(head, value), head.extent()))
+}
+
+/// Tests the value of an outermost item with this header. Where it fails, it is tested again for the flaw.
+fn test_outermost(head: Head, value: &[u8]) -> Result<(), TtlvFault>
+    requires allowed { IsTrue (allows (number_of_kind head.kind) (length value.now)) }
+    requires room { 8 + length value.now ≤ 0x10_0000 }
+    ensures { MatchResult result (λ _. (t : Tree) × Holds 15 head.tag.number (number_of_kind head.kind) t value.now)
+        (λ f. Shows f (ValueFlaw (Flaw 15) 15 0 (number_of_kind head.kind) value.now)) }
+{
+    if holds(LEVELS - 1, head, value) {
+        return Ok(());
+    }
+    test_value(LEVELS - 1, 0, head, value)
 }
 
 /// Tests the item at this place, where so many levels are left, and the bytes go up to the structure's end. It answers

@@ -19,6 +19,7 @@ mod lending;
 mod reading;
 mod spelled;
 mod splitting;
+mod standing;
 mod tag;
 mod view;
 

@@ -11,7 +11,7 @@ pub returns : goal.returns
 returns c =
     let h = c.in_ok-head.head in
     let is = c.in_ok-head.ensures.1 in
-    let held = c.in_ok-test_value.ensures in
+    let held = c.in_ok-test_outermost.ensures in
     let bytes = c.args.bytes.now in
     let kind = number_of_kind h.kind in
     let value = c.value_of-value.result.now in
