@@ -1,5 +1,5 @@
 -- What a search answers.
-use Rattle.std.proofs.Common.{◌≡◌, ◌≢◌, ◌<◌, ◌≤◌, ◌⊎◌, inl, inr, ℕ, zero, suc, ℤ, Bool, true, false, List, [], ◌∷◌, map, length, get_or, Some, None, Contains, Result, Ok, Err, refl, sym, ap, ◌∙◌, subst, arith}
+use Rattle.std.proofs.Common.{◌≡◌, ◌≢◌, ◌<◌, ◌≤◌, ◌⊎◌, inl, inr, ℕ, zero, suc, ℤ, Bool, true, false, List, [], ◌∷◌, map, length, get_or, Some, None, All, Contains, Result, Ok, Err, refl, sym, ap, ◌∙◌, subst, arith}
 use Rattle.std.specs.Prelude.{AllPairs}
 use Rattle.std.proofs.lemmas.List.{length-map}
 use Rattle.std.proofs.lemmas.Option.{slice_get-get_or}
@@ -26,7 +26,7 @@ use Rattle.kmipa_search.specs.LawsOfCheck.{LawsOfCheck}
 use Rattle.kmipa_search.specs.Candidates.{AreNotPlain}
 use Rattle.kmipa_search.specs.Plain.{ArePlain, AreApart, IsForced}
 use Rattle.kmipa_search.specs.Next.{weight}
-use Rattle.kmipa_search.specs.Progress.{step_at, ordered, HaveRun, CanBeTaken, Opens, ComesTo}
+use Rattle.kmipa_search.specs.Progress.{no_step, step_at, ordered, HaveRun, CanBeTaken, Opens, ComesTo}
 use Rattle.kmipa_search.specs.Confirming.{Confirms, IsTried, turns_at}
 use Rattle.kmipa_search.specs.Laws.{IsEnough, EnoughDecides, ForcedIsLight}
 use Rattle.kmipa_search.specs.Found.{HasDecided, stopped, enough, one_by_one, Finds, Searches}
@@ -97,6 +97,47 @@ module _ (marks : List MarkOf) (declared : DeclarationOf) (calls : List CallOf) 
           let P : List StepOf → Type 0 = λ ss. weight ss ≤ budget in
           inr (subst P (same_steps calls f.steps steps f.plain plain) (omega (arith, forced_is_light_lem calls f, few)))
 
+  -- ---- what takes these calls can be written
+
+  module _ (places : List ℕ) (inside : (s : StepOf) → Contains (ordered steps places) s → Contains steps s) where
+    mapped_twice : (ps : List ℕ) → map bare_turn (map (λ p. (step_at steps p).number) ps) ≡ turns_at steps ps
+    mapped_twice [] = refl
+    mapped_twice (p ∷ ps) = ap (λ (ts : List TurnOf). bare_turn (step_at steps p).number ∷ ts) (mapped_twice ps)
+
+    numbered : (z : ℤ) → Contains (map (λ p. (step_at steps p).number) places) z → IsCallNumber z
+    numbered z has =
+        let q = at_contains (map (λ p. (step_at steps p).number) places) z has in
+        let m = mapped_from (λ p. (step_at steps p).number) places q.0 z q.1 in
+        let s = inside (step_at steps m.0) (contains_at (ordered steps places) q.0 (step_at steps m.0) (get_at (λ p. step_at steps p) places q.0 m.0 m.1)) in
+        let p = at_contains steps (step_at steps m.0) s in
+        let c = plain_at calls steps p.0 (step_at steps m.0) plain p.1 in
+        let P : ℤ → Type 0 = λ n. IsCallNumber n in
+        subst P (sym (ap (λ (x : StepOf). x.number) c.2.is) ∙ m.2)
+        (recorded_number marks c.0 r (All-contains (IsRecorded marks) calls c.0 are.recorded (contains_at calls p.0 c.0 c.1)))
+
+    writable : (witness : Witness) → witness_of witness ≡ turns_at steps places → (bytes : List ℕ) × IsWitness bytes (witness_of witness)
+    writable witness is =
+        let P : List TurnOf → Type 0 = λ ts. (bytes : List ℕ) × IsWitness bytes ts in
+        subst P (sym (is ∙ sym (mapped_twice places))) (bare_written (map (λ p. (step_at steps p).number) places) (λ z has. numbered z has))
+
+  -- ---- an order that a check accepts
+
+  module _ (places : List ℕ) (within : All (λ p. p < length steps) places) where
+    in_places : (s : StepOf) → Contains (ordered steps places) s → Contains steps s
+    in_places s has =
+        let q = at_contains (ordered steps places) s has in
+        let m = mapped_from (λ p. step_at steps p) places q.0 s q.1 in
+        let below : m.0 < length steps = All-contains (λ p. p < length steps) places m.0 within (contains_at places q.0 m.0 m.1) in
+        let P : StepOf → Type 0 = λ x. Contains steps x in
+        subst P m.2 (contains_at steps m.0 (step_at steps m.0) (slice_get-get_or steps m.0 no_step below))
+
+    pub found_at_once : (budget count : ℕ) (witness : Witness) → witness_of witness ≡ turns_at steps places → length places ≡ count → count ≤ budget
+        → IsAccepted marks declared (witness_of witness) → Finds marks declared budget (Yes witness count)
+    found_at_once budget count witness is long few a = (a, writable places in_places witness is, few, turns_long)
+      where
+        turns_long : length (witness_of witness) ≤ count
+        turns_long = omega (arith, long, ap length is, length-map {B = TurnOf} places (λ p. bare_turn (step_at steps p).number))
+
   -- ---- an order that can be taken is a witness
 
   module _ (places : List ℕ) (can : CanBeTaken declared steps (ordered steps places)) where
@@ -137,28 +178,6 @@ module _ (marks : List MarkOf) (declared : DeclarationOf) (calls : List CallOf) 
             let e = same_place calls steps plain numbers_once p.0 q.0 (get_or order i d) (get_or order j d) p.1 q.1 same in
             omega (arith, less, one_place order i j (get_or order j d) (once_permuted steps order steps_once can.once) (a ∙ ap Some e) b)
 
-    -- it can be written
-    writable : (witness : Witness) → witness_of witness ≡ turns_at steps places → (bytes : List ℕ) × IsWitness bytes (witness_of witness)
-    writable witness is =
-        let numbers = map (λ p. (step_at steps p).number) places in
-        let P : List TurnOf → Type 0 = λ ts. (bytes : List ℕ) × IsWitness bytes ts in
-        subst P (sym (is ∙ sym (mapped_twice places))) (bare_written numbers (λ z has. numbered z has))
-      where
-        mapped_twice : (ps : List ℕ) → map bare_turn (map (λ p. (step_at steps p).number) ps) ≡ turns_at steps ps
-        mapped_twice [] = refl
-        mapped_twice (p ∷ ps) = ap (λ (ts : List TurnOf). bare_turn (step_at steps p).number ∷ ts) (mapped_twice ps)
-
-        numbered : (z : ℤ) → Contains (map (λ p. (step_at steps p).number) places) z → IsCallNumber z
-        numbered z has =
-            let q = at_contains (map (λ p. (step_at steps p).number) places) z has in
-            let m = mapped_from (λ p. (step_at steps p).number) places q.0 z q.1 in
-            let s = in_steps (step_at steps m.0) (contains_at order q.0 (step_at steps m.0) (get_at (λ p. step_at steps p) places q.0 m.0 m.1)) in
-            let p = at_contains steps (step_at steps m.0) s in
-            let c = plain_at calls steps p.0 (step_at steps m.0) plain p.1 in
-            let P : ℤ → Type 0 = λ n. IsCallNumber n in
-            subst P (sym (ap (λ (x : StepOf). x.number) c.2.is) ∙ m.2)
-            (recorded_number marks c.0 r (All-contains (IsRecorded marks) calls c.0 are.recorded (contains_at calls p.0 c.0 c.1)))
-
     pub accepted : IsAccepted marks declared (turns_at steps places)
     accepted = laws.accepted marks declared calls (turns_at steps places) order can.known are (made places in_steps) taken_once can.placed can.knows can.sound
 
@@ -178,7 +197,7 @@ module _ (marks : List MarkOf) (declared : DeclarationOf) (calls : List CallOf) 
             let P : Witness → Type 0 = λ x. IsAccepted marks declared (witness_of x) in
             let Q : Witness → Type 0 = λ x. length (witness_of x) ≤ count in
             let W : Witness → Type 0 = λ x. (bytes : List ℕ) × IsWitness bytes (witness_of x) in
-            (subst P (sym c.0) a, subst W (sym c.0) (writable witness is), omega (arith, c.1, few), omega (arith, c.1, subst Q (sym c.0) turns_long))
+            (subst P (sym c.0) a, subst W (sym c.0) (writable places in_steps witness is), omega (arith, c.1, few), omega (arith, c.1, subst Q (sym c.0) turns_long))
         by a (Ok (GaveUp n)) c = absurd c
         by a (Err fault.Memory) c = tt
         by a (Err (fault.Outside number side o)) c = absurd c

@@ -6,6 +6,7 @@ mod check_laws;
 mod deepest;
 mod ends;
 mod forced;
+mod forthright;
 mod found;
 mod guesses;
 mod guessing;

@@ -26,7 +26,7 @@ use kmipa_store::{Ledger, Mark};
 use std::alloc::{AllocError, Global};
 
 /// So many steps are made in the order of the begin marks.
-const EARLY: u64 = 1_000;
+pub(crate) const EARLY: u64 = 1_000;
 
 /// What a search of the calls comes to.
 #[derive(Drop)]

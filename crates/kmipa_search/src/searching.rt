@@ -1,6 +1,6 @@
 //! The search for a witness.
 
-ghost use Rattle.std.specs.Prelude.{◌≡◌, ◌<◌, ◌⊎◌, All, IfErr, IfOk, Err, List, Ok, length, map, true, ℕ};
+ghost use Rattle.std.specs.Prelude.{◌≡◌, ◌<◌, ◌⊎◌, All, IfErr, IfOk, IfSome, Err, List, Ok, length, map, true, ℕ};
 ghost use Rattle.kmipa_record.specs.Declarations.{AreDeclared, declaration_of};
 ghost use Rattle.kmipa_record.specs.Marks.{AreRecorded, MarkOf};
 ghost use Rattle.kmipa_record.specs.Transcripts.{transcript_of};
@@ -11,11 +11,12 @@ ghost use Rattle.kmipa_check.specs.Runs.{IsAccepted};
 ghost use Rattle.kmipa_search.specs.Candidates.{AreNotPlain, candidate_step};
 ghost use Rattle.kmipa_search.specs.Plain.{ArePlain};
 ghost use Rattle.kmipa_search.specs.Progress.{AllReadable};
-ghost use Rattle.kmipa_search.specs.Found.{Searches};
+ghost use Rattle.kmipa_search.specs.Found.{Finds, Searches};
 ghost use Rattle.kmipa_search.specs.Confirming.{Confirms, IsTried, turns_at};
 
 use crate::candidate::Candidate;
 use crate::check_laws::check_laws;
+use crate::forthright::forthright_order;
 use crate::found::Found;
 use crate::guessing::guess_order;
 use crate::order::find_order;
@@ -35,6 +36,9 @@ use std::alloc::{AllocError, Global};
 /// open and in those to come, those without effect are tried first, and each by its end mark; where more than 64 may be next, they go on
 /// in the order of their begin marks. And coming back from a call without effect, the search goes back at once, and so it does where the
 /// same calls were taken before over the same ledger, and led to nothing. Where a call waits for payloads, each of them has one guess.
+///
+/// Where all calls are plain and the budget is enough for them, the order in which they are tried if each is possible is made first, without a
+/// ledger, and checked: mostly it is the one that is found, and the calls are taken once.
 pub fn search(
     alloc: Global,
     transcript: &Transcript,
@@ -68,6 +72,61 @@ pub fn search_watched<W: Watch>(
 
 /// Looks for a witness of calls that are plain, each as a search takes it.
 pub fn search_plain<W: Watch>(
+    alloc: Global,
+    calls: &[Call],
+    declaration: &Declaration,
+    own: &[Candidate],
+    budget: u64,
+    watch: &mut W,
+) -> Result<Found, CheckFault>
+    requires declared { AreDeclared (declaration_of declaration.now) }
+    requires each { (marks : List MarkOf) × All (IsRecorded marks) (map call_of calls.now) }
+    requires readable { AllReadable (map candidate_step own.now) }
+    ensures { (marks : List MarkOf) → AreRecorded marks → AreCalls marks (map call_of calls.now)
+        → ArePlain (map call_of calls.now) (map candidate_step own.now)
+        → Searches marks (declaration_of declaration.now) budget result }
+{
+    match search_forthright(alloc, calls, declaration, own, budget)? {
+        Some(found) => Ok(found),
+        None => search_step_by_step(alloc, calls, declaration, own, budget, watch),
+    }
+}
+
+/// What is found where each call that is tried is possible: so many steps as calls, and a check accepts the order in which they are taken.
+/// `None` where it doesn't, or the budget is less.
+fn search_forthright(
+    alloc: Global,
+    calls: &[Call],
+    declaration: &Declaration,
+    own: &[Candidate],
+    budget: u64,
+) -> Result<Option<Found>, CheckFault>
+    requires declared { AreDeclared (declaration_of declaration.now) }
+    requires each { (marks : List MarkOf) × All (IsRecorded marks) (map call_of calls.now) }
+    ensures finds { (marks : List MarkOf) → AreRecorded marks → AreCalls marks (map call_of calls.now)
+        → ArePlain (map call_of calls.now) (map candidate_step own.now)
+        → IfOk result (λ found. IfSome found (Finds marks (declaration_of declaration.now) budget)) }
+    ensures memory { IfErr result (λ fault. fault ≡ CheckFault.Memory) }
+{
+    check_laws();
+    let steps = own.len() as u64;
+    if steps > budget {
+        return Ok(None);
+    }
+    let order = forthright_order(alloc, own)?;
+    if order.len() != own.len() {
+        return Ok(None);
+    }
+    let witness = witness_at(alloc, own, &order)?;
+    match check_calls(alloc, calls, declaration, &witness) {
+        Ok(Verdict::Yes) => Ok(Some(Found::Yes(witness, steps))),
+        Err(CheckFault::Memory) => Err(CheckFault::Memory),
+        _ => Ok(None),
+    }
+}
+
+/// The same, step by step: each call that is tried is taken over a ledger, and given back where it leads to nothing.
+fn search_step_by_step<W: Watch>(
     alloc: Global,
     calls: &[Call],
     declaration: &Declaration,

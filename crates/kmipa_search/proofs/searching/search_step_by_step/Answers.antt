@@ -9,7 +9,7 @@ use Rattle.kmipa_search.specs.Candidates.{candidate_step}
 use Rattle.kmipa_search.specs.Progress.{ComesTo}
 use Rattle.kmipa_search.specs.Confirming.{turns_at}
 use Rattle.kmipa_search.proofs.AnswerLemmas.{opens, gave_up, found}
-use Rattle.kmipa_search.proofs.searching.search_plain.Goals as goal
+use Rattle.kmipa_search.proofs.searching.search_step_by_step.Goals as goal
 
 pub returns-in-Some : goal.returns-in-Some
 returns-in-Some g c = λ marks r are plain.
