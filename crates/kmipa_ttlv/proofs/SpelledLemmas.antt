@@ -290,14 +290,35 @@ scalar_only tag kind value other h =
 pub refused_item : (k : Kind) (tag : ℕ) (value : List ℕ) → k ≢ Kind.TheVariants.Structure → allows (number_of_kind k) (length value) ≡ false → scalar tag (byte_string value) ≡ item_at items_at tag (number_of_kind k) value
 refused_item k tag value s h = scalar_only tag (number_of_kind k) value (not_one k s) (held_not (number_of_kind k) value (inr h))
 
-pub kind_item : (k m : Kind) (tag : ℕ) (value : List ℕ) → k ≡ m → (m ≢ Kind.TheVariants.Structure → IsTrue (allows (number_of_kind m) (length value))) → plain_at tag (number_of_kind m) value ≡ item_at items_at tag (number_of_kind k) value
-kind_item k m tag value e h = allowed_item m tag value h ∙ ap (λ (j : Kind). item_at items_at tag (number_of_kind j) value) (sym e)
+-- the same of a number that is a kind's
+pub number_item : (m : Kind) (n tag : ℕ) (value : List ℕ) → n ≡ number_of_kind m → (m ≢ Kind.TheVariants.Structure → IsTrue (allows (number_of_kind m) (length value))) → plain_at tag (number_of_kind m) value ≡ item_at items_at tag n value
+number_item m n tag value e h = allowed_item m tag value h ∙ ap (λ (k : ℕ). item_at items_at tag k value) (sym e)
 
-pub refused_kind : (k m : Kind) (tag : ℕ) (value : List ℕ) → k ≡ m → m ≢ Kind.TheVariants.Structure → allows (number_of_kind m) (length value) ≡ false → scalar tag (byte_string value) ≡ item_at items_at tag (number_of_kind k) value
-refused_kind k m tag value e s h = refused_item m tag value s h ∙ ap (λ (j : Kind). item_at items_at tag (number_of_kind j) value) (sym e)
+pub refused_number : (m : Kind) (n tag : ℕ) (value : List ℕ) → n ≡ number_of_kind m → m ≢ Kind.TheVariants.Structure → allows (number_of_kind m) (length value) ≡ false → scalar tag (byte_string value) ≡ item_at items_at tag n value
+refused_number m n tag value e s h = refused_item m tag value s h ∙ ap (λ (k : ℕ). item_at items_at tag k value) (sym e)
 
 unknown_other : (kind : ℕ) → is_kind kind ≡ false → kind ≡ 1 → ⊥
 unknown_other kind h e = false_is_true (sym h ∙ ap is_kind e)
 
 pub unknown_item : (tag kind : ℕ) (value : List ℕ) → is_kind kind ≡ false → scalar tag (byte_string value) ≡ item_at items_at tag kind value
 unknown_item tag kind value h = scalar_only tag kind value (unknown_other kind h) (held_not kind value (inl h))
+
+not_kind_at : (n : ℕ) → (is_kind n ≡ true → ⊥) → (b : Bool) → is_kind n ≡ b → is_kind n ≡ false
+not_kind_at n wrong false e = e
+not_kind_at n wrong true e = absurd (wrong e)
+
+within_kinds : (n : ℕ) → is_kind n ≡ true → (1 ≤ n) × (n ≤ 11)
+within_kinds n e = let p = both_true (nat_le 1 n) (nat_le n 11) e in (leb-true 1 n p.0, leb-true n 11 p.1)
+
+-- a number that isn't a kind's
+unnumbered : (n tag : ℕ) (value : List ℕ) → ((1 ≤ n) → (n ≤ 11) → ⊥) → scalar tag (byte_string value) ≡ item_at items_at tag n value
+unnumbered n tag value wrong = unknown_item tag n value (not_kind_at n (λ e. let w = within_kinds n e in wrong w.0 w.1) (is_kind n) refl)
+
+eight_or_none : (n tag : ℕ) (value : List ℕ) → ((1 ≤ n) → (n ≤ 11) → n ≡ 8) → (b : Bool) → (n == 8) ≡ b → scalar tag (byte_string value) ≡ item_at items_at tag n value
+unfolding scalar_at
+eight_or_none n tag value only true e = number_item Bytes n tag value (eqb-true n 8 e) (λ s. refl)
+eight_or_none n tag value only false e = unnumbered n tag value (λ p q. false_is_true (sym e ∙ eq-eqb n 8 (only p q)))
+
+-- a number of which no more is known than that, if it is a kind's, it is that of byte strings
+pub plain_number : (n tag : ℕ) (value : List ℕ) → ((1 ≤ n) → (n ≤ 11) → n ≡ 8) → scalar tag (byte_string value) ≡ item_at items_at tag n value
+plain_number n tag value only = eight_or_none n tag value only (n == 8) refl

@@ -9,7 +9,7 @@ ghost use Rattle.kmipa_ttlv.specs.Spelled.{scalar_at, item_at, items_at};
 ghost use Rattle.kmipa_ttlv.specs.Tree.{none, more, structure, scalar};
 ghost use Rattle.kmipa_ttlv.specs.ViewTree.{view_tree, view_value_tree, from_tag};
 
-use crate::head::{Head, Kind, kind_of, len_of, value_of, whole_front};
+use crate::head::{Head, len_of, number_of, value_of, whole_front};
 use crate::view::{Children, Source, View, ViewValue};
 use byteorder::{BigEndian, ByteOrder};
 
@@ -35,10 +35,7 @@ fn front_value(bytes: &[u8]) -> ViewValue<'_>
     ensures { (tag : ℕ) → view_value_tree tag result ≡ item_at items_at tag (kind_at bytes.now) (value_at bytes.now) }
 {
     let value = value_of(bytes, len_of(bytes));
-    match kind_of(bytes) {
-        Some(kind) => value_view(kind, value),
-        None => ViewValue::Bytes(value),
-    }
+    value_view(number_of(bytes), value)
 }
 
 /// The first item with this tag and the bytes behind it, or `None` where there is none.
@@ -65,32 +62,31 @@ pub fn view_of(head: Head, value: &[u8]) -> View<'_>
 {
     View {
         tag: head.tag,
-        value: value_view(head.kind, value),
+        value: value_view(head.kind.number(), value),
     }
 }
 
-/// The value of an item of this kind, of whatever length.
+/// The value of an item with this type byte, of whatever length. The byte itself is looked at, so that one test of it is left
+/// where a reader wants one kind.
 #[inline(always)]
 #[tactic(auto, unfolding(crate::specs::Spelled::scalar_at))]
-fn value_view(kind: Kind, value: &[u8]) -> ViewValue<'_>
-    ensures { (tag : ℕ) → view_value_tree tag result ≡ item_at items_at tag (number_of_kind kind) value.now }
+fn value_view(number: u8, value: &[u8]) -> ViewValue<'_>
+    ensures { (tag : ℕ) → view_value_tree tag result ≡ item_at items_at tag number value.now }
 {
     let len = value.len();
-    match kind {
-        Kind::Structure => ViewValue::Structure(Children {
+    match number {
+        1 => ViewValue::Structure(Children {
             source: Source::Spelled(value),
         }),
-        Kind::Text => ViewValue::Text(text_of(value)),
-        Kind::Integer if len == 4 => ViewValue::Integer(BigEndian::read_i32(value)),
-        Kind::Enumeration if len == 4 => ViewValue::Enumeration(BigEndian::read_u32(value)),
-        Kind::Interval if len == 4 => ViewValue::Interval(BigEndian::read_u32(value)),
-        Kind::LongInteger if len == 8 => ViewValue::LongInteger(BigEndian::read_i64(value)),
-        Kind::Boolean if len == 8 => ViewValue::Boolean(BigEndian::read_u64(value) == 1),
-        Kind::DateTime if len == 8 => ViewValue::DateTime(BigEndian::read_i64(value)),
-        Kind::DateTimeExtended if len == 8 => {
-            ViewValue::DateTimeExtended(BigEndian::read_i64(value))
-        }
-        Kind::BigInteger if 0 < len && len % 8 == 0 => ViewValue::BigInteger(value),
+        2 if len == 4 => ViewValue::Integer(BigEndian::read_i32(value)),
+        3 if len == 8 => ViewValue::LongInteger(BigEndian::read_i64(value)),
+        4 if 0 < len && len % 8 == 0 => ViewValue::BigInteger(value),
+        5 if len == 4 => ViewValue::Enumeration(BigEndian::read_u32(value)),
+        6 if len == 8 => ViewValue::Boolean(BigEndian::read_u64(value) == 1),
+        7 => ViewValue::Text(text_of(value)),
+        9 if len == 8 => ViewValue::DateTime(BigEndian::read_i64(value)),
+        10 if len == 4 => ViewValue::Interval(BigEndian::read_u32(value)),
+        11 if len == 8 => ViewValue::DateTimeExtended(BigEndian::read_i64(value)),
         _ => ViewValue::Bytes(value),
     }
 }
