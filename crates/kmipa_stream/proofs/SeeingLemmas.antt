@@ -67,9 +67,9 @@ module _ (marks all : List MarkOf) (s : SeenCall) (begins_so : (asked : List ℕ
     (ends_so : (end : ℕ) (answered : List ℕ) → HasEnd marks s.number end answered → HasEnd all s.number end answered) where
   held_on : (held : Held) → HoldsSo marks s held → HoldsSo all s held
   held_on Released h = tt
-  held_on (Open begin) h = (record { at = begins_so begin.value.message.items h.0.at; same = h.0.same }, h.1)
+  held_on (Open begin) h = (record { at = begins_so begin.message.items h.0.at; same = h.0.same }, h.1)
   held_on (Whole begin end) h = (
-    record { at = begins_so begin.value.message.items h.0.at; same = h.0.same },
+    record { at = begins_so begin.message.items h.0.at; same = h.0.same },
     record { place = h.1.place; noted = h.1.noted; at = ends_so h.1.place end.value.message.items h.1.at; same = h.1.same },
   )
 

@@ -30,8 +30,8 @@ pub record HoldsEnd (marks : List MarkOf) (s : SeenCall) (end : End) : Type 0 wh
 -- what is held of a call is its own
 abbrev pub HoldsSo : List MarkOf → SeenCall → Held → Type 0
 HoldsSo marks s Released = Unit {0}
-HoldsSo marks s (Open begin) = HoldsBegin marks s begin.value × (s.end ≡ None)
-HoldsSo marks s (Whole begin end) = HoldsBegin marks s begin.value × HoldsEnd marks s end.value
+HoldsSo marks s (Open begin) = HoldsBegin marks s begin × (s.end ≡ None)
+HoldsSo marks s (Whole begin end) = HoldsBegin marks s begin × HoldsEnd marks s end.value
 
 -- a call that these marks begin is noted so
 pub record IsSeen (marks : List MarkOf) (s : SeenCall) : Type 0 where

@@ -1,5 +1,7 @@
 //! The calls of a transcript that have begun so far.
 
+ghost use Rattle.std.specs.Prelude.{◌≡◌};
+
 use kmipa_record::{Begin, End, NumberMap};
 use std::alloc::{AllocError, Global};
 use std::mem::replace;
@@ -21,10 +23,10 @@ pub(crate) struct SeenCall {
 pub(crate) enum Held {
     /// Nothing any more.
     Released,
-    /// Its begin mark: its end mark has not come.
-    Open(Box<Begin>),
-    /// Both its marks.
-    Whole(Box<Begin>, Box<End>),
+    /// Its begin mark, but for the client's name: its end mark has not come.
+    Open(Begin),
+    /// Both its marks. The end mark is in a box, since few calls wait with one, and each that was begun has the room of a begin mark.
+    Whole(Begin, Box<End>),
 }
 
 /// The calls that have begun, in the order of their begin marks.
@@ -39,7 +41,7 @@ pub(crate) struct Seen {
 }
 
 impl Seen {
-    ghost use Rattle.std.specs.Prelude.{◌≡◌, ◌∷◌, ◌++◌, List, [], OnOk, length};
+    ghost use Rattle.std.specs.Prelude.{◌∷◌, ◌++◌, List, [], OnOk, length};
     ghost use Rattle.std.specs.String.{string_bytes};
     ghost use Rattle.kmipa_record.specs.Marks.{AreRecorded, MarkOf, begins, ends};
     ghost use Rattle.kmipa_record.specs.NumberMaps.{value_at};
@@ -104,7 +106,7 @@ impl Seen {
             number,
             begin: self.count,
             end: None,
-            held: Held::Open(Box::new(self.alloc, begin)?),
+            held: Held::Open(nameless(self.alloc, begin)),
         };
         let place = self.calls.len();
         self.calls.push(call)?;
@@ -173,5 +175,17 @@ impl Seen {
             Held::Whole(_, _) => true,
         };
         if is_whole { self.release(place) } else { None }
+    }
+}
+
+/// A begin mark without the client's name, for which nothing asks.
+fn nameless(alloc: Global, begin: Begin) -> Begin
+    ensures call { result.call ≡ begin.call }
+    ensures message { result.message ≡ begin.message }
+{
+    Begin {
+        call: begin.call,
+        client: String::new(alloc),
+        message: begin.message,
     }
 }

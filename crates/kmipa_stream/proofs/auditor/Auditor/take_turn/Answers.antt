@@ -1,11 +1,14 @@
-use Rattle.std.proofs.Common.{◌≡◌, ◌<◌, ℕ, List, Bool, None, length, sym, ap, subst, ◌∙◌, arith, rules}
+use Rattle.std.proofs.Common.{◌≡◌, ◌<◌, ℕ, List, Bool, Option, Some, None, length, sym, ap, subst, ◌∙◌, arith, rules}
 use Rattle.kmipa_record.specs.NumberMaps.{value_at}
 use Rattle.kmipa_record.specs.Witnesses.{turn_of}
 use Rattle.kmipa_check.specs.Calls.{call_of}
 use Rattle.kmipa_check.specs.Ordering.{Decided}
 use Rattle.kmipa_check.proofs.PlaceLemmas.{at_within}
-use Rattle.kmipa_stream.specs.Replaying.{IsRecordedAhead}
+use Rattle.kmipa_stream.specs.Replaying.{IsAtEnd, IsRecordedAhead}
+use Rattle.kmipa_stream.specs.Standing.{IsDoneBy}
 use Rattle.kmipa_stream.specs.Waiting.{IsPassed, Wait}
+use Rattle.kmipa_stream.specs.declared.lowest.Found.{Found}
+use Rattle.kmipa_stream.specs.declared.replaying.Replay.{Replay}
 use Rattle.kmipa_stream.proofs.ReplayingLemmas.{turn_there, twice_ahead}
 use Rattle.kmipa_stream.proofs.SeeingLemmas.{seen_ahead, seen_let_go, known_number}
 use Rattle.kmipa_stream.proofs.StandingLemmas.{read_more, read_inside, read_outside, unknown_ahead}
@@ -56,7 +59,7 @@ take-requires-clause-named c =
     let a = c.args.self.now in
     let call = c.in-Some-release_whole.call in
     let go = c.in-Some-release_whole.ensures in
-    let known : value_at a.seen.places c.args.turn.now.call ≡ Rattle.std.proofs.Common.Some c.in-Some.place = search rules in
+    let known : value_at a.seen.places c.args.turn.now.call ≡ Some c.in-Some.place = search rules in
     let i = k.stands.seen.each c.in-Some.place call go.0.0 in
     sym ((c.in-Ok.ensures k.marks i).2 ∙ known_number k.marks a.seen c.in-Some.place call c.args.turn.now.call k.stands.seen known go.0.0)
 
@@ -98,3 +101,11 @@ returns-clause-stands c = λ marks turns declared s.
       found = n.0;
       replay = s.replay;
     }
+
+-- a replay at its end makes no step, whatever was found
+done_by : (replay : Replay) (lowest : Option Found) → IsAtEnd replay replay.finding → IsDoneBy replay lowest
+done_by replay None end = end
+done_by replay (Some found) end = tt
+
+pub returns-in-Ok-take-clause-done : goal.returns-in-Ok-take-clause-done
+returns-in-Ok-take-clause-done c = λ closed stops. done_by c.take.new.self c.args.self.now.lowest (c.in-Ok-take.ensures.faulty stops)

@@ -32,10 +32,10 @@ returns-clause-seen c = λ marks are r.
     let s : SeenCall = record { number = to_z w32 (of_z w32 c.in-Some-release.call.number); begin = z.begin; end = Some middle.count; held = Whole c.in-Open.asked box } in
     let are' = seen_let_go marks old middle place z go.0 go.1 go.2 go.3 are in
     let there = let_go_there old middle place z go.0 go.1 in
-    let both = ended_here marks z s c.args.end.call c.args.end.message.items c.in-Open.asked.value box.value i h.0 number same refl (ap Some are'.count) (ap (λ (x : End). x.message.items) its)
+    let both = ended_here marks z s c.args.end.call c.args.end.message.items c.in-Open.asked box.value i h.0 number same refl (ap Some are'.count) (ap (λ (x : End). x.message.items) its)
     (ap (λ (x : End). x.call) its) in
     seen_end marks middle _ place (released z) s c.args.end.call c.args.end.message.items are' there known' refl refl (c.in-Some.ensures.1 ∙ ap (λ (n : ℕ). n + 1) (sym go.3)) same refl
-    (seen_whole _ s c.in-Open.asked.value box.value both.0 both.1 both)
+    (seen_whole _ s c.in-Open.asked box.value both.0 both.1 both)
 
 pub returns-clause-kept : goal.returns-clause-kept
 returns-clause-kept c =
