@@ -78,15 +78,15 @@ fn value_view(number: u8, value: &[u8]) -> ViewValue<'_>
         1 => ViewValue::Structure(Children {
             source: Source::Spelled(value),
         }),
-        2 if len == 4 => ViewValue::Integer(BigEndian::read_i32(value)),
-        3 if len == 8 => ViewValue::LongInteger(BigEndian::read_i64(value)),
-        4 if 0 < len && len % 8 == 0 => ViewValue::BigInteger(value),
-        5 if len == 4 => ViewValue::Enumeration(BigEndian::read_u32(value)),
-        6 if len == 8 => ViewValue::Boolean(BigEndian::read_u64(value) == 1),
         7 => ViewValue::Text(text_of(value)),
-        9 if len == 8 => ViewValue::DateTime(BigEndian::read_i64(value)),
+        2 if len == 4 => ViewValue::Integer(BigEndian::read_i32(value)),
+        5 if len == 4 => ViewValue::Enumeration(BigEndian::read_u32(value)),
         10 if len == 4 => ViewValue::Interval(BigEndian::read_u32(value)),
+        3 if len == 8 => ViewValue::LongInteger(BigEndian::read_i64(value)),
+        6 if len == 8 => ViewValue::Boolean(BigEndian::read_u64(value) == 1),
+        9 if len == 8 => ViewValue::DateTime(BigEndian::read_i64(value)),
         11 if len == 8 => ViewValue::DateTimeExtended(BigEndian::read_i64(value)),
+        4 if 0 < len && len % 8 == 0 => ViewValue::BigInteger(value),
         _ => ViewValue::Bytes(value),
     }
 }
