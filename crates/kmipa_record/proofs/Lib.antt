@@ -10,6 +10,7 @@ pub mod TranscriptLemmas
 pub mod TurnLemmas
 pub mod WitnessLemmas
 pub mod WritingLemmas
+pub mod BareTurnLemmas
 pub mod WrittenWitnessLemmas
 pub mod EntryLemmas
 pub mod RecordsLemmas

@@ -1,7 +1,8 @@
 //! Witnesses that are written, in the lowest version that serves.
 
-ghost use Rattle.std.specs.Prelude.{◌≡◌, ◌≤◌, ◌∷◌, map, All, OnOk, IfErr};
+ghost use Rattle.std.specs.Prelude.{◌≡◌, ◌≤◌, ◌∷◌, [], None, true, map, All, OnOk, IfErr};
 ghost use Rattle.std.specs.Io.{StartsWith};
+ghost use Rattle.kmipa_ttlv.specs.Written.{Legal};
 ghost use Rattle.kmipa_record.specs.Witnesses.{TurnOf, turn_of, turn_item, witness_of, witness_header, version_number, IsWitness};
 ghost use Rattle.kmipa_record.specs.Writing.{Appends, IsWrittenWitness, Unwritten, Adds, AddsAll, Refused, IsWritable, Serves, IsLowest};
 ghost use Rattle.kmipa_record.specs.declared.version.Version.{Version};
@@ -74,7 +75,32 @@ fn append_turn(alloc: Global, turn: &Turn, out: &mut Vec<u8>) -> Result<(), Reco
     if !are_payloads(&turn.fills) {
         return Err(RecordKind::Entry);
     }
+    if is_bare(turn) {
+        return append_bare(turn.call, out);
+    }
     append(&write_turn(alloc, turn)?, out)
+}
+
+/// Whether a turn gives nothing besides the number of its call.
+fn is_bare(turn: &Turn) -> bool
+    ensures { result ≡ true → turn_of turn.now ≡ record { call = turn.now.call; answer = None; places = []; fills = [] } }
+{
+    turn.answer.is_none() && turn.places.is_empty() && turn.fills.is_empty()
+}
+
+/// Appends the item of a turn that gives only this number: the header of 16 bytes, and in them the number's own, the number, and its padding.
+fn append_bare(call: i32, out: &mut Vec<u8>) -> Result<(), RecordKind>
+    ensures ok { OnOk result (Adds (turn_item (record { call = call; answer = None; places = []; fills = [] })) out.old.items out.new.items) }
+    ensures legal { OnOk result (Legal 16 (turn_item (record { call = call; answer = None; places = []; fills = [] }))) }
+    ensures memory { IfErr result (λ kind. kind ≡ RecordKind.Memory) }
+    ensures same { IfErr result (λ _. out.new.items ≡ out.old.items) }
+{
+    let [a, b, c, d] = call.cast_unsigned().to_be_bytes();
+    let item = [
+        0x54, 0x00, 0x41, 1, 0, 0, 0, 16, 0x54, 0x00, 0x11, 2, 0, 0, 0, 4, a, b, c, d, 0, 0, 0, 0,
+    ];
+    out.extend_from_slice(&item)?;
+    Ok(())
 }
 
 /// The lowest version that has such turns.

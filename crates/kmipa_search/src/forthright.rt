@@ -19,7 +19,7 @@ pub fn forthright_order(alloc: Global, calls: &[Candidate]) -> Result<Vec<usize>
     let mut remaining = Remaining::new(alloc, calls)?;
     let wishes = Ranks::by_wish(alloc, calls)?;
     let mut by_wish = Links::new(alloc, calls.len())?;
-    let mut order = Vec::new(alloc);
+    let mut order = Vec::with_capacity(alloc, calls.len())?;
     'places: while order.len() < calls.len() {
         let left = calls.len() - order.len();
         let late = order.len() as u64 >= EARLY;

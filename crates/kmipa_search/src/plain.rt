@@ -17,7 +17,7 @@ pub fn candidates<'b, 'a>(
 ) -> Result<Option<Vec<Candidate<'b, 'a>>>, AllocError>
     ensures { IfOk result (λ reported. MatchOption reported (AreNotPlain (map call_of calls.now)) (λ own. ArePlain (map call_of calls.now) (map candidate_step own.items))) }
 {
-    let mut own = Vec::new(alloc);
+    let mut own = Vec::with_capacity(alloc, calls.len())?;
     'calls: for call in calls {
         let Some(candidate) = candidate_of(call) else {
             return Ok(None);

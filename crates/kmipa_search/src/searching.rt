@@ -234,7 +234,7 @@ fn witness_at(alloc: Global, calls: &[Candidate], order: &[usize]) -> Result<Wit
     requires { All (λ place. place < length calls.now) order.now }
     ensures { IfOk result (λ witness. witness_of witness ≡ turns_at (map candidate_step calls.now) order.now) }
 {
-    let mut turns = Vec::new(alloc);
+    let mut turns = Vec::with_capacity(alloc, order.len())?;
     'places: for place in order {
         turns.push(bare_turn(alloc, calls[*place].number))?;
     }
