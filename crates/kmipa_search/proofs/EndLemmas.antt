@@ -14,10 +14,12 @@ use Rattle.kmipa_store.specs.Choices.{Choice, Chooses, Suits, IsSound, inv}
 use Rattle.kmipa_store.proofs.InventoryLemmas.{inv-agrees}
 use Rattle.kmipa_check.specs.Steps.{StepOf}
 use Rattle.kmipa_check.specs.Left.{bytes_left}
+use Rattle.kmipa_record.specs.Declarations.{DeclarationOf}
+use Rattle.kmipa_check.specs.Described.{Describes}
 use Rattle.kmipa_check.specs.Runs.{Before, Linked, rules_declared}
 use Rattle.kmipa_check.proofs.RunLemmas.{linked_join, linked_split}
-use Rattle.kmipa_search.specs.Progress.{so_far, TakesAll}
-use Rattle.kmipa_search.specs.Ends.{StillOf, still, stills, EqualIsEqual}
+use Rattle.kmipa_search.specs.Progress.{so_far, TakesAll, IsDead, AreNext}
+use Rattle.kmipa_search.specs.Ends.{StillOf, AreSame, still, stills, EqualIsEqual}
 use Rattle.kmipa_search.proofs.ElementLemmas.{get_at}
 use Rattle.kmipa_search.proofs.PermutationLemmas.{once_pairs, permuted}
 use Rattle.kmipa_search.proofs.PlaceLemmas.{one_cases, has_head}
@@ -151,7 +153,7 @@ module _ {X : Type 0} (R : X → X → Type 0) (rest : List X) where
     | inr t ↦ pairs_cross xs y z h.1 t more
   ]
 
-  pairs_join : (ys : List X) → Pairwise R ys → ((y z : X) → Contains ys y → Contains rest z → R y z) → Pairwise R rest → Pairwise R (ys ++ rest)
+  pub pairs_join : (ys : List X) → Pairwise R ys → ((y z : X) → Contains ys y → Contains rest z → R y z) → Pairwise R rest → Pairwise R (ys ++ rest)
   pairs_join [] h cross last = last
   pairs_join (y ∷ ys) h cross last = (
     (λ z has. elim (Contains-append_cases ys rest z has) [ inl l ↦ h.0 z l | inr r ↦ cross y z (has_head y ys) r ]),
@@ -166,16 +168,17 @@ module _ {X : Type 0} (R : X → X → Type 0) (rest : List X) where
 
 -- ---- the law
 
-pub equal_is_equal : EqualIsEqual
-equal_is_equal declared calls taken others m n apart nexts other_nexts same known sound other_known other_sound alike dead start order rest described run is =
+-- the same calls taken in another order lead to no run, where whatever they leave so the dead order leaves too
+pub dead_again : (declared : DeclarationOf) (calls : List StepOf) (taken others : List ℕ) → AllPairs (λ (a b : StepOf). a ≢ b) calls → AreNext calls taken → AreNext calls others → AreSame taken others
+    → ((start V : List Thing) → Describes declared start → Linked (rules_declared declared) start (so_far calls others) V
+    → (from : List Thing) × Describes declared from × Linked (rules_declared declared) from (so_far calls taken) V)
+    → IsDead declared calls taken → IsDead declared calls others
+dead_again declared calls taken others apart nexts other_nexts same again dead start order rest described run is =
     let rules_are = rules_declared declared in
     let P : List StepOf → Type 0 = λ o. TakesAll (rules_declared declared) calls start o in
     let r = subst P is run in
     let a = linked_split rules_are start (so_far calls others) rest r.last r.linked in
-    let g = other_known.complete start a.0 described a.1 in
-    let o = stands_too m n sound other_sound alike g.0 g.1 in
-    let b = known.sound o.0 o.1 in
-    let L : List Thing → Type 0 = λ V. Linked (rules_declared declared) V rest r.last in
+    let b = again start a.0 described a.1 in
     let before = placed_so_far calls taken nexts in
     dead b.0 (so_far calls taken ++ rest) rest b.1
     (record {
@@ -196,7 +199,7 @@ equal_is_equal declared calls taken others m n apart nexts other_nexts same know
         stamped = pairs_other (λ (x y : StepOf). x.response.stamp ≤ℤ y.response.stamp) rest (so_far calls others) (so_far calls taken) r.placed.stamped before.stamped to_others;
       };
       last = r.last;
-      linked = linked_join rules_are b.0 (so_far calls taken) rest (inv o.0 m.objects) r.last b.2 (subst L (g.2 ∙ sym o.2) a.2);
+      linked = linked_join rules_are b.0 (so_far calls taken) rest a.0 r.last b.2 a.2;
     }) refl
   where
     to_others : (y : StepOf) → Contains (so_far calls taken) y → Contains (so_far calls others) y
@@ -207,3 +210,15 @@ equal_is_equal declared calls taken others m n apart nexts other_nexts same know
       | inl l ↦ let q = place_taken calls others y other_nexts l in Contains-append_left (so_far calls taken) rest y (call_taken calls taken q.0 y (same.back q.0 q.1) q.2)
       | inr more ↦ Contains-append_right (so_far calls taken) rest y more
     ]
+
+pub equal_is_equal : EqualIsEqual
+equal_is_equal declared calls taken others m n apart nexts other_nexts same known sound other_known other_sound alike dead = dead_again declared calls taken others apart nexts other_nexts same again dead
+  where
+    again : (start V : List Thing) → Describes declared start → Linked (rules_declared declared) start (so_far calls others) V
+        → (from : List Thing) × Describes declared from × Linked (rules_declared declared) from (so_far calls taken) V
+    again start V described linked =
+        let g = other_known.complete start V described linked in
+        let o = stands_too m n sound other_sound alike g.0 g.1 in
+        let b = known.sound o.0 o.1 in
+        let L : List Thing → Type 0 = λ W. Linked (rules_declared declared) b.0 (so_far calls taken) W in
+        (b.0, b.1, subst L (o.2 ∙ sym g.2) b.2)

@@ -1,5 +1,5 @@
 -- What never changes of the objects that are there at the start: identifier, type and the attributes that were given.
-use Rattle.std.proofs.Common.{◌≡◌, ◌<◌, ◌⊎◌, inl, inr, ℕ, zero, suc, ℤ, List, [], ◌∷◌, ◌++◌, map, length, Option, Some, None, MatchOption, slice_get, refl, sym, ap, ◌∙◌, subst, arith}
+use Rattle.std.proofs.Common.{◌≡◌, ◌<◌, ◌⊎◌, inl, inr, ℕ, zero, suc, ℤ, List, [], ◌∷◌, ◌++◌, length, Option, Some, None, MatchOption, slice_get, refl, sym, ap, ◌∙◌, subst, arith}
 use Rattle.std.specs.List.{AllZip}
 use Rattle.std.proofs.lemmas.List.{length-map}
 use Rattle.std.proofs.lemmas.Slice.Zip.{AllZip-long}
@@ -13,7 +13,6 @@ use Rattle.kmipa_msgs.specs.declared.response.Status.{Status}
 use Rattle.kmipa_msgs.specs.declared.response.Status.TheVariants.{Success, Failed, Undone}
 use Rattle.kmipa_msgs.specs.Messages.{RulesOf, AskedOf, creates, registers, locates, gets, gets_attributes, activates, revokes, destroys, idles, does_other, GotOf, GotAttributesOf, RegisteredOf, AskOf, PayloadOf, RequestOf, AnswerOf, ResponseOf}
 use Rattle.kmipa_ops.specs.Row.{seen_in}
-use Rattle.kmipa_ops.specs.Adding.{AddsObject}
 use Rattle.kmipa_ops.specs.Changes.{ChangesObject, change_deed, thing_after}
 use Rattle.kmipa_ops.specs.Create.{Creates, create_deed}
 use Rattle.kmipa_ops.specs.Get.{Gets, get_deed}
@@ -26,7 +25,7 @@ use Rattle.kmipa_ops.specs.Does.{Succeeds, Outcome, Does}
 use Rattle.kmipa_ops.specs.Chains.{Chain}
 use Rattle.kmipa_batch.specs.Calls.{pairs_taken, Leaves, goes_back, goes_on, CallAlong, CallSomeAlong}
 use Rattle.kmipa_check.specs.Steps.{StepOf, order_of}
-use Rattle.kmipa_check.specs.Described.{Describes, IsDescribed, card_declared}
+use Rattle.kmipa_check.specs.Described.{IsDescribed, card_declared}
 use Rattle.kmipa_check.specs.Runs.{Linked, rules_declared}
 use Rattle.kmipa_check.specs.Verdicts.{AreKnown}
 use Rattle.kmipa_search.specs.Ends.{StillOf, still, stills, LiveAlike, AreAlike}
@@ -86,7 +85,7 @@ front_changed V W place change t is k o at =
 
 -- ---- an item
 
-shown_by : {X : Type 0} (o : Option X) (P : X → Type 0) (R : Type 0) → ((x : X) → P x → R) → MatchOption o ⊥ P → R
+pub shown_by : {X : Type 0} (o : Option X) (P : X → Type 0) (R : Type 0) → ((x : X) → P x → R) → MatchOption o ⊥ P → R
 shown_by None P R f h = absurd h
 shown_by (Some x) P R f h = f x h
 

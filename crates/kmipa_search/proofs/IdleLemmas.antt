@@ -294,7 +294,7 @@ module _ (declared : DeclarationOf) (calls : List StepOf) (once : IsOnce calls) 
 
 -- ---- the pairs of a call, place by place
 
-pair_within : {X Y : Type 0} (xs : List X) (ys : List Y) (i : ℕ) (p : X × Y) → slice_get (zip xs ys) i ≡ Some p → i < length xs
+pub pair_within : {X Y : Type 0} (xs : List X) (ys : List Y) (i : ℕ) (p : X × Y) → slice_get (zip xs ys) i ≡ Some p → i < length xs
 pair_within [] ys i p at = absurd cc
 pair_within (x ∷ xs) [] i p at = absurd cc
 pair_within (x ∷ xs) (y ∷ ys) zero p at = omega arith
@@ -308,7 +308,7 @@ all_idle [] h = tt
 all_idle (pair ∷ pairs) h = (h 0 pair.0 pair.1 refl, all_idle pairs (λ place ask answer at. h (suc place) ask answer at))
 
 -- what stands at one place of two lists
-zip_at : {X Y : Type 0} (xs : List X) (ys : List Y) (i : ℕ) (x : X) (y : Y) → slice_get xs i ≡ Some x → slice_get ys i ≡ Some y → slice_get (zip xs ys) i ≡ Some (x, y)
+pub zip_at : {X Y : Type 0} (xs : List X) (ys : List Y) (i : ℕ) (x : X) (y : Y) → slice_get xs i ≡ Some x → slice_get ys i ≡ Some y → slice_get (zip xs ys) i ≡ Some (x, y)
 zip_at [] ys i x y a b = absurd cc
 zip_at (u ∷ xs) [] i x y a b = absurd cc
 zip_at (u ∷ xs) (v ∷ ys) zero x y a b = let e : u ≡ x = cc in let f : v ≡ y = cc in ap (λ (z : _). Some (z, v)) e ∙ ap (λ (z : _). Some (x, z)) f

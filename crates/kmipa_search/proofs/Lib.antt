@@ -26,6 +26,9 @@ pub mod WishLemmas
 pub mod IdleLemmas
 pub mod EndLemmas
 pub mod FrontLemmas
+pub mod SettledLemmas
+pub mod AgainLemmas
+pub mod LoneLemmas
 pub mod StillLemmas
 pub mod RememberLemmas
 pub mod TakenLemmas

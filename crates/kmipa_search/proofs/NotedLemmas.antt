@@ -1,9 +1,9 @@
 -- Ends, as they are noted and found.
-use Rattle.std.proofs.Common.{◌≡◌, ◌⊎◌, inl, inr, ℕ, List, [], ◌∷◌, ◌++◌, Contains, Vec, sym, ap, ◌∙◌, subst, arith}
+use Rattle.std.proofs.Common.{◌≡◌, ◌⊎◌, inl, inr, ℕ, List, [], ◌∷◌, ◌++◌, Contains, Option, Vec, sym, ap, subst, arith}
 use Rattle.std.specs.declared.alloc.Global.{Global}
 use Rattle.std.proofs.lemmas.List.Elements.{Contains-append_cases}
 use Rattle.kmipa_store.specs.Ledger.{Meaning}
-use Rattle.kmipa_search.specs.Ends.{Shared, stills, stills_shared, AreAlike, IsSetOf, IsEndLike, IsAdded, IsNoted}
+use Rattle.kmipa_search.specs.Ends.{Shared, stills, stills_shared, AreAlikeFrom, IsSetOf, IsEndLike, IsAdded, IsNoted}
 use Rattle.kmipa_search.specs.declared.ends.End.{End}
 use Rattle.kmipa_search.specs.declared.taken.CallSet.{CallSet}
 use Rattle.kmipa_search.proofs.PlaceLemmas.{one_cases}
@@ -25,12 +25,12 @@ added_last old new e is x has =
     own (inr none) = absurd (omega (arith, none.1))
 
 -- it is that of the calls whose set it has, over the ledger whose objects it has
-pub noted : (front : ℕ) (old new : List End) (set : CallSet) (objects : Vec Shared Global) (places : List ℕ) (m : Meaning) → IsAdded old set objects new → IsSetOf places set → AreAlike front (stills_shared objects.items) (stills m)
+pub noted : (front : Option ℕ) (old new : List End) (set : CallSet) (objects : Vec Shared Global) (places : List ℕ) (m : Meaning) → IsAdded old set objects new → IsSetOf places set → AreAlikeFrom front (stills_shared objects.items) (stills m)
     → IsNoted front old places m new
 noted front old new set objects places m added s is e has = elim (added e has) as (λ q. Contains old e ⊎ IsEndLike front places m e) [
   | inl o ↦ inl o
   | inr h ↦
       let P : CallSet → Type 0 = λ k. IsSetOf places k in
-      let Q : Vec Shared Global → Type 0 = λ v. AreAlike front (stills_shared v.items) (stills m) in
+      let Q : Vec Shared Global → Type 0 = λ v. AreAlikeFrom front (stills_shared v.items) (stills m) in
       inr (record { set = subst P (sym h.0) s; stands = subst Q (sym h.1) is })
 ]

@@ -1,5 +1,5 @@
 -- Dead ends that are remembered: which calls were taken, and what the ledger stood for. Not promised.
-use Rattle.std.specs.Prelude.{◌≡◌, ◌≢◌, ◌<◌, ◌≤◌, ◌⊎◌, ℕ, Vec, Bool, true, false, List, length, map, slice_get, slice_index_or, AllPairs, Contains, Option, Some, option_map}
+use Rattle.std.specs.Prelude.{◌≡◌, ◌≢◌, ◌<◌, ◌≤◌, ◌⊎◌, ℕ, Vec, Bool, true, false, List, length, map, slice_get, slice_index_or, AllPairs, Contains, Option, Some, None, option_map}
 use Rattle.std.specs.declared.alloc.Global.{Global}
 use Rattle.std.specs.declared.rc.Rc.{Rc}
 use Rattle.kmipa_store.specs.Ledger.{Held, Known, Meaning, held}
@@ -11,6 +11,7 @@ use Rattle.kmipa_check.specs.Left.{bytes_left}
 use Rattle.kmipa_check.specs.Steps.{StepOf}
 use Rattle.kmipa_check.specs.Verdicts.{AreKnown}
 use Rattle.kmipa_search.specs.Progress.{so_far, AreBegun, AreNext, IsDead, Opens}
+use Rattle.kmipa_search.specs.Settled.{IsFront}
 use Rattle.kmipa_search.specs.Tries.{none_tried, all_tried}
 use Rattle.kmipa_search.specs.declared.tried.Tried.{Tried}
 use Rattle.kmipa_search.specs.declared.taken.TakenCalls.{TakenCalls}
@@ -61,6 +62,11 @@ pub record AreAlike (front : ℕ) (ones others : List StillOf) : Type 0 where
   pub long : length ones ≡ length others
   pub each : (place : ℕ) (a b : StillOf) → slice_get ones place ≡ Some a → slice_get others place ≡ Some b → IsAlikeAt front place a b
 
+-- the same, or nothing is compared
+abbrev pub AreAlikeFrom : Option ℕ → List StillOf → List StillOf → Type 0
+AreAlikeFrom None ones others = Unit {0}
+AreAlikeFrom (Some front) ones others = AreAlike front ones others
+
 -- WHICH CALLS ARE TAKEN
 
 -- whether a place is marked
@@ -90,24 +96,24 @@ pub record AreSame (taken others : List ℕ) : Type 0 where
 -- ENDS
 
 -- an end is that of these calls over a ledger whose objects stand alike: those of the first so many places as far as they can change, and the
--- others in full.
-pub record IsEndLike (front : ℕ) (taken : List ℕ) (m : Meaning) (e : End) : Type 0 where
+-- others in full; or only of these calls, where they say how all objects stand.
+pub record IsEndLike (front : Option ℕ) (taken : List ℕ) (m : Meaning) (e : End) : Type 0 where
   pub set : IsSetOf taken e.set
-  pub stands : AreAlike front (stills_shared e.objects.items) (stills m)
+  pub stands : AreAlikeFrom front (stills_shared e.objects.items) (stills m)
 
 -- However these calls were taken, if the ledger stands for this, no run begins so.
-abbrev pub IsDeadEnd : ℕ → DeclarationOf → List StepOf → End → Type 0
+abbrev pub IsDeadEnd : Option ℕ → DeclarationOf → List StepOf → End → Type 0
 IsDeadEnd front declared calls e = (taken : List ℕ) (m : Meaning) → AreNext calls taken → AreKnown declared (so_far calls taken) m → IsSound m → IsEndLike front taken m e → IsDead declared calls taken
 
-abbrev pub AreDeadEnds : ℕ → DeclarationOf → List StepOf → List End → Type 0
+abbrev pub AreDeadEnds : Option ℕ → DeclarationOf → List StepOf → List End → Type 0
 AreDeadEnds front declared calls ends = (e : End) → Contains ends e → IsDeadEnd front declared calls e
 
 -- one of the ends is that of these calls over this ledger
-abbrev pub HasEnd : ℕ → List End → List ℕ → Meaning → Type 0
+abbrev pub HasEnd : Option ℕ → List End → List ℕ → Meaning → Type 0
 HasEnd front ends taken m = (e : End) × Contains ends e × IsEndLike front taken m e
 
 -- where a call was taken: all is left to try, or nothing, since this end is known
-abbrev pub IsArrival : ℕ → List End → List ℕ → Meaning → Tried → Type 0
+abbrev pub IsArrival : Option ℕ → List End → List ℕ → Meaning → Tried → Type 0
 IsArrival front ends taken m t = (t ≡ none_tried) ⊎ ((t ≡ all_tried) × HasEnd front ends taken m)
 
 -- no end is there but the old ones and one of this set and these objects
@@ -115,7 +121,7 @@ abbrev pub IsAdded : List End → CallSet → Vec Shared Global → List End →
 IsAdded old set objects new = (e : End) → Contains new e → Contains old e ⊎ ((e.set ≡ set) × (e.objects ≡ objects))
 
 -- no end is there but the old ones and this one
-abbrev pub IsNoted : ℕ → List End → List ℕ → Meaning → List End → Type 0
+abbrev pub IsNoted : Option ℕ → List End → List ℕ → Meaning → List End → Type 0
 IsNoted front old taken m new = (e : End) → Contains new e → Contains old e ⊎ IsEndLike front taken m e
 
 -- THE LAW
@@ -129,7 +135,8 @@ EqualIsEqual =
     → IsDead declared calls taken → IsDead declared calls others
 
 -- What a search remembers: the calls taken are marked, where these begin in their order, and each end leads to no run. The front are the objects
--- with which it began.
-pub record Remembers (rules : RulesOf) (calls : List StepOf) (first : Meaning) (taken : List ℕ) (f : TakenCalls) (ends : List End) : Type 0 where
+-- with which it began, where they are compared.
+pub record Remembers (rules : RulesOf) (calls : List StepOf) (first : Meaning) (front : Option ℕ) (taken : List ℕ) (f : TakenCalls) (ends : List End) : Type 0 where
+  pub opened : IsFront calls first front
   pub flagged : AreBegun calls → AreFlagged (length calls) taken f
-  pub dead : (declared : DeclarationOf) → Opens declared rules calls first → AreDeadEnds (length first.objects) declared calls ends
+  pub dead : (declared : DeclarationOf) → Opens declared rules calls first → AreDeadEnds front declared calls ends

@@ -18,4 +18,5 @@ pub mod Guessing
 pub mod Tries
 pub mod Wished
 pub mod Idle
+pub mod Settled
 pub mod Ends

@@ -56,7 +56,7 @@ pub struct Ends {
 }
 
 impl Ends {
-    ghost use Rattle.std.specs.Prelude.{◌≡◌, ℕ, List, [], true, IfOk, length};
+    ghost use Rattle.std.specs.Prelude.{◌≡◌, ℕ, List, [], Some, true, IfOk, length};
     ghost use Rattle.kmipa_store.specs.Choices.{IsSound};
     ghost use Rattle.kmipa_search.specs.Ends.{AreFlagged, HasEnd, IsAdded, IsArrival, IsNoted, IsSetOf};
 
@@ -75,13 +75,13 @@ impl Ends {
     }
 
     /// What is to be tried once these calls were taken, which are so many: late, nothing at an end that is known. So many objects were there
-    /// when the search began.
+    /// when the search began, or none is compared: `front_of`.
     pub fn arrive<L: Ledger>(
         &self,
         ledger: &L,
         taken: &TakenCalls,
         count: usize,
-        front: usize,
+        front: Option<usize>,
         late: bool,
     ) -> Result<Tried, AllocError>
         requires { IsSound (L.state ledger.now).now }
@@ -107,7 +107,7 @@ impl Ends {
         ledger: &L,
         taken: &TakenCalls,
         count: usize,
-        front: usize,
+        front: Option<usize>,
         late: bool,
     ) -> Result<(), AllocError>
         requires { IsSound (L.state ledger.now).now }
@@ -127,7 +127,13 @@ impl Ends {
     }
 
     /// Whether an end of these calls is known, over a ledger whose objects stand as they do here.
-    fn has<L: Ledger>(&self, ledger: &L, taken: &TakenCalls, count: usize, front: usize) -> bool
+    fn has<L: Ledger>(
+        &self,
+        ledger: &L,
+        taken: &TakenCalls,
+        count: usize,
+        front: Option<usize>,
+    ) -> bool
         requires { IsSound (L.state ledger.now).now }
         ensures { (all : ℕ) (places : List ℕ) → AreFlagged all places taken.now → length places ≡ count
             → result ≡ true → HasEnd front self.now.ends.items places (L.state ledger.now).now }
@@ -161,7 +167,7 @@ impl Ends {
         ledger: &L,
         taken: &TakenCalls,
         count: usize,
-        front: usize,
+        front: Option<usize>,
         newest: usize,
     ) -> bool
         requires { IsSound (L.state ledger.now).now }
@@ -198,12 +204,30 @@ impl Ends {
         ledger: &L,
         set: CallSet,
         hash: u64,
-        front: usize,
+        front: Option<usize>,
     ) -> Result<(), AllocError>
         requires { IsSound (L.state ledger.now).now }
         ensures { (places : List ℕ) → IsSetOf places set → IsNoted front self.old.ends.items places (L.state ledger.now).now self.new.ends.items }
     {
         self.bytes = self.bytes.saturating_add(cost(&set, ledger.len()));
+        match front {
+            Some(front) => self.keep_objects(alloc, ledger, set, hash, front),
+            None => self.add(alloc, set, Vec::new(alloc), hash),
+        }
+    }
+
+    /// An end of these calls is noted with all objects, if there is room.
+    fn keep_objects<L: Ledger>(
+        &mut self,
+        alloc: Global,
+        ledger: &L,
+        set: CallSet,
+        hash: u64,
+        front: usize,
+    ) -> Result<(), AllocError>
+        requires { IsSound (L.state ledger.now).now }
+        ensures { (places : List ℕ) → IsSetOf places set → IsNoted (Some front) self.old.ends.items places (L.state ledger.now).now self.new.ends.items }
+    {
         let room = MOST_BYTES.saturating_sub(self.bytes);
         match self.pool.share_all(alloc, ledger, front, room)? {
             Some(objects) => self.add(alloc, set, objects, hash),
@@ -299,7 +323,13 @@ fn put(numbers: &mut Vec<usize>, place: usize, number: usize) {
 }
 
 /// Whether an end is that of these calls, which are so many, over a ledger whose objects stand as they do here.
-fn is_end<L: Ledger>(ledger: &L, end: &End, taken: &TakenCalls, count: usize, front: usize) -> bool
+fn is_end<L: Ledger>(
+    ledger: &L,
+    end: &End,
+    taken: &TakenCalls,
+    count: usize,
+    front: Option<usize>,
+) -> bool
     requires { IsSound (L.state ledger.now).now }
     ensures { (all : ℕ) (places : List ℕ) → AreFlagged all places taken.now → length places ≡ count
         → result ≡ true → IsEndLike front places (L.state ledger.now).now end.now }
@@ -307,7 +337,13 @@ fn is_end<L: Ledger>(ledger: &L, end: &End, taken: &TakenCalls, count: usize, fr
     if end.hash != taken.hash {
         return false;
     }
-    taken.are(&end.set, count) && stand_so(ledger, &end.objects, front)
+    if !taken.are(&end.set, count) {
+        return false;
+    }
+    match front {
+        Some(front) => stand_so(ledger, &end.objects, front),
+        None => true,
+    }
 }
 
 /// The chain of a hash.
@@ -320,7 +356,7 @@ fn place_of(hash: u64, places: usize) -> usize {
     if places == 0 {
         return 0;
     }
-    chain_of(hash) % places
+    chain_of(hash) & (places - 1)
 }
 
 /// 1 if two hashes are of one chain, or else 0.

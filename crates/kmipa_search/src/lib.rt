@@ -23,6 +23,7 @@ mod ranks;
 mod reaching;
 mod remaining;
 mod searching;
+mod settled;
 mod stills;
 mod stuck;
 mod taken;

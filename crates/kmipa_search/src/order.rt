@@ -16,6 +16,7 @@ use crate::links::Links;
 use crate::picking::pick_left;
 use crate::ranks::Ranks;
 use crate::remaining::Remaining;
+use crate::settled::front_of;
 use crate::taken::TakenCalls;
 use crate::tried::{Tried, Visit};
 use crate::watch::Watch;
@@ -57,7 +58,7 @@ pub fn find_order<L: Ledger, W: Watch>(
     let mut by_wish = Links::new(alloc, calls.len())?;
     let mut taken = TakenCalls::new(alloc, calls.len())?;
     let mut ends = Ends::new(alloc);
-    let front = ledger.len();
+    let front = front_of(alloc, ledger, calls)?;
     let mut path = Vec::new(alloc);
     let mut tried = Tried::none();
     let mut depth = 0;

@@ -42,7 +42,7 @@ pub fn find_turns<'b, 'a, L: Ledger, W: Watch>(
 {
     let mut standing = Standing::new(alloc, tables)?;
     let mut ends = Ends::new(alloc);
-    let front = ledger.len();
+    let front = Some(ledger.len());
     let mut place = Place::first(alloc);
     let mut path = Vec::new(alloc);
     let mut turns = Vec::new(alloc);

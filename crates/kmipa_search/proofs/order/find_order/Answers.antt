@@ -7,7 +7,7 @@ use Rattle.kmipa_msgs.specs.Messages.{rules_of}
 use Rattle.kmipa_search.specs.Candidates.{candidate_step}
 use Rattle.kmipa_search.specs.Progress.{no_step, AreBegun, CallTried, ComesTo, places}
 use Rattle.kmipa_search.specs.Tries.{IsPick, IsPicked, none_tried}
-use Rattle.kmipa_search.specs.Ends.{AreFlagged, IsArrival, IsNoted, Remembers}
+use Rattle.kmipa_search.specs.Ends.{AreFlagged, Remembers}
 use Rattle.kmipa_search.specs.Idle.{IsIdleStep}
 use Rattle.kmipa_search.specs.Ranks.{IsRanked, InAnyOrder, WereLinked}
 use Rattle.kmipa_search.specs.declared.tried.Tried.{Tried}
@@ -29,7 +29,7 @@ tries-init g c =
     let E = c.new-ends.result.ends.items in
     let P : List Visit → Type 0 = λ xs. Progress rules calls W.rank.items c.args.budget u.now c.in_ok-remaining.remaining (reverse xs) c.none-tried.result 0 0 u in
     let T : Tried → Type 0 = λ t. Progress rules calls W.rank.items c.args.budget u.now c.in_ok-remaining.remaining [] t 0 0 u in
-    let M : List Visit → Type 0 = λ xs. Remembers rules calls u.now (places (reverse xs)) F E in
+    let M : List Visit → Type 0 = λ xs. Remembers rules calls u.now c.in_ok-front.front (places (reverse xs)) F E in
     let N : ℕ → Type 0 = λ n. AreFlagged n [] F in
     let L = c.in_ok-by_wish.by_wish in
     let K : ℕ → Type 0 = λ n. WereLinked n W.rank.items [] L.after.items L.before.items in
@@ -46,7 +46,7 @@ tries-init g c =
           (wished_all (length c.args.calls.now) W.order.items W.rank.items L.after.items L.before.items c.in_ok-wishes.ensures.0 c.in_ok-wishes.ensures.1 c.in_ok-by_wish.ensures));
       memory =
           subst M (sym c.new-path.ensures.items)
-          (remembers_begin rules calls u.now F E (subst N (sym (length-map c.args.calls.now candidate_step)) c.in_ok-taken.ensures) c.new-ends.ensures);
+          (remembers_begin rules calls u.now c.in_ok-front.front F E c.in_ok-front.ensures (subst N (sym (length-map c.args.calls.now candidate_step)) c.in_ok-taken.ensures) c.new-ends.ensures);
     }
 
 pub returns-then-steps-budget-clause-tells : goal.returns-then-steps-budget-clause-tells
@@ -94,21 +94,20 @@ tries-preserved-in-Some-2 g c =
     (λ b. c.take.ensures (places visits) (c.tries.invariant.progress.remaining b) (f b).next) in
     let F = c.take-in-Some-2.new.self in
     let E = c.tries.ends.ends.items in
-    let memory : Remembers rules calls first (places (visit ∷ visits)) F E =
-    remembers_taken rules calls first (places visits) place c.tries.taken F E c.tries.invariant.memory
+    let memory : Remembers rules calls first c.in_ok-front.front (places (visit ∷ visits)) F E =
+    remembers_taken rules calls first c.in_ok-front.front (places visits) place c.tries.taken F E c.tries.invariant.memory
     (λ b. c.take-in-Some-2.ensures (length calls) (places visits) (c.tries.invariant.memory.flagged b) (omega (arith, c.in-Some.ensures.within, length-map c.args.calls.now candidate_step))) in
-    let A : ℕ → Type 0 = λ n. IsArrival n E (places (visit ∷ visits)) v.now c.in_ok-tried-in-Some-2.tried in
     let longer : reverse c.push.new.self.items ≡ visit ∷ visits = popped c.push.new.self.items c.tries.path.items visit c.in_ok-push-in-Some-2.ensures.items in
     let long : length (places (visit ∷ visits)) ≡ c.len-in-Some-2.result =
     length-map (visit ∷ visits) (λ (x : Visit). x.place) ∙ ap length (sym longer) ∙ length-reverse c.push.new.self.items ∙ sym c.push.new.self.ok.0 ∙ sym c.len-in-Some-2.ensures in
     let P : List Visit → Type 0 = λ xs. Progress rules calls W.rank.items c.args.budget first c.take.new.self xs c.in_ok-tried-in-Some-2.tried c.in-Some-2.mark (c.tries.steps + 1) v in
-    let M : List Visit → Type 0 = λ xs. Remembers rules calls first (places xs) F E in
+    let M : List Visit → Type 0 = λ xs. Remembers rules calls first c.in_ok-front.front (places xs) F E in
     let J : List Visit → Type 0 = λ xs. WereLinked (length calls) W.rank.items (places xs) c.remove.new.self.after.items c.remove.new.self.before.items in
     record {
       progress =
           subst P (sym longer)
-          (progress_arrived rules calls first W.rank.items c.args.budget c.take.new.self (visit ∷ visits) c.in_ok-tried-in-Some-2.tried c.in-Some-2.mark (c.tries.steps + 1) v F E taken memory
-          (λ b. subst A c.len-front.ensures (c.in_ok-tried-in-Some-2.ensures (length calls) (places (visit ∷ visits)) (memory.flagged b) long)));
+          (progress_arrived rules calls first c.in_ok-front.front W.rank.items c.args.budget c.take.new.self (visit ∷ visits) c.in_ok-tried-in-Some-2.tried c.in-Some-2.mark (c.tries.steps + 1) v F E taken memory
+          (λ b. c.in_ok-tried-in-Some-2.ensures (length calls) (places (visit ∷ visits)) (memory.flagged b) long));
       wished = λ b.
           subst J (sym longer)
           (wished_without (length calls) W (places visits) c.tries.by_wish c.remove.new.self place c.rank.result c.rank.ensures wishes
@@ -170,11 +169,10 @@ tries-preserved g c =
     let wishes = subst R (sym (length-map c.args.calls.now candidate_step)) c.in_ok-wishes.ensures.0 in
     let is : reverse c.tries.path.items ≡ visit ∷ visits = popped c.tries.path.items c.pop.new.self.items visit c.in-Some-pop.ensures.items in
     let T : List Visit → Type 0 = λ xs. Progress rules calls W.rank.items c.args.budget first c.tries.remaining xs c.tries.tried c.tries.depth c.tries.steps u in
-    let M : List Visit → Type 0 = λ xs. Remembers rules calls first (places xs) c.tries.taken c.tries.ends.ends.items in
+    let M : List Visit → Type 0 = λ xs. Remembers rules calls first c.in_ok-front.front (places xs) c.tries.taken c.tries.ends.ends.items in
     let t = subst T is c.tries.invariant.progress in
     let m = subst M is c.tries.invariant.memory in
     let K : List Visit → Type 0 = λ xs. WereLinked (length calls) W.rank.items (places xs) c.tries.by_wish.after.items c.tries.by_wish.before.items in
-    let N : ℕ → Type 0 = λ n. IsNoted n c.tries.ends.ends.items (places (visit ∷ visits)) u.now c.note.new.self.ends.items in
     let none : AreBegun calls → IsPicked calls (places (visit ∷ visits)) W.rank.items c.tries.tried None = λ b. c.in-None.ensures.picked (places (visit ∷ visits)) b (t.remaining b) (t.cursor b) wishes (subst K is (c.tries.invariant.wished b)) in
     let few : suc (length visits) < length calls = omega (arith, c.tries-test.true, c.len.ensures, length-reverse c.tries.path.items, ap length is, length-map c.args.calls.now candidate_step) in
     let long : length (places (visit ∷ visits)) ≡ c.len-in-None.result + 1 = omega (arith, length-map (visit ∷ visits) (λ (x : Visit). x.place), length-reverse c.pop.new.self.items, c.pop.new.self.ok.0, c.len-in-None.ensures) in
@@ -188,8 +186,8 @@ tries-preserved g c =
           wished_with (length calls) W (places visits) c.tries.by_wish c.restore.new.self visit.place c.rank-in-None.result c.rank-in-None.ensures (subst K is (c.tries.invariant.wished b)) c.restore.ensures.after
           c.restore.ensures.before;
       memory =
-          remembers_back rules calls first W.rank.items c.args.budget c.tries.remaining visit visits c.tries.tried c.tries.depth c.tries.steps u c.tries.taken c.give_back-in-None.new.self c.tries.ends.ends.items c.note.new.self.ends.items
-          t none few m (λ b. subst N c.len-front.ensures (c.note.ensures (length calls) (places (visit ∷ visits)) (m.flagged b) long))
+          remembers_back rules calls first c.in_ok-front.front W.rank.items c.args.budget c.tries.remaining visit visits c.tries.tried c.tries.depth c.tries.steps u c.tries.taken c.give_back-in-None.new.self c.tries.ends.ends.items c.note.new.self.ends.items
+          t none few m (λ b. c.note.ensures (length calls) (places (visit ∷ visits)) (m.flagged b) long)
           (λ b. c.give_back-in-None.ensures (length calls) (places visits) (m.flagged b) (c.give_back.ensures.cursor (places visits) (t.remaining b)).left);
     }
 

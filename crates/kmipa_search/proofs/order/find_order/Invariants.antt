@@ -12,7 +12,7 @@ invariant-tries g l = record {
   progress : Progress (rules_of l.rules) (map candidate_step l.calls) l.wishes.rank.items l.budget (g.L.Ledger.state l.fn.ledger).now l.remaining (reverse l.path.items) l.tried l.depth l.steps (g.L.Ledger.state l.ledger);
   wished : AreBegun (map candidate_step l.calls)
       → WereLinked (length (map candidate_step l.calls)) l.wishes.rank.items (places (reverse l.path.items)) l.by_wish.after.items l.by_wish.before.items;
-  memory : Remembers (rules_of l.rules) (map candidate_step l.calls) (g.L.Ledger.state l.fn.ledger).now (places (reverse l.path.items)) l.taken l.ends.ends.items;
+  memory : Remembers (rules_of l.rules) (map candidate_step l.calls) (g.L.Ledger.state l.fn.ledger).now l.front (places (reverse l.path.items)) l.taken l.ends.ends.items;
 }
 
 abbrev pub decreases-tries : goal.decreases-tries

@@ -1,12 +1,16 @@
-use Rattle.std.proofs.Common.{◌≡◌, Vec, Option, subst}
-use Rattle.std.specs.Prelude.{IfSome}
-use Rattle.std.specs.declared.alloc.Global.{Global}
-use Rattle.kmipa_search.specs.Ends.{Shared, AreAlike, stills, stills_shared}
+use Rattle.std.proofs.Common.{ℕ, Option, None, sym, subst}
+use Rattle.kmipa_search.specs.Ends.{IsNoted}
 use Rattle.kmipa_search.proofs.NotedLemmas.{noted}
 use Rattle.kmipa_search.proofs.ends.Ends.keep.Goals as goal
 
 pub returns-in-Some : goal.returns-in-Some
 returns-in-Some g c = λ places s.
     let m = (g.L.Ledger.state c.args.ledger.now).now in
-    let P : Option (Vec Shared Global) → Type 0 = λ o. IfSome o (λ v. AreAlike c.args.front (stills_shared v.items) (stills m)) in
-    noted c.args.front c.args.self.now.ends.items c.add.new.self.ends.items c.args.set c.in-Some.objects places m c.add.ensures s (subst P c.in-Some.is c.in_ok-objects.ensures)
+    let P : Option ℕ → Type 0 = λ o. IsNoted o c.args.self.now.ends.items places m c.keep_objects.new.self.ends.items in
+    subst P (sym c.in-Some.is) (c.keep_objects.ensures places s)
+
+pub returns-in-None : goal.returns-in-None
+returns-in-None g c = λ places s.
+    let m = (g.L.Ledger.state c.args.ledger.now).now in
+    let P : Option ℕ → Type 0 = λ o. IsNoted o c.args.self.now.ends.items places m c.add.new.self.ends.items in
+    subst P (sym c.in-None.is) (noted None c.args.self.now.ends.items c.add.new.self.ends.items c.args.set c.new.result places m c.add.ensures s tt)
