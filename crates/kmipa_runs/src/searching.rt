@@ -24,7 +24,6 @@ use kmipa_search::{Found, Watch, is_forced, search_open, search_watched};
 use kmipa_ttlv::Input;
 use std::alloc::{AllocError, Global};
 use std::io::Read;
-use std::mem::forget;
 
 /// `search TRANSCRIPT DECLARATION OUT`: looks for a witness with at most `budget` steps. Appends to `out` the lines of
 /// what was found, with `forced` before them whether the transcript is forced, or the line of the fault that stands
@@ -64,8 +63,7 @@ pub fn search_run<R: Read, W: Watch>(
     }
 }
 
-/// Reads the two inputs, of which nothing was read, one after the other, and searches. A process makes one search and ends, so the transcript
-/// is left to its end: to let each message go by itself would take a twentieth of the time.
+/// Reads the two inputs, of which nothing was read, one after the other, and searches.
 fn search_inputs<R: Read, W: Watch>(
     alloc: Global,
     transcript: &mut Input<R>,
@@ -98,10 +96,7 @@ fn search_inputs<R: Read, W: Watch>(
         open,
         watch,
     ) {
-        Ok(searched) => {
-            forget(transcript);
-            Ok(searched)
-        }
+        Ok(searched) => Ok(searched),
         Err(fault) => Err(AuditFault::Check(fault)),
     }
 }

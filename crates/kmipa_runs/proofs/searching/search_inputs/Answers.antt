@@ -11,7 +11,7 @@ pub returns-in-Err-read_declaration-clause-searches : goal.returns-in-Err-read_d
 returns-in-Err-read_declaration-clause-searches g c = λ t d tf df.
     (a_transcript c.read_transcript.new.input t c.in-Ok.transcript tf c.in-Ok.ensures.found, c.in-Err-read_declaration.ensures.fault d df)
 
-pub returns-in-Err-search_records-clause-searches : goal.returns-in-Err-search_records-clause-searches
-returns-in-Err-search_records-clause-searches g c = λ t d tf df.
+pub returns-clause-searches : goal.returns-clause-searches
+returns-clause-searches g c = λ t d tf df.
     unsearched_files c.read_transcript.new.input c.read_declaration.new.input t d c.in-Ok.transcript c.in-Ok-read_declaration.declaration c.in-Err-search_records.fault c.args.budget c.args.forced
     tf df c.in-Ok.ensures.found c.in-Ok-read_declaration.ensures.found c.in-Err-search_records.ensures
