@@ -1,14 +1,15 @@
 -- The set of the calls taken, event by event.
-use Rattle.std.proofs.Common.{◌≡◌, ◌≢◌, ◌≤◌, ◌<◌, ◌⊎◌, inl, inr, ℕ, ◌-◌, zero, suc, Bool, true, false, List, [], ◌∷◌, length, set, slice_get, Some, Contains, sym, ap, ◌∙◌, subst, arith}
-use Rattle.std.proofs.lemmas.List.{get_or-set_same, get_or-set_other, length-set}
-use Rattle.std.proofs.lemmas.List.Elements.{Contains-append_right}
-use Rattle.std.proofs.lemmas.Option.{slice_get_within}
-use Rattle.std.specs.Prelude.{slice_set}
+use Rattle.std.proofs.Common.{◌≡◌, ◌≢◌, ◌≤◌, ◌<◌, ◌⊎◌, inl, inr, ℕ, ◌+◌, ◌-◌, zero, suc, Bool, true, false, List, [], ◌∷◌, ◌++◌, length, set, slice_get, Some, Contains, refl, sym, ap, ◌∙◌, subst, arith}
+use Rattle.std.proofs.lemmas.List.{get_or-set_same, get_or-set_other, length-append, length-set}
+use Rattle.std.proofs.lemmas.List.Elements.{Contains-append_cases, Contains-append_right}
+use Rattle.std.specs.Prelude.{AllPairs, slice_set}
 use Rattle.kmipa_search.specs.Ends.{flag, AreFlagged, IsSetOf}
 use Rattle.kmipa_search.specs.declared.taken.CallSet.{CallSet}
 use Rattle.kmipa_search.specs.declared.taken.TakenCalls.{TakenCalls}
 use Rattle.kmipa_search.proofs.LinksLemmas.{same_or, which}
-use Rattle.kmipa_search.proofs.ElementLemmas.{contains_at, at_contains}
+use Rattle.kmipa_search.proofs.ElementLemmas.{below_suc}
+use Rattle.kmipa_search.proofs.PermutationLemmas.{IsOnce, at_most, once_pairs}
+use Rattle.kmipa_search.proofs.PickLemmas.{lower}
 use Rattle.kmipa_search.proofs.PlaceLemmas.{one_cases, has_head}
 
 -- a place with a mark is there
@@ -92,50 +93,130 @@ set_of count taken f k a long low are only = record {
   only = λ p h. elim h [ inl less ↦ a.only p (a.low p (omega (arith, less, low))) | inr has ↦ a.only p (only p has) ];
 }
 
--- ---- the marks from one place up to another, compared with a list from behind
+-- ---- places that rise, each of which has a mark
 
-module _ (flags : List Bool) (rest : List ℕ) (place high left : ℕ) where
-  -- all from a place on are among the list, and those of the list from a place on have a mark
-  pub record AreCompared : Type 0 where
-    pub within : left ≤ length rest
-    pub are : (p : ℕ) → place ≤ p → p < high → flag flags p ≡ true → Contains rest p
-    pub only : (k x : ℕ) → left ≤ k → slice_get rest k ≡ Some x → flag flags x ≡ true
+-- So far they rise from a place on, and each has a mark; the next ones are at least so much.
+pub record AreRising (flags : List Bool) (rest : List ℕ) (low count least : ℕ) : Type 0 where
+  pub within : count ≤ length rest
+  pub from : low ≤ least
+  pub each : (k x : ℕ) → k < count → slice_get rest k ≡ Some x → (low ≤ x) × (x < least) × (flag flags x ≡ true)
+  pub rising : (i j x y : ℕ) → i < j → j < count → slice_get rest i ≡ Some x → slice_get rest j ≡ Some y → x < y
 
-pub compared_none : (flags : List Bool) (rest : List ℕ) (high : ℕ) → AreCompared flags rest high high (length rest)
-compared_none flags rest high = record {
+pub rising_none : (flags : List Bool) (rest : List ℕ) (low : ℕ) → AreRising flags rest low 0 low
+rising_none flags rest low = record {
   within = omega arith;
-  are = λ p from below m. absurd (omega (arith, from, below));
-  only = λ k x from at. let w = slice_get_within rest k x at in absurd (omega (arith, from, w));
+  from = omega arith;
+  each = λ k x below at. absurd (omega (arith, below));
+  rising = λ i j x y below under at stands. absurd (omega (arith, under));
 }
 
-module _ (flags : List Bool) (rest : List ℕ) (place high left : ℕ) (c : AreCompared flags rest place high left) (some : 0 < place) where
-  pub compared_unmarked : flag flags (place - 1) ≡ false → AreCompared flags rest (place - 1) high left
-  compared_unmarked no_mark = record {
-    within = c.within;
-    are = λ p from below m. elim (same_or p (place - 1)) [
-      | inl e ↦ let clash : false ≡ true = sym no_mark ∙ ap (flag flags) (sym e) ∙ m in absurd cc
-      | inr d ↦ c.are p (omega (arith, from, d, some)) below m
-    ];
-    only = c.only;
-  }
+pub rising_more : (flags : List Bool) (rest : List ℕ) (low count least place : ℕ) → AreRising flags rest low count least → count < length rest → slice_get rest count ≡ Some place → least ≤ place → flag flags place ≡ true
+    → AreRising flags rest low (count + 1) (place + 1)
+rising_more flags rest low count least place a more there past mark = record {
+  within = omega (arith, more);
+  from = let f = a.from in omega (arith, f, past);
+  each = λ k x below at. elim (below_suc k count (omega (arith, below))) as (λ q. (low ≤ x) × (x < place + 1) × (flag flags x ≡ true)) [
+    | inl less ↦ let e = a.each k x less at in (e.0, (let b = e.1 in omega (arith, b, past)), e.2)
+    | inr e ↦
+        let same = own k x e at in
+        let P : ℕ → Type 0 = λ z. flag flags z ≡ true in
+        let f = a.from in
+        (omega (arith, f, past, same), omega (arith, same), subst P (sym same) mark)
+  ];
+  rising = λ i j x y below under at stands. elim (below_suc j count (omega (arith, under))) as (λ q. x < y) [
+    | inl less ↦ a.rising i j x y below less at stands
+    | inr e ↦ let same = own j y e stands in let b = a.each i x (omega (arith, below, e)) at in let c = b.1 in omega (arith, c, past, same)
+  ];
+}
+  where
+    own : (k x : ℕ) → k ≡ count → slice_get rest k ≡ Some x → x ≡ place
+    own k x e at =
+        let P : ℕ → Type 0 = λ i. slice_get rest i ≡ Some x in
+        let both : Some x ≡ Some place = sym (subst P e at) ∙ there in
+        cc
 
-  pub compared_marked : 0 < left → flag flags (place - 1) ≡ true → slice_get rest (left - 1) ≡ Some (place - 1) → AreCompared flags rest (place - 1) high (left - 1)
-  compared_marked more mark at = record {
-    within = let w = c.within in omega (arith, w);
-    are = λ p from below m. elim (same_or p (place - 1)) [
-      | inl e ↦ let P : ℕ → Type 0 = λ q. Contains rest q in subst P (sym e) (contains_at rest (left - 1) (place - 1) at)
-      | inr d ↦ c.are p (omega (arith, from, d, some)) below m
-    ];
-    only = λ k x from there. elim (same_or k (left - 1)) [
-      | inl e ↦
-          let P : ℕ → Type 0 = λ i. slice_get rest i ≡ Some x in
-          let both : Some (place - 1) ≡ Some x = sym at ∙ subst P e there in
-          let same : place - 1 ≡ x = cc in
-          let Q : ℕ → Type 0 = λ q. flag flags q ≡ true in
-          subst Q same mark
-      | inr d ↦ c.only k x (omega (arith, from, d, more)) there
-    ];
-  }
+-- ---- as many places as are taken
 
-pub compared_all : (flags : List Bool) (rest : List ℕ) (place high : ℕ) → AreCompared flags rest place high 0 → (p : ℕ) → Contains rest p → flag flags p ≡ true
-compared_all flags rest place high c p has = let q = at_contains rest p has in c.only q.0 p (omega arith) q.1
+abbrev upto : ℕ → List ℕ
+upto zero = []
+upto (suc n) = n ∷ upto n
+
+upto_below : (n p : ℕ) → Contains (upto n) p → p < n
+upto_below zero p has = absurd (omega (arith, has.1))
+upto_below (suc n) p has = elim (one_cases n p (upto n) has) as (λ q. p < suc n) [
+  | inl e ↦ omega (arith, e)
+  | inr t ↦ let b = upto_below n p t in omega (arith, b)
+]
+
+upto_once : (n : ℕ) → IsOnce (upto n)
+upto_once zero = tt
+upto_once (suc n) = ((λ has. let b = upto_below n n has in omega (arith, b)), upto_once n)
+
+upto_long : (n : ℕ) → length (upto n) ≡ n
+upto_long zero = refl
+upto_long (suc n) = ap suc (upto_long n)
+
+once_append : {X : Type 0} (xs ys : List X) → IsOnce xs → IsOnce ys → ((x : X) → Contains xs x → Contains ys x → ⊥) → IsOnce (xs ++ ys)
+once_append [] ys a b apart = b
+once_append (x ∷ xs) ys a b apart = (
+  (λ has. elim (Contains-append_cases xs ys x has) as (λ q. ⊥) [ inl l ↦ a.0 l | inr r ↦ apart x (has_head x xs) r ]),
+  once_append xs ys a.1 b (λ y l r. apart y (Contains-append_right (x ∷ []) xs y l) r),
+)
+
+member_or : (p : ℕ) (xs : List ℕ) → Contains xs p ⊎ (Contains xs p → ⊥)
+member_or p [] = inr (λ has. omega (arith, has.1))
+member_or p (x ∷ xs) = elim (same_or x p) as (λ q. Contains (x ∷ xs) p ⊎ (Contains (x ∷ xs) p → ⊥)) [
+  | inl e ↦ let P : ℕ → Type 0 = λ z. Contains (z ∷ xs) p in inl (subst P (sym e) (has_head p xs))
+  | inr d ↦ elim (member_or p xs) as (λ q. Contains (x ∷ xs) p ⊎ (Contains (x ∷ xs) p → ⊥)) [
+    | inl t ↦ inl (Contains-append_right (x ∷ []) xs p t)
+    | inr none ↦ inr (λ has. elim (one_cases x p xs has) as (λ q. ⊥) [ inl e ↦ d e | inr t ↦ none t ])
+  ]
+]
+
+module _ (taken rest : List ℕ) (low : ℕ) (below : (p : ℕ) → p < low → Contains taken p) where
+  low_few : low ≤ length taken
+  low_few = let m = at_most (upto low) taken (upto_once low) (λ p has. below p (upto_below low p has)) in omega (arith, m, upto_long low)
+
+  -- where there are no more of them, each is one of these
+  all_there : IsOnce rest → ((p : ℕ) → Contains rest p → low ≤ p) → ((p : ℕ) → Contains rest p → Contains taken p) → length taken ≤ low + length rest → (p : ℕ) → Contains taken p → (p < low) ⊎ Contains rest p
+  all_there once past inside few p has = elim (lower low p) as (λ q. (p < low) ⊎ Contains rest p) [
+    | inl less ↦ inl less
+    | inr from ↦ elim (member_or p rest) as (λ q. (p < low) ⊎ Contains rest p) [
+      | inl m ↦ inr m
+      | inr none ↦
+          absurd (let m = at_most (p ∷ (rest ++ upto low)) taken (fresh_too from none, once_append rest (upto low) once (upto_once low) apart) (λ x h. here x h) in
+          omega (arith, m, length-append rest (upto low), upto_long low, few))
+    ]
+  ]
+    where
+      apart : (x : ℕ) → Contains rest x → Contains (upto low) x → ⊥
+      apart x l r = let a = past x l in let b = upto_below low x r in omega (arith, a, b)
+
+      fresh_too : low ≤ p → (Contains rest p → ⊥) → Contains (rest ++ upto low) p → ⊥
+      fresh_too from none h = elim (Contains-append_cases rest (upto low) p h) as (λ q. ⊥) [ inl l ↦ none l | inr r ↦ let b = upto_below low p r in omega (arith, b, from) ]
+
+      here : (x : ℕ) → Contains (p ∷ (rest ++ upto low)) x → Contains taken x
+      here x h = elim (one_cases p x (rest ++ upto low) h) as (λ q. Contains taken x) [
+        | inl e ↦ let P : ℕ → Type 0 = λ z. Contains taken z in subst P e has
+        | inr t ↦ elim (Contains-append_cases rest (upto low) x t) as (λ q. Contains taken x) [ inl l ↦ inside x l | inr r ↦ below x (upto_below low x r) ]
+      ]
+
+pub counted_set : (count : ℕ) (taken : List ℕ) (f : TakenCalls) (k : CallSet) → AreFlagged count taken f → length taken ≡ k.count → k.low ≡ f.low → length k.rest.items ≡ k.count - f.low
+    → AllPairs (λ (p q : ℕ). p < q) k.rest.items → ((p : ℕ) → Contains k.rest.items p → f.low ≤ p) → ((p : ℕ) → Contains k.rest.items p → flag f.flags.items p ≡ true) → IsSetOf taken k
+counted_set count taken f k a long low many rising past marked = record {
+  count = long;
+  are = λ p has. elim (all_there taken k.rest.items f.low below once past (λ q h. a.only q (marked q h)) few p has) as (λ q. (p < k.low) ⊎ Contains k.rest.items p) [
+    | inl less ↦ inl (omega (arith, less, low))
+    | inr m ↦ inr m
+  ];
+  only = λ p h. elim h as (λ q. Contains taken p) [ inl less ↦ a.only p (a.low p (omega (arith, less, low))) | inr has ↦ a.only p (marked p has) ];
+}
+  where
+    below : (p : ℕ) → p < f.low → Contains taken p
+    below p less = a.only p (a.low p less)
+
+    once : IsOnce k.rest.items
+    once = once_pairs k.rest.items (λ i j d under within e. let r = rising i j d under within in omega (arith, r, e))
+
+    few : length taken ≤ f.low + length k.rest.items
+    few = let m = low_few taken k.rest.items f.low below in omega (arith, m, long, many)

@@ -64,7 +64,13 @@ impl TakenCalls {
         Ok(CallSet {
             count,
             low: self.low,
-            rest: marked_between(alloc, &self.flags, self.low, self.high)?,
+            rest: marked_between(
+                alloc,
+                &self.flags,
+                self.low,
+                self.high,
+                count.saturating_sub(self.low),
+            )?,
         })
     }
 
@@ -78,11 +84,14 @@ impl TakenCalls {
         if set.low != self.low {
             return false;
         }
-        are_marked_between(&self.flags, self.low, self.high, &set.rest)
+        if set.rest.len() != count.saturating_sub(self.low) {
+            return false;
+        }
+        are_marked(&self.flags, self.low, &set.rest)
     }
 }
 
-ghost use Rattle.std.specs.Prelude.{◌≡◌, ◌<◌, ◌≤◌, ◌^◌, ℕ, true, Contains, IfOk, slice_set};
+ghost use Rattle.std.specs.Prelude.{◌≡◌, ◌<◌, ◌≤◌, ◌^◌, ℕ, true, AllPairs, Contains, IfOk, slice_set};
 ghost use Rattle.kmipa_search.specs.Ends.{flag};
 
 /// The hash with a place more, or less.
@@ -147,17 +156,18 @@ fn last_taken(flags: &[bool], to: usize) -> usize
     place
 }
 
-/// The places with a mark, from one up to another.
+/// The places with a mark, from one up to another, with room for so many.
 fn marked_between(
     alloc: Global,
     flags: &[bool],
     low: usize,
     high: usize,
+    room: usize,
 ) -> Result<Vec<usize>, AllocError>
     ensures are { (p : ℕ) → low ≤ p → p < high → flag flags.now p ≡ true → IfOk result (λ rest. Contains rest.items p) }
     ensures only { IfOk result (λ rest. (p : ℕ) → Contains rest.items p → flag flags.now p ≡ true) }
 {
-    let mut rest = Vec::new(alloc);
+    let mut rest = Vec::with_capacity(alloc, room)?;
     let mut place = low;
     'run: while place < high {
         if is_marked(flags, place) {
@@ -168,26 +178,29 @@ fn marked_between(
     Ok(rest)
 }
 
-/// Whether the places with a mark, from one up to another, are these, in their order.
-fn are_marked_between(flags: &[bool], low: usize, high: usize, rest: &[usize]) -> bool
-    ensures are { result ≡ true → (p : ℕ) → low ≤ p → p < high → flag flags.now p ≡ true → Contains rest.now p }
-    ensures only { result ≡ true → (p : ℕ) → Contains rest.now p → flag flags.now p ≡ true }
+/// Whether these places rise, from one on, and each has a mark.
+fn are_marked(flags: &[bool], low: usize, rest: &[usize]) -> bool
+    ensures marked { result ≡ true → (p : ℕ) → Contains rest.now p → flag flags.now p ≡ true }
+    ensures past { result ≡ true → (p : ℕ) → Contains rest.now p → low ≤ p }
+    ensures rising { result ≡ true → AllPairs (λ p q. p < q) rest.now }
 {
-    let mut place = high;
-    let mut left = rest.len();
-    'run: while place > low {
-        place -= 1;
-        if is_marked(flags, place) {
-            if left == 0 {
-                return false;
-            }
-            left -= 1;
-            if rest[left] != place {
-                return false;
-            }
+    let mut least = low;
+    let mut count = 0;
+    'run: while count < rest.len() {
+        let place = rest[count];
+        if place < least {
+            return false;
         }
+        if place >= flags.len() {
+            return false;
+        }
+        if !is_marked(flags, place) {
+            return false;
+        }
+        least = place + 1;
+        count += 1;
     }
-    left == 0
+    true
 }
 
 /// Whether a place has a mark.
