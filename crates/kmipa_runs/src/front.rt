@@ -18,7 +18,8 @@ pub static SPACES: [u8; FRONT] = [b' '; FRONT];
 /// The front of the line of an item with so many levels above it, and spaces behind it.
 pub fn front_of(level: usize, tag: Tag) -> [u8; FRONT]
     requires { level ≤ 31 }
-    ensures { take (2 * level + 7) result ≡ replicate (2 * level) 32 ++ encode_upper (big_bytes 3 tag.number) ++ 32 ∷ [] }
+    ensures { take (2 * level + 7) result
+        ≡ replicate (2 * level) 32 ++ encode_upper (big_bytes 3 tag.number) ++ 32 ∷ [] }
 {
     let mut front = SPACES;
     fill_tag(tag, &mut front[2 * level..2 * level + 6]);

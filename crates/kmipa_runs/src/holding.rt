@@ -36,10 +36,14 @@ fn hold_next<R: Read>(
     // Where all that came before is held, all that came is.
     ensures came { OnOk result (held.old.items ≡ came_of input.old → held.new.items ≡ came_of input.new) }
     // Where that was items, this is.
-    ensures items { OnOk result (((items : List Tree) × AreItems items (came_of input.old)) → (items : List Tree) × AreItems items (came_of input.new)) }
+    ensures items { OnOk result
+        (((items : List Tree) × AreItems items (came_of input.old))
+        → (items : List Tree) × AreItems items (came_of input.new)) }
     ensures end { IfOk result (λ some. some ≡ false → IsTrue (is_ended input.new)) }
     ensures nearer { IfOk result (λ some. some ≡ true → taken_of input.old < taken_of input.new) }
-    ensures fault { IfErr result (λ f. ReadTells (taken_of input.old) (appended_bytes (came_of input.old) (came_of input.new)) (is_ended input.new) (is_failed input.new) f) }
+    ensures fault { IfErr result
+        (λ f. ReadTells (taken_of input.old) (appended_bytes (came_of input.old) (came_of input.new))
+        (is_ended input.new) (is_failed input.new) f) }
     ensures grows { StartsWith (came_of input.new) (came_of input.old) }
 {
     let offset = input.taken();

@@ -9,6 +9,7 @@ ghost use Rattle.kmipa_runs.specs.Inputs.{TellsFirst};
 
 /// Of bytes that are items no fault is reported but that the input is failed, or that memory ran out.
 pub fn items_have_no_fault()
-    ensures { (bytes : List ℕ) (items : List Tree) (failed : Bool) (f : TtlvFault) → AreItems items bytes → TellsFirst bytes failed f
+    ensures { (bytes : List ℕ) (items : List Tree) (failed : Bool) (f : TtlvFault) → AreItems items bytes
+        → TellsFirst bytes failed f
         → (f.kind ≡ FaultKind.Device) ⊎ (f.kind ≡ FaultKind.Memory) }
 {}

@@ -25,7 +25,9 @@ pub fn verdict_lines(
     transcript: &Transcript,
     witness: &Witness,
 ) -> Result<Lines, AllocError>
-    ensures { IfOk result (λ lines. PrintsVerdict (transcript_of transcript.now) (witness_of witness.now) verdict.now lines.status (string_bytes lines.text)) }
+    ensures { IfOk result
+        (λ lines. PrintsVerdict (transcript_of transcript.now) (witness_of witness.now) verdict.now lines.status
+        (string_bytes lines.text)) }
 {
     match verdict {
         Verdict::Yes => stamped_lines(alloc, verdict, None),
@@ -99,7 +101,8 @@ pub fn fault_lines(alloc: Global, fault: &AuditFault) -> Result<Lines, AllocErro
 
 pub fn record_lines(alloc: Global, file: &str, fault: &RecordFault) -> Result<Lines, AllocError>
     ensures status { IfOk result (λ lines. lines.status ≡ record_status fault.now.kind) }
-    ensures text { IfOk result (λ lines. string_bytes lines.text ≡ record_text file.now fault.now.offset fault.now.kind) }
+    ensures text { IfOk result
+        (λ lines. string_bytes lines.text ≡ record_text file.now fault.now.offset fault.now.kind) }
 {
     let RecordFault { offset, kind } = *fault;
     let (text, status) = match kind {

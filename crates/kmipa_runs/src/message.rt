@@ -10,7 +10,8 @@ use kmipa_ttlv::{View, ViewValue, decode_view};
 
 /// The Request Message or Response Message that these bytes are, or `None` where they are no whole one.
 pub fn message_of(bytes: &[u8]) -> Option<View<'_>>
-    ensures { MatchOption result ((m : Tree) → AreMessage m bytes.now → ⊥) (λ view. AreMessage (view_tree view) bytes.now) }
+    ensures { MatchOption result ((m : Tree) → AreMessage m bytes.now → ⊥)
+        (λ view. AreMessage (view_tree view) bytes.now) }
 {
     match decode_view(bytes) {
         Ok((view, taken)) => {

@@ -25,7 +25,8 @@ pub struct Pieces<P> {
 impl<P: Printer> Pieces<P> {
     /// Nothing is held. Where the room is refused, the printer comes back.
     pub fn new(alloc: Global, printer: P) -> Result<Pieces<P>, P>
-        ensures { MatchResult result (λ pieces. (pieces.printer ≡ printer) × (pieces.held.items ≡ [])) (λ back. back ≡ printer) }
+        ensures { MatchResult result (λ pieces. (pieces.printer ≡ printer) × (pieces.held.items ≡ []))
+            (λ back. back ≡ printer) }
     {
         match Vec::with_capacity(alloc, PIECE) {
             Ok(held) => Ok(Pieces { printer, held }),
@@ -85,7 +86,9 @@ impl<P: Printer> Pieces<P> {
     #[cold]
     #[inline(never)]
     fn print_ahead(&mut self, bytes: &[u8]) -> Result<(), Unprinted>
-        ensures prints { OnOk result (P.printed self.new.printer ++ self.new.held.items ≡ P.printed self.old.printer ++ self.old.held.items ++ bytes.now) }
+        ensures prints { OnOk result
+            (P.printed self.new.printer ++ self.new.held.items
+            ≡ P.printed self.old.printer ++ self.old.held.items ++ bytes.now) }
         ensures fails { OnErr result (IsTrue (P.has_failed self.new.printer)) }
     {
         self.finish()?;

@@ -23,7 +23,8 @@ pub fn report(
     witness: &Witness,
     out: &mut Vec<u8>,
 ) -> Status
-    ensures prints { PrintsVerdict (transcript_of transcript.now) (witness_of witness.now) verdict.now result (appended_bytes out.old.items out.new.items)
+    ensures prints { PrintsVerdict (transcript_of transcript.now) (witness_of witness.now) verdict.now result
+        (appended_bytes out.old.items out.new.items)
         ⊎ IsSilent result (appended_bytes out.old.items out.new.items) }
     ensures appends { StartsWith out.new.items out.old.items }
 {
@@ -32,7 +33,8 @@ pub fn report(
 
 /// The same of a verdict that comes with the moment at which the call was answered that it refuses.
 pub fn report_judged(alloc: Global, judged: &Judged, out: &mut Vec<u8>) -> Status
-    ensures prints { PrintsStamped judged.now.verdict judged.now.stamp result (appended_bytes out.old.items out.new.items)
+    ensures prints { PrintsStamped judged.now.verdict judged.now.stamp result
+        (appended_bytes out.old.items out.new.items)
         ⊎ IsSilent result (appended_bytes out.old.items out.new.items) }
     ensures appends { StartsWith out.new.items out.old.items }
 {

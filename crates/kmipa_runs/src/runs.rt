@@ -32,20 +32,26 @@ pub fn check_run<R: Read>(
     ensures prints { (outcome : Result Verdict AuditFault)
         × ((t d w : List ℕ) → IsFileOf t transcript.new → IsFileOf d declaration.new → IsFileOf w witness.new
         → AuditsAs t d w (is_failed transcript.new) (is_failed declaration.new) (is_failed witness.new) outcome)
-        × (PrintsOutcome (came_of transcript.new) (came_of witness.new) outcome result (appended_bytes out.old.items out.new.items)
+        × (PrintsOutcome (came_of transcript.new) (came_of witness.new) outcome result
+        (appended_bytes out.old.items out.new.items)
         ⊎ IsSilent result (appended_bytes out.old.items out.new.items)) }
     // `yes` is printed with status 0, and there alone.
     ensures fits { FitsStatus result (appended_bytes out.old.items out.new.items) }
     ensures yes { (result ≡ Status.Done) ↔ (appended_bytes out.old.items out.new.items ≡ yes_line) }
     ensures appends { StartsWith out.new.items out.old.items }
     // Status 0 is answered only where the bytes that came, to the ends that were seen, are accepted.
-    ensures accepts { result ≡ Status.Done → AreAccepted (came_of transcript.new) (came_of declaration.new) (came_of witness.new)
+    ensures accepts { result ≡ Status.Done
+        → AreAccepted (came_of transcript.new) (came_of declaration.new) (came_of witness.new)
         × IsTrue (is_ended transcript.new) × IsTrue (is_ended declaration.new) × IsTrue (is_ended witness.new) }
     // And where the inputs may be accepted, unless one fails or memory runs out.
-    ensures accepted { (t d w : List ℕ) → IsFileOf t transcript.new → IsFileOf d declaration.new → IsFileOf w witness.new
-        → SaysYes (is_failed transcript.new) (is_failed declaration.new) (is_failed witness.new) result (appended_bytes out.old.items out.new.items) t d w }
+    ensures accepted { (t d w : List ℕ) → IsFileOf t transcript.new → IsFileOf d declaration.new
+        → IsFileOf w witness.new
+        → SaysYes (is_failed transcript.new) (is_failed declaration.new) (is_failed witness.new) result
+        (appended_bytes out.old.items out.new.items) t d w }
     // A no has its date.
-    ensures dated { result ≡ Status.No → IsDated (appended_bytes out.old.items out.new.items) (came_of transcript.new) (came_of declaration.new) (came_of witness.new) }
+    ensures dated { result ≡ Status.No
+        → IsDated (appended_bytes out.old.items out.new.items) (came_of transcript.new) (came_of declaration.new)
+        (came_of witness.new) }
 {
     match audit_stream(alloc, transcript, declaration, witness) {
         Ok(judged) => report_judged(alloc, &judged, out),

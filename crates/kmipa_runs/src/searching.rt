@@ -48,10 +48,13 @@ pub fn search_run<R: Read, W: Watch>(
     ensures prints { (outcome : Result Searched AuditFault)
         × ((t d : List ℕ) → IsFileOf t transcript.new → IsFileOf d declaration.new
         → SearchesFiles t d (is_failed transcript.new) (is_failed declaration.new) budget forced outcome)
-        × (PrintsSearch outcome result (appended_bytes out.old.items out.new.items) (appended_bytes made.old.items made.new.items)
-        ⊎ (IsSilent result (appended_bytes out.old.items out.new.items) × (appended_bytes made.old.items made.new.items ≡ []))) }
+        × (PrintsSearch outcome result (appended_bytes out.old.items out.new.items)
+        (appended_bytes made.old.items made.new.items)
+        ⊎ (IsSilent result (appended_bytes out.old.items out.new.items)
+        × (appended_bytes made.old.items made.new.items ≡ []))) }
     // Status 0 is answered only where the bytes that came, to the ends that were seen, are accepted with the witness that is made.
-    ensures accepts { result ≡ Status.Done → AreAccepted (came_of transcript.new) (came_of declaration.new) (appended_bytes made.old.items made.new.items)
+    ensures accepts { result ≡ Status.Done
+        → AreAccepted (came_of transcript.new) (came_of declaration.new) (appended_bytes made.old.items made.new.items)
         × IsTrue (is_ended transcript.new) × IsTrue (is_ended declaration.new) }
     ensures nothing { result ≢ Status.Done → made.new.items ≡ made.old.items }
     ensures appends { StartsWith out.new.items out.old.items }
@@ -163,8 +166,10 @@ pub fn tell_searched(
     out: &mut Vec<u8>,
     made: &mut Vec<u8>,
 ) -> Status
-    ensures tells { PrintsSearch (Ok searched.now) result (appended_bytes out.old.items out.new.items) (appended_bytes made.old.items made.new.items)
-        ⊎ (IsSilent result (appended_bytes out.old.items out.new.items) × (appended_bytes made.old.items made.new.items ≡ [])) }
+    ensures tells { PrintsSearch (Ok searched.now) result (appended_bytes out.old.items out.new.items)
+        (appended_bytes made.old.items made.new.items)
+        ⊎ (IsSilent result (appended_bytes out.old.items out.new.items)
+        × (appended_bytes made.old.items made.new.items ≡ [])) }
     ensures nothing { result ≢ Status.Done → made.new.items ≡ made.old.items }
     ensures appends { StartsWith out.new.items out.old.items }
     ensures makes { StartsWith made.new.items made.old.items }
@@ -186,7 +191,8 @@ pub fn tell_witness(
     out: &mut Vec<u8>,
     made: &mut Vec<u8>,
 ) -> Status
-    ensures tells { ((result ≡ lines.now.status) × (appended_bytes out.old.items out.new.items ≡ string_bytes lines.now.text)
+    ensures tells { ((result ≡ lines.now.status)
+        × (appended_bytes out.old.items out.new.items ≡ string_bytes lines.now.text)
         × IsWitness (appended_bytes made.old.items made.new.items) (witness_of witness.now))
         ⊎ (IsSilent result (appended_bytes out.old.items out.new.items) × (made.new.items ≡ made.old.items)) }
     ensures appends { StartsWith out.new.items out.old.items }
@@ -226,7 +232,8 @@ fn forced_line(forced: Option<bool>) -> &'static str
 
 /// The line of what a search found.
 fn found_lines(alloc: Global, found: &Found) -> Result<Lines, AllocError>
-    ensures { IfOk result (λ lines. (lines.status ≡ found_status found.now) × (string_bytes lines.text ≡ found_text found.now)) }
+    ensures { IfOk result
+        (λ lines. (lines.status ≡ found_status found.now) × (string_bytes lines.text ≡ found_text found.now)) }
 {
     match found {
         Found::Yes(_, count) => Ok(Lines {

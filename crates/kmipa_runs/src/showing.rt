@@ -36,7 +36,8 @@ pub fn show_run<R: Read, P: Printer>(
         ⊎ IsSilent said (appended_bytes (P.printed printer) (P.printed result.0))) }
     // Status 0 is answered only where the bytes that came, to the end that was seen, are the items that are shown.
     ensures shows { result.1 ≡ Ok Status.Done
-        → AreShown options (came_of input.new) (appended_bytes (P.printed printer) (P.printed result.0)) × IsTrue (is_ended input.new) }
+        → AreShown options (came_of input.new) (appended_bytes (P.printed printer) (P.printed result.0))
+        × IsTrue (is_ended input.new) }
     ensures appends { OnOk result.1 (StartsWith (P.printed result.0) (P.printed printer)) }
     ensures own { OnErr result.1 (IsTrue (P.has_failed result.0)) }
 {
@@ -80,7 +81,9 @@ fn print_lines<P: Printer>(
 ) -> Result<Status, Unprinted>
     requires items { (items : List Tree) × AreItems items bytes.now }
     requires empty { pieces.old.held.items ≡ [] }
-    ensures shows { IfOk result (λ said. (said ≡ Status.Done) × AreShown options bytes.now (appended_bytes (P.printed pieces.old.printer) (P.printed pieces.new.printer))) }
+    ensures shows { IfOk result
+        (λ said. (said ≡ Status.Done)
+        × AreShown options bytes.now (appended_bytes (P.printed pieces.old.printer) (P.printed pieces.new.printer))) }
     ensures appends { OnOk result (StartsWith (P.printed pieces.new.printer) (P.printed pieces.old.printer)) }
     ensures own { OnErr result (IsTrue (P.has_failed pieces.new.printer)) }
 {
@@ -96,7 +99,8 @@ fn print_flaw<P: Printer>(
     printer: &mut P,
 ) -> Result<Status, Unprinted>
     ensures tells { IfOk result (λ said.
-        ((said ≡ flaw_status fault) × (appended_bytes (P.printed printer.old) (P.printed printer.new) ≡ flaw_text fault))
+        ((said ≡ flaw_status fault)
+        × (appended_bytes (P.printed printer.old) (P.printed printer.new) ≡ flaw_text fault))
         ⊎ IsSilent said (appended_bytes (P.printed printer.old) (P.printed printer.new))) }
     ensures appends { OnOk result (StartsWith (P.printed printer.new) (P.printed printer.old)) }
     ensures own { OnErr result (IsTrue (P.has_failed printer.new)) }

@@ -30,7 +30,8 @@ fn push_item<P: Printer>(
     requires level { level + depth (view_tree item.now) ≤ 32 }
     // Room for the levels of a message.
     requires room { IsTrue options.messages → level + depth (view_tree item.now) ≤ 16 }
-    ensures shows { OnOk result (ShowsItem options level (view_tree item.now) (appended_bytes (P.printed out.old) (P.printed out.new))) }
+    ensures shows { OnOk result
+        (ShowsItem options level (view_tree item.now) (appended_bytes (P.printed out.old) (P.printed out.new))) }
     ensures appends { OnOk result (StartsWith (P.printed out.new) (P.printed out.old)) }
     ensures fails { OnErr result (IsTrue (P.has_failed out.new)) }
 {
@@ -58,7 +59,8 @@ pub fn push_items<P: Printer>(
 ) -> Result<(), Unprinted>
     requires level { level + depths (view_trees items) ≤ 32 }
     requires room { IsTrue options.messages → level + depths (view_trees items) ≤ 16 }
-    ensures shows { OnOk result (ShowsItems options level (view_trees items.entry) (appended_bytes (P.printed out.old) (P.printed out.new))) }
+    ensures shows { OnOk result
+        (ShowsItems options level (view_trees items.entry) (appended_bytes (P.printed out.old) (P.printed out.new))) }
     ensures appends { OnOk result (StartsWith (P.printed out.new) (P.printed out.old)) }
     ensures fails { OnErr result (IsTrue (P.has_failed out.new)) }
 {
@@ -78,7 +80,9 @@ fn push_below<P: Printer>(
     out: &mut P,
 ) -> Result<(), Unprinted>
     requires { IsTrue options.messages → level ≤ 15 }
-    ensures shows { OnOk result (ShowsBelow options.messages options.notes level (byte_string bytes.now) (appended_bytes (P.printed out.old) (P.printed out.new))) }
+    ensures shows { OnOk result
+        (ShowsBelow options.messages options.notes level (byte_string bytes.now)
+        (appended_bytes (P.printed out.old) (P.printed out.new))) }
     ensures appends { OnOk result (StartsWith (P.printed out.new) (P.printed out.old)) }
     ensures fails { OnErr result (IsTrue (P.has_failed out.new)) }
 {
@@ -105,7 +109,8 @@ fn push_line<P: Printer>(
 ) -> Result<(), Unprinted>
     requires plain { IsPlain item.now.value }
     requires level { level ≤ 31 }
-    ensures shows { OnOk result (ShowsLine notes level (view_tree item.now) (appended_bytes (P.printed out.old) (P.printed out.new))) }
+    ensures shows { OnOk result
+        (ShowsLine notes level (view_tree item.now) (appended_bytes (P.printed out.old) (P.printed out.new))) }
     ensures appends { OnOk result (StartsWith (P.printed out.new) (P.printed out.old)) }
     ensures fails { OnErr result (IsTrue (P.has_failed out.new)) }
 {

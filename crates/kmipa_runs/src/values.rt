@@ -27,7 +27,9 @@ const BLOCK: usize = 32;
 /// Prints the name of a value's type, between spaces.
 #[inline(always)]
 pub fn push_kind<P: Printer>(value: &ViewValue, out: &mut P) -> Result<(), Unprinted>
-    ensures pushes { OnOk result ((tag : ℕ) → P.printed out.new ≡ P.printed out.old ++ (32 ∷ kind_name (view_value_tree tag value.now) ++ codes " ")) }
+    ensures pushes { OnOk result
+        ((tag : ℕ)
+        → P.printed out.new ≡ P.printed out.old ++ (32 ∷ kind_name (view_value_tree tag value.now) ++ codes " ")) }
     ensures fails { OnErr result (IsTrue (P.has_failed out.new)) }
 {
     match value {
@@ -48,7 +50,9 @@ pub fn push_kind<P: Printer>(value: &ViewValue, out: &mut P) -> Result<(), Unpri
 /// Prints the text of a value; of a Structure nothing.
 #[inline(always)]
 pub fn push_value<P: Printer>(value: &ViewValue, out: &mut P) -> Result<(), Unprinted>
-    ensures shows { OnOk result ((tag : ℕ) → ShowsValue (view_value_tree tag value.now) (appended_bytes (P.printed out.old) (P.printed out.new))) }
+    ensures shows { OnOk result
+        ((tag : ℕ)
+        → ShowsValue (view_value_tree tag value.now) (appended_bytes (P.printed out.old) (P.printed out.new))) }
     ensures appends { OnOk result (StartsWith (P.printed out.new) (P.printed out.old)) }
     ensures fails { OnErr result (IsTrue (P.has_failed out.new)) }
 {
@@ -77,7 +81,8 @@ pub fn push_note<P: Printer>(
     value: &ViewValue,
     out: &mut P,
 ) -> Result<(), Unprinted>
-    ensures pushes { OnOk result (P.printed out.new ≡ P.printed out.old ++ note notes (view_value_tree tag.number value.now)) }
+    ensures pushes { OnOk result
+        (P.printed out.new ≡ P.printed out.old ++ note notes (view_value_tree tag.number value.now)) }
     ensures fails { OnErr result (IsTrue (P.has_failed out.new)) }
 {
     if !notes {
@@ -91,7 +96,8 @@ pub fn push_note<P: Printer>(
 
 /// Prints a name, if there is one, after a space, in parentheses.
 fn push_name<P: Printer>(name: Option<&str>, out: &mut P) -> Result<(), Unprinted>
-    ensures pushes { OnOk result (P.printed out.new ≡ P.printed out.old ++ noted (option_map (λ text. text.now) name.entry)) }
+    ensures pushes { OnOk result
+        (P.printed out.new ≡ P.printed out.old ++ noted (option_map (λ text. text.now) name.entry)) }
     ensures fails { OnErr result (IsTrue (P.has_failed out.new)) }
 {
     let Some(name) = name else {

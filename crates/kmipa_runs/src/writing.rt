@@ -52,7 +52,8 @@ pub fn write_run<R: Read>(
 /// Appends the line of digits that are none; no line where memory ran out.
 fn tell_digits(alloc: Global, error: FromHexError, out: &mut Vec<u8>) -> Status
     ensures tells { IsSilent result (appended_bytes out.old.items out.new.items)
-        ⊎ ((error ≢ FromHexError.OutOfMemory) × (result ≡ Status.Refused) × (appended_bytes out.old.items out.new.items ≡ refused_line)) }
+        ⊎ ((error ≢ FromHexError.OutOfMemory) × (result ≡ Status.Refused)
+        × (appended_bytes out.old.items out.new.items ≡ refused_line)) }
     ensures appends { StartsWith out.new.items out.old.items }
 {
     match error {
@@ -72,7 +73,8 @@ fn refused_lines(alloc: Global) -> Result<Lines, AllocError>
 
 /// Appends to `made` the spellings of the items that these bytes are, or to `out` the line of their first fault.
 fn write_bytes(alloc: Global, bytes: &[u8], out: &mut Vec<u8>, made: &mut Vec<u8>) -> Status
-    ensures writes { MakesOrTells bytes.now result (appended_bytes out.old.items out.new.items) (appended_bytes made.old.items made.new.items) }
+    ensures writes { MakesOrTells bytes.now result (appended_bytes out.old.items out.new.items)
+        (appended_bytes made.old.items made.new.items) }
     ensures appends { StartsWith out.new.items out.old.items }
     ensures makes { StartsWith made.new.items made.old.items }
 {
@@ -108,7 +110,8 @@ fn write_next(
     made: &mut Vec<u8>,
 ) -> Result<usize, TtlvFault>
     requires { 0 < length bytes.now }
-    ensures writes { IfOk result (λ n. (item : Tree) × Spells item (take n bytes.now) × (made.new.items ≡ made.old.items ++ spelling item)) }
+    ensures writes { IfOk result
+        (λ n. (item : Tree) × Spells item (take n bytes.now) × (made.new.items ≡ made.old.items ++ spelling item)) }
     ensures within { IfOk result (λ n. (0 < n) × (n ≤ length bytes.now)) }
     ensures fault { IfErr result (TellsKnown at bytes.now false) }
     ensures appends { StartsWith made.new.items made.old.items }
