@@ -34,7 +34,7 @@ pub fn steps_of<'b, 'a>(
 {
     let known = FirstPlaces::of(alloc, calls)?;
     let named = FirstPlaces::of(alloc, turns)?;
-    let mut steps = Vec::new(alloc);
+    let mut steps = Vec::with_capacity(alloc, turns.len())?;
     let mut place = 0;
     'turns: while place < turns.len() {
         match step_at(alloc, calls, turns, &known, &named, place) {

@@ -31,7 +31,7 @@ pub fn read_calls<'a>(
         (CallsFault (transcript_of transcript.now)) }
 {
     let ends = FirstPlaces::of(alloc, &transcript.marks)?;
-    let mut calls = Vec::new(alloc);
+    let mut calls = Vec::with_capacity(alloc, transcript.marks.len() / 2)?;
     let mut place = 0;
     'marks: while place < transcript.marks.len() {
         if let Some(call) = read_mark(alloc, &transcript.marks, &ends, place)? {

@@ -16,10 +16,10 @@ returns-in_err-call-clause-read c recorded =
     (map call_of c.marks.calls.items) c.from_residual-in_err-call.result c.in_err-call.field-0.0 c.deref-in-marks.ensures.value e c.in_err-call.ensures c.marks.invariant
 
 pub marks-preserved : goal.marks-preserved
-marks-preserved c = elim c.match-branch-3.branch [
-  | in-Some+in_ok-push w ↦ read_more c.deref-in-marks.result.now c.args.transcript.now.marks.items c.marks.place c.marks.calls.items c.match-branch-3.calls.items c.in_ok-call.field-0 w.in-Some.call
+marks-preserved c = elim c.match-branch-4.branch [
+  | in-Some+in_ok-push w ↦ read_more c.deref-in-marks.result.now c.args.transcript.now.marks.items c.marks.place c.marks.calls.items c.match-branch-4.calls.items c.in_ok-call.field-0 w.in-Some.call
       c.deref-in-marks.ensures.value w.in-Some.is (ap (λ (v : Vec Call Global). v.items) w.calls-is ∙ w.in_ok-push.ensures.items) c.in_ok-call.ensures c.marks.invariant
-  | in_default w ↦ read_past c.deref-in-marks.result.now c.args.transcript.now.marks.items c.marks.place c.marks.calls.items c.match-branch-3.calls.items c.in_ok-call.field-0
+  | in_default w ↦ read_past c.deref-in-marks.result.now c.args.transcript.now.marks.items c.marks.place c.marks.calls.items c.match-branch-4.calls.items c.in_ok-call.field-0
       c.deref-in-marks.ensures.value w.in_default.is (ap (λ (v : Vec Call Global). v.items) w.calls-is) c.in_ok-call.ensures c.marks.invariant
 ]
 
