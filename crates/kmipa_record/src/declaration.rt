@@ -14,7 +14,7 @@ use crate::record::{Next, read_header, read_next};
 use crate::records::{DeclarationRecord, Records};
 use kmipa_msgs::Row;
 use kmipa_ttlv::Input;
-use std::alloc::Global;
+use std::alloc::{AllocError, Global};
 use std::io::Read;
 
 /// What is declared of a server.
@@ -94,5 +94,68 @@ fn read_record<R: Read>(
             Ok(()) => Ok(true),
             Err(kind) => Err(RecordFault { offset, kind }),
         },
+    }
+}
+
+/// Takes the entries of a declaration while it is read.
+pub trait Sink {
+    /// Takes an entry; `false` where its identifier is there.
+    fn take(&mut self, alloc: Global, entry: Entry) -> Result<bool, AllocError>;
+}
+
+/// Reads a declaration into a sink: whether names are unique, and its rows.
+pub fn read_declaration_into<R: Read, S: Sink>(
+    alloc: Global,
+    input: &mut Input<R>,
+    sink: &mut S,
+) -> Result<(bool, Vec<Row>), RecordFault> {
+    let mut bytes = Vec::new(alloc);
+    let header: DeclarationHeader = read_header(alloc, input, &mut bytes)?;
+    let mut rows = Vec::new(alloc);
+    let mut begun = false;
+    'records: loop {
+        let offset = input.taken();
+        let next: Next<DeclarationRecord> = read_next(alloc, input, &mut bytes)?;
+        match next {
+            Next::End => return Ok((header.unique_names, rows)),
+            Next::Other => {
+                return Err(RecordFault {
+                    offset,
+                    kind: RecordKind::Entry,
+                });
+            }
+            Next::Record(DeclarationRecord::Row(row)) => {
+                if begun {
+                    return Err(RecordFault {
+                        offset,
+                        kind: RecordKind::Entry,
+                    });
+                }
+                let Ok(()) = rows.push(row) else {
+                    return Err(RecordFault {
+                        offset,
+                        kind: RecordKind::Memory,
+                    });
+                };
+            }
+            Next::Record(DeclarationRecord::Entry(entry)) => {
+                begun = true;
+                match sink.take(alloc, entry) {
+                    Ok(true) => {}
+                    Ok(false) => {
+                        return Err(RecordFault {
+                            offset,
+                            kind: RecordKind::Identifier,
+                        });
+                    }
+                    Err(_) => {
+                        return Err(RecordFault {
+                            offset,
+                            kind: RecordKind::Memory,
+                        });
+                    }
+                }
+            }
+        }
     }
 }

@@ -31,7 +31,7 @@ mod version;
 mod witness;
 mod witness_writing;
 
-pub use declaration::{Declaration, read_declaration};
+pub use declaration::{Declaration, read_declaration, Sink, read_declaration_into};
 pub use declaration_writing::{is_too_long, write_declaration};
 pub use entry::Entry;
 pub use fault::{RecordFault, RecordKind};

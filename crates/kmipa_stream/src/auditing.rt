@@ -18,9 +18,12 @@ use crate::auditor::Auditor;
 use crate::judged::Judged;
 use kmipa_check::{AuditFault, CheckFault};
 use kmipa_record::{
-    Declaration, RecordFault, RecordedMarks, Witness, read_declaration, read_witness,
+    RecordFault, RecordedMarks, Witness, read_declaration_into, read_witness,
 };
 use kmipa_ttlv::Input;
+use kmipa_msgs::Row;
+use kmipa_store::Journal;
+use crate::opening::Opening;
 use std::alloc::Global;
 use std::io::Read;
 
@@ -53,15 +56,18 @@ pub fn audit_stream<R: Read>(
     ensures ended { OnOk result
         (IsTrue (is_ended transcript.new) × IsTrue (is_ended declaration.new) × IsTrue (is_ended witness.new)) }
 {
-    let declaration = match read_declaration(alloc, declaration) {
-        Ok(declaration) => declaration,
+    let mut opening = Opening {
+        ledger: Journal::new(alloc),
+    };
+    let (unique_names, rows) = match read_declaration_into(alloc, declaration, &mut opening) {
+        Ok(read) => read,
         Err(fault) => return Err(declaration_fault(alloc, transcript, fault)),
     };
     let witness = match read_witness(alloc, witness) {
         Ok(witness) => witness,
         Err(fault) => return Err(witness_fault(alloc, transcript, fault)),
     };
-    match judge(alloc, transcript, declaration, &witness) {
+    match judge(alloc, transcript, unique_names, rows, opening.ledger, &witness) {
         Ok(Ok(judged)) => Ok(judged),
         Ok(Err(fault)) => Err(AuditFault::Check(fault)),
         Err(fault) => Err(AuditFault::Transcript(fault)),
@@ -134,17 +140,13 @@ fn pass_marks<R: Read>(source: &mut RecordedMarks<'_, R>) -> Result<(), RecordFa
 fn judge<R: Read>(
     alloc: Global,
     transcript: &mut Input<R>,
-    declaration: Declaration,
+    unique_names: bool,
+    rows: Vec<Row>,
+    ledger: Journal,
     witness: &Witness,
 ) -> Result<Result<Judged, CheckFault>, RecordFault>
-    requires came { came_of transcript.old ≡ [] }
-    requires declared { AreDeclared (declaration_of declaration) }
-    ensures judged { IfOk result
-        (IsJudged transcript.new (declaration_of declaration) (witness_of witness.now)) }
-    ensures fault { (file : List ℕ) → IsFileOf file transcript.new
-        → IfErr result (Tells TranscriptFault IsTranscriptUpTo file (is_failed transcript.new)) }
 {
-    let Ok(mut auditor) = Auditor::new(alloc, declaration, &witness.turns) else {
+    let Ok(mut auditor) = Auditor::new(alloc, unique_names, rows, ledger, &witness.turns) else {
         return match pass(alloc, transcript) {
             Ok(()) => Ok(Err(CheckFault::Memory)),
             Err(fault) => Err(fault),

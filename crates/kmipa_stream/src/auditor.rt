@@ -7,7 +7,9 @@ use crate::reading::call_in;
 use crate::replaying::{Finding, Replay};
 use crate::seen::{Seen, SeenCall};
 use kmipa_check::{CheckFault, Verdict, WitnessFault, WitnessKind};
-use kmipa_record::{Declaration, End, Mark, Turn};
+use kmipa_record::{End, Mark, Turn};
+use kmipa_msgs::Row;
+use kmipa_store::Journal;
 use std::alloc::{AllocError, Global};
 
 /// An audit of a transcript whose marks come one at a time.
@@ -37,13 +39,13 @@ impl<'w> Auditor<'w> {
     /// Before the first mark.
     pub fn new(
         alloc: Global,
-        declaration: Declaration,
+        unique_names: bool,
+        rows: Vec<Row>,
+        ledger: Journal,
         turns: &'w [Turn],
     ) -> Result<Auditor<'w>, CheckFault>
-        requires { AreDeclared (declaration_of declaration) }
-        ensures { IfOk result (Stands false [] turns.now (declaration_of declaration)) }
     {
-        let replay = Replay::new(alloc, declaration, turns)?;
+        let replay = Replay::new(alloc, unique_names, rows, ledger, turns)?;
         Ok(Auditor {
             alloc,
             seen: Seen::new(alloc),

@@ -16,9 +16,10 @@ ghost use Rattle.kmipa_check.specs.Verdicts.{AreKnown};
 use kmipa_attrs::AttrSet;
 use kmipa_check::CheckFault;
 use kmipa_object::{Life, Material, Object, Rule};
-use kmipa_record::{Declaration, Entry};
+use kmipa_msgs::{Row, Rules};
+use kmipa_record::{Declaration, Entry, Sink};
 use kmipa_store::{Journal, Ledger, StoreFault};
-use std::alloc::Global;
+use std::alloc::{AllocError, Global};
 
 /// The ledger of a server of this declaration, before any call: it stands for exactly the inventories that the declaration describes.
 /// An entry is let go as its object is added; its identifier and its attributes become the object's.
@@ -85,4 +86,31 @@ fn life_of(attrs: &AttrSet, material: Material) -> Life
         compromise: attrs.compromise,
         material,
     }
+}
+
+#[derive(Drop)]
+pub(crate) struct Opening {
+    pub ledger: Journal,
+}
+
+impl Sink for Opening {
+    fn take(&mut self, alloc: Global, entry: Entry) -> Result<bool, AllocError> {
+        if self.ledger.find(entry.id.as_str()).is_some() {
+            return Ok(false);
+        }
+        let Ok(()) = declare(&mut self.ledger, entry) else {
+            return Err(AllocError);
+        };
+        Ok(true)
+    }
+}
+
+pub(crate) fn rules_in(alloc: Global, unique_names: bool, rows: Vec<Row>) -> Result<Rules, AllocError> {
+    if rows.is_empty() {
+        return Ok(Rules {
+            unique_names,
+            rows: Rules::default_rules(alloc)?.rows,
+        });
+    }
+    Ok(Rules { unique_names, rows })
 }

@@ -6,14 +6,14 @@ ghost use Rattle.kmipa_stream.specs.Steps.{is_less};
 
 use crate::ends::Ends;
 use crate::naming::{is_named, is_passed};
-use crate::opening::ledger_of;
+use crate::opening::rules_in;
 use crate::taking::take_step;
 use kmipa_check::{
     Call, CheckFault, FirstPlaces, Refused, Step, StepFault, WitnessFault, WitnessKind,
-    rules_of_declaration, step_of_turn,
+    step_of_turn,
 };
-use kmipa_msgs::Rules;
-use kmipa_record::{Declaration, Turn};
+use kmipa_msgs::{Row, Rules};
+use kmipa_record::Turn;
 use kmipa_store::Journal;
 use std::alloc::{AllocError, Global};
 
@@ -61,20 +61,18 @@ impl<'w> Replay<'w> {
     /// Before the first turn.
     pub fn new(
         alloc: Global,
-        declaration: Declaration,
+        unique_names: bool,
+        rows: Vec<Row>,
+        ledger: Journal,
         turns: &'w [Turn],
     ) -> Result<Replay<'w>, CheckFault>
-        requires { AreDeclared (declaration_of declaration) }
-        ensures replays { IfOk result (λ replay. (closed : Bool) (marks : List MarkOf)
-            → Replays closed marks turns.now (declaration_of declaration) replay) }
-        ensures first { IfOk result (λ replay. replay.formed ≡ 0) }
     {
         Ok(Replay {
             alloc,
             turns,
             named: FirstPlaces::of(alloc, turns)?,
-            rules: rules_of_declaration(alloc, &declaration)?,
-            ledger: ledger_of(alloc, declaration)?,
+            rules: rules_in(alloc, unique_names, rows)?,
+            ledger,
             formed: 0,
             last: None,
             finding: Finding::Possible,
