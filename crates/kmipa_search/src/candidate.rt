@@ -25,7 +25,8 @@ impl<'b, 'a> Candidate<'b, 'a> {
 
     /// A call, as a search takes it; an open one is left out.
     pub fn of(call: &'b Call<'a>) -> Option<Candidate<'b, 'a>>
-        ensures { MatchOption result (IsOpen (call_of call.now)) (λ own. (own_call own ≡ call_of call.now) × (candidate_call own ≡ call_of call.now)) }
+        ensures { MatchOption result (IsOpen (call_of call.now))
+            (λ own. (own_call own ≡ call_of call.now) × (candidate_call own ≡ call_of call.now)) }
     {
         let end = call.end?;
         match &call.response {

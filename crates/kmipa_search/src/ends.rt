@@ -207,7 +207,8 @@ impl Ends {
         front: Option<usize>,
     ) -> Result<(), AllocError>
         requires { IsSound (L.state ledger.now).now }
-        ensures { (places : List ℕ) → IsSetOf places set → IsNoted front self.old.ends.items places (L.state ledger.now).now self.new.ends.items }
+        ensures { (places : List ℕ) → IsSetOf places set
+            → IsNoted front self.old.ends.items places (L.state ledger.now).now self.new.ends.items }
     {
         self.bytes = self.bytes.saturating_add(cost(&set, ledger.len()));
         match front {
@@ -226,7 +227,8 @@ impl Ends {
         front: usize,
     ) -> Result<(), AllocError>
         requires { IsSound (L.state ledger.now).now }
-        ensures { (places : List ℕ) → IsSetOf places set → IsNoted (Some front) self.old.ends.items places (L.state ledger.now).now self.new.ends.items }
+        ensures { (places : List ℕ) → IsSetOf places set
+            → IsNoted (Some front) self.old.ends.items places (L.state ledger.now).now self.new.ends.items }
     {
         let room = MOST_BYTES.saturating_sub(self.bytes);
         match self.pool.share_all(alloc, ledger, front, room)? {

@@ -48,7 +48,8 @@ fn are_apart(alloc: Global, calls: &[Candidate]) -> Result<bool, AllocError>
 /// Whether a call has another stamp than one that began after it, or ended before it.
 fn is_apart(calls: &[Candidate], first: usize, second: usize) -> bool
     ensures { first < length calls.now → second < length calls.now
-        → result ≡ parts (step_at (map candidate_step calls.now) first) (step_at (map candidate_step calls.now) second) }
+        → result
+        ≡ parts (step_at (map candidate_step calls.now) first) (step_at (map candidate_step calls.now) second) }
 {
     if first >= calls.len() {
         return true;

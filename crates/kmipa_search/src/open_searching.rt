@@ -61,7 +61,8 @@ fn search_other<W: Watch>(
 ) -> Result<Found, CheckFault>
     requires declared { AreDeclared (declaration_of declaration.now) }
     requires each { All (IsRecorded (transcript_of transcript.now)) (map call_of calls.now) }
-    ensures { AreRecorded (transcript_of transcript.now) → AreCalls (transcript_of transcript.now) (map call_of calls.now)
+    ensures { AreRecorded (transcript_of transcript.now)
+        → AreCalls (transcript_of transcript.now) (map call_of calls.now)
         → AreNotPlain (map call_of calls.now)
         → Searches (transcript_of transcript.now) (declaration_of declaration.now) budget result }
 {

@@ -50,7 +50,8 @@ pub fn find_order<L: Ledger, W: Watch>(
     requires sound { IsSound (L.state ledger.old).now }
     requires readable { AllReadable (map candidate_step calls.now) }
     ensures within { IfOk result (λ l. IfSome l.order (λ o. All (λ p. p < length calls.now) o.items)) }
-    ensures tells { (declared : DeclarationOf) → Opens declared (rules_of rules.now) (map candidate_step calls.now) (L.state ledger.old).now
+    ensures tells { (declared : DeclarationOf)
+        → Opens declared (rules_of rules.now) (map candidate_step calls.now) (L.state ledger.old).now
         → TellsOutcome declared (map candidate_step calls.now) budget result }
 {
     let mut remaining = Remaining::new(alloc, calls)?;
@@ -139,7 +140,8 @@ pub fn try_call<L: Ledger>(
 ) -> Result<Option<usize>, CheckFault>
     requires sound { IsSound (L.state ledger.old).now }
     requires readable { IsReadableCall (candidate_step call.now).request (candidate_step call.now).response }
-    ensures { CallTried (rules_of rules.now) (L.state ledger.old) (candidate_step call.now) result (L.state ledger.new) }
+    ensures { CallTried (rules_of rules.now) (L.state ledger.old) (candidate_step call.now) result
+        (L.state ledger.new) }
 {
     let Ok(mark) = ledger.mark() else {
         return Err(CheckFault::Memory);

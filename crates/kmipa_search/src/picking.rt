@@ -28,10 +28,12 @@ pub fn pick_left(
     left: usize,
     late: bool,
 ) -> Option<Pick>
-    ensures picked { (taken : List ℕ) → AreBegun (map candidate_step calls.now) → AreRemaining (map candidate_step calls.now) taken remaining.now
+    ensures picked { (taken : List ℕ) → AreBegun (map candidate_step calls.now)
+        → AreRemaining (map candidate_step calls.now) taken remaining.now
         → IsCursor (map candidate_step calls.now) taken tried.from
         → IsRanked (length (map candidate_step calls.now)) InAnyOrder wishes.now.order.items wishes.now.rank.items
-        → WereLinked (length (map candidate_step calls.now)) wishes.now.rank.items taken by_wish.now.after.items by_wish.now.before.items
+        → WereLinked (length (map candidate_step calls.now)) wishes.now.rank.items taken by_wish.now.after.items
+        by_wish.now.before.items
         → IsPicked (map candidate_step calls.now) taken wishes.now.rank.items tried result }
     ensures within { IfSome result (λ pick. pick.place < length calls.now) }
 {
@@ -51,10 +53,12 @@ fn pick_wished(
     by_wish: &Links,
     tried: Tried,
 ) -> Option<Pick>
-    ensures picked { (taken : List ℕ) → AreBegun (map candidate_step calls.now) → AreRemaining (map candidate_step calls.now) taken remaining.now
+    ensures picked { (taken : List ℕ) → AreBegun (map candidate_step calls.now)
+        → AreRemaining (map candidate_step calls.now) taken remaining.now
         → IsCursor (map candidate_step calls.now) taken tried.from
         → IsRanked (length (map candidate_step calls.now)) InAnyOrder wishes.now.order.items wishes.now.rank.items
-        → WereLinked (length (map candidate_step calls.now)) wishes.now.rank.items taken by_wish.now.after.items by_wish.now.before.items
+        → WereLinked (length (map candidate_step calls.now)) wishes.now.rank.items taken by_wish.now.after.items
+        by_wish.now.before.items
         → IsPicked (map candidate_step calls.now) taken wishes.now.rank.items tried result }
     ensures within { IfSome result (λ pick. pick.place < length calls.now) }
 {
@@ -84,7 +88,8 @@ fn most_wished(
 ) -> Option<usize>
     ensures most { (taken : List ℕ) → AreRemaining (map candidate_step calls.now) taken remaining.now
         → IsRanked (length (map candidate_step calls.now)) InAnyOrder wishes.now.order.items wishes.now.rank.items
-        → WereLinked (length (map candidate_step calls.now)) wishes.now.rank.items taken by_wish.now.after.items by_wish.now.before.items
+        → WereLinked (length (map candidate_step calls.now)) wishes.now.rank.items taken by_wish.now.after.items
+        by_wish.now.before.items
         → IsMostWished (map candidate_step calls.now) taken wishes.now.rank.items tried result }
     ensures within { IfSome result (λ place. place < length calls.now) }
 {
@@ -119,10 +124,13 @@ fn is_open(
     ensures from { result ≡ true → tried.from ≤ place }
     ensures within { result ≡ true → place < length calls.now }
     ensures yes { result ≡ true → least < length calls.now → soonest < length calls.now
-        → allows (step_at (map candidate_step calls.now) place) (step_at (map candidate_step calls.now) least) (step_at (map candidate_step calls.now) soonest) ≡ true }
-    ensures no { result ≡ false → tried.done < rank → tried.from ≤ place → place < length calls.now → least < length calls.now
+        → allows (step_at (map candidate_step calls.now) place) (step_at (map candidate_step calls.now) least)
+        (step_at (map candidate_step calls.now) soonest) ≡ true }
+    ensures no { result ≡ false → tried.done < rank → tried.from ≤ place → place < length calls.now
+        → least < length calls.now
         → soonest < length calls.now
-        → allows (step_at (map candidate_step calls.now) place) (step_at (map candidate_step calls.now) least) (step_at (map candidate_step calls.now) soonest) ≡ false }
+        → allows (step_at (map candidate_step calls.now) place) (step_at (map candidate_step calls.now) least)
+        (step_at (map candidate_step calls.now) soonest) ≡ false }
 {
     if rank <= tried.done {
         return false;
@@ -141,7 +149,8 @@ pub fn pick(
     tried: Tried,
     late: bool,
 ) -> Option<Pick>
-    ensures picked { (taken : List ℕ) → AreBegun (map candidate_step calls.now) → AreRemaining (map candidate_step calls.now) taken remaining.now
+    ensures picked { (taken : List ℕ) → AreBegun (map candidate_step calls.now)
+        → AreRemaining (map candidate_step calls.now) taken remaining.now
         → IsCursor (map candidate_step calls.now) taken tried.from → IsPreferred (length calls.now) wishes.now
         → IsPicked (map candidate_step calls.now) taken wishes.now.rank.items tried result }
     ensures within { IfSome result (λ pick. pick.place < length calls.now) }
@@ -177,8 +186,10 @@ pub fn pick(
 
 /// The first next call that was not tried.
 fn first(remaining: &Remaining, calls: &[Candidate], wishes: &Ranks, tried: Tried) -> Option<usize>
-    ensures first { (taken : List ℕ) → AreBegun (map candidate_step calls.now) → AreRemaining (map candidate_step calls.now) taken remaining.now
-        → IsCursor (map candidate_step calls.now) taken tried.from → IsFirst (map candidate_step calls.now) taken wishes.now.rank.items tried result }
+    ensures first { (taken : List ℕ) → AreBegun (map candidate_step calls.now)
+        → AreRemaining (map candidate_step calls.now) taken remaining.now
+        → IsCursor (map candidate_step calls.now) taken tried.from
+        → IsFirst (map candidate_step calls.now) taken wishes.now.rank.items tried result }
     ensures within { IfSome result (λ place. place < length calls.now) }
 {
     let mut from = tried.from;
@@ -199,8 +210,10 @@ fn first(remaining: &Remaining, calls: &[Candidate], wishes: &Ranks, tried: Trie
 
 /// The next call that was not tried and is wished most; or the number of calls, where there is none, or too many may be next.
 fn best(remaining: &Remaining, calls: &[Candidate], wishes: &Ranks, tried: Tried) -> usize
-    ensures { (taken : List ℕ) → AreBegun (map candidate_step calls.now) → AreRemaining (map candidate_step calls.now) taken remaining.now
-        → IsCursor (map candidate_step calls.now) taken tried.from → IsBest (map candidate_step calls.now) taken wishes.now.rank.items tried result }
+    ensures { (taken : List ℕ) → AreBegun (map candidate_step calls.now)
+        → AreRemaining (map candidate_step calls.now) taken remaining.now
+        → IsCursor (map candidate_step calls.now) taken tried.from
+        → IsBest (map candidate_step calls.now) taken wishes.now.rank.items tried result }
 {
     let mut from = tried.from;
     let mut best = calls.len();

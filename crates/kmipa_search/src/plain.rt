@@ -15,7 +15,9 @@ pub fn candidates<'b, 'a>(
     alloc: Global,
     calls: &'b [Call<'a>],
 ) -> Result<Option<Vec<Candidate<'b, 'a>>>, AllocError>
-    ensures { IfOk result (λ reported. MatchOption reported (AreNotPlain (map call_of calls.now)) (λ own. ArePlain (map call_of calls.now) (map candidate_step own.items))) }
+    ensures { IfOk result
+        (λ reported. MatchOption reported (AreNotPlain (map call_of calls.now))
+        (λ own. ArePlain (map call_of calls.now) (map candidate_step own.items))) }
 {
     let mut own = Vec::with_capacity(alloc, calls.len())?;
     'calls: for call in calls {
@@ -29,7 +31,8 @@ pub fn candidates<'b, 'a>(
 
 /// The call as a search takes it, where it is plain.
 fn candidate_of<'b, 'a>(call: &'b Call<'a>) -> Option<Candidate<'b, 'a>>
-    ensures { MatchOption result (IsNotPlain (call_of call.now)) (λ own. IsPlainStep (call_of call.now) (candidate_step own)) }
+    ensures { MatchOption result (IsNotPlain (call_of call.now))
+        (λ own. IsPlainStep (call_of call.now) (candidate_step own)) }
 {
     if is_unordered(&call.request) {
         return None;

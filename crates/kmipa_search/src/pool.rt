@@ -78,7 +78,9 @@ impl Pool {
     ) -> Result<Rc<Still>, AllocError>
         requires { (secret : SecretNo) → object.now.life.material ≡ Secret secret
             → secret.number < length (L.state ledger.now).now.secrets }
-        ensures { IfOk result (λ state. IsAlikeAt front place (still_shared state) (still (L.state ledger.now).now.secrets (held object.now))) }
+        ensures { IfOk result
+            (λ state. IsAlikeAt front place (still_shared state)
+            (still (L.state ledger.now).now.secrets (held object.now))) }
     {
         if let Some(states) = self.places.get(place) {
             if let Some(state) = state_among(ledger, object, states.as_slice(), place, front) {
@@ -115,7 +117,8 @@ fn state_among<'s, L: Ledger>(
     requires { (secret : SecretNo) → object.now.life.material ≡ Secret secret
         → secret.number < length (L.state ledger.now).now.secrets }
     ensures { IfSome result
-        (λ state. IsAlikeAt front at (still_shared state.now) (still (L.state ledger.now).now.secrets (held object.now))) }
+        (λ state. IsAlikeAt front at (still_shared state.now)
+        (still (L.state ledger.now).now.secrets (held object.now))) }
 {
     let mut place = states.len();
     let mut compared = 0;

@@ -22,7 +22,9 @@ impl Ranks {
 
     /// By stamps, and calls of one stamp by their places.
     pub fn by_stamp(alloc: Global, calls: &[Candidate]) -> Result<Ranks, AllocError>
-        ensures { IfOk result (λ r. IsRanked (length calls.now) (ByStamp (map candidate_step calls.now)) r.order.items r.rank.items × HasRank (length calls.now) r.rank.items) }
+        ensures { IfOk result
+            (λ r. IsRanked (length calls.now) (ByStamp (map candidate_step calls.now)) r.order.items r.rank.items
+            × HasRank (length calls.now) r.rank.items) }
     {
         let mut keys = Vec::new(alloc);
         let mut place = 0;
@@ -40,7 +42,9 @@ impl Ranks {
 
     /// By ends.
     pub fn by_end(alloc: Global, calls: &[Candidate]) -> Result<Ranks, AllocError>
-        ensures { IfOk result (λ r. IsRanked (length calls.now) (ByEnd (map candidate_step calls.now)) r.order.items r.rank.items × HasRank (length calls.now) r.rank.items) }
+        ensures { IfOk result
+            (λ r. IsRanked (length calls.now) (ByEnd (map candidate_step calls.now)) r.order.items r.rank.items
+            × HasRank (length calls.now) r.rank.items) }
     {
         let mut keys = Vec::new(alloc);
         let mut place = 0;
@@ -58,7 +62,9 @@ impl Ranks {
 
     /// Calls without effect first, and each by its end.
     pub fn by_wish(alloc: Global, calls: &[Candidate]) -> Result<Ranks, AllocError>
-        ensures { IfOk result (λ r. IsRanked (length calls.now) InAnyOrder r.order.items r.rank.items × HasRank (length calls.now) r.rank.items) }
+        ensures { IfOk result
+            (λ r. IsRanked (length calls.now) InAnyOrder r.order.items r.rank.items
+            × HasRank (length calls.now) r.rank.items) }
     {
         let mut keys = Vec::new(alloc);
         let mut place = 0;
@@ -77,7 +83,9 @@ impl Ranks {
     /// These places, each of which stands once, in their order.
     fn of(alloc: Global, places: &[usize]) -> Result<Ranks, AllocError>
         requires { length places.now < 2 ^ 62 }
-        ensures { IfOk result (λ r. (r.order.items ≡ 0 ∷ places.now) × (AllPairs (λ x y. x ≢ y) places.now → AreNoted places.now (length places.now) r.rank.items)) }
+        ensures { IfOk result
+            (λ r. (r.order.items ≡ 0 ∷ places.now)
+            × (AllPairs (λ x y. x ≢ y) places.now → AreNoted places.now (length places.now) r.rank.items)) }
     {
         let mut order = Vec::new(alloc);
         order.push(0)?;

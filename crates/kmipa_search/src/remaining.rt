@@ -42,8 +42,10 @@ impl Remaining {
 
     /// The first next call from a place on: after a next one, or from the first on.
     pub fn next(&self, calls: &[Candidate], from: usize) -> Option<usize>
-        ensures next { (taken : List ℕ) → AreBegun (map candidate_step calls.now) → AreRemaining (map candidate_step calls.now) taken self.now
-            → IsCursor (map candidate_step calls.now) taken from → IsNextFrom (map candidate_step calls.now) taken from result }
+        ensures next { (taken : List ℕ) → AreBegun (map candidate_step calls.now)
+            → AreRemaining (map candidate_step calls.now) taken self.now
+            → IsCursor (map candidate_step calls.now) taken from
+            → IsNextFrom (map candidate_step calls.now) taken from result }
         ensures within { IfSome result (λ p. p < length calls.now) }
     {
         let behind = self.stamps.rank_from(from);
@@ -82,7 +84,8 @@ impl Remaining {
 
     /// A next call is taken.
     pub fn take(&mut self, calls: &[Candidate], place: usize)
-        ensures { (taken : List ℕ) → AreRemaining (map candidate_step calls.now) taken self.old → IsNext (map candidate_step calls.now) taken place
+        ensures { (taken : List ℕ) → AreRemaining (map candidate_step calls.now) taken self.old
+            → IsNext (map candidate_step calls.now) taken place
             → AreRemaining (map candidate_step calls.now) (place ∷ taken) self.new }
     {
         self.by_stamp.remove(self.stamps.rank(place));
@@ -91,8 +94,10 @@ impl Remaining {
 
     /// The call that was taken last remains again.
     pub fn give_back(&mut self, calls: &[Candidate], place: usize)
-        ensures remaining { (taken : List ℕ) → AreRemaining (map candidate_step calls.now) (place ∷ taken) self.old → AreRemaining (map candidate_step calls.now) taken self.new }
-        ensures cursor { (taken : List ℕ) → AreRemaining (map candidate_step calls.now) (place ∷ taken) self.old → IsNext (map candidate_step calls.now) taken place }
+        ensures remaining { (taken : List ℕ) → AreRemaining (map candidate_step calls.now) (place ∷ taken) self.old
+            → AreRemaining (map candidate_step calls.now) taken self.new }
+        ensures cursor { (taken : List ℕ) → AreRemaining (map candidate_step calls.now) (place ∷ taken) self.old
+            → IsNext (map candidate_step calls.now) taken place }
     {
         self.by_stamp.restore(self.stamps.rank(place));
         self.by_end.restore(self.ends.rank(place));
@@ -107,7 +112,9 @@ ghost use Rattle.kmipa_search.specs.Ranks.{allows};
 /// Whether the call at a place is a next one, where those at these places have the least stamp and the least end.
 pub fn leads(calls: &[Candidate], place: usize, least: usize, soonest: usize) -> bool
     ensures reported { place < length calls.now → least < length calls.now → soonest < length calls.now
-        → result ≡ allows (step_at (map candidate_step calls.now) place) (step_at (map candidate_step calls.now) least) (step_at (map candidate_step calls.now) soonest) }
+        → result
+        ≡ allows (step_at (map candidate_step calls.now) place) (step_at (map candidate_step calls.now) least)
+        (step_at (map candidate_step calls.now) soonest) }
     ensures within { result ≡ true → place < length calls.now }
 {
     if place >= calls.len() {

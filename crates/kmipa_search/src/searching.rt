@@ -46,7 +46,8 @@ pub fn search(
     budget: u64,
 ) -> Result<Found, CheckFault>
     requires { AreDeclared (declaration_of declaration.now) }
-    ensures { AreRecorded (transcript_of transcript.now) → Searches (transcript_of transcript.now) (declaration_of declaration.now) budget result }
+    ensures { AreRecorded (transcript_of transcript.now)
+        → Searches (transcript_of transcript.now) (declaration_of declaration.now) budget result }
 {
     search_watched(alloc, transcript, declaration, budget, &mut Unwatched {})
 }
@@ -60,7 +61,8 @@ pub fn search_watched<W: Watch>(
     watch: &mut W,
 ) -> Result<Found, CheckFault>
     requires { AreDeclared (declaration_of declaration.now) }
-    ensures { AreRecorded (transcript_of transcript.now) → Searches (transcript_of transcript.now) (declaration_of declaration.now) budget result }
+    ensures { AreRecorded (transcript_of transcript.now)
+        → Searches (transcript_of transcript.now) (declaration_of declaration.now) budget result }
 {
     check_laws();
     let calls = read_calls(alloc, transcript)?;
@@ -169,7 +171,8 @@ fn search_waiting<W: Watch>(
 ) -> Result<Found, CheckFault>
     requires declared { AreDeclared (declaration_of declaration.now) }
     requires each { All (IsRecorded (transcript_of transcript.now)) (map call_of calls.now) }
-    ensures { AreRecorded (transcript_of transcript.now) → AreCalls (transcript_of transcript.now) (map call_of calls.now) → AreNotPlain (map call_of calls.now)
+    ensures { AreRecorded (transcript_of transcript.now)
+        → AreCalls (transcript_of transcript.now) (map call_of calls.now) → AreNotPlain (map call_of calls.now)
         → Searches (transcript_of transcript.now) (declaration_of declaration.now) budget result }
 {
     check_laws();
@@ -196,7 +199,8 @@ pub fn try_witness(
     steps: u64,
 ) -> Result<Found, CheckFault>
     requires { AreDeclared (declaration_of declaration.now) }
-    ensures { AreRecorded (transcript_of transcript.now) → IsTried (transcript_of transcript.now) (declaration_of declaration.now) witness steps result }
+    ensures { AreRecorded (transcript_of transcript.now)
+        → IsTried (transcript_of transcript.now) (declaration_of declaration.now) witness steps result }
 {
     match check(alloc, transcript, declaration, &witness) {
         Ok(Verdict::Yes) => {

@@ -50,7 +50,8 @@ fn are_told<L: Ledger>(ledger: &L) -> bool
 
 /// The same of one object.
 fn is_told<L: Ledger>(ledger: &L, object: &Object) -> bool
-    requires { (secret : SecretNo) → object.now.life.material ≡ Secret secret → secret.number < length (L.state ledger.now).now.secrets }
+    requires { (secret : SecretNo) → object.now.life.material ≡ Secret secret
+        → secret.number < length (L.state ledger.now).now.secrets }
     ensures { result ≡ true → IsTold (L.state ledger.now).now.secrets object.now.life.material }
 {
     match object.life.material {
@@ -79,7 +80,8 @@ fn are_apart<L: Ledger>(alloc: Global, ledger: &L, calls: &[Candidate]) -> Resul
 
 /// Whether a call changes nothing, or one object alone, whose place has no mark; it has one then.
 fn is_apart<L: Ledger>(ledger: &L, call: &Candidate, marks: &mut Vec<bool>) -> bool
-    ensures { Marks (cards_of (L.state ledger.now).now.objects) (candidate_step call.now) marks.old.items result marks.new.items }
+    ensures { Marks (cards_of (L.state ledger.now).now.objects) (candidate_step call.now) marks.old.items result
+        marks.new.items }
 {
     match target_of(call) {
         Some(id) => match ledger.find(id) {

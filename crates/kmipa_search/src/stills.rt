@@ -27,7 +27,8 @@ pub struct Still {
 
 /// A copy of an object, as it stands.
 pub fn copy_of<L: Ledger>(alloc: Global, ledger: &L, object: &Object) -> Result<Still, AllocError>
-    requires { (secret : SecretNo) → object.now.life.material ≡ Secret secret → secret.number < length (L.state ledger.now).now.secrets }
+    requires { (secret : SecretNo) → object.now.life.material ≡ Secret secret
+        → secret.number < length (L.state ledger.now).now.secrets }
     ensures { IfOk result (λ s. still_of s ≡ still (L.state ledger.now).now.secrets (held object.now)) }
 {
     Ok(Still {
@@ -41,7 +42,8 @@ fn copy_known<L: Ledger>(
     ledger: &L,
     material: Material,
 ) -> Result<Option<Vec<u8>>, AllocError>
-    requires { (secret : SecretNo) → material ≡ Secret secret → secret.number < length (L.state ledger.now).now.secrets }
+    requires { (secret : SecretNo) → material ≡ Secret secret
+        → secret.number < length (L.state ledger.now).now.secrets }
     ensures { IfOk result (λ bytes. option_map items_of bytes ≡ bytes_left (L.state ledger.now).now.secrets material) }
 {
     match known_of(ledger, material) {
@@ -52,7 +54,8 @@ fn copy_known<L: Ledger>(
 
 /// The bytes of this material, where they are known.
 pub fn known_of<L: Ledger>(ledger: &L, material: Material) -> Option<&[u8]>
-    requires { (secret : SecretNo) → material ≡ Secret secret → secret.number < length (L.state ledger.now).now.secrets }
+    requires { (secret : SecretNo) → material ≡ Secret secret
+        → secret.number < length (L.state ledger.now).now.secrets }
     ensures { option_map (λ bytes. bytes.now) result ≡ bytes_left (L.state ledger.now).now.secrets material }
 {
     match material {
@@ -90,8 +93,10 @@ pub fn stands_at<L: Ledger>(
     place: usize,
     front: usize,
 ) -> bool
-    requires { (secret : SecretNo) → object.now.life.material ≡ Secret secret → secret.number < length (L.state ledger.now).now.secrets }
-    ensures { result ≡ true → IsAlikeAt front place (still_of kept.now) (still (L.state ledger.now).now.secrets (held object.now)) }
+    requires { (secret : SecretNo) → object.now.life.material ≡ Secret secret
+        → secret.number < length (L.state ledger.now).now.secrets }
+    ensures { result ≡ true
+        → IsAlikeAt front place (still_of kept.now) (still (L.state ledger.now).now.secrets (held object.now)) }
 {
     if place >= front {
         return stands_so(ledger, object, kept);
@@ -106,7 +111,8 @@ pub fn stands_at<L: Ledger>(
 /// Whether an object of a ledger stands as this one does.
 #[inline(always)]
 fn stands_so<L: Ledger>(ledger: &L, object: &Object, kept: &Still) -> bool
-    requires { (secret : SecretNo) → object.now.life.material ≡ Secret secret → secret.number < length (L.state ledger.now).now.secrets }
+    requires { (secret : SecretNo) → object.now.life.material ≡ Secret secret
+        → secret.number < length (L.state ledger.now).now.secrets }
     ensures { result ≡ true → still_of kept.now ≡ still (L.state ledger.now).now.secrets (held object.now) }
 {
     if !is_equal(&kept.object, object) {

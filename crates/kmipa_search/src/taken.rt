@@ -39,7 +39,8 @@ impl TakenCalls {
     /// A call is taken.
     pub fn take(&mut self, place: usize)
         requires { place < 2 ^ 62 }
-        ensures { (count : ℕ) (taken : List ℕ) → AreFlagged count taken self.old → place < count → AreFlagged count (place ∷ taken) self.new }
+        ensures { (count : ℕ) (taken : List ℕ) → AreFlagged count taken self.old → place < count
+            → AreFlagged count (place ∷ taken) self.new }
     {
         mark(&mut self.flags, place, true);
         self.high = above(self.high, place);
@@ -49,7 +50,8 @@ impl TakenCalls {
 
     /// The call that was taken last is left again.
     pub fn give_back(&mut self, place: usize)
-        ensures { (count : ℕ) (taken : List ℕ) → AreFlagged count (place ∷ taken) self.old → (Contains taken place → ⊥) → AreFlagged count taken self.new }
+        ensures { (count : ℕ) (taken : List ℕ) → AreFlagged count (place ∷ taken) self.old → (Contains taken place → ⊥)
+            → AreFlagged count taken self.new }
     {
         mark(&mut self.flags, place, false);
         self.low = lower(self.low, place);
@@ -59,7 +61,8 @@ impl TakenCalls {
 
     /// The set of them, which are so many.
     pub fn set(&self, alloc: Global, count: usize) -> Result<CallSet, AllocError>
-        ensures { (all : ℕ) (taken : List ℕ) → AreFlagged all taken self.now → length taken ≡ count → IfOk result (IsSetOf taken) }
+        ensures { (all : ℕ) (taken : List ℕ) → AreFlagged all taken self.now → length taken ≡ count
+            → IfOk result (IsSetOf taken) }
     {
         Ok(CallSet {
             count,
@@ -76,7 +79,8 @@ impl TakenCalls {
 
     /// Whether they, which are so many, are those of a set.
     pub fn are(&self, set: &CallSet, count: usize) -> bool
-        ensures { (all : ℕ) (taken : List ℕ) → AreFlagged all taken self.now → length taken ≡ count → result ≡ true → IsSetOf taken set.now }
+        ensures { (all : ℕ) (taken : List ℕ) → AreFlagged all taken self.now → length taken ≡ count → result ≡ true
+            → IsSetOf taken set.now }
     {
         if set.count != count {
             return false;
