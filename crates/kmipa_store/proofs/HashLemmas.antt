@@ -1,5 +1,5 @@
 -- Objects found by the hashes of their identifiers.
-use Rattle.std.proofs.Common.{◌≡◌, ◌≢◌, ◌<◌, ◌≤◌, ◌⊎◌, ◌||◌, ◌&&◌, ◌+◌, ℕ, zero, suc, Bool, true, false, cond, List, [], ◌∷◌, ◌++◌, length, take, slice_get, Some, None, bytes_eq, refl, ap, sym, subst, ◌∙◌, inl, inr, arith}
+use Rattle.std.proofs.Common.{◌≡◌, ◌≢◌, ◌<◌, ◌≤◌, ◌||◌, ◌&&◌, ◌+◌, ℕ, zero, suc, Bool, true, false, cond, List, [], ◌∷◌, length, slice_get, Some, None, bytes_eq, refl, ap, sym, subst, ◌∙◌, arith}
 use Rattle.std.specs.declared.cmp.Ordering.TheVariants.{Less, Equal, Greater}
 use Rattle.std.specs.declared.ops.Bound.TheVariants.{Included, Unbounded}
 use Rattle.std.specs.Ordering.{nat_cmp, is_eq, is_le, ordering_then}
@@ -9,20 +9,18 @@ use Rattle.std.specs.List.Sorted.{IsStrictlySortedBy}
 use Rattle.std.proofs.lemmas.List.Kept.{IsStrictlySortedBy-filter}
 use Rattle.std.specs.BTreeMap.{is_at}
 use Rattle.std.specs.BTreeMap.Range.{range_contains}
-use Rattle.std.specs.BTreeSet.{insert_key}
-use Rattle.std.specs.Set.{remove_key}
 use Rattle.std.proofs.lemmas.Bool.{false_from_ne_true}
 use Rattle.std.proofs.lemmas.Cmp.{nat_cmp_total, ranked, tied_itself}
 use Rattle.std.proofs.lemmas.Map.Views.{any-filter_same}
 use Rattle.std.proofs.lemmas.Slice.Eq.{bytes_eq-Decides}
 use Rattle.kmipa_object.specs.Inventory.{Card, place_of}
-use Rattle.kmipa_object.specs.declared.life.Life.{Life}
-use Rattle.kmipa_object.proofs.ListLemmas.{get-append_cases, get-append_old, get_below}
+use Rattle.kmipa_object.proofs.ListLemmas.{get_below}
 use Rattle.kmipa_store.specs.Hashes.{id_hash}
-use Rattle.kmipa_store.specs.Ledger.{Held, cards_of, relived, with_life}
-use Rattle.kmipa_store.specs.Objects.{AreHashed, Hashed, has_id, hashed_cmp, is_hashed}
-use Rattle.kmipa_store.proofs.OrderLemmas.{equal_at, found_inserted, still_found, still_there}
-use Rattle.kmipa_store.proofs.SoundLemmas.{relived_from}
+use Rattle.kmipa_store.specs.Ledger.{Held, cards_of}
+use Rattle.kmipa_store.specs.Objects.{Hashed, has_id, hashed_cmp, is_hashed}
+use Rattle.kmipa_store.specs.Slots.{AreListed, AreNoted}
+use Rattle.kmipa_store.specs.declared.slots.Slots.{Slots}
+use Rattle.kmipa_store.proofs.OrderLemmas.{equal_at}
 
 hashed_total : IsTotalOrder hashed_cmp
 hashed_total = then_total (on_total (λ (x : Hashed). x.0) nat_cmp_total) (on_total (λ (x : Hashed). x.1) nat_cmp_total)
@@ -123,15 +121,16 @@ past_none hash p one rest r other =
 pub record Seeks (objects : List Held) (id : List ℕ) (hash : ℕ) (rest : List Hashed) : Type 0 where
   pub left : (p : ℕ) (h : Held) → slice_get objects p ≡ Some h → bytes_eq id h.card.id ≡ true → is_hashed rest hash p ≡ true
 
-same_id : (id jd : List ℕ) → bytes_eq id jd ≡ true → id ≡ jd
+pub same_id : (id jd : List ℕ) → bytes_eq id jd ≡ true → id ≡ jd
 same_id id jd e = (bytes_eq-Decides id jd).0 e
 
-pub seeks_start : (places : List Hashed) (objects : List Held) (id : List ℕ) (hash : ℕ) (rest : List Hashed) → hash ≡ id_hash id → rest ≡ from_hash hash places
-    → AreHashed places objects → Seeks objects id hash rest
-seeks_start places objects id hash rest is e a = record {
+pub seeks_start : (slots : Slots) (objects : List Held) (id : List ℕ) (hash : ℕ) (rest : List Hashed) → hash ≡ id_hash id → rest ≡ from_hash hash slots.by_hash.keys
+    → AreListed slots objects id → Seeks objects id hash rest
+seeks_start slots objects id hash rest is e listed = record {
   left = λ p h at same.
-      let listed : is_hashed places hash p ≡ true = ap (λ (k : ℕ). is_hashed places k p) (is ∙ ap id_hash (same_id id h.card.id same)) ∙ a.listed p h at in
-      ap (λ (ds : List Hashed). is_hashed ds hash p) e ∙ still_from hash places p listed;
+      let places = slots.by_hash.keys in
+      let here : is_hashed places hash p ≡ true = ap (λ (k : ℕ). is_hashed places k p) is ∙ listed p h at (same_id id h.card.id same) in
+      ap (λ (ds : List Hashed). is_hashed ds hash p) e ∙ still_from hash places p here;
 }
 
 pub seeks_on : (objects : List Held) (id : List ℕ) (hash : ℕ) (one : Hashed) (rest : List Hashed) → has_id (slice_get objects one.1) id ≡ false → Seeks objects id hash (one ∷ rest) → Seeks objects id hash rest
@@ -148,7 +147,7 @@ seeks_on objects id hash one rest not_here s = record {
       ]) refl (s.left p h at same);
 }
 
-none_from : (id : List ℕ) (objects : List Held) (i : ℕ) → ((p : ℕ) (h : Held) → slice_get objects p ≡ Some h → bytes_eq id h.card.id ≡ false) → position_from (λ (c : Card). bytes_eq id c.id) i (cards_of objects) ≡ None
+pub none_from : (id : List ℕ) (objects : List Held) (i : ℕ) → ((p : ℕ) (h : Held) → slice_get objects p ≡ Some h → bytes_eq id h.card.id ≡ false) → position_from (λ (c : Card). bytes_eq id c.id) i (cards_of objects) ≡ None
 none_from id [] i none = refl
 none_from id (h ∷ hs) i none =
     ap (λ (b : Bool). cond b (Some i) (position_from (λ (c : Card). bytes_eq id c.id) (i + 1) (cards_of hs))) (none 0 h refl) ∙ none_from id hs (i + 1) (λ p g at. none (suc p) g at)
@@ -182,8 +181,8 @@ one_id : (id : List ℕ) (g h : Held) → bytes_eq id g.card.id ≡ true → byt
 one_id id g h e f = sym (same_id id g.card.id e) ∙ same_id id h.card.id f
 
 -- the object that was found is the first
-pub found_here : (places : List Hashed) (objects : List Held) (id : List ℕ) (p : ℕ) → AreHashed places objects → has_id (slice_get objects p) id ≡ true → place_of id (cards_of objects) ≡ Some p
-found_here places objects id p a is = (elim (slice_get objects p) as (λ o. slice_get objects p ≡ o → has_id o id ≡ true → place_of id (cards_of objects) ≡ Some p) [
+pub found_here : (slots : Slots) (objects : List Held) (id : List ℕ) (p : ℕ) → AreNoted slots objects → has_id (slice_get objects p) id ≡ true → place_of id (cards_of objects) ≡ Some p
+found_here slots objects id p a is = (elim (slice_get objects p) as (λ o. slice_get objects p ≡ o → has_id o id ≡ true → place_of id (cards_of objects) ≡ Some p) [
   | None ↦ λ at e. cc
   | Some h ↦ λ at e.
       let r = first_from id objects 0 p h at e in
@@ -197,94 +196,20 @@ found_within objects id p is = (elim (slice_get objects p) as (λ o. slice_get o
   | Some h ↦ λ at e. get_below objects p h at
 ]) refl is
 
-itself : (id : List ℕ) → bytes_eq id id ≡ true
+pub itself : (id : List ℕ) → bytes_eq id id ≡ true
 itself id = (bytes_eq-Decides id id).1 refl
 
 -- no object has an identifier that has no place
-none_has : (id : List ℕ) (objects : List Held) (p : ℕ) (h : Held) → place_of id (cards_of objects) ≡ None → slice_get objects p ≡ Some h → (h.card.id ≡ id) → ⊥
+pub none_has : (id : List ℕ) (objects : List Held) (p : ℕ) (h : Held) → place_of id (cards_of objects) ≡ None → slice_get objects p ≡ Some h → (h.card.id ≡ id) → ⊥
 none_has id objects p h none at is =
     let e : bytes_eq id h.card.id ≡ true = ap (bytes_eq id) is ∙ itself id in
     let r = first_from id objects 0 p h at e in
     let clash : None ≡ Some (0 + r.0) = sym none ∙ r.4 in
     cc
 
--- an object more
-pub hashed_pushed : (places : List Hashed) (hs : List Held) (h : Held) (hash place : ℕ) → place ≡ length hs → hash ≡ id_hash h.card.id → place_of h.card.id (cards_of hs) ≡ None → AreHashed places hs
-    → AreHashed (insert_key hashed_cmp places (hash, place)) (hs ++ h ∷ [])
-hashed_pushed places hs h hash place last is none a = record {
-  listed = λ p g at. elim (get-append_cases hs h p g at) [
-    | inl old ↦ still_found hashed_cmp (hash, place) (hashed_itself (hash, place)) (is_at (hashed_cmp (id_hash g.card.id, p))) places (a.listed p g old)
-    | inr new ↦
-        let same : id_hash g.card.id ≡ hash = ap (λ (x : Held). id_hash x.card.id) new.1 ∙ sym is in
-        let here : p ≡ place = new.0 ∙ sym last in
-        ap (λ (k : ℕ). is_hashed (insert_key hashed_cmp places (hash, place)) k p) same ∙ ap (λ (k : ℕ). is_hashed (insert_key hashed_cmp places (hash, place)) hash k) here
-        ∙ found_inserted hashed_cmp (hash, place) (hashed_itself (hash, place)) places
-  ];
-  distinct = λ p q f g atp atq same. elim (get-append_cases hs h p f atp) [
-    | inl oldp ↦ elim (get-append_cases hs h q g atq) [
-      | inl oldq ↦ a.distinct p q f g oldp oldq same
-      | inr newq ↦ absurd (none_has h.card.id hs p f none oldp (same ∙ ap (λ (x : Held). x.card.id) newq.1))
-    ]
-    | inr newp ↦ elim (get-append_cases hs h q g atq) [
-      | inl oldq ↦ absurd (none_has h.card.id hs q g none oldq (sym same ∙ ap (λ (x : Held). x.card.id) newp.1))
-      | inr newq ↦ newp.0 ∙ sym newq.0
-    ]
-  ];
-}
-
--- an object fewer
-apart_from : (a b p q : ℕ) → p ≢ q → (k : Hashed) → is_at (hashed_cmp (a, p)) k ≡ true → is_at (hashed_cmp (b, q)) k ≡ false
+-- what is listed with another place
+pub apart_from : (a b p q : ℕ) → p ≢ q → (k : Hashed) → is_at (hashed_cmp (a, p)) k ≡ true → is_at (hashed_cmp (b, q)) k ≡ false
 apart_from a b p q n k is = false_from_ne_true (is_at (hashed_cmp (b, q)) k) (λ also.
     let one : p ≡ k.1 = (same_parts a k.0 p k.1 (equal_at (hashed_cmp (a, p) k) is)).1 in
     let two : q ≡ k.1 = (same_parts b k.0 q k.1 (equal_at (hashed_cmp (b, q) k) also)).1 in
     n (one ∙ sym two))
-
-pub hashed_popped : (places : List Hashed) (hs : List Held) (h : Held) (hash last : ℕ) → last ≡ length hs → AreHashed places (hs ++ h ∷ []) → AreHashed (remove_key (is_at (hashed_cmp (hash, last))) places) hs
-hashed_popped places hs h hash last is a = record {
-  listed = λ p g at.
-      let before : p ≢ last = λ (e : p ≡ last). let b = get_below hs p g at in absurd (omega (arith, b, is, e)) in
-      still_there (is_at (hashed_cmp (id_hash g.card.id, p))) (is_at (hashed_cmp (hash, last))) (apart_from (id_hash g.card.id) hash p last before) places (a.listed p g (get-append_old hs h p g at));
-  distinct = λ p q f g atp atq same. a.distinct p q f g (get-append_old hs h p f atp) (get-append_old hs h q g atq) same;
-}
-
--- an object that leads another life
-id_stays : (place p : ℕ) (life : Life) (g h : Held) → (g ≡ h) ⊎ ((p ≡ place) × (g ≡ with_life h life)) → g.card.id ≡ h.card.id
-id_stays place p life g h (inl e) = ap (λ (x : Held). x.card.id) e
-id_stays place p life g h (inr e) = ap (λ (x : Held). x.card.id) e.1
-
-pub hashed_relived : (places : List Hashed) (hs : List Held) (place : ℕ) (life : Life) → AreHashed places hs → AreHashed places (relived hs place life)
-hashed_relived places hs place life a = record {
-  listed = λ p g at.
-      let r = relived_from hs place p life g at in
-      ap (λ (id : List ℕ). is_hashed places (id_hash id) p) (id_stays place p life g r.0 r.2) ∙ a.listed p r.0 r.1;
-  distinct = λ p q f g atp atq same.
-      let r = relived_from hs place p life f atp in
-      let s = relived_from hs place q life g atq in
-      a.distinct p q r.0 s.0 r.1 s.1 (sym (id_stays place p life f r.0 r.2) ∙ same ∙ id_stays place q life g s.0 s.2);
-}
-
--- before its place no object has its identifier
-taken_from : (hs : List Held) (n p : ℕ) (g : Held) → slice_get (take n hs) p ≡ Some g → (slice_get hs p ≡ Some g) × (p < n)
-taken_from [] zero p g e = let bad : ⊥ = cc in absurd bad
-taken_from [] (suc n) p g e = let bad : ⊥ = cc in absurd bad
-taken_from (h ∷ hs) zero p g e = let bad : ⊥ = cc in absurd bad
-taken_from (h ∷ hs) (suc n) zero g e = (e, omega arith)
-taken_from (h ∷ hs) (suc n) (suc p) g e = let r = taken_from hs n p g e in let b = r.1 in (r.0, omega (arith, b))
-
-pub free_before : (places : List Hashed) (hs : List Held) (p : ℕ) (h : Held) → AreHashed places hs → slice_get hs p ≡ Some h → place_of h.card.id (cards_of (take p hs)) ≡ None
-free_before places hs p h a at = none_from h.card.id (take p hs) 0 (λ q g of. false_from_ne_true (bytes_eq h.card.id g.card.id) (λ e.
-    let t = taken_from hs p q g of in
-    let same : q ≡ p = a.distinct q p g h t.0 at (sym (same_id h.card.id g.card.id e)) in
-    let before = t.1 in
-    absurd (omega (arith, same, before))))
-
--- what is put after the others and taken away again
-pub hashed_again : (places : List Hashed) (hs : List Held) (hash place : ℕ) → place ≡ length hs → AreHashed places hs → AreHashed (remove_key (is_at (hashed_cmp (hash, place))) (insert_key hashed_cmp places (hash, place))) hs
-hashed_again places hs hash place is a = record {
-  listed = λ p g at.
-      let before : p ≢ place = λ (e : p ≡ place). let b = get_below hs p g at in absurd (omega (arith, b, is, e)) in
-      let test : Hashed → Bool = is_at (hashed_cmp (id_hash g.card.id, p)) in
-      still_there test (is_at (hashed_cmp (hash, place))) (apart_from (id_hash g.card.id) hash p place before) (insert_key hashed_cmp places (hash, place))
-      (still_found hashed_cmp (hash, place) (hashed_itself (hash, place)) test places (a.listed p g at));
-  distinct = a.distinct;
-}

@@ -5,6 +5,7 @@ pub mod CallLemmas
 pub mod ObjectLemmas
 pub mod OrderLemmas
 pub mod HashLemmas
+pub mod SlotLemmas
 pub mod HistoryLemmas
 pub mod ChangeLemmas
 pub mod LearnLemmas

@@ -5,6 +5,7 @@ pub mod Calls
 pub mod Queries
 pub mod Choices
 pub mod Objects
+pub mod Slots
 pub mod Secrets
 pub mod Hashes
 pub mod Histories

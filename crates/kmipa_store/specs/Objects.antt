@@ -1,11 +1,10 @@
--- Not promised. Objects in the order of arrival, and their places by the hashes of their identifiers.
-use Rattle.std.specs.Prelude.{◌≡◌, ℕ, Bool, true, false, List, map, Option, Some, None, bytes_eq, slice_get}
+-- Not promised. Objects in the order of arrival, and places by the hashes of identifiers.
+use Rattle.std.specs.Prelude.{ℕ, Bool, false, List, map, Option, Some, None, bytes_eq}
 use Rattle.std.specs.declared.cmp.Ordering.{Ordering}
 use Rattle.std.specs.List.{list_any}
 use Rattle.std.specs.Ordering.{nat_cmp, ordering_then}
 use Rattle.std.specs.BTreeMap.{is_at}
 use Rattle.kmipa_object.specs.declared.object.Object.{Object}
-use Rattle.kmipa_store.specs.Hashes.{id_hash}
 use Rattle.kmipa_store.specs.Ledger.{Held, held}
 
 abbrev pub objects_of : List Object → List Held
@@ -20,11 +19,6 @@ hashed_cmp x y = ordering_then (nat_cmp x.0 y.0) (nat_cmp x.1 y.1)
 
 abbrev pub is_hashed : List Hashed → ℕ → ℕ → Bool
 is_hashed places hash place = list_any (is_at (hashed_cmp (hash, place))) places
-
--- each object is listed by the hash of its identifier, and no two have one identifier
-pub record AreHashed (places : List Hashed) (objects : List Held) : Type 0 where
-  pub listed : (p : ℕ) (h : Held) → slice_get objects p ≡ Some h → is_hashed places (id_hash h.card.id) p ≡ true
-  pub distinct : (p q : ℕ) (g h : Held) → slice_get objects p ≡ Some g → slice_get objects q ≡ Some h → g.card.id ≡ h.card.id → p ≡ q
 
 -- the object at a place, if there is one, has the identifier
 abbrev pub has_id : Option Held → List ℕ → Bool

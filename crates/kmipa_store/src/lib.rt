@@ -14,6 +14,7 @@ mod names;
 mod objects;
 mod present;
 mod secrets;
+mod slots;
 mod tally;
 
 pub use copies::Copies;

@@ -8,42 +8,41 @@ ghost use Rattle.kmipa_store.specs.Ledger.{held};
 ghost use Rattle.kmipa_store.specs.Queries.{has_name, is_name};
 
 use crate::fault::StoreFault;
-use crate::hashes::id_hash;
+use crate::slots::Slots;
 use kmipa_attrs::Name;
 use kmipa_object::{Life, Object, State, state_at};
 use std::alloc::Global;
-use std::collections::BTreeSet;
 use std::marker::Model;
-use std::ops::Bound;
 
-/// Objects in the order of arrival, and their places by the hashes of their identifiers.
+/// Objects in the order of arrival, and the slots of their identifiers.
 ///
 /// # What an identifier costs
-/// The hashes stand in order, so that a look-up compares few of them whatever they are, and no identifier is copied: only those of
-/// one whole hash are compared with what is looked for.
+/// While there is memory no more than half of the slots are in use, so that most look-ups and most changes see one slot and one object.
+/// Identifiers that were picked to meet in one slot are found by their hashes, of which few are compared whatever they are.
 #[derive(Drop)]
 pub struct Objects {
+    alloc: Global,
     in_order: Vec<Object>,
-    by_hash: BTreeSet<(u64, usize)>,
+    slots: Slots,
 }
 
 impl Model for Objects {
     ghost use Rattle.std.specs.Prelude.{List};
     ghost use Rattle.kmipa_store.specs.Ledger.{Held};
-    ghost use Rattle.kmipa_store.specs.Objects.{AreHashed, objects_of};
+    ghost use Rattle.kmipa_store.specs.Objects.{objects_of};
+    ghost use Rattle.kmipa_store.specs.Slots.{AreNoted};
 
     ghost Value = { List Held };
 
     ghost view = { λ o. objects_of o.in_order.items };
 
-    ghost invariant = { λ o. AreHashed o.by_hash.keys (objects_of o.in_order.items) };
+    ghost invariant = { λ o. AreNoted o.slots (objects_of o.in_order.items) };
 }
 
 impl Objects {
     ghost use Rattle.std.specs.Prelude.{◌≡◌, ◌-◌, ◌<◌, [], length, take, slice_get, string_bytes, Some, None, IfSome, IfOk, IfErr};
     ghost use Rattle.kmipa_store.specs.Ledger.{held, cards_of, place_of, relived};
     ghost use Rattle.kmipa_store.specs.Memory.{Pushes};
-    ghost use Rattle.kmipa_store.specs.Objects.{has_id};
     ghost use Rattle.kmipa_store.specs.Queries.{has_name, next_named, any_live_named, state_of_place};
 
     /// No objects.
@@ -51,8 +50,9 @@ impl Objects {
         ensures { result ≡ [] }
     {
         Objects {
+            alloc,
             in_order: Vec::new(alloc),
-            by_hash: BTreeSet::new(alloc),
+            slots: Slots::new(alloc),
         }
     }
 
@@ -61,27 +61,7 @@ impl Objects {
         ensures place { result ≡ place_of id.now (cards_of self.now) }
         ensures within { IfSome result (λ place. place < length self.now) }
     {
-        let hash = id_hash(id);
-        let start = Bound::Included((hash, 0));
-        for one in self.by_hash.range((start, Bound::Unbounded)) {
-            if one.0 != hash {
-                return None;
-            }
-            if self.is_at(one.1, id) {
-                return Some(one.1);
-            }
-        }
-        None
-    }
-
-    /// Whether there is an object at a place, with this identifier.
-    fn is_at(&self, place: usize, id: &str) -> bool
-        ensures { result ≡ has_id (slice_get self.now place) id.now }
-    {
-        match self.in_order.get(place) {
-            Some(object) => id == object.id.as_str(),
-            None => false,
-        }
+        self.slots.find(self.in_order.as_slice(), id)
     }
 
     /// How many there are.
@@ -137,16 +117,12 @@ impl Objects {
         requires { place_of (string_bytes object.id) (cards_of self.old) ≡ None }
         ensures { Pushes self.old (held object) result self.new }
     {
+        self.make_slots();
         let place = self.in_order.len();
-        let hash = id_hash(object.id.as_str());
-        self.by_hash.insert((hash, place))?;
-        match self.in_order.push(object) {
-            Ok(()) => Ok(()),
-            Err(_) => {
-                let _ = self.by_hash.remove(&(hash, place));
-                Err(StoreFault::Memory)
-            }
-        }
+        self.in_order.reserve(1)?;
+        self.slots.note(object.id.as_str(), place)?;
+        self.in_order.push(object)?;
+        Ok(())
     }
 
     /// The object at a place, if there is one, leads this life.
@@ -166,8 +142,7 @@ impl Objects {
         let Some(last) = self.in_order.pop() else {
             return;
         };
-        let hash = id_hash(last.id.as_str());
-        let _ = self.by_hash.remove(&(hash, self.in_order.len()));
+        self.slots.forget(last.id.as_str(), self.in_order.len());
     }
 
     /// Equal objects, with memory of their own.
@@ -182,6 +157,20 @@ impl Objects {
             copy.push(object)?;
         }
         Ok(copy)
+    }
+
+    /// Makes more slots, where half of them would be in use with an object more, and where there is memory for them.
+    fn make_slots(&mut self)
+        ensures { self.new ≡ self.old }
+    {
+        let count = self.in_order.len();
+        if count < self.slots.len() / 2 {
+            return;
+        }
+        let more = count.saturating_mul(4).saturating_add(31);
+        if let Ok(slots) = Slots::of(self.alloc, self.in_order.as_slice(), more) {
+            self.slots = slots;
+        }
     }
 }
 

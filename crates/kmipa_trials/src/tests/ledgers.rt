@@ -204,6 +204,43 @@ fn names_in_turn<L: Ledger>(rt: &impl Abort, alloc: Global, ledger: &mut L) -> b
     ])
 }
 
+/// Identifiers that end alike are told apart, before and after some are taken back.
+fn identifiers_in_turn<L: Ledger>(rt: &impl Abort, alloc: Global, ledger: &mut L) -> bool {
+    let a = put(ledger, object_of(rt, alloc, "a-00000001", "n", UNBORN));
+    let b = put(ledger, object_of(rt, alloc, "b-00000001", "n", UNBORN));
+    let mark = ledger.mark().expect(rt, "memory");
+    let c = put(ledger, object_of(rt, alloc, "c-00000001", "n", UNBORN));
+    let d = put(ledger, object_of(rt, alloc, "d-00000002", "n", UNBORN));
+    let e = put(ledger, object_of(rt, alloc, "e-00000002", "n", UNBORN));
+    let twice = put(ledger, object_of(rt, alloc, "c-00000001", "n", UNBORN));
+    let found = [
+        ledger.find("a-00000001"),
+        ledger.find("b-00000001"),
+        ledger.find("c-00000001"),
+        ledger.find("d-00000002"),
+        ledger.find("e-00000002"),
+        ledger.find("f-00000001"),
+    ];
+    ledger.undo(mark);
+    let left = [
+        ledger.find("a-00000001"),
+        ledger.find("b-00000001"),
+        ledger.find("c-00000001"),
+        ledger.find("d-00000002"),
+        ledger.find("e-00000002"),
+    ];
+    let again = put(ledger, object_of(rt, alloc, "e-00000002", "n", UNBORN));
+    are_all(&[
+        [a, b, c, d, e] == [Some(0), Some(1), Some(2), Some(3), Some(4)],
+        twice.is_none(),
+        found == [Some(0), Some(1), Some(2), Some(3), Some(4), None],
+        left == [Some(0), Some(1), None, None, None],
+        again == Some(2),
+        ledger.find("e-00000002") == Some(2),
+        ledger.find("d-00000002").is_none(),
+    ])
+}
+
 #[test]
 fn journal_keeps_the_laws(rt: HostRuntime) -> Result<(), Fail> {
     let alloc = rt.alloc();
@@ -212,7 +249,11 @@ fn journal_keeps_the_laws(rt: HostRuntime) -> Result<(), Fail> {
         moments_in_turn(&rt, alloc, &mut Journal::new(alloc)),
         "moments",
     )?;
-    check(names_in_turn(&rt, alloc, &mut Journal::new(alloc)), "names")
+    check(names_in_turn(&rt, alloc, &mut Journal::new(alloc)), "names")?;
+    check(
+        identifiers_in_turn(&rt, alloc, &mut Journal::new(alloc)),
+        "identifiers",
+    )
 }
 
 #[test]
@@ -223,5 +264,9 @@ fn copies_keep_the_laws(rt: HostRuntime) -> Result<(), Fail> {
         moments_in_turn(&rt, alloc, &mut Copies::new(alloc)),
         "moments",
     )?;
-    check(names_in_turn(&rt, alloc, &mut Copies::new(alloc)), "names")
+    check(names_in_turn(&rt, alloc, &mut Copies::new(alloc)), "names")?;
+    check(
+        identifiers_in_turn(&rt, alloc, &mut Copies::new(alloc)),
+        "identifiers",
+    )
 }
