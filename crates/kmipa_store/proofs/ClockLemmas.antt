@@ -23,7 +23,7 @@ use Rattle.kmipa_object.proofs.ListLemmas.{get-map, get-updated_other, get-updat
 use Rattle.kmipa_store.specs.Clock.{Awaits, Due, due_cmp, is_due, looked, looked_at, states_at}
 use Rattle.kmipa_store.specs.Ledger.{Held, relived, with_life}
 use Rattle.kmipa_store.specs.Queries.{state_of_place}
-use Rattle.kmipa_store.proofs.DueLemmas.{due_same, same_place}
+use Rattle.kmipa_store.proofs.DueLemmas.{due_above, due_same, max_first, max_second, same_place}
 use Rattle.kmipa_store.proofs.NameLemmas.{length-map}
 use Rattle.kmipa_store.proofs.OrderLemmas.{equal_at}
 
@@ -199,15 +199,15 @@ in_range low high max due d p small over under h =
     ∙ h
 
 -- all dates between are left
-looks_start : (objects : List Held) (low high before t : ℤ) (due : List Due) (max : ℕ) → ((p : ℕ) (h : Held) → slice_get objects p ≡ Some h → p ≤ max) → Awaits objects due
-    → Looks objects low high before t (filter (range_contains due_cmp (Excluded (low, max)) (Included (high, max))) due) (states_at objects before)
-looks_start objects low high before t due max small a = record {
+looks_start : (objects : List Held) (low high before t : ℤ) (keys : List Due) (max : ℕ) → ((p : ℕ) (h : Held) → slice_get objects p ≡ Some h → p ≤ max) → Awaits objects (record { floor = low; keys = keys })
+    → Looks objects low high before t (filter (range_contains due_cmp (Excluded (low, max)) (Included (high, max))) keys) (states_at objects before)
+looks_start objects low high before t keys max small a = record {
   long = length-map (λ (x : Held). state x.card.dates before) objects;
   each = λ p h at. inr (
     get-map (λ (x : Held). state x.card.dates before) objects p ∙ ap (option_map (λ (x : Held). state x.card.dates before)) at,
     record {
-      activation = λ d e over under. in_range low high max due d p (small p h at) over under (a.activation p h d at e);
-      deactivation = λ d e over under. in_range low high max due d p (small p h at) over under (a.deactivation p h d at e);
+      activation = λ d e over under. in_range low high max keys d p (small p h at) over under (due_above (record { floor = low; keys = keys }) d p over (a.activation p h d at e));
+      deactivation = λ d e over under. in_range low high max keys d p (small p h at) over under (due_above (record { floor = low; keys = keys }) d p over (a.deactivation p h d at e));
     },
   );
 }
@@ -226,22 +226,16 @@ min_first a b = grind (arith, ints)
 min_second : (a b : ℤ) → int_min a b ≤ℤ b
 min_second a b = grind (arith, ints)
 
-max_first : (a b : ℤ) → a ≤ℤ int_max a b
-max_first a b = grind (arith, ints)
-
-max_second : (a b : ℤ) → b ≤ℤ int_max a b
-max_second a b = grind (arith, ints)
-
-pub looking_start : (objects : List Held) (low high before t : ℤ) (due : List Due) (max : ℕ) (rest : List Due) (states : List State) → low ≡ int_min before t → high ≡ int_max before t → max ≡ length objects
-    → rest ≡ filter (range_contains due_cmp (Excluded (low, max)) (Included (high, max))) due → Awaits objects due → states ≡ states_at objects before → Looking objects before t rest states
-looking_start objects low high before t due max rest states l h m left a told = record {
+pub looking_start : (objects : List Held) (low high before t : ℤ) (keys : List Due) (max : ℕ) (rest : List Due) (states : List State) → low ≡ int_min before t → high ≡ int_max before t → max ≡ length objects
+    → rest ≡ filter (range_contains due_cmp (Excluded (low, max)) (Included (high, max))) keys → Awaits objects (record { floor = int_min before t; keys = keys }) → states ≡ states_at objects before → Looking objects before t rest states
+looking_start objects low high before t keys max rest states l h m left a told = record {
   low = low;
   high = high;
   old = record { from = subst (λ (x : ℤ). x ≤ℤ before) (sym l) (min_first before t); to = subst (λ (x : ℤ). before ≤ℤ x) (sym h) (max_first before t) };
   new = record { from = subst (λ (x : ℤ). x ≤ℤ t) (sym l) (min_second before t); to = subst (λ (x : ℤ). t ≤ℤ x) (sym h) (max_second before t) };
   looks = subst (λ (ss : List State). Looks objects low high before t rest ss) (sym told)
       (subst (λ (ds : List Due). Looks objects low high before t ds (states_at objects before)) (sym left)
-      (looks_start objects low high before t due max (λ p o at. let b = get_below objects p o at in omega (arith, b, m)) a));
+      (looks_start objects low high before t keys max (λ p o at. let b = get_below objects p o at in omega (arith, b, m)) (subst (λ (x : ℤ). Awaits objects (record { floor = x; keys = keys })) (sym l) a)));
 }
 
 pub looking_on : (objects : List Held) (before t : ℤ) (one : Due) (rest : List Due) (states : List State) → Looking objects before t (one ∷ rest) states → Looking objects before t rest (looked objects states one.1 t)
@@ -264,3 +258,33 @@ looked_told objects states place t told e = (elim (slice_get objects place) as (
 
 pub looked_past : (objects : List Held) (states : List State) (place : ℕ) (t : ℤ) → slice_get objects place ≡ None → looked objects states place t ≡ states
 looked_past objects states place t none = ap (λ o. looked_at o states place t) none
+
+-- the objects before a place are told as of the new moment
+pub record ToldTo (objects : List Held) (t : ℤ) (end : ℕ) (states : List State) : Type 0 where
+  pub long : length states ≡ length objects
+  pub each : (p : ℕ) (h : Held) → p < end → slice_get objects p ≡ Some h → Told states p h t
+
+pub told_none : (objects : List Held) (t : ℤ) (end : ℕ) (states : List State) → end ≡ 0 → length states ≡ length objects → ToldTo objects t end states
+told_none objects t end states none l = record { long = l; each = λ p h below at. absurd (omega (arith, below, none)) }
+
+pub told_next : (objects : List Held) (t : ℤ) (end : ℕ) (states : List State) (s : State) → state_of_place objects end t ≡ Some s
+    → ToldTo objects t end states → ToldTo objects t (suc end) (updated states end (λ _. s))
+told_next objects t end states s is l = record {
+  long = length-updated states end (λ _. s) ∙ l.long;
+  each = λ p h below at. (elim (p == end) as (λ r. (p == end) ≡ r → Told (updated states end (λ _. s)) p h t) [
+    | true ↦ λ e.
+        let same : p ≡ end = equal_is p end e in
+        let here : Some (state h.card.dates t) ≡ Some s = sym (ap (option_map (λ (x : Held). state x.card.dates t)) at) ∙ ap (λ (n : ℕ). state_of_place objects n t) same ∙ is in
+        let within : end < length states = let w = get_below objects p h at in let n = l.long in omega (arith, w, n, same) in
+        let old = below_get states end within in
+        ap (slice_get (updated states end (λ _. s))) same ∙ get-updated_same states end (λ _. s) old.0 old.1 ∙ sym here
+    | false ↦ λ e.
+        let apart : p ≢ end = unequal_is p end e in
+        let before : p < end = let b = below in omega (arith, b, apart) in
+        get-updated_other states end p (λ _. s) apart ∙ l.each p h before at
+  ]) refl;
+}
+
+pub told_all : (objects : List Held) (t : ℤ) (end : ℕ) (states : List State) → length objects ≤ end → ToldTo objects t end states → states ≡ states_at objects t
+told_all objects t end states all l =
+    mapped (λ (h : Held). state h.card.dates t) states objects l.long (λ p h at. l.each p h (let w = get_below objects p h at in omega (arith, w, all)) at)

@@ -1,5 +1,5 @@
 -- What the calls of a journal leave of its meaning.
-use Rattle.std.proofs.Common.{◌≡◌, ℕ, suc, ◌+◌, ◌-◌, ◌≤◌, true, List, [], ◌∷◌, ◌++◌, length, map, take, drop, reverse, slice_get, Option, Some, None, Result, Ok, Err, MatchOption, option_to_list, refl, ap, sym, ◌∙◌, subst, arith, append-nil}
+use Rattle.std.proofs.Common.{◌≡◌, ℕ, suc, ◌+◌, ◌-◌, ◌≤◌, Bool, true, false, if◌then◌else◌, List, [], ◌∷◌, ◌++◌, length, map, take, drop, reverse, slice_get, Option, Some, None, Result, Ok, Err, MatchOption, option_to_list, refl, ap, sym, ◌∙◌, subst, arith, append-nil}
 use Rattle.std.proofs.lemmas.List.{reverse-append, length-reverse}
 use Rattle.kmipa_object.specs.declared.life.Life.{Life}
 use Rattle.kmipa_store.specs.Ledger.{Held, Known, LedgerState, relived, told, changed, marked, kept, undone, undone_from, gone_back, back_from}
@@ -15,11 +15,20 @@ use Rattle.kmipa_store.specs.declared.changes.Place.{Place}
 use Rattle.kmipa_store.specs.declared.changes.ObjectChange.{ObjectChange}
 use Rattle.kmipa_store.specs.declared.changes.SecretChange.{SecretChange}
 use Rattle.kmipa_store.proofs.LearnLemmas.{unknown_differs}
-use Rattle.kmipa_store.proofs.HistoryLemmas.{fits_head, fits_rest, fits_rolled, history_logged, history_mark, history_keep, history_rolled}
+use Rattle.kmipa_store.proofs.HistoryLemmas.{fits_head, fits_mark, fits_rest, fits_rolled, history_logged, history_mark, history_keep, history_rolled}
 
 -- the newest place stands first
 pub places_last : (f : Place → ℕ) (ps ps1 : List Place) (p : Place) → ps ≡ ps1 ++ p ∷ [] → map f (reverse ps) ≡ f p ∷ map f (reverse ps1)
 places_last f ps ps1 p e = ap (map f) (ap reverse e ∙ reverse-append ps1 (p ∷ []))
+
+-- what holds with a mark more and without holds of what came of setting it
+pub pushed_or_not : (b : Bool) (ps ps1 : List Place) (p : Place) → ps1 ≡ (if b then ps ++ p ∷ [] else ps) → (P : List Place → Type 0) → P (ps ++ p ∷ []) → P ps → P ps1
+pushed_or_not true ps ps1 p e P more same = subst P (sym e) more
+pushed_or_not false ps ps1 p e P more same = subst P (sym e) same
+
+-- a mark more fits
+pub fits_marked : (f : Place → ℕ) (n : ℕ) (ps : List Place) (p : Place) → f p ≡ n → fits n (map f (reverse ps)) ≡ true → fits n (map f (reverse (ps ++ p ∷ []))) ≡ true
+fits_marked f n ps p is e = ap (fits n) (places_last f (ps ++ p ∷ []) ps p refl ∙ ap (λ m. m ∷ map f (reverse ps)) is) ∙ fits_mark n (map f (reverse ps)) e
 
 -- the objects changed, and that was written down
 pub objects_logged : (os os1 : Dated) (wanted : List Held) (cs cs1 : List ObjectChange) (ks : List Known) (ds : List SecretChange) (ps : List Place)

@@ -1,6 +1,6 @@
--- Not promised. The present of a journal: its objects with the dates that stand in order, and the moment of their states.
+-- Not promised. The present of a journal: its objects with the dates that they wait for, and the moment of their states.
 use Rattle.std.specs.Prelude.{◌≡◌, ◌-◌, ℕ, ℤ, List, [], ◌∷◌, ◌++◌, length, take, slice_get, Some, Result, Ok, Err}
-use Rattle.kmipa_store.specs.Clock.{Awaits, Due, without}
+use Rattle.kmipa_store.specs.Clock.{Awaits, Dues, without}
 use Rattle.kmipa_store.specs.Histories.{Logged, while_marked}
 use Rattle.kmipa_store.specs.Ledger.{Held, relived}
 use Rattle.kmipa_store.specs.declared.changes.ObjectChange.{ObjectChange}
@@ -12,7 +12,7 @@ use Rattle.kmipa_store.specs.declared.fault.StoreFault.TheVariants.{Memory}
 -- what goes back to a mark
 pub record Dated : Type 0 where
   pub objects : List Held
-  pub due : List Due
+  pub due : Dues
 
 pub record Standing : Type 0 where
   pub dated : Dated

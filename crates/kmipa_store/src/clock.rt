@@ -1,6 +1,7 @@
 //! States told at one moment, and the dates at which they change.
 
-ghost use Rattle.std.specs.Prelude.{◌≡◌};
+ghost use Rattle.std.specs.Prelude.{◌≡◌, length};
+ghost use Rattle.std.specs.Int.{int_min};
 ghost use Rattle.kmipa_object.specs.Lists.{updated};
 ghost use Rattle.kmipa_store.specs.Clock.{Awaits, looked, states_at};
 
@@ -15,22 +16,27 @@ use std::ops::Bound;
 /// The state of each object at one moment, and the dates at which states change, in order, with the places of the objects.
 ///
 /// # What a moment costs
-/// A new moment looks again only at the objects with a date between the old moment and the new, whichever comes first.
+/// A new moment looks again only at the objects with a date between the old moment and the new, whichever comes first. Where one
+/// of the two is below the floor it looks at each object.
 ///
 /// # Dates of the past
-/// A date stays while going back may need it: a change tells which dates it brought, and going back takes those away.
+/// A date that is at most the present moment is not put in order: the floor rises to it instead, if it was lower. A date in order
+/// stays while going back may need it. A change tells which dates it brought and what the floor was before it; going back takes
+/// those dates away, and the floor is what it was.
 #[derive(Drop)]
 pub struct Clock {
     moment: i64,
     states: Vec<State>,
     due: BTreeSet<(i64, usize)>,
+    floor: i64,
 }
 
-/// The dates that a change brought: those that did not stand in order for its place before.
+/// The dates that a change brought: those that did not stand in order for its place before; and the floor before it.
 #[derive(Clone, Copy, PartialEq, Eq)]
 pub struct Brought {
     activation: Option<i64>,
     deactivation: Option<i64>,
+    floor: i64,
 }
 
 impl Model for Clock {
@@ -38,22 +44,24 @@ impl Model for Clock {
 
     ghost Value = { Time };
 
-    ghost view = { λ c. record { moment = c.moment; states = c.states.items; due = c.due.keys } };
+    ghost view = { λ c. record { moment = c.moment; states = c.states.items; due = record { floor = c.floor; keys = c.due.keys } } };
 }
 
 impl Clock {
-    ghost use Rattle.std.specs.Prelude.{◌-◌, ◌<◌, [], pos, length, take, Some, slice_get};
+    ghost use Rattle.std.specs.Prelude.{◌-◌, ◌<◌, [], pos, take, Some, slice_get};
     ghost use Rattle.kmipa_object.specs.Life.{dates_of, state};
     ghost use Rattle.kmipa_store.specs.Clock.{AddsLife, NotesDate, NotesLife, dropped, without};
 
     /// No states and no dates, at moment 0.
     pub fn new(alloc: Global) -> Clock
-        ensures { result ≡ record { moment = pos 0; states = []; due = [] } }
+        ensures moment { result.moment ≡ pos 0 }
+        ensures states { result.states ≡ [] }
     {
         Clock {
             moment: 0,
             states: Vec::new(alloc),
             due: BTreeSet::new(alloc),
+            floor: i64::MIN,
         }
     }
 
@@ -72,16 +80,21 @@ impl Clock {
         self.states[place]
     }
 
-    /// Another moment: the objects with a date between the two are looked at again.
+    /// Another moment: the objects with a date between the two are looked at again, or each where one of the two is below the floor.
     pub fn set_moment(&mut self, objects: &Objects, t: i64)
         requires told { self.old.states ≡ states_at objects.now self.old.moment }
         requires awaited { Awaits objects.now self.old.due }
         ensures { self.new ≡ record { moment = t; states = states_at objects.now t; due = self.old.due } }
     {
-        if t != self.moment {
-            look_over(&mut self.states, &self.due, objects, self.moment, t);
-            self.moment = t;
+        if t == self.moment {
+            return;
         }
+        if self.moment.min(t) < self.floor {
+            tell_each(&mut self.states, objects, t);
+        } else {
+            look_over(&mut self.states, &self.due, objects, self.moment, t);
+        }
+        self.moment = t;
     }
 
     /// The object at a place leads this life from now on.
@@ -95,29 +108,33 @@ impl Clock {
         put_state(&mut self.states, place, told);
     }
 
-    /// Puts the dates of a life in order, and answers which it brought.
+    /// The dates of a life are waited for from now on, and what they brought is the answer.
     pub fn note(&mut self, place: usize, life: Life) -> Result<Brought, StoreFault>
         ensures { NotesLife self.old place life result self.new }
     {
+        let floor = self.floor;
         let activation = self.note_date(place, life.activation)?;
         match self.note_date(place, life.deactivation) {
             Ok(deactivation) => Ok(Brought {
                 activation,
                 deactivation,
+                floor,
             }),
             Err(fault) => {
                 self.drop_date(place, activation);
+                self.floor = floor;
                 Err(fault)
             }
         }
     }
 
-    /// Takes the dates away that a change of the object at a place brought.
+    /// Takes the dates away that a change of the object at a place brought, and puts the floor back.
     pub fn forget(&mut self, place: usize, brought: Brought)
         ensures { self.new ≡ record self.old { due = without self.old.due place brought } }
     {
         self.drop_date(place, brought.deactivation);
         self.drop_date(place, brought.activation);
+        self.floor = brought.floor;
     }
 
     /// The state and the dates of an object after the others, at this place.
@@ -134,7 +151,7 @@ impl Clock {
         }
     }
 
-    /// Takes the last state away, and the dates that the last object brought.
+    /// Takes the last state away, and what the last object brought.
     pub fn remove(&mut self, place: usize, brought: Brought)
         ensures { self.new ≡ record self.old {
           states = take
@@ -146,13 +163,17 @@ impl Clock {
         self.forget(place, brought);
     }
 
-    /// Puts a date in order, and answers it if it did not stand there.
+    /// The floor rises to a date of the past; a later one is put in order, and answered if it did not stand there.
     fn note_date(&mut self, place: usize, date: Option<i64>) -> Result<Option<i64>, StoreFault>
         ensures { NotesDate self.old place date result self.new }
     {
         let Some(date) = date else {
             return Ok(None);
         };
+        if date <= self.moment {
+            self.floor = self.floor.max(date);
+            return Ok(None);
+        }
         let Ok(fresh) = self.due.insert((date, place)) else {
             return Err(StoreFault::Memory);
         };
@@ -163,11 +184,23 @@ impl Clock {
     }
 
     fn drop_date(&mut self, place: usize, date: Option<i64>)
-        ensures { self.new ≡ record self.old { due = dropped self.old.due place date } }
+        ensures { self.new ≡ record self.old {
+          due = record self.old.due { keys = dropped self.old.due.keys place date };
+        } }
     {
         if let Some(date) = date {
             let _ = self.due.remove(&(date, place));
         }
+    }
+}
+
+/// Tells the state of each object anew.
+fn tell_each(states: &mut Vec<State>, objects: &Objects, t: i64)
+    requires { length states.old.items ≡ length objects.now }
+    ensures { states.new.items ≡ states_at objects.now t }
+{
+    for place in 0..objects.len() {
+        put_state(states, place, objects.state(place, t));
     }
 }
 
@@ -180,7 +213,7 @@ fn look_over(
     t: i64,
 )
     requires told { states.old.items ≡ states_at objects.now before }
-    requires awaited { Awaits objects.now due.now.keys }
+    requires awaited { Awaits objects.now (record { floor = int_min before t; keys = due.now.keys }) }
     ensures { states.new.items ≡ states_at objects.now t }
 {
     let behind = objects.len();

@@ -41,7 +41,8 @@ impl Present {
 
     /// No objects, at moment 0.
     pub fn new(alloc: Global) -> Present
-        ensures { result ≡ record { dated = record { objects = []; due = [] }; moment = pos 0 } }
+        ensures objects { result.dated.objects ≡ [] }
+        ensures moment { result.moment ≡ pos 0 }
     {
         Present {
             objects: Counted::new(alloc),

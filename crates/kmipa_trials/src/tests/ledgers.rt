@@ -177,6 +177,29 @@ fn moments_in_turn<L: Ledger>(rt: &impl Abort, alloc: Global, ledger: &mut L) ->
     ])
 }
 
+/// What happens at the present moment is told below it and above it, and no more once it is taken back.
+fn presents_in_turn<L: Ledger>(rt: &impl Abort, alloc: Global, ledger: &mut L) -> bool {
+    ledger.set_moment(T);
+    let a = put(ledger, object_of(rt, alloc, "a", "n", UNBORN));
+    let mark = ledger.mark().expect(rt, "memory");
+    let is_active = live(ledger, 0, ACTIVE);
+    let early = state_at(ledger, 0, T - 1);
+    let ended = state_at(ledger, 0, T + 5);
+    let again = state_at(ledger, 0, T - 2);
+    let first = state_at(ledger, 0, T);
+    ledger.undo(mark);
+    are_all(&[
+        is_active && a == Some(0),
+        early == Some(State::PreActive),
+        ended == Some(State::Deactivated),
+        again == Some(State::PreActive),
+        first == Some(State::Active),
+        state_at(ledger, 0, T) == Some(State::PreActive),
+        state_at(ledger, 0, T - 1) == Some(State::PreActive),
+        state_at(ledger, 0, T + 5) == Some(State::PreActive),
+    ])
+}
+
 /// Names are found, destroyed or not, until they are taken back.
 fn names_in_turn<L: Ledger>(rt: &impl Abort, alloc: Global, ledger: &mut L) -> bool {
     let a = put(ledger, object_of(rt, alloc, "a", "n", UNBORN));
@@ -249,6 +272,10 @@ fn journal_keeps_the_laws(rt: HostRuntime) -> Result<(), Fail> {
         moments_in_turn(&rt, alloc, &mut Journal::new(alloc)),
         "moments",
     )?;
+    check(
+        presents_in_turn(&rt, alloc, &mut Journal::new(alloc)),
+        "presents",
+    )?;
     check(names_in_turn(&rt, alloc, &mut Journal::new(alloc)), "names")?;
     check(
         identifiers_in_turn(&rt, alloc, &mut Journal::new(alloc)),
@@ -263,6 +290,10 @@ fn copies_keep_the_laws(rt: HostRuntime) -> Result<(), Fail> {
     check(
         moments_in_turn(&rt, alloc, &mut Copies::new(alloc)),
         "moments",
+    )?;
+    check(
+        presents_in_turn(&rt, alloc, &mut Copies::new(alloc)),
+        "presents",
     )?;
     check(names_in_turn(&rt, alloc, &mut Copies::new(alloc)), "names")?;
     check(

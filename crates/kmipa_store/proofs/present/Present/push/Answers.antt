@@ -26,7 +26,7 @@ invariant_of-self-in_err-brought c =
 pub invariant_of-self-in-Ok : goal.invariant_of-self-in-Ok
 invariant_of-self-in-Ok c =
     let i = c.self.inside in (
-      told_pushed i.objects c.push.new.self (held c.args.object) i.clock c.add.new.self (noted_life i.clock.due c.len-place.result c.args.object.life) c.self.invariant.0 c.in-Ok.ensures c.in_ok-brought.ensures.0,
+      told_pushed i.objects c.push.new.self (held c.args.object) i.clock c.add.new.self (noted_life i.clock.moment i.clock.due c.len-place.result c.args.object.life) c.self.invariant.0 c.in-Ok.ensures c.in_ok-brought.ensures.0,
       covers_pushed i.names c.note.new.self i.objects c.push.new.self (held c.args.object) c.len-place.result c.self.invariant.1 c.len-place.ensures c.in_ok-note.ensures.0
           (subst (λ (x : List Name). AreListed c.note.new.self c.len-place.result (map name_of x)) c.as_slice.ensures c.in_ok-note.ensures.1) c.in-Ok.ensures,
     )
@@ -34,7 +34,7 @@ invariant_of-self-in-Ok c =
 pub invariant_of-self-in-Err : goal.invariant_of-self-in-Err
 invariant_of-self-in-Err c =
     let i = c.self.inside in
-    let same = removed_same i.clock c.add.new.self c.remove.new.self (state (dates_of c.args.object.life) i.clock.moment) c.len-place.result (noted_life i.clock.due c.len-place.result c.args.object.life) c.in_ok-brought.brought
+    let same = removed_same i.clock c.add.new.self c.remove.new.self (state (dates_of c.args.object.life) i.clock.moment) c.len-place.result (noted_life i.clock.moment i.clock.due c.len-place.result c.args.object.life) c.in_ok-brought.brought
     c.in_ok-brought.ensures.0 c.in_ok-brought.ensures.1 c.remove.ensures in (
       subst (λ (x : Time). Tells c.push.new.self x) (sym same) (subst (λ (x : List Held). Tells x i.clock) (sym c.in-Err.ensures.1) c.self.invariant.0),
       subst (λ (x : List Held). Covers c.note.new.self x) (sym c.in-Err.ensures.1)
