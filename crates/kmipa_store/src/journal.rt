@@ -22,8 +22,9 @@ use std::alloc::Global;
 /// An index lists where the names stand, so that `next_named` and `any_live_named` look at the objects of one name alone.
 ///
 /// # What a moment costs
-/// Each object's state is kept, and its dates stand in order: `set_moment` looks again only at the objects with a date between the
-/// two moments.
+/// Each object's state is kept, and its dates to come stand in order: `set_moment` looks again only at the objects with a date between
+/// the two moments. It looks at each object where one of the two is below a date that a standing change brought as one of the past: so
+/// nobody does who takes calls in the order of their Time Stamps, and goes back by marks.
 ///
 /// # What a mark costs
 /// A mark is how many changes there were. Going back takes back what was done since then; no call costs as much as the inventory.
