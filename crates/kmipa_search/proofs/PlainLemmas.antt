@@ -221,3 +221,9 @@ module _ (calls : List CallOf) (steps : List StepOf) (plain : ArePlain calls ste
         last = run.last;
         linked = run.linked;
       }
+
+-- a recorded call that is plain can be judged
+pub plain_one_readable : (marks : List MarkOf) (laws : LawsOfCheck) (c : CallOf) (s : StepOf) → IsRecorded marks c → IsPlainStep c s → IsReadableCall s.request s.response
+plain_one_readable marks laws c s recorded p =
+    let P : StepOf → Type 0 = λ x. IsReadableCall x.request x.response in
+    subst P (sym p.is) (laws.readable marks c (bare_turn c.number) (step_with c p.response) recorded (laws.taken_bare c p.response p.plain))

@@ -1,11 +1,13 @@
 -- A search that guesses payloads: how far it may go. Not promised: that its witness is right is reported by a check.
-use Rattle.std.specs.Prelude.{◌≡◌, ◌≤◌, ℕ, zero, suc, List, ◌∷◌, [], length, Contains, Option, Some, None, IfSome, Result, Ok, Err}
+use Rattle.std.specs.Prelude.{◌≡◌, ◌≤◌, ℕ, zero, suc, List, ◌∷◌, [], length, All, Contains, Option, Some, None, IfSome, Result, Ok, Err}
 use Rattle.kmipa_store.specs.Ledger.{LedgerState, Meaning}
 use Rattle.kmipa_store.specs.Choices.{IsSound}
 use Rattle.kmipa_record.specs.Marks.{MarkOf}
+use Rattle.kmipa_batch.specs.Readable.{IsReadableCall}
 use Rattle.kmipa_check.specs.Calls.{CallOf, IsRecorded, call_of}
 use Rattle.kmipa_check.specs.declared.call.Call.{Call}
 use Rattle.kmipa_check.specs.declared.fault.CheckFault.{CheckFault}
+use Rattle.kmipa_search.specs.Candidates.{candidate_step}
 use Rattle.kmipa_search.specs.declared.candidate.Candidate.{Candidate}
 use Rattle.kmipa_search.specs.declared.guessing.Guessed.{Guessed}
 use Rattle.kmipa_search.specs.declared.guessing.Taken.{Taken}
@@ -16,6 +18,14 @@ IsRecordedCall c = (marks : List MarkOf) × IsRecorded marks c
 
 abbrev pub AreRecordedCalls : List Candidate → Type 0
 AreRecordedCalls calls = (c : Candidate) → Contains calls c → IsRecordedCall (call_of c.call.now)
+
+-- a call that can be judged as it was recorded
+abbrev pub IsReadableOne : Candidate → Type 0
+IsReadableOne c = IsReadableCall (candidate_step c).request (candidate_step c).response
+
+-- each of these that is there
+abbrev pub AreReadableOnes : List (Option Candidate) → Type 0
+AreReadableOnes = All (λ (o : Option Candidate). IfSome o IsReadableOne)
 
 abbrev pub AreAllRecorded : List Call → Type 0
 AreAllRecorded calls = (c : Call) → Contains calls c → IsRecordedCall (call_of c)

@@ -1,14 +1,15 @@
 //! The search for an order where some call waits for a payload.
 
-ghost use Rattle.std.specs.Prelude.{◌≡◌, ◌≤◌, IfOk, length, map};
+ghost use Rattle.std.specs.Prelude.{◌≡◌, ◌≤◌, IfOk, IfSome, length, map};
 ghost use Rattle.kmipa_store.specs.Choices.{IsSound};
 ghost use Rattle.kmipa_check.specs.Calls.{call_of};
-ghost use Rattle.kmipa_search.specs.Guessing.{AreRecordedCalls, GuessTried, IsBounded, IsRecordedCall, TurnTried};
+ghost use Rattle.kmipa_search.specs.Guessing.{AreReadableOnes, AreRecordedCalls, GuessTried, IsBounded, IsReadableOne, IsRecordedCall, TurnTried};
 
 use crate::candidate::Candidate;
 use crate::check_laws::check_laws;
 use crate::guesses::guessed_turn;
-use crate::order::not_taken;
+use crate::order::{not_taken, try_call};
+use crate::plain::{bare_turn, plain_ones};
 use crate::remaining::Remaining;
 use crate::watch::Watch;
 use kmipa_batch::take_call;
@@ -40,6 +41,7 @@ pub fn guess_order<L: Ledger, W: Watch>(
     requires recorded { AreRecordedCalls calls.now }
     ensures { IfOk result (IsBounded budget) }
 {
+    let plain = plain_ones(alloc, calls)?;
     let mut remaining = Remaining::new(alloc, calls)?;
     let mut path = Vec::new(alloc);
     let mut turns = Vec::new(alloc);
@@ -54,7 +56,7 @@ pub fn guess_order<L: Ledger, W: Watch>(
                 }
                 steps += 1;
                 watch.step(steps, path.len());
-                match try_guess(alloc, ledger, rules, &calls[place])? {
+                match try_one(alloc, ledger, rules, &calls[place], plain_at(&plain, place))? {
                     Some(taken) => {
                         watch.taken(taken.turn.call);
                         turns.push(taken.turn)?;
@@ -90,6 +92,59 @@ pub fn guess_order<L: Ledger, W: Watch>(
 pub struct Taken {
     pub turn: Turn,
     pub depth: usize,
+}
+
+/// The call at a place, where it is plain.
+fn plain_at<'p, 'b, 'a>(
+    plain: &'p [Option<Candidate<'b, 'a>>],
+    place: usize,
+) -> Option<&'p Candidate<'b, 'a>>
+    requires { AreReadableOnes plain.now }
+    ensures { IfSome result (λ one. IsReadableOne one.now) }
+{
+    match plain.get(place) {
+        Some(one) => one.as_ref(),
+        None => None,
+    }
+}
+
+/// Takes a call after a new mark, as it was recorded where it is plain, and else with its guesses; or the ledger is as before.
+fn try_one<L: Ledger>(
+    alloc: Global,
+    ledger: &mut L,
+    rules: &Rules,
+    call: &Candidate,
+    plain: Option<&Candidate>,
+) -> Result<Option<Taken>, CheckFault>
+    requires sound { IsSound (L.state ledger.old).now }
+    requires recorded { IsRecordedCall (call_of call.now.call.now) }
+    requires readable { IfSome plain (λ one. IsReadableOne one.now) }
+    ensures { GuessTried (L.state ledger.old) result (L.state ledger.new) }
+{
+    match plain {
+        Some(one) => try_plain(alloc, ledger, rules, one),
+        None => try_guess(alloc, ledger, rules, call),
+    }
+}
+
+/// Takes a plain call after a new mark; or it is impossible, and the ledger is as before.
+fn try_plain<L: Ledger>(
+    alloc: Global,
+    ledger: &mut L,
+    rules: &Rules,
+    call: &Candidate,
+) -> Result<Option<Taken>, CheckFault>
+    requires sound { IsSound (L.state ledger.old).now }
+    requires readable { IsReadableOne call.now }
+    ensures { GuessTried (L.state ledger.old) result (L.state ledger.new) }
+{
+    match try_call(alloc, ledger, rules, call)? {
+        Some(depth) => Ok(Some(Taken {
+            turn: bare_turn(alloc, call.number),
+            depth,
+        })),
+        None => Ok(None),
+    }
 }
 
 /// Takes a call with its guesses after a new mark; or it is impossible with them, and the ledger is as before. An object is looked for as

@@ -1,13 +1,18 @@
 //! Plain calls: those that a search decides.
 
-ghost use Rattle.std.specs.Prelude.{◌≡◌, map, IfOk, MatchOption};
+ghost use Rattle.std.specs.Prelude.{◌≡◌, map, IfOk, IfSome, MatchOption};
 ghost use Rattle.kmipa_check.specs.Calls.{call_of};
 ghost use Rattle.kmipa_search.specs.Candidates.{AreNotPlain, AreOfCalls, IsNotPlain, candidate_step, own_call};
+ghost use Rattle.kmipa_search.specs.Guessing.{AreRecordedCalls, AreReadableOnes, IsReadableOne, IsRecordedCall};
 ghost use Rattle.kmipa_search.specs.Plain.{ArePlain, IsPlainStep};
+ghost use Rattle.kmipa_record.specs.Witnesses.{turn_of};
+ghost use Rattle.kmipa_check.specs.Plain.{bare_turn};
 
 use crate::candidate::Candidate;
+use crate::check_laws::check_laws;
 use kmipa_batch::is_unordered;
 use kmipa_check::{Call, needs_fill};
+use kmipa_record::Turn;
 use std::alloc::{AllocError, Global};
 
 /// The calls as a search takes them, where all are plain.
@@ -58,4 +63,40 @@ pub fn every_candidate<'b, 'a>(
         }
     }
     Ok(own)
+}
+
+/// Of each call, the call again if it is plain, or else none.
+pub fn plain_ones<'b, 'a>(
+    alloc: Global,
+    calls: &[Candidate<'b, 'a>],
+) -> Result<Vec<Option<Candidate<'b, 'a>>>, AllocError>
+    requires { AreRecordedCalls calls.now }
+    ensures { IfOk result (λ plain. AreReadableOnes plain.items) }
+{
+    let mut plain = Vec::with_capacity(alloc, calls.len())?;
+    'calls: for call in calls {
+        plain.push(plain_one(call))?;
+    }
+    Ok(plain)
+}
+
+/// The call again, if it is plain.
+fn plain_one<'b, 'a>(call: &Candidate<'b, 'a>) -> Option<Candidate<'b, 'a>>
+    requires { IsRecordedCall (call_of call.now.call.now) }
+    ensures { IfSome result IsReadableOne }
+{
+    check_laws();
+    candidate_of(call.call)
+}
+
+/// The turn that names a call, and gives nothing else.
+pub fn bare_turn(alloc: Global, call: i32) -> Turn
+    ensures { turn_of result ≡ bare_turn call }
+{
+    Turn {
+        call,
+        answer: None,
+        places: Vec::new(alloc),
+        fills: Vec::new(alloc),
+    }
 }

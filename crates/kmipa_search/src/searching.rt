@@ -4,9 +4,8 @@ ghost use Rattle.std.specs.Prelude.{◌≡◌, ◌<◌, ◌⊎◌, All, IfErr, I
 ghost use Rattle.kmipa_record.specs.Declarations.{AreDeclared, declaration_of};
 ghost use Rattle.kmipa_record.specs.Marks.{AreRecorded, MarkOf};
 ghost use Rattle.kmipa_record.specs.Transcripts.{transcript_of};
-ghost use Rattle.kmipa_record.specs.Witnesses.{IsWitness, turn_of, witness_of};
+ghost use Rattle.kmipa_record.specs.Witnesses.{IsWitness, witness_of};
 ghost use Rattle.kmipa_check.specs.Calls.{AreCalls, IsRecorded, call_of};
-ghost use Rattle.kmipa_check.specs.Plain.{bare_turn};
 ghost use Rattle.kmipa_check.specs.Runs.{IsAccepted};
 ghost use Rattle.kmipa_search.specs.Candidates.{AreNotPlain, candidate_step};
 ghost use Rattle.kmipa_search.specs.Plain.{ArePlain};
@@ -20,12 +19,12 @@ use crate::forthright::forthright_order;
 use crate::found::Found;
 use crate::guessing::guess_order;
 use crate::order::find_order;
-use crate::plain::{candidates, every_candidate};
+use crate::plain::{bare_turn, candidates, every_candidate};
 use crate::watch::{Unwatched, Watch};
 use kmipa_check::{
     Call, CheckFault, Verdict, check, check_calls, open_ledger, read_calls, rules_of_declaration,
 };
-use kmipa_record::{Declaration, RecordKind, Transcript, Turn, Witness, write_witness};
+use kmipa_record::{Declaration, RecordKind, Transcript, Witness, write_witness};
 use std::alloc::{AllocError, Global};
 
 /// Looks for a witness that a check accepts, trying at most `budget` calls.
@@ -243,18 +242,6 @@ fn witness_at(alloc: Global, calls: &[Candidate], order: &[usize]) -> Result<Wit
         turns.push(bare_turn(alloc, calls[*place].number))?;
     }
     Ok(Witness { turns })
-}
-
-/// The turn that names a call, and gives nothing else.
-fn bare_turn(alloc: Global, call: i32) -> Turn
-    ensures { turn_of result ≡ bare_turn call }
-{
-    Turn {
-        call,
-        answer: None,
-        places: Vec::new(alloc),
-        fills: Vec::new(alloc),
-    }
 }
 
 /// Hands a witness out that is accepted.

@@ -15,8 +15,8 @@ pub tries-init : goal.tries-init
 tries-init g c =
     guessing_begins {T = Turn} (length c.args.calls.now) c.args.budget c.new-turns.result.items c.new-path.result.items 0 (g.L.Ledger.state c.args.ledger.now) c.new-path.ensures.items c.new-turns.ensures.items c.requires.sound
 
-pub try_guess-requires-clause-recorded : goal.try_guess-requires-clause-recorded
-try_guess-requires-clause-recorded g c =
+pub try_one-requires-clause-recorded : goal.try_one-requires-clause-recorded
+try_one-requires-clause-recorded g c =
     c.requires.recorded c.index-calls-place.result
     (contains_at c.args.calls.now c.in-Some.place c.index-calls-place.result
     (slice_get_read c.args.calls.now (length c.args.calls.now) c.in-Some.place c.index-calls-place.result refl c.in-Some.ensures.within c.index-calls-place.is))
@@ -24,7 +24,7 @@ try_guess-requires-clause-recorded g c =
 pub tries-preserved-in-Some-2 : goal.tries-preserved-in-Some-2
 tries-preserved-in-Some-2 g c =
     let u = g.L.Ledger.state c.tries.ledger in
-    let v = g.L.Ledger.state c.try_guess.new.ledger in
+    let v = g.L.Ledger.state c.try_one.new.ledger in
     let Q : Option Taken → Type 0 = λ o. GuessTried u (Ok o) v in
     let e : GuessTried u (Ok (Some c.in-Some-2.taken)) v = subst Q c.in-Some-2.is c.in_ok-taken-in-Some.ensures in
     guessing_taken {T = Turn} (length c.args.calls.now) c.args.budget c.tries.path.items c.tries.turns.items c.tries.depth c.tries.steps u c.tries.invariant
