@@ -76,6 +76,7 @@ impl Ends {
 
     /// What is to be tried once these calls were taken, which are so many: late, nothing at an end that is known. So many objects were there
     /// when the search began, or none is compared: `front_of`.
+    #[inline(always)]
     pub fn arrive<L: Ledger>(
         &self,
         ledger: &L,
@@ -101,6 +102,7 @@ impl Ends {
 
     /// These calls, which are so many, lead to no run: it is noted, if it is late, not known yet, and there is room. What a search comes to
     /// later has more calls, so where the calls were no known end when it arrived, they are none now.
+    #[inline(always)]
     pub fn note<L: Ledger>(
         &mut self,
         alloc: Global,
@@ -127,6 +129,7 @@ impl Ends {
     }
 
     /// Whether an end of these calls is known, over a ledger whose objects stand as they do here.
+    #[inline(always)]
     fn has<L: Ledger>(
         &self,
         ledger: &L,
@@ -142,6 +145,7 @@ impl Ends {
     }
 
     /// The number of the newest end of this hash, and one more; or 0, where there is none.
+    #[inline(always)]
     fn alike(&self, hash: u64) -> usize {
         let mut number = number_at(&self.newest, place_of(hash, self.newest.len()));
         'chain: while number > 0 {

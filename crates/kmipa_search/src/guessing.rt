@@ -95,6 +95,7 @@ pub struct Taken {
 }
 
 /// The call at a place, where it is plain.
+#[inline(always)]
 fn plain_at<'p, 'b, 'a>(
     plain: &'p [Option<Candidate<'b, 'a>>],
     place: usize,
@@ -109,6 +110,7 @@ fn plain_at<'p, 'b, 'a>(
 }
 
 /// Takes a call after a new mark, as it was recorded where it is plain, and else with its guesses; or the ledger is as before.
+#[inline(always)]
 fn try_one<L: Ledger>(
     alloc: Global,
     ledger: &mut L,
@@ -128,6 +130,7 @@ fn try_one<L: Ledger>(
 }
 
 /// Takes a plain call after a new mark; or it is impossible, and the ledger is as before.
+#[inline(always)]
 fn try_plain<L: Ledger>(
     alloc: Global,
     ledger: &mut L,

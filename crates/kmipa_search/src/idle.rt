@@ -10,6 +10,7 @@ use crate::candidate::Candidate;
 use kmipa_msgs::{Asked, Request, Response, Status};
 
 /// Whether the call at a place is without effect.
+#[inline(always)]
 pub fn is_idle_place(calls: &[Candidate], place: usize) -> bool
     ensures { result ≡ true → IsIdleStep (step_at (map candidate_step calls.now) place) }
 {
@@ -20,6 +21,7 @@ pub fn is_idle_place(calls: &[Candidate], place: usize) -> bool
 }
 
 /// Whether a call is without effect.
+#[inline(always)]
 pub fn is_idle_call(call: &Candidate) -> bool
     ensures { result ≡ true → IsIdleStep (candidate_step call.now) }
 {
@@ -28,6 +30,7 @@ pub fn is_idle_call(call: &Candidate) -> bool
 
 /// Whether each item of a call failed, or only looks at what is not bytes: then the call changes nothing, and whether it is possible
 /// hangs on no bytes.
+#[inline(always)]
 fn is_idle(request: &Request, response: &Response) -> bool
     ensures { result ≡ true → AreIdleFrom (request_of request.now) (response_of response.now) 0 }
 {
@@ -42,6 +45,7 @@ fn is_idle(request: &Request, response: &Response) -> bool
 }
 
 /// The same of one item.
+#[inline(always)]
 fn is_idle_at(request: &Request, response: &Response, place: usize) -> bool
     ensures { result ≡ true → IsIdleAt (request_of request.now) (response_of response.now) place }
 {

@@ -132,6 +132,7 @@ fn places(alloc: Global, path: &[Visit]) -> Result<Vec<usize>, AllocError>
 }
 
 /// Takes a call after a new mark, and answers the mark's depth; or the call is impossible, and the ledger is as before.
+#[inline(always)]
 pub fn try_call<L: Ledger>(
     alloc: Global,
     ledger: &mut L,

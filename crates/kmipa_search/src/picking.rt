@@ -19,6 +19,7 @@ const WINDOW: usize = 64;
 
 /// The call to try next where so many calls are left, which are linked by their wishes too. Late, and where they are few, that line is gone
 /// along: the first on it that may be next and was not tried is the one that is wished most.
+#[inline(always)]
 pub fn pick_left(
     remaining: &Remaining,
     calls: &[Candidate],
@@ -46,6 +47,7 @@ pub fn pick_left(
 }
 
 /// The next call that was not tried and is wished most.
+#[inline(always)]
 fn pick_wished(
     remaining: &Remaining,
     calls: &[Candidate],
@@ -79,6 +81,7 @@ fn pick_wished(
 }
 
 /// Its place.
+#[inline(always)]
 fn most_wished(
     remaining: &Remaining,
     calls: &[Candidate],
@@ -112,6 +115,7 @@ fn most_wished(
 
 /// Whether the call of this rank, at this place, was not tried and is a next one, where those at these places have the least stamp and the
 /// least end.
+#[inline(always)]
 fn is_open(
     calls: &[Candidate],
     tried: Tried,

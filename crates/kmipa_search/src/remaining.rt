@@ -41,6 +41,7 @@ impl Remaining {
     }
 
     /// The first next call from a place on: after a next one, or from the first on.
+    #[inline(always)]
     pub fn next(&self, calls: &[Candidate], from: usize) -> Option<usize>
         ensures next { (taken : List ℕ) → AreBegun (map candidate_step calls.now)
             → AreRemaining (map candidate_step calls.now) taken self.now
@@ -69,6 +70,7 @@ impl Remaining {
     }
 
     /// The place of the call with the least stamp.
+    #[inline(always)]
     pub fn least(&self) -> usize
         ensures { result ≡ at self.now.stamps.order.items (at self.now.by_stamp.after.items 0) }
     {
@@ -76,6 +78,7 @@ impl Remaining {
     }
 
     /// The place of the call with the least end.
+    #[inline(always)]
     pub fn soonest(&self) -> usize
         ensures { result ≡ at self.now.ends.order.items (at self.now.by_end.after.items 0) }
     {
@@ -83,6 +86,7 @@ impl Remaining {
     }
 
     /// A next call is taken.
+    #[inline(always)]
     pub fn take(&mut self, calls: &[Candidate], place: usize)
         ensures { (taken : List ℕ) → AreRemaining (map candidate_step calls.now) taken self.old
             → IsNext (map candidate_step calls.now) taken place
@@ -93,6 +97,7 @@ impl Remaining {
     }
 
     /// The call that was taken last remains again.
+    #[inline(always)]
     pub fn give_back(&mut self, calls: &[Candidate], place: usize)
         ensures remaining { (taken : List ℕ) → AreRemaining (map candidate_step calls.now) (place ∷ taken) self.old
             → AreRemaining (map candidate_step calls.now) taken self.new }
@@ -110,6 +115,7 @@ ghost use Rattle.kmipa_search.specs.Progress.{step_at};
 ghost use Rattle.kmipa_search.specs.Ranks.{allows};
 
 /// Whether the call at a place is a next one, where those at these places have the least stamp and the least end.
+#[inline(always)]
 pub fn leads(calls: &[Candidate], place: usize, least: usize, soonest: usize) -> bool
     ensures reported { place < length calls.now → least < length calls.now → soonest < length calls.now
         → result
@@ -130,6 +136,7 @@ pub fn leads(calls: &[Candidate], place: usize, least: usize, soonest: usize) ->
 }
 
 /// Whether a call is a next one, where these have the least stamp and the least end.
+#[inline(always)]
 fn allows(call: &Candidate, least: &Candidate, soonest: &Candidate) -> bool
     ensures { result ≡ allows (candidate_step call.now) (candidate_step least.now) (candidate_step soonest.now) }
 {

@@ -37,6 +37,7 @@ impl TakenCalls {
     }
 
     /// A call is taken.
+    #[inline(always)]
     pub fn take(&mut self, place: usize)
         requires { place < 2 ^ 62 }
         ensures { (count : ℕ) (taken : List ℕ) → AreFlagged count taken self.old → place < count
@@ -49,6 +50,7 @@ impl TakenCalls {
     }
 
     /// The call that was taken last is left again.
+    #[inline(always)]
     pub fn give_back(&mut self, place: usize)
         ensures { (count : ℕ) (taken : List ℕ) → AreFlagged count (place ∷ taken) self.old → (Contains taken place → ⊥)
             → AreFlagged count taken self.new }
@@ -99,6 +101,7 @@ ghost use Rattle.std.specs.Prelude.{◌≡◌, ◌<◌, ◌≤◌, ◌^◌, ℕ,
 ghost use Rattle.kmipa_search.specs.Ends.{flag};
 
 /// The hash with a place more, or less.
+#[inline(always)]
 fn turned(hash: u64, place: usize) -> u64 {
     let number = (place as u64 ^ 0x5851_F42D_4C95_7F2D).wrapping_mul(0x9E37_79B9_7F4A_7C15);
     hash ^ (number ^ (number >> 32))
@@ -107,6 +110,7 @@ fn turned(hash: u64, place: usize) -> u64 {
 }
 
 /// Sets the mark of a place, if there is one, or takes it away.
+#[inline(always)]
 fn mark(flags: &mut Vec<bool>, place: usize, value: bool)
     ensures { flags.new.items ≡ slice_set flags.old.items place value }
 {
@@ -133,6 +137,7 @@ fn lower(low: usize, place: usize) -> usize
 }
 
 /// The first place from one on that has no mark.
+#[inline(always)]
 fn first_left(flags: &[bool], from: usize) -> usize
     ensures { ((p : ℕ) → p < from → flag flags.now p ≡ true) → (p : ℕ) → p < result → flag flags.now p ≡ true }
 {
@@ -147,6 +152,7 @@ fn first_left(flags: &[bool], from: usize) -> usize
 }
 
 /// The last place up to one behind which no other has a mark, and one more.
+#[inline(always)]
 fn last_taken(flags: &[bool], to: usize) -> usize
     ensures { ((p : ℕ) → flag flags.now p ≡ true → p < to) → (p : ℕ) → flag flags.now p ≡ true → p < result }
 {
@@ -208,6 +214,7 @@ fn are_marked(flags: &[bool], low: usize, rest: &[usize]) -> bool
 }
 
 /// Whether a place has a mark.
+#[inline(always)]
 fn is_marked(flags: &[bool], place: usize) -> bool
     ensures { result ≡ flag flags.now place }
 {

@@ -58,6 +58,7 @@ impl Visit {
 
     /// What is left to try once the call was given back. Late, a call without effect closes its place: whatever run there is without it at
     /// this place, there is one in which it comes first.
+    #[inline(always)]
     pub fn behind(&self, late: bool) -> Tried
         ensures { IsBehind self.now result }
     {
