@@ -1,0 +1,10 @@
+use Rattle.std.proofs.Common.{◌≡◌, ◌∙◌, ℕ, length, sym, subst}
+use Rattle.kmipa_search.specs.Wished.{IsAlong}
+use Rattle.kmipa_search.proofs.WishLemmas.{along_begins, along_behind}
+use Rattle.kmipa_search.proofs.picking.first_rank.Goals as goal
+
+pub returns-then : goal.returns-then
+returns-then c = λ calls taken ranked line marked.
+    let P : ℕ → Type 0 = λ r. IsAlong calls taken c.args.wishes.now.rank.items c.args.tried r in
+    subst P (sym c.after.ensures)
+    (along_begins calls taken c.args.wishes.now.order.items c.args.wishes.now.rank.items c.args.by_wish.now.after.items c.args.by_wish.now.before.items ranked line c.args.tried)
