@@ -39,6 +39,10 @@ module _ (calls : List StepOf) (taken order wishes A B : List ℕ) (ranked : IsR
   pub along_begins : IsAlong calls taken wishes t (at A 0)
   along_begins = along_next 0 (inr refl) (λ q c. (ranked.placed q (inside q c.next)).0)
 
+  -- behind the call tried last, where it is left
+  pub along_behind : LeftRank (length calls) wishes taken t.done → IsAlong calls taken wishes t (at A t.done)
+  along_behind left = along_next t.done (inl left) (λ q c. c.rank)
+
   -- past the end there is none
   pub along_past : (rank : ℕ) → IsAlong calls taken wishes t rank → length calls < rank → IsMostWished calls taken wishes t None
   along_past rank a past q c = omega (arith, past, a.least q c, (ranked.placed q (inside q c.next)).1)

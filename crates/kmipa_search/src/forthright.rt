@@ -8,6 +8,7 @@ use crate::order::EARLY;
 use crate::picking::pick_left;
 use crate::ranks::Ranks;
 use crate::remaining::Remaining;
+use crate::taken::TakenCalls;
 use crate::tried::Tried;
 use std::alloc::{AllocError, Global};
 
@@ -19,16 +20,20 @@ pub fn forthright_order(alloc: Global, calls: &[Candidate]) -> Result<Vec<usize>
     let mut remaining = Remaining::new(alloc, calls)?;
     let wishes = Ranks::by_wish(alloc, calls)?;
     let mut by_wish = Links::new(alloc, calls.len())?;
+    let mut taken = TakenCalls::new(alloc, calls.len())?;
     let mut order = Vec::with_capacity(alloc, calls.len())?;
     'places: while order.len() < calls.len() {
         let left = calls.len() - order.len();
         let late = order.len() as u64 >= EARLY;
         let none = Tried::none();
-        let Some(pick) = pick_left(&remaining, calls, &wishes, &by_wish, none, left, late) else {
+        let Some(pick) = pick_left(
+            &remaining, calls, &wishes, &by_wish, &taken, none, left, late,
+        ) else {
             return Ok(order);
         };
         remaining.take(calls, pick.place);
         by_wish.remove(wishes.rank(pick.place));
+        taken.take(pick.place);
         order.push(pick.place)?;
     }
     Ok(order)

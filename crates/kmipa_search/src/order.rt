@@ -71,6 +71,7 @@ pub fn find_order<L: Ledger, W: Watch>(
             calls,
             &wishes,
             &by_wish,
+            &taken,
             tried,
             left,
             steps >= EARLY,

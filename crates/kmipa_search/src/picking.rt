@@ -2,16 +2,19 @@
 
 ghost use Rattle.std.specs.Prelude.{◌≡◌, ◌<◌, ◌≤◌, ℕ, List, true, false, IfSome, length, map};
 ghost use Rattle.kmipa_search.specs.Candidates.{candidate_step};
+ghost use Rattle.kmipa_search.specs.Ends.{AreFlagged};
+ghost use Rattle.kmipa_check.specs.Steps.{StepOf};
 ghost use Rattle.kmipa_search.specs.Progress.{AreBegun, step_at};
 ghost use Rattle.kmipa_search.specs.Ranks.{InAnyOrder, IsRanked, WereLinked, allows};
 ghost use Rattle.kmipa_search.specs.Remaining.{AreRemaining, IsCursor};
 ghost use Rattle.kmipa_search.specs.Tries.{IsBest, IsBetter, IsFirst, IsPicked, IsPreferred};
-ghost use Rattle.kmipa_search.specs.Wished.{IsMostWished};
+ghost use Rattle.kmipa_search.specs.Wished.{IsAlong, IsMostWished};
 
 use crate::candidate::Candidate;
 use crate::links::Links;
 use crate::ranks::Ranks;
 use crate::remaining::{Remaining, leads};
+use crate::taken::TakenCalls;
 use crate::tried::{Pick, Tried};
 
 /// Where more calls than these may be next, they are tried in the order of their begin marks.
@@ -25,6 +28,7 @@ pub fn pick_left(
     calls: &[Candidate],
     wishes: &Ranks,
     by_wish: &Links,
+    flags: &TakenCalls,
     tried: Tried,
     left: usize,
     late: bool,
@@ -34,13 +38,13 @@ pub fn pick_left(
         → IsCursor (map candidate_step calls.now) taken tried.from
         → IsRanked (length (map candidate_step calls.now)) InAnyOrder wishes.now.order.items wishes.now.rank.items
         → WereLinked (length (map candidate_step calls.now)) wishes.now.rank.items taken by_wish.now.after.items
-        by_wish.now.before.items
+        by_wish.now.before.items → AreFlagged (length (map candidate_step calls.now)) taken flags.now
         → IsPicked (map candidate_step calls.now) taken wishes.now.rank.items tried result }
     ensures within { IfSome result (λ pick. pick.place < length calls.now) }
 {
     if late {
         if left <= WINDOW {
-            return pick_wished(remaining, calls, wishes, by_wish, tried);
+            return pick_wished(remaining, calls, wishes, by_wish, flags, tried);
         }
     }
     pick(remaining, calls, wishes, tried, late)
@@ -53,6 +57,7 @@ fn pick_wished(
     calls: &[Candidate],
     wishes: &Ranks,
     by_wish: &Links,
+    flags: &TakenCalls,
     tried: Tried,
 ) -> Option<Pick>
     ensures picked { (taken : List ℕ) → AreBegun (map candidate_step calls.now)
@@ -60,14 +65,14 @@ fn pick_wished(
         → IsCursor (map candidate_step calls.now) taken tried.from
         → IsRanked (length (map candidate_step calls.now)) InAnyOrder wishes.now.order.items wishes.now.rank.items
         → WereLinked (length (map candidate_step calls.now)) wishes.now.rank.items taken by_wish.now.after.items
-        by_wish.now.before.items
+        by_wish.now.before.items → AreFlagged (length (map candidate_step calls.now)) taken flags.now
         → IsPicked (map candidate_step calls.now) taken wishes.now.rank.items tried result }
     ensures within { IfSome result (λ pick. pick.place < length calls.now) }
 {
     if tried.closed {
         return None;
     }
-    match most_wished(remaining, calls, wishes, by_wish, tried) {
+    match most_wished(remaining, calls, wishes, by_wish, flags, tried) {
         Some(place) => Some(Pick {
             place,
             tried: Tried {
@@ -87,18 +92,19 @@ fn most_wished(
     calls: &[Candidate],
     wishes: &Ranks,
     by_wish: &Links,
+    flags: &TakenCalls,
     tried: Tried,
 ) -> Option<usize>
     ensures most { (taken : List ℕ) → AreRemaining (map candidate_step calls.now) taken remaining.now
         → IsRanked (length (map candidate_step calls.now)) InAnyOrder wishes.now.order.items wishes.now.rank.items
         → WereLinked (length (map candidate_step calls.now)) wishes.now.rank.items taken by_wish.now.after.items
-        by_wish.now.before.items
+        by_wish.now.before.items → AreFlagged (length (map candidate_step calls.now)) taken flags.now
         → IsMostWished (map candidate_step calls.now) taken wishes.now.rank.items tried result }
     ensures within { IfSome result (λ place. place < length calls.now) }
 {
     let least = remaining.least();
     let soonest = remaining.soonest();
-    let mut rank = by_wish.after(0);
+    let mut rank = first_rank(wishes, by_wish, flags, tried);
     'run: while rank <= calls.len() {
         let place = wishes.place(rank);
         if is_open(calls, tried, rank, place, least, soonest) {
@@ -111,6 +117,24 @@ fn most_wished(
         rank = after;
     }
     None
+}
+
+/// The first rank on the line that may be one that was not tried: the one behind the call that was tried last, if that one is left, or
+/// else the first of all.
+#[inline(always)]
+fn first_rank(wishes: &Ranks, by_wish: &Links, flags: &TakenCalls, tried: Tried) -> usize
+    ensures { (calls : List StepOf) (taken : List ℕ)
+        → IsRanked (length calls) InAnyOrder wishes.now.order.items wishes.now.rank.items
+        → WereLinked (length calls) wishes.now.rank.items taken by_wish.now.after.items by_wish.now.before.items
+        → AreFlagged (length calls) taken flags.now → IsAlong calls taken wishes.now.rank.items tried result }
+{
+    let place = wishes.place(tried.done);
+    if flags.is_left(place) {
+        if wishes.rank(place) == tried.done {
+            return by_wish.after(tried.done);
+        }
+    }
+    by_wish.after(0)
 }
 
 /// Whether the call of this rank, at this place, was not tried and is a next one, where those at these places have the least stamp and the

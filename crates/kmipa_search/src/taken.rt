@@ -61,6 +61,18 @@ impl TakenCalls {
         self.hash = turned(self.hash, place);
     }
 
+    /// Whether the call at a place is left.
+    #[inline(always)]
+    pub fn is_left(&self, place: usize) -> bool
+        ensures { (count : ℕ) (taken : List ℕ) → AreFlagged count taken self.now → result ≡ true
+            → (place < count) × (Contains taken place → ⊥) }
+    {
+        match self.flags.get(place) {
+            Some(mark) => !*mark,
+            None => false,
+        }
+    }
+
     /// The set of them, which are so many.
     pub fn set(&self, alloc: Global, count: usize) -> Result<CallSet, AllocError>
         ensures { (all : ℕ) (taken : List ℕ) → AreFlagged all taken self.now → length taken ≡ count

@@ -57,7 +57,7 @@ returns-then-steps-budget-clause-tells g c = λ declared o.
     let ranks = wishes_above (length c.args.calls.now) (length calls) W (length-map c.args.calls.now candidate_step) c.in_ok-wishes.ensures.0 in
     let R : ℕ → Type 0 = λ n. IsRanked n InAnyOrder c.in_ok-wishes.wishes.order.items c.in_ok-wishes.wishes.rank.items in
     let wishes = subst R (sym (length-map c.args.calls.now candidate_step)) c.in_ok-wishes.ensures.0 in
-    let f : AreBegun calls → IsPick calls (places visits) W.rank.items c.tries.tried c.in-Some.pick.place c.in-Some.pick.tried = λ b. c.in-Some.ensures.picked (places visits) b (c.tries.invariant.progress.remaining b) (c.tries.invariant.progress.cursor b) wishes (c.tries.invariant.wished b) in
+    let f : AreBegun calls → IsPick calls (places visits) W.rank.items c.tries.tried c.in-Some.pick.place c.in-Some.pick.tried = λ b. c.in-Some.ensures.picked (places visits) b (c.tries.invariant.progress.remaining b) (c.tries.invariant.progress.cursor b) wishes (c.tries.invariant.wished b) (c.tries.invariant.memory.flagged b) in
     progress_stop (rules_of c.args.rules.now) calls W.rank.items ranks c.args.budget (g.L.Ledger.state c.args.ledger.now).now c.tries.remaining visits c.tries.tried c.tries.depth c.tries.steps (g.L.Ledger.state c.tries.ledger) c.tries.invariant.progress
     c.in-Some.pick.place c.in-Some.pick.tried f c.if-steps-budget.true declared o
     (omega (arith, c.tries-test.true, c.len.ensures, length-reverse c.tries.path.items, length-map c.args.calls.now candidate_step))
@@ -82,7 +82,7 @@ tries-preserved-in-Some-2 g c =
     let ranks = wishes_above (length c.args.calls.now) (length calls) W (length-map c.args.calls.now candidate_step) c.in_ok-wishes.ensures.0 in
     let R : ℕ → Type 0 = λ n. IsRanked n InAnyOrder c.in_ok-wishes.wishes.order.items c.in_ok-wishes.wishes.rank.items in
     let wishes = subst R (sym (length-map c.args.calls.now candidate_step)) c.in_ok-wishes.ensures.0 in
-    let f : AreBegun calls → IsPick calls (places visits) W.rank.items c.tries.tried place c.in-Some.pick.tried = λ b. c.in-Some.ensures.picked (places visits) b (c.tries.invariant.progress.remaining b) (c.tries.invariant.progress.cursor b) wishes (c.tries.invariant.wished b) in
+    let f : AreBegun calls → IsPick calls (places visits) W.rank.items c.tries.tried place c.in-Some.pick.tried = λ b. c.in-Some.ensures.picked (places visits) b (c.tries.invariant.progress.remaining b) (c.tries.invariant.progress.cursor b) wishes (c.tries.invariant.wished b) (c.tries.invariant.memory.flagged b) in
     let there = mapped_at candidate_step c.args.calls.now place c.index-calls-place.result c.in-Some.ensures.within c.index-calls-place.is in
     let Q : Option ℕ → Type 0 = λ o. CallTried rules u (candidate_step c.index-calls-place.result) (Ok o) v in
     let taken : Progress rules calls W.rank.items c.args.budget first c.take.new.self (visit ∷ visits) none_tried c.in-Some-2.mark (c.tries.steps + 1) v =
@@ -127,7 +127,7 @@ tries-preserved-in-None-2 g c =
     let ranks = wishes_above (length c.args.calls.now) (length calls) W (length-map c.args.calls.now candidate_step) c.in_ok-wishes.ensures.0 in
     let R : ℕ → Type 0 = λ n. IsRanked n InAnyOrder c.in_ok-wishes.wishes.order.items c.in_ok-wishes.wishes.rank.items in
     let wishes = subst R (sym (length-map c.args.calls.now candidate_step)) c.in_ok-wishes.ensures.0 in
-    let f : AreBegun calls → IsPick calls (places visits) W.rank.items c.tries.tried place c.in-Some.pick.tried = λ b. c.in-Some.ensures.picked (places visits) b (c.tries.invariant.progress.remaining b) (c.tries.invariant.progress.cursor b) wishes (c.tries.invariant.wished b) in
+    let f : AreBegun calls → IsPick calls (places visits) W.rank.items c.tries.tried place c.in-Some.pick.tried = λ b. c.in-Some.ensures.picked (places visits) b (c.tries.invariant.progress.remaining b) (c.tries.invariant.progress.cursor b) wishes (c.tries.invariant.wished b) (c.tries.invariant.memory.flagged b) in
     let there = mapped_at candidate_step c.args.calls.now place c.index-calls-place.result c.in-Some.ensures.within c.index-calls-place.is in
     record {
       progress =
@@ -151,8 +151,9 @@ returns-in_default-clause-tells g c = λ declared o.
     let empty : c.tries.path.items ≡ [] = no_elements c.tries.path.items (count ∙ c.in_default.ensures.cases.0) in
     let t = subst T empty c.tries.invariant.progress in
     let K : List Visit → Type 0 = λ xs. WereLinked (length (map candidate_step c.args.calls.now)) c.in_ok-wishes.wishes.rank.items (places (reverse xs)) c.tries.by_wish.after.items c.tries.by_wish.before.items in
+    let N : List Visit → Type 0 = λ xs. AreFlagged (length (map candidate_step c.args.calls.now)) (places (reverse xs)) c.tries.taken in
     progress_end (rules_of c.args.rules.now) calls W.rank.items ranks c.args.budget (g.L.Ledger.state c.args.ledger.now).now c.tries.remaining c.tries.tried c.tries.depth c.tries.steps (g.L.Ledger.state c.tries.ledger) t
-    (λ b. c.in-None.ensures.picked [] b (t.remaining b) (t.cursor b) wishes (subst K empty (c.tries.invariant.wished b)))
+    (λ b. c.in-None.ensures.picked [] b (t.remaining b) (t.cursor b) wishes (subst K empty (c.tries.invariant.wished b)) (subst N empty (c.tries.invariant.memory.flagged b)))
     (omega (arith, c.tries-test.true, length-map c.args.calls.now candidate_step)) declared o
 
 pub tries-preserved : goal.tries-preserved
@@ -173,7 +174,7 @@ tries-preserved g c =
     let t = subst T is c.tries.invariant.progress in
     let m = subst M is c.tries.invariant.memory in
     let K : List Visit → Type 0 = λ xs. WereLinked (length calls) W.rank.items (places xs) c.tries.by_wish.after.items c.tries.by_wish.before.items in
-    let none : AreBegun calls → IsPicked calls (places (visit ∷ visits)) W.rank.items c.tries.tried None = λ b. c.in-None.ensures.picked (places (visit ∷ visits)) b (t.remaining b) (t.cursor b) wishes (subst K is (c.tries.invariant.wished b)) in
+    let none : AreBegun calls → IsPicked calls (places (visit ∷ visits)) W.rank.items c.tries.tried None = λ b. c.in-None.ensures.picked (places (visit ∷ visits)) b (t.remaining b) (t.cursor b) wishes (subst K is (c.tries.invariant.wished b)) (m.flagged b) in
     let few : suc (length visits) < length calls = omega (arith, c.tries-test.true, c.len.ensures, length-reverse c.tries.path.items, ap length is, length-map c.args.calls.now candidate_step) in
     let long : length (places (visit ∷ visits)) ≡ c.len-in-None.result + 1 = omega (arith, length-map (visit ∷ visits) (λ (x : Visit). x.place), length-reverse c.pop.new.self.items, c.pop.new.self.ok.0, c.len-in-None.ensures) in
     record {

@@ -1,25 +1,22 @@
-use Rattle.std.proofs.Common.{◌≡◌, ◌<◌, ◌≤◌, ℕ, List, map, length, Contains, sym, subst, arith}
+use Rattle.std.proofs.Common.{◌≡◌, ◌<◌, ◌≤◌, ℕ, map, length, Contains, sym, subst, arith}
 use Rattle.std.proofs.lemmas.List.{length-map}
 use Rattle.kmipa_search.specs.Candidates.{candidate_step}
 use Rattle.kmipa_search.specs.Links.{at}
 use Rattle.kmipa_search.specs.Wished.{IsAlong}
 use Rattle.kmipa_search.proofs.CandidateLemmas.{candidates_ended}
 use Rattle.kmipa_search.proofs.RemainingLemmas.{remaining_next, remaining_other}
-use Rattle.kmipa_search.proofs.WishLemmas.{along_begins, along_past, along_place, along_on, along_onward, along_found, along_closed}
+use Rattle.kmipa_search.proofs.WishLemmas.{along_past, along_place, along_on, along_onward, along_found, along_closed}
 use Rattle.kmipa_search.proofs.picking.most_wished.Goals as goal
 
 pub run-init : goal.run-init
-run-init c = λ taken x ranked line.
-    let P : ℕ → Type 0 = λ r. IsAlong (map candidate_step c.args.calls.now) taken c.args.wishes.now.rank.items c.args.tried r in
-    subst P (sym c.after-rank.ensures)
-    (along_begins (map candidate_step c.args.calls.now) taken c.args.wishes.now.order.items c.args.wishes.now.rank.items c.args.by_wish.now.after.items c.args.by_wish.now.before.items ranked line c.args.tried)
+run-init c = λ taken x ranked line marked. c.first_rank-rank.ensures (map candidate_step c.args.calls.now) taken ranked line marked
 
 pub returns-then-is_open-clause-most : goal.returns-then-is_open-clause-most
-returns-then-is_open-clause-most c = λ taken x ranked line.
+returns-then-is_open-clause-most c = λ taken x ranked line marked.
     let calls = map candidate_step c.args.calls.now in
     let W = c.args.wishes.now in
     let L = c.args.by_wish.now in
-    let a = c.run.invariant taken x ranked line in
+    let a = c.run.invariant taken x ranked line marked in
     let same = length-map c.args.calls.now candidate_step in
     let within : c.run.rank ≤ length calls = omega (arith, c.run-test.true, same) in
     let P : ℕ → Type 0 = λ p. (p < length calls) × (at W.rank.items p ≡ c.run.rank) × (Contains taken p → ⊥) in
@@ -30,7 +27,7 @@ returns-then-is_open-clause-most c = λ taken x ranked line.
     (c.is_open.ensures.from c.if-is_open.true) (c.is_open.ensures.done c.if-is_open.true)
 
 pub returns-then-after-rank-clause-most : goal.returns-then-after-rank-clause-most
-returns-then-after-rank-clause-most c = λ taken x ranked line q o.
+returns-then-after-rank-clause-most c = λ taken x ranked line marked q o.
     let calls = map candidate_step c.args.calls.now in
     let W = c.args.wishes.now in
     let L = c.args.by_wish.now in
@@ -39,15 +36,15 @@ returns-then-after-rank-clause-most c = λ taken x ranked line q o.
       arith,
       c.if-after-rank.true,
       c.after-after.ensures,
-      along_onward calls taken W.order.items W.rank.items L.after.items L.before.items ranked line c.args.tried c.run.rank (c.run.invariant taken x ranked line) within,
+      along_onward calls taken W.order.items W.rank.items L.after.items L.before.items ranked line c.args.tried c.run.rank (c.run.invariant taken x ranked line marked) within,
     )
 
 pub run-preserved : goal.run-preserved
-run-preserved c = λ taken x ranked line.
+run-preserved c = λ taken x ranked line marked.
     let calls = map candidate_step c.args.calls.now in
     let W = c.args.wishes.now in
     let L = c.args.by_wish.now in
-    let a = c.run.invariant taken x ranked line in
+    let a = c.run.invariant taken x ranked line marked in
     let same = length-map c.args.calls.now candidate_step in
     let within : c.run.rank ≤ length calls = omega (arith, c.run-test.true, same) in
     let P : ℕ → Type 0 = λ p. (p < length calls) × (at W.rank.items p ≡ c.run.rank) × (Contains taken p → ⊥) in
@@ -60,8 +57,8 @@ run-preserved c = λ taken x ranked line.
     (λ h s. c.is_open.ensures.no c.if-is_open.false done from (let t = there.0 in omega (arith, t, same)) (omega (arith, h, same)) (omega (arith, s, same))))))
 
 pub returns-clause-most : goal.returns-clause-most
-returns-clause-most c = λ taken x ranked line.
+returns-clause-most c = λ taken x ranked line marked.
     let W = c.args.wishes.now in
     let L = c.args.by_wish.now in
-    along_past (map candidate_step c.args.calls.now) taken W.order.items W.rank.items L.after.items L.before.items ranked line c.args.tried c.run.rank (c.run.invariant taken x ranked line)
+    along_past (map candidate_step c.args.calls.now) taken W.order.items W.rank.items L.after.items L.before.items ranked line c.args.tried c.run.rank (c.run.invariant taken x ranked line marked)
     (omega (arith, c.run-test.false, length-map c.args.calls.now candidate_step))

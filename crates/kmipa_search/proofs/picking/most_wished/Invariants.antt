@@ -1,5 +1,6 @@
 use Rattle.std.proofs.Common.{ℕ, ◌+◌, ◌-◌, List, map, length}
 use Rattle.kmipa_search.specs.Candidates.{candidate_step}
+use Rattle.kmipa_search.specs.Ends.{AreFlagged}
 use Rattle.kmipa_search.specs.Ranks.{InAnyOrder, IsRanked, WereLinked}
 use Rattle.kmipa_search.specs.Remaining.{AreRemaining}
 use Rattle.kmipa_search.specs.Wished.{IsAlong}
@@ -9,6 +10,7 @@ abbrev pub invariant-run : goal.invariant-run
 invariant-run l = (taken : List ℕ) → AreRemaining (map candidate_step l.calls) taken l.remaining
     → IsRanked (length (map candidate_step l.calls)) InAnyOrder l.wishes.order.items l.wishes.rank.items
     → WereLinked (length (map candidate_step l.calls)) l.wishes.rank.items taken l.by_wish.after.items l.by_wish.before.items
+    → AreFlagged (length (map candidate_step l.calls)) taken l.flags
     → IsAlong (map candidate_step l.calls) taken l.wishes.rank.items l.tried l.rank
 
 abbrev pub decreases-run : goal.decreases-run
