@@ -19,8 +19,8 @@ impl Links {
         requires { count < 2 ^ 62 }
         ensures { IfOk result (λ l. AreLinked count (IsWithin count) l.after.items l.before.items) }
     {
-        let mut after = Vec::new(alloc);
-        let mut before = Vec::new(alloc);
+        let mut after = Vec::with_capacity(alloc, count + 2)?;
+        let mut before = Vec::with_capacity(alloc, count + 2)?;
         before.push(0)?;
         let mut i = 0;
         'elements: while i < count + 1 {

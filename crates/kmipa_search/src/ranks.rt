@@ -26,14 +26,14 @@ impl Ranks {
             (λ r. IsRanked (length calls.now) (ByStamp (map candidate_step calls.now)) r.order.items r.rank.items
             × HasRank (length calls.now) r.rank.items) }
     {
-        let mut keys = Vec::new(alloc);
+        let mut keys = Vec::with_capacity(alloc, calls.len())?;
         let mut place = 0;
         'calls: while place < calls.len() {
             keys.push((calls[place].response.stamp, place))?;
             place += 1;
         }
         keys.sort_unstable();
-        let mut places = Vec::new(alloc);
+        let mut places = Vec::with_capacity(alloc, keys.len())?;
         'keys: for key in &keys {
             places.push(key.1)?;
         }
@@ -46,14 +46,14 @@ impl Ranks {
             (λ r. IsRanked (length calls.now) (ByEnd (map candidate_step calls.now)) r.order.items r.rank.items
             × HasRank (length calls.now) r.rank.items) }
     {
-        let mut keys = Vec::new(alloc);
+        let mut keys = Vec::with_capacity(alloc, calls.len())?;
         let mut place = 0;
         'calls: while place < calls.len() {
             keys.push((calls[place].end, place))?;
             place += 1;
         }
         keys.sort_unstable();
-        let mut places = Vec::new(alloc);
+        let mut places = Vec::with_capacity(alloc, keys.len())?;
         'keys: for key in &keys {
             places.push(key.1)?;
         }
@@ -66,14 +66,14 @@ impl Ranks {
             (λ r. IsRanked (length calls.now) InAnyOrder r.order.items r.rank.items
             × HasRank (length calls.now) r.rank.items) }
     {
-        let mut keys = Vec::new(alloc);
+        let mut keys = Vec::with_capacity(alloc, calls.len())?;
         let mut place = 0;
         'calls: while place < calls.len() {
             keys.push((wish(&calls[place]), place))?;
             place += 1;
         }
         keys.sort_unstable();
-        let mut places = Vec::new(alloc);
+        let mut places = Vec::with_capacity(alloc, keys.len())?;
         'keys: for key in &keys {
             places.push(key.1)?;
         }
@@ -87,7 +87,7 @@ impl Ranks {
             (λ r. (r.order.items ≡ 0 ∷ places.now)
             × (AllPairs (λ x y. x ≢ y) places.now → AreNoted places.now (length places.now) r.rank.items)) }
     {
-        let mut order = Vec::new(alloc);
+        let mut order = Vec::with_capacity(alloc, places.len() + 1)?;
         order.push(0)?;
         let mut rank = Vec::from_elem(alloc, 0, places.len())?;
         let mut r = 0;
