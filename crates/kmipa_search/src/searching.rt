@@ -63,11 +63,29 @@ pub fn search_watched<W: Watch>(
     ensures { AreRecorded (transcript_of transcript.now)
         → Searches (transcript_of transcript.now) (declaration_of declaration.now) budget result }
 {
-    check_laws();
     let calls = read_calls(alloc, transcript)?;
-    match candidates(alloc, &calls)? {
-        Some(own) => search_plain(alloc, &calls, declaration, &own, budget, watch),
-        None => search_waiting(alloc, transcript, declaration, &calls, budget, watch),
+    search_calls(alloc, transcript, declaration, &calls, budget, watch)
+}
+
+/// The same of calls that were read of the transcript before, and that stay the caller's.
+pub fn search_calls<W: Watch>(
+    alloc: Global,
+    transcript: &Transcript,
+    declaration: &Declaration,
+    calls: &[Call],
+    budget: u64,
+    watch: &mut W,
+) -> Result<Found, CheckFault>
+    requires declared { AreDeclared (declaration_of declaration.now) }
+    requires each { All (IsRecorded (transcript_of transcript.now)) (map call_of calls.now) }
+    ensures { AreRecorded (transcript_of transcript.now)
+        → AreCalls (transcript_of transcript.now) (map call_of calls.now)
+        → Searches (transcript_of transcript.now) (declaration_of declaration.now) budget result }
+{
+    check_laws();
+    match candidates(alloc, calls)? {
+        Some(own) => search_plain(alloc, calls, declaration, &own, budget, watch),
+        None => search_waiting(alloc, transcript, declaration, calls, budget, watch),
     }
 }
 
