@@ -17,6 +17,7 @@ use std::alloc::Global;
 
 /// Takes the items of a call in the order of these places, counted from 1, or else the first `count` by place. The ID Placeholder is empty
 /// at the start.
+#[inline(always)]
 pub(crate) fn take_along<L: Ledger>(
     alloc: Global,
     ledger: &mut L,
