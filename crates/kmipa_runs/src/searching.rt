@@ -1,6 +1,6 @@
 //! `search`: a witness of a transcript and a declaration.
 
-ghost use Rattle.std.specs.Prelude.{◌≡◌, ◌≢◌, ◌⊎◌, ◌++◌, ℕ, List, [], IsTrue, IfOk, OnOk, Result, Ok, Err, string_bytes};
+ghost use Rattle.std.specs.Prelude.{◌≡◌, ◌≢◌, ◌⊎◌, ◌++◌, ℕ, List, [], All, IsTrue, IfOk, OnOk, Result, Ok, Err, map, string_bytes};
 ghost use Rattle.std.specs.Io.{StartsWith, appended_bytes};
 ghost use Rattle.kmipa_ttlv.specs.Input.{came_of, is_ended, is_failed, IsFileOf};
 ghost use Rattle.kmipa_record.specs.Declarations.{AreDeclared, declaration_of};
@@ -8,6 +8,7 @@ ghost use Rattle.kmipa_record.specs.Marks.{AreRecorded};
 ghost use Rattle.kmipa_record.specs.Transcripts.{transcript_of};
 ghost use Rattle.kmipa_record.specs.Witnesses.{witness_of, IsWitness};
 ghost use Rattle.kmipa_check.specs.Audits.{AreAccepted};
+ghost use Rattle.kmipa_check.specs.Calls.{AreCalls, IsRecorded, call_of};
 ghost use Rattle.kmipa_search.specs.Found.{Searches};
 ghost use Rattle.kmipa_runs.specs.Searches.{found_status, found_text, forced_text, PrintsSearch, SearchesFiles, SearchesRecords, TellsIfForced};
 ghost use Rattle.kmipa_runs.specs.Statuses.{IsSilent};
@@ -16,21 +17,22 @@ use crate::lines::{Lines, fault_lines};
 use crate::reporting::append;
 use crate::searched::Searched;
 use crate::status::Status;
-use kmipa_check::{AuditFault, CheckFault};
+use kmipa_check::{AuditFault, Call, CheckFault, read_calls};
 use kmipa_record::{
     Declaration, Transcript, Witness, read_declaration, read_transcript, write_witness,
 };
-use kmipa_search::{Found, Watch, is_forced, search_open, search_watched};
+use kmipa_search::{Found, Watch, is_forced, search_calls, search_open_calls};
 use kmipa_ttlv::Input;
 use std::alloc::{AllocError, Global};
 use std::io::Read;
+use std::mem::forget;
 
 /// `search TRANSCRIPT DECLARATION OUT`: looks for a witness with at most `budget` steps. Appends to `out` the lines of
 /// what was found, with `forced` before them whether the transcript is forced, or the line of the fault that stands
 /// in their place, and answers the status. With `open` calls without an end mark are taken too, and batches without
 /// order in other orders. A witness that was found is appended to `made`, as a file; at every other
 /// status than `Done` nothing is. Where memory runs out nothing is appended to either, and the status is `Failed`. The
-/// watcher is reported of each step.
+/// watcher is reported of each step. It is for a program's one search: what it read of the transcript is not given back.
 pub fn search_run<R: Read, W: Watch>(
     alloc: Global,
     transcript: &mut Input<R>,
@@ -90,17 +92,35 @@ fn search_inputs<R: Read, W: Watch>(
         Ok(declaration) => declaration,
         Err(fault) => return Err(AuditFault::Declaration(fault)),
     };
-    match search_records(
-        alloc,
-        &transcript,
-        &declaration,
-        budget,
-        forced,
-        open,
-        watch,
-    ) {
+    match search_at_last(alloc, transcript, &declaration, budget, forced, open, watch) {
         Ok(searched) => Ok(searched),
         Err(fault) => Err(AuditFault::Check(fault)),
+    }
+}
+
+/// Searches the records of a run's one search. Neither the transcript nor its calls are given back: the program ends behind it, and its
+/// system takes their pages back at once, where to let go of each message takes a tenth of the search.
+fn search_at_last<W: Watch>(
+    alloc: Global,
+    transcript: Transcript,
+    declaration: &Declaration,
+    budget: u64,
+    asked: bool,
+    open: bool,
+    watch: &mut W,
+) -> Result<Searched, CheckFault>
+    requires { AreDeclared (declaration_of declaration.now) }
+    ensures { AreRecorded (transcript_of transcript)
+        → SearchesRecords (transcript_of transcript) (declaration_of declaration.now) budget asked result }
+{
+    let forced = if_forced(alloc, &transcript, asked)?;
+    let calls = read_calls(alloc, &transcript)?;
+    let found = search_as_asked(alloc, &transcript, declaration, &calls, budget, open, watch);
+    forget(calls);
+    forget(transcript);
+    match found {
+        Ok(found) => Ok(Searched { forced, found }),
+        Err(fault) => Err(fault),
     }
 }
 
@@ -119,27 +139,31 @@ pub fn search_records<W: Watch>(
         → SearchesRecords (transcript_of transcript.now) (declaration_of declaration.now) budget forced result }
 {
     let forced = if_forced(alloc, transcript, forced)?;
-    let found = search_as_asked(alloc, transcript, declaration, budget, open, watch)?;
+    let calls = read_calls(alloc, transcript)?;
+    let found = search_as_asked(alloc, transcript, declaration, &calls, budget, open, watch)?;
     Ok(Searched { forced, found })
 }
 
-/// Looks for a witness, with `open` of calls without an end mark too.
+/// Looks for a witness of calls that were read of the transcript, with `open` of those without an end mark too.
 fn search_as_asked<W: Watch>(
     alloc: Global,
     transcript: &Transcript,
     declaration: &Declaration,
+    calls: &[Call],
     budget: u64,
     open: bool,
     watch: &mut W,
 ) -> Result<Found, CheckFault>
-    requires { AreDeclared (declaration_of declaration.now) }
+    requires declared { AreDeclared (declaration_of declaration.now) }
+    requires each { All (IsRecorded (transcript_of transcript.now)) (map call_of calls.now) }
     ensures { AreRecorded (transcript_of transcript.now)
+        → AreCalls (transcript_of transcript.now) (map call_of calls.now)
         → Searches (transcript_of transcript.now) (declaration_of declaration.now) budget result }
 {
     if open {
-        search_open(alloc, transcript, declaration, budget, watch)
+        search_open_calls(alloc, transcript, declaration, calls, budget, watch)
     } else {
-        search_watched(alloc, transcript, declaration, budget, watch)
+        search_calls(alloc, transcript, declaration, calls, budget, watch)
     }
 }
 

@@ -2,10 +2,10 @@ use Rattle.kmipa_check.proofs.AuditLemmas.{a_transcript}
 use Rattle.kmipa_runs.proofs.SearchLemmas.{searched_files, unsearched_files}
 use Rattle.kmipa_runs.proofs.searching.search_inputs.Goals as goal
 
-pub returns-in-Ok-search_records-clause-searches : goal.returns-in-Ok-search_records-clause-searches
-returns-in-Ok-search_records-clause-searches g c = λ t d tf df.
-    searched_files c.read_transcript.new.input c.read_declaration.new.input t d c.in-Ok.transcript c.in-Ok-read_declaration.declaration c.in-Ok-search_records.searched c.args.budget c.args.forced
-    tf df c.in-Ok.ensures.found c.in-Ok-read_declaration.ensures.found c.in-Ok-search_records.ensures
+pub returns-in-Ok-search_at_last-clause-searches : goal.returns-in-Ok-search_at_last-clause-searches
+returns-in-Ok-search_at_last-clause-searches g c = λ t d tf df.
+    searched_files c.read_transcript.new.input c.read_declaration.new.input t d c.in-Ok.transcript c.in-Ok-read_declaration.declaration c.in-Ok-search_at_last.searched c.args.budget c.args.forced
+    tf df c.in-Ok.ensures.found c.in-Ok-read_declaration.ensures.found c.in-Ok-search_at_last.ensures
 
 pub returns-in-Err-read_declaration-clause-searches : goal.returns-in-Err-read_declaration-clause-searches
 returns-in-Err-read_declaration-clause-searches g c = λ t d tf df.
@@ -13,5 +13,5 @@ returns-in-Err-read_declaration-clause-searches g c = λ t d tf df.
 
 pub returns-clause-searches : goal.returns-clause-searches
 returns-clause-searches g c = λ t d tf df.
-    unsearched_files c.read_transcript.new.input c.read_declaration.new.input t d c.in-Ok.transcript c.in-Ok-read_declaration.declaration c.in-Err-search_records.fault c.args.budget c.args.forced
-    tf df c.in-Ok.ensures.found c.in-Ok-read_declaration.ensures.found c.in-Err-search_records.ensures
+    unsearched_files c.read_transcript.new.input c.read_declaration.new.input t d c.in-Ok.transcript c.in-Ok-read_declaration.declaration c.in-Err-search_at_last.fault c.args.budget c.args.forced
+    tf df c.in-Ok.ensures.found c.in-Ok-read_declaration.ensures.found c.in-Err-search_at_last.ensures
