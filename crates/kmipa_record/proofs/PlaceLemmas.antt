@@ -15,13 +15,13 @@ use Rattle.kmipa_ttlv.proofs.LawLemmas.{no_flaw_lem}
 use Rattle.kmipa_ttlv.proofs.ReadLemmas.{head_fails}
 use Rattle.kmipa_record.specs.Files.{IsOneItemAtMost, TellsItem}
 use Rattle.kmipa_record.specs.Reading.{record_kind, TellsFlawOf, Takes}
-use Rattle.kmipa_record.specs.DeclarationReading.{Refuses}
+use Rattle.kmipa_record.specs.Taking.{Refuses}
 use Rattle.kmipa_record.specs.Declarations.{RecordOf, row, entry}
+use Rattle.kmipa_record.specs.Entries.{EntryOf}
 use Rattle.kmipa_record.specs.Witnesses.{TurnOf}
 use Rattle.kmipa_record.specs.WitnessReading.{RefusesTurn, no_memory, foreign, low}
 use Rattle.kmipa_record.specs.declared.fault.RecordFault.{RecordFault}
 use Rattle.kmipa_record.specs.declared.fault.RecordKind.TheVariants.{Ttlv, Number, Identifier, Entry, Memory}
-use Rattle.kmipa_record.specs.declared.records.Records.{Records}
 use Rattle.kmipa_record.specs.declared.version.Version.{Version}
 use Rattle.kmipa_record.proofs.KindLemmas.{caused}
 
@@ -81,8 +81,8 @@ refused_turn_place version turn came f one (no_memory e) = caused f.kind Memory 
 refused_turn_place version turn came f one (foreign d e) = caused f.kind Entry _ _ _ e tt
 refused_turn_place version turn came f one (low a l e) = caused f.kind Number _ _ _ e tt
 
-pub refused_record_place : (old : Records) (r : RecordOf) (came : List ℕ) (f : RecordFault) → IsOneItemAtMost (drop f.offset came) → Refuses old r f.kind → TellsItem came f
-refused_record_place old (row r) came f one (inl e) = caused f.kind Memory _ _ _ e one
-refused_record_place old (row r) came f one (inr x) = caused f.kind Entry _ _ _ x.0 tt
-refused_record_place old (entry e) came f one (inl m) = caused f.kind Memory _ _ _ m one
-refused_record_place old (entry e) came f one (inr x) = caused f.kind Identifier _ _ _ x.0 tt
+pub refused_record_place : (entries : List EntryOf) (r : RecordOf) (came : List ℕ) (f : RecordFault) → IsOneItemAtMost (drop f.offset came) → Refuses entries r f.kind → TellsItem came f
+refused_record_place entries (row r) came f one (inl e) = caused f.kind Memory _ _ _ e one
+refused_record_place entries (row r) came f one (inr x) = caused f.kind Entry _ _ _ x.0 tt
+refused_record_place entries (entry e) came f one (inl m) = caused f.kind Memory _ _ _ m one
+refused_record_place entries (entry e) came f one (inr x) = caused f.kind Identifier _ _ _ x.0 tt

@@ -1,5 +1,5 @@
 -- Records that are put after others.
-use Rattle.std.proofs.Common.{◌≡◌, ◌≢◌, ◌<◌, ◌||◌, ◌⊎◌, ℕ, zero, suc, List, [], ◌∷◌, ◌++◌, length, map, get_or, slice_get, Option, Some, None, Bool, true, false, not, cond, refl, sym, ap, subst, ◌∙◌, inl, inr, bytes_eq, string_bytes, String, arith}
+use Rattle.std.proofs.Common.{◌≡◌, ◌≢◌, ◌<◌, ◌||◌, ◌⊎◌, ℕ, zero, suc, List, [], ◌∷◌, ◌++◌, length, map, get_or, slice_get, Option, Some, None, Bool, true, false, not, cond, refl, sym, ap, subst, ◌∙◌, inl, inr, bytes_eq, string_bytes, String, Result, Ok, Err, arith}
 use Rattle.std.specs.Global.{Global}
 use Rattle.std.specs.BTreeMap.{BTreeMap, get, Updates, is_at}
 use Rattle.std.specs.BTreeSet.{BTreeSet, contains_text}
@@ -10,17 +10,22 @@ use Rattle.std.proofs.lemmas.Bool.{cases_eq}
 use Rattle.std.proofs.lemmas.Cmp.{ranked}
 use Rattle.std.proofs.lemmas.Option.{slice_get-get_or, slice_get_cases}
 use Rattle.std.specs.List.{list_any}
-use Rattle.std.specs.Prelude.{All, AllPairs, Any}
+use Rattle.std.specs.Prelude.{All, AllPairs, Any, IfOk, MatchResult}
 use Rattle.std.proofs.lemmas.Bool.Decides.{same_from_decides, Decides-like}
-use Rattle.std.proofs.lemmas.List.{length-map, map-append}
+use Rattle.std.proofs.Math.Seq.{get_or-append_seam}
+use Rattle.std.proofs.lemmas.List.{get_or_append_left, length-append, length-map, map-append}
 use Rattle.std.proofs.lemmas.List.Elements.{All-push}
 use Rattle.std.proofs.lemmas.List.Folds.{Any-from_list_any, list_any_at, list_any-append}
 use Rattle.std.proofs.lemmas.List.Quantifiers.{all_pairs_push}
 use Rattle.std.proofs.lemmas.Slice.Eq.{bytes_eq-Decides}
-use Rattle.kmipa_record.specs.DeclarationReading.{entries_in, AreKept, AreOthers, IsFound, has_id}
+use Rattle.kmipa_msgs.specs.Messages.{RowOf}
+use Rattle.kmipa_record.specs.DeclarationReading.{entries_in, declared_by, AreKept, AreOthers, IsFound, Keeps, Puts, has_id}
+use Rattle.kmipa_record.specs.Declarations.{DeclarationOf, RecordOf, row, entry}
 use Rattle.kmipa_record.specs.Hashes.{identifier_hash}
 use Rattle.kmipa_record.specs.Entries.{EntryOf, entry_of, IsDeclarable}
+use Rattle.kmipa_record.specs.Taking.{nothing_declared, with_record, MayFollow, Refuses}
 use Rattle.kmipa_record.specs.declared.entry.Entry.{Entry}
+use Rattle.kmipa_record.specs.declared.fault.RecordKind.{RecordKind}
 use Rattle.kmipa_record.specs.declared.records.Records.{Records}
 
 same_bytes : (xs ys : List ℕ) → bytes_eq xs ys ≡ bytes_eq ys xs
@@ -211,3 +216,39 @@ kept_more old new e earlier hash count placed others kept fit o is hashed fresh 
           ∙ updates.1
           ∙ ap Some (counted ∙ sym (length-map old.entries.items entry_of) ∙ sym last.0))
     ]
+
+-- ---- what the records stand for
+
+-- an element that was put behind others is in the relation with each
+behind : (R : EntryOf → EntryOf → Type 0) (xs : List EntryOf) (y : EntryOf) → AllPairs R (xs ++ y ∷ []) → All (λ (x : EntryOf). R x y) xs
+behind R xs y pairs k d lt =
+    let P : EntryOf → Type 0 = λ x. R x (get_or (xs ++ y ∷ []) (length xs) d) in
+    let Q : EntryOf → Type 0 = λ x. R (get_or xs k d) x in
+    let long = length-append xs (y ∷ []) in
+    subst Q (get_or-append_seam xs y [] d) (subst P (get_or_append_left xs (y ∷ []) d k lt) (pairs k (length xs) d lt (omega (arith, long))))
+
+pub keeps_none : (records : Records) → AreKept records → ((unique : Bool) → declared_by unique records ≡ nothing_declared unique) → (unique : Bool) → Keeps records (nothing_declared unique)
+keeps_none records kept none unique =
+    record { kept = kept; rows = ap (λ (d : DeclarationOf). d.rows) (none unique); entries = ap (λ (d : DeclarationOf). d.entries) (none unique) }
+
+-- a record more, or its refusal
+pub keeps_more : (old new : Records) (d : DeclarationOf) (r : RecordOf) (result : Result (Unit {0}) RecordKind) → Keeps old d
+    → MatchResult result (λ _. Puts old new r) (Refuses (entries_in old) r) → IfOk result (λ _. AreKept new)
+    → MatchResult result (λ _. MayFollow d.entries r × Keeps new (with_record d r)) (Refuses d.entries r)
+keeps_more old new d (row r) (Ok done) k p a = (
+  sym k.entries ∙ p.0,
+  record { kept = a; rows = p.1 ∙ ap (λ (l : List RowOf). l ++ r ∷ []) k.rows; entries = p.2 ∙ k.entries },
+)
+keeps_more old new d (entry e) (Ok done) k p a =
+    let P : List EntryOf → Type 0 = λ l. All (λ (x : EntryOf). x.id ≢ e.id) l in (
+      subst P k.entries (behind (λ (x y : EntryOf). x.id ≢ y.id) (entries_in old) e (subst (AllPairs (λ (x y : EntryOf). x.id ≢ y.id)) p.1 a.distinct)),
+      record { kept = a; rows = p.0 ∙ k.rows; entries = p.1 ∙ ap (λ (l : List EntryOf). l ++ e ∷ []) k.entries },
+    )
+keeps_more old new d r (Err kind) k refusal a = subst (λ (l : List EntryOf). Refuses l r kind) k.entries refusal
+
+-- they are all that is declared
+pub keeps_all : (records : Records) (d : DeclarationOf) (unique : Bool) → Keeps records d → d.unique_names ≡ unique → declared_by unique records ≡ d
+keeps_all records d unique k named =
+    ap (λ (u : Bool). declared_by u records) (sym named)
+    ∙ ap (λ (l : List RowOf). record { unique_names = d.unique_names; rows = l; entries = entries_in records }) k.rows
+    ∙ ap (λ (l : List EntryOf). record { unique_names = d.unique_names; rows = d.rows; entries = l }) k.entries

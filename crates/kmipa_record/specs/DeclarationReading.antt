@@ -1,5 +1,5 @@
 -- How a declaration is read record by record. Not promised.
-use Rattle.std.specs.Prelude.{◌≡◌, ◌≢◌, ◌⊎◌, ◌%◌, ◌==◌, ◌&&◌, ◌||◌, nat_lt, ℕ, ℤ, pos, negsuc, Bool, true, false, List, [], ◌∷◌, ◌++◌, map, Option, Some, None, slice_get, String, Result, MatchResult, All, AllPairs, Any}
+use Rattle.std.specs.Prelude.{◌≡◌, ◌≢◌, ◌⊎◌, ◌%◌, ◌==◌, ◌&&◌, ◌||◌, nat_lt, ℕ, ℤ, pos, negsuc, Bool, true, false, List, [], ◌∷◌, ◌++◌, map, length, Option, Some, None, slice_get, String, Result, MatchResult, All, AllPairs, Any}
 use Rattle.std.specs.BTreeMap.{get}
 use Rattle.std.specs.BTreeSet.{BTreeSet, contains_text}
 use Rattle.std.specs.Global.{Global}
@@ -9,29 +9,18 @@ use Rattle.std.specs.Str.{bytes_eq}
 use Rattle.kmipa_record.specs.Reading.{IsReading}
 use Rattle.kmipa_ttlv.specs.Tree.{Tree}
 use Rattle.kmipa_msgs.specs.Messages.{RowOf, row_of}
-use Rattle.kmipa_record.specs.Declarations.{DeclarationOf, declaration_header, RecordOf, row, entry, SaysRecord, records_of}
+use Rattle.kmipa_record.specs.Declarations.{DeclarationOf, AreDeclared, declaration_header, RecordOf, row, entry, SaysRecord, records_of}
 use Rattle.kmipa_record.specs.Hashes.{identifier_hash}
 use Rattle.kmipa_record.specs.Entries.{EntryOf, entry_of, IsDeclarable}
 use Rattle.kmipa_record.specs.declared.fault.RecordKind.{RecordKind}
 use Rattle.kmipa_record.specs.declared.fault.RecordKind.TheVariants as kinds
-use Rattle.kmipa_record.specs.declared.records.DeclarationRecord.{DeclarationRecord}
-use Rattle.kmipa_record.specs.declared.records.DeclarationRecord.TheVariants.{Row, Entry}
+use Rattle.kmipa_record.specs.Taking.{IsFit}
 use Rattle.kmipa_record.specs.declared.records.Records.{Records}
 
 -- a positive multiple of 8
 abbrev pub are_whole_bytes : ℤ → Bool
 are_whole_bytes (pos bits) = nat_lt 0 bits && (bits % 8 == 0)
 are_whole_bytes (negsuc n) = false
-
--- the record that a value of the program is
-abbrev pub record_of : DeclarationRecord → RecordOf
-record_of (Row r) = row (row_of r)
-record_of (Entry e) = entry (entry_of e)
-
--- a row, or an entry that may be declared
-abbrev pub IsFit : RecordOf → Type 0
-IsFit (row r) = Unit {0}
-IsFit (entry e) = IsDeclarable e
 
 abbrev pub SaysFit : Tree → RecordOf → Type 0
 SaysFit item r = SaysRecord item r × IsFit r
@@ -82,9 +71,11 @@ abbrev pub Puts : Records → Records → RecordOf → Type 0
 Puts old new (row r) = (entries_in old ≡ []) × (rows_in new ≡ rows_in old ++ r ∷ []) × (entries_in new ≡ entries_in old)
 Puts old new (entry e) = (rows_in new ≡ rows_in old) × (entries_in new ≡ entries_in old ++ e ∷ [])
 
-abbrev pub Refuses : Records → RecordOf → RecordKind → Type 0
-Refuses old (row r) kind = (kind ≡ kinds.Memory) ⊎ ((kind ≡ kinds.Entry) × (entries_in old ≢ []))
-Refuses old (entry e) kind = (kind ≡ kinds.Memory) ⊎ ((kind ≡ kinds.Identifier) × Any (λ (other : EntryOf). other.id ≡ e.id) (entries_in old))
+-- the records stand for the declaration
+pub record Keeps (records : Records) (declared : DeclarationOf) : Type 0 where
+  pub kept : AreKept records
+  pub rows : rows_in records ≡ declared.rows
+  pub entries : entries_in records ≡ declared.entries
 
 -- ---- the file so far
 
@@ -93,3 +84,12 @@ pub record IsReadSoFar (file : List ℕ) (declared : DeclarationOf) (left : List
   pub items : List Tree
   pub reading : IsReading file (declaration_header declared.unique_names ∷ items) left place
   pub said : AllZip SaysRecord items (records_of declared)
+
+-- What took the records that were read so far holds a declaration, which may be declared: of each file that begins with what came they
+-- are the header and these records.
+pub record HasRead {T : Type 0} (holds : T → DeclarationOf → Type 0) (unique : Bool) (came : List ℕ) (taker : T) : Type 0 where
+  pub declared : DeclarationOf
+  pub named : declared.unique_names ≡ unique
+  pub may : AreDeclared declared
+  pub held : holds taker declared
+  pub read : (after : List ℕ) → IsReadSoFar (came ++ after) declared after (length came)

@@ -6,6 +6,7 @@ pub mod Transcripts
 pub mod Hashes
 pub mod Entries
 pub mod Declarations
+pub mod Taking
 pub mod Witnesses
 pub mod Reading
 pub mod NumberMaps

@@ -1,17 +1,18 @@
 //! Declarations: what a server held before the first call.
 
-ghost use Rattle.std.specs.Prelude.{◌≡◌, ◌<◌, ◌≢◌, ℕ, List, [], ◌++◌, Bool, true, false, IsTrue, IfOk, IfErr, MatchResult};
-ghost use Rattle.std.specs.Io.{StartsWith, appended_bytes};
-ghost use Rattle.kmipa_ttlv.specs.Input.{came_of, taken_of, is_ended, is_failed, Leaves, EndsWith, IsFileOf, StaysOver};
+ghost use Rattle.std.specs.Prelude.{◌≡◌, ◌<◌, ◌≢◌, ℕ, List, [], Bool, true, false, IsTrue, IfOk, IfErr, MatchResult};
+ghost use Rattle.kmipa_ttlv.specs.Input.{came_of, taken_of, is_ended, is_failed, IsFileOf, StaysOver};
 ghost use Rattle.kmipa_record.specs.Files.{Tells, TellsItem};
-ghost use Rattle.kmipa_record.specs.DeclarationReading.{declared_by, AreKept, IsReadSoFar};
+ghost use Rattle.kmipa_record.specs.DeclarationReading.{HasRead};
 ghost use Rattle.kmipa_record.specs.Declarations.{declaration_of, AreDeclared, IsDeclaration, DeclarationFault, IsDeclarationUpTo};
+ghost use Rattle.kmipa_record.specs.Taking.{nothing_declared, HasTaken};
 
 use crate::entry::Entry;
 use crate::fault::{RecordFault, RecordKind};
 use crate::header::DeclarationHeader;
 use crate::record::{Next, read_header, read_next};
 use crate::records::{DeclarationRecord, Records};
+use crate::taking::TakesRecords;
 use kmipa_msgs::Row;
 use kmipa_ttlv::Input;
 use std::alloc::Global;
@@ -51,35 +52,54 @@ pub fn read_declaration<R: Read>(
     // Over a reader whose bytes are known what came is their front, and all where the end was seen.
     ensures over { StaysOver R.remaining input.old input.new }
 {
-    let mut bytes = Vec::new(alloc);
-    let header: DeclarationHeader = read_header(alloc, input, &mut bytes)?;
     let mut records = Records::new(alloc);
-    'records: while read_record(alloc, input, &mut bytes, &mut records)? {}
-    Ok(records.into_declaration(header.unique_names))
+    let unique_names = read_declaration_into(alloc, input, &mut records)?;
+    Ok(records.into_declaration(unique_names))
 }
 
-/// Reads the next record of a declaration onto those before it; `false` at the end.
-fn read_record<R: Read>(
+/// Reads a declaration of whose bytes none was read into what takes its records, and says whether no two live objects may have a name in common.
+pub fn read_declaration_into<R: Read, T: TakesRecords>(
+    alloc: Global,
+    input: &mut Input<R>,
+    taker: &mut T,
+) -> Result<bool, RecordFault>
+    requires came { came_of input.old ≡ [] }
+    // It took nothing so far.
+    requires none { (unique : Bool) → T.holds taker.old (nothing_declared unique) }
+    // It stands for what the bytes are that came, to the end that was seen.
+    ensures found { IfOk result
+        (λ unique. HasTaken T.holds unique (came_of input.new) taker.new × IsTrue (is_ended input.new)) }
+    // Else as `read_declaration`.
+    ensures fault { (file : List ℕ) → IsFileOf file input.new
+        → IfErr result (Tells DeclarationFault IsDeclarationUpTo file (is_failed input.new)) }
+    ensures place { IfErr result (TellsItem (came_of input.new)) }
+    ensures sound { MatchResult result (λ _. is_failed input.new ≡ false)
+        (λ f. f.kind ≢ RecordKind.Device → is_failed input.new ≡ false) }
+    ensures over { StaysOver R.remaining input.old input.new }
+{
+    let mut bytes = Vec::new(alloc);
+    let header: DeclarationHeader = read_header(alloc, input, &mut bytes)?;
+    'records: while read_record(alloc, input, &mut bytes, taker)? {}
+    Ok(header.unique_names)
+}
+
+/// Hands over the next record of a declaration; `false` at the end.
+fn read_record<R: Read, T: TakesRecords>(
     alloc: Global,
     input: &mut Input<R>,
     bytes: &mut Vec<u8>,
-    records: &mut Records,
+    taker: &mut T,
 ) -> Result<bool, RecordFault>
-    requires { AreKept records.old }
-    ensures kept { IfOk result (λ _. AreKept records.new) }
-    ensures read { (file left after : List ℕ) (unique : Bool) → Leaves input.old input.new left after
-        → IsReadSoFar file (declared_by unique records.old) left (taken_of input.old)
-        → IfOk result (λ more. IsReadSoFar file (declared_by unique records.new) after (taken_of input.new)) }
-    ensures fault { (file left after : List ℕ) (unique : Bool) → Leaves input.old input.new left after
-        → EndsWith input.new after
-        → IsReadSoFar file (declared_by unique records.old) left (taken_of input.old)
+    requires { (unique : Bool) × HasRead T.holds unique (came_of input.old) taker.old }
+    ensures read { (unique : Bool) → HasRead T.holds unique (came_of input.old) taker.old
+        → IfOk result (λ more. HasRead T.holds unique (came_of input.new) taker.new) }
+    ensures fault { (file : List ℕ) → IsFileOf file input.new
         → IfErr result (Tells DeclarationFault IsDeclarationUpTo file (is_failed input.new)) }
     ensures place { IfErr result (TellsItem (came_of input.new)) }
     ensures end { IfOk result (λ more. more ≡ false → IsTrue (is_ended input.new)) }
     ensures nearer { IfOk result (λ more. more ≡ true → taken_of input.old < taken_of input.new) }
     ensures sound { MatchResult result (λ _. is_failed input.new ≡ false)
         (λ f. f.kind ≢ RecordKind.Device → is_failed input.new ≡ false) }
-    ensures grows { StartsWith (came_of input.new) (came_of input.old) }
     ensures over { StaysOver R.remaining input.old input.new }
 {
     let offset = input.taken();
@@ -90,7 +110,7 @@ fn read_record<R: Read>(
             offset,
             kind: RecordKind::Entry,
         }),
-        Next::Record(next_record) => match records.take(next_record) {
+        Next::Record(next_record) => match taker.take(next_record) {
             Ok(()) => Ok(true),
             Err(kind) => Err(RecordFault { offset, kind }),
         },

@@ -24,6 +24,7 @@ mod records;
 mod row;
 mod shape;
 mod tags;
+mod taking;
 mod transcript;
 mod transcript_writing;
 mod turn;
@@ -31,7 +32,7 @@ mod version;
 mod witness;
 mod witness_writing;
 
-pub use declaration::{Declaration, read_declaration};
+pub use declaration::{Declaration, read_declaration, read_declaration_into};
 pub use declaration_writing::{is_too_long, write_declaration};
 pub use entry::Entry;
 pub use fault::{RecordFault, RecordKind};
@@ -43,6 +44,8 @@ pub use laws::{
 pub use marks::Marks;
 pub use number_map::NumberMap;
 pub use recorded_marks::RecordedMarks;
+pub use records::DeclarationRecord;
+pub use taking::TakesRecords;
 pub use transcript::{Begin, End, Mark, Transcript, read_transcript};
 pub use transcript_writing::write_transcript;
 pub use turn::Turn;

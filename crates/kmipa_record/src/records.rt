@@ -1,8 +1,9 @@
 //! The records of a declaration, as far as it was read.
 
 ghost use Rattle.std.specs.Prelude.{◌≡◌, [], Bool, IfOk, MatchResult};
-ghost use Rattle.kmipa_record.specs.DeclarationReading.{record_of, IsFit, SaysFit, IsRecord, declared_by, AreKept, Puts, Refuses, Displaces};
+ghost use Rattle.kmipa_record.specs.DeclarationReading.{SaysFit, IsRecord, declared_by, entries_in, AreKept, Puts, Displaces, Keeps};
 ghost use Rattle.kmipa_record.specs.Declarations.{declaration_of};
+ghost use Rattle.kmipa_record.specs.Taking.{record_of, nothing_declared, IsFit, Refuses};
 
 use crate::declaration::Declaration;
 use crate::entry::{Entry, entry_in};
@@ -10,6 +11,7 @@ use crate::fault::RecordKind;
 use crate::hashes::identifier_hash;
 use crate::record::Record;
 use crate::row::row_in;
+use crate::taking::TakesRecords;
 use kmipa_msgs::Row;
 use kmipa_ttlv::View;
 use std::alloc::{AllocError, Global};
@@ -56,7 +58,7 @@ impl Records {
     /// No records.
     pub fn new(alloc: Global) -> Records
         ensures none { (unique : Bool)
-            → declared_by unique result ≡ record { unique_names = unique; rows = []; entries = [] } }
+            → declared_by unique result ≡ nothing_declared unique }
         ensures kept { AreKept result }
     {
         Records {
@@ -67,24 +69,10 @@ impl Records {
         }
     }
 
-    /// Puts a record after the others, or says what is wrong with it.
-    pub fn take(&mut self, given: DeclarationRecord) -> Result<(), RecordKind>
-        requires kept { AreKept self.old }
-        requires fit { IsFit (record_of given) }
-        ensures put { MatchResult result (λ _. Puts self.old self.new (record_of given))
-            (Refuses self.old (record_of given)) }
-        ensures kept { IfOk result (λ _. AreKept self.new) }
-    {
-        match given {
-            DeclarationRecord::Row(row) => self.take_row(row),
-            DeclarationRecord::Entry(entry) => self.take_entry(entry),
-        }
-    }
-
     fn take_row(&mut self, row: Row) -> Result<(), RecordKind>
         requires { AreKept self.old }
         ensures put { MatchResult result (λ _. Puts self.old self.new (record_of (DeclarationRecord.Row row)))
-            (Refuses self.old (record_of (DeclarationRecord.Row row))) }
+            (Refuses (entries_in self.old) (record_of (DeclarationRecord.Row row))) }
         ensures kept { IfOk result (λ _. AreKept self.new) }
     {
         if !self.entries.is_empty() {
@@ -100,7 +88,7 @@ impl Records {
         requires kept { AreKept self.old }
         requires fit { IsFit (record_of (DeclarationRecord.Entry entry)) }
         ensures put { MatchResult result (λ _. Puts self.old self.new (record_of (DeclarationRecord.Entry entry)))
-            (Refuses self.old (record_of (DeclarationRecord.Entry entry))) }
+            (Refuses (entries_in self.old) (record_of (DeclarationRecord.Entry entry))) }
         ensures kept { IfOk result (λ _. AreKept self.new) }
     {
         let hash = identifier_hash(entry.id.as_str());
@@ -144,6 +132,17 @@ impl Records {
             unique_names,
             rows: self.rows,
             entries: self.entries,
+        }
+    }
+}
+
+impl TakesRecords for Records {
+    ghost holds = { Keeps };
+
+    fn take(&mut self, given: DeclarationRecord) -> Result<(), RecordKind> {
+        match given {
+            DeclarationRecord::Row(row) => self.take_row(row),
+            DeclarationRecord::Entry(entry) => self.take_entry(entry),
         }
     }
 }
