@@ -57,7 +57,8 @@ pub fn read_declaration<R: Read>(
     Ok(records.into_declaration(unique_names))
 }
 
-/// Reads a declaration of whose bytes none was read into what takes its records, and says whether no two live objects may have a name in common.
+/// Reads a declaration of whose bytes none was read into what takes its records, and answers whether no two live objects may have a name
+/// in common.
 pub fn read_declaration_into<R: Read, T: TakesRecords>(
     alloc: Global,
     input: &mut Input<R>,
@@ -92,7 +93,7 @@ fn read_record<R: Read, T: TakesRecords>(
 ) -> Result<bool, RecordFault>
     requires { (unique : Bool) × HasRead T.holds unique (came_of input.old) taker.old }
     ensures read { (unique : Bool) → HasRead T.holds unique (came_of input.old) taker.old
-        → IfOk result (λ more. HasRead T.holds unique (came_of input.new) taker.new) }
+        → IfOk result (λ _. HasRead T.holds unique (came_of input.new) taker.new) }
     ensures fault { (file : List ℕ) → IsFileOf file input.new
         → IfErr result (Tells DeclarationFault IsDeclarationUpTo file (is_failed input.new)) }
     ensures place { IfErr result (TellsItem (came_of input.new)) }

@@ -2,7 +2,8 @@
 //!
 //! Each is a header item and then records, each an outermost TTLV item. `read_transcript`, `read_declaration` and
 //! `read_witness` read one from an `Input`; `write_transcript`, `write_declaration` and `write_witness` write one. A
-//! `RecordFault` says what is wrong with a file, and where.
+//! `RecordFault` says what is wrong with a file, and where. `read_declaration_into` keeps nothing of a declaration: it hands
+//! its records over to whatever `TakesRecords`.
 #![tactic(auto)]
 
 mod append;

@@ -1,6 +1,6 @@
 //! The records of a declaration, as far as it was read.
 
-ghost use Rattle.std.specs.Prelude.{◌≡◌, [], Bool, IfOk, MatchResult};
+ghost use Rattle.std.specs.Prelude.{◌≡◌, Bool, IfOk, MatchResult};
 ghost use Rattle.kmipa_record.specs.DeclarationReading.{SaysFit, IsRecord, declared_by, entries_in, AreKept, Puts, Displaces, Keeps};
 ghost use Rattle.kmipa_record.specs.Declarations.{declaration_of};
 ghost use Rattle.kmipa_record.specs.Taking.{record_of, nothing_declared, IsFit, Refuses};

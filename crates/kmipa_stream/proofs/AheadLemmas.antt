@@ -1,11 +1,10 @@
 -- The transcripts ahead.
-use Rattle.std.proofs.Common.{◌≡◌, ◌⊎◌, inl, inr, ◌<◌, ◌≤◌, ℕ, ℤ, Bool, true, false, List, [], ◌∷◌, ◌++◌, length, Option, Some, None, slice_get, refl, sym, ◌∙◌, subst, arith}
+use Rattle.std.proofs.Common.{◌≡◌, ◌<◌, ℕ, ℤ, Bool, true, false, List, [], ◌++◌, length, Option, Some, None, refl, sym, ◌∙◌, subst}
 use Rattle.std.proofs.lemmas.List.{append-nil, append_assoc}
 use Rattle.kmipa_record.specs.Marks.{MarkOf, begins, ends, AreRecorded}
-use Rattle.kmipa_check.specs.Calls.{CallOf, HasBegin, HasEnd, IsRecorded}
-use Rattle.kmipa_stream.specs.Ahead.{IsAhead, IsInsideAhead, IsFoundBy, WasRead, IsFound}
-use Rattle.kmipa_check.specs.CallReading.{IsOutsideAt}
-use Rattle.kmipa_check.specs.Calls.{IsOutsideOn, IsResponseOutside}
+use Rattle.kmipa_check.specs.Calls.{HasBegin, HasEnd}
+use Rattle.kmipa_stream.specs.Ahead.{IsAhead, IsFound}
+use Rattle.kmipa_check.specs.Calls.{IsOutsideOn}
 use Rattle.kmipa_msgs.specs.declared.kind.OutsideKind.{OutsideKind}
 use Rattle.kmipa_check.specs.declared.fault.Side.{Side}
 use Rattle.kmipa_check.specs.declared.fault.Side.TheVariants.{Client, Server}

@@ -1,24 +1,19 @@
 -- What is known once all marks have come.
-use Rattle.std.proofs.Common.{◌≡◌, ◌≢◌, ◌≤◌, ◌<◌, ◌⊎◌, inl, inr, ℕ, zero, suc, ◌+◌, ℤ, pos, ◌≤ℤ◌, Bool, true, false, List, [], ◌∷◌, map, length, Contains, Option, Some, None, slice_get, Result, Ok, Err, refl, sym, ap, ◌∙◌, subst, arith, add-one}
+use Rattle.std.proofs.Common.{◌≡◌, ◌≤◌, ◌<◌, ◌⊎◌, inl, inr, ℕ, zero, suc, ◌+◌, ℤ, pos, ◌≤ℤ◌, Bool, true, false, List, [], map, length, Contains, Option, Some, None, slice_get, Result, Ok, Err, refl, sym, ap, ◌∙◌, subst, arith, add-one}
 use Rattle.std.specs.Prelude.{MatchResult, not}
 use Rattle.std.proofs.lemmas.List.{length-map}
 use Rattle.std.proofs.lemmas.Option.{slice_get_within, get_or_from_slice_get}
-use Rattle.kmipa_msgs.specs.declared.kind.OutsideKind.{OutsideKind}
-use Rattle.kmipa_store.specs.Ledger.{Meaning}
 use Rattle.kmipa_record.specs.Declarations.{DeclarationOf}
 use Rattle.kmipa_record.specs.Marks.{MarkOf, begins, ends, begun, AreRecorded, IsCallNumber}
 use Rattle.kmipa_record.specs.Marks as marked
 use Rattle.kmipa_record.specs.Witnesses.{TurnOf, turn_of}
 use Rattle.kmipa_record.specs.declared.turn.Turn.{Turn}
-use Rattle.kmipa_check.specs.CallReading.{AreReadUpTo, BeginsNone}
+use Rattle.kmipa_check.specs.CallReading.{AreReadUpTo}
 use Rattle.kmipa_check.specs.Calls.{CallOf, AreCalls, HasBegin, HasEnd, IsRecorded, IsFirstOutside}
-use Rattle.kmipa_check.specs.Numbers.{place_in}
-use Rattle.kmipa_check.specs.Orders.{IsNamed, IsFormed, AreFormedBelow, IsOrder, IsLeftOut, WitnessFaultAt, left_out}
+use Rattle.kmipa_check.specs.Orders.{IsNamed, AreFormedBelow, IsOrder, WitnessFaultAt, left_out}
 use Rattle.kmipa_check.specs.Ordering.{AreFormed, Decided}
 use Rattle.kmipa_check.specs.Replays.{Replayed}
-use Rattle.kmipa_check.specs.Runs.{IsAccepted}
 use Rattle.kmipa_check.specs.Steps.{StepOf}
-use Rattle.kmipa_check.specs.Verdicts.{Checks, TellsVerdict, IsRefused}
 use Rattle.kmipa_check.specs.declared.fault.CheckFault.{CheckFault}
 use Rattle.kmipa_check.specs.declared.fault.CheckFault.TheVariants as check_fault
 use Rattle.kmipa_check.specs.declared.fault.WitnessFault.{WitnessFault}
@@ -33,9 +28,9 @@ use Rattle.kmipa_check.proofs.ReadingLemmas.{read_none, read_call, read_other, r
 use Rattle.kmipa_check.proofs.RecordedLemmas.{recorded_at}
 use Rattle.kmipa_check.proofs.ReplayLemmas.{replayed_accepts}
 use Rattle.kmipa_check.proofs.WholeOrderLemmas.{number_of, order_takes}
-use Rattle.kmipa_stream.specs.Ahead.{IsAhead, WasRead, IsFound}
+use Rattle.kmipa_stream.specs.Ahead.{WasRead, IsFound}
 use Rattle.kmipa_stream.specs.Replaying.{FindsSo, IsAtEnd, meaning_in}
-use Rattle.kmipa_stream.specs.Seeing.{EndsSo, AreSeen, IsSeen}
+use Rattle.kmipa_stream.specs.Seeing.{EndsSo, AreSeen}
 use Rattle.kmipa_stream.specs.Standing.{WereRead, Stands, AreAllReleased, IsDone, IsDoneBy, IsUnnamed, NoneUnnamed, IsFirstLeftOut, Judges, TellsLeftOut}
 use Rattle.kmipa_stream.specs.Waiting.{AreNamedAt}
 use Rattle.kmipa_stream.specs.declared.auditor.Auditor.{Auditor}

@@ -1,41 +1,78 @@
--- The entries of a declaration that is taken apart, from its front.
-use Rattle.std.proofs.Common.{◌≡◌, ℕ, List, [], ◌∷◌, ◌++◌, map, length, take, Ok, Some, slice_get, refl, sym, ap, ◌∙◌, subst, arith, append-nil, length-append}
-use Rattle.std.proofs.lemmas.List.{length-map}
-use Rattle.kmipa_store.specs.Ledger.{LedgerState, Meaning}
-use Rattle.kmipa_record.specs.Declarations.{AreDeclared, declaration_of}
-use Rattle.kmipa_record.specs.Entries.{entry_of}
-use Rattle.kmipa_record.specs.declared.declaration.Declaration.{Declaration}
-use Rattle.kmipa_record.specs.declared.entry.Entry.{Entry}
+-- The ledger that a declaration opens while it is read.
+use Rattle.std.proofs.Common.{◌≡◌, ◌≢◌, ℕ, List, [], ◌∷◌, ◌++◌, map, length, take, get_or, Bool, true, false, bytes_eq, is_some, Ok, Option, Some, None, slice_get, sym, ap, ◌∙◌, subst, arith}
+use Rattle.std.specs.Prelude.{All, Any}
+use Rattle.std.proofs.lemmas.List.{take_all}
+use Rattle.std.proofs.lemmas.Option.{get_or_from_slice_get, slice_get-get_or, slice_get_within}
+use Rattle.std.proofs.lemmas.Slice.Eq.{bytes_eq-Decides}
+use Rattle.kmipa_msgs.specs.Messages.{RowOf, RulesOf, row_of}
+use Rattle.kmipa_object.specs.Inventory.{Card, place_of}
+use Rattle.kmipa_store.specs.Ledger.{LedgerState, Meaning, cards_of}
+use Rattle.kmipa_store.specs.States.{state_of_journal}
+use Rattle.kmipa_store.proofs.InventoryLemmas.{place_found, place_none}
+use Rattle.kmipa_record.specs.Declarations.{DeclarationOf, entry}
+use Rattle.kmipa_record.specs.Entries.{EntryOf, IsDeclarable}
+use Rattle.kmipa_record.specs.Taking.{MayFollow, with_record}
+use Rattle.kmipa_check.specs.Described.{card_declared}
 use Rattle.kmipa_check.specs.Opening.{Opened, Declares}
+use Rattle.kmipa_check.specs.Runs.{rows_declared, rules_declared}
 use Rattle.kmipa_check.specs.Verdicts.{AreKnown}
-use Rattle.kmipa_check.proofs.OpeningLemmas.{opened_next, opened_known}
+use Rattle.kmipa_check.proofs.OpeningLemmas.{opened_known, opened_more}
+use Rattle.kmipa_check.proofs.PlaceLemmas.{mapped_at, mapped_from}
+use Rattle.kmipa_stream.specs.Opening.{Opens}
+use Rattle.kmipa_stream.specs.declared.opening.Opening.{Opening}
 
--- the objects of these entries are in the ledger, and they are the front of the declaration's
-abbrev pub HasOpened : Declaration → List Entry → Meaning → Type 0
-HasOpened d taken m = Opened (take (length taken) (map entry_of d.entries.items)) m
+module _ (es : List EntryOf) (m : Meaning) (o : Opened es m) where
+  -- the identifier that an object has is that of an entry
+  pub used_before : (id : List ℕ) (found : Option ℕ) → found ≡ place_of id (cards_of m.objects) → is_some found ≡ true → Any (λ (other : EntryOf). other.id ≡ id) es
+  used_before id None at some = absurd cc
+  used_before id (Some place) at some =
+      let there = place_found (cards_of m.objects) id place (sym at) in
+      let e = mapped_from card_declared es place there.0 (ap (λ (cs : List Card). slice_get cs place) (sym o.cards) ∙ there.1) in
+      let same : id ≡ there.0.id = (bytes_eq-Decides id there.0.id).0 there.2 in
+      (place, e.0, slice_get_within es place e.0 e.1, get_or_from_slice_get es place e.0 e.0 e.1, ap (λ (c : Card). c.id) e.2 ∙ sym same)
 
--- the entry behind those that were taken
-front : (taken rest : List Entry) (x : Entry) → slice_get (map entry_of (taken ++ x ∷ rest)) (length taken) ≡ Some (entry_of x)
-front [] rest x = refl
-front (y ∷ taken) rest x = front taken rest x
+  -- no entry has one that no object has
+  unused_before : (id : List ℕ) → place_of id (cards_of m.objects) ≡ None → All (λ (other : EntryOf). other.id ≢ id) es
+  unused_before id none k d lt same =
+      let e = get_or es k d in
+      let at : slice_get (cards_of m.objects) k ≡ Some (card_declared e) =
+      ap (λ (cs : List Card). slice_get cs k) o.cards ∙ mapped_at card_declared es k e lt (sym (get_or_from_slice_get es k e e (slice_get-get_or es k d lt))) in
+      let differs : bytes_eq id e.id ≡ false = place_none (cards_of m.objects) id none k (card_declared e) at in
+      let clash : true ≡ false = sym ((bytes_eq-Decides id e.id).1 (sym same)) ∙ differs in
+      absurd cc
 
-module _ (d : Declaration) (may : AreDeclared (declaration_of d)) (taken rest : List Entry) (x : Entry) (is : taken ++ x ∷ rest ≡ d.entries.items) where
-  pub next_entry : slice_get (map entry_of d.entries.items) (length taken) ≡ Some (entry_of x)
-  next_entry = ap (λ (es : List Entry). slice_get (map entry_of es) (length taken)) (sym is) ∙ front taken rest x
+  -- it is what is known before the first turn
+  pub all_known : (declared : DeclarationOf) → declared.entries ≡ es → AreKnown declared [] m
+  all_known declared same =
+      let all : take (length es) declared.entries ≡ es = ap (take (length es)) same ∙ take_all (length es) es (omega arith) in
+      let P : List EntryOf → Type 0 = λ l. Opened l m in
+      opened_known declared (length es) m (omega (arith, ap length same)) (subst P (sym all) o)
 
-  -- one entry more
-  pub has_opened : (s t : LedgerState) → HasOpened d taken s.now → Declares s (entry_of x) (Ok tt) t → HasOpened d (taken ++ x ∷ []) t.now
-  has_opened s t o left =
-      let P : ℕ → Type 0 = λ n. Opened (take n (map entry_of d.entries.items)) t.now in
-      subst P (sym (length-append taken (x ∷ []))) (opened_next (declaration_of d) may (length taken) (entry_of x) next_entry s t o left)
+no_place : (found place : Option ℕ) → found ≡ place → is_some found ≡ false → place ≡ None
+no_place None place at none = sym at
+no_place (Some p) place at none = absurd cc
 
--- what is left without elements
-pub none_left : {X : Type 0} (rest : List X) → length rest ≡ 0 → rest ≡ []
-none_left [] none = refl
-none_left (x ∷ rest) none = absurd (omega (arith, none))
+-- the identifier was not found
+pub not_found : (id : List ℕ) (found : Option ℕ) (m : Meaning) → found ≡ place_of id (cards_of m.objects) → is_some found ≡ false → place_of id (cards_of m.objects) ≡ None
+not_found id found m at none = no_place found (place_of id (cards_of m.objects)) at none
 
--- all entries were taken
-pub all_opened : (d : Declaration) (taken rest : List Entry) (m : Meaning) → taken ++ rest ≡ d.entries.items → length rest ≡ 0 → HasOpened d taken m → AreKnown (declaration_of d) [] m
-all_opened d taken rest m is none o =
-    let all : taken ≡ d.entries.items = sym (append-nil taken) ∙ ap (λ (es : List Entry). taken ++ es) (sym (none_left rest none)) ∙ is in
-    opened_known (declaration_of d) (length taken) m (omega (arith, length-map d.entries.items entry_of, ap length all)) o
+-- one entry more
+pub opens_entry : (old new : Opening) (d : DeclarationOf) (e : EntryOf) → Opens old d → IsDeclarable e → place_of e.id (cards_of (state_of_journal old.ledger).now.objects) ≡ None → new.rows.items ≡ old.rows.items
+    → Declares (state_of_journal old.ledger) e (Ok tt) (state_of_journal new.ledger) → MayFollow d.entries (entry e) × Opens new (with_record d (entry e))
+opens_entry old new d e o may free rows declares =
+    let s = state_of_journal old.ledger in
+    let P : LedgerState → Type 0 = λ t. Opened (d.entries ++ e ∷ []) t.now in (
+      unused_before d.entries s.now o.opened e.id free,
+      record {
+        opened = subst P (sym declares) (opened_more d.entries e s.now o.opened may free);
+        rows = ap (map row_of) rows ∙ o.rows;
+      },
+    )
+
+-- the rules of what was declared
+pub rules_opened : (o : Opening) (d : DeclarationOf) (unique : Bool) (rules : RulesOf) → d.unique_names ≡ unique → Opens o d
+    → rules ≡ record { unique_names = unique; rows = rows_declared (map row_of o.rows.items) } → rules ≡ rules_declared d
+rules_opened o d unique rules named opens is =
+    let P : Bool → Type 0 = λ u. rules ≡ record { unique_names = u; rows = rows_declared (map row_of o.rows.items) } in
+    let Q : List RowOf → Type 0 = λ l. rules ≡ record { unique_names = d.unique_names; rows = rows_declared l } in
+    subst Q opens.rows (subst P (sym named) is)

@@ -1,16 +1,16 @@
 -- A transcript ahead whose messages are all inside, and an order of its calls.
-use Rattle.std.proofs.Common.{◌≡◌, ◌<◌, ◌≤◌, ◌⊎◌, inl, inr, ℕ, suc, ◌+◌, ℤ, ◌<ℤ◌, Bool, true, false, List, map, length, Contains, Option, Some, None, slice_get, refl, sym, ap, ◌∙◌, subst, arith, add-one}
+use Rattle.std.proofs.Common.{◌≡◌, ◌<◌, ◌≤◌, inl, inr, ℕ, suc, ℤ, ◌<ℤ◌, Bool, true, false, List, map, length, Contains, Option, Some, None, slice_get, refl, sym, ap, ◌∙◌, subst, arith}
 use Rattle.std.specs.Prelude.{int_lt}
 use Rattle.std.specs.Int.Signed.{clash_ℤ}
 use Rattle.std.proofs.lemmas.Int.{ints}
 use Rattle.std.proofs.lemmas.Bool.Decides.{nat_tests}
 use Rattle.std.proofs.lemmas.Option.{slice_get_within}
-use Rattle.kmipa_record.specs.Marks.{MarkOf, AreRecorded, begun}
+use Rattle.kmipa_record.specs.Marks.{MarkOf, AreRecorded}
 use Rattle.kmipa_record.specs.Witnesses.{TurnOf, turn_of}
 use Rattle.kmipa_record.specs.declared.turn.Turn.{Turn}
 use Rattle.kmipa_check.specs.Calls.{CallOf, AreCalls, IsRecorded, IsEnded, has_ended, is_open, HasEnd, HasBegin}
 use Rattle.kmipa_check.specs.Late.{is_below}
-use Rattle.kmipa_check.specs.Orders.{NamesAt, NamesBefore, IsNamed, IsFormed, IsOrder}
+use Rattle.kmipa_check.specs.Orders.{NamesAt, NamesBefore, IsFormed, IsOrder}
 use Rattle.kmipa_check.specs.Ordering.{Decided}
 use Rattle.kmipa_check.specs.Runs.{EndsAhead}
 use Rattle.kmipa_check.specs.Steps.{StepOf, IsStep}
@@ -22,7 +22,7 @@ use Rattle.kmipa_check.proofs.RecordedLemmas.{begun_has, same_recorded, same_end
 use Rattle.kmipa_check.proofs.WholeOrderLemmas.{number_of, same_call, one_step_lem}
 use Rattle.kmipa_stream.specs.Ahead.{IsAhead}
 use Rattle.kmipa_stream.specs.Steps.{IsLastStamp, is_less}
-use Rattle.kmipa_stream.specs.Waiting.{IsPassed, ArePassedBelow, IsFirstWaiting}
+use Rattle.kmipa_stream.specs.Waiting.{IsFirstWaiting}
 use Rattle.kmipa_stream.proofs.AheadLemmas.{end_ahead, end_behind}
 use Rattle.kmipa_stream.proofs.SeeingLemmas.{has_begun}
 

@@ -7,15 +7,14 @@ use Rattle.kmipa_msgs.specs.Messages.{RequestOf, ResponseOf}
 use Rattle.kmipa_msgs.specs.Requests.{RequestFault}
 use Rattle.kmipa_msgs.specs.Responses.{ResponseFault}
 use Rattle.kmipa_msgs.specs.declared.kind.OutsideKind.{OutsideKind}
-use Rattle.kmipa_check.specs.Calls.{AreRequest, AreResponse, HasBegin, HasEnd, has_ended, is_open, IsRecorded, IsOutsideOn}
+use Rattle.kmipa_check.specs.Calls.{AreRequest, AreResponse, HasBegin, has_ended, is_open, IsRecorded, IsOutsideOn}
 use Rattle.kmipa_check.specs.CallReading.{MessageFault, MarkFault, IsOutsideAt}
 use Rattle.kmipa_check.specs.declared.fault.Side.{Side}
 use Rattle.kmipa_check.specs.declared.fault.Side.TheVariants.{Client, Server}
 use Rattle.kmipa_check.specs.declared.fault.CheckFault.{CheckFault}
 use Rattle.kmipa_check.specs.declared.fault.CheckFault.TheVariants as check_fault
-use Rattle.kmipa_stream.specs.Seeing.{EndsSo, HoldsBegin, HoldsEnd, HoldsSo, IsSeen}
+use Rattle.kmipa_stream.specs.Seeing.{EndsSo, HoldsBegin, HoldsEnd, IsSeen}
 use Rattle.kmipa_stream.specs.declared.seen.SeenCall.{SeenCall}
-use Rattle.kmipa_stream.specs.declared.seen.Held.{Held}
 
 pub open_recorded : (marks : List MarkOf) (s : SeenCall) (b : Begin) (request : RequestOf) → IsSeen marks s → HoldsBegin marks s b → s.end ≡ None → AreRequest b.message.items request
     → IsRecorded marks (record { number = s.number; begin = s.begin; end = None; request = request; response = None })

@@ -1,37 +1,34 @@
 -- A turn more of a replay.
-use Rattle.std.proofs.Common.{◌≡◌, ◌<◌, ◌≤◌, ◌⊎◌, inl, inr, ℕ, suc, ◌+◌, ℤ, Bool, true, false, List, map, length, Contains, Option, Some, None, slice_get, Result, Ok, Err, refl, sym, ap, ◌∙◌, subst, arith, add-one}
-use Rattle.std.proofs.lemmas.List.{length-map}
-use Rattle.kmipa_msgs.specs.Messages.{RulesOf, ResponseOf}
-use Rattle.kmipa_store.specs.Choices.{IsSound}
+use Rattle.std.proofs.Common.{◌≡◌, ◌<◌, ◌≤◌, ◌⊎◌, inl, inr, ℕ, ◌+◌, ℤ, Bool, List, map, length, Contains, Option, Some, None, slice_get, Result, Ok, refl, sym, ap, ◌∙◌, subst, arith, add-one}
+use Rattle.kmipa_msgs.specs.Messages.{RulesOf}
 use Rattle.kmipa_store.specs.Ledger.{Meaning}
 use Rattle.kmipa_record.specs.Declarations.{DeclarationOf}
-use Rattle.kmipa_record.specs.Marks.{MarkOf, AreRecorded}
+use Rattle.kmipa_record.specs.Marks.{MarkOf}
 use Rattle.kmipa_record.specs.Witnesses.{TurnOf, turn_of}
 use Rattle.kmipa_record.specs.declared.turn.Turn.{Turn}
 use Rattle.kmipa_check.specs.Calls.{CallOf, AreCalls, IsRecorded}
-use Rattle.kmipa_check.specs.Fills.{IsFilled}
 use Rattle.kmipa_check.specs.Late.{is_below}
-use Rattle.kmipa_check.specs.Orders.{NamesAt, NamesBefore, HasCall, IsFormed, AreFormedBelow, IsOrder, GivenFault, TurnFault, unknown, twice, unfit, WitnessFaultAt, in_turn}
+use Rattle.kmipa_check.specs.Orders.{IsFormed, IsOrder, GivenFault, twice, unfit, WitnessFaultAt, in_turn}
 use Rattle.kmipa_check.specs.Ordering.{Decided}
 use Rattle.kmipa_check.specs.Replays.{TurnTaken, TurnTold}
 use Rattle.kmipa_check.specs.Runs.{rules_declared}
 use Rattle.kmipa_check.specs.Stamps.{IsAnsweredAt, by_mark, by_turn}
 use Rattle.kmipa_check.specs.Steps.{StepOf, IsStep, IsAnswered, recorded, given}
-use Rattle.kmipa_check.specs.Verdicts.{IsLate, RunsBack, IsRefused}
+use Rattle.kmipa_check.specs.Verdicts.{IsLate, RunsBack}
 use Rattle.kmipa_check.specs.declared.fault.CheckFault.{CheckFault}
 use Rattle.kmipa_check.specs.declared.fault.WitnessFault.{WitnessFault}
 use Rattle.kmipa_check.specs.declared.fault.WitnessKind.{WitnessKind}
-use Rattle.kmipa_check.specs.declared.fault.WitnessKind.TheVariants.{UnknownCall, Twice}
+use Rattle.kmipa_check.specs.declared.fault.WitnessKind.TheVariants.{Twice}
 use Rattle.kmipa_check.specs.declared.verdict.Refused.{Refused}
-use Rattle.kmipa_check.proofs.PlaceLemmas.{below_suc, contains_at, at_contains, get_at}
+use Rattle.kmipa_check.proofs.PlaceLemmas.{below_suc, contains_at, get_at}
 use Rattle.kmipa_stream.specs.Ahead.{IsAhead}
-use Rattle.kmipa_stream.specs.Replaying.{FormAhead, GoesOn, GoesOnAhead, RefusesAhead, AnswersAhead, FaultyAhead, FindsSo, FormsAhead, RefusesTurnAhead, IsRecordedAhead}
+use Rattle.kmipa_stream.specs.Replaying.{FormAhead, GoesOnAhead, RefusesAhead, AnswersAhead, FaultyAhead, FindsSo, FormsAhead, RefusesTurnAhead, IsRecordedAhead}
 use Rattle.kmipa_stream.specs.declared.replaying.Finding.{Finding}
 use Rattle.kmipa_stream.specs.declared.replaying.Replay.{Replay}
 use Rattle.kmipa_stream.specs.declared.replaying.Finding.TheVariants.{Possible, No, Faulty}
-use Rattle.kmipa_stream.specs.Steps.{IsLastStamp, is_less}
+use Rattle.kmipa_stream.specs.Steps.{is_less}
 use Rattle.kmipa_stream.specs.Waiting.{IsPassed, IsFirstWaiting}
-use Rattle.kmipa_stream.proofs.OrderLemmas.{is_contained, recorded_in, same_step, late_decided, back_decided}
+use Rattle.kmipa_stream.proofs.OrderLemmas.{is_contained, same_step, late_decided, back_decided}
 
 -- when the response of a step was given
 pub step_answered : (all : List MarkOf) (turns : List TurnOf) (c : CallOf) (t : TurnOf) (s : StepOf) → IsRecorded all c → Contains turns t → IsStep c t s → IsAnsweredAt all turns s.number s.response.stamp

@@ -3,7 +3,6 @@ use Rattle.std.proofs.Common.{◌≡◌, ◌≢◌, ◌<◌, ◌⊎◌, inl, inr
 use Rattle.std.proofs.Math.ListN.{set}
 use Rattle.std.proofs.lemmas.List.{append-nil, map-append, length-append}
 use Rattle.std.proofs.lemmas.Bool.Decides.{Decides-int_eq}
-use Rattle.std.proofs.lemmas.Option.{slice_get_within}
 use Rattle.std.specs.Ordering.{int_eq}
 use Rattle.kmipa_record.specs.Marks.{MarkOf, begins, ends, begun, AreRecorded}
 use Rattle.kmipa_record.specs.NumberMaps.{value_at, Sets, HasNone}
@@ -19,7 +18,7 @@ use Rattle.kmipa_stream.specs.declared.seen.SeenCall.{SeenCall}
 use Rattle.kmipa_stream.specs.declared.seen.Held.{Held}
 use Rattle.kmipa_stream.specs.declared.seen.Held.TheVariants.{Released, Open, Whole}
 use Rattle.kmipa_stream.specs.declared.seen.Seen.{Seen}
-use Rattle.kmipa_stream.proofs.ListLemmas.{grown_at, front_at, last_at, set_cases, set_here, set_other, set_mapped}
+use Rattle.kmipa_stream.proofs.ListLemmas.{grown_at, last_at, set_cases, set_here, set_other, set_mapped}
 use Rattle.kmipa_stream.proofs.AheadLemmas.{begin_grows, end_grows, begin_ahead, end_ahead, closed_as}
 
 -- ---- marks

@@ -1,5 +1,5 @@
 -- What an audit knows, as marks come and calls are let go.
-use Rattle.std.proofs.Common.{◌≡◌, ◌≢◌, ◌≤◌, ◌<◌, ◌⊎◌, inl, inr, ℕ, ℤ, Bool, true, false, List, [], ◌∷◌, ◌++◌, length, map, ◌+◌, Option, Some, None, slice_get, refl, sym, ap, ◌∙◌, subst, arith}
+use Rattle.std.proofs.Common.{◌≡◌, ◌≢◌, ◌<◌, ◌⊎◌, inl, inr, ℕ, ℤ, Bool, true, false, List, [], ◌∷◌, ◌++◌, length, map, ◌+◌, Option, Some, None, slice_get, refl, sym, ap, ◌∙◌, subst, arith}
 use Rattle.std.specs.Prelude.{Result, Ok, Err, OnOk, is_ok}
 use Rattle.std.specs.declared.alloc.AllocError.{AllocError}
 use Rattle.std.proofs.Math.ListN.{set}
@@ -10,13 +10,12 @@ use Rattle.kmipa_record.specs.Marks.{MarkOf, begins}
 use Rattle.kmipa_record.specs.NumberMaps.{value_at}
 use Rattle.kmipa_record.specs.Witnesses.{TurnOf, turn_of}
 use Rattle.kmipa_record.specs.declared.turn.Turn.{Turn}
-use Rattle.kmipa_check.specs.Calls.{CallOf, HasBegin, IsRecorded}
+use Rattle.kmipa_check.specs.Calls.{CallOf, HasBegin}
 use Rattle.kmipa_check.specs.Orders.{unknown}
 use Rattle.kmipa_check.specs.declared.fault.WitnessKind.TheVariants.{UnknownCall}
-use Rattle.kmipa_check.proofs.PlaceLemmas.{apart}
-use Rattle.kmipa_stream.specs.Ahead.{IsAhead, IsInsideAhead, IsFoundBy, WasRead, IsFound, IsLower}
+use Rattle.kmipa_stream.specs.Ahead.{IsAhead, IsFoundBy, WasRead, IsFound, IsLower}
 use Rattle.kmipa_stream.specs.Replaying.{FindsSo, Replays, IsRecordedAhead, RefusesTurnAhead}
-use Rattle.kmipa_stream.specs.Seeing.{AreSeen, IsSeen, HasCome, KeepReleased, released}
+use Rattle.kmipa_stream.specs.Seeing.{AreSeen, KeepReleased, released}
 use Rattle.kmipa_stream.specs.Standing.{WereRead, Stands, Standing, LetsGoAt}
 use Rattle.kmipa_stream.specs.Waiting.{Wait}
 use Rattle.kmipa_stream.specs.declared.auditor.Auditor.{Auditor}

@@ -1,28 +1,26 @@
 -- What the three files and the audit of the transcript come to together.
-use Rattle.std.proofs.Common.{◌≡◌, ℕ, ℤ, List, Bool, IsTrue, Option, Some, Result, Ok, Err, refl, sym, subst}
+use Rattle.std.proofs.Common.{◌≡◌, ℕ, ℤ, List, IsTrue, Option, Err}
 use Rattle.kmipa_ttlv.specs.Input.{came_of, is_ended, IsFileOf}
 use Rattle.kmipa_ttlv.specs.declared.input.Input.{Input}
 use Rattle.kmipa_ttlv.proofs.ReadLemmas.{whole_file}
-use Rattle.kmipa_record.specs.Declarations.{DeclarationOf, IsDeclaration, DeclarationFault, IsDeclarationUpTo}
-use Rattle.kmipa_record.specs.Files.{Tells}
+use Rattle.kmipa_record.specs.Declarations.{DeclarationOf, IsDeclaration}
 use Rattle.kmipa_record.specs.Marks.{MarkOf}
 use Rattle.kmipa_record.specs.Transcripts.{IsTranscript}
-use Rattle.kmipa_record.specs.Witnesses.{TurnOf, IsWitness, WitnessFault, IsWitnessUpTo}
-use Rattle.kmipa_record.specs.declared.fault.RecordFault.{RecordFault}
-use Rattle.kmipa_check.specs.Audits.{AreAccepted, AreJudgedAs, AreUnjudged, AreATranscript, AreADeclaration, AuditFails, AuditsAs}
+use Rattle.kmipa_record.specs.Witnesses.{TurnOf, IsWitness}
+use Rattle.kmipa_check.specs.Audits.{AreAccepted, AreJudgedAs, AreUnjudged, AreATranscript, AreADeclaration}
 use Rattle.kmipa_check.specs.Verdicts.{Checks, TellsVerdict}
-use Rattle.kmipa_check.specs.declared.auditing.AuditFault.{AuditFault}
-use Rattle.kmipa_check.specs.declared.auditing.AuditFault.TheVariants as audit
 use Rattle.kmipa_check.specs.declared.fault.CheckFault.{CheckFault}
 use Rattle.kmipa_check.specs.declared.verdict.Verdict.{Verdict}
 use Rattle.kmipa_check.specs.declared.verdict.Verdict.TheVariants.{Yes, No}
-use Rattle.kmipa_stream.specs.Standing.{Judges, DatesSo}
+use Rattle.kmipa_stream.specs.Standing.{DatesSo}
 use Rattle.kmipa_stream.specs.Streams.{TellsDate}
-use Rattle.kmipa_stream.specs.declared.judged.Judged.{Judged}
 
 -- the file whose bytes came to the end that was seen
 pub a_transcript : {R : Type 0} (ti : Input R) (t : List ℕ) (marks : List MarkOf) → IsFileOf t ti → IsTranscript (came_of ti) marks → IsTrue (is_ended ti) → AreATranscript t
 a_transcript ti t marks tf p ended = (marks, whole_file t ti (λ bytes. IsTranscript bytes marks) ended tf p)
+
+pub a_declaration : {R : Type 0} (di : Input R) (d : List ℕ) (declared : DeclarationOf) → IsFileOf d di → IsDeclaration (came_of di) declared × IsTrue (is_ended di) → AreADeclaration d
+a_declaration di d declared df q = (declared, whole_file d di (λ bytes. IsDeclaration bytes declared) q.1 df q.0)
 
 -- the records of the three files, and what is answered of them
 pub record AreTheseRecords (t d w : List ℕ) (marks : List MarkOf) (declared : DeclarationOf) (turns : List TurnOf) : Type 0 where

@@ -1,9 +1,9 @@
 -- End marks that come, and pass.
-use Rattle.std.proofs.Common.{◌≡◌, ◌<◌, ◌≤◌, ◌⊎◌, inl, inr, ℕ, suc, ◌+◌, ℤ, Bool, true, false, List, [], ◌∷◌, ◌++◌, length, map, get_or, Option, Some, None, slice_get, refl, sym, ap, ◌∙◌, subst, arith}
+use Rattle.std.proofs.Common.{◌≡◌, ◌<◌, ◌≤◌, ◌⊎◌, inl, inr, ℕ, ◌+◌, ℤ, Bool, true, false, List, [], ◌∷◌, ◌++◌, length, map, Option, Some, None, slice_get, refl, sym, ap, ◌∙◌, subst, arith}
 use Rattle.std.specs.Prelude.{is_some}
 use Rattle.std.proofs.lemmas.List.{length-append}
 use Rattle.std.proofs.lemmas.Bool.Decides.{nat_tests}
-use Rattle.std.proofs.lemmas.Option.{slice_get_within, slice_get_read}
+use Rattle.std.proofs.lemmas.Option.{slice_get_within}
 use Rattle.kmipa_record.specs.Marks.{MarkOf, ends}
 use Rattle.kmipa_record.specs.Witnesses.{TurnOf, turn_of}
 use Rattle.kmipa_record.specs.declared.turn.Turn.{Turn}
@@ -14,7 +14,7 @@ use Rattle.kmipa_check.specs.Orders.{IsNamed}
 use Rattle.kmipa_check.specs.Ordering.{Decided}
 use Rattle.kmipa_check.specs.declared.numbers.FirstPlaces.{FirstPlaces}
 use Rattle.kmipa_check.proofs.PlaceLemmas.{mapped_from, get_at, pushed_at, apart, below_suc}
-use Rattle.kmipa_stream.specs.Waiting.{AreNamedAt, IsPassed, AreEnds, ArePassed, Wait, ArePassedBelow, IsFirstWaiting}
+use Rattle.kmipa_stream.specs.Waiting.{AreNamedAt, IsPassed, AreEnds, Wait, IsFirstWaiting}
 use Rattle.kmipa_stream.specs.declared.ends.EndSeen.{EndSeen}
 use Rattle.kmipa_stream.specs.declared.ends.Ends.{Ends}
 use Rattle.kmipa_stream.proofs.ListLemmas.{grown_at, last_at}

@@ -1,5 +1,5 @@
 -- The transcripts that the marks which have come may still become. Not promised.
-use Rattle.std.specs.Prelude.{◌≡◌, ◌⊎◌, ◌≤◌, ℕ, ℤ, Bool, true, List, [], ◌++◌, Option, Some, None}
+use Rattle.std.specs.Prelude.{◌≡◌, ◌⊎◌, ◌≤◌, ℕ, Bool, true, List, [], ◌++◌, Option, Some, None}
 use Rattle.kmipa_record.specs.Marks.{MarkOf, AreRecorded}
 use Rattle.kmipa_check.specs.Calls.{CallOf, IsRecorded}
 use Rattle.kmipa_check.specs.CallReading.{IsOutsideAt}

@@ -5,3 +5,4 @@ pub mod Waiting
 pub mod Steps
 pub mod Replaying
 pub mod Standing
+pub mod Opening

@@ -1,5 +1,5 @@
 -- A replay whose transcript is still coming: what is known of each transcript ahead. Not promised.
-use Rattle.std.specs.Prelude.{◌≡◌, ◌≤◌, ◌<◌, ℕ, ℤ, Bool, List, length, map, slice_get, Option, Some}
+use Rattle.std.specs.Prelude.{◌≡◌, ◌≤◌, ℕ, ℤ, Bool, List, length, map, Option}
 use Rattle.kmipa_store.specs.Choices.{IsSound}
 use Rattle.kmipa_store.specs.Ledger.{Meaning}
 use Rattle.kmipa_store.specs.States.{state_of_journal}
@@ -7,7 +7,7 @@ use Rattle.kmipa_store.specs.declared.journal.Journal.{Journal}
 use Rattle.kmipa_msgs.specs.Messages.{rules_of}
 use Rattle.kmipa_record.specs.Marks.{MarkOf}
 use Rattle.kmipa_record.specs.Declarations.{DeclarationOf}
-use Rattle.kmipa_record.specs.Witnesses.{TurnOf, turn_of}
+use Rattle.kmipa_record.specs.Witnesses.{turn_of}
 use Rattle.kmipa_record.specs.declared.turn.Turn.{Turn}
 use Rattle.kmipa_check.specs.Calls.{CallOf, AreCalls, IsRecorded}
 use Rattle.kmipa_check.specs.Orders.{AreFormedBelow, IsFormed, IsOrder, TurnFault, WitnessFaultAt}

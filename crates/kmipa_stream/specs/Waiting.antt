@@ -1,7 +1,7 @@
 -- The end marks that have come, and the first whose call waits for its turn. Not promised.
 use Rattle.std.specs.Prelude.{◌≡◌, ◌<◌, ◌≤◌, ℕ, ℤ, List, length, map, slice_get, Option, Some, None}
 use Rattle.kmipa_record.specs.Marks.{MarkOf}
-use Rattle.kmipa_record.specs.Witnesses.{TurnOf, turn_of}
+use Rattle.kmipa_record.specs.Witnesses.{turn_of}
 use Rattle.kmipa_record.specs.declared.turn.Turn.{Turn}
 use Rattle.kmipa_check.specs.Calls.{HasEnd}
 use Rattle.kmipa_check.specs.Numbers.{Indexes}

@@ -1,25 +1,25 @@
 //! Audits of three inputs, the transcript of which is read once and not kept.
 
-ghost use Rattle.std.specs.Prelude.{◌≡◌, ℕ, Bool, List, [], true, false, IsTrue, IfOk, IfErr, OnOk};
+ghost use Rattle.std.specs.Prelude.{◌≡◌, ℕ, Bool, List, [], map, true, false, IsTrue, IfOk, IfErr, OnOk};
 ghost use Rattle.kmipa_ttlv.specs.Input.{came_of, is_ended, is_failed, IsFileOf};
-ghost use Rattle.kmipa_record.specs.Declarations.{AreDeclared, DeclarationFault, DeclarationOf, IsDeclarationUpTo, declaration_of};
+ghost use Rattle.kmipa_record.specs.Declarations.{DeclarationFault, DeclarationOf, IsDeclarationUpTo};
 ghost use Rattle.kmipa_record.specs.Files.{Tells};
 ghost use Rattle.kmipa_record.specs.Marks.{MarkOf};
 ghost use Rattle.kmipa_record.specs.TranscriptReading.{HaveCome, input_of, reference_of};
 ghost use Rattle.kmipa_record.specs.Transcripts.{IsTranscript, IsTranscriptUpTo, TranscriptFault};
-ghost use Rattle.kmipa_record.specs.Witnesses.{IsWitnessUpTo, WitnessFault, witness_of};
+ghost use Rattle.kmipa_record.specs.Witnesses.{IsWitnessUpTo, WitnessFault, turn_of, witness_of};
 ghost use Rattle.kmipa_record.specs.declared.turn.Turn as turns;
 ghost use Rattle.kmipa_check.specs.Audits.{AreADeclaration, AreAccepted, AuditFails, AuditsAs};
 ghost use Rattle.kmipa_check.specs.declared.verdict.Verdict.TheVariants.{Yes};
+ghost use Rattle.kmipa_stream.specs.Opening.{Opens};
 ghost use Rattle.kmipa_stream.specs.Standing.{IsJudged, Stands};
 ghost use Rattle.kmipa_stream.specs.Streams.{IsPassed, TellsDate, verdict_alone};
 
 use crate::auditor::Auditor;
 use crate::judged::Judged;
+use crate::opening::Opening;
 use kmipa_check::{AuditFault, CheckFault};
-use kmipa_record::{
-    Declaration, RecordFault, RecordedMarks, Witness, read_declaration, read_witness,
-};
+use kmipa_record::{RecordFault, RecordedMarks, Witness, read_declaration_into, read_witness};
 use kmipa_ttlv::Input;
 use std::alloc::Global;
 use std::io::Read;
@@ -29,7 +29,7 @@ use std::io::Read;
 /// the witness puts later.
 ///
 /// The declaration and the witness are read first, the transcript to its end in any case: the first fault is still told in the order
-/// transcript, declaration, witness. Where the declaration is faulty the witness isn't read.
+/// transcript, declaration, witness. The declaration is read straight into the ledger, and where it is faulty the witness isn't read.
 pub fn audit_stream<R: Read>(
     alloc: Global,
     transcript: &mut Input<R>,
@@ -53,15 +53,16 @@ pub fn audit_stream<R: Read>(
     ensures ended { OnOk result
         (IsTrue (is_ended transcript.new) × IsTrue (is_ended declaration.new) × IsTrue (is_ended witness.new)) }
 {
-    let declaration = match read_declaration(alloc, declaration) {
-        Ok(declaration) => declaration,
+    let mut opening = Opening::new(alloc);
+    let unique_names = match read_declaration_into(alloc, declaration, &mut opening) {
+        Ok(unique_names) => unique_names,
         Err(fault) => return Err(declaration_fault(alloc, transcript, fault)),
     };
     let witness = match read_witness(alloc, witness) {
         Ok(witness) => witness,
         Err(fault) => return Err(witness_fault(alloc, transcript, fault)),
     };
-    match judge(alloc, transcript, declaration, &witness) {
+    match judge(alloc, transcript, unique_names, opening, &witness) {
         Ok(Ok(judged)) => Ok(judged),
         Ok(Err(fault)) => Err(AuditFault::Check(fault)),
         Err(fault) => Err(AuditFault::Transcript(fault)),
@@ -134,22 +135,39 @@ fn pass_marks<R: Read>(source: &mut RecordedMarks<'_, R>) -> Result<(), RecordFa
 fn judge<R: Read>(
     alloc: Global,
     transcript: &mut Input<R>,
-    declaration: Declaration,
+    unique_names: bool,
+    opening: Opening,
     witness: &Witness,
 ) -> Result<Result<Judged, CheckFault>, RecordFault>
     requires came { came_of transcript.old ≡ [] }
-    requires declared { AreDeclared (declaration_of declaration) }
-    ensures judged { IfOk result
-        (IsJudged transcript.new (declaration_of declaration) (witness_of witness.now)) }
+    requires declared { (declared : DeclarationOf) × (declared.unique_names ≡ unique_names) × Opens opening declared }
+    ensures judged { (declared : DeclarationOf) → declared.unique_names ≡ unique_names → Opens opening declared
+        → IfOk result (IsJudged transcript.new declared (witness_of witness.now)) }
     ensures fault { (file : List ℕ) → IsFileOf file transcript.new
         → IfErr result (Tells TranscriptFault IsTranscriptUpTo file (is_failed transcript.new)) }
 {
-    let Ok(mut auditor) = Auditor::new(alloc, declaration, &witness.turns) else {
+    let Ok(auditor) = Auditor::new(alloc, unique_names, opening, &witness.turns) else {
         return match pass(alloc, transcript) {
             Ok(()) => Ok(Err(CheckFault::Memory)),
             Err(fault) => Err(fault),
         };
     };
+    judge_by(alloc, transcript, auditor)
+}
+
+/// What an auditor that took no mark so far answers of a transcript, or its first fault.
+fn judge_by<R: Read>(
+    alloc: Global,
+    transcript: &mut Input<R>,
+    mut auditor: Auditor<'_>,
+) -> Result<Result<Judged, CheckFault>, RecordFault>
+    requires came { came_of transcript.old ≡ [] }
+    requires first { (turns : List turns.Turn) × (declared : DeclarationOf) × Stands false [] turns declared auditor }
+    ensures judged { (turns : List turns.Turn) (declared : DeclarationOf) → Stands false [] turns declared auditor.entry
+        → IfOk result (IsJudged transcript.new declared (map turn_of turns)) }
+    ensures fault { (file : List ℕ) → IsFileOf file transcript.new
+        → IfErr result (Tells TranscriptFault IsTranscriptUpTo file (is_failed transcript.new)) }
+{
     let mut source = RecordedMarks::new(alloc, transcript);
     let taken = take_marks(&mut source, &mut auditor);
     let _ = source.into_input();

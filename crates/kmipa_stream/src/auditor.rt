@@ -3,11 +3,12 @@
 use crate::ends::Ends;
 use crate::judged::Judged;
 use crate::lowest::Found;
+use crate::opening::Opening;
 use crate::reading::call_in;
 use crate::replaying::{Finding, Replay};
 use crate::seen::{Seen, SeenCall};
 use kmipa_check::{CheckFault, Verdict, WitnessFault, WitnessKind};
-use kmipa_record::{Declaration, End, Mark, Turn};
+use kmipa_record::{End, Mark, Turn};
 use std::alloc::{AllocError, Global};
 
 /// An audit of a transcript whose marks come one at a time.
@@ -26,24 +27,26 @@ pub(crate) struct Auditor<'w> {
 
 impl<'w> Auditor<'w> {
     ghost use Rattle.std.specs.Prelude.{◌≡◌, ◌+◌, ◌∷◌, ◌++◌, List, [], Bool, true, false, IfOk, MatchOption, MatchResult, OnOk, Some, None, length, map, slice_get};
-    ghost use Rattle.kmipa_record.specs.Declarations.{AreDeclared, DeclarationOf, declaration_of};
+    ghost use Rattle.kmipa_record.specs.Declarations.{DeclarationOf};
     ghost use Rattle.kmipa_record.specs.Marks.{AreRecorded, MarkOf, ends, mark_of};
     ghost use Rattle.kmipa_record.specs.Witnesses.{turn_of};
     ghost use Rattle.kmipa_record.specs.declared.turn.Turn as turns;
     ghost use Rattle.kmipa_check.specs.Ordering.{Decided};
+    ghost use Rattle.kmipa_stream.specs.Opening.{Opens};
     ghost use Rattle.kmipa_stream.specs.Standing.{AreAllReleased, IsDone, IsFirstLeftOut, IsUnnamed, Judges, LetsGoAt, MayTake, Standing, Stands, TellsLeftOut};
     ghost use Rattle.kmipa_stream.specs.Waiting.{AreNamedAt};
 
     /// Before the first mark.
     pub fn new(
         alloc: Global,
-        declaration: Declaration,
+        unique_names: bool,
+        opening: Opening,
         turns: &'w [Turn],
     ) -> Result<Auditor<'w>, CheckFault>
-        requires { AreDeclared (declaration_of declaration) }
-        ensures { IfOk result (Stands false [] turns.now (declaration_of declaration)) }
+        ensures { (declared : DeclarationOf) → declared.unique_names ≡ unique_names → Opens opening declared
+            → IfOk result (Stands false [] turns.now declared) }
     {
-        let replay = Replay::new(alloc, declaration, turns)?;
+        let replay = Replay::new(alloc, unique_names, opening, turns)?;
         Ok(Auditor {
             alloc,
             seen: Seen::new(alloc),

@@ -1,40 +1,114 @@
-//! The ledger that a declaration gives, into which its objects are moved.
+//! The ledger that a declaration opens, into which its objects are moved while it is read.
 
-ghost use Rattle.std.specs.Prelude.{◌≡◌, [], None, IfErr, IfOk};
+ghost use Rattle.std.specs.Prelude.{◌≡◌, map, None, IfOk};
 ghost use Rattle.kmipa_attrs.specs.Sets.{attributes_of};
 ghost use Rattle.kmipa_object.specs.Inventory.{place_of};
 ghost use Rattle.kmipa_object.specs.Life.{dates_of};
-ghost use Rattle.kmipa_store.specs.Choices.{IsSound};
 ghost use Rattle.kmipa_store.specs.Ledger.{cards_of};
-ghost use Rattle.kmipa_store.specs.States.{state_of_journal};
-ghost use Rattle.kmipa_record.specs.Declarations.{AreDeclared, declaration_of};
+ghost use Rattle.kmipa_msgs.specs.Messages.{row_of, rules_of};
 ghost use Rattle.kmipa_record.specs.Entries.{IsDeclarable, entry_of};
 ghost use Rattle.kmipa_check.specs.Described.{dates_in};
 ghost use Rattle.kmipa_check.specs.Opening.{Declares, Places};
-ghost use Rattle.kmipa_check.specs.Verdicts.{AreKnown};
+ghost use Rattle.kmipa_check.specs.Runs.{rows_declared};
 
 use kmipa_attrs::AttrSet;
-use kmipa_check::CheckFault;
+use kmipa_msgs::{Row, Rules};
 use kmipa_object::{Life, Material, Object, Rule};
-use kmipa_record::{Declaration, Entry};
+use kmipa_record::{DeclarationRecord, Entry, RecordKind, TakesRecords};
 use kmipa_store::{Journal, Ledger, StoreFault};
-use std::alloc::Global;
+use std::alloc::{AllocError, Global};
 
-/// The ledger of a server of this declaration, before any call: it stands for exactly the inventories that the declaration describes.
+/// The ledger of a server before any call, and the rows of its declaration, as far as this was read.
+///
 /// An entry is let go as its object is added; its identifier and its attributes become the object's.
-pub(crate) fn ledger_of(alloc: Global, declaration: Declaration) -> Result<Journal, CheckFault>
-    requires { AreDeclared (declaration_of declaration) }
-    ensures opened { IfOk result (λ ledger. AreKnown (declaration_of declaration) [] (state_of_journal ledger).now) }
-    ensures sound { IfOk result (λ ledger. IsSound (state_of_journal ledger).now) }
-    ensures memory { IfErr result (λ fault. fault ≡ CheckFault.Memory) }
-{
-    let mut ledger = Journal::new(alloc);
-    'entries: for entry in declaration.entries {
-        let Ok(()) = declare(&mut ledger, entry) else {
-            return Err(CheckFault::Memory);
-        };
+#[derive(Drop)]
+pub(crate) struct Opening {
+    /// It stands for exactly the inventories that the entries describe.
+    pub ledger: Journal,
+    pub rows: Vec<Row>,
+}
+
+impl Opening {
+    ghost use Rattle.std.specs.Prelude.{Bool, MatchResult};
+    ghost use Rattle.kmipa_record.specs.Declarations.{DeclarationOf};
+    ghost use Rattle.kmipa_record.specs.Taking.{MayFollow, Refuses, nothing_declared, record_of, with_record};
+    ghost use Rattle.kmipa_stream.specs.Opening.{Opens};
+
+    /// Before the first record.
+    pub fn new(alloc: Global) -> Opening
+        ensures { (unique : Bool) → Opens result (nothing_declared unique) }
+    {
+        Opening {
+            ledger: Journal::new(alloc),
+            rows: Vec::new(alloc),
+        }
     }
-    Ok(ledger)
+
+    fn take_row(&mut self, row: Row) -> Result<(), RecordKind>
+        ensures { (declared : DeclarationOf) → Opens self.old declared
+            → MatchResult result
+            (λ _. MayFollow declared.entries (record_of (DeclarationRecord.Row row))
+            × Opens self.new (with_record declared (record_of (DeclarationRecord.Row row))))
+            (Refuses declared.entries (record_of (DeclarationRecord.Row row))) }
+    {
+        if self.ledger.len() > 0 {
+            return Err(RecordKind::Entry);
+        }
+        match self.rows.push(row) {
+            Ok(()) => Ok(()),
+            Err(_) => Err(RecordKind::Memory),
+        }
+    }
+
+    fn take_entry(&mut self, entry: Entry) -> Result<(), RecordKind>
+        requires { IsDeclarable (entry_of entry) }
+        ensures { (declared : DeclarationOf) → Opens self.old declared
+            → MatchResult result
+            (λ _. MayFollow declared.entries (record_of (DeclarationRecord.Entry entry))
+            × Opens self.new (with_record declared (record_of (DeclarationRecord.Entry entry))))
+            (Refuses declared.entries (record_of (DeclarationRecord.Entry entry))) }
+    {
+        if self.ledger.find(entry.id.as_str()).is_some() {
+            return Err(RecordKind::Identifier);
+        }
+        match declare(&mut self.ledger, entry) {
+            Ok(()) => Ok(()),
+            Err(_) => Err(RecordKind::Memory),
+        }
+    }
+}
+
+impl TakesRecords for Opening {
+    ghost use Rattle.kmipa_stream.specs.Opening.{Opens};
+
+    ghost holds = { Opens };
+
+    fn take(&mut self, given: DeclarationRecord) -> Result<(), RecordKind> {
+        match given {
+            DeclarationRecord::Row(row) => self.take_row(row),
+            DeclarationRecord::Entry(entry) => self.take_entry(entry),
+        }
+    }
+}
+
+/// The rules of a declaration with these rows; one without rows has the default ones.
+pub(crate) fn rules_with(
+    alloc: Global,
+    unique_names: bool,
+    rows: Vec<Row>,
+) -> Result<Rules, AllocError>
+    ensures { IfOk result
+        (λ rules. rules_of rules
+        ≡ record { unique_names = unique_names; rows = rows_declared (map row_of rows.items) }) }
+{
+    if rows.is_empty() {
+        let default = Rules::default_rules(alloc)?;
+        return Ok(Rules {
+            unique_names,
+            rows: default.rows,
+        });
+    }
+    Ok(Rules { unique_names, rows })
 }
 
 /// Adds the object of an entry, whose identifier no object has. Refused for memory alone.

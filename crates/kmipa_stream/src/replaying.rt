@@ -6,14 +6,14 @@ ghost use Rattle.kmipa_stream.specs.Steps.{is_less};
 
 use crate::ends::Ends;
 use crate::naming::{is_named, is_passed};
-use crate::opening::ledger_of;
+use crate::opening::{Opening, rules_with};
 use crate::taking::take_step;
 use kmipa_check::{
     Call, CheckFault, FirstPlaces, Refused, Step, StepFault, WitnessFault, WitnessKind,
-    rules_of_declaration, step_of_turn,
+    step_of_turn,
 };
 use kmipa_msgs::Rules;
-use kmipa_record::{Declaration, Turn};
+use kmipa_record::Turn;
 use kmipa_store::Journal;
 use std::alloc::{AllocError, Global};
 
@@ -46,7 +46,7 @@ pub(crate) struct Replay<'w> {
 impl<'w> Replay<'w> {
     ghost use Rattle.std.specs.Prelude.{◌<◌, ◌+◌, Bool, true, false, List, IfOk, MatchOption, OnOk, Some, length, map, slice_get};
     ghost use Rattle.kmipa_batch.specs.Readable.{IsReadableCall};
-    ghost use Rattle.kmipa_record.specs.Declarations.{AreDeclared, DeclarationOf, declaration_of};
+    ghost use Rattle.kmipa_record.specs.Declarations.{DeclarationOf};
     ghost use Rattle.kmipa_record.specs.Marks.{MarkOf};
     ghost use Rattle.kmipa_record.specs.Witnesses.{turn_of};
     ghost use Rattle.kmipa_record.specs.declared.turn.Turn as turns;
@@ -55,26 +55,28 @@ impl<'w> Replay<'w> {
     ghost use Rattle.kmipa_check.specs.Ordering.{Decided};
     ghost use Rattle.kmipa_check.specs.Places.{MayBeTaken};
     ghost use Rattle.kmipa_check.specs.Steps.{step_of};
+    ghost use Rattle.kmipa_stream.specs.Opening.{Opens};
     ghost use Rattle.kmipa_stream.specs.Replaying.{AnswersAhead, FormsAhead, IsAtEnd, IsRecordedAhead, RefusesTurnAhead, Replaying, Replays};
     ghost use Rattle.kmipa_stream.specs.Waiting.{AreNamedAt, IsPassed, Wait};
 
     /// Before the first turn.
     pub fn new(
         alloc: Global,
-        declaration: Declaration,
+        unique_names: bool,
+        opening: Opening,
         turns: &'w [Turn],
     ) -> Result<Replay<'w>, CheckFault>
-        requires { AreDeclared (declaration_of declaration) }
-        ensures replays { IfOk result (λ replay. (closed : Bool) (marks : List MarkOf)
-            → Replays closed marks turns.now (declaration_of declaration) replay) }
+        ensures replays { (declared : DeclarationOf) → declared.unique_names ≡ unique_names → Opens opening declared
+            → IfOk result
+            (λ replay. (closed : Bool) (marks : List MarkOf) → Replays closed marks turns.now declared replay) }
         ensures first { IfOk result (λ replay. replay.formed ≡ 0) }
     {
         Ok(Replay {
             alloc,
             turns,
             named: FirstPlaces::of(alloc, turns)?,
-            rules: rules_of_declaration(alloc, &declaration)?,
-            ledger: ledger_of(alloc, declaration)?,
+            rules: rules_with(alloc, unique_names, opening.rows)?,
+            ledger: opening.ledger,
             formed: 0,
             last: None,
             finding: Finding::Possible,

@@ -1,65 +1,70 @@
 use Rattle.std.proofs.Common.{Result, subst}
 use Rattle.kmipa_ttlv.specs.Input.{came_of, is_failed}
 use Rattle.kmipa_ttlv.proofs.ReadLemmas.{itself}
-use Rattle.kmipa_record.specs.Declarations.{declaration_of}
 use Rattle.kmipa_record.specs.Witnesses.{witness_of}
 use Rattle.kmipa_check.specs.declared.fault.CheckFault.{CheckFault}
 use Rattle.kmipa_stream.specs.Standing.{Judges}
 use Rattle.kmipa_stream.specs.declared.judged.Judged.{Judged}
-use Rattle.kmipa_check.proofs.AuditLemmas.{a_declaration}
-use Rattle.kmipa_stream.proofs.StreamLemmas.{these_records, judged_so, unjudged_so, accepted_so, dated_so}
+use Rattle.kmipa_stream.proofs.StreamLemmas.{a_declaration, these_records, judged_so, unjudged_so, accepted_so, dated_so}
 use Rattle.kmipa_stream.proofs.auditing.audit_stream.Goals as goal
 
 pub returns-in-Err-clause-audits : goal.returns-in-Err-clause-audits
-returns-in-Err-clause-audits g c = λ t d w tf df wf. c.declaration_fault.ensures t d w (is_failed c.read_declaration.new.input) _ tf (c.in-Err.ensures.fault d df)
+returns-in-Err-clause-audits g c = λ t d w tf df wf. c.declaration_fault.ensures t d w (is_failed c.read_declaration_into.new.input) _ tf (c.in-Err.ensures.fault d df)
 
 pub returns-in-Err-read_witness-clause-audits : goal.returns-in-Err-read_witness-clause-audits
 returns-in-Err-read_witness-clause-audits g c = λ t d w tf df wf.
-    c.witness_fault.ensures t d w (is_failed c.read_declaration.new.input) (is_failed c.read_witness.new.input) tf
-    (a_declaration c.read_declaration.new.input d c.in-Ok.declaration df c.in-Ok.ensures.found) (c.in-Err-read_witness.ensures.fault w wf)
+    c.witness_fault.ensures t d w (is_failed c.read_declaration_into.new.input) (is_failed c.read_witness.new.input) tf
+    (a_declaration c.read_declaration_into.new.input d c.in-Ok.ensures.found.0.declared df (c.in-Ok.ensures.found.0.found, c.in-Ok.ensures.found.1)) (c.in-Err-read_witness.ensures.fault w wf)
 
 pub returns-in-Ok-Ok-clause-audits : goal.returns-in-Ok-Ok-clause-audits
 returns-in-Ok-Ok-clause-audits g c = λ t d w tf df wf.
-    let j = c.in-Ok-Ok.ensures.judged in
-    let declared = declaration_of c.in-Ok.declaration in
+    let taken = c.in-Ok.ensures.found.0 in
+    let declared = taken.declared in
+    let j = c.in-Ok-Ok.ensures.judged declared taken.named taken.held in
     let turns = witness_of c.in-Ok-read_witness.witness in
     let P : Result Judged CheckFault → Type 0 = λ x. Judges j.marks declared turns x in
     let told = subst P c.in-Ok-Ok.field-0-is j.judged in
     judged_so t d w j.marks declared turns c.in-Ok-Ok.judged.verdict
-    (these_records c.judge.new.transcript c.read_declaration.new.input c.read_witness.new.input t d w j.marks declared turns tf df wf j.transcript j.ended c.in-Ok.ensures.found c.in-Ok-read_witness.ensures.found) told.0
+    (these_records c.judge.new.transcript c.read_declaration_into.new.input c.read_witness.new.input t d w j.marks declared turns tf df wf j.transcript j.ended (taken.found, c.in-Ok.ensures.found.1) c.in-Ok-read_witness.ensures.found) told.0
 
 pub returns-in-Ok-Ok-clause-accepted : goal.returns-in-Ok-Ok-clause-accepted
 returns-in-Ok-Ok-clause-accepted g c = λ yes.
     let ti = c.judge.new.transcript in
-    let di = c.read_declaration.new.input in
+    let di = c.read_declaration_into.new.input in
     let wi = c.read_witness.new.input in
-    let j = c.in-Ok-Ok.ensures.judged in
-    let declared = declaration_of c.in-Ok.declaration in
+    let taken = c.in-Ok.ensures.found.0 in
+    let declared = taken.declared in
+    let j = c.in-Ok-Ok.ensures.judged declared taken.named taken.held in
     let turns = witness_of c.in-Ok-read_witness.witness in
     let P : Result Judged CheckFault → Type 0 = λ x. Judges j.marks declared turns x in
     let told = subst P c.in-Ok-Ok.field-0-is j.judged in
     accepted_so (came_of ti) (came_of di) (came_of wi) j.marks declared turns c.in-Ok-Ok.judged.verdict yes
-    (these_records ti di wi (came_of ti) (came_of di) (came_of wi) j.marks declared turns (itself ti) (itself di) (itself wi) j.transcript j.ended c.in-Ok.ensures.found c.in-Ok-read_witness.ensures.found) told.0
+    (these_records ti di wi (came_of ti) (came_of di) (came_of wi) j.marks declared turns (itself ti) (itself di) (itself wi) j.transcript j.ended (taken.found, c.in-Ok.ensures.found.1) c.in-Ok-read_witness.ensures.found) told.0
 
 pub returns-in-Ok-Ok-clause-dated : goal.returns-in-Ok-Ok-clause-dated
 returns-in-Ok-Ok-clause-dated g c =
     let ti = c.judge.new.transcript in
-    let di = c.read_declaration.new.input in
+    let di = c.read_declaration_into.new.input in
     let wi = c.read_witness.new.input in
-    let j = c.in-Ok-Ok.ensures.judged in
-    let declared = declaration_of c.in-Ok.declaration in
+    let taken = c.in-Ok.ensures.found.0 in
+    let declared = taken.declared in
+    let j = c.in-Ok-Ok.ensures.judged declared taken.named taken.held in
     let turns = witness_of c.in-Ok-read_witness.witness in
     let P : Result Judged CheckFault → Type 0 = λ x. Judges j.marks declared turns x in
     let told = subst P c.in-Ok-Ok.field-0-is j.judged in
     dated_so (came_of ti) (came_of di) (came_of wi) j.marks declared turns c.in-Ok-Ok.judged.verdict c.in-Ok-Ok.judged.stamp
-    (these_records ti di wi (came_of ti) (came_of di) (came_of wi) j.marks declared turns (itself ti) (itself di) (itself wi) j.transcript j.ended c.in-Ok.ensures.found c.in-Ok-read_witness.ensures.found) told.1
+    (these_records ti di wi (came_of ti) (came_of di) (came_of wi) j.marks declared turns (itself ti) (itself di) (itself wi) j.transcript j.ended (taken.found, c.in-Ok.ensures.found.1) c.in-Ok-read_witness.ensures.found) told.1
 
 pub returns-in-Ok-Err-clause-audits : goal.returns-in-Ok-Err-clause-audits
 returns-in-Ok-Err-clause-audits g c = λ t d w tf df wf.
-    let j = c.in-Ok-Err.ensures.judged in
-    let declared = declaration_of c.in-Ok.declaration in
+    let taken = c.in-Ok.ensures.found.0 in
+    let declared = taken.declared in
+    let j = c.in-Ok-Err.ensures.judged declared taken.named taken.held in
     let turns = witness_of c.in-Ok-read_witness.witness in
     let P : Result Judged CheckFault → Type 0 = λ x. Judges j.marks declared turns x in
     let told = subst P c.in-Ok-Err.field-0-is j.judged in
     unjudged_so t d w j.marks declared turns c.in-Ok-Err.fault
-    (these_records c.judge.new.transcript c.read_declaration.new.input c.read_witness.new.input t d w j.marks declared turns tf df wf j.transcript j.ended c.in-Ok.ensures.found c.in-Ok-read_witness.ensures.found) told
+    (these_records c.judge.new.transcript c.read_declaration_into.new.input c.read_witness.new.input t d w j.marks declared turns tf df wf j.transcript j.ended (taken.found, c.in-Ok.ensures.found.1) c.in-Ok-read_witness.ensures.found) told
+
+pub returns-clause-audits : goal.returns-clause-audits
+returns-clause-audits g c = λ t d w tf df wf. c.in-Err-judge.ensures.fault t tf

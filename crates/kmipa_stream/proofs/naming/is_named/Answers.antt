@@ -1,5 +1,4 @@
-use Rattle.std.proofs.Common.{◌≡◌, Bool, is_some, subst, sym, rules}
-use Rattle.kmipa_record.specs.Witnesses.{turn_of}
+use Rattle.std.proofs.Common.{◌≡◌, rules}
 use Rattle.kmipa_check.specs.Numbers.{place_in}
 use Rattle.kmipa_stream.proofs.WaitingLemmas.{named_decided}
 use Rattle.kmipa_stream.proofs.naming.is_named.Goals as goal

@@ -1,9 +1,6 @@
-use Rattle.std.proofs.Common.{◌≤◌, ℕ, List, Option, sym, ap, subst, refl, Bool, Ok, Err}
-use Rattle.std.specs.Prelude.{All, IfSome}
+use Rattle.std.proofs.Common.{ℕ, List, Option, sym, ap, subst, refl, Bool, Ok, Err}
 use Rattle.kmipa_msgs.specs.Messages.{RulesOf, rules_of, request_of, response_of, ResponseOf}
-use Rattle.kmipa_batch.specs.Calls.{MayTake}
 use Rattle.kmipa_batch.specs.Orders.{order_given}
-use Rattle.kmipa_batch.specs.Readable.{IsReadableCall}
 use Rattle.kmipa_batch.specs.Refusals.{CallTakenAlong}
 use Rattle.kmipa_batch.specs.declared.refusal.CallRefusal.TheVariants as refusal
 use Rattle.kmipa_check.specs.Steps.{order_of, step_of}

@@ -1,4 +1,4 @@
-use Rattle.std.proofs.Common.{◌≡◌, ◌-◌, List, length}
+use Rattle.std.proofs.Common.{◌-◌, List, length}
 use Rattle.kmipa_record.specs.declared.turn.Turn.{Turn}
 use Rattle.kmipa_stream.specs.Standing.{NoneUnnamed}
 use Rattle.kmipa_stream.specs.Waiting.{AreNamedAt}

@@ -1,5 +1,5 @@
-use Rattle.std.proofs.Common.{◌≡◌, ℤ, ◌∷◌, ◌++◌, [], refl, sym, subst, ◌∙◌, rules}
-use mir.Val.{SFits, to_z, of_z}
+use Rattle.std.proofs.Common.{ℤ, ◌∷◌, ◌++◌, [], refl, subst, ◌∙◌, rules}
+use mir.Val.{SFits}
 use mir.Syntax.{w32}
 use Rattle.std.proofs.lemmas.Int.{to_z-of_z}
 use Rattle.kmipa_record.specs.Marks.{ends}

@@ -1,4 +1,4 @@
-use Rattle.std.proofs.Common.{refl, arith, ◌∙◌, inl, inr}
+use Rattle.std.proofs.Common.{refl, ◌∙◌}
 use Rattle.kmipa_stream.proofs.StandingLemmas.{released_more}
 use Rattle.kmipa_stream.proofs.auditor.Auditor.read_rest.Goals as goal
 

@@ -1,4 +1,4 @@
-use Rattle.std.proofs.Common.{◌≡◌, ◌<◌, ℕ, List, Bool, Option, Some, None, length, sym, ap, subst, ◌∙◌, arith, rules}
+use Rattle.std.proofs.Common.{◌≡◌, ◌<◌, ℕ, Bool, Option, Some, None, length, sym, subst, ◌∙◌, arith, rules}
 use Rattle.kmipa_record.specs.NumberMaps.{value_at}
 use Rattle.kmipa_record.specs.Witnesses.{turn_of}
 use Rattle.kmipa_check.specs.Calls.{call_of}

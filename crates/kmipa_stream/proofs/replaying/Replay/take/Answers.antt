@@ -1,4 +1,4 @@
-use Rattle.std.proofs.Common.{ℕ, ap, subst, sym, refl, arith}
+use Rattle.std.proofs.Common.{ℕ, ap, subst, sym, arith}
 use Rattle.kmipa_record.specs.Witnesses.{turn_of}
 use Rattle.kmipa_check.specs.Calls.{call_of}
 use Rattle.kmipa_check.specs.Orders.{Refuses}

@@ -1,14 +1,11 @@
-use Rattle.std.proofs.Common.{◌≡◌, ◌≤◌, ℕ, ℤ, ◌+◌, List, Option, Some, None, Result, Ok, length, refl, sym, ap, subst, ◌∙◌, arith, rules}
-use mir.Val.{SFits, to_z, of_z}
+use Rattle.std.proofs.Common.{◌≡◌, ℤ, ◌+◌, Some, Ok, length, refl, sym, ap, subst, ◌∙◌, arith, rules}
+use mir.Val.{to_z, of_z}
 use mir.Syntax.{w64}
-use Rattle.std.proofs.lemmas.Int.{to_z-of_z}
 use Rattle.kmipa_msgs.specs.Messages.{rules_of}
 use Rattle.kmipa_check.specs.Steps.{step_of}
-use Rattle.kmipa_check.specs.declared.verdict.Refused.{Refused}
 use Rattle.kmipa_stream.specs.Replaying.{FindsSo, AnswersAhead, GoesOnAhead, meaning_in}
 use Rattle.kmipa_stream.specs.Steps.{is_less}
 use Rattle.kmipa_stream.specs.declared.replaying.Finding.{Finding}
-use Rattle.kmipa_stream.specs.declared.replaying.Finding.TheVariants.{Possible}
 use Rattle.kmipa_stream.proofs.ReplayingLemmas.{form_more, goes_on_more, refuses_more, finds_still}
 use Rattle.kmipa_stream.proofs.replaying.Replay.take_formed.Goals as goal
 

@@ -1,11 +1,9 @@
-use Rattle.std.proofs.Common.{◌≡◌, ℕ, ℤ, Some, None, length, refl, sym, subst, ap, ◌∙◌, arith, rules}
+use Rattle.std.proofs.Common.{◌≡◌, ℕ, None, length, refl, subst, ap, arith, rules}
 use mir.Val.{SFits, to_z, of_z}
 use mir.Syntax.{w32}
 use Rattle.std.proofs.lemmas.Int.{to_z-of_z}
 use Rattle.std.specs.String.{string_bytes}
 use Rattle.kmipa_record.specs.NumberMaps.{value_at, Sets}
-use Rattle.kmipa_record.specs.declared.transcript.Begin.{Begin}
-use Rattle.kmipa_stream.specs.Seeing.{HoldsBegin}
 use Rattle.kmipa_stream.specs.declared.seen.Seen.{Seen}
 use Rattle.kmipa_stream.specs.declared.seen.SeenCall.{SeenCall}
 use Rattle.kmipa_stream.specs.declared.seen.Held.TheVariants.{Open}

@@ -1,4 +1,4 @@
-use Rattle.std.proofs.Common.{◌≡◌, ℕ, ℤ, ◌+◌, Some, None, refl, sym, subst, ap, ◌∙◌, rules}
+use Rattle.std.proofs.Common.{◌≡◌, ℕ, ◌+◌, Some, refl, sym, subst, ap, ◌∙◌, rules}
 use mir.Val.{SFits, to_z, of_z}
 use mir.Syntax.{w32}
 use Rattle.std.proofs.lemmas.Int.{to_z-of_z}
@@ -8,8 +8,7 @@ use Rattle.kmipa_stream.specs.Seeing.{HoldsSo, released}
 use Rattle.kmipa_stream.specs.declared.seen.SeenCall.{SeenCall}
 use Rattle.kmipa_stream.specs.declared.seen.Held.{Held}
 use Rattle.kmipa_stream.specs.declared.seen.Held.TheVariants.{Whole}
-use Rattle.kmipa_stream.proofs.ListLemmas.{set_here}
-use Rattle.kmipa_stream.proofs.SeeingLemmas.{seen_let_go, seen_end, ended_here, seen_whole, seen_released, known_number, keep_put, let_go_there}
+use Rattle.kmipa_stream.proofs.SeeingLemmas.{seen_let_go, seen_end, ended_here, seen_whole, known_number, keep_put, let_go_there}
 use Rattle.kmipa_stream.proofs.seen.Seen.end.Goals as goal
 
 pub returns-clause-seen : goal.returns-clause-seen

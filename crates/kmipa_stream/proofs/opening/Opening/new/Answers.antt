@@ -1,0 +1,11 @@
+use Rattle.std.proofs.Common.{[], sym, ap, map, subst}
+use Rattle.kmipa_msgs.specs.Messages.{row_of}
+use Rattle.kmipa_store.specs.Ledger.{LedgerState}
+use Rattle.kmipa_check.specs.Opening.{Opened}
+use Rattle.kmipa_check.proofs.OpeningLemmas.{opened_none}
+use Rattle.kmipa_stream.proofs.opening.Opening.new.Goals as goal
+
+pub returns : goal.returns
+returns c = λ unique.
+    let P : LedgerState → Type 0 = λ s. Opened [] s.now in
+    record { opened = subst P (sym c.new.ensures.meaning) opened_none; rows = ap (map row_of) c.new-2.ensures.items }

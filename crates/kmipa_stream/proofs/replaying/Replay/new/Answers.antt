@@ -1,0 +1,24 @@
+use Rattle.std.proofs.Common.{refl, arith}
+use Rattle.kmipa_msgs.specs.Messages.{rules_of}
+use Rattle.kmipa_store.specs.States.{state_of_journal}
+use Rattle.kmipa_stream.proofs.OpeningLemmas.{all_known, rules_opened}
+use Rattle.kmipa_stream.proofs.replaying.Replay.new.Goals as goal
+
+pub returns-clause-replays : goal.returns-clause-replays
+returns-clause-replays c = λ declared named opens closed marks.
+    let m = (state_of_journal c.args.opening.ledger).now in
+    let known = all_known declared.entries m opens.opened declared refl in
+    record {
+      same = refl;
+      named = c.in_ok-of.ensures;
+      rules = rules_opened c.args.opening declared c.args.unique_names (rules_of c.in_ok-rules_with.field-0) named opens c.in_ok-rules_with.ensures;
+      within = omega arith;
+      formed = λ all calls ahead are place lt. absurd (omega (arith, lt));
+      finding = (
+        opens.opened.sound,
+        λ all calls order ahead are is. record {
+          replayed = record { placed = λ turn lt. absurd (omega (arith, lt)); known = known; sound = opens.opened.sound };
+          stamped = refl;
+        },
+      );
+    }
