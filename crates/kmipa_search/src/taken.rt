@@ -61,7 +61,7 @@ impl TakenCalls {
         self.hash = turned(self.hash, place);
     }
 
-    /// Whether the call at a place is left.
+    /// `true` only where the call at a place is left.
     #[inline(always)]
     pub fn is_left(&self, place: usize) -> bool
         ensures { (count : ℕ) (taken : List ℕ) → AreFlagged count taken self.now → result ≡ true
