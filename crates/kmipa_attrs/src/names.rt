@@ -68,6 +68,7 @@ fn read_name(alloc: Global, view: &View) -> Result<Name, AttrFault>
     Ok(name.copy(alloc)?)
 }
 
+#[inline(always)]
 fn lent_name<'a>(view: &View<'a>) -> Result<LentName<'a>, AttrFault>
     ensures { Gives (λ n. record { value = n.value.now; kind = n.kind }) result (named (as_name (view_tree view.now))) }
 {

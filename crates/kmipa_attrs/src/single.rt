@@ -39,6 +39,7 @@ fn step<T: Copy>(
 }
 
 /// The value of such an attribute that no client may give; any other fault is lower than that a client gave it.
+#[inline(always)]
 pub(crate) fn server_single<T: Held>(
     children: Children,
     tag: u32,

@@ -97,6 +97,7 @@ fn read_end<'a>(
 }
 
 /// The request of a begin mark.
+#[inline(always)]
 pub fn request_in<'a>(alloc: Global, begin: &'a Begin) -> Result<Request<'a>, CheckFault>
     ensures { RequestRead begin.now.call begin.now.message.items result }
 {
@@ -113,6 +114,7 @@ pub fn request_in<'a>(alloc: Global, begin: &'a Begin) -> Result<Request<'a>, Ch
 }
 
 /// The response of an end mark.
+#[inline(always)]
 pub fn response_in<'a>(
     alloc: Global,
     end: &'a End,

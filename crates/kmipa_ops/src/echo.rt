@@ -67,6 +67,7 @@ fn is_other_text(said: Option<&str>, expected: &str) -> bool
 }
 
 /// An identifier is there, and isn't the one that is meant.
+#[inline(always)]
 pub(crate) fn is_other_id(shown: Option<&str>, about: Option<&str>) -> bool
     ensures { result ≡ is_other_id (maybe_lent shown.entry) (maybe_lent about.entry) }
 {

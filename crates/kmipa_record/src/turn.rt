@@ -56,6 +56,7 @@ impl Record for Turn {
 }
 
 /// The number of an Integer with this tag that the children begin with, and the children after it.
+#[inline(always)]
 fn integer_before<'a>(children: Children<'a>, tag: u32) -> Option<(i32, Children<'a>)>
     ensures { MatchOption result
         ((number : ℤ) (rest : List Tree) → list_of (view_trees children.entry) ≢ scalar tag (integer number) ∷ rest)

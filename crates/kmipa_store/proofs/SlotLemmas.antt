@@ -1,11 +1,11 @@
 -- Objects found by the slots of their identifiers.
-use Rattle.std.proofs.Common.{◌≡◌, ◌≢◌, ◌<◌, ◌⊎◌, ◌∙◌, ◌+◌, ◌++◌, ◌∷◌, [], ℕ, zero, suc, true, false, List, length, take, set, get_or, Option, Some, None, slice_get, string_bytes, bytes_eq, refl, ap, sym, subst, inl, inr, add-one, arith}
+use Rattle.std.proofs.Common.{◌≡◌, ◌≢◌, ◌<◌, ◌⊎◌, ◌∙◌, ◌+◌, ◌-◌, ◌++◌, ◌∷◌, [], ℕ, zero, suc, true, false, List, length, take, set, get_or, Option, Some, None, slice_get, string_bytes, bytes_eq, refl, ap, sym, subst, inl, inr, add-one, arith}
 use Rattle.std.specs.BTreeMap.{is_at}
 use Rattle.std.specs.BTreeSet.{insert_key}
 use Rattle.std.specs.Set.{remove_key}
 use Rattle.std.proofs.lemmas.Bool.{false_from_ne_true, lt-ltb, ltb-true}
 use Rattle.std.proofs.lemmas.List.{get_or_default, get_or-set_same, get_or-set_other, length-set, length-take-le}
-use Rattle.std.proofs.lemmas.Nat.{mod_below}
+use Rattle.std.proofs.lemmas.Nat.{and_le_r}
 use Rattle.kmipa_object.specs.Inventory.{place_of}
 use Rattle.kmipa_object.specs.declared.life.Life.{Life}
 use Rattle.kmipa_object.proofs.ListLemmas.{get-append_cases, get-append_old, get_below, map-push}
@@ -20,6 +20,10 @@ use Rattle.kmipa_store.proofs.NameLemmas.{length-map}
 use Rattle.kmipa_store.proofs.ObjectLemmas.{take-next}
 use Rattle.kmipa_store.proofs.OrderLemmas.{found_inserted, still_found, still_there}
 use Rattle.kmipa_store.proofs.SoundLemmas.{relived_from}
+
+-- each identifier has a slot, where there are any
+slot_within : (id : List ℕ) (count : ℕ) → 0 < count → slot_of id count < count
+slot_within id count some = let low = and_le_r (id_number id) (count - 1) in omega (arith, low, some)
 
 -- what stands in the slot of an identifier
 pub stands_at : (slots : Slots) (id : List ℕ) (slot count : ℕ) (standing : Option ℕ) → count ≡ length slots.places.items → slot ≡ slot_of id count → slot < count
@@ -54,7 +58,7 @@ pub put_stands : (old new : Slots) (id : List ℕ) (value : Option ℕ) → 0 < 
 put_stands old new id value some puts =
     let places = old.places.items in
     holder_put old new id id value puts
-    ∙ get_or-set_same places (slot_of id (length places)) value None (mod_below (id_number id) (length places) some)
+    ∙ get_or-set_same places (slot_of id (length places)) value None (slot_within id (length places) some)
 
 -- the slot of an identifier in which no place before one stands
 pub put_keeps : (old new : Slots) (id : List ℕ) (place : ℕ) (value : Option ℕ) → Puts old id value new → ((q : ℕ) → holder old id ≡ Some q → q < place → ⊥) → KeepsBefore old place new

@@ -1,5 +1,6 @@
 -- Not promised. The slots of identifiers, by a cheap number of each, and the hashes of those that found an earlier one in their slot.
-use Rattle.std.specs.Prelude.{◌≡◌, ◌≤◌, ◌<◌, ◌%◌, ◌⊎◌, ℕ, Bool, true, false, nat_lt, List, length, get_or, Option, Some, None, Result, Ok, Err, slice_get}
+use Rattle.std.specs.Prelude.{◌≡◌, ◌≤◌, ◌<◌, ◌-◌, ◌⊎◌, ℕ, Bool, true, false, nat_lt, List, length, get_or, Option, Some, None, Result, Ok, Err, slice_get}
+use Rattle.std.specs.Int.Bits.{bit_and}
 use Rattle.kmipa_store.specs.Hashes.{id_hash, id_number}
 use Rattle.kmipa_store.specs.Ledger.{Held}
 use Rattle.kmipa_store.specs.Objects.{is_hashed}
@@ -9,7 +10,7 @@ use Rattle.kmipa_store.specs.declared.slots.Slots.{Slots}
 
 -- the slot of an identifier, among so many
 abbrev pub slot_of : List ℕ → ℕ → ℕ
-slot_of id count = id_number id % count
+slot_of id count = bit_and (id_number id) (count - 1)
 
 -- the place that stands in the slot of an identifier, if one does
 abbrev pub holder : Slots → List ℕ → Option ℕ

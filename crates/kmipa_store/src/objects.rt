@@ -14,6 +14,9 @@ use kmipa_object::{Life, Object, State, state_at};
 use std::alloc::Global;
 use std::marker::Model;
 
+/// So many slots are made first. It is a power of two, and so is each number of slots that follows, which is twice the one before.
+const FIRST_SLOTS: usize = 32;
+
 /// Objects in the order of arrival, and the slots of their identifiers.
 ///
 /// # What an identifier costs
@@ -167,7 +170,7 @@ impl Objects {
         if count < self.slots.len() / 2 {
             return;
         }
-        let more = count.saturating_mul(4).saturating_add(31);
+        let more = self.slots.len().saturating_mul(2).max(FIRST_SLOTS);
         if let Ok(slots) = Slots::of(self.alloc, self.in_order.as_slice(), more) {
             self.slots = slots;
         }

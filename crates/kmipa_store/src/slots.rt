@@ -143,13 +143,13 @@ impl Slots {
 ghost use Rattle.std.specs.Prelude.{length, slice_get};
 ghost use Rattle.kmipa_store.specs.Slots.{is_before, slot_of};
 
-/// The slot of an identifier, among so many.
+/// The slot of an identifier, among so many. Where these are a power of two each of them is the slot of some.
 fn slot_of(id: &str, count: usize) -> usize
     requires { 0 < count }
     ensures slot { result ≡ slot_of id.now count }
     ensures within { result < count }
 {
-    (id_number(id) % count as u64) as usize
+    (id_number(id) & (count as u64 - 1)) as usize
 }
 
 /// Whether a place stands there, and is before another.
@@ -163,6 +163,7 @@ fn is_before(standing: Option<usize>, place: usize) -> bool
 }
 
 /// Whether there is an object at a place, with this identifier.
+#[inline(always)]
 fn is_at(objects: &[Object], place: usize, id: &str) -> bool
     ensures { result ≡ has_id (slice_get (objects_of objects.now) place) id.now }
 {

@@ -23,6 +23,7 @@ use kmipa_record::{RecordFault, RecordedMarks, Witness, read_declaration_into, r
 use kmipa_ttlv::Input;
 use std::alloc::Global;
 use std::io::Read;
+use std::mem::forget;
 
 /// The verdict on three inputs of which nothing was read, as `audit` gives it. A turn is taken as soon as its call has ended in the
 /// transcript and it stands next in the witness, and the messages of the call are let go then: what is kept of the transcript is what
@@ -30,6 +31,10 @@ use std::io::Read;
 ///
 /// The declaration and the witness are read first, the transcript to its end in any case: the first fault is still told in the order
 /// transcript, declaration, witness. The declaration is read straight into the ledger, and where it is faulty the witness isn't read.
+///
+/// # Memory
+/// Behind a verdict the ledger, what is noted of the calls, and the witness are not given back, since a process that asks for this ends
+/// behind it. Whoever goes on takes `audit` of kmipa_check, which gives all back.
 pub fn audit_stream<R: Read>(
     alloc: Global,
     transcript: &mut Input<R>,
@@ -62,7 +67,7 @@ pub fn audit_stream<R: Read>(
         Ok(witness) => witness,
         Err(fault) => return Err(witness_fault(alloc, transcript, fault)),
     };
-    match judge(alloc, transcript, unique_names, opening, &witness) {
+    match judge(alloc, transcript, unique_names, opening, witness) {
         Ok(Ok(judged)) => Ok(judged),
         Ok(Err(fault)) => Err(AuditFault::Check(fault)),
         Err(fault) => Err(AuditFault::Transcript(fault)),
@@ -137,12 +142,12 @@ fn judge<R: Read>(
     transcript: &mut Input<R>,
     unique_names: bool,
     opening: Opening,
-    witness: &Witness,
+    witness: Witness,
 ) -> Result<Result<Judged, CheckFault>, RecordFault>
     requires came { came_of transcript.old ≡ [] }
     requires declared { (declared : DeclarationOf) × (declared.unique_names ≡ unique_names) × Opens opening declared }
     ensures judged { (declared : DeclarationOf) → declared.unique_names ≡ unique_names → Opens opening declared
-        → IfOk result (IsJudged transcript.new declared (witness_of witness.now)) }
+        → IfOk result (IsJudged transcript.new declared (witness_of witness)) }
     ensures fault { (file : List ℕ) → IsFileOf file transcript.new
         → IfErr result (Tells TranscriptFault IsTranscriptUpTo file (is_failed transcript.new)) }
 {
@@ -152,7 +157,9 @@ fn judge<R: Read>(
             Err(fault) => Err(fault),
         };
     };
-    judge_by(alloc, transcript, auditor)
+    let answer = judge_by(alloc, transcript, auditor);
+    forget(witness);
+    answer
 }
 
 /// What an auditor that took no mark so far answers of a transcript, or its first fault.
@@ -172,7 +179,11 @@ fn judge_by<R: Read>(
     let taken = take_marks(&mut source, &mut auditor);
     let _ = source.into_input();
     match taken {
-        Ok(true) => Ok(auditor.judge()),
+        Ok(true) => {
+            let judged = auditor.judge();
+            forget(auditor);
+            Ok(judged)
+        }
         Ok(false) => Ok(Err(CheckFault::Memory)),
         Err(fault) => Err(fault),
     }

@@ -246,6 +246,7 @@ pub fn read_all<R: Read>(input: &mut Input<R>, out: &mut Vec<u8>) -> Result<(), 
 
 /// Appends the next `most` bytes of the input, or fewer at its end, and answers how many. It reads no further. The
 /// faults, Device and Memory, are reported with this place.
+#[inline(always)]
 fn append_up_to<R: Read>(
     input: &mut Input<R>,
     place: u64,
@@ -294,6 +295,7 @@ fn append_up_to<R: Read>(
 
 /// Reads into the buffer up to its end or that of the input, and answers how many bytes came; `None` where the input is
 /// failed.
+#[inline(always)]
 fn fill<R: Read>(input: &mut Input<R>, buf: &mut [u8]) -> Option<usize>
     requires { 0 < length buf.old }
     ensures within { IfSome result (λ n. n ≤ length buf.new) }

@@ -66,5 +66,5 @@ returns-in-Ok-Err-clause-audits g c = λ t d w tf df wf.
     unjudged_so t d w j.marks declared turns c.in-Ok-Err.fault
     (these_records c.judge.new.transcript c.read_declaration_into.new.input c.read_witness.new.input t d w j.marks declared turns tf df wf j.transcript j.ended (taken.found, c.in-Ok.ensures.found.1) c.in-Ok-read_witness.ensures.found) told
 
-pub returns-clause-audits : goal.returns-clause-audits
-returns-clause-audits g c = λ t d w tf df wf. c.in-Err-judge.ensures.fault t tf
+pub returns-in-Err-judge-clause-audits : goal.returns-in-Err-judge-clause-audits
+returns-in-Err-judge-clause-audits g c = λ t d w tf df wf. c.in-Err-judge.ensures.fault t tf

@@ -5,12 +5,12 @@ use Rattle.kmipa_record.specs.declared.turn.Turn.{Turn}
 use Rattle.kmipa_stream.specs.Standing.{IsJudged}
 use Rattle.kmipa_stream.proofs.auditing.judge.Goals as goal
 
-pub judge_by-requires-clause-first : goal.judge_by-requires-clause-first
-judge_by-requires-clause-first g c =
+pub judge_by-answer-requires-clause-first : goal.judge_by-answer-requires-clause-first
+judge_by-answer-requires-clause-first g c =
     let d = c.requires.declared in
     (c.deref.result.now, d.0, c.in-Ok.ensures d.0 d.1 d.2)
 
 pub returns-clause-judged : goal.returns-clause-judged
 returns-clause-judged g c = λ declared named opens.
-    let P : List Turn → Type 0 = λ l. IfOk c.judge_by.result (IsJudged c.judge_by.new.transcript declared (map turn_of l)) in
-    subst P c.deref.ensures.value (c.judge_by.ensures.judged c.deref.result.now declared (c.in-Ok.ensures declared named opens))
+    let P : List Turn → Type 0 = λ l. IfOk c.judge_by-answer.result (IsJudged c.judge_by-answer.new.transcript declared (map turn_of l)) in
+    subst P c.deref.ensures.value (c.judge_by-answer.ensures.judged c.deref.result.now declared (c.in-Ok.ensures declared named opens))

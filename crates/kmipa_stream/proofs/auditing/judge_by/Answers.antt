@@ -5,8 +5,8 @@ use Rattle.kmipa_check.specs.declared.fault.CheckFault.TheVariants.{Memory}
 use Rattle.kmipa_stream.specs.Standing.{IsJudged}
 use Rattle.kmipa_stream.proofs.auditing.judge_by.Goals as goal
 
-pub judge-requires : goal.judge-requires
-judge-requires g c =
+pub judge-judged-requires : goal.judge-judged-requires
+judge-judged-requires g c =
     let first = c.requires.first in
     let t = c.in-Ok-true.ensures.taken first.0 first.1 first.2 in
     record { marks = t.0; turns = first.0; declared = first.1; stands = t.3 c.in-Ok-true.field-0-test }
@@ -14,8 +14,8 @@ judge-requires g c =
 pub returns-in-Ok-true-clause-judged : goal.returns-in-Ok-true-clause-judged
 returns-in-Ok-true-clause-judged g c = λ turns declared stands.
     let t = c.in-Ok-true.ensures.taken turns declared stands in
-    let j = c.judge.ensures t.0 turns declared t.1.recorded (t.3 c.in-Ok-true.field-0-test) in
-    let h : IsJudged (input_of c.take_marks-taken.new.source) declared (map turn_of turns) c.judge.result = record { marks = t.0; transcript = t.1; ended = t.2; judged = j } in
+    let j = c.judge-judged.ensures t.0 turns declared t.1.recorded (t.3 c.in-Ok-true.field-0-test) in
+    let h : IsJudged (input_of c.take_marks-taken.new.source) declared (map turn_of turns) c.judge-judged.result = record { marks = t.0; transcript = t.1; ended = t.2; judged = j } in
     search (rules, h)
 
 pub returns-in-Ok-false-clause-judged : goal.returns-in-Ok-false-clause-judged
