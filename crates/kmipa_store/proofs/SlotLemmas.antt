@@ -3,7 +3,7 @@ use Rattle.std.proofs.Common.{◌≡◌, ◌≢◌, ◌<◌, ◌⊎◌, ◌∙�
 use Rattle.std.specs.BTreeMap.{is_at}
 use Rattle.std.specs.BTreeSet.{insert_key}
 use Rattle.std.specs.Set.{remove_key}
-use Rattle.std.proofs.lemmas.Bool.{false_from_ne_true, lt-ltb, ltb-true}
+use Rattle.std.proofs.lemmas.Bool.{false_from_ne_true, le-ltb, lt-ltb, ltb-true}
 use Rattle.std.proofs.lemmas.List.{get_or_default, get_or-set_same, get_or-set_other, length-set, length-take-le}
 use Rattle.std.proofs.lemmas.Nat.{and_le_r}
 use Rattle.kmipa_object.specs.Inventory.{place_of}
@@ -86,6 +86,9 @@ not_before standing place q e is below =
 
 pub none_before : (standing : Option ℕ) (place : ℕ) → is_before standing place ≡ false → (old : Slots) (id : List ℕ) → standing ≡ holder old id → (q : ℕ) → holder old id ≡ Some q → q < place → ⊥
 none_before standing place e old id is q stands below = not_before standing place q e (is ∙ stands) below
+
+pub itself_not_before : (standing : Option ℕ) (place : ℕ) → standing ≡ Some place → is_before standing place ≡ false
+itself_not_before standing place is = ap (λ (o : Option ℕ). is_before o place) is ∙ le-ltb place place (omega arith)
 
 -- a hash more
 pub insert_keeps : (old new : Slots) (hash place : ℕ) → new.places.items ≡ old.places.items → new.by_hash.keys ≡ insert_key hashed_cmp old.by_hash.keys (hash, place) → KeepsBefore old place new

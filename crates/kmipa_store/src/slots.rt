@@ -21,7 +21,7 @@ use std::ops::Bound;
 /// A place may be noted where no object stands, or another one: who finds a place looks at the object there.
 #[derive(Drop)]
 pub struct Slots {
-    places: Vec<Option<usize>>,
+    places: Vec<Option<u32>>,
     by_hash: BTreeSet<(u64, usize)>,
 }
 
@@ -88,9 +88,12 @@ impl Slots {
         let slot = slot_of(id, self.places.len());
         if is_before(self.places[slot], place) {
             self.by_hash.insert((id_hash(id), place))?;
-        } else {
-            self.places[slot] = Some(place);
+            return Ok(());
         }
+        let Ok(short) = u32::try_from(place) else {
+            return Err(StoreFault::Memory);
+        };
+        self.places[slot] = Some(short);
         Ok(())
     }
 
@@ -102,7 +105,7 @@ impl Slots {
             return;
         }
         let slot = slot_of(id, self.places.len());
-        if self.places[slot] == Some(place) {
+        if stands_there(self.places[slot], place) {
             self.places[slot] = None;
         } else {
             let _ = self.by_hash.remove(&(id_hash(id), place));
@@ -116,7 +119,8 @@ impl Slots {
         if self.places.is_empty() {
             return None;
         }
-        self.places[slot_of(id, self.places.len())]
+        let place = self.places[slot_of(id, self.places.len())]?;
+        Some(place as usize)
     }
 
     /// The place of the object with this identifier, by its hash.
@@ -140,7 +144,7 @@ impl Slots {
     }
 }
 
-ghost use Rattle.std.specs.Prelude.{length, slice_get};
+ghost use Rattle.std.specs.Prelude.{◌↔◌, Some, length, slice_get, true};
 ghost use Rattle.kmipa_store.specs.Slots.{is_before, slot_of};
 
 /// The slot of an identifier, among so many. Where these are a power of two each of them is the slot of some.
@@ -153,11 +157,21 @@ fn slot_of(id: &str, count: usize) -> usize
 }
 
 /// Whether a place stands there, and is before another.
-fn is_before(standing: Option<usize>, place: usize) -> bool
+fn is_before(standing: Option<u32>, place: usize) -> bool
     ensures { result ≡ is_before standing place }
 {
     match standing {
-        Some(first) => first < place,
+        Some(first) => (first as usize) < place,
+        None => false,
+    }
+}
+
+/// Whether this very place stands there.
+fn stands_there(standing: Option<u32>, place: usize) -> bool
+    ensures { (result ≡ true) ↔ (standing ≡ Some place) }
+{
+    match standing {
+        Some(first) => first as usize == place,
         None => false,
     }
 }
