@@ -53,7 +53,8 @@ class Verdict:
 
 @dataclass
 class Crate:
-    """A crate: its folder, what it uses of the repository and of the kit, and where libraries are built."""
+    """A crate: its folder, what it uses of the repository and of the kit, where libraries are built, and what its checks have taken of a
+    processor, in seconds, and the largest of memory, in bytes."""
 
     name: str
     folder: Path
@@ -61,6 +62,7 @@ class Crate:
     of_kit: list[str]
     libraries: dict[str, Path]
     seconds: float = 0.0
+    memory: int = 0
     words: list[str] = field(default_factory=list)
 
     def all_below(self) -> list[Crate]:
@@ -96,13 +98,14 @@ class Crate:
                 shutil.copytree(self.folder / part, room / part)
 
     def run_rattle(self, room: Path, words: list[str]) -> str:
-        """Runs a command of rattle on the copy in a folder, counts its processor's seconds, and returns its lines."""
+        """Runs a command of rattle on the copy in a folder, counts its processor's seconds and its memory, and returns its lines."""
         with tempfile.TemporaryFile() as out:
             command = [str(kit_folder() / "bin/rattle"), *words]
             ran = subprocess.Popen(command, cwd=room, stdin=subprocess.DEVNULL, stdout=out, stderr=subprocess.STDOUT)
             _, status, used = os.wait4(ran.pid, 0)
             ran.returncode = status
             self.seconds += used.ru_utime + used.ru_stime
+            self.memory = max(self.memory, used.ru_maxrss << 10)
             out.seek(0)
             return out.read().decode(errors="replace")
 
