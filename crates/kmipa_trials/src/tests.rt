@@ -13,19 +13,21 @@ mod words;
 
 use kmipa_ttlv::{Item, encode, spelled_len};
 use std::alloc::Global;
-use std::test::Fail;
+use std::process::Abort;
 
-// Fails the test that it is called from, unless this holds.
-pub(crate) fn check(holds: bool, what: &str) -> Result<(), Fail> {
-    if holds { Ok(()) } else { Err(Fail::new(what)) }
+// Ends the test that it is called from, unless this holds.
+pub(crate) fn check(rt: &impl Abort, holds: bool, what: &str) {
+    if !holds {
+        rt.panic(what);
+    }
 }
 
 // Whether an item is spelled by these bytes, with zero padding.
-pub(crate) fn is_spelled(alloc: Global, item: &Item, bytes: &[u8]) -> Result<bool, Fail> {
+pub(crate) fn is_spelled(rt: &impl Abort, alloc: Global, item: &Item, bytes: &[u8]) -> bool {
     if spelled_len(item).is_none() {
-        return Ok(false);
+        return false;
     }
     let mut written = Vec::new(alloc);
-    encode(item, &mut written)?;
-    Ok(written.as_slice() == bytes)
+    encode(item, &mut written).expect(rt, "memory");
+    written.as_slice() == bytes
 }

@@ -2,10 +2,10 @@
 
 use super::spelled::bytes_of;
 use super::{check, is_spelled};
-use kmipa_attrs::{AttrFault, Side, read_attrs, write_attrs};
+use kmipa_attrs::{AttrFault, AttrSet, Side, read_attrs, write_attrs};
 use kmipa_ttlv::decode_view;
 use std::alloc::Global;
-use std::test::Fail;
+use std::process::Abort;
 
 // AES and 128 bits, as a declaration spells them.
 const AES_128: &str =
@@ -105,38 +105,46 @@ const FAULTS: [Row; 11] = [
 ];
 
 // Whether a set and a copy of it are written as they were.
-fn is_written_again(alloc: Global, digits: &str) -> Result<bool, Fail> {
-    let bytes = bytes_of(alloc, &[digits])?;
-    let (view, _) = decode_view(&bytes)?;
-    let set = read_attrs(alloc, &view, Side::Server)?;
-    let copy = set.copy(alloc)?;
-    Ok(
-        is_spelled(alloc, &write_attrs(alloc, &set)?, &bytes)?
-            && is_spelled(alloc, &write_attrs(alloc, &copy)?, &bytes)?,
-    )
+fn is_written_again(rt: &impl Abort, alloc: Global, digits: &str) -> bool {
+    let bytes = bytes_of(rt, alloc, &[digits]);
+    let (view, _) = decode_view(&bytes).expect(rt, "an item");
+    let set = read_attrs(alloc, &view, Side::Server).expect(rt, "a set");
+    let copy = set.copy(alloc).expect(rt, "memory");
+    is_written_as(rt, alloc, &set, &bytes) && is_written_as(rt, alloc, &copy, &bytes)
+}
+
+// Whether a set is written as these bytes.
+fn is_written_as(rt: &impl Abort, alloc: Global, set: &AttrSet, bytes: &[u8]) -> bool {
+    let item = write_attrs(alloc, set).expect(rt, "memory");
+    is_spelled(rt, alloc, &item, bytes)
 }
 
 #[test]
-fn sets_are_written_again(rt: HostRuntime) -> Result<(), Fail> {
-    check(is_written_again(rt.alloc(), AES_128)?, "AES and 128")?;
-    check(is_written_again(rt.alloc(), ALL)?, "all attributes")
+fn sets_are_written_again(rt: HostRuntime) {
+    check(
+        &rt,
+        is_written_again(&rt, rt.alloc(), AES_128),
+        "AES and 128",
+    );
+    check(
+        &rt,
+        is_written_again(&rt, rt.alloc(), ALL),
+        "all attributes",
+    );
 }
 
 // Whether this is told of an item.
-fn is_told(alloc: Global, row: &Row) -> Result<bool, Fail> {
+fn is_told(rt: &impl Abort, alloc: Global, row: &Row) -> bool {
     let (_, digits, of_client, of_server) = row;
-    let bytes = bytes_of(alloc, &[digits])?;
-    let (view, _) = decode_view(&bytes)?;
-    Ok(
-        read_attrs(alloc, &view, Side::Client).err() == *of_client
-            && read_attrs(alloc, &view, Side::Server).err() == *of_server,
-    )
+    let bytes = bytes_of(rt, alloc, &[digits]);
+    let (view, _) = decode_view(&bytes).expect(rt, "an item");
+    read_attrs(alloc, &view, Side::Client).err() == *of_client
+        && read_attrs(alloc, &view, Side::Server).err() == *of_server
 }
 
 #[test]
-fn lowest_faults_are_told(rt: HostRuntime) -> Result<(), Fail> {
+fn lowest_faults_are_told(rt: HostRuntime) {
     for row in &FAULTS {
-        check(is_told(rt.alloc(), row)?, row.0)?;
+        check(&rt, is_told(&rt, rt.alloc(), row), row.0);
     }
-    Ok(())
 }

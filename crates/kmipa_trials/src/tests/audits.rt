@@ -8,7 +8,7 @@ use kmipa_check::{
 use kmipa_ops::Why;
 use kmipa_ttlv::Input;
 use std::alloc::Global;
-use std::test::Fail;
+use std::process::Abort;
 
 // What `audit_with` says, without the records.
 fn said<'a>(
@@ -46,38 +46,51 @@ fn said_alone<'a>(
 
 // Whether both say this of the example of one call, with a declaration of this entry and a witness of these turns.
 fn is_said(
+    rt: &impl Abort,
     alloc: Global,
     entry: &str,
     turns: &[&str],
     expected: Result<Verdict, AuditFault>,
-) -> Result<bool, Fail> {
-    let transcript = bytes_of(alloc, &[TRANSCRIPT, BEGIN_MARK, GET_K1, END_MARK, GOT_K1])?;
-    let declaration = bytes_of(alloc, &[DECLARATION, entry])?;
-    let mut witness = bytes_of(alloc, &[WITNESS])?;
-    witness.extend_from_slice(&bytes_of(alloc, turns)?)?;
-    Ok(
-        said(alloc, &transcript, &declaration, &witness) == expected
-            && said_alone(alloc, &transcript, &declaration, &witness) == expected,
-    )
+) -> bool {
+    let transcript = bytes_of(
+        rt,
+        alloc,
+        &[TRANSCRIPT, BEGIN_MARK, GET_K1, END_MARK, GOT_K1],
+    );
+    let declaration = bytes_of(rt, alloc, &[DECLARATION, entry]);
+    let mut witness = bytes_of(rt, alloc, &[WITNESS]);
+    witness
+        .extend_from_slice(&bytes_of(rt, alloc, turns))
+        .expect(rt, "memory");
+    said(alloc, &transcript, &declaration, &witness) == expected
+        && said_alone(alloc, &transcript, &declaration, &witness) == expected
 }
 
 #[test]
-fn one_call_is_judged(rt: HostRuntime) -> Result<(), Fail> {
+fn one_call_is_judged(rt: HostRuntime) {
     let alloc = rt.alloc();
     let yes = Ok(Verdict::Yes);
-    check(is_said(alloc, ENTRY, &[TURN], yes)?, "no yes")?;
+    check(&rt, is_said(&rt, alloc, ENTRY, &[TURN], yes), "no yes");
     let no = Ok(Verdict::No(Refused {
         turn: 1,
         call: 1,
         item: 1,
         why: Why::BytesDiffer,
     }));
-    check(is_said(alloc, OTHER_ENTRY, &[TURN], no)?, "another no")?;
+    check(
+        &rt,
+        is_said(&rt, alloc, OTHER_ENTRY, &[TURN], no),
+        "another no",
+    );
     let fault = CheckFault::Witness(WitnessFault {
         at: 1,
         kind: WitnessKind::LeftOut,
     });
-    check(fault.number() == 2, "another number")?;
+    check(&rt, fault.number() == 2, "another number");
     let left_out = Err(AuditFault::Check(fault));
-    check(is_said(alloc, ENTRY, &[], left_out)?, "another fault")
+    check(
+        &rt,
+        is_said(&rt, alloc, ENTRY, &[], left_out),
+        "another fault",
+    );
 }

@@ -1,16 +1,16 @@
 //! Messages and files as they are spelled by the rules of TTLV, in hexadecimal digits, and their bytes.
 
 use std::alloc::Global;
-use std::test::Fail;
+use std::process::Abort;
 
 // The bytes of digits that stand one behind the other.
-pub(crate) fn bytes_of(alloc: Global, parts: &[&str]) -> Result<Vec<u8>, Fail> {
+pub(crate) fn bytes_of(rt: &impl Abort, alloc: Global, parts: &[&str]) -> Vec<u8> {
     let mut bytes = Vec::new(alloc);
     for digits in parts {
-        let part = hex::decode(alloc, digits.as_bytes())?;
-        bytes.extend_from_slice(&part)?;
+        let part = hex::decode(alloc, digits.as_bytes()).expect(rt, "digits");
+        bytes.extend_from_slice(&part).expect(rt, "memory");
     }
-    Ok(bytes)
+    bytes
 }
 
 // A request to get `k1`.

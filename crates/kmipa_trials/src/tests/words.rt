@@ -4,36 +4,38 @@ use super::check;
 use kmipa_attrs::AttrFault;
 use kmipa_object::{State, WrongState};
 use kmipa_ttlv::{FaultKind, TtlvFault};
-use std::test::Fail;
+use std::alloc::Global;
+use std::fmt::Display;
+use std::process::Abort;
+
+// Whether something is displayed as this text.
+fn is_text_of(rt: &impl Abort, alloc: Global, what: &impl Display, text: &str) -> bool {
+    let displayed = format!(in alloc; "{what}").expect(rt, "memory");
+    displayed.as_str() == text
+}
 
 #[test]
-fn faults_are_readable(rt: HostRuntime) -> Result<(), Fail> {
-    let alloc = rt.alloc();
+fn faults_are_readable(rt: HostRuntime) {
     let fault = TtlvFault {
         offset: 8,
         kind: FaultKind::BadText,
     };
-    let text = format!(in alloc; "{fault}")?;
-    check(
-        text.as_str() == "the text is not UTF-8, at offset 8",
-        "a fault of bytes",
-    )?;
-    let text = format!(in alloc; "{}", AttrFault::NotForClients)?;
-    check(text.as_str() == "NotForClients", "a fault of attributes")?;
-    let text = format!(in alloc; "{WrongState}")?;
-    check(
-        text.as_str() == "the object's state does not allow this",
-        "a fault of states",
-    )
+    let text = "the text is not UTF-8, at offset 8";
+    let is_told = is_text_of(&rt, rt.alloc(), &fault, text);
+    check(&rt, is_told, "a fault of bytes");
+    let is_told = is_text_of(&rt, rt.alloc(), &AttrFault::NotForClients, "NotForClients");
+    check(&rt, is_told, "a fault of attributes");
+    let text = "the object's state does not allow this";
+    let is_told = is_text_of(&rt, rt.alloc(), &WrongState, text);
+    check(&rt, is_told, "a fault of states");
 }
 
 #[test]
-fn states_are_named(rt: HostRuntime) -> Result<(), Fail> {
+fn states_are_named(rt: HostRuntime) {
     for (state, number, name) in [
         (State::PreActive, 1, "Pre-Active"),
         (State::DestroyedCompromised, 6, "Destroyed Compromised"),
     ] {
-        check(state.number() == number && state.name() == name, name)?;
+        check(&rt, state.number() == number && state.name() == name, name);
     }
-    Ok(())
 }
