@@ -1,9 +1,10 @@
 //! Sets of attributes that are read and written, and their faults.
 
-use super::spelled::bytes_of;
-use super::{check, is_spelled};
+use super::check;
+use super::reading::view_of;
+use super::spelled::{bytes_of, is_spelled};
 use kmipa_attrs::{AttrFault, AttrSet, Side, read_attrs, write_attrs};
-use kmipa_ttlv::decode_view;
+use kmipa_ttlv::View;
 use std::alloc::Global;
 use std::process::Abort;
 
@@ -104,47 +105,50 @@ const FAULTS: [Row; 11] = [
     ),
 ];
 
-// Whether a set and a copy of it are written as they were.
-fn is_written_again(rt: &impl Abort, alloc: Global, digits: &str) -> bool {
+// The set that a server spells so.
+fn set_of(rt: &impl Abort, alloc: Global, digits: &str) -> AttrSet {
     let bytes = bytes_of(rt, alloc, &[digits]);
-    let (view, _) = decode_view(&bytes).expect(rt, "an item");
-    let set = read_attrs(alloc, &view, Side::Server).expect(rt, "a set");
-    let copy = set.copy(alloc).expect(rt, "memory");
-    is_written_as(rt, alloc, &set, &bytes) && is_written_as(rt, alloc, &copy, &bytes)
+    read_attrs(alloc, &view_of(rt, &bytes), Side::Server).expect(rt, "a set")
 }
 
-// Whether a set is written as these bytes.
-fn is_written_as(rt: &impl Abort, alloc: Global, set: &AttrSet, bytes: &[u8]) -> bool {
+// Checks that a set is written as these digits.
+fn check_written(rt: &impl Abort, alloc: Global, set: &AttrSet, digits: &str) {
     let item = write_attrs(alloc, set).expect(rt, "memory");
-    is_spelled(rt, alloc, &item, bytes)
+    check(rt, is_spelled(rt, alloc, &item, digits), digits);
+}
+
+// Checks that a set and a copy of it are written as they were.
+fn check_set(rt: &impl Abort, alloc: Global, digits: &str) {
+    let set = set_of(rt, alloc, digits);
+    check_written(rt, alloc, &set, digits);
+    let copy = set.copy(alloc).expect(rt, "memory");
+    check_written(rt, alloc, &copy, digits);
 }
 
 #[test]
 fn sets_are_written_again(rt: HostRuntime) {
-    check(
-        &rt,
-        is_written_again(&rt, rt.alloc(), AES_128),
-        "AES and 128",
-    );
-    check(
-        &rt,
-        is_written_again(&rt, rt.alloc(), ALL),
-        "all attributes",
-    );
+    let alloc = rt.alloc();
+    check_set(&rt, alloc, AES_128);
+    check_set(&rt, alloc, ALL);
 }
 
-// Whether this is told of an item.
-fn is_told(rt: &impl Abort, alloc: Global, row: &Row) -> bool {
-    let (_, digits, of_client, of_server) = row;
+// What is told of an item that comes from a side.
+fn fault_of(alloc: Global, view: &View, side: Side) -> Option<AttrFault> {
+    read_attrs(alloc, view, side).err()
+}
+
+// Checks that this is told of an item.
+fn check_row(rt: &impl Abort, alloc: Global, row: &Row) {
+    let (what, digits, of_client, of_server) = row;
     let bytes = bytes_of(rt, alloc, &[digits]);
-    let (view, _) = decode_view(&bytes).expect(rt, "an item");
-    read_attrs(alloc, &view, Side::Client).err() == *of_client
-        && read_attrs(alloc, &view, Side::Server).err() == *of_server
+    let view = view_of(rt, &bytes);
+    check(rt, fault_of(alloc, &view, Side::Client) == *of_client, what);
+    check(rt, fault_of(alloc, &view, Side::Server) == *of_server, what);
 }
 
 #[test]
 fn lowest_faults_are_told(rt: HostRuntime) {
     for row in &FAULTS {
-        check(&rt, is_told(&rt, rt.alloc(), row), row.0);
+        check_row(&rt, rt.alloc(), row);
     }
 }

@@ -44,53 +44,42 @@ fn said_alone<'a>(
     )
 }
 
-// Whether both say this of the example of one call, with a declaration of this entry and a witness of these turns.
-fn is_said(
+// Checks that both say this of the example of one call, with a declaration of this entry and a witness of these parts.
+fn check_both(
     rt: &impl Abort,
     alloc: Global,
-    entry: &str,
-    turns: &[&str],
+    (entry, witness): (&str, &[&str]),
     expected: Result<Verdict, AuditFault>,
-) -> bool {
-    let transcript = bytes_of(
-        rt,
-        alloc,
-        &[TRANSCRIPT, BEGIN_MARK, GET_K1, END_MARK, GOT_K1],
-    );
+) {
+    let transcript = bytes_of(rt, alloc, &ONE_CALL);
     let declaration = bytes_of(rt, alloc, &[DECLARATION, entry]);
-    let mut witness = bytes_of(rt, alloc, &[WITNESS]);
-    witness
-        .extend_from_slice(&bytes_of(rt, alloc, turns))
-        .expect(rt, "memory");
-    said(alloc, &transcript, &declaration, &witness) == expected
-        && said_alone(alloc, &transcript, &declaration, &witness) == expected
+    let witness = bytes_of(rt, alloc, witness);
+    let verdict = said(alloc, &transcript, &declaration, &witness);
+    check(rt, verdict == expected, "with the records");
+    let alone = said_alone(alloc, &transcript, &declaration, &witness);
+    check(rt, alone == expected, "without the records");
 }
 
 #[test]
 fn one_call_is_judged(rt: HostRuntime) {
     let alloc = rt.alloc();
-    let yes = Ok(Verdict::Yes);
-    check(&rt, is_said(&rt, alloc, ENTRY, &[TURN], yes), "no yes");
-    let no = Ok(Verdict::No(Refused {
+    check_both(&rt, alloc, (ENTRY, &[WITNESS, TURN]), Ok(Verdict::Yes));
+    let no = Verdict::No(Refused {
         turn: 1,
         call: 1,
         item: 1,
         why: Why::BytesDiffer,
-    }));
-    check(
-        &rt,
-        is_said(&rt, alloc, OTHER_ENTRY, &[TURN], no),
-        "another no",
-    );
+    });
+    check_both(&rt, alloc, (OTHER_ENTRY, &[WITNESS, TURN]), Ok(no));
     let fault = CheckFault::Witness(WitnessFault {
         at: 1,
         kind: WitnessKind::LeftOut,
     });
     check(&rt, fault.number() == 2, "another number");
-    let left_out = Err(AuditFault::Check(fault));
-    check(
+    check_both(
         &rt,
-        is_said(&rt, alloc, ENTRY, &[], left_out),
-        "another fault",
+        alloc,
+        (ENTRY, &[WITNESS]),
+        Err(AuditFault::Check(fault)),
     );
 }

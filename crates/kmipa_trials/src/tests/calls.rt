@@ -5,12 +5,12 @@ ghost use Rattle.kmipa_store.specs.Choices.{IsSound};
 ghost use Rattle.kmipa_store.specs.States.{state_of_copies};
 
 use super::check;
+use super::reading::call_of;
 use super::spelled::{GET_K1, GOT_K1, REGISTER, REGISTERED, bytes_of};
 use kmipa_batch::{CallRefusal, is_readable_call, take_call};
-use kmipa_msgs::{Request, Response, Rules, read_request, read_response};
+use kmipa_msgs::{Request, Response, Rules};
 use kmipa_ops::Why;
 use kmipa_store::{Copies, Ledger};
-use kmipa_ttlv::decode_view;
 use std::alloc::Global;
 use std::process::Abort;
 
@@ -30,9 +30,16 @@ fn refusal_of<L: Ledger>(
 ) -> Option<CallRefusal>
     requires { IsSound (L.state ledger.old).now }
 {
-    assert!(rt; is_readable_call(request, response), "it can't be read");
+    assert!(rt; is_readable_call(request, response));
     let rules = Rules::default_rules(alloc).expect(rt, "memory");
     take_call(alloc, ledger, &rules, request, response, None).err()
+}
+
+/// The answer without its payloads.
+fn strip(response: &mut Response) {
+    for answer in &mut response.items {
+        answer.payload = None;
+    }
 }
 
 /// The same of a spelled call, which can't be read without its payloads.
@@ -47,14 +54,9 @@ fn judged<L: Ledger>(
 {
     let asked = bytes_of(rt, alloc, &[asked]);
     let answered = bytes_of(rt, alloc, &[answered]);
-    let (asked_view, _) = decode_view(&asked).expect(rt, "an item");
-    let (answered_view, _) = decode_view(&answered).expect(rt, "an item");
-    let request = read_request(alloc, &asked_view).expect(rt, "a request");
-    let mut response = read_response(alloc, &answered_view, &request).expect(rt, "a response");
+    let (request, mut response) = call_of(rt, alloc, &asked, &answered);
     let refusal = refusal_of(rt, alloc, ledger, &request, &response);
-    for answer in &mut response.items {
-        answer.payload = None;
-    }
+    strip(&mut response);
     check(
         rt,
         !is_readable_call(&request, &response),
@@ -65,16 +67,18 @@ fn judged<L: Ledger>(
 
 #[test]
 fn call_is_taken(rt: HostRuntime) {
-    let mut copies = new_copies(rt.alloc());
-    let refusal = judged(&rt, rt.alloc(), &mut copies, REGISTER, REGISTERED);
+    let alloc = rt.alloc();
+    let mut copies = new_copies(alloc);
+    let refusal = judged(&rt, alloc, &mut copies, REGISTER, REGISTERED);
     check(&rt, refusal.is_none(), "it is refused");
     check(&rt, copies.find("r1") == Some(0), "no object");
 }
 
 #[test]
 fn call_is_refused(rt: HostRuntime) {
-    let mut copies = new_copies(rt.alloc());
-    let refusal = judged(&rt, rt.alloc(), &mut copies, GET_K1, GOT_K1);
+    let alloc = rt.alloc();
+    let mut copies = new_copies(alloc);
+    let refusal = judged(&rt, alloc, &mut copies, GET_K1, GOT_K1);
     let unknown = CallRefusal::Impossible(1, Why::NoSuchObject);
     check(&rt, refusal == Some(unknown), "another refusal");
     check(&rt, copies.len() == 0, "an object");

@@ -1,5 +1,6 @@
 //! Messages and files as they are spelled by the rules of TTLV, in hexadecimal digits, and their bytes.
 
+use kmipa_ttlv::{Item, encode, spelled_len};
 use std::alloc::Global;
 use std::process::Abort;
 
@@ -11,6 +12,21 @@ pub(crate) fn bytes_of(rt: &impl Abort, alloc: Global, parts: &[&str]) -> Vec<u8
         bytes.extend_from_slice(&part).expect(rt, "memory");
     }
     bytes
+}
+
+// Whether these are the bytes of digits that stand one behind the other.
+pub(crate) fn are_bytes(rt: &impl Abort, alloc: Global, bytes: &[u8], parts: &[&str]) -> bool {
+    bytes_of(rt, alloc, parts).as_slice() == bytes
+}
+
+// Whether an item is spelled by these digits, with zero padding.
+pub(crate) fn is_spelled(rt: &impl Abort, alloc: Global, item: &Item, digits: &str) -> bool {
+    if spelled_len(item).is_none() {
+        return false;
+    }
+    let mut written = Vec::new(alloc);
+    encode(item, &mut written).expect(rt, "memory");
+    are_bytes(rt, alloc, &written, &[digits])
 }
 
 // A request to get `k1`.
@@ -131,6 +147,9 @@ pub const BEGIN_MARK: &str =
 
 // The end mark of call 1, up to the answer.
 pub const END_MARK: &str = "5400200100000120540011020000000400000001000000005400130800000108";
+
+// A transcript of one call, which gets `k1`.
+pub const ONE_CALL: [&str; 5] = [TRANSCRIPT, BEGIN_MARK, GET_K1, END_MARK, GOT_K1];
 
 // The header of a declaration.
 pub const DECLARATION: &str =

@@ -18,32 +18,38 @@ fn cut(rt: &impl Abort, alloc: Global, bytes: &[u8], piece: usize) -> Vec<Vec<u8
     pieces
 }
 
-// The lengths of the items of a stream that comes in pieces of this length.
-fn lengths(rt: &impl Abort, alloc: Global, bytes: &[u8], piece: usize) -> Vec<Option<usize>> {
-    let items = split_stream(alloc, &cut(rt, alloc, bytes, piece)).expect(rt, "items");
-    let mut found = Vec::new(alloc);
-    for item in &items {
-        found.push(spelled_len(item)).expect(rt, "memory");
-    }
-    found
+// Whether a stream that comes in these pieces is the request and then its answer.
+fn are_both(rt: &impl Abort, alloc: Global, pieces: &[Vec<u8>]) -> bool {
+    let items = split_stream(alloc, pieces).expect(rt, "items");
+    items.len() == 2 && spelled_len(&items[0]) == Some(120) && spelled_len(&items[1]) == Some(264)
 }
 
 #[test]
 fn pieces_make_items(rt: HostRuntime) {
-    let bytes = bytes_of(&rt, rt.alloc(), &[GET_K1, GOT_K1]);
-    for piece in [1, 7, 100, 384] {
-        let found = lengths(&rt, rt.alloc(), &bytes, piece);
-        check(
-            &rt,
-            found.as_slice() == [Some(120), Some(264)].as_slice(),
-            "other items",
-        );
+    let alloc = rt.alloc();
+    let bytes = bytes_of(&rt, alloc, &[GET_K1, GOT_K1]);
+    for piece in &[1, 7, 100, 384] {
+        let pieces = cut(&rt, alloc, &bytes, *piece);
+        check(&rt, are_both(&rt, alloc, &pieces), "other items");
     }
 }
 
-// Whether no item is whole yet.
-fn waits(rt: &impl Abort, frames: &mut Frames) -> bool {
-    frames.next().expect(rt, "no fault").is_none()
+fn feed(rt: &impl Abort, frames: &mut Frames, bytes: &[u8]) {
+    frames.feed(bytes).expect(rt, "memory");
+}
+
+// Whether there is a whole item.
+fn is_there(rt: &impl Abort, frames: &mut Frames) -> bool {
+    frames.next().expect(rt, "an item or none").is_some()
+}
+
+// Whether there is the fault of a type that is none, at offset 123.
+fn is_refused(frames: &mut Frames) -> bool {
+    let fault = TtlvFault {
+        offset: 123,
+        kind: FaultKind::UnknownType,
+    };
+    frames.next().err() == Some(fault)
 }
 
 #[test]
@@ -51,20 +57,14 @@ fn frames_wait_and_refuse(rt: HostRuntime) {
     let bytes = bytes_of(&rt, rt.alloc(), &[GET_K1]);
     let (last, front) = bytes.split_last().expect(&rt, "bytes");
     let mut frames = Frames::new(rt.alloc());
-    frames.feed(front).expect(&rt, "memory");
-    check(&rt, waits(&rt, &mut frames), "an item of 119 bytes");
-    frames.feed(&[*last]).expect(&rt, "memory");
-    check(&rt, !waits(&rt, &mut frames), "no item of 120 bytes");
-    frames
-        .feed(&[0x42, 0, 0x94, 0x0C, 0, 0, 0, 0])
-        .expect(&rt, "memory");
-    let fault = TtlvFault {
-        offset: 123,
-        kind: FaultKind::UnknownType,
-    };
-    check(&rt, frames.next().err() == Some(fault), "another fault");
-    frames.feed(&bytes).expect(&rt, "memory");
-    check(&rt, frames.next().err() == Some(fault), "the fault is gone");
+    feed(&rt, &mut frames, front);
+    check(&rt, !is_there(&rt, &mut frames), "an item of 119 bytes");
+    feed(&rt, &mut frames, &[*last]);
+    check(&rt, is_there(&rt, &mut frames), "no item of 120 bytes");
+    feed(&rt, &mut frames, &[0x42, 0, 0x94, 0x0C, 0, 0, 0, 0]);
+    check(&rt, is_refused(&mut frames), "another fault");
+    feed(&rt, &mut frames, &bytes);
+    check(&rt, is_refused(&mut frames), "the fault is gone");
 }
 
 // Gives at most 50 bytes a read, and fails at its read `at`, counted from 1.
@@ -86,13 +86,18 @@ impl Read for FailsAt<'_> {
     }
 }
 
+// Whether a reader gives one more item.
+fn gives(alloc: Global, input: &mut Input<FailsAt>) -> Result<bool, TtlvFault> {
+    Ok(read_item(alloc, input)?.is_some())
+}
+
 // How many items a reader gives, up to three, and the fault behind them.
 fn items_of(alloc: Global, reader: FailsAt) -> (u64, Option<TtlvFault>) {
     let mut input = Input::new(reader);
     for count in 0..3 {
-        match read_item(alloc, &mut input) {
-            Ok(Some(_)) => (),
-            Ok(None) => return (count, None),
+        match gives(alloc, &mut input) {
+            Ok(true) => (),
+            Ok(false) => return (count, None),
             Err(fault) => return (count, Some(fault)),
         }
     }
@@ -107,28 +112,28 @@ fn device(offset: u64) -> Option<TtlvFault> {
 }
 
 // The request and then its answer, in 12 reads: 8, 50, 50 and 12 bytes, 8, 50 five times and 6, and none.
+fn expected_at(at: u64) -> (u64, Option<TtlvFault>) {
+    match at {
+        1..=4 => (0, device(0)),
+        5..=11 => (1, device(120)),
+        12 => (2, device(384)),
+        _ => (2, None),
+    }
+}
+
+// Checks that the read `at` fails as it is to.
+fn check_read(rt: &impl Abort, alloc: Global, bytes: &[u8], at: u64, with: ErrorKind) {
+    let found = items_of(alloc, FailsAt { bytes, at, with });
+    check(rt, found == expected_at(at), "another fault");
+}
+
 #[test]
 fn each_read_fails(rt: HostRuntime) {
-    let bytes = bytes_of(&rt, rt.alloc(), &[GET_K1, GOT_K1]);
-    for with in [ErrorKind::Other, ErrorKind::Interrupted] {
-        for at in 1..14 {
-            let expected = match at {
-                1..=4 => (0, device(0)),
-                5..=11 => (1, device(120)),
-                12 => (2, device(384)),
-                _ => (2, None),
-            };
-            let reader = FailsAt {
-                bytes: &bytes,
-                at,
-                with,
-            };
-            check(
-                &rt,
-                items_of(rt.alloc(), reader) == expected,
-                "another fault",
-            );
-        }
+    let alloc = rt.alloc();
+    let bytes = bytes_of(&rt, alloc, &[GET_K1, GOT_K1]);
+    for at in 1..14 {
+        check_read(&rt, alloc, &bytes, at, ErrorKind::Other);
+        check_read(&rt, alloc, &bytes, at, ErrorKind::Interrupted);
     }
 }
 

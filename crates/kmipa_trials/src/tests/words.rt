@@ -16,26 +16,35 @@ fn is_text_of(rt: &impl Abort, alloc: Global, what: &impl Display, text: &str) -
 
 #[test]
 fn faults_are_readable(rt: HostRuntime) {
+    let alloc = rt.alloc();
     let fault = TtlvFault {
         offset: 8,
         kind: FaultKind::BadText,
     };
     let text = "the text is not UTF-8, at offset 8";
-    let is_told = is_text_of(&rt, rt.alloc(), &fault, text);
-    check(&rt, is_told, "a fault of bytes");
-    let is_told = is_text_of(&rt, rt.alloc(), &AttrFault::NotForClients, "NotForClients");
-    check(&rt, is_told, "a fault of attributes");
+    check(&rt, is_text_of(&rt, alloc, &fault, text), text);
+    let text = "NotForClients";
+    check(
+        &rt,
+        is_text_of(&rt, alloc, &AttrFault::NotForClients, text),
+        text,
+    );
     let text = "the object's state does not allow this";
-    let is_told = is_text_of(&rt, rt.alloc(), &WrongState, text);
-    check(&rt, is_told, "a fault of states");
+    check(&rt, is_text_of(&rt, alloc, &WrongState, text), text);
+}
+
+// Whether a state has this number and this name.
+fn is_named(state: State, number: u32, name: &str) -> bool {
+    state.number() == number && state.name() == name
 }
 
 #[test]
 fn states_are_named(rt: HostRuntime) {
-    for (state, number, name) in [
-        (State::PreActive, 1, "Pre-Active"),
-        (State::DestroyedCompromised, 6, "Destroyed Compromised"),
-    ] {
-        check(&rt, state.number() == number && state.name() == name, name);
-    }
+    check(
+        &rt,
+        is_named(State::PreActive, 1, "Pre-Active"),
+        "the first state",
+    );
+    let last = is_named(State::DestroyedCompromised, 6, "Destroyed Compromised");
+    check(&rt, last, "the last state");
 }
