@@ -1,5 +1,7 @@
 //! What the program never calls, of each crate in a file of its own; readers that fail; and texts that no clause says.
 
+ghost use Rattle.std.specs.Prelude.{◌≡◌, true};
+
 mod attributes;
 mod audits;
 mod calls;
@@ -15,7 +17,9 @@ mod words;
 use std::process::Abort;
 
 // Ends the test that it is called from, unless this holds.
-pub(crate) fn check(rt: &impl Abort, holds: bool, what: &str) {
+pub(crate) fn check(rt: &impl Abort, holds: bool, what: &str)
+    ensures { holds ≡ true }
+{
     if !holds {
         rt.panic(what);
     }

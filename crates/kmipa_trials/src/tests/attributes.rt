@@ -2,9 +2,8 @@
 
 use super::check;
 use super::reading::view_of;
-use super::spelled::{bytes_of, is_spelled};
+use super::spelled::{bytes_of, check_item};
 use kmipa_attrs::{AttrFault, AttrSet, Side, read_attrs, write_attrs};
-use kmipa_ttlv::View;
 use std::alloc::Global;
 use std::process::Abort;
 
@@ -114,7 +113,7 @@ fn set_of(rt: &impl Abort, alloc: Global, digits: &str) -> AttrSet {
 // Checks that a set is written as these digits.
 fn check_written(rt: &impl Abort, alloc: Global, set: &AttrSet, digits: &str) {
     let item = write_attrs(alloc, set).expect(rt, "memory");
-    check(rt, is_spelled(rt, alloc, &item, digits), digits);
+    check_item(rt, alloc, item, digits);
 }
 
 // Checks that a set and a copy of it are written as they were.
@@ -132,18 +131,15 @@ fn sets_are_written_again(rt: HostRuntime) {
     check_set(&rt, alloc, ALL);
 }
 
-// What is told of an item that comes from a side.
-fn fault_of(alloc: Global, view: &View, side: Side) -> Option<AttrFault> {
-    read_attrs(alloc, view, side).err()
-}
-
 // Checks that this is told of an item.
 fn check_row(rt: &impl Abort, alloc: Global, row: &Row) {
     let (what, digits, of_client, of_server) = row;
     let bytes = bytes_of(rt, alloc, &[digits]);
     let view = view_of(rt, &bytes);
-    check(rt, fault_of(alloc, &view, Side::Client) == *of_client, what);
-    check(rt, fault_of(alloc, &view, Side::Server) == *of_server, what);
+    let told = read_attrs(alloc, &view, Side::Client).err();
+    check(rt, told == *of_client, what);
+    let told = read_attrs(alloc, &view, Side::Server).err();
+    check(rt, told == *of_server, what);
 }
 
 #[test]

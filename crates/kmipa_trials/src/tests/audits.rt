@@ -10,13 +10,11 @@ use kmipa_ttlv::Input;
 use std::alloc::Global;
 use std::process::Abort;
 
+// A transcript, a declaration and a witness.
+type Files<'a> = (&'a [u8], &'a [u8], &'a [u8]);
+
 // What `audit_with` says, without the records.
-fn said<'a>(
-    alloc: Global,
-    transcript: &'a [u8],
-    declaration: &'a [u8],
-    witness: &'a [u8],
-) -> Result<Verdict, AuditFault> {
+fn said(alloc: Global, (transcript, declaration, witness): Files) -> Result<Verdict, AuditFault> {
     let audited = audit_with(
         alloc,
         &mut Input::new(transcript),
@@ -30,11 +28,9 @@ fn said<'a>(
 }
 
 // What `audit` says.
-fn said_alone<'a>(
+fn said_alone(
     alloc: Global,
-    transcript: &'a [u8],
-    declaration: &'a [u8],
-    witness: &'a [u8],
+    (transcript, declaration, witness): Files,
 ) -> Result<Verdict, AuditFault> {
     audit(
         alloc,
@@ -54,10 +50,17 @@ fn check_both(
     let transcript = bytes_of(rt, alloc, &ONE_CALL);
     let declaration = bytes_of(rt, alloc, &[DECLARATION, entry]);
     let witness = bytes_of(rt, alloc, witness);
-    let verdict = said(alloc, &transcript, &declaration, &witness);
-    check(rt, verdict == expected, "with the records");
-    let alone = said_alone(alloc, &transcript, &declaration, &witness);
-    check(rt, alone == expected, "without the records");
+    let files = (
+        transcript.as_slice(),
+        declaration.as_slice(),
+        witness.as_slice(),
+    );
+    check(rt, said(alloc, files) == expected, "with the records");
+    check(
+        rt,
+        said_alone(alloc, files) == expected,
+        "without the records",
+    );
 }
 
 #[test]

@@ -30,19 +30,19 @@ fn refusal_of<L: Ledger>(
 ) -> Option<CallRefusal>
     requires { IsSound (L.state ledger.old).now }
 {
-    assert!(rt; is_readable_call(request, response));
+    check(rt, is_readable_call(request, response), "it can't be read");
     let rules = Rules::default_rules(alloc).expect(rt, "memory");
     take_call(alloc, ledger, &rules, request, response, None).err()
 }
 
-/// The answer without its payloads.
+/// The answer without what was done for its first item.
 fn strip(response: &mut Response) {
-    for answer in &mut response.items {
+    if let Some(answer) = response.items.first_mut() {
         answer.payload = None;
     }
 }
 
-/// The same of a spelled call, which can't be read without its payloads.
+/// The same of a spelled call, which can't be read without the payload of its first answer.
 fn judged<L: Ledger>(
     rt: &impl Abort,
     alloc: Global,
@@ -65,21 +65,48 @@ fn judged<L: Ledger>(
     refusal
 }
 
+/// Checks what speaks against a call over a new ledger, and where `r1` is then: nowhere there is no object.
+fn check_judged<L: Ledger + Drop>(
+    rt: &impl Abort,
+    alloc: Global,
+    mut ledger: L,
+    call: (&str, &str),
+    refusal: Option<CallRefusal>,
+    place: Option<usize>,
+)
+    requires { IsSound (L.state ledger).now }
+{
+    let (asked, answered) = call;
+    let said = judged(rt, alloc, &mut ledger, asked, answered);
+    check(rt, said == refusal, "another refusal");
+    check(rt, ledger.find("r1") == place, "another place");
+    let is_empty = ledger.len() == 0;
+    check(rt, is_empty == place.is_none(), "other objects");
+}
+
 #[test]
 fn call_is_taken(rt: HostRuntime) {
     let alloc = rt.alloc();
-    let mut copies = new_copies(alloc);
-    let refusal = judged(&rt, alloc, &mut copies, REGISTER, REGISTERED);
-    check(&rt, refusal.is_none(), "it is refused");
-    check(&rt, copies.find("r1") == Some(0), "no object");
+    check_judged(
+        &rt,
+        alloc,
+        new_copies(alloc),
+        (REGISTER, REGISTERED),
+        None,
+        Some(0),
+    );
 }
 
 #[test]
 fn call_is_refused(rt: HostRuntime) {
     let alloc = rt.alloc();
-    let mut copies = new_copies(alloc);
-    let refusal = judged(&rt, alloc, &mut copies, GET_K1, GOT_K1);
     let unknown = CallRefusal::Impossible(1, Why::NoSuchObject);
-    check(&rt, refusal == Some(unknown), "another refusal");
-    check(&rt, copies.len() == 0, "an object");
+    check_judged(
+        &rt,
+        alloc,
+        new_copies(alloc),
+        (GET_K1, GOT_K1),
+        Some(unknown),
+        None,
+    );
 }

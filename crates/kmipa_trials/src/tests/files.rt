@@ -19,27 +19,26 @@ fn transcript_is_written_again(rt: HostRuntime) {
     let transcript = transcript_of(&rt, alloc, &ONE_CALL);
     let mut out = Vec::new(alloc);
     write_transcript(alloc, &transcript, &mut out).expect(&rt, "memory");
-    check(&rt, are_bytes(&rt, alloc, &out, &ONE_CALL), "other bytes");
+    check_bytes(&rt, alloc, out, &ONE_CALL);
 }
 
-// Whether a declaration is written as these parts.
-pub(crate) fn is_written(
+// Checks that a declaration is written as these parts.
+pub(crate) fn check_declaration(
     rt: &impl Abort,
     alloc: Global,
     declaration: &Declaration,
     parts: &[&str],
-) -> bool {
+) {
     let mut out = Vec::new(alloc);
     write_declaration(alloc, declaration, &mut out).expect(rt, "memory");
-    are_bytes(rt, alloc, &out, parts)
+    check_bytes(rt, alloc, out, parts);
 }
 
 #[test]
 fn declaration_is_written_again(rt: HostRuntime) {
     let alloc = rt.alloc();
     let declaration = declared(&rt, alloc, &[DECLARATION, ROW, ENTRY]);
-    let is_same = is_written(&rt, alloc, &declaration, &[DECLARATION, ROW, ENTRY]);
-    check(&rt, is_same, "other bytes");
+    check_declaration(&rt, alloc, &declaration, &[DECLARATION, ROW, ENTRY]);
 }
 
 // A witness of version 3 that is read, and what is written of it, in parts.
@@ -61,18 +60,18 @@ const WITNESSES: [Row; 4] = [
     ),
 ];
 
-// Whether a witness is written as its row says.
-fn is_written_as(rt: &impl Abort, alloc: Global, (read, written): &Row) -> bool {
+// Checks that a witness is written as its row says.
+fn check_witness(rt: &impl Abort, alloc: Global, (read, written): &Row) {
     let witness = witness_of(rt, alloc, read);
     let mut out = Vec::new(alloc);
     write_witness(alloc, &witness, &mut out).expect(rt, "memory");
-    are_bytes(rt, alloc, &out, written)
+    check_bytes(rt, alloc, out, written);
 }
 
 #[test]
 fn lowest_version_is_written(rt: HostRuntime) {
     for row in &WITNESSES {
-        check(&rt, is_written_as(&rt, rt.alloc(), row), "another version");
+        check_witness(&rt, rt.alloc(), row);
     }
 }
 

@@ -1,7 +1,7 @@
 //! What an accepted recording leaves.
 
 use super::check;
-use super::files::is_written;
+use super::files::check_declaration;
 use super::reading::{declared, transcript_of, witness_of};
 use super::spelled::*;
 use kmipa_check::{Checked, Refused, Verdict, check_segment};
@@ -28,33 +28,42 @@ fn shown_bytes_are_left(rt: HostRuntime) {
     let said = checked(&rt, alloc, ENTRY_ALONE, None);
     check(&rt, said.verdict == Verdict::Yes, "no yes");
     let left = said.left.as_ref().expect(&rt, "nothing is left");
-    let is_known = is_written(&rt, alloc, &left.declaration, &[DECLARATION, ENTRY]);
-    check(&rt, is_known, "another declaration");
+    check_declaration(&rt, alloc, &left.declaration, &[DECLARATION, ENTRY]);
+}
+
+// What is said of that call, and the last Time Stamp that is left, where anything is.
+fn told(
+    rt: &impl Abort,
+    alloc: Global,
+    entry: &str,
+    since: Option<i64>,
+) -> (Verdict, Option<Option<i64>>) {
+    let said = checked(rt, alloc, entry, since);
+    let until = match &said.left {
+        Some(left) => Some(left.until),
+        None => None,
+    };
+    (said.verdict, until)
 }
 
 #[test]
 fn nothing_is_left_at_a_no(rt: HostRuntime) {
-    let said = checked(&rt, rt.alloc(), OTHER_ENTRY, None);
-    check(&rt, said.left.is_none(), "something is left");
+    let (_, left) = told(&rt, rt.alloc(), OTHER_ENTRY, None);
+    check(&rt, left.is_none(), "something is left");
 }
 
 // Its one call has the Time Stamp 1,700,000,000.
 #[test]
 fn a_segment_goes_on_from_its_moment(rt: HostRuntime) {
     let alloc = rt.alloc();
-    let at = checked(&rt, alloc, ENTRY, Some(1_700_000_000));
-    let left = at.left.as_ref().expect(&rt, "nothing is left");
-    check(&rt, left.until == Some(1_700_000_000), "another last stamp");
-    let below = checked(&rt, alloc, ENTRY, Some(1_700_000_001));
+    let (_, last) = told(&rt, alloc, ENTRY, Some(1_700_000_000));
+    check(&rt, last == Some(Some(1_700_000_000)), "another last stamp");
+    let (below, _) = told(&rt, alloc, ENTRY, Some(1_700_000_001));
     let refused = Refused {
         turn: 1,
         call: 1,
         item: 0,
         why: Why::StampRunsBack,
     };
-    check(
-        &rt,
-        below.verdict == Verdict::No(refused),
-        "another verdict",
-    );
+    check(&rt, below == Verdict::No(refused), "another verdict");
 }

@@ -18,6 +18,15 @@ const SHORT: [u8; 8] = [0, 1, 2, 3, 4, 5, 6, 7];
 
 const T: i64 = 1_700_000_000;
 
+/// Five seconds and four seconds behind it, and one and two ahead of it.
+const END: i64 = T + 5;
+
+const LAST: i64 = T + 4;
+
+const AHEAD: i64 = T - 1;
+
+const EARLIER: i64 = T - 2;
+
 /// The life of a Pre-Active object. Where its bytes are is no matter of these tests.
 const UNBORN: Life = Life {
     initial: None,
@@ -31,7 +40,7 @@ const UNBORN: Life = Life {
 /// The life of an object that is active from the moment on and for five seconds, and the like of one that is destroyed then.
 const ACTIVE: Life = Life {
     activation: Some(T),
-    deactivation: Some(T + 5),
+    deactivation: Some(END),
     ..UNBORN
 };
 
@@ -86,7 +95,7 @@ fn object_of(rt: &impl Abort, alloc: Global, id: &str, name: &str) -> Object {
     }
 }
 
-/// Adds a Pre-Active object with an identifier and a name, which comes to a place, or is refused.
+/// Adds a Pre-Active object with an identifier and a name, which comes to this place, or is refused.
 fn put<L: Ledger>(
     rt: &impl Abort,
     alloc: Global,
@@ -116,7 +125,8 @@ fn make_more<L: Ledger>(rt: &impl Abort, ledger: &mut L, first: SecretNo, number
     ensures marks { (L.state ledger.new).marks ≡ (L.state ledger.old).marks }
 {
     let made = make(rt, ledger, Rule::Any);
-    assert!(rt; made.number == number && first.number < number);
+    check(rt, made.number == number, "another number");
+    check(rt, first.number < made.number, "no higher number");
 }
 
 /// Learns bytes, or is refused so.
@@ -131,7 +141,11 @@ fn teach<L: Ledger>(
     ensures secrets { length (L.state ledger.new).now.secrets ≡ length (L.state ledger.old).now.secrets }
     ensures marks { (L.state ledger.new).marks ≡ (L.state ledger.old).marks }
 {
-    check(rt, ledger.learn(secret, bytes) == said, "another answer to bytes");
+    check(
+        rt,
+        ledger.learn(secret, bytes) == said,
+        "another answer to bytes",
+    );
 }
 
 /// Checks that a secret has these bytes, or none that are known.
@@ -184,7 +198,7 @@ fn bytes_in_turn<L: Ledger + Drop>(rt: &impl Abort, alloc: Global, mut ledger: L
 fn live<L: Ledger>(rt: &impl Abort, ledger: &mut L, life: Life)
     ensures marks { (L.state ledger.new).marks ≡ (L.state ledger.old).marks }
 {
-    assert!(rt; 0 < ledger.len());
+    check(rt, 0 < ledger.len(), "no object");
     check(rt, ledger.replace(0, life).is_ok(), "it is not replaced");
 }
 
@@ -193,7 +207,7 @@ fn check_state<L: Ledger>(rt: &impl Abort, ledger: &mut L, t: i64, state: State)
     ensures { L.state ledger.new ≡ L.state ledger.old }
 {
     ledger.set_moment(t);
-    assert!(rt; ledger.len() == 1);
+    check(rt, ledger.len() == 1, "other objects");
     check(rt, ledger.state(0) == state, "another state");
 }
 
@@ -203,9 +217,9 @@ fn moments_in_turn<L: Ledger + Drop>(rt: &impl Abort, alloc: Global, mut ledger:
     put(rt, alloc, &mut ledger, ("a", "n"), Some(0));
     let mark = ledger.mark().expect(rt, "memory");
     live(rt, &mut ledger, ACTIVE);
-    check_state(rt, &mut ledger, T + 5, State::Deactivated);
-    check_state(rt, &mut ledger, T + 4, State::Active);
-    check_state(rt, &mut ledger, T - 1, State::PreActive);
+    check_state(rt, &mut ledger, END, State::Deactivated);
+    check_state(rt, &mut ledger, LAST, State::Active);
+    check_state(rt, &mut ledger, AHEAD, State::PreActive);
     check_state(rt, &mut ledger, T, State::Active);
     ledger.undo(mark);
     check(rt, ledger.moment() == T, "another moment");
@@ -218,14 +232,14 @@ fn presents_in_turn<L: Ledger + Drop>(rt: &impl Abort, alloc: Global, mut ledger
     put(rt, alloc, &mut ledger, ("a", "n"), Some(0));
     let mark = ledger.mark().expect(rt, "memory");
     live(rt, &mut ledger, ACTIVE);
-    check_state(rt, &mut ledger, T - 1, State::PreActive);
-    check_state(rt, &mut ledger, T + 5, State::Deactivated);
-    check_state(rt, &mut ledger, T - 2, State::PreActive);
+    check_state(rt, &mut ledger, AHEAD, State::PreActive);
+    check_state(rt, &mut ledger, END, State::Deactivated);
+    check_state(rt, &mut ledger, EARLIER, State::PreActive);
     check_state(rt, &mut ledger, T, State::Active);
     ledger.undo(mark);
     check_state(rt, &mut ledger, T, State::PreActive);
-    check_state(rt, &mut ledger, T - 1, State::PreActive);
-    check_state(rt, &mut ledger, T + 5, State::PreActive);
+    check_state(rt, &mut ledger, AHEAD, State::PreActive);
+    check_state(rt, &mut ledger, END, State::PreActive);
 }
 
 /// Checks that the first object with the name `n` of a type, from a place on, is at this place.

@@ -21,16 +21,16 @@ const CALLS: [(&str, &str); 5] = [
 
 // Checks that a request is written as these digits.
 fn check_asked(rt: &impl Abort, alloc: Global, request: &Request, digits: &str) {
-    assert!(rt; request.items.len() <= MOST);
+    check(rt, request.items.len() <= MOST, "many items");
     let item = write_request(alloc, request).expect(rt, "memory");
-    check(rt, is_spelled(rt, alloc, &item, digits), digits);
+    check_item(rt, alloc, item, digits);
 }
 
 // Checks that a response is written as these digits.
 fn check_answered(rt: &impl Abort, alloc: Global, response: &Response, digits: &str) {
-    assert!(rt; response.items.len() <= MOST);
+    check(rt, response.items.len() <= MOST, "many answers");
     let item = write_response(alloc, response).expect(rt, "memory");
-    check(rt, is_spelled(rt, alloc, &item, digits), digits);
+    check_item(rt, alloc, item, digits);
 }
 
 // Checks that a request, its answer and a copy of the answer are written as they were.

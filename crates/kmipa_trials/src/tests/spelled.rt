@@ -1,5 +1,6 @@
 //! Messages and files as they are spelled by the rules of TTLV, in hexadecimal digits, and their bytes.
 
+use super::check;
 use kmipa_ttlv::{Item, encode, spelled_len};
 use std::alloc::Global;
 use std::process::Abort;
@@ -14,19 +15,18 @@ pub(crate) fn bytes_of(rt: &impl Abort, alloc: Global, parts: &[&str]) -> Vec<u8
     bytes
 }
 
-// Whether these are the bytes of digits that stand one behind the other.
-pub(crate) fn are_bytes(rt: &impl Abort, alloc: Global, bytes: &[u8], parts: &[&str]) -> bool {
-    bytes_of(rt, alloc, parts).as_slice() == bytes
+// Checks that these are the bytes of digits that stand one behind the other.
+pub(crate) fn check_bytes(rt: &impl Abort, alloc: Global, bytes: Vec<u8>, parts: &[&str]) {
+    let expected = bytes_of(rt, alloc, parts);
+    check(rt, bytes.as_slice() == expected.as_slice(), "other bytes");
 }
 
-// Whether an item is spelled by these digits, with zero padding.
-pub(crate) fn is_spelled(rt: &impl Abort, alloc: Global, item: &Item, digits: &str) -> bool {
-    if spelled_len(item).is_none() {
-        return false;
-    }
+// Checks that an item is spelled by these digits, with zero padding.
+pub(crate) fn check_item(rt: &impl Abort, alloc: Global, item: Item, digits: &str) {
+    check(rt, spelled_len(&item).is_some(), "it can't be spelled");
     let mut written = Vec::new(alloc);
-    encode(item, &mut written).expect(rt, "memory");
-    are_bytes(rt, alloc, &written, &[digits])
+    encode(&item, &mut written).expect(rt, "memory");
+    check_bytes(rt, alloc, written, &[digits]);
 }
 
 // A request to get `k1`.

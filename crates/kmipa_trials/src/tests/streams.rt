@@ -38,18 +38,19 @@ fn feed(rt: &impl Abort, frames: &mut Frames, bytes: &[u8]) {
     frames.feed(bytes).expect(rt, "memory");
 }
 
-// Whether there is a whole item.
-fn is_there(rt: &impl Abort, frames: &mut Frames) -> bool {
-    frames.next().expect(rt, "an item or none").is_some()
+// Checks whether there is a whole item.
+fn check_next(rt: &impl Abort, frames: &mut Frames, is_there: bool) {
+    let next = frames.next().expect(rt, "an item or none");
+    check(rt, next.is_some() == is_there, "another number of items");
 }
 
-// Whether there is the fault of a type that is none, at offset 123.
-fn is_refused(frames: &mut Frames) -> bool {
+// Checks that there is the fault of a type that is none, at offset 123.
+fn check_refused(rt: &impl Abort, frames: &mut Frames) {
     let fault = TtlvFault {
         offset: 123,
         kind: FaultKind::UnknownType,
     };
-    frames.next().err() == Some(fault)
+    check(rt, frames.next().err() == Some(fault), "another fault");
 }
 
 #[test]
@@ -58,13 +59,13 @@ fn frames_wait_and_refuse(rt: HostRuntime) {
     let (last, front) = bytes.split_last().expect(&rt, "bytes");
     let mut frames = Frames::new(rt.alloc());
     feed(&rt, &mut frames, front);
-    check(&rt, !is_there(&rt, &mut frames), "an item of 119 bytes");
+    check_next(&rt, &mut frames, false);
     feed(&rt, &mut frames, &[*last]);
-    check(&rt, is_there(&rt, &mut frames), "no item of 120 bytes");
+    check_next(&rt, &mut frames, true);
     feed(&rt, &mut frames, &[0x42, 0, 0x94, 0x0C, 0, 0, 0, 0]);
-    check(&rt, is_refused(&mut frames), "another fault");
+    check_refused(&rt, &mut frames);
     feed(&rt, &mut frames, &bytes);
-    check(&rt, is_refused(&mut frames), "the fault is gone");
+    check_refused(&rt, &mut frames);
 }
 
 // Gives at most 50 bytes a read, and fails at its read `at`, counted from 1.
@@ -86,18 +87,13 @@ impl Read for FailsAt<'_> {
     }
 }
 
-// Whether a reader gives one more item.
-fn gives(alloc: Global, input: &mut Input<FailsAt>) -> Result<bool, TtlvFault> {
-    Ok(read_item(alloc, input)?.is_some())
-}
-
 // How many items a reader gives, up to three, and the fault behind them.
 fn items_of(alloc: Global, reader: FailsAt) -> (u64, Option<TtlvFault>) {
     let mut input = Input::new(reader);
     for count in 0..3 {
-        match gives(alloc, &mut input) {
-            Ok(true) => (),
-            Ok(false) => return (count, None),
+        match read_item(alloc, &mut input) {
+            Ok(Some(_)) => (),
+            Ok(None) => return (count, None),
             Err(fault) => return (count, Some(fault)),
         }
     }
@@ -112,28 +108,25 @@ fn device(offset: u64) -> Option<TtlvFault> {
 }
 
 // The request and then its answer, in 12 reads: 8, 50, 50 and 12 bytes, 8, 50 five times and 6, and none.
-fn expected_at(at: u64) -> (u64, Option<TtlvFault>) {
-    match at {
-        1..=4 => (0, device(0)),
-        5..=11 => (1, device(120)),
-        12 => (2, device(384)),
-        _ => (2, None),
-    }
-}
-
-// Checks that the read `at` fails as it is to.
-fn check_read(rt: &impl Abort, alloc: Global, bytes: &[u8], at: u64, with: ErrorKind) {
-    let found = items_of(alloc, FailsAt { bytes, at, with });
-    check(rt, found == expected_at(at), "another fault");
-}
-
 #[test]
 fn each_read_fails(rt: HostRuntime) {
     let alloc = rt.alloc();
     let bytes = bytes_of(&rt, alloc, &[GET_K1, GOT_K1]);
-    for at in 1..14 {
-        check_read(&rt, alloc, &bytes, at, ErrorKind::Other);
-        check_read(&rt, alloc, &bytes, at, ErrorKind::Interrupted);
+    for with in &[ErrorKind::Other, ErrorKind::Interrupted] {
+        for at in 1..14 {
+            let expected = match at {
+                1..=4 => (0, device(0)),
+                5..=11 => (1, device(120)),
+                12 => (2, device(384)),
+                _ => (2, None),
+            };
+            let reader = FailsAt {
+                bytes: &bytes,
+                at,
+                with: *with,
+            };
+            check(&rt, items_of(alloc, reader) == expected, "another fault");
+        }
     }
 }
 
