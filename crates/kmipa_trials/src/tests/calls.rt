@@ -35,14 +35,14 @@ fn refusal_of<L: Ledger>(
     take_call(alloc, ledger, &rules, request, response, None).err()
 }
 
-/// The answer without what was done for its first item.
+/// Leaves out what was done for the first item.
 fn strip(response: &mut Response) {
     if let Some(answer) = response.items.first_mut() {
         answer.payload = None;
     }
 }
 
-/// The same of a spelled call, which can't be read without the payload of its first answer.
+/// The same of a spelled call, which can't be read without what was done for its first item.
 fn judged<L: Ledger>(
     rt: &impl Abort,
     alloc: Global,
@@ -65,7 +65,7 @@ fn judged<L: Ledger>(
     refusal
 }
 
-/// Checks what speaks against a call over a new ledger, and where `r1` is then: nowhere there is no object.
+/// Checks what speaks against a call over a new ledger, and the place of `r1` behind it; without a place there is no object.
 fn check_judged<L: Ledger + Drop>(
     rt: &impl Abort,
     alloc: Global,

@@ -18,14 +18,14 @@ const SHORT: [u8; 8] = [0, 1, 2, 3, 4, 5, 6, 7];
 
 const T: i64 = 1_700_000_000;
 
-/// Five seconds and four seconds behind it, and one and two ahead of it.
-const END: i64 = T + 5;
-
-const LAST: i64 = T + 4;
+/// The two seconds ahead of it, and the fourth and the fifth behind it.
+const EARLIER: i64 = T - 2;
 
 const AHEAD: i64 = T - 1;
 
-const EARLIER: i64 = T - 2;
+const LAST: i64 = T + 4;
+
+const END: i64 = T + 5;
 
 /// The life of a Pre-Active object. Where its bytes are is no matter of these tests.
 const UNBORN: Life = Life {
