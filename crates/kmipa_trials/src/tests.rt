@@ -1,5 +1,7 @@
 //! What the program never calls, of each crate in a file of its own; readers that fail; and texts that no clause says.
 
+ghost use Rattle.std.specs.Prelude.{◌≡◌, true};
+
 mod attributes;
 mod audits;
 mod calls;
@@ -7,25 +9,18 @@ mod files;
 mod leaving;
 mod ledgers;
 mod messages;
+mod reading;
 mod spelled;
 mod streams;
 mod words;
 
-use kmipa_ttlv::{Item, encode, spelled_len};
-use std::alloc::Global;
-use std::test::Fail;
+use std::process::Abort;
 
-// Fails the test that it is called from, unless this holds.
-pub(crate) fn check(holds: bool, what: &str) -> Result<(), Fail> {
-    if holds { Ok(()) } else { Err(Fail::new(what)) }
-}
-
-// Whether an item is spelled by these bytes, with zero padding.
-pub(crate) fn is_spelled(alloc: Global, item: &Item, bytes: &[u8]) -> Result<bool, Fail> {
-    if spelled_len(item).is_none() {
-        return Ok(false);
+// Ends the test that it is called from, unless this holds.
+pub(crate) fn check(rt: &impl Abort, holds: bool, what: &str)
+    ensures { holds ≡ true }
+{
+    if !holds {
+        rt.panic(what);
     }
-    let mut written = Vec::new(alloc);
-    encode(item, &mut written)?;
-    Ok(written.as_slice() == bytes)
 }

@@ -1,11 +1,11 @@
 //! Sets of attributes that are read and written, and their faults.
 
-use super::spelled::bytes_of;
-use super::{check, is_spelled};
-use kmipa_attrs::{AttrFault, Side, read_attrs, write_attrs};
-use kmipa_ttlv::decode_view;
+use super::check;
+use super::reading::view_of;
+use super::spelled::{bytes_of, check_item};
+use kmipa_attrs::{AttrFault, AttrSet, Side, read_attrs, write_attrs};
 use std::alloc::Global;
-use std::test::Fail;
+use std::process::Abort;
 
 // AES and 128 bits, as a declaration spells them.
 const AES_128: &str =
@@ -104,39 +104,47 @@ const FAULTS: [Row; 11] = [
     ),
 ];
 
-// Whether a set and a copy of it are written as they were.
-fn is_written_again(alloc: Global, digits: &str) -> Result<bool, Fail> {
-    let bytes = bytes_of(alloc, &[digits])?;
-    let (view, _) = decode_view(&bytes)?;
-    let set = read_attrs(alloc, &view, Side::Server)?;
-    let copy = set.copy(alloc)?;
-    Ok(
-        is_spelled(alloc, &write_attrs(alloc, &set)?, &bytes)?
-            && is_spelled(alloc, &write_attrs(alloc, &copy)?, &bytes)?,
-    )
+// The set that a server spells so.
+fn set_of(rt: &impl Abort, alloc: Global, digits: &str) -> AttrSet {
+    let bytes = bytes_of(rt, alloc, &[digits]);
+    read_attrs(alloc, &view_of(rt, &bytes), Side::Server).expect(rt, "a set")
+}
+
+// Checks that a set is written as these digits.
+fn check_written(rt: &impl Abort, alloc: Global, set: &AttrSet, digits: &str) {
+    let item = write_attrs(alloc, set).expect(rt, "memory");
+    check_item(rt, alloc, item, digits);
+}
+
+// Checks that a set and a copy of it are written as they were.
+fn check_set(rt: &impl Abort, alloc: Global, digits: &str) {
+    let set = set_of(rt, alloc, digits);
+    check_written(rt, alloc, &set, digits);
+    let copy = set.copy(alloc).expect(rt, "memory");
+    check_written(rt, alloc, &copy, digits);
 }
 
 #[test]
-fn sets_are_written_again(rt: HostRuntime) -> Result<(), Fail> {
-    check(is_written_again(rt.alloc(), AES_128)?, "AES and 128")?;
-    check(is_written_again(rt.alloc(), ALL)?, "all attributes")
+fn sets_are_written_again(rt: HostRuntime) {
+    let alloc = rt.alloc();
+    check_set(&rt, alloc, AES_128);
+    check_set(&rt, alloc, ALL);
 }
 
-// Whether this is told of an item.
-fn is_told(alloc: Global, row: &Row) -> Result<bool, Fail> {
-    let (_, digits, of_client, of_server) = row;
-    let bytes = bytes_of(alloc, &[digits])?;
-    let (view, _) = decode_view(&bytes)?;
-    Ok(
-        read_attrs(alloc, &view, Side::Client).err() == *of_client
-            && read_attrs(alloc, &view, Side::Server).err() == *of_server,
-    )
+// Checks that this is told of an item.
+fn check_row(rt: &impl Abort, alloc: Global, row: &Row) {
+    let (what, digits, of_client, of_server) = row;
+    let bytes = bytes_of(rt, alloc, &[digits]);
+    let view = view_of(rt, &bytes);
+    let told = read_attrs(alloc, &view, Side::Client).err();
+    check(rt, told == *of_client, what);
+    let told = read_attrs(alloc, &view, Side::Server).err();
+    check(rt, told == *of_server, what);
 }
 
 #[test]
-fn lowest_faults_are_told(rt: HostRuntime) -> Result<(), Fail> {
+fn lowest_faults_are_told(rt: HostRuntime) {
     for row in &FAULTS {
-        check(is_told(rt.alloc(), row)?, row.0)?;
+        check_row(&rt, rt.alloc(), row);
     }
-    Ok(())
 }

@@ -8,15 +8,13 @@ use kmipa_check::{
 use kmipa_ops::Why;
 use kmipa_ttlv::Input;
 use std::alloc::Global;
-use std::test::Fail;
+use std::process::Abort;
+
+// A transcript, a declaration and a witness.
+type Files<'a> = (&'a [u8], &'a [u8], &'a [u8]);
 
 // What `audit_with` says, without the records.
-fn said<'a>(
-    alloc: Global,
-    transcript: &'a [u8],
-    declaration: &'a [u8],
-    witness: &'a [u8],
-) -> Result<Verdict, AuditFault> {
+fn said(alloc: Global, (transcript, declaration, witness): Files) -> Result<Verdict, AuditFault> {
     let audited = audit_with(
         alloc,
         &mut Input::new(transcript),
@@ -30,11 +28,9 @@ fn said<'a>(
 }
 
 // What `audit` says.
-fn said_alone<'a>(
+fn said_alone(
     alloc: Global,
-    transcript: &'a [u8],
-    declaration: &'a [u8],
-    witness: &'a [u8],
+    (transcript, declaration, witness): Files,
 ) -> Result<Verdict, AuditFault> {
     audit(
         alloc,
@@ -44,40 +40,49 @@ fn said_alone<'a>(
     )
 }
 
-// Whether both say this of the example of one call, with a declaration of this entry and a witness of these turns.
-fn is_said(
+// Checks that both say this of the example of one call, with a declaration of this entry and a witness of these parts.
+fn check_both(
+    rt: &impl Abort,
     alloc: Global,
-    entry: &str,
-    turns: &[&str],
+    (entry, witness): (&str, &[&str]),
     expected: Result<Verdict, AuditFault>,
-) -> Result<bool, Fail> {
-    let transcript = bytes_of(alloc, &[TRANSCRIPT, BEGIN_MARK, GET_K1, END_MARK, GOT_K1])?;
-    let declaration = bytes_of(alloc, &[DECLARATION, entry])?;
-    let mut witness = bytes_of(alloc, &[WITNESS])?;
-    witness.extend_from_slice(&bytes_of(alloc, turns)?)?;
-    Ok(
-        said(alloc, &transcript, &declaration, &witness) == expected
-            && said_alone(alloc, &transcript, &declaration, &witness) == expected,
-    )
+) {
+    let transcript = bytes_of(rt, alloc, &ONE_CALL);
+    let declaration = bytes_of(rt, alloc, &[DECLARATION, entry]);
+    let witness = bytes_of(rt, alloc, witness);
+    let files = (
+        transcript.as_slice(),
+        declaration.as_slice(),
+        witness.as_slice(),
+    );
+    check(rt, said(alloc, files) == expected, "with the records");
+    check(
+        rt,
+        said_alone(alloc, files) == expected,
+        "without the records",
+    );
 }
 
 #[test]
-fn one_call_is_judged(rt: HostRuntime) -> Result<(), Fail> {
+fn one_call_is_judged(rt: HostRuntime) {
     let alloc = rt.alloc();
-    let yes = Ok(Verdict::Yes);
-    check(is_said(alloc, ENTRY, &[TURN], yes)?, "no yes")?;
-    let no = Ok(Verdict::No(Refused {
+    check_both(&rt, alloc, (ENTRY, &[WITNESS, TURN]), Ok(Verdict::Yes));
+    let no = Verdict::No(Refused {
         turn: 1,
         call: 1,
         item: 1,
         why: Why::BytesDiffer,
-    }));
-    check(is_said(alloc, OTHER_ENTRY, &[TURN], no)?, "another no")?;
+    });
+    check_both(&rt, alloc, (OTHER_ENTRY, &[WITNESS, TURN]), Ok(no));
     let fault = CheckFault::Witness(WitnessFault {
         at: 1,
         kind: WitnessKind::LeftOut,
     });
-    check(fault.number() == 2, "another number")?;
-    let left_out = Err(AuditFault::Check(fault));
-    check(is_said(alloc, ENTRY, &[], left_out)?, "another fault")
+    check(&rt, fault.number() == 2, "another number");
+    check_both(
+        &rt,
+        alloc,
+        (ENTRY, &[WITNESS]),
+        Err(AuditFault::Check(fault)),
+    );
 }

@@ -1,64 +1,78 @@
 //! Files that are read, and written again with the same bytes, and readers that fail.
 
 use super::check;
+use super::reading::{declared, transcript_of, witness_of};
 use super::spelled::*;
 use kmipa_record::{
-    RecordFault, RecordKind, read_declaration, read_transcript, read_witness, write_declaration,
-    write_transcript, write_witness,
+    Declaration, RecordFault, RecordKind, read_transcript, write_declaration, write_transcript,
+    write_witness,
 };
 use kmipa_ttlv::Input;
 use std::alloc::Global;
 use std::io;
 use std::io::Read;
-use std::test::Fail;
-
-// The spelled transcript of one call.
-const ONE_CALL: [&str; 5] = [TRANSCRIPT, BEGIN_MARK, GET_K1, END_MARK, GOT_K1];
+use std::process::Abort;
 
 #[test]
-fn transcript_is_written_again(rt: HostRuntime) -> Result<(), Fail> {
+fn transcript_is_written_again(rt: HostRuntime) {
     let alloc = rt.alloc();
-    let bytes = bytes_of(alloc, &ONE_CALL)?;
-    let transcript = read_transcript(alloc, &mut Input::new(bytes.as_slice()))?;
+    let transcript = transcript_of(&rt, alloc, &ONE_CALL);
     let mut out = Vec::new(alloc);
-    write_transcript(alloc, &transcript, &mut out)?;
-    check(out.as_slice() == bytes.as_slice(), "other bytes")
+    write_transcript(alloc, &transcript, &mut out).expect(&rt, "memory");
+    check_bytes(&rt, alloc, out, &ONE_CALL);
+}
+
+// Checks that a declaration is written as these parts.
+pub(crate) fn check_declaration(
+    rt: &impl Abort,
+    alloc: Global,
+    declaration: &Declaration,
+    parts: &[&str],
+) {
+    let mut out = Vec::new(alloc);
+    write_declaration(alloc, declaration, &mut out).expect(rt, "memory");
+    check_bytes(rt, alloc, out, parts);
 }
 
 #[test]
-fn declaration_is_written_again(rt: HostRuntime) -> Result<(), Fail> {
+fn declaration_is_written_again(rt: HostRuntime) {
     let alloc = rt.alloc();
-    let bytes = bytes_of(alloc, &[DECLARATION, ROW, ENTRY])?;
-    let declaration = read_declaration(alloc, &mut Input::new(bytes.as_slice()))?;
-    let mut out = Vec::new(alloc);
-    write_declaration(alloc, &declaration, &mut out)?;
-    check(out.as_slice() == bytes.as_slice(), "other bytes")
+    let declaration = declared(&rt, alloc, &[DECLARATION, ROW, ENTRY]);
+    check_declaration(&rt, alloc, &declaration, &[DECLARATION, ROW, ENTRY]);
 }
 
-// Whether a witness of version 3 with these turns is written with this header.
-fn is_written_with(alloc: Global, header: &str, turns: &[&str]) -> Result<bool, Fail> {
-    let turns = bytes_of(alloc, turns)?;
-    let mut bytes = bytes_of(alloc, &[WITNESS_3])?;
-    bytes.extend_from_slice(&turns)?;
-    let witness = read_witness(alloc, &mut Input::new(bytes.as_slice()))?;
+// A witness of version 3 that is read, and what is written of it, in parts.
+type Row = (&'static [&'static str], &'static [&'static str]);
+
+const WITNESSES: [Row; 4] = [
+    (&[WITNESS_3], &[WITNESS]),
+    (
+        &[WITNESS_3, LAST_TURN, FILLED_TURN],
+        &[WITNESS, LAST_TURN, FILLED_TURN],
+    ),
+    (
+        &[WITNESS_3, LAST_TURN, ANSWERED_TURN],
+        &[WITNESS_2, LAST_TURN, ANSWERED_TURN],
+    ),
+    (
+        &[WITNESS_3, ORDERED_TURN, LAST_TURN],
+        &[WITNESS_3, ORDERED_TURN, LAST_TURN],
+    ),
+];
+
+// Checks that a witness is written as its row says.
+fn check_witness(rt: &impl Abort, alloc: Global, (read, written): &Row) {
+    let witness = witness_of(rt, alloc, read);
     let mut out = Vec::new(alloc);
-    write_witness(alloc, &witness, &mut out)?;
-    let mut expected = bytes_of(alloc, &[header])?;
-    expected.extend_from_slice(&turns)?;
-    Ok(out.as_slice() == expected.as_slice())
+    write_witness(alloc, &witness, &mut out).expect(rt, "memory");
+    check_bytes(rt, alloc, out, written);
 }
 
 #[test]
-fn lowest_version_is_written(rt: HostRuntime) -> Result<(), Fail> {
-    for (header, turns) in [
-        (WITNESS, [].as_slice()),
-        (WITNESS, [LAST_TURN, FILLED_TURN].as_slice()),
-        (WITNESS_2, [LAST_TURN, ANSWERED_TURN].as_slice()),
-        (WITNESS_3, [ORDERED_TURN, LAST_TURN].as_slice()),
-    ] {
-        check(is_written_with(rt.alloc(), header, turns)?, header)?;
+fn lowest_version_is_written(rt: HostRuntime) {
+    for row in &WITNESSES {
+        check_witness(&rt, rt.alloc(), row);
     }
-    Ok(())
 }
 
 // A reader over bytes that fails at a read, after so many that work.
@@ -83,25 +97,29 @@ fn fault_after(alloc: Global, bytes: &[u8], reads: u32) -> Option<RecordFault> {
     read_transcript(alloc, &mut Input::new(FailsAfter { bytes, reads })).err()
 }
 
-// Two reads an item: its header, and its value; and one at the end.
+// How many reads work, and the offset of the fault behind them: two reads an item, its header and its value, and one at
+// the end.
+const FAULTS: [(u32, u64); 7] = [
+    (0, 0),
+    (1, 0),
+    (2, 24),
+    (3, 24),
+    (4, 192),
+    (5, 192),
+    (6, 488),
+];
+
 #[test]
-fn each_read_fails(rt: HostRuntime) -> Result<(), Fail> {
-    let bytes = bytes_of(rt.alloc(), &ONE_CALL)?;
-    for (reads, offset) in [
-        (0, 0),
-        (1, 0),
-        (2, 24),
-        (3, 24),
-        (4, 192),
-        (5, 192),
-        (6, 488),
-    ] {
+fn each_read_fails(rt: HostRuntime) {
+    let alloc = rt.alloc();
+    let bytes = bytes_of(&rt, alloc, &ONE_CALL);
+    for (reads, offset) in &FAULTS {
         let expected = RecordFault {
-            offset,
+            offset: *offset,
             kind: RecordKind::Device,
         };
-        let fault = fault_after(rt.alloc(), &bytes, reads);
-        check(fault == Some(expected), "another fault")?;
+        let fault = fault_after(alloc, &bytes, *reads);
+        check(&rt, fault == Some(expected), "another fault");
     }
-    check(fault_after(rt.alloc(), &bytes, 7).is_none(), "a fault")
+    check(&rt, fault_after(alloc, &bytes, 7).is_none(), "a fault");
 }

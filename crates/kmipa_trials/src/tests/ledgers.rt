@@ -8,13 +8,24 @@ use kmipa_object::{Life, Material, Object, Rule, SecretNo, State};
 use kmipa_store::{Copies, Journal, Ledger, StoreFault};
 use std::alloc::Global;
 use std::process::Abort;
-use std::test::Fail;
 
 const K: [u8; 16] = [0, 1, 2, 3, 4, 5, 6, 7, 8, 9, 10, 11, 12, 13, 14, 15];
 
 const J: [u8; 16] = [0, 1, 2, 3, 4, 5, 6, 7, 8, 9, 10, 11, 12, 13, 14, 31];
 
+/// Too few bytes of a secret of 128 bits.
+const SHORT: [u8; 8] = [0, 1, 2, 3, 4, 5, 6, 7];
+
 const T: i64 = 1_700_000_000;
+
+/// The two seconds ahead of it, and the fourth and the fifth behind it.
+const EARLIER: i64 = T - 2;
+
+const AHEAD: i64 = T - 1;
+
+const LAST: i64 = T + 4;
+
+const END: i64 = T + 5;
 
 /// The life of a Pre-Active object. Where its bytes are is no matter of these tests.
 const UNBORN: Life = Life {
@@ -29,7 +40,7 @@ const UNBORN: Life = Life {
 /// The life of an object that is active from the moment on and for five seconds, and the like of one that is destroyed then.
 const ACTIVE: Life = Life {
     activation: Some(T),
-    deactivation: Some(T + 5),
+    deactivation: Some(END),
     ..UNBORN
 };
 
@@ -38,17 +49,38 @@ const DESTROYED: Life = Life {
     ..UNBORN
 };
 
-fn are_all(seen: &[bool]) -> bool {
-    for holds in seen {
-        if !*holds {
-            return false;
-        }
-    }
-    true
-}
+/// The first place of the name `n` of a type, from a place on, where the first object and the third have it with type 1.
+const TWO_NAMED: [(u32, usize, Option<usize>); 4] = [
+    (1, 0, Some(0)),
+    (1, 1, Some(2)),
+    (1, 3, None),
+    (2, 0, None),
+];
 
-/// An object with one name.
-fn object_of(rt: &impl Abort, alloc: Global, id: &str, name: &str, life: Life) -> Object {
+/// The places of five identifiers, and of one that no object has.
+const ALL_FIVE: [(&str, Option<usize>); 6] = [
+    ("a-00000001", Some(0)),
+    ("b-00000001", Some(1)),
+    ("c-00000001", Some(2)),
+    ("d-00000002", Some(3)),
+    ("e-00000002", Some(4)),
+    ("f-00000001", None),
+];
+
+/// The same where the first two are left.
+const FIRST_TWO: [(&str, Option<usize>); 5] = [
+    ("a-00000001", Some(0)),
+    ("b-00000001", Some(1)),
+    ("c-00000001", None),
+    ("d-00000002", None),
+    ("e-00000002", None),
+];
+
+/// The same where the fifth came anew.
+const ONE_ANEW: [(&str, Option<usize>); 2] = [("e-00000002", Some(2)), ("d-00000002", None)];
+
+/// A Pre-Active object with one name.
+fn object_of(rt: &impl Abort, alloc: Global, id: &str, name: &str) -> Object {
     let mut given = AttrSet::new(alloc);
     let value = String::from_str(alloc, name).expect(rt, "memory");
     given
@@ -59,16 +91,24 @@ fn object_of(rt: &impl Abort, alloc: Global, id: &str, name: &str, life: Life) -
         id: String::from_str(alloc, id).expect(rt, "memory"),
         kind: ObjectType::SymmetricKey,
         given,
-        life,
+        life: UNBORN,
     }
 }
 
-/// Adds an object, where the ledger lets it.
-fn put<L: Ledger>(ledger: &mut L, object: Object) -> Option<usize>
+/// Adds a Pre-Active object with an identifier and a name, which comes to this place, or is refused.
+fn put<L: Ledger>(
+    rt: &impl Abort,
+    alloc: Global,
+    ledger: &mut L,
+    names: (&str, &str),
+    place: Option<usize>,
+)
     ensures secrets { length (L.state ledger.new).now.secrets ≡ length (L.state ledger.old).now.secrets }
     ensures marks { (L.state ledger.new).marks ≡ (L.state ledger.old).marks }
 {
-    ledger.add(object).ok()
+    let (id, name) = names;
+    let added = ledger.add(object_of(rt, alloc, id, name)).ok();
+    check(rt, added == place, id);
 }
 
 /// A new secret under a rule; its number tells how many there were.
@@ -79,225 +119,195 @@ fn make<L: Ledger>(rt: &impl Abort, ledger: &mut L, rule: Rule) -> SecretNo
     ledger.new_secret(rule).expect(rt, "memory")
 }
 
-/// Learns bytes.
-fn teach<L: Ledger>(ledger: &mut L, secret: SecretNo, bytes: &[u8]) -> Result<(), StoreFault>
+/// One more secret, which has this number, above that of the first.
+fn make_more<L: Ledger>(rt: &impl Abort, ledger: &mut L, first: SecretNo, number: usize)
+    ensures there { first.number < length (L.state ledger.new).now.secrets }
+    ensures marks { (L.state ledger.new).marks ≡ (L.state ledger.old).marks }
+{
+    let made = make(rt, ledger, Rule::Any);
+    check(rt, made.number == number, "another number");
+    check(rt, first.number < made.number, "no higher number");
+}
+
+/// Learns bytes, or is refused so.
+fn teach<L: Ledger>(
+    rt: &impl Abort,
+    ledger: &mut L,
+    secret: SecretNo,
+    bytes: &[u8],
+    said: Result<(), StoreFault>,
+)
     requires { secret.number < length (L.state ledger.old).now.secrets }
     ensures secrets { length (L.state ledger.new).now.secrets ≡ length (L.state ledger.old).now.secrets }
     ensures marks { (L.state ledger.new).marks ≡ (L.state ledger.old).marks }
 {
-    ledger.learn(secret, bytes)
+    check(
+        rt,
+        ledger.learn(secret, bytes) == said,
+        "another answer to bytes",
+    );
 }
 
-/// Whether a secret has these bytes, or none that are known.
-fn has<L: Ledger>(ledger: &L, secret: SecretNo, bytes: Option<&[u8]>) -> bool
+/// Checks that a secret has these bytes, or none that are known.
+fn check_bytes<L: Ledger>(rt: &impl Abort, ledger: &L, secret: SecretNo, bytes: Option<&[u8]>)
     requires { secret.number < length (L.state ledger.now).now.secrets }
 {
-    ledger.secret(secret) == bytes
+    check(rt, ledger.secret(secret) == bytes, "other bytes");
 }
 
-/// What is learned stays when objects are undone, and goes when the ledger goes back.
-fn bytes_in_turn<L: Ledger>(rt: &impl Abort, alloc: Global, ledger: &mut L) -> bool {
-    let first = make(rt, ledger, Rule::Bits(128));
-    let a = put(ledger, object_of(rt, alloc, "a", "n", UNBORN));
-    let older = ledger.mark().expect(rt, "memory");
-    let newer = ledger.mark().expect(rt, "memory");
-    let second = make(rt, ledger, Rule::Any);
-    assert!(rt; first.number < second.number);
-    let is_unknown = has(ledger, first, None);
-    let short = teach(ledger, first, &K[..8]);
-    let learned = teach(ledger, first, &K);
-    let b = put(ledger, object_of(rt, alloc, "b", "n", UNBORN));
-    ledger.undo(newer);
-    let third = make(rt, ledger, Rule::Any);
-    assert!(rt; first.number < third.number);
-    let is_kept = has(ledger, first, Some(&K));
-    let other = teach(ledger, first, &J);
-    let is_gone = ledger.find("b").is_none();
-    ledger.back(older);
-    let fourth = make(rt, ledger, Rule::Any);
-    assert!(rt; first.number < fourth.number);
-    let is_forgotten = has(ledger, first, None);
-    let learned_anew = teach(ledger, first, &J);
-    are_all(&[
-        (a, b) == (Some(0), Some(1)),
-        (first.number, second.number) == (0, 1),
-        (third.number, fourth.number) == (2, 1),
-        is_unknown && is_kept && is_gone && is_forgotten,
-        short == Err(StoreFault::LengthImpossible),
-        learned == Ok(()),
-        other == Err(StoreFault::BytesDiffer),
-        learned_anew == Ok(()),
-        has(ledger, first, Some(&J)),
-        ledger.find("a") == Some(0),
-        ledger.len() == 1,
-    ])
-}
-
-/// The object at a place leads this life from now on.
-fn live<L: Ledger>(ledger: &mut L, place: usize, life: Life) -> bool
-    ensures marks { (L.state ledger.new).marks ≡ (L.state ledger.old).marks }
-{
-    place < ledger.len() && ledger.replace(place, life).is_ok()
-}
-
-/// The state of the object at a place, at a moment.
-fn state_at<L: Ledger>(ledger: &mut L, place: usize, t: i64) -> Option<State>
-    ensures { L.state ledger.new ≡ L.state ledger.old }
-{
-    ledger.set_moment(t);
-    if place < ledger.len() {
-        Some(ledger.state(place))
-    } else {
-        None
+/// Checks that each of these identifiers is found at this place.
+fn check_found<L: Ledger>(rt: &impl Abort, ledger: &L, places: &[(&str, Option<usize>)]) {
+    for (id, place) in places {
+        check(rt, ledger.find(id) == *place, id);
     }
 }
 
+/// What is learned stays when objects are undone, and goes when the ledger goes back.
+fn bytes_in_turn<L: Ledger + Drop>(rt: &impl Abort, alloc: Global, mut ledger: L) {
+    let first = make(rt, &mut ledger, Rule::Bits(128));
+    check(rt, first.number == 0, "another first number");
+    put(rt, alloc, &mut ledger, ("a", "n"), Some(0));
+    let older = ledger.mark().expect(rt, "memory");
+    let newer = ledger.mark().expect(rt, "memory");
+    make_more(rt, &mut ledger, first, 1);
+    check_bytes(rt, &ledger, first, None);
+    teach(
+        rt,
+        &mut ledger,
+        first,
+        &SHORT,
+        Err(StoreFault::LengthImpossible),
+    );
+    teach(rt, &mut ledger, first, &K, Ok(()));
+    put(rt, alloc, &mut ledger, ("b", "n"), Some(1));
+    ledger.undo(newer);
+    make_more(rt, &mut ledger, first, 2);
+    check_bytes(rt, &ledger, first, Some(&K));
+    teach(rt, &mut ledger, first, &J, Err(StoreFault::BytesDiffer));
+    check_found(rt, &ledger, &[("b", None)]);
+    ledger.back(older);
+    make_more(rt, &mut ledger, first, 1);
+    check_bytes(rt, &ledger, first, None);
+    teach(rt, &mut ledger, first, &J, Ok(()));
+    check_bytes(rt, &ledger, first, Some(&J));
+    check_found(rt, &ledger, &[("a", Some(0))]);
+    check(rt, ledger.len() == 1, "other objects");
+}
+
+/// The first object leads this life from now on.
+fn live<L: Ledger>(rt: &impl Abort, ledger: &mut L, life: Life)
+    ensures marks { (L.state ledger.new).marks ≡ (L.state ledger.old).marks }
+{
+    check(rt, 0 < ledger.len(), "no object");
+    check(rt, ledger.replace(0, life).is_ok(), "it is not replaced");
+}
+
+/// Checks that the first object, the only one, is in this state at a moment.
+fn check_state<L: Ledger>(rt: &impl Abort, ledger: &mut L, t: i64, state: State)
+    ensures { L.state ledger.new ≡ L.state ledger.old }
+{
+    ledger.set_moment(t);
+    check(rt, ledger.len() == 1, "other objects");
+    check(rt, ledger.state(0) == state, "another state");
+}
+
 /// An object's dates come and go with the moment, which no mark goes back to.
-fn moments_in_turn<L: Ledger>(rt: &impl Abort, alloc: Global, ledger: &mut L) -> bool {
-    let start = ledger.moment();
-    let object = object_of(rt, alloc, "a", "n", UNBORN);
-    let a = put(ledger, object);
+fn moments_in_turn<L: Ledger + Drop>(rt: &impl Abort, alloc: Global, mut ledger: L) {
+    check(rt, ledger.moment() == 0, "another first moment");
+    put(rt, alloc, &mut ledger, ("a", "n"), Some(0));
     let mark = ledger.mark().expect(rt, "memory");
-    let is_active = live(ledger, 0, ACTIVE);
-    let ended = state_at(ledger, 0, T + 5);
-    let last = state_at(ledger, 0, T + 4);
-    let early = state_at(ledger, 0, T - 1);
-    let first = state_at(ledger, 0, T);
+    live(rt, &mut ledger, ACTIVE);
+    check_state(rt, &mut ledger, END, State::Deactivated);
+    check_state(rt, &mut ledger, LAST, State::Active);
+    check_state(rt, &mut ledger, AHEAD, State::PreActive);
+    check_state(rt, &mut ledger, T, State::Active);
     ledger.undo(mark);
-    are_all(&[
-        start == 0 && is_active,
-        a == Some(0),
-        ended == Some(State::Deactivated),
-        last == Some(State::Active),
-        early == Some(State::PreActive),
-        first == Some(State::Active),
-        ledger.moment() == T,
-        state_at(ledger, 0, T) == Some(State::PreActive),
-        state_at(ledger, 1, T).is_none(),
-    ])
+    check(rt, ledger.moment() == T, "another moment");
+    check_state(rt, &mut ledger, T, State::PreActive);
 }
 
 /// What happens at the present moment is told below it and above it, and no more once it is taken back.
-fn presents_in_turn<L: Ledger>(rt: &impl Abort, alloc: Global, ledger: &mut L) -> bool {
+fn presents_in_turn<L: Ledger + Drop>(rt: &impl Abort, alloc: Global, mut ledger: L) {
     ledger.set_moment(T);
-    let a = put(ledger, object_of(rt, alloc, "a", "n", UNBORN));
+    put(rt, alloc, &mut ledger, ("a", "n"), Some(0));
     let mark = ledger.mark().expect(rt, "memory");
-    let is_active = live(ledger, 0, ACTIVE);
-    let early = state_at(ledger, 0, T - 1);
-    let ended = state_at(ledger, 0, T + 5);
-    let again = state_at(ledger, 0, T - 2);
-    let first = state_at(ledger, 0, T);
+    live(rt, &mut ledger, ACTIVE);
+    check_state(rt, &mut ledger, AHEAD, State::PreActive);
+    check_state(rt, &mut ledger, END, State::Deactivated);
+    check_state(rt, &mut ledger, EARLIER, State::PreActive);
+    check_state(rt, &mut ledger, T, State::Active);
     ledger.undo(mark);
-    are_all(&[
-        is_active && a == Some(0),
-        early == Some(State::PreActive),
-        ended == Some(State::Deactivated),
-        again == Some(State::PreActive),
-        first == Some(State::Active),
-        state_at(ledger, 0, T) == Some(State::PreActive),
-        state_at(ledger, 0, T - 1) == Some(State::PreActive),
-        state_at(ledger, 0, T + 5) == Some(State::PreActive),
-    ])
+    check_state(rt, &mut ledger, T, State::PreActive);
+    check_state(rt, &mut ledger, AHEAD, State::PreActive);
+    check_state(rt, &mut ledger, END, State::PreActive);
+}
+
+/// Checks that the first object with the name `n` of a type, from a place on, is at this place.
+fn check_named<L: Ledger>(rt: &impl Abort, ledger: &L, places: &[(u32, usize, Option<usize>)]) {
+    for (kind, from, place) in places {
+        check(
+            rt,
+            ledger.next_named("n", *kind, *from) == *place,
+            "another place of a name",
+        );
+    }
+}
+
+/// Checks whether any live object has the name `n`.
+fn check_live<L: Ledger>(rt: &impl Abort, ledger: &L, any: bool) {
+    check(rt, ledger.any_live_named("n", 1) == any, "a name");
 }
 
 /// Names are found, destroyed or not, until they are taken back.
-fn names_in_turn<L: Ledger>(rt: &impl Abort, alloc: Global, ledger: &mut L) -> bool {
-    let a = put(ledger, object_of(rt, alloc, "a", "n", UNBORN));
-    let b = put(ledger, object_of(rt, alloc, "b", "m", UNBORN));
+fn names_in_turn<L: Ledger + Drop>(rt: &impl Abort, alloc: Global, mut ledger: L) {
+    put(rt, alloc, &mut ledger, ("a", "n"), Some(0));
+    put(rt, alloc, &mut ledger, ("b", "m"), Some(1));
     let mark = ledger.mark().expect(rt, "memory");
-    let c = put(ledger, object_of(rt, alloc, "c", "n", UNBORN));
-    let found = [
-        ledger.next_named("n", 1, 0),
-        ledger.next_named("n", 1, 1),
-        ledger.next_named("n", 1, 3),
-        ledger.next_named("n", 2, 0),
-    ];
+    put(rt, alloc, &mut ledger, ("c", "n"), Some(2));
+    check_named(rt, &ledger, &TWO_NAMED);
     ledger.undo(mark);
-    let is_destroyed = live(ledger, 0, DESTROYED);
+    live(rt, &mut ledger, DESTROYED);
     let mark = ledger.mark().expect(rt, "memory");
-    let is_gone = !ledger.any_live_named("n", 1);
-    let is_back = live(ledger, 0, UNBORN) && ledger.any_live_named("n", 1);
+    check_live(rt, &ledger, false);
+    live(rt, &mut ledger, UNBORN);
+    check_live(rt, &ledger, true);
     ledger.keep(mark);
-    are_all(&[
-        [a, b, c] == [Some(0), Some(1), Some(2)],
-        found == [Some(0), Some(2), None, None],
-        ledger.next_named("n", 1, 1).is_none(),
-        is_destroyed && is_gone && is_back,
-        ledger.any_live_named("n", 1),
-    ])
+    check_named(rt, &ledger, &[(1, 1, None)]);
+    check_live(rt, &ledger, true);
 }
 
 /// Identifiers that end alike are told apart, before and after some are taken back.
-fn identifiers_in_turn<L: Ledger>(rt: &impl Abort, alloc: Global, ledger: &mut L) -> bool {
-    let a = put(ledger, object_of(rt, alloc, "a-00000001", "n", UNBORN));
-    let b = put(ledger, object_of(rt, alloc, "b-00000001", "n", UNBORN));
+fn identifiers_in_turn<L: Ledger + Drop>(rt: &impl Abort, alloc: Global, mut ledger: L) {
+    put(rt, alloc, &mut ledger, ("a-00000001", "n"), Some(0));
+    put(rt, alloc, &mut ledger, ("b-00000001", "n"), Some(1));
     let mark = ledger.mark().expect(rt, "memory");
-    let c = put(ledger, object_of(rt, alloc, "c-00000001", "n", UNBORN));
-    let d = put(ledger, object_of(rt, alloc, "d-00000002", "n", UNBORN));
-    let e = put(ledger, object_of(rt, alloc, "e-00000002", "n", UNBORN));
-    let twice = put(ledger, object_of(rt, alloc, "c-00000001", "n", UNBORN));
-    let found = [
-        ledger.find("a-00000001"),
-        ledger.find("b-00000001"),
-        ledger.find("c-00000001"),
-        ledger.find("d-00000002"),
-        ledger.find("e-00000002"),
-        ledger.find("f-00000001"),
-    ];
+    put(rt, alloc, &mut ledger, ("c-00000001", "n"), Some(2));
+    put(rt, alloc, &mut ledger, ("d-00000002", "n"), Some(3));
+    put(rt, alloc, &mut ledger, ("e-00000002", "n"), Some(4));
+    put(rt, alloc, &mut ledger, ("c-00000001", "n"), None);
+    check_found(rt, &ledger, &ALL_FIVE);
     ledger.undo(mark);
-    let left = [
-        ledger.find("a-00000001"),
-        ledger.find("b-00000001"),
-        ledger.find("c-00000001"),
-        ledger.find("d-00000002"),
-        ledger.find("e-00000002"),
-    ];
-    let again = put(ledger, object_of(rt, alloc, "e-00000002", "n", UNBORN));
-    are_all(&[
-        [a, b, c, d, e] == [Some(0), Some(1), Some(2), Some(3), Some(4)],
-        twice.is_none(),
-        found == [Some(0), Some(1), Some(2), Some(3), Some(4), None],
-        left == [Some(0), Some(1), None, None, None],
-        again == Some(2),
-        ledger.find("e-00000002") == Some(2),
-        ledger.find("d-00000002").is_none(),
-    ])
+    check_found(rt, &ledger, &FIRST_TWO);
+    put(rt, alloc, &mut ledger, ("e-00000002", "n"), Some(2));
+    check_found(rt, &ledger, &ONE_ANEW);
 }
 
 #[test]
-fn journal_keeps_the_laws(rt: HostRuntime) -> Result<(), Fail> {
+fn journal_keeps_the_laws(rt: HostRuntime) {
     let alloc = rt.alloc();
-    check(bytes_in_turn(&rt, alloc, &mut Journal::new(alloc)), "bytes")?;
-    check(
-        moments_in_turn(&rt, alloc, &mut Journal::new(alloc)),
-        "moments",
-    )?;
-    check(
-        presents_in_turn(&rt, alloc, &mut Journal::new(alloc)),
-        "presents",
-    )?;
-    check(names_in_turn(&rt, alloc, &mut Journal::new(alloc)), "names")?;
-    check(
-        identifiers_in_turn(&rt, alloc, &mut Journal::new(alloc)),
-        "identifiers",
-    )
+    bytes_in_turn(&rt, alloc, Journal::new(alloc));
+    moments_in_turn(&rt, alloc, Journal::new(alloc));
+    presents_in_turn(&rt, alloc, Journal::new(alloc));
+    names_in_turn(&rt, alloc, Journal::new(alloc));
+    identifiers_in_turn(&rt, alloc, Journal::new(alloc));
 }
 
 #[test]
-fn copies_keep_the_laws(rt: HostRuntime) -> Result<(), Fail> {
+fn copies_keep_the_laws(rt: HostRuntime) {
     let alloc = rt.alloc();
-    check(bytes_in_turn(&rt, alloc, &mut Copies::new(alloc)), "bytes")?;
-    check(
-        moments_in_turn(&rt, alloc, &mut Copies::new(alloc)),
-        "moments",
-    )?;
-    check(
-        presents_in_turn(&rt, alloc, &mut Copies::new(alloc)),
-        "presents",
-    )?;
-    check(names_in_turn(&rt, alloc, &mut Copies::new(alloc)), "names")?;
-    check(
-        identifiers_in_turn(&rt, alloc, &mut Copies::new(alloc)),
-        "identifiers",
-    )
+    bytes_in_turn(&rt, alloc, Copies::new(alloc));
+    moments_in_turn(&rt, alloc, Copies::new(alloc));
+    presents_in_turn(&rt, alloc, Copies::new(alloc));
+    names_in_turn(&rt, alloc, Copies::new(alloc));
+    identifiers_in_turn(&rt, alloc, Copies::new(alloc));
 }

@@ -1,16 +1,32 @@
 //! Messages and files as they are spelled by the rules of TTLV, in hexadecimal digits, and their bytes.
 
+use super::check;
+use kmipa_ttlv::{Item, encode, spelled_len};
 use std::alloc::Global;
-use std::test::Fail;
+use std::process::Abort;
 
 // The bytes of digits that stand one behind the other.
-pub(crate) fn bytes_of(alloc: Global, parts: &[&str]) -> Result<Vec<u8>, Fail> {
+pub(crate) fn bytes_of(rt: &impl Abort, alloc: Global, parts: &[&str]) -> Vec<u8> {
     let mut bytes = Vec::new(alloc);
     for digits in parts {
-        let part = hex::decode(alloc, digits.as_bytes())?;
-        bytes.extend_from_slice(&part)?;
+        let part = hex::decode(alloc, digits.as_bytes()).expect(rt, "digits");
+        bytes.extend_from_slice(&part).expect(rt, "memory");
     }
-    Ok(bytes)
+    bytes
+}
+
+// Checks that these are the bytes of digits that stand one behind the other.
+pub(crate) fn check_bytes(rt: &impl Abort, alloc: Global, bytes: Vec<u8>, parts: &[&str]) {
+    let expected = bytes_of(rt, alloc, parts);
+    check(rt, bytes.as_slice() == expected.as_slice(), "other bytes");
+}
+
+// Checks that an item is spelled by these digits, with zero padding.
+pub(crate) fn check_item(rt: &impl Abort, alloc: Global, item: Item, digits: &str) {
+    check(rt, spelled_len(&item).is_some(), "it can't be spelled");
+    let mut written = Vec::new(alloc);
+    encode(&item, &mut written).expect(rt, "memory");
+    check_bytes(rt, alloc, written, &[digits]);
 }
 
 // A request to get `k1`.
@@ -131,6 +147,9 @@ pub const BEGIN_MARK: &str =
 
 // The end mark of call 1, up to the answer.
 pub const END_MARK: &str = "5400200100000120540011020000000400000001000000005400130800000108";
+
+// A transcript of one call, which gets `k1`.
+pub const ONE_CALL: [&str; 5] = [TRANSCRIPT, BEGIN_MARK, GET_K1, END_MARK, GOT_K1];
 
 // The header of a declaration.
 pub const DECLARATION: &str =
