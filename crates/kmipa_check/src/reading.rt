@@ -56,7 +56,7 @@ fn read_mark<'a>(
     let Mark::Begin(begin) = &marks[place] else {
         return Ok(None);
     };
-    let request = request_in(alloc, begin)?;
+    let request = asked_in(alloc, begin)?;
     match read_end(alloc, marks, ends, begin.call, &request)? {
         Some((end, response)) => Ok(Some(Call {
             number: begin.call,
@@ -92,44 +92,63 @@ fn read_end<'a>(
     let Mark::End(end) = &marks[place] else {
         return Ok(None);
     };
-    let response = response_in(alloc, end, request)?;
+    let response = answered_in(alloc, end, request)?;
     Ok(Some((place, response)))
 }
 
 /// The request of a begin mark.
-#[inline(always)]
-pub fn request_in<'a>(alloc: Global, begin: &'a Begin) -> Result<Request<'a>, CheckFault>
+pub(crate) fn asked_in<'a>(alloc: Global, begin: &'a Begin) -> Result<Request<'a>, CheckFault>
     ensures { RequestRead begin.now.call begin.now.message.items result }
 {
-    let Some(view) = whole_item(&begin.message) else {
-        return Err(not_a_message(begin.call, Side::Client));
-    };
-    match read_request(alloc, &view) {
-        Ok(request) => Ok(request),
-        Err(ReadFault::Outside(outside)) => {
-            Err(CheckFault::Outside(begin.call, Side::Client, outside))
-        }
-        Err(ReadFault::Memory) => Err(CheckFault::Memory),
-    }
+    request_in(alloc, begin.call, &begin.message)
 }
 
 /// The response of an end mark.
-#[inline(always)]
-pub fn response_in<'a>(
+fn answered_in<'a>(
     alloc: Global,
     end: &'a End,
     request: &Request,
 ) -> Result<Response<'a>, CheckFault>
     ensures { ResponseRead end.now.call (request_of request.now) end.now.message.items result }
 {
-    let Some(view) = whole_item(&end.message) else {
-        return Err(not_a_message(end.call, Side::Server));
+    response_in(alloc, end.call, &end.message, request)
+}
+
+/// The request that the message of a call's begin mark is, or why it is outside the profile.
+#[inline(always)]
+pub fn request_in<'a>(
+    alloc: Global,
+    call: i32,
+    message: &'a [u8],
+) -> Result<Request<'a>, CheckFault>
+    ensures { RequestRead call message.now result }
+{
+    let Some(view) = whole_item(message) else {
+        return Err(not_a_message(call, Side::Client));
+    };
+    match read_request(alloc, &view) {
+        Ok(request) => Ok(request),
+        Err(ReadFault::Outside(outside)) => Err(CheckFault::Outside(call, Side::Client, outside)),
+        Err(ReadFault::Memory) => Err(CheckFault::Memory),
+    }
+}
+
+/// The response that the message of a call's end mark is to its request, or why it is outside the profile.
+#[inline(always)]
+pub fn response_in<'a>(
+    alloc: Global,
+    call: i32,
+    message: &'a [u8],
+    request: &Request,
+) -> Result<Response<'a>, CheckFault>
+    ensures { ResponseRead call (request_of request.now) message.now result }
+{
+    let Some(view) = whole_item(message) else {
+        return Err(not_a_message(call, Side::Server));
     };
     match read_response(alloc, &view, request) {
         Ok(response) => Ok(response),
-        Err(ReadFault::Outside(outside)) => {
-            Err(CheckFault::Outside(end.call, Side::Server, outside))
-        }
+        Err(ReadFault::Outside(outside)) => Err(CheckFault::Outside(call, Side::Server, outside)),
         Err(ReadFault::Memory) => Err(CheckFault::Memory),
     }
 }

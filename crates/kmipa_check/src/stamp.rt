@@ -7,7 +7,7 @@ ghost use Rattle.kmipa_record.specs.Witnesses.{turn_of, witness_of};
 ghost use Rattle.kmipa_check.specs.Stamps.{AnswersAt, BeginsAt, EndsAt, IsMessage, ResponseSaid, TellsStamp};
 
 use crate::fault::{CheckFault, StepFault, WitnessKind};
-use crate::reading::{answer_in, request_in};
+use crate::reading::{answer_in, asked_in};
 use kmipa_msgs::Response;
 use kmipa_record::{Begin, End, Mark, Transcript, Turn, Witness};
 use std::alloc::{AllocError, Global};
@@ -101,7 +101,7 @@ fn response_of<'a>(
 ) -> Result<Response<'a>, StepFault>
     ensures { ResponseSaid begin.now.message.items message.now result }
 {
-    match request_in(alloc, begin) {
+    match asked_in(alloc, begin) {
         Ok(request) => answer_in(alloc, message, &request),
         Err(CheckFault::Outside(_, _, _)) => Err(StepFault::Unfit(WitnessKind::AnswerForm)),
         // Only want of memory is left.

@@ -1,8 +1,6 @@
 -- What the marks say that are held of a call.
 use Rattle.std.proofs.Common.{◌≡◌, ℕ, ℤ, List, Option, Some, None, refl, sym, ◌∙◌, subst}
 use Rattle.kmipa_record.specs.Marks.{MarkOf}
-use Rattle.kmipa_record.specs.declared.transcript.Begin.{Begin}
-use Rattle.kmipa_record.specs.declared.transcript.End.{End}
 use Rattle.kmipa_msgs.specs.Messages.{RequestOf, ResponseOf}
 use Rattle.kmipa_msgs.specs.Requests.{RequestFault}
 use Rattle.kmipa_msgs.specs.Responses.{ResponseFault}
@@ -16,19 +14,19 @@ use Rattle.kmipa_check.specs.declared.fault.CheckFault.TheVariants as check_faul
 use Rattle.kmipa_stream.specs.Seeing.{EndsSo, HoldsBegin, HoldsEnd, IsSeen}
 use Rattle.kmipa_stream.specs.declared.seen.SeenCall.{SeenCall}
 
-pub open_recorded : (marks : List MarkOf) (s : SeenCall) (b : Begin) (request : RequestOf) → IsSeen marks s → HoldsBegin marks s b → s.end ≡ None → AreRequest b.message.items request
+pub open_recorded : (marks : List MarkOf) (s : SeenCall) (asked : List ℕ) (request : RequestOf) → IsSeen marks s → HoldsBegin marks s asked → s.end ≡ None → AreRequest asked request
     → IsRecorded marks (record { number = s.number; begin = s.begin; end = None; request = request; response = None })
-open_recorded marks s b request i h e said =
+open_recorded marks s asked request i h e said =
     let P : Option ℕ → Type 0 = λ o. EndsSo marks s.number o in
-    record { asked = b.message.items; carried = h.at; request = said; ended = is_open (subst P e i.ended) refl refl }
+    record { asked = asked; carried = h.at; request = said; ended = is_open (subst P e i.ended) refl refl }
 
-pub whole_recorded : (marks : List MarkOf) (s : SeenCall) (b : Begin) (e : End) (request : RequestOf) (response : ResponseOf) → HoldsBegin marks s b → HoldsEnd marks s e → AreRequest b.message.items request
-    → AreResponse request e.message.items response → IsRecorded marks (record { number = s.number; begin = s.begin; end = s.end; request = request; response = Some response })
-whole_recorded marks s b e request response h g said answered = record {
-  asked = b.message.items;
+pub whole_recorded : (marks : List MarkOf) (s : SeenCall) (asked answered : List ℕ) (request : RequestOf) (response : ResponseOf) → HoldsBegin marks s asked → HoldsEnd marks s answered → AreRequest asked request
+    → AreResponse request answered response → IsRecorded marks (record { number = s.number; begin = s.begin; end = s.end; request = request; response = Some response })
+whole_recorded marks s asked answered request response h g said reported = record {
+  asked = asked;
   carried = h.at;
   request = said;
-  ended = has_ended g.place e.message.items response g.at answered g.noted refl;
+  ended = has_ended g.place answered response g.at reported g.noted refl;
 }
 
 outside_at : (marks : List MarkOf) (place : ℕ) (number n : ℤ) (side s : Side) (asked : List ℕ) (item : ℕ) (kind : OutsideKind) → HasBegin marks number place asked
@@ -39,15 +37,14 @@ outside_at marks place number n side s asked item kind begin out e f =
     let Q : ℤ → Type 0 = λ x. IsOutsideAt marks place x s item kind in
     subst Q (sym e) (subst P (sym f) here)
 
-pub request_outside : (marks : List MarkOf) (s : SeenCall) (b : Begin) (fault : CheckFault) → HoldsBegin marks s b → MessageFault RequestFault Client b.call b.message.items fault → MarkFault marks s.begin fault
-request_outside marks s b (check_fault.Outside n side o) h f = outside_at marks s.begin s.number n Client side b.message.items o.item o.kind h.at f.2 (f.0 ∙ h.same) f.1
-request_outside marks s b (check_fault.Witness w) h f = f
-request_outside marks s b check_fault.Memory h f = tt
+pub request_outside : (marks : List MarkOf) (s : SeenCall) (asked : List ℕ) (fault : CheckFault) → HoldsBegin marks s asked → MessageFault RequestFault Client s.number asked fault → MarkFault marks s.begin fault
+request_outside marks s asked (check_fault.Outside n side o) h f = outside_at marks s.begin s.number n Client side asked o.item o.kind h.at f.2 f.0 f.1
+request_outside marks s asked (check_fault.Witness w) h f = f
+request_outside marks s asked check_fault.Memory h f = tt
 
-pub response_outside : (marks : List MarkOf) (s : SeenCall) (b : Begin) (e : End) (request : RequestOf) (fault : CheckFault) → HoldsBegin marks s b → HoldsEnd marks s e → AreRequest b.message.items request
-    → MessageFault (λ t. ResponseFault t request) Server e.call e.message.items fault → MarkFault marks s.begin fault
-response_outside marks s b e request (check_fault.Outside n side o) h g said f =
-    outside_at marks s.begin s.number n Server side b.message.items o.item o.kind h.at
-    (record { end = g.place; answered = e.message.items; ended = g.at; request = request; said = said; outside = f.2 }) (f.0 ∙ g.same) f.1
-response_outside marks s b e request (check_fault.Witness w) h g said f = f
-response_outside marks s b e request check_fault.Memory h g said f = tt
+pub response_outside : (marks : List MarkOf) (s : SeenCall) (asked answered : List ℕ) (request : RequestOf) (fault : CheckFault) → HoldsBegin marks s asked → HoldsEnd marks s answered → AreRequest asked request
+    → MessageFault (λ t. ResponseFault t request) Server s.number answered fault → MarkFault marks s.begin fault
+response_outside marks s asked answered request (check_fault.Outside n side o) h g said f =
+    outside_at marks s.begin s.number n Server side asked o.item o.kind h.at (record { end = g.place; answered = answered; ended = g.at; request = request; said = said; outside = f.2 }) f.0 f.1
+response_outside marks s asked answered request (check_fault.Witness w) h g said f = f
+response_outside marks s asked answered request check_fault.Memory h g said f = tt

@@ -6,8 +6,6 @@ use Rattle.std.proofs.lemmas.Bool.Decides.{Decides-int_eq}
 use Rattle.std.specs.Ordering.{int_eq}
 use Rattle.kmipa_record.specs.Marks.{MarkOf, begins, ends, begun, AreRecorded}
 use Rattle.kmipa_record.specs.NumberMaps.{value_at, Sets, HasNone}
-use Rattle.kmipa_record.specs.declared.transcript.Begin.{Begin}
-use Rattle.kmipa_record.specs.declared.transcript.End.{End}
 use Rattle.kmipa_record.proofs.MarkLemmas.{begun-append}
 use Rattle.kmipa_check.specs.Calls.{HasBegin, HasEnd}
 use Rattle.kmipa_check.proofs.PlaceLemmas.{at_contains, at_within, pushed_at}
@@ -66,11 +64,8 @@ module _ (marks all : List MarkOf) (s : SeenCall) (begins_so : (asked : List ℕ
     (ends_so : (end : ℕ) (answered : List ℕ) → HasEnd marks s.number end answered → HasEnd all s.number end answered) where
   held_on : (held : Held) → HoldsSo marks s held → HoldsSo all s held
   held_on Released h = tt
-  held_on (Open begin) h = (record { at = begins_so begin.message.items h.0.at; same = h.0.same }, h.1)
-  held_on (Whole begin end) h = (
-    record { at = begins_so begin.message.items h.0.at; same = h.0.same },
-    record { place = h.1.place; noted = h.1.noted; at = ends_so h.1.place end.value.message.items h.1.at; same = h.1.same },
-  )
+  held_on (Open asked) h = (record { at = begins_so asked.items h.0.at }, h.1)
+  held_on (Whole asked answered) h = (record { at = begins_so asked.items h.0.at }, record { place = h.1.place; noted = h.1.noted; at = ends_so h.1.place answered.items h.1.at })
 
   ended_on : (end : Option ℕ) → (end ≡ None → EndsSo all s.number None) → EndsSo marks s.number end → EndsSo all s.number end
   ended_on None none h = none refl
@@ -83,8 +78,8 @@ module _ (marks all : List MarkOf) (s : SeenCall) (begins_so : (asked : List ℕ
 -- in each transcript ahead it is noted right, where all of it has come
 whole_end : (marks : List MarkOf) (s : SeenCall) (held : Held) → HoldsSo marks s held → AreHeld held → (end : ℕ) × (s.end ≡ Some end)
 whole_end marks s Released h are = absurd are
-whole_end marks s (Open begin) h are = absurd are
-whole_end marks s (Whole begin end) h are = (h.1.place, h.1.noted)
+whole_end marks s (Open asked) h are = absurd are
+whole_end marks s (Whole asked answered) h are = (h.1.place, h.1.noted)
 
 pub seen_ahead : (closed : Bool) (marks all : List MarkOf) (s : SeenCall) → IsAhead closed marks all → HasCome closed s.held → IsSeen marks s → IsSeen all s
 seen_ahead closed marks all s a (inl e) i =
@@ -144,21 +139,20 @@ module _ (marks : List MarkOf) (old new : Seen) (number : ℤ) (client asked : L
       (λ end answered h. end_grows marks (begins number client asked ∷ []) t.number end answered h)
       (λ e. let P : Option ℕ → Type 0 = λ o. EndsSo marks t.number o in others_end t (subst P e i.ended)) i
 
-  here : (b : Begin) → b.message.items ≡ asked → HasBegin (marks ++ begins number client asked ∷ []) s.number s.begin b.message.items
-  here b same =
+  here : HasBegin (marks ++ begins number client asked ∷ []) s.number s.begin asked
+  here =
       let P : ℤ → Type 0 = λ z. slice_get (marks ++ begins number client asked ∷ []) (length marks) ≡ Some (begins z client asked) in
       let Q : ℕ → Type 0 = λ n. slice_get (marks ++ begins number client asked ∷ []) n ≡ Some (begins s.number client asked) in
-      let R : List ℕ → Type 0 = λ l. slice_get (marks ++ begins number client asked ∷ []) s.begin ≡ Some (begins s.number client l) in
-      record { client = client; there = subst R (sym same) (subst Q (sym begin_is) (subst P (sym number_is) (last_at marks (begins number client asked)))) }
+      record { client = client; there = subst Q (sym begin_is) (subst P (sym number_is) (last_at marks (begins number client asked))) }
 
-  pub begun_here : (b : Begin) → b.message.items ≡ asked → HoldsSo (marks ++ begins number client asked ∷ []) s s.held → IsSeen (marks ++ begins number client asked ∷ []) s
-  begun_here b same held =
+  pub begun_here : HoldsSo (marks ++ begins number client asked ∷ []) s s.held → IsSeen (marks ++ begins number client asked ∷ []) s
+  begun_here held =
       let P : Option ℕ → Type 0 = λ o. EndsSo (marks ++ begins number client asked ∷ []) s.number o in
       let Q : ℤ → Type 0 = λ z. EndsSo (marks ++ begins number client asked ∷ []) z None in
-      record { asked = b.message.items; begun = here b same; ended = subst P (sym end_is) (subst Q (sym number_is) no_end); held = held }
+      record { asked = asked; begun = here; ended = subst P (sym end_is) (subst Q (sym number_is) no_end); held = held }
 
-  pub held_here : (b : Begin) → b.message.items ≡ asked → b.call ≡ number → HoldsBegin (marks ++ begins number client asked ∷ []) s b
-  held_here b same call = record { at = here b same; same = call ∙ sym number_is }
+  pub held_here : HoldsBegin (marks ++ begins number client asked ∷ []) s asked
+  held_here = record { at = here }
 
   at_new : (place : ℕ) (t : SeenCall) → slice_get (old.calls.items ++ s ∷ []) place ≡ Some t → slice_get new.calls.items place ≡ Some t
   at_new place t at = let P : List SeenCall → Type 0 = λ l. slice_get l place ≡ Some t in subst P (sym calls) at
@@ -312,25 +306,23 @@ module _ (marks : List MarkOf) (old new : Seen) (place : ℕ) (z s : SeenCall) (
       (count ∙ (let c = are.count in let l = length-append marks (ends number answered ∷ []) in omega arith)) (begun-append marks (ends number answered ∷ []) ∙ append-nil (begun marks))
       ends_back others_on i
 
--- where its begin mark is held, and the end mark comes
-pub ended_here : (marks : List MarkOf) (z s : SeenCall) (number : ℤ) (answered : List ℕ) (b : Begin) (e : End) → IsSeen marks z → HoldsBegin marks z b → z.number ≡ number → s.number ≡ z.number → s.begin ≡ z.begin
-    → s.end ≡ Some (length marks) → e.message.items ≡ answered → e.call ≡ number
-    → HoldsBegin (marks ++ ends number answered ∷ []) s b × HoldsEnd (marks ++ ends number answered ∷ []) s e
-ended_here marks z s number answered b e i h z_is number_is begin_is end_is said call =
-    let more = ends number answered ∷ [] in
-    let P : ℤ → Type 0 = λ n. HasBegin (marks ++ ends number answered ∷ []) n s.begin b.message.items in
-    let Q : ℕ → Type 0 = λ p. HasBegin (marks ++ ends number answered ∷ []) z.number p b.message.items in
-    let R : ℤ → Type 0 = λ n. slice_get (marks ++ ends number answered ∷ []) (length marks) ≡ Some (ends n e.message.items) in
-    let S : List ℕ → Type 0 = λ l. slice_get (marks ++ ends number answered ∷ []) (length marks) ≡ Some (ends number l) in
-    let begun : HasBegin (marks ++ ends number answered ∷ []) s.number s.begin b.message.items =
-    subst P (sym number_is) (subst Q (sym begin_is) (begin_grows marks (ends number answered ∷ []) z.number z.begin b.message.items h.at)) in
-    let here = subst R (sym (number_is ∙ z_is)) (subst S (sym said) (last_at marks (ends number answered))) in
-    (record { at = begun; same = h.same ∙ sym number_is }, record { place = length marks; noted = end_is; at = here; same = call ∙ sym (number_is ∙ z_is) })
+-- where the message of its begin mark is held, and the end mark comes
+pub ended_here : (marks : List MarkOf) (z s : SeenCall) (number : ℤ) (asked answered : List ℕ) → HoldsBegin marks z asked → z.number ≡ number → s.number ≡ z.number → s.begin ≡ z.begin
+    → s.end ≡ Some (length marks)
+    → HoldsBegin (marks ++ ends number answered ∷ []) s asked × HoldsEnd (marks ++ ends number answered ∷ []) s answered
+ended_here marks z s number asked answered h z_is number_is begin_is end_is =
+    let P : ℤ → Type 0 = λ n. HasBegin (marks ++ ends number answered ∷ []) n s.begin asked in
+    let Q : ℕ → Type 0 = λ p. HasBegin (marks ++ ends number answered ∷ []) z.number p asked in
+    let R : ℤ → Type 0 = λ n. slice_get (marks ++ ends number answered ∷ []) (length marks) ≡ Some (ends n answered) in
+    let begun : HasBegin (marks ++ ends number answered ∷ []) s.number s.begin asked =
+    subst P (sym number_is) (subst Q (sym begin_is) (begin_grows marks (ends number answered ∷ []) z.number z.begin asked h.at)) in
+    let here = subst R (sym (number_is ∙ z_is)) (last_at marks (ends number answered)) in
+    (record { at = begun }, record { place = length marks; noted = end_is; at = here })
 
-pub seen_whole : (all : List MarkOf) (s : SeenCall) (b : Begin) (e : End) → HoldsBegin all s b → HoldsEnd all s e → HoldsSo all s s.held → IsSeen all s
-seen_whole all s b e hb he held =
+pub seen_whole : (all : List MarkOf) (s : SeenCall) (asked answered : List ℕ) → HoldsBegin all s asked → HoldsEnd all s answered → HoldsSo all s s.held → IsSeen all s
+seen_whole all s asked answered hb he held =
     let P : Option ℕ → Type 0 = λ o. EndsSo all s.number o in
-    record { asked = b.message.items; begun = hb.at; ended = subst P (sym he.noted) (e.message.items, he.at); held = held }
+    record { asked = asked; begun = hb.at; ended = subst P (sym he.noted) (answered, he.at); held = held }
 
 -- ---- of which calls nothing is held
 

@@ -2,8 +2,6 @@
 use Rattle.std.specs.Prelude.{◌≡◌, ◌⊎◌, ℕ, ℤ, Bool, true, List, map, length, Option, Some, None, slice_get, slice_set}
 use Rattle.kmipa_record.specs.Marks.{MarkOf, begun}
 use Rattle.kmipa_record.specs.NumberMaps.{value_at}
-use Rattle.kmipa_record.specs.declared.transcript.Begin.{Begin}
-use Rattle.kmipa_record.specs.declared.transcript.End.{End}
 use Rattle.kmipa_check.specs.Calls.{HasBegin, HasEnd}
 use Rattle.kmipa_stream.specs.declared.seen.SeenCall.{SeenCall}
 use Rattle.kmipa_stream.specs.declared.seen.Held.{Held}
@@ -15,23 +13,21 @@ abbrev pub EndsSo : List MarkOf → ℤ → Option ℕ → Type 0
 EndsSo marks number None = (end : ℕ) (answered : List ℕ) → HasEnd marks number end answered → ⊥
 EndsSo marks number (Some end) = (answered : List ℕ) × HasEnd marks number end answered
 
--- this is its begin mark
-pub record HoldsBegin (marks : List MarkOf) (s : SeenCall) (begin : Begin) : Type 0 where
-  pub at : HasBegin marks s.number s.begin begin.message.items
-  pub same : begin.call ≡ s.number
+-- this is the message of its begin mark
+pub record HoldsBegin (marks : List MarkOf) (s : SeenCall) (asked : List ℕ) : Type 0 where
+  pub at : HasBegin marks s.number s.begin asked
 
--- and this its end mark
-pub record HoldsEnd (marks : List MarkOf) (s : SeenCall) (end : End) : Type 0 where
+-- and this that of its end mark
+pub record HoldsEnd (marks : List MarkOf) (s : SeenCall) (answered : List ℕ) : Type 0 where
   pub place : ℕ
   pub noted : s.end ≡ Some place
-  pub at : HasEnd marks s.number place end.message.items
-  pub same : end.call ≡ s.number
+  pub at : HasEnd marks s.number place answered
 
 -- what is held of a call is its own
 abbrev pub HoldsSo : List MarkOf → SeenCall → Held → Type 0
 HoldsSo marks s Released = Unit {0}
-HoldsSo marks s (Open begin) = HoldsBegin marks s begin × (s.end ≡ None)
-HoldsSo marks s (Whole begin end) = HoldsBegin marks s begin × HoldsEnd marks s end.value
+HoldsSo marks s (Open asked) = HoldsBegin marks s asked.items × (s.end ≡ None)
+HoldsSo marks s (Whole asked answered) = HoldsBegin marks s asked.items × HoldsEnd marks s answered.items
 
 -- a call that these marks begin is noted so
 pub record IsSeen (marks : List MarkOf) (s : SeenCall) : Type 0 where
@@ -70,11 +66,11 @@ HasLetGo old new place (Some s) =
     (slice_get old.calls.items place ≡ Some s) × (new.calls.items ≡ slice_set old.calls.items place (released s))
     × (new.places ≡ old.places) × (new.count ≡ old.count)
 
--- both marks of the call are held
+-- both messages of the call are held
 abbrev pub AreHeld : Held → Type 0
 AreHeld Released = ⊥
-AreHeld (Open begin) = ⊥
-AreHeld (Whole begin end) = Unit {0}
+AreHeld (Open asked) = ⊥
+AreHeld (Whole asked answered) = Unit {0}
 
 -- all that is to come of the call has come: its end mark; or the transcript is at its end
 abbrev pub HasCome : Bool → Held → Type 0

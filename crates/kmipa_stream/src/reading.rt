@@ -1,4 +1,4 @@
-//! What the marks say that are held of a call.
+//! What the messages say that are held of a call.
 
 ghost use Rattle.std.specs.Prelude.{◌≡◌, List, MatchResult, None};
 ghost use Rattle.kmipa_record.specs.Marks.{MarkOf};
@@ -8,10 +8,9 @@ ghost use Rattle.kmipa_stream.specs.Seeing.{HoldsBegin, HoldsEnd, IsSeen};
 
 use crate::seen::{Held, SeenCall};
 use kmipa_check::{Call, CheckFault, request_in, response_in};
-use kmipa_record::{Begin, End};
 use std::alloc::Global;
 
-/// The call whose marks are held, or the first of its messages that is outside the profile. It is open where no end mark is held.
+/// The call whose messages are held, or the first of its messages that is outside the profile. It is open where no response is held.
 pub(crate) fn call_in<'a>(alloc: Global, seen: &'a SeenCall) -> Result<Call<'a>, CheckFault>
     ensures { (marks : List MarkOf) → IsSeen marks seen.now
         → MatchResult result
@@ -20,24 +19,20 @@ pub(crate) fn call_in<'a>(alloc: Global, seen: &'a SeenCall) -> Result<Call<'a>,
 {
     match &seen.held {
         Held::Released => Err(CheckFault::Memory),
-        Held::Open(begin) => open_call(alloc, seen, begin),
-        Held::Whole(begin, end) => whole_call(alloc, seen, begin, end),
+        Held::Open(asked) => open_call(alloc, seen, asked),
+        Held::Whole(asked, answered) => whole_call(alloc, seen, asked, answered),
     }
 }
 
 /// A call that has not ended.
-fn open_call<'a>(
-    alloc: Global,
-    seen: &'a SeenCall,
-    begin: &'a Begin,
-) -> Result<Call<'a>, CheckFault>
+fn open_call<'a>(alloc: Global, seen: &'a SeenCall, asked: &'a [u8]) -> Result<Call<'a>, CheckFault>
     ensures { (marks : List MarkOf) → IsSeen marks seen.now
-        → HoldsBegin marks seen.now begin.now → seen.now.end ≡ None
+        → HoldsBegin marks seen.now asked.now → seen.now.end ≡ None
         → MatchResult result
         (λ call. IsRecorded marks (call_of call) × (call.begin ≡ seen.now.begin) × (call.number ≡ seen.now.number))
         (MarkFault marks seen.now.begin) }
 {
-    match request_in(alloc, begin) {
+    match request_in(alloc, seen.number, asked) {
         Ok(request) => Ok(Call {
             number: seen.number,
             begin: seen.begin,
@@ -53,19 +48,19 @@ fn open_call<'a>(
 fn whole_call<'a>(
     alloc: Global,
     seen: &'a SeenCall,
-    begin: &'a Begin,
-    end: &'a End,
+    asked: &'a [u8],
+    answered: &'a [u8],
 ) -> Result<Call<'a>, CheckFault>
-    ensures { (marks : List MarkOf) → HoldsBegin marks seen.now begin.now → HoldsEnd marks seen.now end.now
+    ensures { (marks : List MarkOf) → HoldsBegin marks seen.now asked.now → HoldsEnd marks seen.now answered.now
         → MatchResult result
         (λ call. IsRecorded marks (call_of call) × (call.begin ≡ seen.now.begin) × (call.number ≡ seen.now.number))
         (MarkFault marks seen.now.begin) }
 {
-    let request = match request_in(alloc, begin) {
+    let request = match request_in(alloc, seen.number, asked) {
         Ok(request) => request,
         Err(fault) => return Err(fault),
     };
-    match response_in(alloc, end, &request) {
+    match response_in(alloc, seen.number, answered, &request) {
         Ok(response) => Ok(Call {
             number: seen.number,
             begin: seen.begin,

@@ -1,7 +1,5 @@
 //! The calls of a transcript that have begun so far.
 
-ghost use Rattle.std.specs.Prelude.{◌≡◌};
-
 use kmipa_record::{Begin, End, NumberMap};
 use std::alloc::{AllocError, Global};
 use std::mem::replace;
@@ -18,15 +16,15 @@ pub(crate) struct SeenCall {
     pub held: Held,
 }
 
-/// What is held of the marks of a call, until they are read.
+/// What is held of the messages of a call, until they are read.
 #[derive(Drop)]
 pub(crate) enum Held {
     /// Nothing any more.
     Released,
-    /// Its begin mark, but for the client's name: its end mark has not come.
-    Open(Begin),
-    /// Both its marks. The end mark is in a box, since few calls wait with one, and each that was begun has the room of a begin mark.
-    Whole(Begin, Box<End>),
+    /// The request message of its begin mark: its end mark has not come.
+    Open(Vec<u8>),
+    /// The messages of both its marks.
+    Whole(Vec<u8>, Vec<u8>),
 }
 
 /// The calls that have begun, in the order of their begin marks.
@@ -41,7 +39,7 @@ pub(crate) struct Seen {
 }
 
 impl Seen {
-    ghost use Rattle.std.specs.Prelude.{◌∷◌, ◌++◌, List, [], OnOk, length};
+    ghost use Rattle.std.specs.Prelude.{◌≡◌, ◌∷◌, ◌++◌, List, [], OnOk, length};
     ghost use Rattle.std.specs.String.{string_bytes};
     ghost use Rattle.kmipa_record.specs.Marks.{AreRecorded, MarkOf, begins, ends};
     ghost use Rattle.kmipa_record.specs.NumberMaps.{value_at};
@@ -98,7 +96,11 @@ impl Seen {
         let Some(count) = self.count.checked_add(1) else {
             return Err(AllocError);
         };
-        let number = begin.call;
+        let Begin {
+            call: number,
+            message,
+            ..
+        } = begin;
         if self.places.get(number).is_some() {
             return Err(AllocError);
         }
@@ -106,7 +108,7 @@ impl Seen {
             number,
             begin: self.count,
             end: None,
-            held: Held::Open(nameless(self.alloc, begin)),
+            held: Held::Open(message),
         };
         let place = self.calls.len();
         self.calls.push(call)?;
@@ -144,7 +146,7 @@ impl Seen {
             number,
             begin,
             end: Some(self.count),
-            held: Held::Whole(asked, Box::new(self.alloc, end)?),
+            held: Held::Whole(asked, end.message),
         };
         self.count = count;
         Ok(())
@@ -175,17 +177,5 @@ impl Seen {
             Held::Whole(_, _) => true,
         };
         if is_whole { self.release(place) } else { None }
-    }
-}
-
-/// A begin mark without the client's name, for which nothing asks.
-fn nameless(alloc: Global, begin: Begin) -> Begin
-    ensures call { result.call ≡ begin.call }
-    ensures message { result.message ≡ begin.message }
-{
-    Begin {
-        call: begin.call,
-        client: String::new(alloc),
-        message: begin.message,
     }
 }

@@ -11,15 +11,15 @@ use Rattle.kmipa_check.proofs.reading.response_in.Goals as goal
 
 pub returns-in_default : goal.returns-in_default
 returns-in_default c =
-    let fits : SFits w32 c.args.end.now.call = search rules in
-    nothing_said (λ t. ResponseFault t (request_of c.args.request.now)) Server _ c.args.end.now.call c.deref.result.now c.args.end.now.message.items c.not_a_message.result c.not_a_message.ensures
-    (to_z-of_z w32 c.args.end.now.call fits) c.deref.ensures.value c.in_default.ensures
+    let fits : SFits w32 c.args.call = search rules in
+    nothing_said (λ t. ResponseFault t (request_of c.args.request.now)) Server _ c.args.call c.args.message.now c.args.message.now c.not_a_message.result c.not_a_message.ensures
+    (to_z-of_z w32 c.args.call fits) refl c.in_default.ensures
 
 pub returns-in-Err-Outside : goal.returns-in-Err-Outside
 returns-in-Err-Outside c =
-    let fits : SFits w32 c.args.end.now.call = search rules in (
-      to_z-of_z w32 c.args.end.now.call fits,
+    let fits : SFits w32 c.args.call = search rules in (
+      to_z-of_z w32 c.args.call fits,
       refl,
-      wrong_said response_of (SaysResponse (view_tree c.in-Some.view) (request_of c.args.request.now)) (λ t. ResponseFault t (request_of c.args.request.now)) c.deref.result.now c.args.end.now.message.items c.in-Some.view
-          c.in-Err-Outside.field-0 c.in-Err-Outside.outside c.deref.ensures.value c.in-Some.ensures c.in-Err-Outside.field-0-is c.in-Err-Outside.ensures,
+      wrong_said response_of (SaysResponse (view_tree c.in-Some.view) (request_of c.args.request.now)) (λ t. ResponseFault t (request_of c.args.request.now)) c.args.message.now c.args.message.now c.in-Some.view
+          c.in-Err-Outside.field-0 c.in-Err-Outside.outside refl c.in-Some.ensures c.in-Err-Outside.field-0-is c.in-Err-Outside.ensures,
     )

@@ -3,7 +3,6 @@ use mir.Val.{SFits, to_z, of_z}
 use mir.Syntax.{w32}
 use Rattle.std.proofs.lemmas.Int.{to_z-of_z}
 use Rattle.kmipa_record.specs.NumberMaps.{value_at}
-use Rattle.kmipa_record.specs.declared.transcript.End.{End}
 use Rattle.kmipa_stream.specs.Seeing.{HoldsSo, released}
 use Rattle.kmipa_stream.specs.declared.seen.SeenCall.{SeenCall}
 use Rattle.kmipa_stream.specs.declared.seen.Held.{Held}
@@ -26,15 +25,12 @@ returns-clause-seen c = λ marks are r.
     let number = known_number marks old place z c.args.end.call are known go.0 in
     let fits : SFits w32 c.in-Some-release.call.number = search rules in
     let same = to_z-of_z w32 c.in-Some-release.call.number fits in
-    let box = c.in_ok-new.field-0 in
-    let its : box.value ≡ c.args.end = c.in_ok-new.ensures.ok in
-    let s : SeenCall = record { number = to_z w32 (of_z w32 c.in-Some-release.call.number); begin = z.begin; end = Some middle.count; held = Whole c.in-Open.asked box } in
+    let s : SeenCall = record { number = to_z w32 (of_z w32 c.in-Some-release.call.number); begin = z.begin; end = Some middle.count; held = Whole c.in-Open.asked c.args.end.message } in
     let are' = seen_let_go marks old middle place z go.0 go.1 go.2 go.3 are in
     let there = let_go_there old middle place z go.0 go.1 in
-    let both = ended_here marks z s c.args.end.call c.args.end.message.items c.in-Open.asked box.value i h.0 number same refl (ap Some are'.count) (ap (λ (x : End). x.message.items) its)
-    (ap (λ (x : End). x.call) its) in
+    let both = ended_here marks z s c.args.end.call c.in-Open.asked.items c.args.end.message.items h.0 number same refl (ap Some are'.count) in
     seen_end marks middle _ place (released z) s c.args.end.call c.args.end.message.items are' there known' refl refl (c.in-Some.ensures.1 ∙ ap (λ (n : ℕ). n + 1) (sym go.3)) same refl
-    (seen_whole _ s c.in-Open.asked box.value both.0 both.1 both)
+    (seen_whole _ s c.in-Open.asked.items c.args.end.message.items both.0 both.1 both)
 
 pub returns-clause-kept : goal.returns-clause-kept
 returns-clause-kept c =
