@@ -9,11 +9,11 @@ use Rattle.kmipa_check.specs.declared.call.Call.{Call}
 use Rattle.kmipa_search.specs.Guessing.{AreAllRecorded, AreSoundMarks}
 use Rattle.kmipa_search.specs.OpenDescents.{Descends, IsBack, IsFresh, IsStep, IsTaken}
 use Rattle.kmipa_search.specs.declared.guessing.Taken.{Taken}
-use Rattle.kmipa_search.specs.declared.open.descent.Descent.{Descent}
+use Rattle.kmipa_search.specs.declared.open.descent.OpenDescent.{OpenDescent}
 use Rattle.kmipa_search.proofs.PermutationLemmas.{contains_mapped}
 
 -- nothing was tried over a sound ledger
-pub descends_fresh : (d : Descent) (u : LedgerState) → IsFresh d → IsSound u.now → Descends d u
+pub descends_fresh : (d : OpenDescent) (u : LedgerState) → IsFresh d → IsSound u.now → Descends d u
 descends_fresh d u fresh sound =
     let none : length d.path.items ≡ 0 = ap length fresh.1 in
     let no_turns : length d.turns.items ≡ 0 = ap length fresh.2 in
@@ -26,9 +26,9 @@ descends_fresh d u fresh sound =
       turned = no_turns ∙ sym none;
     }
 
-module _ (d : Descent) (u : LedgerState) (g : Descends d u) where
+module _ (d : OpenDescent) (u : LedgerState) (g : Descends d u) where
   -- one step more was made, and a call was taken after a new mark
-  pub descends_taken : (m e : Descent) (taken : Taken) (v : LedgerState) → m.steps ≡ d.steps + 1 → length m.path.items ≡ length d.path.items
+  pub descends_taken : (m e : OpenDescent) (taken : Taken) (v : LedgerState) → m.steps ≡ d.steps + 1 → length m.path.items ≡ length d.path.items
       → length m.turns.items ≡ length d.turns.items → IsTaken m taken e → IsSound v.now → v.marks ≡ u.now ∷ u.marks → taken.depth ≡ length v.marks
       → IsStep d e v
   descends_taken m e taken v steps path turns is sound marks deep =
@@ -47,7 +47,7 @@ module _ (d : Descent) (u : LedgerState) (g : Descends d u) where
       )
 
   -- one step more was made, and nothing else is changed
-  pub descends_refused : (m : Descent) (v : LedgerState) → m.steps ≡ d.steps + 1 → m.path.items ≡ d.path.items → m.turns.items ≡ d.turns.items
+  pub descends_refused : (m : OpenDescent) (v : LedgerState) → m.steps ≡ d.steps + 1 → m.path.items ≡ d.path.items → m.turns.items ≡ d.turns.items
       → m.depth ≡ d.depth → v ≡ u → IsStep d m v
   descends_refused m v steps path turns depth is =
       let long : length m.path.items ≡ length d.path.items = ap length path in
@@ -65,7 +65,7 @@ module _ (d : Descent) (u : LedgerState) (g : Descends d u) where
       )
 
   -- the last call was given back
-  pub descends_back : (e : Descent) (v : LedgerState) → length d.path.items ≡ suc (length e.path.items) → length e.turns.items + 1 ≡ length d.turns.items
+  pub descends_back : (e : OpenDescent) (v : LedgerState) → length d.path.items ≡ suc (length e.path.items) → length e.turns.items + 1 ≡ length d.turns.items
       → e.depth ≡ d.depth - 1 → e.steps ≡ d.steps → v ≡ gone_back u → IsBack d e v true
   descends_back e v long less depth steps back = (
     (let N : ℕ → Type 0 = λ n. AreSoundMarks n u.marks in by u.marks refl (subst N long g.after)),

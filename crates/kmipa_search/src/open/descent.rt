@@ -31,7 +31,7 @@ struct Visit<'b> {
 
 /// A search on its way.
 #[derive(Drop)]
-struct Descent<'b> {
+struct OpenDescent<'b> {
     standing: Standing,
     ends: Ends,
     /// So many objects were there when it began.
@@ -61,11 +61,11 @@ pub fn find_turns<'b, 'a, L: Ledger, W: Watch>(
     requires recorded { AreAllRecorded tables.now.calls.now }
     ensures { IfOk result (IsBounded budget) }
 {
-    let mut descent = Descent::new(alloc, tables, ledger.len())?;
+    let mut descent = OpenDescent::new(alloc, tables, ledger.len())?;
     descent.search(alloc, ledger, rules, tables, budget, watch)
 }
 
-impl<'b> Descent<'b> {
+impl<'b> OpenDescent<'b> {
     ghost use Rattle.std.specs.Prelude.{◌≡◌, ◌<◌, ◌≤◌};
     ghost use Rattle.kmipa_search.specs.OpenDescents.{Descends, IsBack, IsFresh, IsStep, IsTaken};
 
@@ -74,10 +74,10 @@ impl<'b> Descent<'b> {
         alloc: Global,
         tables: &Tables<'b, 'a>,
         objects: usize,
-    ) -> Result<Descent<'b>, AllocError>
+    ) -> Result<OpenDescent<'b>, AllocError>
         ensures { IfOk result IsFresh }
     {
-        Ok(Descent {
+        Ok(OpenDescent {
             standing: Standing::new(alloc, tables)?,
             ends: Ends::new(alloc),
             front: Some(objects),

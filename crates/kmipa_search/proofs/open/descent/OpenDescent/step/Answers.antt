@@ -2,7 +2,7 @@ use Rattle.std.proofs.Common.{◌≡◌, ◌+◌, refl, subst, Some, Ok, Option}
 use Rattle.kmipa_search.specs.Guessing.{GuessTried}
 use Rattle.kmipa_search.specs.declared.guessing.Taken.{Taken}
 use Rattle.kmipa_search.proofs.DescentLemmas.{descends_taken}
-use Rattle.kmipa_search.proofs.open.descent.Descent.step.Goals as goal
+use Rattle.kmipa_search.proofs.open.descent.OpenDescent.step.Goals as goal
 
 pub returns : goal.returns
 returns g c =

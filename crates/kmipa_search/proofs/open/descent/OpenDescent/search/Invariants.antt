@@ -1,6 +1,6 @@
 use Rattle.std.proofs.Common.{◌≤◌, ◌+◌, ◌-◌, ◌*◌, length}
 use Rattle.kmipa_search.specs.OpenDescents.{Descends}
-use Rattle.kmipa_search.proofs.open.descent.Descent.search.Given as goal
+use Rattle.kmipa_search.proofs.open.descent.OpenDescent.search.Given as goal
 
 abbrev pub invariant-tries : goal.invariant-tries
 invariant-tries g l = record {

@@ -1,10 +1,10 @@
 use Rattle.std.proofs.Common.{◌≡◌, ◌<◌, ◌+◌, ◌-◌, [], ◌∷◌, length, suc, ap, refl, arith, rules}
 use Rattle.std.specs.Prelude.{vec_len}
 use Rattle.std.proofs.lemmas.List.{length-append}
-use Rattle.kmipa_search.specs.declared.open.descent.Descent.{Descent}
+use Rattle.kmipa_search.specs.declared.open.descent.OpenDescent.{OpenDescent}
 use Rattle.kmipa_search.proofs.GuessLemmas.{some_marks}
 use Rattle.kmipa_search.proofs.DescentLemmas.{descends_back}
-use Rattle.kmipa_search.proofs.open.descent.Descent.go_back.Goals as goal
+use Rattle.kmipa_search.proofs.open.descent.OpenDescent.go_back.Goals as goal
 
 pub returns : goal.returns
 returns g c =
@@ -13,7 +13,7 @@ returns g c =
     let old : length d.turns.items ≡ vec_len d.turns = search rules in
     let new : length c.truncate.new.self.items ≡ vec_len c.truncate.new.self = search rules in
     let less : length c.truncate.new.self.items + 1 ≡ length d.turns.items = omega (arith, c.truncate.ensures.len, c.requires.turned, long, old, new) in
-    let e : Descent = record {
+    let e : OpenDescent = record {
       standing = c.give_back.new.self;
       ends = c.note.new.self;
       front = d.front;
