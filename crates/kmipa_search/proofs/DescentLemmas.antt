@@ -1,5 +1,5 @@
 -- What a search keeps that takes calls without an end mark.
-use Rattle.std.proofs.Common.{◌≡◌, ◌<◌, ◌≤◌, ℕ, suc, ◌+◌, ◌-◌, List, [], ◌∷◌, map, length, All, true, refl, sym, ap, ◌∙◌, subst, arith}
+use Rattle.std.proofs.Common.{◌≡◌, ℕ, suc, ◌+◌, ◌-◌, List, [], ◌∷◌, map, length, All, true, refl, sym, ap, ◌∙◌, subst, arith}
 use Rattle.std.proofs.lemmas.List.Elements.{All-contains}
 use Rattle.kmipa_store.specs.Ledger.{Meaning, LedgerState, gone_back, back_from}
 use Rattle.kmipa_store.specs.Choices.{IsSound}

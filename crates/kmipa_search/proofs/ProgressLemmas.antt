@@ -11,7 +11,7 @@ use Rattle.kmipa_msgs.specs.Messages.{RulesOf}
 use Rattle.kmipa_batch.specs.Refusals.{CallExplainsAlong, CallRefutedAlong}
 use Rattle.kmipa_check.specs.Steps.{StepOf, order_of}
 use Rattle.kmipa_check.specs.Runs.{rules_declared}
-use Rattle.kmipa_search.specs.Progress.{step_at, so_far, ordered, places, AreBegun, AreCursors, AreSoundBehind, CanBeTaken, Searching, Opens, CallTried, ComesTo}
+use Rattle.kmipa_search.specs.Progress.{step_at, so_far, ordered, places, AreBegun, AreSoundBehind, CanBeTaken, Searching, Opens, CallTried, ComesTo}
 use Rattle.kmipa_search.specs.Descents.{Progress}
 use Rattle.kmipa_search.specs.Idle.{IsIdleStep}
 use Rattle.kmipa_search.specs.Tries.{IsPick, IsPicked, IsBehind, none_tried}

@@ -1,4 +1,4 @@
-use Rattle.std.proofs.Common.{◌≡◌, ◌+◌, refl, subst, Some, Ok, Option}
+use Rattle.std.proofs.Common.{◌+◌, refl, subst, Some, Ok, Option}
 use Rattle.kmipa_search.specs.Guessing.{GuessTried}
 use Rattle.kmipa_search.specs.declared.guessing.Taken.{Taken}
 use Rattle.kmipa_search.proofs.DescentLemmas.{descends_taken}
