@@ -6,6 +6,9 @@ use Rattle.kmipa_search.proofs.GuessLemmas.{some_marks}
 use Rattle.kmipa_search.proofs.DescentLemmas.{descends_back}
 use Rattle.kmipa_search.proofs.open.descent.OpenDescent.go_back.Goals as goal
 
+pub back-requires : goal.back-requires
+back-requires g c = c.requires.deep (omega (arith, ap length c.in-Some.ensures.items, length-append c.pop.new.self.items (c.in-Some.visit ∷ [])))
+
 pub returns : goal.returns
 returns g c =
     let d = c.args.self.now in
