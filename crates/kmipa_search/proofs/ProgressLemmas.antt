@@ -11,7 +11,8 @@ use Rattle.kmipa_msgs.specs.Messages.{RulesOf}
 use Rattle.kmipa_batch.specs.Refusals.{CallExplainsAlong, CallRefutedAlong}
 use Rattle.kmipa_check.specs.Steps.{StepOf, order_of}
 use Rattle.kmipa_check.specs.Runs.{rules_declared}
-use Rattle.kmipa_search.specs.Progress.{step_at, so_far, ordered, places, AreBegun, AreCursors, AreSoundBehind, CanBeTaken, Searching, Opens, CallTried, ComesTo}
+use Rattle.kmipa_search.specs.Progress.{step_at, so_far, ordered, places, AreBegun, AreSoundBehind, CanBeTaken, Searching, Opens, CallTried, ComesTo}
+use Rattle.kmipa_search.specs.Descents.{Progress}
 use Rattle.kmipa_search.specs.Idle.{IsIdleStep}
 use Rattle.kmipa_search.specs.Tries.{IsPick, IsPicked, IsBehind, none_tried}
 use Rattle.kmipa_search.specs.declared.tried.Tried.{Tried}
@@ -28,18 +29,6 @@ pub so_far_ordered : (calls : List StepOf) (taken : List ℕ) → so_far calls t
 so_far_ordered calls [] = refl
 so_far_ordered calls (p ∷ taken) =
     ap (λ (xs : List StepOf). xs ++ step_at calls p ∷ []) (so_far_ordered calls taken) ∙ sym (map-append (λ q. step_at calls q) (reverse taken) (p ∷ [])) ∙ ap (ordered calls) (sym (reverse_onto taken p []))
-
--- What the loop keeps. Where the calls begin in their order, those that are not taken remain, and the tries go on after a next call.
-pub record Progress (rules : RulesOf) (calls : List StepOf) (wishes : List ℕ) (budget : ℕ) (first : Meaning) (w : Remaining) (visits : List Visit) (t : Tried) (depth steps : ℕ) (u : LedgerState) : Type 0 where
-  pub searching : (declared : DeclarationOf) → Opens declared rules calls first → Searching declared calls wishes visits t steps u.now u.marks
-  pub sound : IsSound u.now
-  pub after : AreSoundBehind (places visits) u.marks
-  pub remaining : AreBegun calls → AreRemaining calls (places visits) w
-  pub cursor : AreBegun calls → IsCursor calls (places visits) t.from
-  pub cursors : AreBegun calls → AreCursors calls visits
-  pub within : (p : ℕ) → Contains (places visits) p → p < length calls
-  pub deep : 0 < length visits → depth ≡ length u.marks
-  pub few : steps ≤ budget
 
 module _ (rules : RulesOf) (calls : List StepOf) (wishes : List ℕ) (ranks : AreWishes wishes (length calls)) (budget : ℕ) (first : Meaning) where
   pub progress_begin : (w : Remaining) (depth : ℕ) (u : LedgerState) → u.now ≡ first → IsSound u.now → AreRemaining calls [] w → Progress rules calls wishes budget first w [] none_tried depth 0 u
@@ -170,6 +159,12 @@ popped {X = X} xs ys x is = ap reverse is ∙ reverse-append ys (x ∷ [])
 pub no_elements : {X : Type 0} (xs : List X) → length xs ≡ 0 → xs ≡ []
 no_elements [] e = refl
 no_elements (x ∷ xs) e = absurd (omega (arith, e))
+
+-- where a call is taken, there is a mark
+pub some_behind : (taken : List ℕ) (marks : List Meaning) → 0 < length taken → AreSoundBehind taken marks → 0 < length marks
+some_behind [] marks some h = absurd (omega (arith, some))
+some_behind (p ∷ taken) [] some h = absurd h
+some_behind (p ∷ taken) (m ∷ marks) some h = omega arith
 
 -- the places taken, in the order of time
 pub within_reversed : (count : ℕ) (places : List ℕ) → ((p : ℕ) → Contains (reverse places) p → p < count) → All (λ p. p < count) places

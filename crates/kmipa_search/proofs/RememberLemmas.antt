@@ -9,6 +9,7 @@ use Rattle.kmipa_check.specs.Steps.{StepOf}
 use Rattle.kmipa_check.specs.Verdicts.{AreKnown}
 use Rattle.kmipa_search.specs.Progress.{so_far, AreBegun, AreNext, IsDead, Opens, Searching, places}
 use Rattle.kmipa_search.specs.Cursors.{IsCursor}
+use Rattle.kmipa_search.specs.Descents.{Progress}
 use Rattle.kmipa_search.specs.Tries.{IsPicked, closed, none_tried, all_tried}
 use Rattle.kmipa_search.specs.Ends.{stills, stills_shared, AreAlike, AreFlagged, AreSame, IsEndLike, IsSetOf, IsArrival, IsNoted, Remembers}
 use Rattle.kmipa_search.specs.Settled.{IsFront}
@@ -24,7 +25,6 @@ use Rattle.kmipa_search.proofs.FrontLemmas.{same_stills}
 use Rattle.kmipa_search.proofs.StillLemmas.{alike_between}
 use Rattle.kmipa_search.proofs.IdleLemmas.{dead_more}
 use Rattle.kmipa_search.proofs.PermutationLemmas.{once_pairs}
-use Rattle.kmipa_search.proofs.ProgressLemmas.{Progress}
 use Rattle.kmipa_search.proofs.SearchLemmas.{knows_now, search_ends}
 use Rattle.kmipa_search.proofs.WeightLemmas.{owed_closed}
 

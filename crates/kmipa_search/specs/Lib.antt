@@ -15,6 +15,8 @@ pub mod Remaining
 pub mod Reached
 pub mod Reaching
 pub mod Guessing
+pub mod OpenDescents
+pub mod Descents
 pub mod Tries
 pub mod Wished
 pub mod Idle

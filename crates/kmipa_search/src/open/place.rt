@@ -56,21 +56,15 @@ impl<'b> Place<'b> {
         }
     }
 
-    /// The place behind a call that was taken. Where it is known that it leads to nothing, nothing is tried there.
-    pub fn behind(alloc: Global, attempt: Attempt, tried: Tried) -> Place<'b> {
+    /// The place behind a call that was taken.
+    pub fn behind(alloc: Global, attempt: Attempt) -> Place<'b> {
         let is_behind_open = match attempt.what {
             What::Ended(_) => false,
             What::Open(_, _) => true,
         };
-        let stage = if tried.closed {
-            Stage::Closed
-        } else {
-            Stage::Fresh
-        };
         Place {
             last: attempt.stamp,
             is_behind_open,
-            stage,
             ..Place::first(alloc)
         }
     }
@@ -153,6 +147,13 @@ impl<'b> Place<'b> {
             What::Ended(_) => true,
             What::Open(_, _) => self.was_possible,
         };
+    }
+
+    /// Where it is known that it leads to nothing, nothing is tried here.
+    pub fn arrive(&mut self, tried: Tried) {
+        if tried.closed {
+            self.stage = Stage::Closed;
+        }
     }
 
     /// A call without effect was possible here: whatever run there is, there is one in which it comes first.

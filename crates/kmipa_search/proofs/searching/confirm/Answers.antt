@@ -1,4 +1,3 @@
-use Rattle.std.proofs.Common.{map}
 use Rattle.kmipa_record.specs.Declarations.{declaration_of}
 use Rattle.kmipa_record.specs.Witnesses.{witness_of}
 use Rattle.kmipa_search.proofs.AnswerLemmas.{not_refused, reported_memory}
