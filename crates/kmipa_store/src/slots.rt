@@ -90,6 +90,7 @@ impl Slots {
             self.by_hash.insert((id_hash(id), place))?;
             return Ok(());
         }
+        // a place that four bytes can't hold finds no room
         let Ok(short) = u32::try_from(place) else {
             return Err(StoreFault::Memory);
         };
