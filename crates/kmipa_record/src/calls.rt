@@ -37,6 +37,7 @@ impl Calls {
     }
 
     /// Takes a mark, or says what is wrong with it.
+    #[inline(always)]
     pub fn take(&mut self, mark: &Mark) -> Result<(), RecordKind>
         ensures { MatchResult result (λ _. Takes self.old self.new (mark_of mark.now))
             (Refuses self.old (mark_of mark.now)) }

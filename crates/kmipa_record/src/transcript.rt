@@ -52,6 +52,7 @@ impl Record for Mark {
 
     ghost is_record = { λ item. (mark : MarkOf) × (item ≡ mark_item mark) };
 
+    #[inline(always)]
     fn of(alloc: Global, item: &View) -> Result<Option<Mark>, AllocError> {
         if let Some(children) = children_of(item, BEGIN_MARK) {
             return match begin_in(alloc, children)? {

@@ -41,6 +41,7 @@ pub fn item_count(children: Children) -> usize
 }
 
 /// Whether the Protocol Version in a header is 2.1.
+#[inline(always)]
 pub fn is_version(header: Children) -> bool
     ensures { result ≡ is_version (view_trees header.entry) }
 {
