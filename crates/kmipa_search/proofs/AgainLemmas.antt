@@ -98,9 +98,9 @@ settled_dead declared calls first taken others m apart opened settled nexts othe
     to_taken : (s : StepOf) → Contains (so_far calls others) s → Contains (so_far calls taken) s
     to_taken s has = let q = place_taken calls others s other_nexts has in call_taken calls taken q.0 s (same.back q.0 q.1) q.2
 
-    again : (start V : List Thing) → Describes declared start → Linked (rules_declared declared) start (so_far calls others) V
-        → (from : List Thing) × Describes declared from × Linked (rules_declared declared) from (so_far calls taken) V
-    again start V described linked =
+    again : (start V X : List Thing) (rest : List StepOf) → Describes declared start → Linked (rules_declared declared) start (so_far calls others) V → Linked (rules_declared declared) V rest X
+        → (from U Y : List Thing) × Describes declared from × Linked (rules_declared declared) from (so_far calls taken) U × Linked (rules_declared declared) U rest Y
+    again start V X rest described linked behind =
         let rules = rules_declared declared in
         let s = known.sound sound.choice.0 sound.choice.1 in
         let W = inv sound.choice.0 m.objects in
@@ -118,4 +118,4 @@ settled_dead declared calls first taken others m apart opened settled nexts othe
         (one_target calls settled.apart taken nexts) u.2 v.2 in
         v.1 ∙ ap Some (sym one ∙ own)) in
         let Q : List Thing → Type 0 = λ X. Linked (rules_declared declared) start (so_far calls taken) X in
-        (start, described, subst Q e mine)
+        (start, V, X, described, subst Q e mine, behind)

@@ -1,17 +1,18 @@
 -- Equal is equal, and what a search remembers.
-use Rattle.std.proofs.Common.{◌≡◌, ◌≢◌, ◌⊎◌, inl, inr, ◌==◌, ℕ, zero, suc, ◌≤ℤ◌, Bool, true, false, List, [], ◌∷◌, ◌++◌, map, Option, Some, None, slice_get, Contains, refl, sym, ap, ◌∙◌, subst, arith, rules}
-use Rattle.std.specs.Prelude.{AllPairs, option_map, unwrap_or}
+use Rattle.std.proofs.Common.{◌≡◌, ◌≢◌, ◌<◌, ◌≤◌, ◌⊎◌, inl, inr, ◌==◌, ℕ, zero, suc, ◌≤ℤ◌, Bool, true, false, List, [], ◌∷◌, ◌++◌, Option, Some, None, slice_get, Contains, refl, sym, ap, ◌∙◌, subst, arith, rules}
+use Rattle.std.specs.Prelude.{AllPairs, IsPermutation, option_map, unwrap_or}
 use Rattle.std.proofs.lemmas.List.{length-append}
 use Rattle.std.proofs.lemmas.List.Elements.{Contains-append_cases, Contains-append_left, Contains-append_right}
-use Rattle.std.proofs.lemmas.List.Sorted.{Contains-permutation, length_permutation}
-use Rattle.kmipa_object.specs.Inventory.{Thing, rule_of}
+use Rattle.std.proofs.lemmas.List.Sorted.{Contains-permutation, IsPermutation-sym, length_permutation}
+use Rattle.kmipa_object.specs.Inventory.{Card, Thing, live, rule_of}
 use Rattle.kmipa_object.specs.declared.life.Material.{Material}
 use Rattle.kmipa_object.specs.declared.life.Material.TheVariants.{Gone, Secret}
 use Rattle.kmipa_object.specs.declared.life.SecretNo.{SecretNo}
 use Rattle.kmipa_object.specs.declared.rule.Rule.{Rule}
 use Rattle.kmipa_store.specs.Ledger.{Held, Known, Meaning, bytes_at}
-use Rattle.kmipa_store.specs.Choices.{Choice, Chooses, Suits, IsSound, inv}
-use Rattle.kmipa_store.proofs.InventoryLemmas.{inv-agrees}
+use Rattle.kmipa_store.specs.Choices.{Choice, Chooses, GoneIfDestroyed, Suits, IsSound, bytes_of, inv, thing}
+use Rattle.kmipa_store.proofs.SoundLemmas.{inventory_of}
+use Rattle.kmipa_ops.specs.Ascending.{SecretsAscend}
 use Rattle.kmipa_check.specs.Steps.{StepOf}
 use Rattle.kmipa_check.specs.Left.{bytes_left}
 use Rattle.kmipa_record.specs.Declarations.{DeclarationOf}
@@ -20,11 +21,14 @@ use Rattle.kmipa_check.specs.Runs.{Before, Linked, rules_declared}
 use Rattle.kmipa_check.proofs.RunLemmas.{linked_join, linked_split}
 use Rattle.kmipa_search.specs.Progress.{so_far, TakesAll, IsDead, AreNext}
 use Rattle.kmipa_search.specs.Ends.{StillOf, AreSame, still, stills, EqualIsEqual}
-use Rattle.kmipa_search.proofs.ElementLemmas.{get_at}
+use Rattle.kmipa_search.proofs.ElementLemmas.{at_contains, contains_at, get_at, mapped_from}
+use Rattle.kmipa_search.proofs.LinksLemmas.{same_or}
 use Rattle.kmipa_search.proofs.PermutationLemmas.{once_pairs, permuted}
+use Rattle.kmipa_search.proofs.PickLemmas.{lower}
 use Rattle.kmipa_search.proofs.PlaceLemmas.{one_cases, has_head}
 use Rattle.kmipa_search.proofs.NextLemmas.{length_so_far, place_taken, call_taken, placed_so_far}
 use Rattle.kmipa_search.proofs.IdleLemmas.{Pairwise, pairwise, all_pairs}
+use Rattle.kmipa_search.proofs.ShuffleLemmas.{Shuffled, linked_shuffled}
 
 -- ---- ledgers whose objects stand alike
 
@@ -73,71 +77,174 @@ known_with rule bytes = record { rule = rule; bytes = bytes }
 told_at : (ss : List Known) (n : ℕ) (k : Known) → slice_get ss n ≡ Some k → unwrap_or (bytes_at ss n) None ≡ k.bytes
 told_at ss n k at = ap (λ (o : Option Known). unwrap_or (option_map (λ (x : Known). x.bytes) o) None) at
 
-held_stills : (secrets : List Known) (objects : List Held) → map (λ (s : StillOf). s.held) (map (still secrets) objects) ≡ objects
-held_stills secrets [] = refl
-held_stills secrets (h ∷ objects) = ap (λ (hs : List Held). h ∷ hs) (held_stills secrets objects)
+-- of two objects that are both destroyed or both live, the one has a secret where the other has
+gone_too : (alive : Bool) (a b : Material) → GoneIfDestroyed alive a → GoneIfDestroyed alive b → a ≡ Gone → b ≡ Gone
+gone_too true Gone b h k is = absurd h
+gone_too false a Gone h k is = refl
+gone_too false a (Secret t) h k is = absurd k
+gone_too true (Secret s) b h k is = let clash : Secret s ≡ Gone = is in absurd cc
 
-module _ (m n : Meaning) (sound : IsSound m) (other : IsSound n) (same : stills m ≡ stills n) where
-  same_objects : m.objects ≡ n.objects
-  same_objects = sym (held_stills m.secrets m.objects) ∙ ap (λ (ss : List StillOf). map (λ (s : StillOf). s.held) ss) same ∙ held_stills n.secrets n.objects
+secret_too : (alive : Bool) (a b : Material) (s : SecretNo) → GoneIfDestroyed alive a → GoneIfDestroyed alive b → a ≡ Secret s → (t : SecretNo) × (b ≡ Secret t)
+secret_too true a (Secret t) s h k is = (t, refl)
+secret_too true a Gone s h k is = absurd k
+secret_too false Gone b s h k is = let clash : Gone ≡ Secret s = is in absurd cc
+secret_too false (Secret u) b s h k is = absurd h
 
-  at_other : (place : ℕ) (h : Held) → slice_get m.objects place ≡ Some h → slice_get n.objects place ≡ Some h
-  at_other place h at = let P : List Held → Type 0 = λ hs. slice_get hs place ≡ Some h in subst P same_objects at
+module _ (m n : Meaning) (sound : IsSound m) (other : IsSound n) (ascends : SecretsAscend m.objects) (same : IsPermutation (stills m) (stills n)) where
+  -- an object of the other ledger stands as this one does
+  record Counterpart (h : Held) : Type 0 where
+    place : ℕ
+    held : Held
+    stands : slice_get n.objects place ≡ Some held
+    alike : still m.secrets h ≡ still n.secrets held
 
-  same_known : (place : ℕ) (h : Held) → slice_get m.objects place ≡ Some h → bytes_left m.secrets h.material ≡ bytes_left n.secrets h.material
-  same_known place h at =
-      let a : slice_get (stills m) place ≡ Some (still m.secrets h) = get_at (still m.secrets) m.objects place h at in
-      let b : slice_get (stills n) place ≡ Some (still n.secrets h) = get_at (still n.secrets) n.objects place h (at_other place h at) in
-      let e : Some (still m.secrets h) ≡ Some (still n.secrets h) = sym a ∙ ap (λ (ss : List StillOf). slice_get ss place) same ∙ b in
-      let f : still m.secrets h ≡ still n.secrets h = cc in
-      ap (λ (s : StillOf). s.bytes) f
+  counterpart : (place : ℕ) (h : Held) → slice_get m.objects place ≡ Some h → Counterpart h
+  counterpart place h at =
+      let i = at_contains (stills n) (still m.secrets h) (Contains-permutation (stills m) (stills n) (still m.secrets h) same (contains_at (stills m) place (still m.secrets h) (get_at (still m.secrets) m.objects place h at))) in
+      let g = mapped_from (still n.secrets) n.objects i.0 (still m.secrets h) i.1 in
+      record { place = i.0; held = g.0; stands = g.1; alike = sym g.2 }
+
+  -- there is but one
+  one_counterpart : (h : Held) (a b : Counterpart h) → a.held ≡ b.held
+  one_counterpart h a b =
+      let cards : a.held.card ≡ b.held.card = ap (λ (s : StillOf). s.card) (sym a.alike ∙ b.alike) in
+      let places : a.place ≡ b.place = other.distinct a.place b.place a.held b.held a.stands b.stands (ap (λ (c : Card). c.id) cards) in
+      let both : Some a.held ≡ Some b.held = sym a.stands ∙ ap (slice_get n.objects) places ∙ b.stands in
+      cc
+
+  -- and no two objects have one secret
+  one_bearer : (a b : ℕ) (g h : Held) (s t : SecretNo) → slice_get m.objects a ≡ Some g → slice_get m.objects b ≡ Some h → g.material ≡ Secret s → h.material ≡ Secret t → s.number ≡ t.number → g ≡ h
+  one_bearer a b g h s t at there is its e = by (lower b a) (same_or a b)
+    where
+      by : (a < b) ⊎ (b ≤ a) → (a ≡ b) ⊎ (a ≢ b) → g ≡ h
+      by l (inl p) = let both : Some g ≡ Some h = sym at ∙ ap (slice_get m.objects) p ∙ there in cc
+      by (inl below) (inr d) = absurd (let w = ascends.ascend a b g h s t below at there is its in omega (arith, w, e))
+      by (inr past) (inr d) = absurd (let w = ascends.ascend b a h g t s (omega (arith, past, d)) there at its is in omega (arith, w, e))
+
+  gone_of : (place : ℕ) (h : Held) (c : Counterpart h) → slice_get m.objects place ≡ Some h → GoneIfDestroyed (live c.held.card) h.material × GoneIfDestroyed (live c.held.card) c.held.material
+  gone_of place h c at =
+      let P : Card → Type 0 = λ x. GoneIfDestroyed (live x) h.material in
+      (subst P (ap (λ (s : StillOf). s.card) c.alike) (sound.gone place h at), other.gone c.place c.held c.stands)
 
   module _ (c : Choice) (chooses : Chooses n.secrets c) where
-    -- the bytes of a secret that an object has are those of the other choice
+    -- the bytes of a secret that an object has are those that its counterpart has
     record Picked (number : ℕ) : Type 0 where
       bytes : List ℕ
-      borne : Bears m.objects number → bytes ≡ c number
+      borne : (place : ℕ) (h : Held) (s : SecretNo) → slice_get m.objects place ≡ Some h → h.material ≡ Secret s → s.number ≡ number → (a : Counterpart h) (t : SecretNo) → a.held.material ≡ Secret t → bytes ≡ c t.number
       free : (Bears m.objects number → ⊥) → bytes ≡ sound.choice.0 number
 
     picked : (number : ℕ) → Picked number
     picked number = by (bears m.objects number)
       where
         by : Bears m.objects number ⊎ (Bears m.objects number → ⊥) → Picked number
-        by (inl b) = record { bytes = c number; borne = λ x. refl; free = λ none. absurd (none b) }
-        by (inr none) = record { bytes = sound.choice.0 number; borne = λ b. absurd (none b); free = λ x. refl }
+        by (inr none) = record {
+          bytes = sound.choice.0 number;
+          borne = λ place h s at is e a t its. absurd (none (record { place = place; bearer = h; secret = s; stands = at; material = is; is = e }));
+          free = λ x. refl;
+        }
+        by (inl b) = record {
+          bytes = c u.0.number;
+          borne = λ place h s at is e a t its. agree place h s at is e a t its;
+          free = λ none. absurd (none b);
+        }
+          where
+            own : Counterpart b.bearer
+            own = counterpart b.place b.bearer b.stands
 
-    borne_suits : (number : ℕ) (secret : Known) → slice_get m.secrets number ≡ Some secret → Bears m.objects number → Suits secret (c number)
+            u : (t : SecretNo) × (own.held.material ≡ Secret t)
+            u = let w = gone_of b.place b.bearer own b.stands in secret_too (live own.held.card) b.bearer.material own.held.material b.secret w.0 w.1 b.material
+
+            agree : (place : ℕ) (h : Held) (s : SecretNo) → slice_get m.objects place ≡ Some h → h.material ≡ Secret s → s.number ≡ number → (a : Counterpart h) (t : SecretNo) → a.held.material ≡ Secret t → c u.0.number ≡ c t.number
+            agree place h s at is e a t its =
+                let bearers : b.bearer ≡ h = one_bearer b.place place b.bearer h b.secret s b.stands at b.material is (b.is ∙ sym e) in
+                let Q : Held → Type 0 = λ x. (d : Counterpart x) → own.held ≡ d.held in
+                let mine : own.held ≡ a.held = subst Q bearers (one_counterpart b.bearer own) a in
+                let secrets : Secret u.0 ≡ Secret t = sym u.1 ∙ ap (λ (x : Held). x.material) mine ∙ its in
+                let one : u.0 ≡ t = cc in
+                ap (λ (x : SecretNo). c x.number) one
+
+    borne_suits : (number : ℕ) (secret : Known) → slice_get m.secrets number ≡ Some secret → (b : Bears m.objects number) → Suits secret (picked number).bytes
     borne_suits number secret at b =
+        let a = counterpart b.place b.bearer b.stands in
+        let w = gone_of b.place b.bearer a b.stands in
+        let t = secret_too (live a.held.card) b.bearer.material a.held.material b.secret w.0 w.1 b.material in
+        let cards : b.bearer.card ≡ a.held.card = ap (λ (s : StillOf). s.card) a.alike in
         let mine = sound.in_range.there b.place b.bearer b.secret b.stands b.material in
-        let its = other.in_range.there b.place b.bearer b.secret (at_other b.place b.bearer b.stands) b.material in
-        let e : unwrap_or (bytes_at m.secrets b.secret.number) None ≡ unwrap_or (bytes_at n.secrets b.secret.number) None
-        = ap (bytes_left m.secrets) (sym b.material) ∙ same_known b.place b.bearer b.stands ∙ ap (bytes_left n.secrets) b.material in
-        let known : mine.0 ≡ its.0 = sym (told_at m.secrets b.secret.number (record { rule = rule_of b.bearer.card; bytes = mine.0 }) mine.1) ∙ e ∙ told_at n.secrets b.secret.number (record { rule = rule_of b.bearer.card; bytes = its.0 }) its.1 in
-        let suits : Suits (record { rule = rule_of b.bearer.card; bytes = its.0 }) (c b.secret.number) = chooses.suits b.secret.number (record { rule = rule_of b.bearer.card; bytes = its.0 }) its.1 in
-        let Q : Option (List ℕ) → Type 0 = λ o. Suits (record { rule = rule_of b.bearer.card; bytes = o }) (c b.secret.number) in
-        let R : ℕ → Type 0 = λ i. slice_get m.secrets i ≡ Some (record { rule = rule_of b.bearer.card; bytes = mine.0 }) in
-        let here : slice_get m.secrets number ≡ Some (record { rule = rule_of b.bearer.card; bytes = mine.0 }) = subst R b.is mine.1 in
+        let its = other.in_range.there a.place a.held t.0 a.stands t.1 in
+        let e : unwrap_or (bytes_at m.secrets b.secret.number) None ≡ unwrap_or (bytes_at n.secrets t.0.number) None
+        = ap (bytes_left m.secrets) (sym b.material) ∙ ap (λ (s : StillOf). s.bytes) a.alike ∙ ap (bytes_left n.secrets) t.1 in
+        let known : mine.0 ≡ its.0 = sym (told_at m.secrets b.secret.number (record { rule = rule_of b.bearer.card; bytes = mine.0 }) mine.1) ∙ e ∙ told_at n.secrets t.0.number (record { rule = rule_of a.held.card; bytes = its.0 }) its.1 in
+        let suits : Suits (known_with (rule_of a.held.card) its.0) (c t.0.number) = chooses.suits t.0.number (known_with (rule_of a.held.card) its.0) its.1 in
+        let Q : Option (List ℕ) → Type 0 = λ o. Suits (known_with (rule_of a.held.card) o) (c t.0.number) in
+        let R : Card → Type 0 = λ x. Suits (known_with (rule_of x) mine.0) (c t.0.number) in
+        let S : List ℕ → Type 0 = λ v. Suits (known_with (rule_of b.bearer.card) mine.0) v in
+        let T : Known → Type 0 = λ k. Suits k (picked number).bytes in
+        let here : slice_get m.secrets number ≡ Some (known_with (rule_of b.bearer.card) mine.0) = ap (slice_get m.secrets) (sym b.is) ∙ mine.1 in
         let some : Some (known_with (rule_of b.bearer.card) mine.0) ≡ Some secret = sym here ∙ at in
         let one : known_with (rule_of b.bearer.card) mine.0 ≡ secret = cc in
-        let P : ℕ → Type 0 = λ i. Suits (known_with (rule_of b.bearer.card) mine.0) (c i) in
-        let S : Known → Type 0 = λ k. Suits k (c number) in
-        subst S one (subst P b.is (subst Q (sym known) suits))
+        subst T one (subst S (sym ((picked number).borne b.place b.bearer b.secret b.stands b.material b.is a t.0 t.1)) (subst R (sym cards) (subst Q (sym known) suits)))
 
     picked_suits : (number : ℕ) (secret : Known) → slice_get m.secrets number ≡ Some secret → Suits secret (picked number).bytes
     picked_suits number secret at = by (bears m.objects number)
       where
         by : Bears m.objects number ⊎ (Bears m.objects number → ⊥) → Suits secret (picked number).bytes
-        by (inl b) = let S : List ℕ → Type 0 = λ v. Suits secret v in subst S (sym ((picked number).borne b)) (borne_suits number secret at b)
+        by (inl b) = borne_suits number secret at b
         by (inr none) = let S : List ℕ → Type 0 = λ v. Suits secret v in subst S (sym ((picked number).free none)) (sound.choice.1.suits number secret at)
 
-    -- what one ledger stands for, the other does too
-    pub stands_too : (d : Choice) × Chooses m.secrets d × (inv d m.objects ≡ inv c n.objects)
+    abbrev chosen : Choice
+    chosen number = (picked number).bytes
+
+    -- under it an object has the bytes of its counterpart
+    same_bytes : (place : ℕ) (h : Held) (a : Counterpart h) → slice_get m.objects place ≡ Some h → (mine its : Material) → h.material ≡ mine → a.held.material ≡ its → bytes_of chosen mine ≡ bytes_of c its
+    same_bytes place h a at Gone Gone is e = refl
+    same_bytes place h a at (Secret s) (Secret t) is e = ap Some ((picked s.number).borne place h s at is refl a t e)
+    same_bytes place h a at Gone (Secret t) is e =
+        let w = gone_of place h a at in
+        let clash : Secret t ≡ Gone = sym e ∙ gone_too (live a.held.card) h.material a.held.material w.0 w.1 is in
+        absurd cc
+    same_bytes place h a at (Secret s) Gone is e =
+        let w = gone_of place h a at in
+        let t = secret_too (live a.held.card) h.material a.held.material s w.0 w.1 is in
+        let clash : Gone ≡ Secret t.0 = sym e ∙ t.1 in
+        absurd cc
+
+    same_thing : (place : ℕ) (h : Held) (a : Counterpart h) → slice_get m.objects place ≡ Some h → thing chosen h ≡ thing c a.held
+    same_thing place h a at =
+        let cards : h.card ≡ a.held.card = ap (λ (s : StillOf). s.card) a.alike in
+        let bytes : bytes_of chosen h.material ≡ bytes_of c a.held.material = same_bytes place h a at h.material a.held.material refl refl in
+        λ i. record { card = cards i; bytes = bytes i }
+
+    -- what one ledger stands for, the other does too, in another order
+    pub stands_too : (d : Choice) × Chooses m.secrets d × Shuffled (inv c n.objects) (inv d m.objects)
     stands_too = (
-      (λ number. (picked number).bytes),
+      chosen,
       record { suits = picked_suits },
-      inv-agrees c (λ number. (picked number).bytes) m.objects
-          (λ place h secret at material. (picked secret.number).borne (record { place = place; bearer = h; secret = secret; stands = at; material = material; is = refl })) ∙ ap (inv c) same_objects,
+      record {
+        each = each;
+        back = back;
+        distinct = (inventory_of n c other chooses).distinct;
+        other = (inventory_of m chosen sound (record { suits = picked_suits })).distinct;
+      },
     )
+      where
+        back : (o : Thing) → Contains (inv chosen m.objects) o → Contains (inv c n.objects) o
+        back o has =
+            let i = at_contains (inv chosen m.objects) o has in
+            let h = mapped_from (thing chosen) m.objects i.0 o i.1 in
+            let a = counterpart i.0 h.0 h.1 in
+            let P : Thing → Type 0 = λ x. Contains (inv c n.objects) x in
+            subst P (sym (same_thing i.0 h.0 a h.1) ∙ h.2) (contains_at (inv c n.objects) a.place (thing c a.held) (get_at (thing c) n.objects a.place a.held a.stands))
+
+        each : (o : Thing) → Contains (inv c n.objects) o → Contains (inv chosen m.objects) o
+        each o has =
+            let i = at_contains (inv c n.objects) o has in
+            let g = mapped_from (thing c) n.objects i.0 o i.1 in
+            let j = at_contains (stills m) (still n.secrets g.0) (Contains-permutation (stills n) (stills m) (still n.secrets g.0) (IsPermutation-sym (stills m) (stills n) same)
+            (contains_at (stills n) i.0 (still n.secrets g.0) (get_at (still n.secrets) n.objects i.0 g.0 g.1))) in
+            let h = mapped_from (still m.secrets) m.objects j.0 (still n.secrets g.0) j.1 in
+            let a : Counterpart h.0 = record { place = i.0; held = g.0; stands = g.1; alike = h.2 } in
+            let P : Thing → Type 0 = λ x. Contains (inv chosen m.objects) x in
+            subst P (same_thing j.0 h.0 a h.1 ∙ g.2) (contains_at (inv chosen m.objects) j.0 (thing chosen h.0) (get_at (thing chosen) m.objects j.0 h.0 h.1))
 
 -- ---- pairs
 
@@ -168,19 +275,19 @@ module _ {X : Type 0} (R : X → X → Type 0) (rest : List X) where
 
 -- ---- the law
 
--- the same calls taken in another order lead to no run, where whatever they leave so the dead order leaves too
+-- the same calls taken in another order lead to no run, where behind whatever they leave goes on what goes on behind the dead order too
 pub dead_again : (declared : DeclarationOf) (calls : List StepOf) (taken others : List ℕ) → AllPairs (λ (a b : StepOf). a ≢ b) calls → AreNext calls taken → AreNext calls others → AreSame taken others
-    → ((start V : List Thing) → Describes declared start → Linked (rules_declared declared) start (so_far calls others) V
-    → (from : List Thing) × Describes declared from × Linked (rules_declared declared) from (so_far calls taken) V)
+    → ((start V W : List Thing) (rest : List StepOf) → Describes declared start → Linked (rules_declared declared) start (so_far calls others) V → Linked (rules_declared declared) V rest W
+    → (from U X : List Thing) × Describes declared from × Linked (rules_declared declared) from (so_far calls taken) U × Linked (rules_declared declared) U rest X)
     → IsDead declared calls taken → IsDead declared calls others
 dead_again declared calls taken others apart nexts other_nexts same again dead start order rest described run is =
     let rules_are = rules_declared declared in
     let P : List StepOf → Type 0 = λ o. TakesAll (rules_declared declared) calls start o in
     let r = subst P is run in
     let a = linked_split rules_are start (so_far calls others) rest r.last r.linked in
-    let b = again start a.0 described a.1 in
+    let b = again start a.0 r.last rest described a.1 a.2 in
     let before = placed_so_far calls taken nexts in
-    dead b.0 (so_far calls taken ++ rest) rest b.1
+    dead b.0 (so_far calls taken ++ rest) rest b.3
     (record {
       once =
           permuted calls (so_far calls taken ++ rest) (once_pairs calls apart)
@@ -198,8 +305,8 @@ dead_again declared calls taken others apart nexts other_nexts same again dead s
         kept = pairs_other (λ (x y : StepOf). ¬ (Before y x)) rest (so_far calls others) (so_far calls taken) r.placed.kept before.kept to_others;
         stamped = pairs_other (λ (x y : StepOf). x.response.stamp ≤ℤ y.response.stamp) rest (so_far calls others) (so_far calls taken) r.placed.stamped before.stamped to_others;
       };
-      last = r.last;
-      linked = linked_join rules_are b.0 (so_far calls taken) rest a.0 r.last b.2 a.2;
+      last = b.2;
+      linked = linked_join rules_are b.0 (so_far calls taken) rest b.1 b.2 b.4 b.5;
     }) refl
   where
     to_others : (y : StepOf) → Contains (so_far calls taken) y → Contains (so_far calls others) y
@@ -214,11 +321,13 @@ dead_again declared calls taken others apart nexts other_nexts same again dead s
 pub equal_is_equal : EqualIsEqual
 equal_is_equal declared calls taken others m n apart nexts other_nexts same known sound other_known other_sound alike dead = dead_again declared calls taken others apart nexts other_nexts same again dead
   where
-    again : (start V : List Thing) → Describes declared start → Linked (rules_declared declared) start (so_far calls others) V
-        → (from : List Thing) × Describes declared from × Linked (rules_declared declared) from (so_far calls taken) V
-    again start V described linked =
+    again : (start V W : List Thing) (rest : List StepOf) → Describes declared start → Linked (rules_declared declared) start (so_far calls others) V → Linked (rules_declared declared) V rest W
+        → (from U X : List Thing) × Describes declared from × Linked (rules_declared declared) from (so_far calls taken) U × Linked (rules_declared declared) U rest X
+    again start V W rest described linked behind =
+        let rules = rules_declared declared in
         let g = other_known.complete start V described linked in
-        let o = stands_too m n sound other_sound alike g.0 g.1 in
+        let o = stands_too m n sound other_sound known.ascends alike g.0 g.1 in
         let b = known.sound o.0 o.1 in
-        let L : List Thing → Type 0 = λ W. Linked (rules_declared declared) b.0 (so_far calls taken) W in
-        (b.0, b.1, subst L (o.2 ∙ sym g.2) b.2)
+        let L : List Thing → Type 0 = λ X. Linked (rules_declared declared) X rest W in
+        let on = linked_shuffled rules (inv g.0 n.objects) (inv o.0 m.objects) rest W o.2 (subst L g.2 behind) in
+        (b.0, inv o.0 m.objects, on.0, b.1, b.2, on.1)

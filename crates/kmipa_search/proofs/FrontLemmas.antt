@@ -1,7 +1,9 @@
 -- What never changes of the objects that are there at the start: identifier, type and the attributes that were given.
-use Rattle.std.proofs.Common.{◌≡◌, ◌<◌, ◌⊎◌, inl, inr, ℕ, zero, suc, ℤ, List, [], ◌∷◌, ◌++◌, length, Option, Some, None, MatchOption, slice_get, refl, sym, ap, ◌∙◌, subst, arith}
+use Rattle.std.proofs.Common.{◌≡◌, ◌≢◌, ◌<◌, ◌⊎◌, inl, inr, ℕ, zero, suc, ℤ, List, [], ◌∷◌, ◌++◌, length, Option, Some, None, MatchOption, slice_get, Contains, refl, sym, ap, ◌∙◌, subst, arith}
 use Rattle.std.specs.List.{AllZip}
+use Rattle.std.specs.Prelude.{AllPairs, IsPermutation}
 use Rattle.std.proofs.lemmas.List.{length-map}
+use Rattle.std.proofs.lemmas.Option.{get_or_from_slice_get}
 use Rattle.std.proofs.lemmas.Slice.Zip.{AllZip-long}
 use Rattle.kmipa_object.specs.Inventory.{Card, Thing, cards}
 use Rattle.kmipa_object.specs.Lists.{updated}
@@ -28,8 +30,9 @@ use Rattle.kmipa_check.specs.Steps.{StepOf, order_of}
 use Rattle.kmipa_check.specs.Described.{IsDescribed, card_declared}
 use Rattle.kmipa_check.specs.Runs.{Linked, rules_declared}
 use Rattle.kmipa_check.specs.Verdicts.{AreKnown}
-use Rattle.kmipa_search.specs.Ends.{StillOf, still, stills, LiveAlike, AreAlike}
-use Rattle.kmipa_search.proofs.ElementLemmas.{mapped_from, get_at, some_at, at_within, same_elements}
+use Rattle.kmipa_search.specs.Ends.{StillOf, still, stills, LiveAlike, StandAmong}
+use Rattle.kmipa_search.proofs.ElementLemmas.{at_contains, contains_at, mapped_from, get_at, some_at}
+use Rattle.kmipa_search.proofs.PermutationLemmas.{once_pairs, permuted}
 use Rattle.kmipa_search.proofs.PickLemmas.{lower}
 
 -- identifier, type and attributes are the same
@@ -173,34 +176,50 @@ module _ (declared : DeclarationOf) where
       let g = opened.complete s.0 s.0 s.1 refl in
       sym (length-map first.objects (thing g.0)) ∙ ap length (sym g.2) ∙ AllZip-long IsDescribed declared.entries s.0 s.1.objects
 
-same_still : (a b : StillOf) → SameGiven a.held.card b.held.card → LiveAlike a b → a ≡ b
-same_still a b g l =
-    λ i. record { held = record { card = record { id = g.id i; kind = g.kind i; given = g.given i; dates = l.dates i }; material = l.material i }; bytes = l.bytes i }
+same_still : (a b : StillOf) → SameGiven a.card b.card → LiveAlike a b → a ≡ b
+same_still a b g l = λ i. record { card = record { id = g.id i; kind = g.kind i; given = g.given i; dates = l.dates i }; bytes = l.bytes i }
 
--- where objects of both stand alike, they stand so in full
+-- no two objects of a ledger stand the same
+stand_once : (m : Meaning) → IsSound m → AllPairs (λ (a b : StillOf). a ≢ b) (stills m)
+stand_once m sound i j d below within same =
+    let x = some_at (stills m) i (omega (arith, below, within)) in
+    let y = some_at (stills m) j within in
+    let g = mapped_from (still m.secrets) m.objects i x.0 x.1 in
+    let h = mapped_from (still m.secrets) m.objects j y.0 y.1 in
+    let e : x.0 ≡ y.0 = sym (get_or_from_slice_get (stills m) i x.0 d x.1) ∙ same ∙ get_or_from_slice_get (stills m) j y.0 d y.1 in
+    let ids : g.0.card.id ≡ h.0.card.id = ap (λ (s : StillOf). s.card.id) (g.2 ∙ e ∙ sym h.2) in
+    omega (arith, below, sound.distinct i j g.0 h.0 g.1 h.1 ids)
+
+-- where the objects of one ledger stand among those of another, both have the same ones
 pub same_stills : (declared : DeclarationOf) (first : Meaning) (steps others : List StepOf) (m n : Meaning) → AreKnown declared [] first → AreKnown declared steps m → IsSound m → AreKnown declared others n → IsSound n
-    → AreAlike (length first.objects) (stills m) (stills n) → stills m ≡ stills n
-same_stills declared first steps others m n opened known sound other_known other_sound alike = same_elements (stills m) (stills n) alike.long (λ k a at. each k a at)
+    → StandAmong (length first.objects) (stills m) (stills n) → IsPermutation (stills m) (stills n)
+same_stills declared first steps others m n opened known sound other_known other_sound among =
+    permuted (stills m) (stills n) (once_pairs (stills m) (stand_once m sound))
+    (λ a has. let k = at_contains (stills m) a has in inside k.0 a k.1)
+    (let l = among.long in omega (arith, l))
   where
-    each : (k : ℕ) (a : StillOf) → slice_get (stills m) k ≡ Some a → slice_get (stills n) k ≡ Some a
-    each k a at =
-        let b = some_at (stills n) k (let w = at_within (stills m) k a at in let l = alike.long in omega (arith, w, l)) in
-        let r = alike.each k a b.0 at b.1 in
-        let same : a ≡ b.0 = elim (lower (length first.objects) k) as (λ q. a ≡ b.0) [ inl below ↦ front b.0 b.1 below r.0 | inr past ↦ r.1 past ] in
-        let P : StillOf → Type 0 = λ z. slice_get (stills n) k ≡ Some z in
-        subst P (sym same) b.1
-      where
-        front : (b : StillOf) → slice_get (stills n) k ≡ Some b → k < length first.objects → LiveAlike a b → a ≡ b
-        front b there below live =
-            let e = some_at declared.entries k (let c = front_count declared first steps m opened known sound in omega (arith, below, c)) in
-            let g = front_held declared steps m known sound k e.0 e.1 in
-            let h = front_held declared others n other_known other_sound k e.0 e.1 in
-            let mine : Some (still m.secrets g.0) ≡ Some a = sym (get_at (still m.secrets) m.objects k g.0 g.1) ∙ at in
-            let its : Some (still n.secrets h.0) ≡ Some b = sym (get_at (still n.secrets) n.objects k h.0 h.1) ∙ there in
-            let x : still m.secrets g.0 ≡ a = cc in
-            let y : still n.secrets h.0 ≡ b = cc in
-            same_still a b
-            (given_over a.held.card (card_declared e.0) b.held.card
-            (given_over a.held.card g.0.card (card_declared e.0) (same_given a.held.card g.0.card (ap (λ (s : StillOf). s.held.card) (sym x))) (given_back (card_declared e.0) g.0.card g.2))
-            (given_over (card_declared e.0) h.0.card b.held.card h.2 (same_given h.0.card b.held.card (ap (λ (s : StillOf). s.held.card) y))))
-            live
+    front : (k : ℕ) (a b : StillOf) → slice_get (stills m) k ≡ Some a → slice_get (stills n) k ≡ Some b → k < length first.objects → LiveAlike a b → a ≡ b
+    front k a b at there below live =
+        let e = some_at declared.entries k (let c = front_count declared first steps m opened known sound in omega (arith, below, c)) in
+        let g = front_held declared steps m known sound k e.0 e.1 in
+        let h = front_held declared others n other_known other_sound k e.0 e.1 in
+        let mine : Some (still m.secrets g.0) ≡ Some a = sym (get_at (still m.secrets) m.objects k g.0 g.1) ∙ at in
+        let its : Some (still n.secrets h.0) ≡ Some b = sym (get_at (still n.secrets) n.objects k h.0 h.1) ∙ there in
+        let x : still m.secrets g.0 ≡ a = cc in
+        let y : still n.secrets h.0 ≡ b = cc in
+        same_still a b
+        (given_over a.card (card_declared e.0) b.card
+        (given_over a.card g.0.card (card_declared e.0) (same_given a.card g.0.card (ap (λ (s : StillOf). s.card) (sym x))) (given_back (card_declared e.0) g.0.card g.2))
+        (given_over (card_declared e.0) h.0.card b.card h.2 (same_given h.0.card b.card (ap (λ (s : StillOf). s.card) y))))
+        live
+
+    inside : (k : ℕ) (a : StillOf) → slice_get (stills m) k ≡ Some a → Contains (stills n) a
+    inside k a at =
+        let r = among.each k a at in
+        let P : StillOf → Type 0 = λ z. Contains (stills n) z in
+        let Q : ℕ → Type 0 = λ i. slice_get (stills n) i ≡ Some r.other in
+        let same : a ≡ r.other = elim (lower (length first.objects) k) as (λ q. a ≡ r.other) [
+          | inl below ↦ front k a r.other at (subst Q (r.own below) r.there) below r.alike.0
+          | inr past ↦ r.alike.1 past
+        ] in
+        subst P (sym same) (contains_at (stills n) r.at r.other r.there)

@@ -24,9 +24,10 @@ pub mod DescentLemmas
 pub mod PickLemmas
 pub mod WishLemmas
 pub mod IdleLemmas
-pub mod EndLemmas
 pub mod FrontLemmas
 pub mod SettledLemmas
+pub mod ShuffleLemmas
+pub mod EndLemmas
 pub mod AgainLemmas
 pub mod LoneLemmas
 pub mod StillLemmas

@@ -3,7 +3,7 @@ use Rattle.std.proofs.Common.{◌≡◌, ◌⊎◌, inl, inr, ℕ, List, [], ◌
 use Rattle.std.specs.declared.alloc.Global.{Global}
 use Rattle.std.proofs.lemmas.List.Elements.{Contains-append_cases}
 use Rattle.kmipa_store.specs.Ledger.{Meaning}
-use Rattle.kmipa_search.specs.Ends.{Shared, stills, stills_shared, AreAlikeFrom, IsSetOf, IsEndLike, IsAdded, IsNoted}
+use Rattle.kmipa_search.specs.Ends.{Shared, stills, stills_shared, AreAlikeFrom, IsSetOf, IsEndOf, IsAdded, IsNoted}
 use Rattle.kmipa_search.specs.declared.ends.End.{End}
 use Rattle.kmipa_search.specs.declared.taken.CallSet.{CallSet}
 use Rattle.kmipa_search.proofs.PlaceLemmas.{one_cases}
@@ -27,7 +27,7 @@ added_last old new e is x has =
 -- it is that of the calls whose set it has, over the ledger whose objects it has
 pub noted : (front : Option ℕ) (old new : List End) (set : CallSet) (objects : Vec Shared Global) (places : List ℕ) (m : Meaning) → IsAdded old set objects new → IsSetOf places set → AreAlikeFrom front (stills_shared objects.items) (stills m)
     → IsNoted front old places m new
-noted front old new set objects places m added s is e has = elim (added e has) as (λ q. Contains old e ⊎ IsEndLike front places m e) [
+noted front old new set objects places m added s is e has = elim (added e has) as (λ q. Contains old e ⊎ IsEndOf front places m e) [
   | inl o ↦ inl o
   | inr h ↦
       let P : CallSet → Type 0 = λ k. IsSetOf places k in

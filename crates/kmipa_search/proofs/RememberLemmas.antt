@@ -11,7 +11,7 @@ use Rattle.kmipa_search.specs.Progress.{so_far, AreBegun, AreNext, IsDead, Opens
 use Rattle.kmipa_search.specs.Cursors.{IsCursor}
 use Rattle.kmipa_search.specs.Descents.{Progress}
 use Rattle.kmipa_search.specs.Tries.{IsPicked, closed, none_tried, all_tried}
-use Rattle.kmipa_search.specs.Ends.{stills, stills_shared, AreAlike, AreFlagged, AreSame, IsEndLike, IsSetOf, IsArrival, IsNoted, Remembers}
+use Rattle.kmipa_search.specs.Ends.{stills, stills_shared, StandAmong, AreFlagged, AreSame, IsEndOf, IsEndLike, IsSetOf, IsArrival, IsNoted, Remembers}
 use Rattle.kmipa_search.specs.Settled.{IsFront}
 use Rattle.kmipa_search.specs.declared.ends.End.{End}
 use Rattle.kmipa_search.specs.declared.remaining.Remaining.{Remaining}
@@ -38,11 +38,11 @@ same_set taken others k a b = record {
 -- an end that leads to no run leads to none wherever it is met
 dead_there : (declared : DeclarationOf) (calls : List StepOf) (first : Meaning) (front : Option ℕ) → IsFront calls first front → AllPairs (λ (a b : StepOf). a ≢ b) calls → AreKnown declared [] first
     → (taken others : List ℕ) (m n : Meaning) (e : End) → AreNext calls taken → AreNext calls others → AreKnown declared (so_far calls taken) m → IsSound m → AreKnown declared (so_far calls others) n → IsSound n
-    → IsEndLike front taken m e → IsEndLike front others n e → IsDead declared calls taken → IsDead declared calls others
+    → IsEndOf front taken m e → IsEndLike front others n e → IsDead declared calls taken → IsDead declared calls others
 dead_there declared calls first None settled once opened taken others m n e nexts other_nexts known sound other_known other_sound at seen dead =
     settled_dead declared calls first taken others m once opened settled nexts other_nexts (same_set taken others e.set at.set seen.set) known sound dead
 dead_there declared calls first (Some count) is once opened taken others m n e nexts other_nexts known sound other_known other_sound at seen dead =
-    let P : ℕ → Type 0 = λ i. AreAlike i (stills m) (stills n) in
+    let P : ℕ → Type 0 = λ i. StandAmong i (stills m) (stills n) in
     equal_is_equal declared calls taken others m n once nexts other_nexts (same_set taken others e.set at.set seen.set) known sound other_known other_sound
     (same_stills declared first (so_far calls taken) (so_far calls others) m n opened known sound other_known other_sound
     (subst P is (alike_between count (stills_shared e.objects.items) (stills m) (stills n) at.stands seen.stands))) dead

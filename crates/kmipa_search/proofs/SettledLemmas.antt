@@ -219,12 +219,12 @@ module _ (rules : RulesOf) where
 
 -- ---- places
 
-updated_here : {X : Type 0} (xs : List X) (place : ℕ) (f : X → X) (o : X) → slice_get xs place ≡ Some o → slice_get (updated xs place f) place ≡ Some (f o)
+pub updated_here : {X : Type 0} (xs : List X) (place : ℕ) (f : X → X) (o : X) → slice_get xs place ≡ Some o → slice_get (updated xs place f) place ≡ Some (f o)
 updated_here [] place f o at = absurd cc
 updated_here {X} (x ∷ xs) zero f o at = let e : x ≡ o = cc in ap (λ (z : X). Some (f z)) e
 updated_here (x ∷ xs) (suc place) f o at = updated_here xs place f o at
 
-updated_other : {X : Type 0} (xs : List X) (place : ℕ) (f : X → X) (k : ℕ) (o : X) → k ≢ place → slice_get xs k ≡ Some o → slice_get (updated xs place f) k ≡ Some o
+pub updated_other : {X : Type 0} (xs : List X) (place : ℕ) (f : X → X) (k : ℕ) (o : X) → k ≢ place → slice_get xs k ≡ Some o → slice_get (updated xs place f) k ≡ Some o
 updated_other [] place f k o apart at = absurd cc
 updated_other (x ∷ xs) zero f zero o apart at = absurd (apart refl)
 updated_other (x ∷ xs) zero f (suc k) o apart at = at
@@ -240,7 +240,7 @@ updated_long (x ∷ xs) (suc place) f = ap suc (updated_long xs place f)
 abbrev pub Distinct : List Thing → Type 0
 Distinct V = (i j : ℕ) (a b : Thing) → slice_get V i ≡ Some a → slice_get V j ≡ Some b → a.card.id ≡ b.card.id → i ≡ j
 
-object_id : (V : List Thing) (id : List ℕ) (place : ℕ) (object : Thing) → HasObject V id place object → id ≡ object.card.id
+pub object_id : (V : List Thing) (id : List ℕ) (place : ℕ) (object : Thing) → HasObject V id place object → id ≡ object.card.id
 object_id V id place object h =
     let f = place_found (cards V) id place h.named in
     let at : slice_get (cards V) place ≡ Some object.card = get_at (λ (x : Thing). x.card) V place object h.stands in

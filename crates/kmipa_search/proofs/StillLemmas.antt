@@ -5,7 +5,7 @@ use Rattle.std.proofs.lemmas.Option.{slice_get_within, slice_get_read, get_or_fr
 use Rattle.kmipa_attrs.specs.Sets.{NameOf, name_of}
 use Rattle.kmipa_attrs.specs.declared.name.Name.{Name}
 use Rattle.kmipa_store.specs.Ledger.{Held, Meaning}
-use Rattle.kmipa_search.specs.Ends.{Shared, StillOf, IsAlikeAt, AreAlike, still, still_shared, stills, stills_shared}
+use Rattle.kmipa_search.specs.Ends.{Shared, StillOf, IsAlikeAt, AreAlike, StandsAmong, StandAmong, still, still_shared, stills, stills_shared}
 use Rattle.kmipa_search.proofs.ElementLemmas.{same_elements, mapped_from, get_at, some_at, at_within, pushed_at}
 use Rattle.kmipa_search.proofs.LinksLemmas.{same_or}
 
@@ -48,55 +48,55 @@ none_alike front xs ys e f = record {
   each = λ k a b at stands. let w = at_within xs k a at in absurd (omega (arith, w, ap length e));
 }
 
--- two that are both alike to a third
-pub alike_between : (front : ℕ) (xs ys zs : List StillOf) → AreAlike front xs ys → AreAlike front xs zs → AreAlike front ys zs
+-- what stands alike with others that stand among these stands among them
+pub alike_between : (front : ℕ) (xs ys zs : List StillOf) → AreAlike front xs ys → StandAmong front xs zs → StandAmong front ys zs
 alike_between front xs ys zs a b = record {
   long = sym a.long ∙ b.long;
-  each = λ k y z at stands.
+  each = λ k y at.
       let x = some_at xs k (let w = at_within ys k y at in let l = a.long in omega (arith, w, l)) in
       let p = a.each k x.0 y x.1 at in
-      let q = b.each k x.0 z x.1 stands in
-      (record { dates = sym p.0.dates ∙ q.0.dates; material = sym p.0.material ∙ q.0.material; bytes = sym p.0.bytes ∙ q.0.bytes }, λ past. sym (p.1 past) ∙ q.1 past);
+      let q = b.each k x.0 x.1 in
+      record {
+        at = q.at;
+        other = q.other;
+        there = q.there;
+        alike = (record { dates = sym p.0.dates ∙ q.alike.0.dates; bytes = sym p.0.bytes ∙ q.alike.0.bytes }, λ past. sym (p.1 past) ∙ q.alike.1 past);
+        own = q.own;
+      };
 }
 
 -- what is equal is alike
 pub alike_at : (front place : ℕ) (a b : StillOf) → a ≡ b → IsAlikeAt front place a b
-alike_at front place a b e = (
-  record { dates = ap (λ (s : StillOf). s.held.card.dates) e; material = ap (λ (s : StillOf). s.held.material) e; bytes = ap (λ (s : StillOf). s.bytes) e },
-  λ past. e,
-)
+alike_at front place a b e = (record { dates = ap (λ (s : StillOf). s.card.dates) e; bytes = ap (λ (s : StillOf). s.bytes) e }, λ past. e)
 
--- those from a place on stand alike, and the one before it does
-pub alike_on : (front : ℕ) (objects : List Shared) (m : Meaning) (place : ℕ) (h : Held) (s : Shared) → 0 < place → place ≤ length objects → slice_get m.objects (place - 1) ≡ Some h
-    → s ≡ get_or objects (place - 1) s → IsAlikeAt front (place - 1) (still_shared s) (still m.secrets h)
-    → ((k : ℕ) (t : Shared) (b : StillOf) → place ≤ k → slice_get objects k ≡ Some t → slice_get (stills m) k ≡ Some b → IsAlikeAt front k (still_shared t) b)
-    → (k : ℕ) (t : Shared) (b : StillOf) → place - 1 ≤ k → slice_get objects k ≡ Some t → slice_get (stills m) k ≡ Some b → IsAlikeAt front k (still_shared t) b
-alike_on front objects m place h s some within there read is before k t b from at stands = elim (same_or k (place - 1)) [
+-- an object of a ledger that stands alike stands among all of them
+pub among_at : (front place at : ℕ) (a : StillOf) (m : Meaning) (h : Held) → slice_get m.objects at ≡ Some h → IsAlikeAt front place a (still m.secrets h) → (place < front → at ≡ place) → StandsAmong front place a (stills m)
+among_at front place at a m h there alike own = record { at = at; other = still m.secrets h; there = get_at (still m.secrets) m.objects at h there; alike = alike; own = own }
+
+-- those from a place on stand among these, and the one before it does
+pub among_on : (front : ℕ) (objects : List Shared) (all : List StillOf) (place : ℕ) (s : Shared) → 0 < place → place ≤ length objects → s ≡ get_or objects (place - 1) s → StandsAmong front (place - 1) (still_shared s) all
+    → ((k : ℕ) (t : Shared) → place ≤ k → slice_get objects k ≡ Some t → StandsAmong front k (still_shared t) all)
+    → (k : ℕ) (t : Shared) → place - 1 ≤ k → slice_get objects k ≡ Some t → StandsAmong front k (still_shared t) all
+among_on front objects all place s some within read is before k t from at = elim (same_or k (place - 1)) [
   | inl e ↦
       let own : slice_get objects (place - 1) ≡ Some s = slice_get_read objects (length objects) (place - 1) s refl (omega (arith, some, within)) read in
       let P : ℕ → Type 0 = λ i. slice_get objects i ≡ Some t in
-      let here : slice_get objects (place - 1) ≡ Some t = subst P e at in
-      let both : Some s ≡ Some t = sym own ∙ here in
+      let both : Some s ≡ Some t = sym own ∙ subst P e at in
       let same : s ≡ t = cc in
-      let Q : ℕ → Type 0 = λ i. slice_get (stills m) i ≡ Some b in
-      let its : slice_get (stills m) (place - 1) ≡ Some b = subst Q e stands in
-      let two : Some (still m.secrets h) ≡ Some b = sym (get_at (still m.secrets) m.objects (place - 1) h there) ∙ its in
-      let alike : still m.secrets h ≡ b = cc in
-      let R : ℕ → Type 0 = λ i. IsAlikeAt front i (still_shared t) b in
-      let S : Shared → Type 0 = λ z. IsAlikeAt front (place - 1) (still_shared z) b in
-      let T : StillOf → Type 0 = λ z. IsAlikeAt front (place - 1) (still_shared s) z in
-      subst R (sym e) (subst S same (subst T alike is))
-  | inr d ↦ before k t b (omega (arith, from, d, some)) at stands
+      let R : ℕ → Type 0 = λ i. StandsAmong front i (still_shared t) all in
+      let S : Shared → Type 0 = λ z. StandsAmong front (place - 1) (still_shared z) all in
+      subst R (sym e) (subst S same is)
+  | inr d ↦ before k t (omega (arith, from, d, some)) at
 ]
 
-pub all_alike : (front : ℕ) (objects : List Shared) (all : List StillOf) → length objects ≡ length all
-    → ((k : ℕ) (s : Shared) (b : StillOf) → 0 ≤ k → slice_get objects k ≡ Some s → slice_get all k ≡ Some b → IsAlikeAt front k (still_shared s) b) → AreAlike front (stills_shared objects) all
-all_alike front objects all long h = record {
+pub all_among : (front : ℕ) (objects : List Shared) (all : List StillOf) → length objects ≡ length all → ((k : ℕ) (s : Shared) → 0 ≤ k → slice_get objects k ≡ Some s → StandsAmong front k (still_shared s) all)
+    → StandAmong front (stills_shared objects) all
+all_among front objects all long h = record {
   long = length-map objects still_shared ∙ long;
-  each = λ k a b at there.
+  each = λ k a at.
       let s = mapped_from still_shared objects k a at in
-      let P : StillOf → Type 0 = λ z. IsAlikeAt front k z b in
-      subst P s.2 (h k s.0 b (omega arith) s.1 there);
+      let P : StillOf → Type 0 = λ z. StandsAmong front k z all in
+      subst P s.2 (h k s.0 (omega arith) s.1);
 }
 
 pub all_names : (names others : List Name) → length names ≡ length others → ((k : ℕ) (a b : Name) → 0 ≤ k → slice_get names k ≡ Some a → slice_get others k ≡ Some b → name_of a ≡ name_of b) → map name_of names ≡ map name_of others

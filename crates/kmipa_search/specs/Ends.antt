@@ -1,8 +1,9 @@
 -- Dead ends that are remembered: which calls were taken, and what the ledger stood for. Not promised.
-use Rattle.std.specs.Prelude.{◌≡◌, ◌≢◌, ◌<◌, ◌≤◌, ◌⊎◌, ℕ, Vec, Bool, true, false, List, length, map, slice_get, slice_index_or, AllPairs, Contains, Option, Some, None, option_map}
+use Rattle.std.specs.Prelude.{◌≡◌, ◌≢◌, ◌<◌, ◌≤◌, ◌⊎◌, ℕ, Vec, Bool, true, false, List, length, map, slice_get, slice_index_or, AllPairs, Contains, IsPermutation, Option, Some, None, option_map}
 use Rattle.std.specs.declared.alloc.Global.{Global}
 use Rattle.std.specs.declared.rc.Rc.{Rc}
-use Rattle.kmipa_store.specs.Ledger.{Held, Known, Meaning, held}
+use Rattle.kmipa_object.specs.Inventory.{Card, card_of}
+use Rattle.kmipa_store.specs.Ledger.{Held, Known, Meaning}
 use Rattle.kmipa_store.specs.Choices.{IsSound}
 use Rattle.kmipa_record.specs.Declarations.{DeclarationOf}
 use Rattle.kmipa_record.specs.Entries.{items_of}
@@ -21,13 +22,13 @@ use Rattle.kmipa_search.specs.declared.ends.End.{End}
 
 -- WHAT A LEDGER STANDS FOR
 
--- an object as it stands: itself with the number of its secret, and its bytes where they are known
+-- an object as it stands, with its bytes where they are known; the number of its secret is left out, which hangs on what arrived before it
 pub record StillOf : Type 0 where
-  pub held : Held
+  pub card : Card
   pub bytes : Option (List ℕ)
 
 abbrev pub still : List Known → Held → StillOf
-still secrets h = record { held = h; bytes = bytes_left secrets h.material }
+still secrets h = record { card = h.card; bytes = bytes_left secrets h.material }
 
 -- all objects of a ledger as they stand, in the order of arrival
 abbrev pub stills : Meaning → List StillOf
@@ -35,7 +36,7 @@ stills m = map (still m.secrets) m.objects
 
 -- what the program's copy of an object means
 abbrev pub still_of : Still → StillOf
-still_of s = record { held = held s.object; bytes = option_map items_of s.bytes }
+still_of s = record { card = card_of s.object; bytes = option_map items_of s.bytes }
 
 -- a copy that ends share
 abbrev pub Shared : Type 0
@@ -47,10 +48,9 @@ still_shared s = still_of s.value
 abbrev pub stills_shared : List Shared → List StillOf
 stills_shared objects = map still_shared objects
 
--- two objects stand alike as far as they can change: their dates, their secrets, and their bytes where they are known
+-- two objects stand alike as far as they can change: their dates, and their bytes where they are known
 pub record LiveAlike (a b : StillOf) : Type 0 where
-  pub dates : a.held.card.dates ≡ b.held.card.dates
-  pub material : a.held.material ≡ b.held.material
+  pub dates : a.card.dates ≡ b.card.dates
   pub bytes : a.bytes ≡ b.bytes
 
 -- and of the places behind the first so many in full
@@ -66,6 +66,24 @@ pub record AreAlike (front : ℕ) (ones others : List StillOf) : Type 0 where
 abbrev pub AreAlikeFrom : Option ℕ → List StillOf → List StillOf → Type 0
 AreAlikeFrom None ones others = Unit {0}
 AreAlikeFrom (Some front) ones others = AreAlike front ones others
+
+-- an object of a place stands among others too: one of the first so many at its own place, and any other wherever it is
+pub record StandsAmong (front place : ℕ) (a : StillOf) (others : List StillOf) : Type 0 where
+  pub at : ℕ
+  pub other : StillOf
+  pub there : slice_get others at ≡ Some other
+  pub alike : IsAlikeAt front place a other
+  pub own : place < front → at ≡ place
+
+-- all objects do, and there are no more: behind the first so many they may have arrived in another order
+pub record StandAmong (front : ℕ) (ones others : List StillOf) : Type 0 where
+  pub long : length ones ≡ length others
+  pub each : (place : ℕ) (a : StillOf) → slice_get ones place ≡ Some a → StandsAmong front place a others
+
+-- the same, or nothing is compared
+abbrev pub StandAmongFrom : Option ℕ → List StillOf → List StillOf → Type 0
+StandAmongFrom None ones others = Unit {0}
+StandAmongFrom (Some front) ones others = StandAmong front ones others
 
 -- WHICH CALLS ARE TAKEN
 
@@ -95,11 +113,16 @@ pub record AreSame (taken others : List ℕ) : Type 0 where
 
 -- ENDS
 
--- an end is that of these calls over a ledger whose objects stand alike: those of the first so many places as far as they can change, and the
--- others in full; or only of these calls, where they say how all objects stand.
-pub record IsEndLike (front : Option ℕ) (taken : List ℕ) (m : Meaning) (e : End) : Type 0 where
+-- an end is that of these calls over a ledger whose objects stand alike, place by place: those of the first so many places as far as they can
+-- change, and the others in full; or only of these calls, where they say how all objects stand.
+pub record IsEndOf (front : Option ℕ) (taken : List ℕ) (m : Meaning) (e : End) : Type 0 where
   pub set : IsSetOf taken e.set
   pub stands : AreAlikeFrom front (stills_shared e.objects.items) (stills m)
+
+-- the same, where the objects behind the first so many may have arrived in another order
+pub record IsEndLike (front : Option ℕ) (taken : List ℕ) (m : Meaning) (e : End) : Type 0 where
+  pub set : IsSetOf taken e.set
+  pub stands : StandAmongFrom front (stills_shared e.objects.items) (stills m)
 
 -- However these calls were taken, if the ledger stands for this, no run begins so.
 abbrev pub IsDeadEnd : Option ℕ → DeclarationOf → List StepOf → End → Type 0
@@ -122,16 +145,17 @@ IsAdded old set objects new = (e : End) → Contains new e → Contains old e �
 
 -- no end is there but the old ones and this one
 abbrev pub IsNoted : Option ℕ → List End → List ℕ → Meaning → List End → Type 0
-IsNoted front old taken m new = (e : End) → Contains new e → Contains old e ⊎ IsEndLike front taken m e
+IsNoted front old taken m new = (e : End) → Contains new e → Contains old e ⊎ IsEndOf front taken m e
 
 -- THE LAW
 
--- Equal is equal: the same calls taken, and ledgers whose objects stand alike: where the one leads to no run, nor does the other.
+-- Equal is equal: the same calls taken, and ledgers with the same objects as they stand, in whatever order these arrived and whatever numbers their
+-- secrets have: where the one leads to no run, nor does the other.
 abbrev pub EqualIsEqual : Type 0
 EqualIsEqual =
     (declared : DeclarationOf) (calls : List StepOf) (taken others : List ℕ) (m n : Meaning) → AllPairs (λ (a b : StepOf). a ≢ b) calls
     → AreNext calls taken → AreNext calls others → AreSame taken others
-    → AreKnown declared (so_far calls taken) m → IsSound m → AreKnown declared (so_far calls others) n → IsSound n → stills m ≡ stills n
+    → AreKnown declared (so_far calls taken) m → IsSound m → AreKnown declared (so_far calls others) n → IsSound n → IsPermutation (stills m) (stills n)
     → IsDead declared calls taken → IsDead declared calls others
 
 -- What a search remembers: the calls taken are marked, where these begin in their order, and each end leads to no run. The front are the objects

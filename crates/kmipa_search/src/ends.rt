@@ -26,12 +26,12 @@ const FIRST_PLACES: usize = 1 << 10;
 /// Where there are as many ends as places, there are so many times as many places.
 const GROWTH: usize = 8;
 
-/// So many ends of the same calls are compared with a ledger at most, the newest first. Calls that add objects leave as
+/// So many ends of the same calls are compared with a ledger at most, the newest first. Calls that change one object may leave as
 /// many ledgers as they have orders, and looking at each would cost more than trying what follows.
 const MOST_COMPARED: usize = 64;
 
 /// A dead end: the calls that were taken, and the objects as they stood. No run begins with these calls from such a
-/// ledger, in whatever order they were taken.
+/// ledger, in whatever order they were taken and their objects arrived.
 #[derive(Drop)]
 pub struct End {
     pub set: CallSet,

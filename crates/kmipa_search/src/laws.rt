@@ -29,8 +29,8 @@ pub fn idle_first()
     ensures { IdleFirst }
 {}
 
-/// The same calls taken in two orders, over ledgers whose objects stand alike: where the one begins no run, nor does the
-/// other.
+/// The same calls taken in two orders, over ledgers with the same objects as they stand, in whatever order these arrived: where the one
+/// begins no run, nor does the other.
 pub fn equal_is_equal()
     ensures { EqualIsEqual }
 {}

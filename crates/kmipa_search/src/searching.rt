@@ -34,7 +34,7 @@ use std::alloc::{AllocError, Global};
 /// the order of their begin marks, depth first. Of plain calls that is so for the first 1,000 steps; from then on, in the places that are
 /// open and in those to come, those without effect are tried first, and each by its end mark; where more than 64 may be next, they go on
 /// in the order of their begin marks. And coming back from a call without effect, the search goes back at once, and so it does where the
-/// same calls were taken before over the same ledger, and led to nothing. Where a call waits for payloads, each of them has one guess.
+/// same calls were taken before and left the same objects, and led to nothing. Where a call waits for payloads, each of them has one guess.
 ///
 /// Where all calls are plain and the budget is enough for them, the order in which they are tried if each is possible is made first, without a
 /// ledger, and checked: mostly it is the one that is found, and the calls are taken once.

@@ -2,7 +2,7 @@
 
 ghost use Rattle.std.specs.Prelude.{◌≡◌, ◌<◌, true, IfOk, length, map, option_map};
 ghost use Rattle.kmipa_attrs.specs.Sets.{attributes_of, name_of};
-ghost use Rattle.kmipa_object.specs.Inventory.{given_of};
+ghost use Rattle.kmipa_object.specs.Inventory.{card_of, given_of};
 ghost use Rattle.kmipa_object.specs.Life.{dates_of};
 ghost use Rattle.kmipa_object.specs.declared.life.SecretNo.{SecretNo};
 ghost use Rattle.kmipa_object.specs.declared.life.Material.TheVariants.{Secret};
@@ -10,7 +10,7 @@ ghost use Rattle.kmipa_store.specs.Ledger.{held};
 ghost use Rattle.kmipa_store.specs.Choices.{IsSound};
 ghost use Rattle.kmipa_record.specs.Entries.{items_of};
 ghost use Rattle.kmipa_check.specs.Left.{bytes_left};
-ghost use Rattle.kmipa_search.specs.Ends.{AreAlike, IsAlikeAt, still, still_of, stills, stills_shared};
+ghost use Rattle.kmipa_search.specs.Ends.{IsAlikeAt, StandAmong, StandsAmong, still, still_of, stills, stills_shared};
 
 use kmipa_attrs::{AttrSet, Name};
 use kmipa_object::{Life, Material, Object};
@@ -64,11 +64,12 @@ pub fn known_of<L: Ledger>(ledger: &L, material: Material) -> Option<&[u8]>
     }
 }
 
-/// Whether the objects of a ledger stand as these do. Of the first so many, with which a search begins, only what can change is looked at.
+/// Whether the objects of a ledger stand as these do. Of the first so many, with which a search begins, only what can change is looked at;
+/// the others may have arrived in another order.
 #[inline(never)]
 pub fn stand_so<L: Ledger>(ledger: &L, objects: &[Rc<Still>], front: usize) -> bool
     requires { IsSound (L.state ledger.now).now }
-    ensures { result ≡ true → AreAlike front (stills_shared objects.now) (stills (L.state ledger.now).now) }
+    ensures { result ≡ true → StandAmong front (stills_shared objects.now) (stills (L.state ledger.now).now) }
 {
     if objects.len() != ledger.len() {
         return false;
@@ -76,12 +77,33 @@ pub fn stand_so<L: Ledger>(ledger: &L, objects: &[Rc<Still>], front: usize) -> b
     let mut place = objects.len();
     'objects: while place > 0 {
         place -= 1;
-        let object = ledger.at(place);
-        if !stands_at(ledger, object, &objects[place], place, front) {
+        if !stands_among(ledger, &objects[place], place, front) {
             return false;
         }
     }
     true
+}
+
+/// Whether an object stands among those of a ledger: one of the first so many at its own place, and any other wherever it arrived.
+#[inline(always)]
+fn stands_among<L: Ledger>(ledger: &L, kept: &Still, place: usize, front: usize) -> bool
+    requires sound { IsSound (L.state ledger.now).now }
+    requires within { place < length (L.state ledger.now).now.objects }
+    ensures { result ≡ true
+        → StandsAmong front place (still_of kept.now) (stills (L.state ledger.now).now) }
+{
+    let object = ledger.at(place);
+    if stands_at(ledger, object, kept, place, front) {
+        return true;
+    }
+    if place < front {
+        return false;
+    }
+    let Some(other) = ledger.find(kept.object.id.as_str()) else {
+        return false;
+    };
+    let object = ledger.at(other);
+    stands_at(ledger, object, kept, place, front)
 }
 
 /// Whether the object at a place stands as this one does; of the first so many places as far as it can change.
@@ -101,7 +123,7 @@ pub fn stands_at<L: Ledger>(
     if place >= front {
         return stands_so(ledger, object, kept);
     }
-    if !is_same_life(&kept.object.life, &object.life) {
+    if !has_same_dates(&kept.object.life, &object.life) {
         return false;
     }
     let known = known_of(ledger, object.life.material);
@@ -138,12 +160,12 @@ fn are_known(kept: &Option<Vec<u8>>, known: Option<&[u8]>) -> bool
     }
 }
 
-/// Whether two objects are equal, the numbers of their secrets included.
+/// Whether two objects are equal, but for the numbers of their secrets.
 #[inline(always)]
 fn is_equal(one: &Object, other: &Object) -> bool
-    ensures { result ≡ true → held one.now ≡ held other.now }
+    ensures { result ≡ true → card_of one.now ≡ card_of other.now }
 {
-    if !is_same_life(&one.life, &other.life) {
+    if !has_same_dates(&one.life, &other.life) {
         return false;
     }
     if one.kind != other.kind {
@@ -155,11 +177,10 @@ fn is_equal(one: &Object, other: &Object) -> bool
     gives_same(&one.given, &other.given)
 }
 
-/// Whether two lives are equal.
+/// Whether two lives have the same dates.
 #[inline(always)]
-fn is_same_life(one: &Life, other: &Life) -> bool
-    ensures dates { result ≡ true → dates_of one.now ≡ dates_of other.now }
-    ensures material { result ≡ true → one.now.material ≡ other.now.material }
+fn has_same_dates(one: &Life, other: &Life) -> bool
+    ensures { result ≡ true → dates_of one.now ≡ dates_of other.now }
 {
     if one.initial != other.initial {
         return false;
@@ -173,26 +194,7 @@ fn is_same_life(one: &Life, other: &Life) -> bool
     if one.destroy != other.destroy {
         return false;
     }
-    if one.compromise != other.compromise {
-        return false;
-    }
-    is_same_material(one.material, other.material)
-}
-
-#[inline(always)]
-fn is_same_material(one: Material, other: Material) -> bool
-    ensures { result ≡ true → one ≡ other }
-{
-    match one {
-        Material::Gone => match other {
-            Material::Gone => true,
-            Material::Secret(_) => false,
-        },
-        Material::Secret(one) => match other {
-            Material::Gone => false,
-            Material::Secret(other) => one.number == other.number,
-        },
-    }
+    one.compromise == other.compromise
 }
 
 /// Whether names, algorithm, length and mask are the same.

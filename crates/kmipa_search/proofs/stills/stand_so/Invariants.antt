@@ -1,11 +1,11 @@
 use Rattle.std.proofs.Common.{◌≡◌, ◌≤◌, ℕ, length, slice_get, Some}
-use Rattle.kmipa_search.specs.Ends.{Shared, StillOf, IsAlikeAt, still_shared, stills}
+use Rattle.kmipa_search.specs.Ends.{Shared, StandsAmong, still_shared, stills}
 use Rattle.kmipa_search.proofs.stills.stand_so.Given as goal
 
 abbrev pub invariant-objects : goal.invariant-objects
 invariant-objects g l = record {
   within : l.place ≤ length l.objects;
-  stand : (k : ℕ) (s : Shared) (b : StillOf) → l.place ≤ k → slice_get l.objects k ≡ Some s → slice_get (stills (g.L.Ledger.state l.ledger).now) k ≡ Some b → IsAlikeAt l.front k (still_shared s) b;
+  stand : (k : ℕ) (s : Shared) → l.place ≤ k → slice_get l.objects k ≡ Some s → StandsAmong l.front k (still_shared s) (stills (g.L.Ledger.state l.ledger).now);
 }
 
 abbrev pub decreases-objects : goal.decreases-objects

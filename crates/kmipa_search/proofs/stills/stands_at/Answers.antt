@@ -10,7 +10,7 @@ returns-then-place-front g c = λ t.
 
 pub returns : goal.returns
 returns g c = λ t.
-    let same : c.is_same_life.result ≡ true = search rules in (
-      record { dates = c.is_same_life.ensures.dates same; material = c.is_same_life.ensures.material same; bytes = c.are_known.ensures t ∙ c.known_of-known.ensures },
+    let same : c.has_same_dates.result ≡ true = search rules in (
+      record { dates = c.has_same_dates.ensures same; bytes = c.are_known.ensures t ∙ c.known_of-known.ensures },
       λ past. absurd (omega (arith, past, c.if-place-front.false)),
     )

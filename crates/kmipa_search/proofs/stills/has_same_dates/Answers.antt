@@ -1,8 +1,8 @@
 use Rattle.std.proofs.Common.{◌≡◌, rules}
-use Rattle.kmipa_search.proofs.stills.is_same_life.Goals as goal
+use Rattle.kmipa_search.proofs.stills.has_same_dates.Goals as goal
 
-pub returns-clause-dates : goal.returns-clause-dates
-returns-clause-dates c = λ t.
+pub returns : goal.returns
+returns c = λ t.
     let a : c.args.one.now.initial ≡ c.args.other.now.initial = search rules in
     let b : c.args.one.now.activation ≡ c.args.other.now.activation = search rules in
     let d : c.args.one.now.deactivation ≡ c.args.other.now.deactivation = search rules in
