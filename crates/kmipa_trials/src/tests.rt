@@ -10,6 +10,7 @@ mod leaving;
 mod ledgers;
 mod messages;
 mod reading;
+mod searching;
 mod spelled;
 mod streams;
 mod words;
