@@ -6,8 +6,11 @@ use Rattle.kmipa_store.specs.Ledger.{Meaning, LedgerState, gone_back, back_from}
 use Rattle.kmipa_store.specs.Choices.{IsSound}
 use Rattle.kmipa_record.specs.Marks.{MarkOf}
 use Rattle.kmipa_check.specs.Calls.{CallOf, IsRecorded}
-use Rattle.kmipa_search.specs.Candidates.{AreOfCalls, own_call}
-use Rattle.kmipa_search.specs.Guessing.{AreSoundMarks, AreRecordedCalls}
+use Rattle.kmipa_batch.specs.Readable.{IsReadableCall}
+use Rattle.kmipa_check.specs.Steps.{StepOf}
+use Rattle.kmipa_search.specs.Candidates.{AreOfCalls, candidate_step, own_call}
+use Rattle.kmipa_search.specs.Guessing.{AreSoundMarks, AreRecordedCalls, IsReadableOne}
+use Rattle.kmipa_search.specs.Progress.{AllReadable}
 use Rattle.kmipa_search.specs.declared.candidate.Candidate.{Candidate}
 use Rattle.kmipa_search.proofs.PermutationLemmas.{contains_mapped}
 use Rattle.kmipa_search.proofs.PlaceLemmas.{one_cases}
@@ -116,6 +119,19 @@ more_of_calls calls own more one c is same there of d has =
       | inl l ↦ of d l
       | inr r ↦ elim (one_cases (own_call one) d [] r) [
         | inl e ↦ let R : CallOf → Type 0 = λ x. Contains calls x in subst R (sym same ∙ e) there
+        | inr none ↦ absurd (omega (arith, none.1))
+      ]
+    ]
+
+-- one call more is plain
+pub readable_more : (own more : List Candidate) (one : Candidate) → more ≡ own ++ one ∷ [] → AllReadable (map candidate_step own) → IsReadableOne one → AllReadable (map candidate_step more)
+readable_more own more one is each last c has =
+    let P : List Candidate → Type 0 = λ cs. Contains (map candidate_step cs) c in
+    let Q : List StepOf → Type 0 = λ cs. Contains cs c in
+    elim (Contains-append_cases (map candidate_step own) (candidate_step one ∷ []) c (subst Q (map-append candidate_step own (one ∷ [])) (subst P is has))) [
+      | inl l ↦ each c l
+      | inr r ↦ elim (one_cases (candidate_step one) c [] r) [
+        | inl e ↦ let R : StepOf → Type 0 = λ x. IsReadableCall x.request x.response in subst R e last
         | inr none ↦ absurd (omega (arith, none.1))
       ]
     ]

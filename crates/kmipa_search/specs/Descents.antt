@@ -35,6 +35,7 @@ pub record Descends (rules : RulesOf) (calls : List StepOf) (budget : ℕ) (firs
   pub ranked : IsRanked (length calls) InAnyOrder d.wishes.order.items d.wishes.rank.items
   pub wished : AreBegun calls → WereLinked (length calls) d.wishes.rank.items (places (reverse d.path.items)) d.by_wish.after.items d.by_wish.before.items
   pub memory : Remembers rules calls first d.front (places (reverse d.path.items)) d.taken d.ends.ends.items
+  pub paid : length d.path.items ≤ d.steps
 
 -- this is the call to try next, or there is none
 abbrev pub IsDue : List StepOf → Descent → Option Pick → Type 0

@@ -1,5 +1,5 @@
 -- What a search of calls comes to. Not promised: `Found` says what a search tells.
-use Rattle.std.specs.Prelude.{ℕ, List, Option, None, Vec, Result, Ok, Err, option_map}
+use Rattle.std.specs.Prelude.{◌≤◌, ℕ, List, length, Option, None, IfSome, Vec, Result, Ok, Err, option_map}
 use Rattle.std.specs.declared.alloc.Global.{Global}
 use Rattle.kmipa_record.specs.Declarations.{DeclarationOf}
 use Rattle.kmipa_check.specs.Steps.{StepOf}
@@ -15,6 +15,10 @@ TellsOutcome declared calls budget (Ok l) = ComesTo declared calls budget (optio
 TellsOutcome declared calls budget (Err Memory) = Unit {0}
 TellsOutcome declared calls budget (Err (Outside number side o)) = ⊥
 TellsOutcome declared calls budget (Err (Witness f)) = ⊥
+
+-- no more calls were tried than the budget has, and each call of the order was
+abbrev pub KeepsBudget : ℕ → Outcome → Type 0
+KeepsBudget budget l = (l.steps ≤ budget) × IfSome l.order (λ order. length order.items ≤ l.steps)
 
 -- what is reported of a call that was not taken
 abbrev pub not_taken : CallRefusal → Result (Option ℕ) CheckFault

@@ -7,7 +7,7 @@ ghost use Rattle.kmipa_msgs.specs.Messages.{rules_of};
 ghost use Rattle.kmipa_batch.specs.Readable.{IsReadableCall};
 ghost use Rattle.kmipa_search.specs.Candidates.{candidate_step};
 ghost use Rattle.kmipa_search.specs.Progress.{AllReadable, CallTried, Opens};
-ghost use Rattle.kmipa_search.specs.Outcomes.{TellsOutcome, not_taken};
+ghost use Rattle.kmipa_search.specs.Outcomes.{KeepsBudget, TellsOutcome, not_taken};
 
 use crate::candidate::Candidate;
 use crate::ends::Ends;
@@ -72,6 +72,7 @@ pub fn find_order<L: Ledger, W: Watch>(
     requires sound { IsSound (L.state ledger.old).now }
     requires readable { AllReadable (map candidate_step calls.now) }
     ensures within { IfOk result (λ l. IfSome l.order (λ o. All (λ p. p < length calls.now) o.items)) }
+    ensures bounded { IfOk result (KeepsBudget budget) }
     ensures tells { (declared : DeclarationOf)
         → Opens declared (rules_of rules.now) (map candidate_step calls.now) (L.state ledger.old).now
         → TellsOutcome declared (map candidate_step calls.now) budget result }
@@ -127,6 +128,7 @@ impl Descent {
         requires descends { Descends (rules_of rules.now) (map candidate_step calls.now) budget (L.state ledger.old).now
             self.old (L.state ledger.old) }
         ensures within { IfOk result (λ l. IfSome l.order (λ o. All (λ p. p < length calls.now) o.items)) }
+        ensures bounded { IfOk result (KeepsBudget budget) }
         ensures tells { (declared : DeclarationOf)
             → Opens declared (rules_of rules.now) (map candidate_step calls.now) (L.state ledger.old).now
             → TellsOutcome declared (map candidate_step calls.now) budget result }

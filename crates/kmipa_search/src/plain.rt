@@ -5,6 +5,7 @@ ghost use Rattle.kmipa_check.specs.Calls.{call_of};
 ghost use Rattle.kmipa_search.specs.Candidates.{AreNotPlain, AreOfCalls, IsNotPlain, candidate_step, own_call};
 ghost use Rattle.kmipa_search.specs.Guessing.{AreRecordedCalls, AreReadableOnes, IsReadableOne, IsRecordedCall};
 ghost use Rattle.kmipa_search.specs.Plain.{ArePlain, IsPlainStep};
+ghost use Rattle.kmipa_search.specs.Progress.{AllReadable};
 ghost use Rattle.kmipa_record.specs.Witnesses.{turn_of};
 ghost use Rattle.kmipa_check.specs.Plain.{bare_turn};
 
@@ -63,6 +64,24 @@ pub fn every_candidate<'b, 'a>(
         }
     }
     Ok(own)
+}
+
+/// The calls again, where all are plain.
+pub fn all_plain<'b, 'a>(
+    alloc: Global,
+    calls: &[Candidate<'b, 'a>],
+) -> Result<Option<Vec<Candidate<'b, 'a>>>, AllocError>
+    requires { AreRecordedCalls calls.now }
+    ensures { IfOk result (λ own. IfSome own (λ own. AllReadable (map candidate_step own.items))) }
+{
+    let mut own = Vec::with_capacity(alloc, calls.len())?;
+    'calls: for call in calls {
+        let Some(one) = plain_one(call) else {
+            return Ok(None);
+        };
+        own.push(one)?;
+    }
+    Ok(Some(own))
 }
 
 /// Of each call, the call again if it is plain, or else none.

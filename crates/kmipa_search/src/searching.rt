@@ -5,9 +5,10 @@ ghost use Rattle.kmipa_record.specs.Declarations.{AreDeclared, declaration_of};
 ghost use Rattle.kmipa_record.specs.Marks.{AreRecorded, MarkOf};
 ghost use Rattle.kmipa_record.specs.Transcripts.{transcript_of};
 ghost use Rattle.kmipa_record.specs.Witnesses.{IsWitness, witness_of};
-ghost use Rattle.kmipa_check.specs.Calls.{AreCalls, IsRecorded, call_of};
+ghost use Rattle.kmipa_check.specs.Calls.{AreCalls, CallOf, IsRecorded, call_of};
 ghost use Rattle.kmipa_check.specs.Runs.{IsAccepted};
 ghost use Rattle.kmipa_search.specs.Candidates.{AreNotPlain, candidate_step};
+ghost use Rattle.kmipa_search.specs.Guessing.{AreRecordedCalls};
 ghost use Rattle.kmipa_search.specs.Plain.{ArePlain};
 ghost use Rattle.kmipa_search.specs.Progress.{AllReadable};
 ghost use Rattle.kmipa_search.specs.Found.{Finds, Searches};
@@ -19,7 +20,7 @@ use crate::forthright::forthright_order;
 use crate::found::Found;
 use crate::guessing::guess_order;
 use crate::order::find_order;
-use crate::plain::{bare_turn, candidates, every_candidate};
+use crate::plain::{all_plain, bare_turn, candidates, every_candidate};
 use crate::watch::{Unwatched, Watch};
 use kmipa_check::{
     Call, CheckFault, Verdict, check, check_calls, open_ledger, read_calls, rules_of_declaration,
@@ -34,7 +35,8 @@ use std::alloc::{AllocError, Global};
 /// the order of their begin marks, depth first. Of plain calls that is so for the first 1,000 steps; from then on, in the places that are
 /// open and in those to come, those without effect are tried first, and each by its end mark; where more than 64 may be next, they go on
 /// in the order of their begin marks. And coming back from a call without effect, the search goes back at once, and so it does where the
-/// same calls were taken before and left the same objects, and led to nothing. Where a call waits for payloads, each of them has one guess.
+/// same calls were taken before and left the same objects, and led to nothing. Calls without an end mark are left out. Where a call waits for
+/// payloads or has no order, each payload has one guess, and nothing is remembered.
 ///
 /// Where all calls are plain and the budget is enough for them, the order in which they are tried if each is possible is made first, without a
 /// ledger, and checked: mostly it is the one that is found, and the calls are taken once.
@@ -192,11 +194,65 @@ fn search_waiting<W: Watch>(
         → AreCalls (transcript_of transcript.now) (map call_of calls.now) → AreNotPlain (map call_of calls.now)
         → Searches (transcript_of transcript.now) (declaration_of declaration.now) budget result }
 {
+    let own = every_candidate(alloc, calls)?;
+    match all_plain(alloc, &own)? {
+        Some(ended) => search_ended(alloc, transcript, declaration, &ended, budget, watch),
+        None => search_guessing(alloc, transcript, declaration, &own, budget, watch),
+    }
+}
+
+/// The same where all calls that have ended are plain, which are these: they are taken as those of a plain transcript, and the others are left
+/// out.
+fn search_ended<W: Watch>(
+    alloc: Global,
+    transcript: &Transcript,
+    declaration: &Declaration,
+    ended: &[Candidate],
+    budget: u64,
+    watch: &mut W,
+) -> Result<Found, CheckFault>
+    requires declared { AreDeclared (declaration_of declaration.now) }
+    requires readable { AllReadable (map candidate_step ended.now) }
+    ensures { (calls : List CallOf) → AreRecorded (transcript_of transcript.now)
+        → AreCalls (transcript_of transcript.now) calls → AreNotPlain calls
+        → Searches (transcript_of transcript.now) (declaration_of declaration.now) budget result }
+{
     check_laws();
     let rules = rules_of_declaration(alloc, declaration)?;
     let mut ledger = open_ledger(alloc, declaration)?;
-    let own = every_candidate(alloc, calls)?;
-    let Ok(guessed) = guess_order(alloc, &mut ledger, &rules, &own, budget, watch) else {
+    let Ok(tried) = find_order(alloc, &mut ledger, &rules, ended, budget, watch) else {
+        return Err(CheckFault::Memory);
+    };
+    let steps = tried.steps;
+    let order = tried.order;
+    match order {
+        Some(order) => {
+            let witness = witness_at(alloc, ended, &order)?;
+            try_witness(alloc, transcript, declaration, witness, steps)
+        }
+        None => Ok(Found::GaveUp(steps)),
+    }
+}
+
+/// The same where one that has ended isn't plain: each payload that it waits for has one guess.
+fn search_guessing<W: Watch>(
+    alloc: Global,
+    transcript: &Transcript,
+    declaration: &Declaration,
+    own: &[Candidate],
+    budget: u64,
+    watch: &mut W,
+) -> Result<Found, CheckFault>
+    requires declared { AreDeclared (declaration_of declaration.now) }
+    requires recorded { AreRecordedCalls own.now }
+    ensures { (calls : List CallOf) → AreRecorded (transcript_of transcript.now)
+        → AreCalls (transcript_of transcript.now) calls → AreNotPlain calls
+        → Searches (transcript_of transcript.now) (declaration_of declaration.now) budget result }
+{
+    check_laws();
+    let rules = rules_of_declaration(alloc, declaration)?;
+    let mut ledger = open_ledger(alloc, declaration)?;
+    let Ok(guessed) = guess_order(alloc, &mut ledger, &rules, own, budget, watch) else {
         return Err(CheckFault::Memory);
     };
     let steps = guessed.steps;

@@ -1,5 +1,5 @@
-use Rattle.std.proofs.Common.{◌≡◌, ◌<◌, ◌+◌, List, ◌∷◌, map, length, reverse, None, suc, refl, ap, subst, arith}
-use Rattle.std.proofs.lemmas.List.{length-map, length-reverse}
+use Rattle.std.proofs.Common.{◌≡◌, ◌<◌, ◌+◌, List, [], ◌∷◌, map, length, reverse, None, suc, refl, ap, subst, arith}
+use Rattle.std.proofs.lemmas.List.{length-append, length-map, length-reverse}
 use Rattle.kmipa_search.specs.Candidates.{candidate_step}
 use Rattle.kmipa_search.specs.Descents.{Progress}
 use Rattle.kmipa_search.specs.Ends.{Remembers}
@@ -46,4 +46,5 @@ returns-clause-descends g c = λ rules first budget d due few went.
           remembers_back rules calls first s.front W.rank.items budget s.remaining visit visits s.tried s.depth s.steps u s.taken c.give_back-2.new.self s.ends.ends.items c.note.new.self.ends.items
           t none fewer m (λ b. c.note.ensures (length calls) (places (visit ∷ visits)) (m.flagged b) long)
           (λ b. c.give_back-2.ensures (length calls) (places visits) (m.flagged b) (c.give_back.ensures.cursor (places visits) (t.remaining b)).left);
+      paid = (let p = d.paid in omega (arith, p, ap length c.in-Some.ensures.items, length-append c.pop.new.self.items (visit ∷ [])));
     }

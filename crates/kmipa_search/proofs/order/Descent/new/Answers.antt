@@ -1,4 +1,4 @@
-use Rattle.std.proofs.Common.{ℕ, List, [], map, length, reverse, refl, sym, subst}
+use Rattle.std.proofs.Common.{ℕ, List, [], map, length, reverse, refl, sym, ap, subst, arith}
 use Rattle.std.proofs.lemmas.List.{length-map}
 use Rattle.kmipa_search.specs.Candidates.{candidate_step}
 use Rattle.kmipa_search.specs.Descents.{Progress}
@@ -43,4 +43,5 @@ returns g c = λ rules budget.
       memory =
           subst M (sym c.new-5.ensures.items)
           (remembers_begin rules calls u.now c.in_ok-front.front F E c.in_ok-front.ensures (subst N (sym same) c.in_ok-taken.ensures) c.new-4.ensures);
+      paid = omega (arith, ap length c.new-5.ensures.items);
     }

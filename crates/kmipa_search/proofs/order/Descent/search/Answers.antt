@@ -4,6 +4,7 @@ use Rattle.std.proofs.lemmas.List.{length-map, length-reverse, reverse-reverse}
 use Rattle.kmipa_msgs.specs.Messages.{rules_of}
 use Rattle.kmipa_search.specs.Candidates.{candidate_step}
 use Rattle.kmipa_search.specs.Descents.{Progress, IsBack}
+use Rattle.kmipa_search.specs.Outcomes.{KeepsBudget}
 use Rattle.kmipa_search.specs.Progress.{AreBegun, ComesTo, places}
 use Rattle.kmipa_search.specs.Tries.{IsPick, IsPicked}
 use Rattle.kmipa_search.specs.declared.order.Outcome.{Outcome}
@@ -29,6 +30,11 @@ returns-then-self-budget-clause-tells g c = λ declared o.
     (progress_stop rules calls W.rank.items ranks c.args.budget first s.remaining visits s.tried s.depth s.steps u d.progress
     c.in-Some.pick.place c.in-Some.pick.tried f c.if-self-budget.true declared o
     (omega (arith, c.tries-test.true, c.len.ensures, length-reverse s.path.items, length-map c.args.calls.now candidate_step)))
+
+pub returns-then-self-budget-clause-bounded : goal.returns-then-self-budget-clause-bounded
+returns-then-self-budget-clause-bounded g c =
+    let P : Outcome → Type 0 = λ l. KeepsBudget c.args.budget l in
+    subst P (sym c.given_up.ensures) (c.tries.invariant.progress.few, tt)
 
 pub tries-preserved-in_ok-step-in-Some : goal.tries-preserved-in_ok-step-in-Some
 tries-preserved-in_ok-step-in-Some g c =
@@ -70,6 +76,15 @@ returns-then-not-branch-clause-tells g c = λ declared o.
     (progress_end rules calls W.rank.items ranks c.args.budget first s.remaining s.tried s.depth s.steps u (subst T empty d.progress) none
     (omega (arith, c.tries-test.true, length-map c.args.calls.now candidate_step)) declared o))
 
+pub returns-then-not-branch-clause-bounded : goal.returns-then-not-branch-clause-bounded
+returns-then-not-branch-clause-bounded g c =
+    let s = c.tries.self in
+    let B : Bool → Type 0 = λ b. IsBack s c.go_back.new.self b in
+    let back : IsBack s c.go_back.new.self false = subst B c.if-not-branch.true c.in_ok-go_back-in-None.ensures.moves in
+    let few = c.tries.invariant.progress.few in
+    let P : Outcome → Type 0 = λ l. KeepsBudget c.args.budget l in
+    subst P (sym c.given_up-then-not-branch.ensures) (omega (arith, few, back.0), tt)
+
 pub tries-preserved : goal.tries-preserved
 tries-preserved g c =
     let d = c.tries.invariant in
@@ -85,6 +100,15 @@ returns-clause-within g c =
     let e : reverse c.in_ok-places.field-0.items ≡ places visits = ap reverse (sym same) ∙ reverse-reverse (places visits) in
     within_reversed (length c.args.calls.now) c.in_ok-places.field-0.items
     (λ p has. let P : List ℕ → Type 0 = λ ps. Contains ps p in let below = c.tries.invariant.progress.within p (subst P e has) in omega (arith, below, length-map c.args.calls.now candidate_step))
+
+pub returns-clause-bounded : goal.returns-clause-bounded
+returns-clause-bounded g c =
+    let s = c.tries.self in
+    let d = c.tries.invariant in
+    let paid = d.paid in (
+      d.progress.few,
+      omega (arith, paid, ap length c.in_ok-places.ensures, length-map s.path.items (λ (v : Visit). v.place), ap (λ (vs : List Visit). length (places vs)) c.deref.ensures.value),
+    )
 
 pub returns-clause-tells : goal.returns-clause-tells
 returns-clause-tells g c = λ declared o.

@@ -1,5 +1,5 @@
-use Rattle.std.proofs.Common.{◌≡◌, ◌<◌, ◌+◌, ◌∙◌, ℕ, List, ◌∷◌, map, length, reverse, Option, Ok, refl, sym, ap, subst, arith}
-use Rattle.std.proofs.lemmas.List.{length-map, length-reverse}
+use Rattle.std.proofs.Common.{◌≡◌, ◌<◌, ◌+◌, ◌∙◌, ℕ, List, [], ◌∷◌, map, length, reverse, Option, Ok, refl, sym, ap, subst, arith}
+use Rattle.std.proofs.lemmas.List.{length-append, length-map, length-reverse}
 use Rattle.std.proofs.lemmas.Option.{get_or_from_slice_get}
 use Rattle.kmipa_check.specs.Steps.{StepOf}
 use Rattle.kmipa_msgs.specs.Messages.{rules_of}
@@ -43,6 +43,7 @@ returns-in_default-clause-descends g c = λ first budget d due left.
       ranked = d.ranked;
       wished = d.wished;
       memory = d.memory;
+      paid = (let p = d.paid in omega (arith, p));
     }
 
 pub returns-clause-descends : goal.returns-clause-descends
@@ -91,4 +92,5 @@ returns-clause-descends g c = λ first budget d due left.
           (wished_without (length calls) W (places visits) s.by_wish c.remove.new.self place c.rank.result c.rank.ensures d.ranked below (f b).next.left (d.wished b) c.remove.ensures.after
           c.remove.ensures.before);
       memory = subst M (sym longer) memory;
+      paid = (let p = d.paid in omega (arith, p, ap length c.in_ok-push.ensures.items, length-append s.path.items (visit ∷ [])));
     }
