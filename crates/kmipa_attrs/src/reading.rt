@@ -75,7 +75,8 @@ fn description(children: Children) -> Result<Description, AttrFault>
 
 /// What tells of the object's life. Most descriptions tell nothing of it, which one look at the tags shows.
 fn life(children: Children, side: Side) -> Result<(Stages, Ends), AttrFault>
-    ensures { result ≡ both attr_number (stages_in side (view_trees children.entry)) (ends_in side (view_trees children.entry)) }
+    ensures { result ≡ both attr_number (stages_in side (view_trees children.entry))
+        (ends_in side (view_trees children.entry)) }
 {
     if !tells_of_life(children) {
         return Ok((((None, None), (None, None)), ((None, None), ())));

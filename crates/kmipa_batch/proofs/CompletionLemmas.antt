@@ -14,7 +14,7 @@ use Rattle.kmipa_ops.specs.Does.{Outcome}
 use Rattle.kmipa_ops.specs.Chains.{Chain, ChainSome}
 use Rattle.kmipa_batch.specs.Shapes.{IsShaped}
 use Rattle.kmipa_batch.specs.Calls.Leaves.{goes_back, goes_on}
-use Rattle.kmipa_batch.specs.Orders.{IsAnswered, IsTakingOrder, one_of, along}
+use Rattle.kmipa_batch.specs.Orders.{IsAnsweredPlace, IsTakingOrder, one_of, along}
 use Rattle.kmipa_batch.specs.Calls.{pairs_of, pairs_taken, Leaves, RefusesMessage, MayTake, CompletesAnswers, CallSome, CallSomeAlong}
 use Rattle.kmipa_batch.proofs.ShapeLemmas.{Alike, alike_sym, none_alike, first_alike, shape_alike}
 use Rattle.kmipa_batch.proofs.PlaceLemmas.{both, zip_get}
@@ -194,7 +194,7 @@ chain_full_along : (rules : RulesOf) (V : List Thing) (p : Option (List ℕ)) (r
     → (fulls : List AnswerOf) × CompletesAnswers request.items response.items fulls × Chain rules response.stamp V p (along (zip request.items fulls) order) W q
 chain_full_along rules V p request response order W q o c =
     let f = filled rules response.stamp request.items response.items order
-    (λ position place e. let h : IsAnswered request response place = o.answered position place e in pair_there request.items response.items place h.0 h.1) o.once V p W q c in
+    (λ position place e. let h : IsAnsweredPlace request response place = o.answered position place e in pair_there request.items response.items place h.0 h.1) o.once V p W q c in
     (f.fulls, completes_each request.items response.items f.fulls (λ place. by f place (slice_get request.items place) refl (slice_get response.items place) refl), f.chain)
   where
     by : (f : Filled rules response.stamp request.items response.items order V p W q) (place : ℕ) (k : Option AskOf) → slice_get request.items place ≡ k → (x : Option AnswerOf) → slice_get response.items place ≡ x
@@ -204,7 +204,7 @@ chain_full_along rules V p request response order W q o c =
         f.done at.0 place at.1
     by f place k e None g =
         let same : slice_get f.fulls place ≡ None = f.rest place (λ position there.
-        let h : IsAnswered request response place = o.answered position place there in
+        let h : IsAnsweredPlace request response place = o.answered position place there in
         let a = below_get response.items place h.1 in
         let b = a.1 in
         let bad : ⊥ = cc in bad) ∙ g in
@@ -213,7 +213,7 @@ chain_full_along rules V p request response order W q o c =
         subst A (sym g) (subst F (sym same) tt)
     by f place None e (Some x) g =
         let same : slice_get f.fulls place ≡ Some x = f.rest place (λ position there.
-        let h : IsAnswered request response place = o.answered position place there in
+        let h : IsAnsweredPlace request response place = o.answered position place there in
         let a = below_get request.items place h.0 in
         let b = a.1 in
         let bad : ⊥ = cc in bad) ∙ g in

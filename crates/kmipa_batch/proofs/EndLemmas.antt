@@ -9,7 +9,7 @@ use Rattle.kmipa_store.proofs.SoundLemmas.{InRange-extends}
 use Rattle.kmipa_msgs.specs.declared.request.BatchOption.{BatchOption}
 use Rattle.kmipa_msgs.specs.declared.request.BatchOption.TheVariants.{Undo}
 use Rattle.kmipa_msgs.specs.Messages.{RulesOf, AskOf, RequestOf, AnswerOf, ResponseOf}
-use Rattle.kmipa_ops.specs.Explains.{Tells}
+use Rattle.kmipa_ops.specs.Explains.{BringsOrShows}
 use Rattle.kmipa_ops.proofs.ExplainLemmas.{tells_front}
 use Rattle.kmipa_batch.specs.declared.refusal.CallRefusal.{CallRefusal}
 use Rattle.kmipa_batch.specs.declared.refusal.CallRefusal.TheVariants.{Impossible, Memory}
@@ -31,29 +31,29 @@ leaves_back : (option : BatchOption) (answers : List AnswerOf) (V M W : List Thi
 leaves_back option answers V M W f o w l = elim l [ goes_back p g x is ↦ is | goes_on p is ↦ absurd (none_first answers f (p o) w) ]
 
 -- what is reported along an order is reported
-tells_one : (o : Option (AskOf × AnswerOf)) (xs : List (AskOf × AnswerOf)) (bytes : List ℕ) → Tells (one_of o ++ xs) bytes → ((x : AskOf × AnswerOf) × (o ≡ Some x) × Tells (x ∷ []) bytes) ⊎ Tells xs bytes
+tells_one : (o : Option (AskOf × AnswerOf)) (xs : List (AskOf × AnswerOf)) (bytes : List ℕ) → BringsOrShows (one_of o ++ xs) bytes → ((x : AskOf × AnswerOf) × (o ≡ Some x) × BringsOrShows (x ∷ []) bytes) ⊎ BringsOrShows xs bytes
 tells_one None xs bytes h = inr h
 tells_one (Some x) xs bytes h = elim h [
   | inl a ↦ inl (x, refl, inl a)
   | inr b ↦ (elim b [ inl c ↦ inl (x, refl, inr (inl c)) | inr d ↦ inr d ])
 ]
 
-tells_there : (xs : List (AskOf × AnswerOf)) (place : ℕ) (x : AskOf × AnswerOf) (bytes : List ℕ) → slice_get xs place ≡ Some x → Tells (x ∷ []) bytes → Tells xs bytes
+tells_there : (xs : List (AskOf × AnswerOf)) (place : ℕ) (x : AskOf × AnswerOf) (bytes : List ℕ) → slice_get xs place ≡ Some x → BringsOrShows (x ∷ []) bytes → BringsOrShows xs bytes
 tells_there [] place x bytes e h = let bad : ⊥ = cc in absurd bad
 tells_there (y ∷ xs) zero x bytes e h =
     let is : x ≡ y = cc in
-    let P : AskOf × AnswerOf → Type 0 = λ z. Tells (z ∷ []) bytes in
+    let P : AskOf × AnswerOf → Type 0 = λ z. BringsOrShows (z ∷ []) bytes in
     tells_front (y ∷ []) xs bytes (subst P is h)
 tells_there (y ∷ xs) (suc place) x bytes e h = inr (inr (tells_there xs place x bytes e h))
 
-tells_along : (xs : List (AskOf × AnswerOf)) (order : List ℕ) (bytes : List ℕ) → Tells (along xs order) bytes → Tells xs bytes
+tells_along : (xs : List (AskOf × AnswerOf)) (order : List ℕ) (bytes : List ℕ) → BringsOrShows (along xs order) bytes → BringsOrShows xs bytes
 tells_along xs [] bytes h = absurd h
 tells_along xs (place ∷ order) bytes h = elim (tells_one (slice_get xs place) (along xs order) bytes h) [
   | inl a ↦ tells_there xs place a.0 bytes a.1 a.2
   | inr b ↦ tells_along xs order bytes b
 ]
 
-tells_taken : (request : RequestOf) (response : ResponseOf) (order : Option (List ℕ)) (bytes : List ℕ) → Tells (pairs_taken request response order) bytes → Tells (pairs_of request response) bytes
+tells_taken : (request : RequestOf) (response : ResponseOf) (order : Option (List ℕ)) (bytes : List ℕ) → BringsOrShows (pairs_taken request response order) bytes → BringsOrShows (pairs_of request response) bytes
 tells_taken request response None bytes h = h
 tells_taken request response (Some order) bytes h = tells_along (pairs_of request response) order bytes h
 
@@ -71,8 +71,8 @@ refused_explains rules m request response None may r = record {
 }
 
 module _ (rules : RulesOf) (m : Meaning) (request : RequestOf) (response : ResponseOf) (order : Option (List ℕ)) (may : MayTake request response order) where
-  learned : (number : ℕ) (bytes : List ℕ) → (bytes_at m.secrets number ≡ Some (Some bytes)) ⊎ Tells (pairs_taken request response order) bytes
-      → (bytes_at m.secrets number ≡ Some (Some bytes)) ⊎ Tells (pairs_of request response) bytes
+  learned : (number : ℕ) (bytes : List ℕ) → (bytes_at m.secrets number ≡ Some (Some bytes)) ⊎ BringsOrShows (pairs_taken request response order) bytes
+      → (bytes_at m.secrets number ≡ Some (Some bytes)) ⊎ BringsOrShows (pairs_of request response) bytes
   learned number bytes h = elim h [ inl a ↦ inl a | inr b ↦ inr (tells_taken request response order bytes b) ]
 
   module _ (n : Meaning) (unrefused : RefusesMessage response → ⊥) (ran : AllTaken rules m request response order n) where

@@ -49,10 +49,6 @@ abbrev pub MayTake : RequestOf → ResponseOf → Option (List ℕ) → Type 0
 MayTake request response None = Unit {0}
 MayTake request response (Some order) = (is_unordered request ≡ true) × (RefusesMessage response → ⊥) × IsTakingOrder request response order
 
--- a call, in some order in which it may be done
-abbrev pub Call : RulesOf → List Thing → RequestOf → ResponseOf → List Thing → Type 0
-Call rules V request response V' = (order : Option (List ℕ)) × MayTake request response order × CallAlong rules V request response order V'
-
 -- each answer is completed, and one without an item of the request stays
 abbrev pub CompletesAnswers : List AskOf → List AnswerOf → List AnswerOf → Type 0
 CompletesAnswers asks [] [] = Unit {0}

@@ -9,14 +9,14 @@ abbrev pub is_unordered : RequestOf → Bool
 is_unordered request = not request.ordered && nat_lt 1 (length request.items)
 
 -- the request has an item at this place, and the response an answer
-abbrev pub IsAnswered : RequestOf → ResponseOf → ℕ → Type 0
-IsAnswered request response place = (place < length request.items) × (place < length response.items)
+abbrev pub IsAnsweredPlace : RequestOf → ResponseOf → ℕ → Type 0
+IsAnsweredPlace request response place = (place < length request.items) × (place < length response.items)
 
 -- an order in which the items of a call without order may have been done: each answered place stands there once, and no other place; and
 -- under Stop and Undo the first that failed stands last, since it ended the batch (profile)
 pub record IsTakingOrder (request : RequestOf) (response : ResponseOf) (order : List ℕ) : Type 0 where
-  pub answered : (position place : ℕ) → slice_get order position ≡ Some place → IsAnswered request response place
-  pub all : (place : ℕ) → IsAnswered request response place → (position : ℕ) × (slice_get order position ≡ Some place)
+  pub answered : (position place : ℕ) → slice_get order position ≡ Some place → IsAnsweredPlace request response place
+  pub all : (place : ℕ) → IsAnsweredPlace request response place → (position : ℕ) × (slice_get order position ≡ Some place)
   pub once : (position other place : ℕ) → slice_get order position ≡ Some place → slice_get order other ≡ Some place → position ≡ other
   pub last : request.option ≢ Continue → (failed : ℕ) → IsFirstFailed response.items failed → (before : List ℕ) × (order ≡ before ++ failed ∷ [])
 

@@ -9,7 +9,7 @@ use Rattle.kmipa_ops.specs.declared.why.Why.{Why}
 use Rattle.kmipa_ops.specs.declared.why.Why.TheVariants.{BatchShape}
 use Rattle.kmipa_ops.specs.Chains.{ChainSome}
 use Rattle.kmipa_ops.specs.Ascending.{SecretsAscend}
-use Rattle.kmipa_ops.specs.Explains.{Explains, Tells, Refuted}
+use Rattle.kmipa_ops.specs.Explains.{Explains, BringsOrShows, Refuted}
 use Rattle.kmipa_batch.specs.Shapes.{IsShapedAt, IsFirstUnshaped}
 use Rattle.kmipa_batch.specs.Orders.{is_unordered, place_at}
 use Rattle.kmipa_batch.specs.Calls.{pairs_of, pairs_taken, RefusesMessage, CallSomeAlong}
@@ -25,7 +25,7 @@ pub record CallExplainsAlong (rules : RulesOf) (m : Meaning) (request : RequestO
       → (d : Choice) × Chooses n.secrets d × Agrees (length m.secrets) c d × (V ≡ inv d n.objects)
   -- bytes are known only where they were, or where an item reported them
   pub learns : (number : ℕ) (bytes : List ℕ) → bytes_at n.secrets number ≡ Some (Some bytes)
-      → (bytes_at m.secrets number ≡ Some (Some bytes)) ⊎ Tells (pairs_of request response) bytes
+      → (bytes_at m.secrets number ≡ Some (Some bytes)) ⊎ BringsOrShows (pairs_of request response) bytes
   pub grows : length m.secrets ≤ length n.secrets
   pub extends : Extends m.secrets n.secrets
   -- each object keeps a secret of its own
@@ -75,19 +75,3 @@ abbrev pub CallTakenAlong : RulesOf → LedgerState → RequestOf → ResponseOf
 CallTakenAlong rules s request response order (Ok done) u = CallExplainsAlong rules s.now request response order u.now × IsSound u.now × (u.marks ≡ s.marks)
 CallTakenAlong rules s request response order (Err (Impossible item why)) u = CallRefutedAlong rules s.now request response order item why × (u ≡ s)
 CallTakenAlong rules s request response order (Err Memory) u = u ≡ s
-
--- the same by place
-abbrev pub CallExplains : RulesOf → Meaning → RequestOf → ResponseOf → Meaning → Type 0
-CallExplains rules m request response n = CallExplainsAlong rules m request response None n
-
-abbrev pub IsPossibleUpTo : RulesOf → Meaning → RequestOf → ResponseOf → ℕ → Type 0
-IsPossibleUpTo rules m request response count = IsPossibleUpToAlong rules m request response None count
-
-abbrev pub SpeaksAt : RulesOf → Meaning → RequestOf → ResponseOf → ℕ → ℕ → Why → Type 0
-SpeaksAt rules m request response count item why = SpeaksAtAlong rules m request response None count item why
-
-abbrev pub CallRefuted : RulesOf → Meaning → RequestOf → ResponseOf → ℕ → Why → Type 0
-CallRefuted rules m request response item why = CallRefutedAlong rules m request response None item why
-
-abbrev pub CallTaken : RulesOf → LedgerState → RequestOf → ResponseOf → Result (Unit {0}) CallRefusal → LedgerState → Type 0
-CallTaken rules s request response result u = CallTakenAlong rules s request response None result u

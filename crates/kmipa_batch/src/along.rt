@@ -91,11 +91,11 @@ fn take_pair<L: Ledger>(
     let Some(answer) = response.items.get(place) else {
         return Ok(());
     };
-    let t = stamp_of(response);
+    let t = response_stamp(response);
     take(alloc, ledger, rules, placeholder, t, ask, answer)
 }
 
-fn stamp_of(response: &Response) -> i64
+fn response_stamp(response: &Response) -> i64
     ensures { result ≡ response.now.stamp }
 {
     response.stamp

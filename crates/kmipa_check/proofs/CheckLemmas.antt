@@ -9,8 +9,7 @@ use Rattle.kmipa_record.specs.Marks
 use Rattle.kmipa_record.specs.Witnesses.{TurnOf}
 use Rattle.kmipa_check.specs.Calls.{CallOf, call_of, AreCalls, IsRecorded}
 use Rattle.kmipa_check.specs.Steps.{StepOf}
-use Rattle.kmipa_check.specs.Orders.{IsOrder}
-use Rattle.kmipa_check.specs.Ordering.{AreFormed, OrderFault}
+use Rattle.kmipa_check.specs.Orders.{IsOrder, AreFormed, OrderFault}
 use Rattle.kmipa_check.specs.Replays.{TellsRun, AllTakable}
 use Rattle.kmipa_check.specs.Verdicts.{Checks}
 use Rattle.kmipa_check.specs.CallReading.{CallsFault}

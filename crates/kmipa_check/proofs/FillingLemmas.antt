@@ -13,14 +13,15 @@ use Rattle.kmipa_msgs.specs.Wanted.{Wanted}
 use Rattle.kmipa_check.specs.declared.numbers.FirstPlaces.{FirstPlaces}
 use Rattle.kmipa_check.specs.declared.fault.StepFault.{StepFault}
 use Rattle.kmipa_check.specs.declared.fault.StepFault.TheVariants.{Unfit, Memory}
-use Rattle.kmipa_check.specs.Fills.{IsWantedAt, IsWanted, IsFor, AreWanted, NoneMissing, SaysFill, with_payload, IsFilledAt, stays, put_in, IsFilled}
-use Rattle.kmipa_check.specs.Filling.{IsWantedItem, HasFillFor, AreNumbered, AreWantedBelow, HaveFillsBelow, IsPutAt, waits, put, IsFilledUpTo, FillRead, FormFault, FillsRefused}
+use Rattle.kmipa_check.specs.Fills.{IsWantedAt, IsWanted, IsFor, AreWanted, NoneMissing, SaysFill, with_payload, IsFilledAt, stays, put_in, IsFilled, IsWantedItem, HasFillFor, HaveFillsBelow}
+use Rattle.kmipa_check.specs.Filling.{AreNumbered, AreWantedBelow, IsPutAt, waits, put, IsFilledUpTo, FillRead, FormFault, FillsRefused}
 use Rattle.kmipa_check.specs.Calls.{CallOf}
 use Rattle.kmipa_check.specs.CallReading.{AnswerRead}
 use Rattle.kmipa_check.specs.Orders.{Refuses, formless, unfit_answer, unfit_places, unfilled}
 use Rattle.kmipa_check.specs.Places.{AreTaken, PlacesRefused}
 use Rattle.kmipa_check.specs.Numbers.{place_in, StandsFirst, Indexes, is_noted}
-use Rattle.kmipa_check.specs.Ordering.{Decided, NoneWantedBelow}
+use Rattle.kmipa_check.specs.Ordering.{NoneWantedBelow}
+use Rattle.kmipa_check.specs.Deciding.{Decided}
 use Rattle.kmipa_check.specs.Steps.{NeedsFill, IsAnswered}
 use Rattle.kmipa_check.proofs.FillLemmas.{pair_at, pair_left, pair_right, once_at, filled_itself}
 use Rattle.kmipa_check.proofs.PlaceLemmas.{below_suc, mapped_from, contains_at, at_contains, get_at, at_within}

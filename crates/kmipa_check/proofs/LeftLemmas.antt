@@ -28,7 +28,7 @@ use Rattle.kmipa_check.specs.declared.verdict.Verdict.TheVariants.{Yes}
 use Rattle.kmipa_ops.specs.Ascending.{SecretsAscend}
 use Rattle.kmipa_check.specs.declared.verdict.Verdict.{Verdict}
 use Rattle.kmipa_check.specs.declared.verdict.Verdict.TheVariants.{No}
-use Rattle.kmipa_check.specs.Left.{LeavesAtYes, IsLeft, Leaves, attributes_left, bytes_left, entry_left, declaration_left}
+use Rattle.kmipa_check.specs.Left.{LeavesAtYes, IsLeft, LeavesDeclaration, attributes_left, bytes_left, entry_left, declaration_left}
 use Rattle.kmipa_check.specs.Runs.{Linked, rules_declared}
 use Rattle.kmipa_check.specs.Steps.{StepOf}
 use Rattle.kmipa_check.specs.Verdicts.{AreKnown}
@@ -263,7 +263,7 @@ module _ (declared : DeclarationOf) (m : Meaning) (sound : IsSound m) where
 
 -- a replay to the end leaves what the declaration of its ledger describes
 pub replayed_leaves : (marks : List MarkOf) (declared : DeclarationOf) (turns : List TurnOf) (calls : List CallOf) (order : List StepOf) (m : Meaning) (left : DeclarationOf) → AreCalls marks calls
-    → IsOrder calls turns order → Replayed declared order (length order) m → left ≡ declaration_left declared m → (l : Leaves marks declared turns left) × (l.steps ≡ order)
+    → IsOrder calls turns order → Replayed declared order (length order) m → left ≡ declaration_left declared m → (l : LeavesDeclaration marks declared turns left) × (l.steps ≡ order)
 replayed_leaves marks declared turns calls order m left are o r is =
     let P : List StepOf → Type 0 = λ steps. AreKnown declared steps m in
     let Q : DeclarationOf → Type 0 = λ d. IsLeft declared order d in (

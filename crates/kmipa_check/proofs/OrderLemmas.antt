@@ -14,9 +14,9 @@ use Rattle.kmipa_check.specs.declared.fault.WitnessKind.TheVariants.{UnknownCall
 use Rattle.kmipa_check.specs.declared.step.Step.{Step}
 use Rattle.kmipa_check.specs.Calls.{CallOf, call_of}
 use Rattle.kmipa_check.specs.Steps.{StepOf, IsStep, step_of}
-use Rattle.kmipa_check.specs.Orders.{NamesAt, HasCall, NamesBefore, IsFormed, AreFormedBelow, GivenFault, Refuses, TurnFault, unknown, twice, unfit, in_turn}
+use Rattle.kmipa_check.specs.Orders.{NamesAt, HasCall, NamesBefore, IsFormed, AreFormedBelow, GivenFault, Refuses, TurnFault, unknown, twice, unfit, in_turn, AreFormed, OrderFault}
 use Rattle.kmipa_check.specs.Numbers.{place_in, IsFirst, StandsFirst, Indexes, is_noted}
-use Rattle.kmipa_check.specs.Ordering.{AreFormed, TurnRefused, OrderFault, fault_at}
+use Rattle.kmipa_check.specs.Ordering.{TurnRefused, fault_at}
 use Rattle.kmipa_check.proofs.PlaceLemmas.{below_suc, mapped_at, mapped_from, contains_at, at_contains, get_at, pushed_at, some_at, at_within}
 
 -- one turn, by where its number first stands among the calls and among the turns

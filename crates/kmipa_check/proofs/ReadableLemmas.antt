@@ -1,7 +1,7 @@
 -- What a call says can be judged, where the payloads that it waits for are put in.
 use Rattle.std.proofs.Common.{◌≡◌, ◌⊎◌, inl, inr, ◌==◌, ◌||◌, not, if◌then◌else◌, ℕ, zero, suc, Bool, true, false, List, [], ◌∷◌, Option, Some, None, slice_get, refl, sym, ap, ◌∙◌, subst, arith}
 use Rattle.std.proofs.lemmas.Bool.Decides.{nat_tests}
-use Rattle.kmipa_ttlv.specs.Tree.{Tree, structure, scalar}
+use Rattle.kmipa_ttlv.specs.Tree.{Tree}
 use Rattle.kmipa_attrs.specs.Tags.{operation_tag, response_payload}
 use Rattle.kmipa_attrs.specs.declared.fields.Field.{Field}
 use Rattle.kmipa_attrs.specs.declared.fields.Field.TheVariants.{Absent, Wrong, There}
@@ -10,16 +10,16 @@ use Rattle.kmipa_attrs.specs.Fields.{first, at, as_enumeration}
 use Rattle.kmipa_msgs.specs.declared.response.Status.{Status}
 use Rattle.kmipa_msgs.specs.declared.response.Status.TheVariants.{Success, Failed, Undone}
 use Rattle.kmipa_msgs.specs.Operations.{operation_number, is_judged}
-use Rattle.kmipa_msgs.specs.Messages.{AskedOf, creates, registers, locates, gets, gets_attributes, activates, revokes, destroys, idles, does_other, AskOf, operation_asked, PayloadOf, created, registered, located, got, got_attributes, changed, AnswerOf, RequestOf, ResponseOf}
+use Rattle.kmipa_msgs.specs.Messages.{AskedOf, creates, registers, locates, idles, does_other, AskOf, operation_asked, PayloadOf, AnswerOf, RequestOf, ResponseOf}
 use Rattle.kmipa_msgs.specs.Tables.{children}
 use Rattle.kmipa_msgs.specs.Headers.{batch}
 use Rattle.kmipa_msgs.specs.Outside.{SaysEach}
-use Rattle.kmipa_msgs.specs.Payloads.{SaysPayloadOf}
 use Rattle.kmipa_msgs.specs.Replies.{own, or_empty, SaysRequired, SaysMaybe, filled, SaysJudged, SaysShown, SaysAnswer}
 use Rattle.kmipa_msgs.specs.Wanted.{NeedsPayload, IsOwn, Wanted}
 use Rattle.kmipa_ops.specs.Objects.{is_other}
-use Rattle.kmipa_ops.specs.Completes.{is_of, can_judge, has_payload, may_have, may_lack}
+use Rattle.kmipa_ops.specs.Completes.{can_judge, has_payload, may_have, may_lack}
 use Rattle.kmipa_ops.specs.Explains.{is_readable}
+use Rattle.kmipa_ops.proofs.SayableLemmas.{payload_said}
 use Rattle.kmipa_batch.specs.Calls.{pairs_of}
 use Rattle.kmipa_batch.specs.Readable.{AreReadable, IsReadableCall}
 use Rattle.kmipa_record.specs.Marks.{MarkOf}
@@ -31,28 +31,15 @@ use Rattle.kmipa_check.proofs.FillLemmas.{pair_left, pair_right}
 use Rattle.kmipa_check.proofs.FillingLemmas.{is_wanted_here}
 use Rattle.kmipa_check.proofs.PlaceLemmas.{some_at, at_within}
 
--- a payload that is said is one of the operation asked for
-of_asked : (asked : AskedOf) (t : Tree) (p : PayloadOf) → SaysPayloadOf (operation_asked asked) t p → is_of asked p ≡ true
-of_asked asked (scalar n s) p h = absurd h
-of_asked (creates a) (structure n ts) (created x) h = refl
-of_asked (registers r) (structure n ts) (registered x) h = refl
-of_asked (locates q) (structure n ts) (located ids) h = refl
-of_asked (gets id) (structure n ts) (got a) h = refl
-of_asked (gets_attributes g) (structure n ts) (got_attributes a) h = refl
-of_asked (activates id) (structure n ts) (changed shown) h = refl
-of_asked (revokes r) (structure n ts) (changed shown) h = refl
-of_asked (destroys id) (structure n ts) (changed shown) h = refl
-of_asked asked (structure n ts) p h = absurd h
-
 required : (asked : AskedOf) (t : Option Tree) (p : Option PayloadOf) → SaysRequired (operation_asked asked) t p → has_payload asked p ≡ true
-required asked (Some t) (Some p) h = of_asked asked t p h
+required asked (Some t) (Some p) h = (payload_said asked t p h).0
 required asked (Some t) None h = absurd h
 required asked None p h = absurd h
 
 maybe : (asked : AskedOf) (t : Option Tree) (p : Option PayloadOf) → SaysMaybe (operation_asked asked) t p → (p ≡ None → may_lack asked ≡ true) → may_have asked p ≡ true
 maybe asked None None h lacks = lacks refl
 maybe asked None (Some p) h lacks = absurd h
-maybe asked (Some t) (Some p) h lacks = of_asked asked t p h
+maybe asked (Some t) (Some p) h lacks = (payload_said asked t p h).0
 maybe asked (Some t) None h lacks = absurd h
 
 judged : (asked : AskedOf) (status : Status) (t : Option Tree) (p : Option PayloadOf) → SaysJudged (operation_asked asked) status t p → (status ≡ Undone → p ≡ None → may_lack asked ≡ true)
@@ -145,7 +132,7 @@ pairs_readable (pair ∷ pairs) h = (h 0 pair.0 pair.1 refl, pairs_readable pair
 filled_readable : (ask : AskOf) (answer : AnswerOf) (fill : FillOf) (p : PayloadOf) → Wanted ask answer → SaysFill fill ask p → is_readable ask (with_payload answer p) ≡ true
 filled_readable ask answer fill p wanted says =
     or_true (is_other (λ (x y : ℕ). x == y) answer.operation (operation_number (operation_asked ask.asked))) (can_judge answer.status ask.asked (Some p))
-    (ap (λ (s : Status). can_judge s ask.asked (Some p)) wanted.undone ∙ of_asked ask.asked fill.payload p says.said)
+    (ap (λ (s : Status). can_judge s ask.asked (Some p)) wanted.undone ∙ (payload_said ask.asked fill.payload p says.said).0)
 
 -- a call can be judged where the payloads that it waits for are put in
 pub call_readable : (request : RequestOf) (bytes : List ℕ) (response : ResponseOf) → AreResponse request bytes response → (fills : List FillOf) (full : ResponseOf)

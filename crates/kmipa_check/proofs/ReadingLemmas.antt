@@ -14,7 +14,7 @@ use Rattle.kmipa_ttlv.specs.ViewTree.{view_tree}
 use Rattle.kmipa_ttlv.specs.declared.view.View.{View}
 use Rattle.kmipa_msgs.specs.declared.response.Response.{Response}
 use Rattle.kmipa_msgs.specs.Messages.{RequestOf, response_of}
-use Rattle.kmipa_msgs.specs.Outside.{Tells}
+use Rattle.kmipa_msgs.specs.Outside.{TellsSaid}
 use Rattle.kmipa_msgs.specs.declared.fault.ReadFault
 use Rattle.kmipa_msgs.specs.declared.fault.ReadFault.{ReadFault}
 use Rattle.kmipa_msgs.specs.declared.fault.Outside.{Outside}
@@ -282,9 +282,9 @@ nothing_said Fault side n number lent bytes fault e same f none =
     subst Q (sym e) (same, refl, no_item (subst P f none) refl refl)
 
 pub wrong_said : {X M : Type 0} (meaning : X → M) (Said : M → Type 0) (Fault : Tree → ℕ → OutsideKind → Type 0) (lent bytes : List ℕ) (view : View) (fault : ReadFault) (o : Outside)
-    → lent ≡ bytes → ItemRead lent (Some view) → fault ≡ ReadFault.TheVariants.Outside o → Tells meaning Said (Fault (view_tree view)) (Err fault)
+    → lent ≡ bytes → ItemRead lent (Some view) → fault ≡ ReadFault.TheVariants.Outside o → TellsSaid meaning Said (Fault (view_tree view)) (Err fault)
     → AreOutside Fault bytes o.item o.kind
 wrong_said meaning Said Fault lent bytes view fault o f h e reported =
     let P : List ℕ → Type 0 = λ bs. ItemRead bs (Some view) in
-    let Q : ReadFault → Type 0 = λ x. Tells meaning Said (Fault (view_tree view)) (Err x) in
+    let Q : ReadFault → Type 0 = λ x. TellsSaid meaning Said (Fault (view_tree view)) (Err x) in
     outside (view_tree view) (subst P f h) (subst Q e reported)

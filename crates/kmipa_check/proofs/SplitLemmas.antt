@@ -12,7 +12,7 @@ use Rattle.kmipa_check.specs.Calls.{CallOf, AreCalls, IsEnded, has_ended, is_ope
 use Rattle.kmipa_check.specs.Steps.{StepOf, IsAnswered, recorded, given, IsStep}
 use Rattle.kmipa_check.specs.Orders.{IsNamed, IsFormed, IsOrder}
 use Rattle.kmipa_check.specs.Runs.{EndsAhead, Before, IsPlaced, Linked, IsAccepted, rules_declared}
-use Rattle.kmipa_check.specs.Left.{Leaves}
+use Rattle.kmipa_check.specs.Left.{LeavesDeclaration}
 use Rattle.kmipa_check.specs.Segments.{AreApart, NameOnly}
 use Rattle.kmipa_check.proofs.PlaceLemmas.{contains_at, at_contains, get_at, mapped_from, some_at, same_elements}
 use Rattle.kmipa_check.proofs.RecordedLemmas.{recorded_at, same_recorded}
@@ -133,7 +133,7 @@ module _ (first second : List MarkOf) (rf : AreRecorded first) (rs : AreRecorded
       ]
       by (is_open none close is) = is_open (λ e a h. none (n + e) a (at_back first second e (ends c.number a) h)) (ap (option_map (λ (x : ℕ). x - n)) close) is
 
-  module _ (turns more : List TurnOf) (declared between : DeclarationOf) (l : Leaves first declared turns between) (a : IsAccepted (first ++ second) declared (turns ++ more)) (only : NameOnly second more) where
+  module _ (turns more : List TurnOf) (declared between : DeclarationOf) (l : LeavesDeclaration first declared turns between) (a : IsAccepted (first ++ second) declared (turns ++ more)) (only : NameOnly second more) where
     -- the calls of both, cut
     abbrev cut_calls : CutList number_of a.calls (begun first) (begun second)
     cut_calls = cut_list number_of a.calls (begun first) (begun second) (a.are.numbers ∙ begun-append first second)

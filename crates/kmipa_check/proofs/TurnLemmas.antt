@@ -20,7 +20,7 @@ use Rattle.kmipa_check.specs.Places.{MayBeTaken}
 use Rattle.kmipa_check.specs.Steps.{StepOf, order_of, step_of}
 use Rattle.kmipa_check.specs.Verdicts.{IsLate, RunsBack, ArePlaced}
 use Rattle.kmipa_check.specs.Late.{FirstLate, is_at}
-use Rattle.kmipa_check.specs.Ordering.{Decided}
+use Rattle.kmipa_check.specs.Deciding.{Decided}
 use Rattle.kmipa_check.specs.Replays.{TurnTaken, AllTakable}
 use Rattle.kmipa_check.proofs.ReplayLemmas.{replayed_more, refused_late, refused_back, refused_call}
 use Rattle.kmipa_check.proofs.PlaceLemmas.{mapped_at, contains_at}

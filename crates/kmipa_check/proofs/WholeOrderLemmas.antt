@@ -21,9 +21,9 @@ use Rattle.kmipa_check.specs.Fills.{IsFilled, FillFault}
 use Rattle.kmipa_check.specs.Places.{PlacesFault}
 use Rattle.kmipa_check.specs.Steps.{StepOf, IsAnswered, recorded, given, IsStep, step_along}
 use Rattle.kmipa_check.specs.Runs.{IsOfCalls, TakeEachOnce}
-use Rattle.kmipa_check.specs.Orders.{IsNamed, IsFormed, AreFormedBelow, IsOrder, IsAnswerFault, answered, unanswered, formless, GivenFault, unfit_answer, unfit_places, unfilled, WitnessFaultAt, left_out}
+use Rattle.kmipa_check.specs.Orders.{IsNamed, IsFormed, AreFormedBelow, IsOrder, IsAnswerFault, answered, unanswered, formless, GivenFault, unfit_answer, unfit_places, unfilled, WitnessFaultAt, left_out, AreFormed}
 use Rattle.kmipa_check.specs.Numbers.{place_in, StandsFirst, Indexes}
-use Rattle.kmipa_check.specs.Ordering.{AreFormed, missing_or, first_missing}
+use Rattle.kmipa_check.specs.Ordering.{missing_or, first_missing}
 use Rattle.kmipa_check.proofs.PlaceLemmas.{mapped_from, contains_at, at_contains, same_elements, get_at, some_at}
 use Rattle.kmipa_check.proofs.MessageLemmas.{same_message, not_outside}
 use Rattle.kmipa_check.proofs.OnceLemmas.{IsOnce}

@@ -1,4 +1,4 @@
--- What the reading of calls tells. Only CallsFault is promised.
+-- What the reading of calls and of their messages tells.
 use Rattle.std.specs.Prelude.{◌≡◌, ℕ, ℤ, List, map, take, All, slice_get, Option, Some, None, Result, Ok, Err}
 use Rattle.kmipa_ttlv.specs.Tree.{Tree}
 use Rattle.kmipa_ttlv.specs.Spelling.{Spells}
@@ -22,15 +22,6 @@ use Rattle.kmipa_check.specs.declared.fault.CheckFault.{CheckFault}
 use Rattle.kmipa_check.specs.declared.fault.CheckFault.TheVariants.{Outside, Witness, Memory}
 use Rattle.kmipa_check.specs.Calls.{AreRequest, AreResponse, AreOutside, HasBegin, HasEnd, CallOf, IsRecorded, IsOutsideOn, IsFirstOutside, call_of}
 
--- the one item that the bytes spell, or none where they spell none
-abbrev pub ItemRead : List ℕ → Option View → Type 0
-ItemRead bytes (Some view) = Spells (view_tree view) bytes
-ItemRead bytes None = (item : Tree) → Spells item bytes → ⊥
-
--- the message of this call on this side is no message
-abbrev pub no_message : ℤ → Side → CheckFault
-no_message number side = Outside number side (record { item = 0; kind = NotAMessage })
-
 -- a fault of the message on this side of the call of this number
 abbrev pub MessageFault : (Tree → ℕ → OutsideKind → Type 0) → Side → ℤ → List ℕ → CheckFault → Type 0
 MessageFault Fault side number bytes (Outside n s o) = (n ≡ number) × (s ≡ side) × AreOutside Fault bytes o.item o.kind
@@ -44,6 +35,23 @@ RequestRead number bytes (Err fault) = MessageFault RequestFault Client number b
 abbrev pub ResponseRead : ℤ → RequestOf → List ℕ → Result Response CheckFault → Type 0
 ResponseRead number request bytes (Ok response) = AreResponse request bytes (response_of response)
 ResponseRead number request bytes (Err fault) = MessageFault (λ t. ResponseFault t request) Server number bytes fault
+
+-- the first message that is outside; want of memory tells nothing
+abbrev pub CallsFault : List MarkOf → CheckFault → Type 0
+CallsFault marks (Outside number side o) = IsFirstOutside marks number side o.item o.kind
+CallsFault marks (Witness w) = ⊥
+CallsFault marks Memory = Unit {0}
+
+-- ---- how they are read, not promised
+
+-- the one item that the bytes spell, or none where they spell none
+abbrev pub ItemRead : List ℕ → Option View → Type 0
+ItemRead bytes (Some view) = Spells (view_tree view) bytes
+ItemRead bytes None = (item : Tree) → Spells item bytes → ⊥
+
+-- the message of this call on this side is no message
+abbrev pub no_message : ℤ → Side → CheckFault
+no_message number side = Outside number side (record { item = 0; kind = NotAMessage })
 
 -- the mark at the place begins a call of this number, and the call's message on this side is outside
 pub record IsOutsideAt (marks : List MarkOf) (place : ℕ) (number : ℤ) (side : Side) (item : ℕ) (kind : OutsideKind) : Type 0 where
@@ -85,9 +93,3 @@ MarkRead marks place (Err fault) = MarkFault marks place fault
 pub record AreReadUpTo (marks : List MarkOf) (place : ℕ) (calls : List CallOf) : Type 0 where
   pub recorded : All (IsRecorded marks) calls
   pub numbers : map (λ (c : CallOf). c.number) calls ≡ begun (take place marks)
-
--- the first message that is outside; want of memory tells nothing
-abbrev pub CallsFault : List MarkOf → CheckFault → Type 0
-CallsFault marks (Outside number side o) = IsFirstOutside marks number side o.item o.kind
-CallsFault marks (Witness w) = ⊥
-CallsFault marks Memory = Unit {0}

@@ -1,19 +1,12 @@
 -- How fills are put in. Not promised: `Fills` says what becomes of the response.
-use Rattle.std.specs.Prelude.{◌≡◌, ◌<◌, ◌≤ℤ◌, ℕ, ℤ, ◌+◌, pos, List, length, Contains, slice_get, Some, Result, Ok, Err}
+use Rattle.std.specs.Prelude.{◌≡◌, ◌<◌, ◌≤ℤ◌, ℕ, ℤ, pos, List, length, Contains, slice_get, Some, Result, Ok, Err}
 use Rattle.kmipa_record.specs.Witnesses.{FillOf}
 use Rattle.kmipa_msgs.specs.declared.response.Payload.{Payload}
 use Rattle.kmipa_msgs.specs.Messages.{AskOf, PayloadOf, AnswerOf, RequestOf, ResponseOf, payload_of}
-use Rattle.kmipa_check.specs.Fills.{IsWantedAt, IsWanted, IsFor, SaysFill, IsFormless, with_payload, FillFault, SomeFormless}
+use Rattle.kmipa_check.specs.Fills.{IsWantedAt, IsFor, SaysFill, IsFormless, with_payload, FillFault, SomeFormless, IsWantedItem}
 use Rattle.kmipa_check.specs.declared.fault.StepFault.{StepFault}
 use Rattle.kmipa_check.specs.declared.fault.StepFault.TheVariants.{Unfit, Memory}
 use Rattle.kmipa_check.specs.declared.fault.WitnessKind.TheVariants.{FillForm}
-
--- the number is that of an item at a place that waits
-abbrev pub IsWantedItem : RequestOf → ResponseOf → ℤ → Type 0
-IsWantedItem request response item = (place : ℕ) × (item ≡ pos (place + 1)) × IsWanted request response place
-
-abbrev pub HasFillFor : List FillOf → ℕ → Type 0
-HasFillFor fills place = (fill : FillOf) × Contains fills fill × IsFor fill place
 
 -- numbers of items are those of 32 bits
 abbrev pub AreNumbered : List FillOf → Type 0
@@ -24,10 +17,6 @@ pub record AreWantedBelow (request : RequestOf) (response : ResponseOf) (fills :
   pub each : (at : ℕ) (fill : FillOf) → at < count → slice_get fills at ≡ Some fill → IsWantedItem request response fill.item × (fill.item ≤ℤ pos 0x7FFF_FFFF)
   pub first : (at earlier : ℕ) (fill other : FillOf) → earlier < at → at < count → slice_get fills at ≡ Some fill → slice_get fills earlier ≡ Some other
       → other.item ≡ fill.item → ⊥
-
--- each of the first places has a fill where it waits for one
-abbrev pub HaveFillsBelow : RequestOf → ResponseOf → List FillOf → ℕ → Type 0
-HaveFillsBelow request response fills count = (place : ℕ) → place < count → IsWanted request response place → HasFillFor fills place
 
 -- what reading a fill comes to
 abbrev pub FillRead : FillOf → AskOf → Result Payload StepFault → Type 0

@@ -1,5 +1,5 @@
 -- What a turn of a witness fills in: the payloads that Undone answers leave out, and without which nothing is to be judged (profile).
-use Rattle.std.specs.Prelude.{◌≡◌, ◌≢◌, ℕ, ◌+◌, pos, List, length, AllPairs, Contains, slice_get, Some}
+use Rattle.std.specs.Prelude.{◌≡◌, ◌≢◌, ℕ, ◌+◌, pos, List, length, AllPairs, Contains, slice_get, Some, ◌<◌, ℤ}
 use Rattle.kmipa_record.specs.Witnesses.{FillOf}
 use Rattle.kmipa_msgs.specs.declared.kind.OutsideKind.{OutsideKind}
 use Rattle.kmipa_msgs.specs.Messages.{AskOf, PayloadOf, AnswerOf, RequestOf, ResponseOf}
@@ -76,3 +76,15 @@ pub data FillFault (request : RequestOf) (response : ResponseOf) (fills : List F
   missing : AreWanted request response fills → (NoneMissing request response fills → ⊥) → kind ≡ FillMissing → FillFault request response fills kind
   misformed : AreWanted request response fills → NoneMissing request response fills → SomeFormless request response fills → kind ≡ FillForm
       → FillFault request response fills kind
+
+-- the number is that of an item at a place that waits
+abbrev pub IsWantedItem : RequestOf → ResponseOf → ℤ → Type 0
+IsWantedItem request response item = (place : ℕ) × (item ≡ pos (place + 1)) × IsWanted request response place
+
+-- one of the fills is for the item at this place
+abbrev pub HasFillFor : List FillOf → ℕ → Type 0
+HasFillFor fills place = (fill : FillOf) × Contains fills fill × IsFor fill place
+
+-- each of the first places has a fill where it waits for one
+abbrev pub HaveFillsBelow : RequestOf → ResponseOf → List FillOf → ℕ → Type 0
+HaveFillsBelow request response fills count = (place : ℕ) → place < count → IsWanted request response place → HasFillFor fills place

@@ -33,7 +33,7 @@ pub record IsLeft (declared : DeclarationOf) (steps : List StepOf) (left : Decla
   pub exactly : (last : List Thing) → Describes left last ↔ CanEnd declared steps last
 
 -- The witness takes the calls of these marks, and leaves the other declaration. Where that one describes some inventory, the witness is accepted.
-pub record Leaves (marks : List MarkOf) (declared : DeclarationOf) (turns : List TurnOf) (left : DeclarationOf) : Type 0 where
+pub record LeavesDeclaration (marks : List MarkOf) (declared : DeclarationOf) (turns : List TurnOf) (left : DeclarationOf) : Type 0 where
   pub calls : List CallOf
   pub are : AreCalls marks calls
   pub steps : List StepOf

@@ -10,6 +10,7 @@ pub mod Opening
 pub mod Replays
 pub mod Numbers
 pub mod Late
+pub mod Deciding
 pub mod Ordering
 pub mod Filling
 pub mod Audits

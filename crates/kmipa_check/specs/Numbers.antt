@@ -1,4 +1,4 @@
--- Where the number of a call first stands in a list. Not promised.
+-- Where the number of a call first stands in a list.
 use Rattle.std.specs.Prelude.{◌≡◌, ◌≢◌, ◌<◌, ◌==◌, ℕ, ℤ, Bool, false, List, length, Option, Some, None, slice_get}
 use Rattle.kmipa_record.specs.Marks.{MarkOf, begins, ends}
 use Rattle.kmipa_record.specs.NumberMaps.{value_at}
@@ -31,6 +31,13 @@ IndexesBelow numbers count f = (number : ℤ) → StandsFirst numbers count numb
 abbrev pub Indexes : List (Option ℤ) → FirstPlaces → Type 0
 Indexes numbers f = IndexesBelow numbers (length numbers) f
 
+-- whether the noted place is this one
+abbrev pub is_noted : Option ℕ → ℕ → Bool
+is_noted None place = false
+is_noted (Some first) place = first == place
+
+-- ---- how the places are noted, not promised
+
 abbrev pub or_else : Option ℕ → ℕ → Option ℕ
 or_else None place = Some place
 or_else (Some first) place = Some first
@@ -44,8 +51,3 @@ pub record Noted (old new : FirstPlaces) (number : ℤ) (place : ℕ) : Type 0 w
 abbrev pub NotedIfAny : FirstPlaces → FirstPlaces → Option ℤ → ℕ → Type 0
 NotedIfAny old new None place = (other : ℤ) → place_in new other ≡ place_in old other
 NotedIfAny old new (Some number) place = Noted old new number place
-
--- whether the noted place is this one
-abbrev pub is_noted : Option ℕ → ℕ → Bool
-is_noted None place = false
-is_noted (Some first) place = first == place

@@ -12,6 +12,8 @@ use Rattle.kmipa_check.specs.declared.fault.StepFault.{StepFault}
 use Rattle.kmipa_check.specs.declared.fault.StepFault.TheVariants.{Unfit, Memory}
 use Rattle.kmipa_check.specs.declared.fault.WitnessKind.{WitnessKind}
 use Rattle.kmipa_check.specs.declared.fault.WitnessKind.TheVariants.{UnknownCall, Twice, LeftOut, AnswerNotWanted, AnswerMissing, AnswerForm}
+use Rattle.kmipa_check.specs.declared.fault.CheckFault.{CheckFault}
+use Rattle.kmipa_check.specs.declared.fault.CheckFault.TheVariants as check_fault
 
 -- the turn at this place names this number
 abbrev pub NamesAt : List TurnOf → ℕ → ℤ → Type 0
@@ -88,3 +90,14 @@ pub data WitnessFaultAt (calls : List CallOf) (turns : List TurnOf) (at : ℕ) (
   left_out : (place : ℕ) (c : CallOf) → AreFormedBelow calls turns (length turns) → slice_get calls place ≡ Some c → IsLeftOut turns c
       → ((earlier : ℕ) (d : CallOf) → earlier < place → slice_get calls earlier ≡ Some d → IsLeftOut turns d → ⊥)
       → c.number ≡ pos at → kind ≡ LeftOut → WitnessFaultAt calls turns at kind
+
+-- these are the steps of the first turns
+pub record AreFormed (calls : List CallOf) (turns : List TurnOf) (count : ℕ) (steps : List StepOf) : Type 0 where
+  pub counted : length steps ≡ count
+  pub each : (place : ℕ) (s : StepOf) → slice_get steps place ≡ Some s → IsFormed calls turns place s
+
+-- what ordering comes to
+abbrev pub OrderFault : List CallOf → List TurnOf → CheckFault → Type 0
+OrderFault calls turns (check_fault.Outside number side o) = ⊥
+OrderFault calls turns (check_fault.Witness f) = WitnessFaultAt calls turns f.at f.kind
+OrderFault calls turns check_fault.Memory = Unit {0}

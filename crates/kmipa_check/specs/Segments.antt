@@ -4,13 +4,13 @@ use Rattle.kmipa_record.specs.Marks.{MarkOf, AreRecorded, begun}
 use Rattle.kmipa_record.specs.Declarations.{DeclarationOf}
 use Rattle.kmipa_record.specs.Witnesses.{TurnOf}
 use Rattle.kmipa_check.specs.Calls.{HasEnd}
-use Rattle.kmipa_check.specs.Left.{Leaves}
+use Rattle.kmipa_check.specs.Left.{LeavesDeclaration}
 use Rattle.kmipa_check.specs.Since.{AreSince, last_stamp, IsAcceptedSince}
 
 -- The witness takes the calls of these marks, none at a Time Stamp below the moment, and leaves the other declaration; the next segment goes on
 -- from the later moment, the Time Stamp of its last turn.
 pub record Leads (declared : DeclarationOf) (since : Option ℤ) (marks : List MarkOf) (turns : List TurnOf) (left : DeclarationOf) (until : Option ℤ) : Type 0 where
-  pub run : Leaves marks declared turns left
+  pub run : LeavesDeclaration marks declared turns left
   pub since_then : AreSince since run.steps
   pub last : until ≡ last_stamp since run.steps
 

@@ -12,7 +12,7 @@ use Rattle.kmipa_ops.specs.declared.why.Why.{Why}
 use Rattle.kmipa_ops.specs.declared.why.Why.TheVariants.{EarlierCallLate, StampRunsBack}
 use Rattle.kmipa_ops.specs.Chains.{ChainSome}
 use Rattle.kmipa_ops.specs.Ascending.{SecretsAscend}
-use Rattle.kmipa_ops.specs.Explains.{Tells}
+use Rattle.kmipa_ops.specs.Explains.{BringsOrShows}
 use Rattle.kmipa_batch.specs.Calls.{pairs_of, pairs_taken, RefusesMessage}
 use Rattle.kmipa_batch.specs.Refusals.{AreShapedFor, SpeaksAtAlong}
 use Rattle.kmipa_check.specs.Calls.{CallOf, AreCalls, IsFirstOutside}
@@ -72,7 +72,7 @@ pub record ArePossibleUpTo (declared : DeclarationOf) (order : List StepOf) (tur
 -- the bytes were declared, or one of these steps registered or showed them
 pub data WereReported (declared : DeclarationOf) (steps : List StepOf) (bytes : List ℕ) : Type 0 where
   by_declaration : (e : EntryOf) → Contains declared.entries e → e.bytes ≡ Some bytes → WereReported declared steps bytes
-  by_step : (s : StepOf) → Contains steps s → Tells (pairs_of s.request s.response) bytes → WereReported declared steps bytes
+  by_step : (s : StepOf) → Contains steps s → BringsOrShows (pairs_of s.request s.response) bytes → WereReported declared steps bytes
 
 -- what is known after these steps: one choice of bytes meets them all, and bytes are known that were declared, registered or shown
 pub record AreKnown (declared : DeclarationOf) (order : List StepOf) (m : Meaning) : Type 0 where

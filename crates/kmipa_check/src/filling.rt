@@ -3,10 +3,10 @@
 ghost use Rattle.std.specs.Prelude.{◌≡◌, ◌≤ℤ◌, ◌<◌, ◌+◌, ◌^◌, IsTrue, pos, Some, map, MatchResult};
 ghost use Rattle.kmipa_msgs.specs.Messages.{ask_of, request_of, response_of};
 ghost use Rattle.kmipa_record.specs.Witnesses.{fill_of};
-ghost use Rattle.kmipa_check.specs.Fills.{AreWanted, IsFilled, IsWanted, NoneMissing};
-ghost use Rattle.kmipa_check.specs.Filling.{AreNumbered, FillRead, FormFault, HasFillFor, IsWantedItem};
+ghost use Rattle.kmipa_check.specs.Fills.{AreWanted, IsFilled, IsWanted, NoneMissing, HasFillFor, IsWantedItem};
+ghost use Rattle.kmipa_check.specs.Filling.{AreNumbered, FillRead, FormFault};
 ghost use Rattle.kmipa_check.specs.Numbers.{Indexes};
-ghost use Rattle.kmipa_check.specs.Ordering.{Decided};
+ghost use Rattle.kmipa_check.specs.Deciding.{Decided};
 ghost use Rattle.kmipa_check.specs.Steps.{NeedsFill};
 
 use crate::fault::{StepFault, WitnessKind};
@@ -77,11 +77,11 @@ fn is_wanted_item(request: &Request, response: &Response, item: i32) -> bool
     if item < 1 {
         return false;
     }
-    is_wanted_at(request, response, place_of(item))
+    is_wanted_at(request, response, item_place(item))
 }
 
 /// The place, counted from 0, of the item of this number.
-fn place_of(item: i32) -> usize
+fn item_place(item: i32) -> usize
     requires { pos 1 ≤ℤ item }
     ensures { item ≡ pos (result + 1) }
 {
@@ -142,7 +142,7 @@ pub fn filled<'a>(
     let mut at = 0;
     'fills: while at < fills.len() {
         let fill = &fills[at];
-        let place = place_of(fill.item);
+        let place = item_place(fill.item);
         let payload = read_fill(alloc, fill, &request.items[place])?;
         full.items[place].payload = Some(payload);
         at += 1;

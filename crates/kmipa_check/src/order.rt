@@ -4,8 +4,8 @@ ghost use Rattle.std.specs.Prelude.{◌≡◌, ◌≢◌, ◌<◌, ◌^◌, pos,
 ghost use Rattle.kmipa_record.specs.Witnesses.{turn_of};
 ghost use Rattle.kmipa_check.specs.Calls.{call_of};
 ghost use Rattle.kmipa_check.specs.Numbers.{Indexes};
-ghost use Rattle.kmipa_check.specs.Ordering.{AreFormed, OrderFault, TurnRefused, fault_at, first_missing};
-ghost use Rattle.kmipa_check.specs.Orders.{IsFormed, IsOrder};
+ghost use Rattle.kmipa_check.specs.Ordering.{TurnRefused, fault_at, first_missing};
+ghost use Rattle.kmipa_check.specs.Orders.{IsFormed, IsOrder, AreFormed, OrderFault};
 ghost use Rattle.kmipa_check.specs.Steps.{step_of};
 
 use crate::call::Call;

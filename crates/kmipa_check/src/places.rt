@@ -56,14 +56,14 @@ fn places_of(alloc: Global, numbers: &[i32]) -> Result<Option<Vec<usize>>, Alloc
         if numbers[at] < 0 {
             return Ok(None);
         }
-        places.push(place_of(numbers[at]))?;
+        places.push(listed_place(numbers[at]))?;
         at += 1;
     }
     Ok(Some(places))
 }
 
 /// The place of a number.
-fn place_of(number: i32) -> usize
+fn listed_place(number: i32) -> usize
     requires { pos 0 ≤ℤ number }
     ensures { number ≡ pos result }
 {

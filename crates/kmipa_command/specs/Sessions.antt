@@ -5,7 +5,7 @@ use Rattle.std.specs.declared.io.ErrorKind.TheVariants.{OutOfMemory}
 use Rattle.clap.specs.Words.{subcommand_of, fault_of}
 use Rattle.kmipa_runs.specs.declared.status.Status.{Status}
 use Rattle.kmipa_runs.specs.declared.status.Status.TheVariants as status
-use Rattle.kmipa_session.specs.Printing.{Tells}
+use Rattle.kmipa_session.specs.Printing.{TellsLines}
 use Rattle.kmipa_session.specs.Sessions.{RunsJob, TellsMistake}
 use Rattle.kmipa_session.specs.declared.did.Did.{Did}
 use Rattle.kmipa_session.specs.declared.did.Did.TheVariants as did
@@ -19,10 +19,10 @@ abbrev pub is_memory : ErrorKind → Bool
 is_memory OutOfMemory = true
 is_memory kind = false
 
--- Help is printed, or that memory ran out, and nothing is done; or a mistake in the words is told on standard error, if that can be written.
+-- Help is printed, or that memory ran out, and nothing is done; or, at a mistake in the words, nothing is printed.
 abbrev pub TellsUsage : {F M E : Type 0} → Usage → Did F M E → List ℕ → List ℕ → Bool → Status → Type 0
 TellsUsage usage done before after failed left =
-    ((usage.status ≢ status.Usage) × (done ≡ did.Nothing) × Tells Lines (string_bytes usage.text) usage.status before after failed left)
+    ((usage.status ≢ status.Usage) × (done ≡ did.Nothing) × TellsLines Lines (string_bytes usage.text) usage.status before after failed left)
     ⊎ ((usage.status ≡ status.Usage) × TellsMistake done before after left)
 
 -- The words name a job, and it is done; or they name none, and that is told.

@@ -8,13 +8,13 @@ use Rattle.kmipa_msgs.specs.Messages.{RulesOf, AskedOf, AskOf, AnswerOf, Payload
 use Rattle.kmipa_msgs.specs.declared.response.Status.{Status}
 use Rattle.kmipa_msgs.specs.declared.response.Status.TheVariants.{Success, Failed, Undone}
 use Rattle.kmipa_ops.specs.Changes.{id_in, seen_changed}
-use Rattle.kmipa_ops.specs.Create.{seen_created}
-use Rattle.kmipa_ops.specs.Get.{seen_got}
-use Rattle.kmipa_ops.specs.GetAttributes.{seen_attributes}
-use Rattle.kmipa_ops.specs.Locate.{seen_located}
-use Rattle.kmipa_ops.specs.Objects.{meant}
-use Rattle.kmipa_ops.specs.Reasons.{Clashes, CreateReason, RegisterReason, LocateReason, GetReason, GetAttributesReason, DoneReason, OutcomeReason, Reason}
-use Rattle.kmipa_ops.specs.Register.{seen_registered}
+use Rattle.kmipa_ops.specs.Create.{seen_created, CreateReason}
+use Rattle.kmipa_ops.specs.Get.{seen_got, GetReason}
+use Rattle.kmipa_ops.specs.GetAttributes.{seen_attributes, GetAttributesReason}
+use Rattle.kmipa_ops.specs.Locate.{seen_located, LocateReason}
+use Rattle.kmipa_ops.specs.Objects.{meant, Clashes}
+use Rattle.kmipa_ops.specs.Reasons.{DoneReason, OutcomeReason, Reason}
+use Rattle.kmipa_ops.specs.Register.{seen_registered, RegisterReason}
 use Rattle.kmipa_ops.specs.declared.why.Why.TheVariants.{EchoDiffers}
 use Rattle.kmipa_explain.specs.Items.{about}
 use Rattle.kmipa_explain.specs.Echoes.{Differs, DiffersSomehow, id_repeated, type_asked, type_repeated}

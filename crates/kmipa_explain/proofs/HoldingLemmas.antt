@@ -15,14 +15,14 @@ use Rattle.kmipa_msgs.specs.declared.response.Status.{Status}
 use Rattle.kmipa_msgs.specs.declared.response.Status.TheVariants.{Success, Failed, Undone}
 use Rattle.kmipa_record.specs.Declarations.{DeclarationOf}
 use Rattle.kmipa_record.specs.Entries.{EntryOf}
-use Rattle.kmipa_ops.specs.Create.{seen_created}
-use Rattle.kmipa_ops.specs.Get.{seen_got}
-use Rattle.kmipa_ops.specs.GetAttributes.{seen_attributes}
-use Rattle.kmipa_ops.specs.Locate.{seen_located}
-use Rattle.kmipa_ops.specs.Meant.{object_meant, secret_at}
+use Rattle.kmipa_ops.specs.Create.{seen_created, CreateReason}
+use Rattle.kmipa_ops.specs.Get.{seen_got, GetReason}
+use Rattle.kmipa_ops.specs.GetAttributes.{seen_attributes, GetAttributesReason}
+use Rattle.kmipa_ops.specs.Locate.{seen_located, LocateReason}
+use Rattle.kmipa_ops.specs.Meant.{object_meant, secret_at, IsExcluded}
 use Rattle.kmipa_ops.specs.Objects.{card_meant, meant}
-use Rattle.kmipa_ops.specs.Reasons.{CreateReason, RegisterReason, LocateReason, GetReason, GetAttributesReason, DoneReason, OutcomeReason, IsExcluded, Reason, ReasonsAreDecided}
-use Rattle.kmipa_ops.specs.Register.{seen_registered}
+use Rattle.kmipa_ops.specs.Reasons.{DoneReason, OutcomeReason, Reason, ReasonsAreDecided}
+use Rattle.kmipa_ops.specs.Register.{seen_registered, RegisterReason}
 use Rattle.kmipa_ops.specs.declared.why.Why.{Why}
 use Rattle.kmipa_ops.specs.declared.why.Why.TheVariants.{NoSuchObject, WrongState, IdentifierTaken, NameTaken, BytesDiffer, LengthImpossible, AttributeDiffers, AttributeMissing, ListedWrongly, ListedTooFew, ReasonUnfounded, EchoDiffers}
 use Rattle.kmipa_check.specs.Described.{dates_in}

@@ -12,13 +12,13 @@ use Rattle.kmipa_msgs.specs.declared.response.Status.{Status}
 use Rattle.kmipa_msgs.specs.declared.response.Status.TheVariants.{Success, Failed, Undone}
 use Rattle.kmipa_record.specs.Declarations.{DeclarationOf}
 use Rattle.kmipa_record.specs.Entries.{EntryOf}
-use Rattle.kmipa_ops.specs.Create.{seen_created}
-use Rattle.kmipa_ops.specs.Get.{seen_got}
-use Rattle.kmipa_ops.specs.GetAttributes.{seen_attributes}
-use Rattle.kmipa_ops.specs.Locate.{May, is_over, seen_located}
+use Rattle.kmipa_ops.specs.Create.{seen_created, CreateReason}
+use Rattle.kmipa_ops.specs.Get.{seen_got, GetReason}
+use Rattle.kmipa_ops.specs.GetAttributes.{seen_attributes, GetAttributesReason}
+use Rattle.kmipa_ops.specs.Locate.{May, is_over, seen_located, ListsRightly, LocateReason}
 use Rattle.kmipa_ops.specs.Objects.{card_meant, meant}
-use Rattle.kmipa_ops.specs.Reasons.{CreateReason, RegisterReason, LocateReason, GetReason, GetAttributesReason, DoneReason, OutcomeReason, ListsRightly}
-use Rattle.kmipa_ops.specs.Register.{seen_registered}
+use Rattle.kmipa_ops.specs.Reasons.{DoneReason, OutcomeReason}
+use Rattle.kmipa_ops.specs.Register.{seen_registered, RegisterReason}
 use Rattle.kmipa_ops.specs.declared.judged.Judged.{Judged}
 use Rattle.kmipa_ops.specs.declared.why.Why.TheVariants.{ListedWrongly}
 use Rattle.kmipa_check.specs.Described.{card_declared, dates_in}

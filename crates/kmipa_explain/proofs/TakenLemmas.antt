@@ -14,13 +14,13 @@ use Rattle.kmipa_msgs.specs.declared.response.Status.{Status}
 use Rattle.kmipa_msgs.specs.declared.response.Status.TheVariants.{Success, Failed, Undone}
 use Rattle.kmipa_record.specs.Declarations.{DeclarationOf}
 use Rattle.kmipa_record.specs.Entries.{EntryOf}
-use Rattle.kmipa_ops.specs.Create.{seen_created}
-use Rattle.kmipa_ops.specs.Get.{seen_got}
-use Rattle.kmipa_ops.specs.GetAttributes.{seen_attributes}
-use Rattle.kmipa_ops.specs.Locate.{seen_located}
+use Rattle.kmipa_ops.specs.Create.{seen_created, CreateReason}
+use Rattle.kmipa_ops.specs.Get.{seen_got, GetReason}
+use Rattle.kmipa_ops.specs.GetAttributes.{seen_attributes, GetAttributesReason}
+use Rattle.kmipa_ops.specs.Locate.{seen_located, LocateReason}
 use Rattle.kmipa_ops.specs.Objects.{HasNameOf, meant}
-use Rattle.kmipa_ops.specs.Reasons.{CreateReason, RegisterReason, LocateReason, GetReason, GetAttributesReason, DoneReason, OutcomeReason}
-use Rattle.kmipa_ops.specs.Register.{seen_registered}
+use Rattle.kmipa_ops.specs.Reasons.{DoneReason, OutcomeReason}
+use Rattle.kmipa_ops.specs.Register.{seen_registered, RegisterReason}
 use Rattle.kmipa_ops.specs.declared.why.Why.TheVariants.{IdentifierTaken, NameTaken}
 use Rattle.kmipa_check.specs.Described.{card_declared}
 use Rattle.kmipa_check.specs.Left.{declaration_left, entry_left}

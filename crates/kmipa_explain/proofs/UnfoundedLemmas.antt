@@ -5,14 +5,14 @@ use Rattle.kmipa_store.specs.Ledger.{Meaning, cards_of}
 use Rattle.kmipa_msgs.specs.Messages.{RulesOf, RegisteredOf, GotOf, GotAttributesOf, AskedOf, PayloadOf, AnswerOf, creates, registers, locates, gets, gets_attributes, activates, revokes, destroys, idles, does_other}
 use Rattle.kmipa_msgs.specs.declared.response.Status.{Status}
 use Rattle.kmipa_msgs.specs.declared.response.Status.TheVariants.{Success, Failed, Undone}
-use Rattle.kmipa_ops.specs.Create.{seen_created}
+use Rattle.kmipa_ops.specs.Create.{seen_created, CreateReason}
 use Rattle.kmipa_ops.specs.Founded.{Founded, unsaid}
-use Rattle.kmipa_ops.specs.Get.{seen_got}
-use Rattle.kmipa_ops.specs.GetAttributes.{seen_attributes}
-use Rattle.kmipa_ops.specs.Locate.{seen_located}
+use Rattle.kmipa_ops.specs.Get.{seen_got, GetReason}
+use Rattle.kmipa_ops.specs.GetAttributes.{seen_attributes, GetAttributesReason}
+use Rattle.kmipa_ops.specs.Locate.{seen_located, LocateReason}
 use Rattle.kmipa_ops.specs.Objects.{meant}
-use Rattle.kmipa_ops.specs.Reasons.{CreateReason, RegisterReason, LocateReason, GetReason, GetAttributesReason, DoneReason, OutcomeReason}
-use Rattle.kmipa_ops.specs.Register.{seen_registered}
+use Rattle.kmipa_ops.specs.Reasons.{DoneReason, OutcomeReason}
+use Rattle.kmipa_ops.specs.Register.{seen_registered, RegisterReason}
 use Rattle.kmipa_ops.specs.declared.why.Why.TheVariants.{ReasonUnfounded}
 use Rattle.kmipa_explain.specs.Unfounded.{FailsFor}
 

@@ -18,14 +18,14 @@ use Rattle.kmipa_msgs.specs.Messages
 use Rattle.kmipa_msgs.specs.declared.response.Status.{Status}
 use Rattle.kmipa_msgs.specs.declared.response.Status.TheVariants.{Success, Failed, Undone}
 use Rattle.kmipa_record.specs.Entries.{EntryOf}
-use Rattle.kmipa_ops.specs.Create.{seen_created}
-use Rattle.kmipa_ops.specs.Get.{seen_got}
-use Rattle.kmipa_ops.specs.GetAttributes.{AttributesAreDecided, HasRequired, IsOwnAt, asks_for, has_stranger, is_foreign_date, lacks_asked, lacks_date, lacks_name, lacks_value, seen_attributes, shows_foreign, shows_other_date, shows_other_value}
-use Rattle.kmipa_ops.specs.Locate.{seen_located}
+use Rattle.kmipa_ops.specs.Create.{seen_created, CreateReason}
+use Rattle.kmipa_ops.specs.Get.{seen_got, GetReason, IsOther}
+use Rattle.kmipa_ops.specs.GetAttributes.{AttributesAreDecided, HasRequired, IsOwnAt, asks_for, has_stranger, is_foreign_date, lacks_asked, lacks_date, lacks_name, lacks_value, seen_attributes, shows_foreign, shows_other_date, shows_other_value, GetAttributesReason}
+use Rattle.kmipa_ops.specs.Locate.{seen_located, LocateReason}
 use Rattle.kmipa_ops.specs.Meant.{object_meant}
 use Rattle.kmipa_ops.specs.Objects.{card_meant, clash, is_other, meant, same_name}
-use Rattle.kmipa_ops.specs.Reasons.{CreateReason, RegisterReason, LocateReason, GetReason, GetAttributesReason, DoneReason, OutcomeReason, IsOther}
-use Rattle.kmipa_ops.specs.Register.{seen_registered}
+use Rattle.kmipa_ops.specs.Reasons.{DoneReason, OutcomeReason}
+use Rattle.kmipa_ops.specs.Register.{seen_registered, RegisterReason}
 use Rattle.kmipa_ops.specs.declared.judged.Judged.TheVariants.{Name, ObjectType, CryptographicAlgorithm, State}
 use Rattle.kmipa_ops.specs.declared.why.Why.TheVariants.{AttributeDiffers, AttributeMissing}
 use Rattle.kmipa_check.specs.Described.{card_declared}

@@ -7,8 +7,7 @@ use Rattle.kmipa_object.specs.Life.{state}
 use Rattle.kmipa_msgs.specs.Messages.{AskedOf, AskOf, AnswerOf, locates}
 use Rattle.kmipa_record.specs.Declarations.{DeclarationOf}
 use Rattle.kmipa_record.specs.Entries.{EntryOf}
-use Rattle.kmipa_ops.specs.Locate.{Must, must_fit, seen_located}
-use Rattle.kmipa_ops.specs.Reasons.{LeavesOut}
+use Rattle.kmipa_ops.specs.Locate.{Must, must_fit, seen_located, LeavesOut}
 use Rattle.kmipa_check.specs.Described.{card_declared, dates_in}
 use Rattle.kmipa_explain.specs.Ids.{has_id}
 use Rattle.kmipa_explain.specs.Told.{AreTold}

@@ -7,8 +7,7 @@ use Rattle.kmipa_object.specs.Life.{state}
 use Rattle.kmipa_msgs.specs.Messages.{AskOf, AnswerOf}
 use Rattle.kmipa_record.specs.Declarations.{DeclarationOf}
 use Rattle.kmipa_record.specs.Entries.{EntryOf}
-use Rattle.kmipa_ops.specs.Locate.{May, is_over}
-use Rattle.kmipa_ops.specs.Reasons.{ListsRightly}
+use Rattle.kmipa_ops.specs.Locate.{May, is_over, ListsRightly}
 use Rattle.kmipa_ops.specs.declared.judged.Judged.{Judged}
 use Rattle.kmipa_check.specs.Described.{card_declared, dates_in}
 use Rattle.kmipa_explain.specs.Filters.{IsFirstNo, filters, refuses}

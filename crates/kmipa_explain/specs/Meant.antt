@@ -1,5 +1,5 @@
 -- The object that is meant, of what was held.
-use Rattle.std.specs.Prelude.{ℕ, List, find, bytes_eq, Option, Some, None, option_and_then, option_map}
+use Rattle.std.specs.Prelude.{ℕ, List, find, bytes_eq, Option, Some, None, option_and_then, option_map, String}
 use Rattle.kmipa_object.specs.Life.{Dates}
 use Rattle.kmipa_object.specs.Table.{revoke_act}
 use Rattle.kmipa_object.specs.declared.allow.Act.{Act}
@@ -9,6 +9,7 @@ use Rattle.kmipa_record.specs.Declarations.{DeclarationOf}
 use Rattle.kmipa_record.specs.Entries.{EntryOf}
 use Rattle.kmipa_check.specs.Described.{dates_in}
 use Rattle.kmipa_explain.specs.declared.held.DatesHeld.{DatesHeld}
+use Rattle.std.specs.String.{string_bytes}
 
 -- the object of this identifier, where an identifier is meant and an object has it
 abbrev pub object_held : DeclarationOf → Option (List ℕ) → Option EntryOf
@@ -38,3 +39,7 @@ act_asked (does_other number) = None
 
 abbrev pub dates_told : DatesHeld → Dates
 dates_told d = record { initial = d.initial; activation = d.activation; deactivation = d.deactivation; destroy = d.destroy; compromise = d.compromise }
+
+-- a text, if there is one
+abbrev pub text_of : {Z : Type 0} → Option (String Z) → Option (List ℕ)
+text_of = option_map string_bytes

@@ -1,5 +1,5 @@
 -- What the program reads of items. Not promised.
-use Rattle.std.specs.Prelude.{◌≡◌, ℕ, ◌+◌, ◌==◌, ◌&&◌, Bool, String, List, map, take, drop, filter, find, Option, is_some, option_map, option_and_then}
+use Rattle.std.specs.Prelude.{◌≡◌, ℕ, ◌+◌, ◌==◌, ◌&&◌, Bool, List, map, take, drop, filter, find, Option, is_some, option_map, option_and_then}
 use Rattle.std.specs.String.{string_bytes}
 use Rattle.kmipa_msgs.specs.Messages.{PayloadOf}
 use Rattle.kmipa_ops.specs.Create.{seen_created}
@@ -8,7 +8,7 @@ use Rattle.kmipa_ops.specs.Register.{seen_registered}
 use Rattle.kmipa_record.specs.Declarations.{DeclarationOf}
 use Rattle.kmipa_check.specs.declared.verdict.Refused.{Refused}
 use Rattle.kmipa_explain.specs.Items.{ItemOf, id_made}
-use Rattle.kmipa_explain.specs.Meant.{dates_told}
+use Rattle.kmipa_explain.specs.Meant.{dates_told, text_of}
 use Rattle.kmipa_explain.specs.Sources.{StartOf, SubjectOf, is_either, made, set_date, taught}
 use Rattle.kmipa_explain.specs.Stories.{event_of, happens_to, is_declared, makes_it}
 use Rattle.kmipa_explain.specs.declared.explanation.Story.{Story}
@@ -17,10 +17,6 @@ use Rattle.kmipa_explain.specs.declared.sought.Sought.{Sought}
 use Rattle.kmipa_explain.specs.declared.sought.Sought.TheVariants.{Birth, Date, Bytes, Either}
 use Rattle.kmipa_explain.specs.declared.sources.Start.{Start}
 use Rattle.kmipa_explain.specs.declared.subject.Subject.{Subject}
-
--- a text, if there is one
-abbrev pub text_of : {Z : Type 0} → Option (String Z) → Option (List ℕ)
-text_of = option_map string_bytes
 
 -- the item that a value of the program is
 abbrev pub seen_item : Item → ItemOf

@@ -3,7 +3,7 @@ use Rattle.std.specs.Prelude.{◌≡◌, ℤ, Option, Some, option_and_then}
 use Rattle.kmipa_msgs.specs.Messages.{AskedOf, GetAttributesOf, GotAttributesOf, PayloadOf, got, got_attributes}
 use Rattle.kmipa_record.specs.Entries.{EntryOf}
 use Rattle.kmipa_ops.specs.GetAttributes.{HasRequired, IsOwnAt, seen_attributes}
-use Rattle.kmipa_ops.specs.Reasons.{IsOther}
+use Rattle.kmipa_ops.specs.Get.{IsOther}
 use Rattle.kmipa_check.specs.Described.{card_declared}
 use Rattle.kmipa_explain.specs.Values.{attributes_asked}
 

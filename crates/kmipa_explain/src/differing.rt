@@ -6,7 +6,7 @@ ghost use Rattle.kmipa_attrs.specs.Sets.{attributes_of};
 ghost use Rattle.kmipa_msgs.specs.Messages.{answer_of, got_of, payload_of};
 ghost use Rattle.kmipa_record.specs.Declarations.{declaration_of};
 ghost use Rattle.kmipa_explain.specs.Holding.{object_held};
-ghost use Rattle.kmipa_explain.specs.Reading.{text_of};
+ghost use Rattle.kmipa_explain.specs.Meant.{text_of};
 ghost use Rattle.kmipa_explain.specs.ValueReasons.{ShowsForeign};
 ghost use Rattle.kmipa_explain.specs.Values.{AreAllDiffering, TellsDiffering, fields_shown, is_apart, is_differing, may_be_unknown, shape_shown, value_told, values_apart};
 

@@ -4,7 +4,7 @@ ghost use Rattle.std.specs.Prelude.{◌≡◌, IfOk, List, MatchOption, Option, 
 ghost use Rattle.kmipa_attrs.specs.ObjectTypes.{type_number};
 ghost use Rattle.kmipa_msgs.specs.Messages.{AskOf, answer_of, ask_of, maybe_lent};
 ghost use Rattle.kmipa_explain.specs.Echoes.{Differs, DiffersSomehow, IsEcho, TellsEcho, id_repeated, type_asked, type_repeated};
-ghost use Rattle.kmipa_explain.specs.Reading.{text_of};
+ghost use Rattle.kmipa_explain.specs.Meant.{text_of};
 
 use crate::explanation::Cause;
 use crate::held::EchoHeld;

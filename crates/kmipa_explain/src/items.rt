@@ -9,7 +9,8 @@ ghost use Rattle.kmipa_ops.specs.Objects.{meant};
 ghost use Rattle.kmipa_batch.specs.Calls.{pairs_of};
 ghost use Rattle.kmipa_check.specs.Steps.{order_of, step_of};
 ghost use Rattle.kmipa_explain.specs.Items.{ItemOf, about, item_then, items_of, items_of_call, makes_object, places_taken};
-ghost use Rattle.kmipa_explain.specs.Reading.{id_created, id_registered, listed_in, seen_item, text_of};
+ghost use Rattle.kmipa_explain.specs.Reading.{id_created, id_registered, listed_in, seen_item};
+ghost use Rattle.kmipa_explain.specs.Meant.{text_of};
 
 use crate::effects::{dates_set, tells_bytes};
 use crate::item::Item;
@@ -62,7 +63,8 @@ pub fn count_of(step: &Step) -> usize
 
 /// The place, counted from 0, that is taken at a position.
 pub fn place_at(step: &Step, position: usize) -> usize
-    requires { position < length (places_taken (order_of (step_of step.now)) (length (step_of step.now).request.items)) }
+    requires { position < length (places_taken (order_of (step_of step.now))
+        (length (step_of step.now).request.items)) }
     ensures { slice_get (places_taken (order_of (step_of step.now)) (length (step_of step.now).request.items)) position
         ≡ Some result }
 {

@@ -7,7 +7,7 @@ ghost use Rattle.kmipa_msgs.specs.Messages.{answer_of, ask_of, get_attributes_of
 ghost use Rattle.kmipa_record.specs.Declarations.{declaration_of};
 ghost use Rattle.kmipa_ops.specs.GetAttributes.{asks_for, seen_attributes};
 ghost use Rattle.kmipa_explain.specs.Holding.{object_held};
-ghost use Rattle.kmipa_explain.specs.Reading.{text_of};
+ghost use Rattle.kmipa_explain.specs.Meant.{text_of};
 ghost use Rattle.kmipa_explain.specs.ValueReasons.{LacksRequired};
 ghost use Rattle.kmipa_explain.specs.Values.{AreAllMissing, TellsMissing, attributes_asked, is_missing, missing_names, value_told};
 

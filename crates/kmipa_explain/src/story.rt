@@ -38,7 +38,7 @@ fn story_in(
 ) -> Result<Option<Story>, AllocError>
     ensures { IfOk result (TellsStoryIn (declaration_of declaration.now) (map seen_item items.now) refused) }
 {
-    let Some(at) = place_of(items, refused) else {
+    let Some(at) = refused_place(items, refused) else {
         return Ok(None);
     };
     match &items[at].about {
@@ -67,7 +67,7 @@ fn story_at(
 }
 
 /// The place of the refused item among these, where it is there and is about an identifier.
-fn place_of(items: &[Item], refused: Refused) -> Option<usize>
+fn refused_place(items: &[Item], refused: Refused) -> Option<usize>
     ensures found { MatchOption result (AreNone (is_that refused) (map seen_item items.now))
         (PassesAt (is_that refused) (map seen_item items.now)) }
     ensures within { IfSome result (λ place. place < length items.now) }

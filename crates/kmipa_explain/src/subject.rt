@@ -4,7 +4,8 @@ ghost use Rattle.std.specs.Prelude.{◌≡◌, IfOk, Some, option_map};
 ghost use Rattle.kmipa_msgs.specs.Messages.{maybe_lent};
 ghost use Rattle.kmipa_record.specs.Declarations.{declaration_of};
 ghost use Rattle.kmipa_record.specs.Entries.{entry_of};
-ghost use Rattle.kmipa_explain.specs.Reading.{seen_subject, text_of};
+ghost use Rattle.kmipa_explain.specs.Reading.{seen_subject};
+ghost use Rattle.kmipa_explain.specs.Meant.{text_of};
 ghost use Rattle.kmipa_explain.specs.Whence.{id_of_cause, subject_at, subject_held};
 
 use crate::explanation::Cause;

@@ -5,7 +5,7 @@ ghost use Rattle.kmipa_attrs.specs.Sets.{NameOf, name_of};
 ghost use Rattle.kmipa_msgs.specs.Messages.{AskedOf, ask_of};
 ghost use Rattle.kmipa_record.specs.Declarations.{DeclarationOf, declaration_of};
 ghost use Rattle.kmipa_record.specs.Entries.{entry_of};
-ghost use Rattle.kmipa_explain.specs.Reading.{text_of};
+ghost use Rattle.kmipa_explain.specs.Meant.{text_of};
 ghost use Rattle.kmipa_explain.specs.Taken.{IsBorne, IsTaken, TellsIdentifier, TellsName, bears, names_asked, shared};
 
 use crate::explanation::Cause;

@@ -4,7 +4,7 @@ ghost use Rattle.std.specs.Prelude.{◌≡◌, ◌==◌, ◌++◌, IfOk, OnOk, m
 ghost use Rattle.kmipa_msgs.specs.Messages.{answer_of, ask_of, row_of};
 ghost use Rattle.kmipa_record.specs.Declarations.{declaration_of};
 ghost use Rattle.kmipa_explain.specs.Kept.{one_if};
-ghost use Rattle.kmipa_explain.specs.Reading.{text_of};
+ghost use Rattle.kmipa_explain.specs.Meant.{text_of};
 ghost use Rattle.kmipa_explain.specs.Unfounded.{FailsFor, TellsObject, TellsReason, causes_of};
 
 use crate::explanation::Cause;

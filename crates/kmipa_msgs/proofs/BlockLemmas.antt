@@ -63,8 +63,8 @@ reads_block ts =
 abbrev pub Plain : Type 0
 Plain = ((KeyFormat × Option ℕ) × Option ℤ) × (Unit {0} × Unit {0})
 
-abbrev pub plain_rows : Trees → Result Plain OutsideKind
-plain_rows ts =
+abbrev pub plain_block_rows : Trees → Result Plain OutsideKind
+plain_block_rows ts =
     both kind_number
     (both kind_number (both kind_number (listed (at as_enumeration key_format_type ts) format_of Missing Format) (optional (at as_enumeration cryptographic_algorithm ts) Missing)) (optional (at as_integer cryptographic_length ts) Missing))
     (both kind_number (unless_there (first key_wrapping_data ts) Wrapped) (there (at as_structure key_value ts) Missing Format))
@@ -74,10 +74,10 @@ block_view p = block_at (p.0, lent p.1)
 
 -- the rows as the program has them
 pub seen_block : (ts us : Trees) (plain : Result Plain OutsideKind) (field : Field (Bor (List ℕ))) (material : Result (Bor (List ℕ)) OutsideKind) (rows : Result (Plain × Bor (List ℕ)) OutsideKind)
-    → rows ≡ both kind_number plain material → plain ≡ plain_rows ts → us ≡ inside key_value ts → map_field lent field ≡ at as_bytes key_material us → material ≡ needed field Missing Format
+    → rows ≡ both kind_number plain material → plain ≡ plain_block_rows ts → us ≡ inside key_value ts → map_field lent field ≡ at as_bytes key_material us → material ≡ needed field Missing Format
     → map_ok block_view rows ≡ block_in ts
 unfolding block_in
 seen_block ts us plain field material rows e p u f m =
     seen block_at (λ q. (q.0, lent q.1)) rows (block_rows ts)
-    (right_seen kind_number lent plain material rows (plain_rows ts) (needed (at as_bytes key_material (inside key_value ts)) Missing Format) e p
+    (right_seen kind_number lent plain material rows (plain_block_rows ts) (needed (at as_bytes key_material (inside key_value ts)) Missing Format) e p
     (needed_seen lent field (at as_bytes key_material (inside key_value ts)) Missing Format material m (f ∙ ap (at as_bytes key_material) u)))

@@ -6,7 +6,7 @@ use Rattle.kmipa_msgs.specs.declared.fault.ReadFault.{ReadFault}
 use Rattle.kmipa_msgs.specs.declared.fault.ReadFault
 use Rattle.kmipa_msgs.specs.declared.kind.OutsideKind.{OutsideKind}
 use Rattle.kmipa_msgs.specs.Kinds.{kind_number}
-use Rattle.kmipa_msgs.specs.Outside.{Decided, Inside, OutsideAt, Tells, SaysEach, EachFault, ByItem, ReadsAt, before, each_in, headed, alone, Gives}
+use Rattle.kmipa_msgs.specs.Outside.{IsSaidOrOutside, Inside, OutsideAt, TellsSaid, SaysEach, EachFault, ByItem, ReadsAt, before, each_in, headed, alone, Gives}
 
 -- one item before the others
 reads_before : {X : Type 0} (Said : ℕ → Tree → X → Type 0) (Fault : ℕ → Tree → OutsideKind → Type 0) (t : Tree) (ts : List Tree) (r : Result X OutsideKind) (rest : Result (List X) (ℕ × OutsideKind))
@@ -74,7 +74,7 @@ reads_alone Said Fault (Ok x) h = record { said = h.said; only = h.only; right =
 
 -- what gives a reading tells what the reading does
 pub tells : {X M : Type 0} (meaning : X → M) (Said : M → Type 0) (Fault : ℕ → OutsideKind → Type 0) (result : Result X ReadFault) (r : Result M (ℕ × OutsideKind))
-    → Gives meaning result r → ReadsAt Said Fault r → Tells meaning Said Fault result
+    → Gives meaning result r → ReadsAt Said Fault r → TellsSaid meaning Said Fault result
 tells {X} {M} meaning Said Fault (Ok x) r e h = let P : Result M (ℕ × OutsideKind) → Type 0 = ReadsAt Said Fault in subst P e h
 tells {X} {M} meaning Said Fault (Err (ReadFault.TheVariants.Outside o)) r e h = let P : Result M (ℕ × OutsideKind) → Type 0 = ReadsAt Said Fault in subst P e h
 tells meaning Said Fault (Err ReadFault.TheVariants.Memory) r e h = tt
@@ -93,6 +93,6 @@ pub outside_alone : {M : Type 0} (Said : M → Type 0) (Fault : OutsideKind → 
 outside_alone {M} Said Fault r k e h = let P : Result M OutsideKind → Type 0 = λ q. ReadsAt Said (ByItem Fault (λ i k. ⊥)) (alone q) in subst P (sym e) (reads_alone Said Fault r h)
 
 -- every reading decides
-pub decided : {M : Type 0} (Said : M → Type 0) (Fault : ℕ → OutsideKind → Type 0) (r : Result M (ℕ × OutsideKind)) → ReadsAt Said Fault r → Decided Said Fault
+pub decided : {M : Type 0} (Said : M → Type 0) (Fault : ℕ → OutsideKind → Type 0) (r : Result M (ℕ × OutsideKind)) → ReadsAt Said Fault r → IsSaidOrOutside Said Fault
 decided Said Fault (Ok m) h = inl (m, h)
 decided Said Fault (Err p) h = inr (p.0, p.1, h)

@@ -14,10 +14,10 @@ use Rattle.kmipa_msgs.specs.Kinds.{kind_number}
 use Rattle.kmipa_msgs.specs.Numbers.{option_of}
 use Rattle.kmipa_msgs.specs.Messages.{AskOf, RequestOf}
 use Rattle.kmipa_msgs.specs.Tables.{children, of_table}
-use Rattle.kmipa_msgs.specs.Headers.{is_message, is_version, is_count, batch, gated}
+use Rattle.kmipa_msgs.specs.Headers.{is_message, is_version, is_count, batch, gated, plain_rows}
 use Rattle.kmipa_msgs.specs.Outside.{SaysEach, EachFault, ReadsAt, each_in, from_one, headed}
 use Rattle.kmipa_msgs.specs.Asks.{SaysAsk, ItemFault, item_in}
-use Rattle.kmipa_msgs.specs.Requests.{request_header, SaysOption, OptionFault, SaysOrder, SaysHeader, HeaderFault, header_of, SaysRequest, RequestFault, option_in, order_in, is_loose, is_without_order, plain_rows, said_rows, order_said, header_at, header_in, request_at, request_in}
+use Rattle.kmipa_msgs.specs.Requests.{request_header, SaysOption, OptionFault, SaysOrder, SaysHeader, HeaderFault, header_of, SaysRequest, RequestFault, option_in, order_in, lacks_order, is_without_order, said_rows, order_said, header_at, header_in, request_at, request_in}
 use Rattle.kmipa_msgs.specs.Requests.HeaderFault.{in_message, in_version, in_count, in_option, in_ordered}
 use Rattle.kmipa_msgs.proofs.TableLemmas.{same_kind, reads_test}
 use Rattle.kmipa_msgs.proofs.OutsideLemmas.{reads_each, reads_headed}
@@ -120,19 +120,19 @@ abbrev Parts : Tree → Trees → Trees → Type 0
 Parts t ts hs = (is_message request_message request_header_tag t ≡ true) × (ts ≡ children t) × (hs ≡ inside request_header_tag (children t))
 
 opened : (t : Tree) (ts hs : Trees) (n : ℕ) (loose : Bool) (said : Result (BatchOption × Bool) OutsideKind) → Parts t ts hs
-    → n ≡ length (every batch_item ts) → loose ≡ is_loose (at as_boolean batch_order_option hs) n → said ≡ order_said hs n → request_in t ≡ request_of_parts loose ts said
+    → n ≡ length (every batch_item ts) → loose ≡ lacks_order (at as_boolean batch_order_option hs) n → said ≡ order_said hs n → request_in t ≡ request_of_parts loose ts said
 unfolding request_in header_in request_of_parts items_in
 opened t ts hs n loose said p ne le se =
     ap (λ (b : Bool). headed request_at (gated b (map_ok header_at (order_said (request_header t) (length (batch t))))) (each_in (λ place. item_in (is_without_order t)) (batch t))) p.0
     ∙ sym (λ i. headed request_at (map_ok header_at ((se ∙ (λ j. order_said (p.2 j) ((ne ∙ ap (λ (us : Trees). length (every batch_item us)) p.1) j))) i))
-    (each_in (λ place. item_in ((le ∙ (λ j. is_loose (at as_boolean batch_order_option (p.2 j)) ((ne ∙ ap (λ (us : Trees). length (every batch_item us)) p.1) j))) i)) (every batch_item (p.1 i))))
+    (each_in (λ place. item_in ((le ∙ (λ j. lacks_order (at as_boolean batch_order_option (p.2 j)) ((ne ∙ ap (λ (us : Trees). length (every batch_item us)) p.1) j))) i)) (every batch_item (p.1 i))))
 
 pub no_header : (t : Tree) (ts hs : Trees) (n : ℕ) (k : OutsideKind) → Parts t ts hs → n ≡ length (every batch_item ts) → Err k ≡ order_said hs n → request_in t ≡ Err (0, k)
 unfolding request_of_parts
-no_header t ts hs n k p ne se = opened t ts hs n (is_loose (at as_boolean batch_order_option hs) n) (Err k) p ne refl se
+no_header t ts hs n k p ne se = opened t ts hs n (lacks_order (at as_boolean batch_order_option hs) n) (Err k) p ne refl se
 
 pub whole_request : (t : Tree) (ts hs : Trees) (n : ℕ) (loose : Bool) (q : BatchOption × Bool) → Parts t ts hs → n ≡ length (every batch_item ts)
-    → loose ≡ is_loose (at as_boolean batch_order_option hs) n → Ok q ≡ order_said hs n
+    → loose ≡ lacks_order (at as_boolean batch_order_option hs) n → Ok q ≡ order_said hs n
     → request_in t ≡ map_ok (request_at (header_at q)) (from_one (each_in (λ place. item_in loose) (every batch_item ts)))
 unfolding request_of_parts items_in
 whole_request t ts hs n loose q p ne le se = opened t ts hs n loose (Ok q) p ne le se
@@ -143,14 +143,14 @@ order_of (Ok q) = q.1
 order_of (Err k) = true
 
 loose_rows : {A : Type 0} (plain : Result A OutsideKind) (option : Result BatchOption OutsideKind) (order : Field Bool) (n : ℕ) (q : BatchOption × Bool)
-    → Ok q ≡ map_ok (λ p. p.1) (both kind_number plain (both kind_number option (order_in order))) → is_loose (There q.1) n ≡ is_loose order n
+    → Ok q ≡ map_ok (λ p. p.1) (both kind_number plain (both kind_number option (order_in order))) → lacks_order (There q.1) n ≡ lacks_order order n
 unfolding order_of
 loose_rows (Err k) option order n q e = absurd cc
 loose_rows (Ok x) (Err k) order n q e = absurd cc
-loose_rows (Ok x) (Ok y) Absent n q e = ap (λ (r : Result (BatchOption × Bool) OutsideKind). is_loose (There (order_of r)) n) e
+loose_rows (Ok x) (Ok y) Absent n q e = ap (λ (r : Result (BatchOption × Bool) OutsideKind). lacks_order (There (order_of r)) n) e
 loose_rows (Ok x) (Ok y) Wrong n q e = absurd cc
-loose_rows (Ok x) (Ok y) (There b) n q e = ap (λ (r : Result (BatchOption × Bool) OutsideKind). is_loose (There (order_of r)) n) e
+loose_rows (Ok x) (Ok y) (There b) n q e = ap (λ (r : Result (BatchOption × Bool) OutsideKind). lacks_order (There (order_of r)) n) e
 
-pub loose_as_said : (hs : Trees) (n : ℕ) (q : BatchOption × Bool) → Ok q ≡ order_said hs n → is_loose (There q.1) n ≡ is_loose (at as_boolean batch_order_option hs) n
+pub loose_as_said : (hs : Trees) (n : ℕ) (q : BatchOption × Bool) → Ok q ≡ order_said hs n → lacks_order (There q.1) n ≡ lacks_order (at as_boolean batch_order_option hs) n
 unfolding order_said
 loose_as_said hs n q e = loose_rows (plain_rows hs n) (option_in (at as_enumeration batch_error_continuation_option hs)) (at as_boolean batch_order_option hs) n q e

@@ -12,10 +12,10 @@ use Rattle.kmipa_msgs.specs.declared.kind.OutsideKind.TheVariants.{NotAMessage, 
 use Rattle.kmipa_msgs.specs.Kinds.{kind_number}
 use Rattle.kmipa_msgs.specs.Messages.{RequestOf, AnswerOf}
 use Rattle.kmipa_msgs.specs.Tables.{children}
-use Rattle.kmipa_msgs.specs.Headers.{is_message, is_version, is_count, batch, gated}
+use Rattle.kmipa_msgs.specs.Headers.{is_message, is_version, is_count, batch, gated, plain_rows}
 use Rattle.kmipa_msgs.specs.Outside.{SaysEach, EachFault, ReadsAt, each_in, from_one, headed}
 use Rattle.kmipa_msgs.specs.Replies.{SaysAnswer, AnswerFault, answer_in}
-use Rattle.kmipa_msgs.specs.Responses.{response_header, SaysStamp, StampFault, SaysResponse, ResponseFault, plain_rows, stamp_said, stamp_in, response_at, response_in}
+use Rattle.kmipa_msgs.specs.Responses.{response_header, SaysStamp, StampFault, SaysResponse, ResponseFault, stamp_said, stamp_in, response_at, response_in}
 use Rattle.kmipa_msgs.specs.Responses.StampFault.{in_message, in_version, in_count, in_stamp}
 use Rattle.kmipa_msgs.proofs.TableLemmas.{reads_test}
 use Rattle.kmipa_msgs.proofs.OutsideLemmas.{reads_each, reads_headed}

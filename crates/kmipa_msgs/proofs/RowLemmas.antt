@@ -4,7 +4,7 @@ use Rattle.kmipa_msgs.specs.declared.kind.OutsideKind.TheVariants.{Missing}
 use Rattle.kmipa_msgs.specs.declared.operation.Operation.{Operation}
 use Rattle.kmipa_msgs.specs.declared.operation.Operation.TheVariants.{Create, Register, Locate, Get, GetAttributes, Activate, Revoke, Destroy, Idle, Other}
 use Rattle.kmipa_msgs.specs.Messages.{AskedOf, idles, does_other, operation_asked}
-use Rattle.kmipa_msgs.specs.Rows.{unread_row, row_of}
+use Rattle.kmipa_msgs.specs.Rows.{unread_row, operation_row}
 use Rattle.kmipa_msgs.specs.Writable.{IsWritableAsked}
 use Rattle.kmipa_msgs.proofs.RowLaws.{IsRow}
 use Rattle.kmipa_msgs.proofs.TableLemmas.{same_kind}
@@ -28,7 +28,7 @@ is_unread_row asked never = record {
   done_filled = λ ts p bare s. absurd s;
 }
 
-pub is_row : (operation : Operation) → IsRow operation (row_of operation)
+pub is_row : (operation : Operation) → IsRow operation (operation_row operation)
 is_row Create = is_create_row
 is_row Register = is_register_row
 is_row Locate = is_locate_row

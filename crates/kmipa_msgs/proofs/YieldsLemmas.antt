@@ -6,7 +6,7 @@ use Rattle.kmipa_msgs.specs.declared.kind.OutsideKind.{OutsideKind}
 use Rattle.kmipa_msgs.specs.declared.reading.unread.Unread.{Unread}
 use Rattle.kmipa_msgs.specs.declared.reading.unread.Unread.TheVariants.{Outside, Memory}
 use Rattle.kmipa_msgs.specs.Kinds.{kind_number}
-use Rattle.kmipa_msgs.specs.Outside.{Gives, Tells, ByItem}
+use Rattle.kmipa_msgs.specs.Outside.{Gives, TellsSaid, ByItem}
 use Rattle.kmipa_msgs.specs.Yields.{Yields, fault_at, carried, both_read}
 use Rattle.kmipa_msgs.proofs.OutsideLemmas.{outside_alone}
 
@@ -48,7 +48,7 @@ gives_unread meaning part n (Outside k) reading whole y h = h k y
 gives_unread meaning part n Memory reading whole y h = tt
 
 pub tells_unread : {X M : Type 0} (meaning : X → M) (Said : M → Type 0) (Fault : OutsideKind → Type 0) (unread : Unread) (r : Result M OutsideKind)
-    → Yields meaning (Err unread) r → Reads kind_number Said Fault r → Tells meaning Said (ByItem Fault (λ i k. ⊥)) (Err (fault_at 0 unread))
+    → Yields meaning (Err unread) r → Reads kind_number Said Fault r → TellsSaid meaning Said (ByItem Fault (λ i k. ⊥)) (Err (fault_at 0 unread))
 tells_unread meaning Said Fault (Outside k) r y h = outside_alone Said Fault r k y h
 tells_unread meaning Said Fault Memory r y h = tt
 

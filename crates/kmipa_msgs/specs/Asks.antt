@@ -12,15 +12,15 @@ use Rattle.kmipa_msgs.specs.declared.operation.Operation.{Operation}
 use Rattle.kmipa_msgs.specs.Kinds.{kind_number}
 use Rattle.kmipa_msgs.specs.Operations.{operation_of, is_judged}
 use Rattle.kmipa_msgs.specs.Messages.{AskedOf, gets, gets_attributes, activates, revokes, destroys, AskOf}
-use Rattle.kmipa_msgs.specs.Rows.{row_of}
+use Rattle.kmipa_msgs.specs.Rows.{operation_row}
 use Rattle.kmipa_msgs.specs.Tables.{children, unless_wrong}
 
 -- the children of a Request Payload say what the operation asks for, as its row has it
 abbrev pub SaysAsked : Operation → Trees → AskedOf → Type 0
-SaysAsked operation ts a = (row_of operation).SaysAsked ts a
+SaysAsked operation ts a = (operation_row operation).SaysAsked ts a
 
 abbrev pub AskedFault : Operation → Trees → OutsideKind → Type 0
-AskedFault operation ts k = (row_of operation).AskedFault ts k
+AskedFault operation ts k = (operation_row operation).AskedFault ts k
 
 -- the field is there, and its number is that of the operation
 abbrev pub TellsOperation : Field ℕ → Operation → Type 0
@@ -59,7 +59,7 @@ pub data ItemFault (unordered : Bool) (t : Tree) (k : OutsideKind) : Type 0 wher
 
 -- the readings
 abbrev pub asked_in : Operation → Trees → Result AskedOf OutsideKind
-asked_in operation ts = (row_of operation).asked_in ts
+asked_in operation ts = (operation_row operation).asked_in ts
 
 -- a Request Payload that is read is a structure
 abbrev pub form_in : Operation → Field Trees → Result (Unit {0}) OutsideKind

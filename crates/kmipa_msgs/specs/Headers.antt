@@ -9,8 +9,10 @@ use Rattle.kmipa_attrs.specs.Tags.{batch_count, batch_item, protocol_version, pr
 use Rattle.kmipa_attrs.specs.declared.fields.Field.{Field}
 use Rattle.kmipa_attrs.specs.declared.fields.Field.TheVariants.{Absent, Wrong, There}
 use Rattle.kmipa_msgs.specs.declared.kind.OutsideKind.{OutsideKind}
-use Rattle.kmipa_msgs.specs.declared.kind.OutsideKind.TheVariants.{NotAMessage}
+use Rattle.kmipa_msgs.specs.declared.kind.OutsideKind.TheVariants.{NotAMessage, Version, Count}
 use Rattle.kmipa_msgs.specs.Tables.{children}
+use Rattle.kmipa_attrs.specs.Readings.{both, kept_if}
+use Rattle.kmipa_msgs.specs.Kinds.{kind_number}
 
 abbrev pub is_structure : Field Trees → Bool
 is_structure Absent = false
@@ -56,3 +58,7 @@ Opens message header t (Some p) = (is_message message header t ≡ true) × (vie
 abbrev pub gated : {A : Type 0} → Bool → Result A OutsideKind → Result A OutsideKind
 gated true r = r
 gated false r = Err NotAMessage
+
+-- the version and the count of a header before so many items
+abbrev pub plain_rows : Trees → ℕ → Result (Unit {0} × Unit {0}) OutsideKind
+plain_rows hs n = both kind_number (kept_if (is_version hs) tt Version) (kept_if (is_count hs n) tt Count)

@@ -20,14 +20,14 @@ pub record OutsideAt (Fault : ℕ → OutsideKind → Type 0) (item : ℕ) (kind
   pub first : (i : ℕ) (j : OutsideKind) → i < item → Fault i j → ⊥
 
 -- one or the other, whatever the item
-abbrev pub Decided : {M : Type 0} → (M → Type 0) → (ℕ → OutsideKind → Type 0) → Type 0
-Decided {M} Said Fault = ((m : M) × Inside Said Fault m) ⊎ ((item : ℕ) × (kind : OutsideKind) × OutsideAt Fault item kind)
+abbrev pub IsSaidOrOutside : {M : Type 0} → (M → Type 0) → (ℕ → OutsideKind → Type 0) → Type 0
+IsSaidOrOutside {M} Said Fault = ((m : M) × Inside Said Fault m) ⊎ ((item : ℕ) × (kind : OutsideKind) × OutsideAt Fault item kind)
 
 -- what a reader tells: the one message that is said, or where it is outside; want of memory tells nothing of it
-abbrev pub Tells : {X M : Type 0} → (X → M) → (M → Type 0) → (ℕ → OutsideKind → Type 0) → Result X ReadFault → Type 0
-Tells meaning Said Fault (Ok x) = Inside Said Fault (meaning x)
-Tells meaning Said Fault (Err (ReadFault.TheVariants.Outside o)) = OutsideAt Fault o.item o.kind
-Tells meaning Said Fault (Err ReadFault.TheVariants.Memory) = Unit {0}
+abbrev pub TellsSaid : {X M : Type 0} → (X → M) → (M → Type 0) → (ℕ → OutsideKind → Type 0) → Result X ReadFault → Type 0
+TellsSaid meaning Said Fault (Ok x) = Inside Said Fault (meaning x)
+TellsSaid meaning Said Fault (Err (ReadFault.TheVariants.Outside o)) = OutsideAt Fault o.item o.kind
+TellsSaid meaning Said Fault (Err ReadFault.TheVariants.Memory) = Unit {0}
 
 -- THE ITEMS OF A MESSAGE, each by its place, counted from 0
 

@@ -19,7 +19,7 @@ use Rattle.kmipa_msgs.specs.Kinds.{kind_number}
 use Rattle.kmipa_msgs.specs.Numbers.{status_of}
 use Rattle.kmipa_msgs.specs.Operations.{operation_number}
 use Rattle.kmipa_msgs.specs.Messages.{AskOf, operation_asked, PayloadOf, payload_of, AnswerOf}
-use Rattle.kmipa_msgs.specs.Rows.{row_of}
+use Rattle.kmipa_msgs.specs.Rows.{operation_row}
 use Rattle.kmipa_msgs.specs.Tables.{children, Listed, of_table}
 use Rattle.kmipa_msgs.specs.Payloads.{SaysPayloadOf, PayloadOfFault, payload_in}
 
@@ -35,7 +35,7 @@ own (Some a) (There n) = named n (operation_asked a.asked)
 
 -- its Response Payload may be absent
 abbrev pub may_be_bare : Operation → Bool
-may_be_bare operation = (row_of operation).may_be_bare
+may_be_bare operation = (operation_row operation).may_be_bare
 
 -- an absent payload is read as empty where one may be absent
 abbrev pub or_empty : Operation → Option Tree → Option Tree

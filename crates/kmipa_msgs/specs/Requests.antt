@@ -2,7 +2,7 @@
 use Rattle.std.specs.Prelude.{◌≡◌, ℕ, Bool, true, false, nat_lt, List, length, Some, None, Result, Ok, Err}
 use Rattle.kmipa_ttlv.specs.Tree.{Tree, Trees}
 use Rattle.kmipa_attrs.specs.Fields.{at, inside, as_enumeration, as_boolean}
-use Rattle.kmipa_attrs.specs.Readings.{IsWrong, both, kept_if, map_ok}
+use Rattle.kmipa_attrs.specs.Readings.{IsWrong, both, map_ok}
 use Rattle.kmipa_attrs.specs.Tags.{batch_error_continuation_option, batch_order_option, request_header_tag, request_message}
 use Rattle.kmipa_attrs.specs.declared.fields.Field.{Field}
 use Rattle.kmipa_attrs.specs.declared.fields.Field.TheVariants.{Absent, Wrong, There}
@@ -16,8 +16,8 @@ use Rattle.kmipa_msgs.specs.Kinds.{kind_number}
 use Rattle.kmipa_msgs.specs.Numbers.{option_of}
 use Rattle.kmipa_msgs.specs.Messages.{AskOf, RequestOf, request_of}
 use Rattle.kmipa_msgs.specs.Tables.{children, of_table}
-use Rattle.kmipa_msgs.specs.Headers.{is_message, is_version, is_count, batch, gated}
-use Rattle.kmipa_msgs.specs.Outside.{SaysEach, EachFault, ByItem, Tells, each_in, headed}
+use Rattle.kmipa_msgs.specs.Headers.{is_message, is_version, is_count, batch, gated, plain_rows}
+use Rattle.kmipa_msgs.specs.Outside.{SaysEach, EachFault, ByItem, TellsSaid, each_in, headed}
 use Rattle.kmipa_msgs.specs.Asks.{SaysAsk, ItemFault, item_in}
 
 abbrev pub request_header : Tree → Trees
@@ -63,14 +63,14 @@ abbrev pub header_of : RequestOf → HeaderOf
 header_of r = record { option = r.option; ordered = r.ordered }
 
 -- a request without order: its Batch Order Option is False, and it has more than one item
-abbrev pub is_loose : Field Bool → ℕ → Bool
-is_loose Absent n = false
-is_loose Wrong n = false
-is_loose (There true) n = false
-is_loose (There false) n = nat_lt 1 n
+abbrev pub lacks_order : Field Bool → ℕ → Bool
+lacks_order Absent n = false
+lacks_order Wrong n = false
+lacks_order (There true) n = false
+lacks_order (There false) n = nat_lt 1 n
 
 abbrev pub is_without_order : Tree → Bool
-is_without_order t = is_loose (at as_boolean batch_order_option (request_header t)) (length (batch t))
+is_without_order t = lacks_order (at as_boolean batch_order_option (request_header t)) (length (batch t))
 
 -- THE DEFINITIONS
 
@@ -85,7 +85,7 @@ RequestFault t = ByItem (HeaderFault t) (EachFault (λ place. ItemFault (is_with
 
 -- what the reader of requests tells
 abbrev pub TellsRequest : Tree → Result Request ReadFault → Type 0
-TellsRequest t result = Tells request_of (SaysRequest t) (RequestFault t) result
+TellsRequest t result = TellsSaid request_of (SaysRequest t) (RequestFault t) result
 
 -- THE READINGS
 
@@ -98,9 +98,6 @@ abbrev pub order_in : Field Bool → Result Bool OutsideKind
 order_in Absent = Ok true
 order_in Wrong = Err Missing
 order_in (There b) = Ok b
-
-abbrev pub plain_rows : Trees → ℕ → Result (Unit {0} × Unit {0}) OutsideKind
-plain_rows hs n = both kind_number (kept_if (is_version hs) tt Version) (kept_if (is_count hs n) tt Count)
 
 abbrev pub said_rows : Trees → Result (BatchOption × Bool) OutsideKind
 said_rows hs = both kind_number (option_in (at as_enumeration batch_error_continuation_option hs)) (order_in (at as_boolean batch_order_option hs))

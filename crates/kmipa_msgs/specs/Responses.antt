@@ -3,7 +3,7 @@ use Rattle.std.specs.Prelude.{◌≡◌, ℕ, ℤ, true, false, List, length, Re
 use Rattle.std.specs.List.{slice_get}
 use Rattle.kmipa_ttlv.specs.Tree.{Tree, Trees}
 use Rattle.kmipa_attrs.specs.Fields.{at, inside, as_date}
-use Rattle.kmipa_attrs.specs.Readings.{NeededFault, needed, both, kept_if, map_ok}
+use Rattle.kmipa_attrs.specs.Readings.{NeededFault, needed, both, map_ok}
 use Rattle.kmipa_attrs.specs.Tags.{response_header_tag, response_message, time_stamp}
 use Rattle.kmipa_attrs.specs.declared.fields.Field.TheVariants.{There}
 use Rattle.kmipa_msgs.specs.declared.fault.ReadFault.{ReadFault}
@@ -13,8 +13,8 @@ use Rattle.kmipa_msgs.specs.declared.response.Response.{Response}
 use Rattle.kmipa_msgs.specs.Kinds.{kind_number}
 use Rattle.kmipa_msgs.specs.Messages.{RequestOf, AnswerOf, ResponseOf, response_of}
 use Rattle.kmipa_msgs.specs.Tables.{children}
-use Rattle.kmipa_msgs.specs.Headers.{is_message, is_version, is_count, batch, gated}
-use Rattle.kmipa_msgs.specs.Outside.{SaysEach, EachFault, ByItem, Tells, each_in, headed}
+use Rattle.kmipa_msgs.specs.Headers.{is_message, is_version, is_count, batch, gated, plain_rows}
+use Rattle.kmipa_msgs.specs.Outside.{SaysEach, EachFault, ByItem, TellsSaid, each_in, headed}
 use Rattle.kmipa_msgs.specs.Replies.{SaysAnswer, AnswerFault, answer_in}
 
 abbrev pub response_header : Tree → Trees
@@ -45,12 +45,9 @@ ResponseFault t request = ByItem (StampFault t) (EachFault (λ place. AnswerFaul
 
 -- what the reader of responses tells
 abbrev pub TellsResponse : Tree → RequestOf → Result Response ReadFault → Type 0
-TellsResponse t request result = Tells response_of (SaysResponse t request) (ResponseFault t request) result
+TellsResponse t request result = TellsSaid response_of (SaysResponse t request) (ResponseFault t request) result
 
 -- THE READINGS
-
-abbrev pub plain_rows : Trees → ℕ → Result (Unit {0} × Unit {0}) OutsideKind
-plain_rows hs n = both kind_number (kept_if (is_version hs) tt Version) (kept_if (is_count hs n) tt Count)
 
 -- of a header before so many items
 unfoldable pub stamp_said : Trees → ℕ → Result ℤ OutsideKind

@@ -29,17 +29,17 @@ unread_row asked = record {
   NeedsPayload = ⊥;
 }
 
-abbrev pub row_of : Operation → Row
-row_of Create = create_row
-row_of Register = register_row
-row_of Locate = locate_row
-row_of Get = get_row
-row_of GetAttributes = get_attributes_row
-row_of Activate = activate_row
-row_of Revoke = revoke_row
-row_of Destroy = destroy_row
-row_of (Idle n) = unread_row (idles n)
-row_of (Other n) = unread_row (does_other n)
+abbrev pub operation_row : Operation → Row
+operation_row Create = create_row
+operation_row Register = register_row
+operation_row Locate = locate_row
+operation_row Get = get_row
+operation_row GetAttributes = get_attributes_row
+operation_row Activate = activate_row
+operation_row Revoke = revoke_row
+operation_row Destroy = destroy_row
+operation_row (Idle n) = unread_row (idles n)
+operation_row (Other n) = unread_row (does_other n)
 
 -- the fields of a Request Payload; what isn't read is written empty
 abbrev pub asked_fields : AskedOf → List (Option Tree)

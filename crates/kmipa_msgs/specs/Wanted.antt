@@ -3,12 +3,12 @@ use Rattle.std.specs.Prelude.{◌≡◌, ℕ, Option, Some, None}
 use Rattle.kmipa_msgs.specs.declared.operation.Operation.{Operation}
 use Rattle.kmipa_msgs.specs.declared.response.Status.TheVariants.{Undone}
 use Rattle.kmipa_msgs.specs.Operations.{operation_number}
-use Rattle.kmipa_msgs.specs.Rows.{row_of}
+use Rattle.kmipa_msgs.specs.Rows.{operation_row}
 use Rattle.kmipa_msgs.specs.Messages.{AskOf, operation_asked, AnswerOf}
 
 -- what it did can't be judged without its payload
 abbrev pub NeedsPayload : Operation → Type 0
-NeedsPayload operation = (row_of operation).NeedsPayload
+NeedsPayload operation = (operation_row operation).NeedsPayload
 
 -- an answer names no operation, or this one
 abbrev pub IsOwn : ℕ → Option ℕ → Type 0

@@ -1,48 +1,37 @@
 -- Over ledgers that stand for the same inventories the same reasons speak.
-use Rattle.std.proofs.Common.{◌≡◌, ◌≢◌, ◌<◌, ◌||◌, ◌*◌, ◌==◌, ℕ, zero, suc, ℤ, pos, negsuc, Bool, true, false, not, nat_lt, List, [], ◌∷◌, slice_get, find, is_none, option_map, Option, Some, None, refl, ap, sym, ◌∙◌, subst, arith}
+use Rattle.std.proofs.Common.{◌≡◌, ◌≢◌, ◌<◌, ◌||◌, ◌*◌, ◌==◌, ℕ, zero, suc, ℤ, pos, negsuc, Bool, true, false, not, nat_lt, List, [], ◌∷◌, slice_get, find, option_map, Option, Some, None, refl, ap, sym, ◌∙◌, subst, arith}
 use Rattle.std.specs.Option.{option_and_then}
 use Rattle.std.proofs.lemmas.Bool.{and_parts}
 use Rattle.std.proofs.lemmas.Bool.Decides.{Decides-eqb}
 use Rattle.std.proofs.lemmas.List.Elements.{All-cons, All-tail}
 use Rattle.kmipa_object.specs.Inventory.{Card, Thing, cards, place_of, live, admits, rule_of, Admitted}
-use Rattle.kmipa_object.specs.Life.{state}
-use Rattle.kmipa_object.specs.Table.{allowed}
 use Rattle.kmipa_object.specs.declared.life.Material.{Material}
 use Rattle.kmipa_object.specs.declared.life.Material.TheVariants.{Gone, Secret}
 use Rattle.kmipa_object.specs.declared.life.SecretNo.{SecretNo}
 use Rattle.kmipa_object.specs.declared.rule.Rule.{Rule}
 use Rattle.kmipa_object.specs.declared.rule.Rule.TheVariants.{Any, Bits}
-use Rattle.kmipa_object.specs.declared.allow.Act.{Act}
-use Rattle.kmipa_object.specs.declared.allow.Act.TheVariants as act
 use Rattle.kmipa_store.specs.Ledger.{Held, Known, Meaning, cards_of}
-use Rattle.kmipa_store.specs.Calls.{differs, breaks}
 use Rattle.kmipa_store.specs.Choices.{Choice, Suits, Chooses, bytes_of, thing, inv, GoneIfDestroyed, IsSound}
 use Rattle.kmipa_store.proofs.ChoiceLemmas.{override, override_same, Chooses-override}
 use Rattle.kmipa_store.proofs.InventoryLemmas.{cards-inv, get-inv, get-cards_of}
 use Rattle.kmipa_msgs.specs.declared.response.Status.{Status}
 use Rattle.kmipa_msgs.specs.declared.response.Status.TheVariants.{Success, Failed, Undone}
-use Rattle.kmipa_msgs.specs.Messages.{RulesOf, RegisterOf, RegisteredOf, GotOf, AskedOf, AskOf, PayloadOf, AnswerOf, creates, registers, locates, gets, gets_attributes, activates, revokes, destroys, idles, does_other}
-use Rattle.kmipa_attrs.specs.Sets.{Attributes}
-use Rattle.kmipa_ops.specs.declared.change.Change.{Change}
-use Rattle.kmipa_ops.specs.declared.change.Change.TheVariants.{Activate, Revoke, Destroy}
+use Rattle.kmipa_msgs.specs.Messages.{RulesOf, AskedOf, AskOf, PayloadOf, AnswerOf, operation_asked}
 use Rattle.kmipa_ops.specs.declared.why.Why.{Why}
-use Rattle.kmipa_ops.specs.declared.why.Why.TheVariants.{NoSuchObject, WrongState, BytesDiffer, LengthImpossible, AttributeDiffers, ReasonUnfounded}
+use Rattle.kmipa_ops.specs.declared.why.Why.TheVariants.{ReasonUnfounded}
 use Rattle.kmipa_ops.specs.Alike.{StandAlike, AlikeSpeakAlike, AlikeGoAlike}
-use Rattle.kmipa_ops.specs.Blame.{done_speaks, failure_speaks, outcome_speaks, frame_speaks, speaks}
-use Rattle.kmipa_ops.specs.Changes.{act_of, id_in, seen_changed, change_speaks}
-use Rattle.kmipa_ops.specs.Create.{seen_created, create_speaks, create_says}
+use Rattle.kmipa_ops.specs.Blame.{failure_speaks, outcome_speaks, frame_speaks, speaks}
 use Rattle.kmipa_ops.specs.Explains.{Explains}
 use Rattle.kmipa_ops.specs.Chains.{ChainSome}
 use Rattle.kmipa_ops.specs.Founded.{founded}
-use Rattle.kmipa_ops.specs.Get.{seen_got, shows_other, get_speaks}
-use Rattle.kmipa_ops.specs.GetAttributes.{seen_attributes, get_attributes_speaks}
-use Rattle.kmipa_ops.specs.Locate.{seen_located, locate_speaks}
-use Rattle.kmipa_ops.specs.Meant.{place_meant, object_meant, secret_at, secret_meant, is_not, is_excluded}
-use Rattle.kmipa_ops.specs.Objects.{meant, card_meant}
+use Rattle.kmipa_ops.specs.Meant.{place_meant, secret_at, secret_meant}
 use Rattle.kmipa_ops.specs.OneInventory.{StandsFor}
-use Rattle.kmipa_ops.specs.Register.{seen_registered, register_speaks, register_says}
+use Rattle.kmipa_ops.specs.Row.{Row, deed, idle, unknown, seen_in, row_speaks}
+use Rattle.kmipa_ops.specs.Rows.{asked_row}
 use Rattle.kmipa_ops.specs.Whys.{whys}
-use Rattle.kmipa_ops.proofs.MeantLemmas.{card_meant_is}
+use Rattle.kmipa_ops.proofs.DeedLaws.{IsRow}
+use Rattle.kmipa_ops.proofs.RowLemmas.{is_row}
+use Rattle.kmipa_msgs.specs.declared.operation.Operation.{Operation}
 
 -- A RULE ADMITS NO BYTES ALONE
 
@@ -177,65 +166,13 @@ module _ (m n : Meaning) (sound : IsSound m) (sound_too : IsSound n) (alike : St
       secret_place (place_meant m.objects about)
       ∙ ap (λ (o : Option ℕ). option_and_then (λ (h : Held). secret_at n.secrets h.material) (option_and_then (slice_get n.objects) o)) (place_same about)
 
-  -- a test of the object that is meant, but for its bytes
-  met : (P : Option Held → Bool) → ((h g : Held) → h.card ≡ g.card → P (Some h) ≡ P (Some g)) → (x y : Option Held)
-      → option_map (λ (h : Held). h.card) x ≡ option_map (λ (h : Held). h.card) y → P x ≡ P y
-  met P same None None e = refl
-  met P same None (Some g) e = cc
-  met P same (Some h) None e = cc
-  met P same (Some h) (Some g) e = let c : h.card ≡ g.card = cc in same h g c
+  -- ANY OPERATION
 
-  object_same : (P : Option Held → Bool) → ((h g : Held) → h.card ≡ g.card → P (Some h) ≡ P (Some g)) → (about : Option (List ℕ)) → P (object_meant m.objects about) ≡ P (object_meant n.objects about)
-  object_same P same about =
-      met P same (object_meant m.objects about) (object_meant n.objects about)
-      (sym (card_meant_is m.objects about) ∙ ap (λ (cs : List Card). card_meant cs about) cards_same ∙ card_meant_is n.objects about)
-
-  none_same : (about : Option (List ℕ)) → is_none (object_meant m.objects about) ≡ is_none (object_meant n.objects about)
-  none_same about = object_same is_none (λ h g e. refl) about
-
-  excluded_same : (act : Act) (t : ℤ) (about : Option (List ℕ)) → is_excluded act t (object_meant m.objects about) ≡ is_excluded act t (object_meant n.objects about)
-  excluded_same act t about = object_same (is_excluded act t) (λ h g e. ap (λ (c : Card). is_not (allowed act (state c.dates t))) e) about
-
-  other_same : (a : GotOf) (about : Option (List ℕ)) → shows_other a (object_meant m.objects about) ≡ shows_other a (object_meant n.objects about)
-  other_same a about = object_same (shows_other a) (λ h g e. λ i. shows_other a (Some (record { card = e i; material = Gone }))) about
-
-  -- EACH OPERATION
-
-  create_same : (rules : RulesOf) (a : Attributes) (shown : Option RegisteredOf) (why : Why) → create_says rules m a shown why ≡ create_says rules n a shown why
-  create_same rules a None why = refl
-  create_same rules a (Some x) why = ap (λ (cs : List Card). create_speaks rules cs a x why) cards_same
-
-  register_same : (rules : RulesOf) (r : RegisterOf) (shown : Option RegisteredOf) (why : Why) → register_says rules m r shown why ≡ register_says rules n r shown why
-  register_same rules r None why = refl
-  register_same rules r (Some x) why = ap (λ (cs : List Card). register_speaks rules cs r x why) cards_same
-
-  get_same : (about : Option (List ℕ)) (t : ℤ) (shown : Option GotOf) (why : Why) → get_speaks m about t shown why ≡ get_speaks n about t shown why
-  get_same about t shown NoSuchObject = none_same about
-  get_same about t shown WrongState = excluded_same act.Get t about
-  get_same about t (Some a) BytesDiffer = ap (λ (o : Option Known). differs o a.block.material) (secret_same about)
-  get_same about t (Some a) LengthImpossible = ap (λ (o : Option Known). breaks o a.block.material) (secret_same about)
-  get_same about t (Some a) AttributeDiffers = other_same a about
-  get_same about t (Some a) why = refl
-  get_same about t None why = refl
-
-  change_same : (about : Option (List ℕ)) (t : ℤ) (change : Change) (shown : Option (List ℕ)) (why : Why) → change_speaks m.objects about t change shown why ≡ change_speaks n.objects about t change shown why
-  change_same about t change shown NoSuchObject = none_same about
-  change_same about t change shown WrongState = excluded_same (act_of change) t about
-  change_same about t change shown why = refl
-
-  done_same : (rules : RulesOf) (before : Option (List ℕ)) (t : ℤ) (asked : AskedOf) (payload : Option PayloadOf) (why : Why)
-      → done_speaks rules m before t asked payload why ≡ done_speaks rules n before t asked payload why
-  done_same rules before t (creates a) payload why = create_same rules a (option_and_then seen_created payload) why
-  done_same rules before t (registers r) payload why = register_same rules r (option_and_then seen_registered payload) why
-  done_same rules before t (locates q) payload why = ap (λ (cs : List Card). locate_speaks cs t q (option_and_then seen_located payload) why) cards_same
-  done_same rules before t (gets id) payload why = get_same (meant id before) t (option_and_then seen_got payload) why
-  done_same rules before t (gets_attributes g) payload why =
-      ap (λ (cs : List Card). get_attributes_speaks cs (meant g.id before) t g (option_and_then seen_attributes payload) why) cards_same
-  done_same rules before t (activates id) payload why = change_same (meant id before) t Activate (id_in (option_and_then seen_changed payload)) why
-  done_same rules before t (revokes r) payload why = change_same (meant r.id before) t (Revoke r.code) (id_in (option_and_then seen_changed payload)) why
-  done_same rules before t (destroys id) payload why = change_same (meant id before) t Destroy (id_in (option_and_then seen_changed payload)) why
-  done_same rules before t (idles number) payload why = refl
-  done_same rules before t (does_other number) payload why = refl
+  row_same : (operation : Operation) (row : Row) → IsRow operation row → (rules : RulesOf) (before : Option (List ℕ)) (t : ℤ) (payload : Option PayloadOf) (why : Why)
+      → row_speaks row rules m before t payload why ≡ row_speaks row rules n before t payload why
+  row_same operation (deed d) is rules before t payload why = is.same rules m n (cards_same, secret_same) before t (seen_in d payload) why
+  row_same operation idle is rules before t payload why = refl
+  row_same operation unknown is rules before t payload why = refl
 
   failure_same : (rules : RulesOf) (before : Option (List ℕ)) (t : ℤ) (asked : AskedOf) (reason : Option ℕ) (why : Why)
       → failure_speaks rules m before t asked reason why ≡ failure_speaks rules n before t asked reason why
@@ -244,8 +181,8 @@ module _ (m n : Meaning) (sound : IsSound m) (sound_too : IsSound n) (alike : St
 
   outcome_same : (status : Status) (rules : RulesOf) (before : Option (List ℕ)) (t : ℤ) (asked : AskedOf) (reason : Option ℕ) (payload : Option PayloadOf) (why : Why)
       → outcome_speaks status rules m before t asked reason payload why ≡ outcome_speaks status rules n before t asked reason payload why
-  outcome_same Success rules before t asked reason payload why = done_same rules before t asked payload why
-  outcome_same Undone rules before t asked reason payload why = done_same rules before t asked payload why
+  outcome_same Success rules before t asked reason payload why = row_same (operation_asked asked) (asked_row asked) (is_row asked) rules before t payload why
+  outcome_same Undone rules before t asked reason payload why = row_same (operation_asked asked) (asked_row asked) (is_row asked) rules before t payload why
   outcome_same Failed rules before t asked reason payload why = failure_same rules before t asked reason why
 
   speaks_same : (rules : RulesOf) (before : Option (List ℕ)) (t : ℤ) (ask : AskOf) (answer : AnswerOf) (why : Why)

@@ -1,5 +1,5 @@
 -- Activate, Revoke and Destroy: what a ledger leaves whose object was changed; they keep the laws of operations.
-use Rattle.std.proofs.Common.{cond, find, ◌≡◌, ◌≢◌, if◌then◌else◌, MatchResult, Result, Ok, Err, ℕ, zero, suc, ℤ, Bool, true, false, List, [], ◌∷◌, slice_get, is_none, bytes_eq, option_map, Option, Some, None, refl, ap, sym, ◌∙◌, subst, arith, find, inl}
+use Rattle.std.proofs.Common.{cond, find, ◌≡◌, ◌≢◌, if◌then◌else◌, MatchResult, Result, Ok, Err, ℕ, zero, suc, ℤ, Bool, true, false, List, [], ◌∷◌, slice_get, is_none, bytes_eq, option_map, Option, Some, None, refl, ap, sym, ◌∙◌, subst, arith, find, inl, inr}
 use Rattle.std.proofs.lemmas.Slice.Eq.{bytes_eq-Decides}
 use Rattle.kmipa_object.specs.Inventory.{Thing, place_of}
 use Rattle.kmipa_object.specs.Life.{Dates, dates_of, state, is_active, compromises, or_now, deactivated_dates, revoked_dates}
@@ -23,19 +23,22 @@ use Rattle.kmipa_ops.specs.declared.change.Change.TheVariants.{Activate, Revoke,
 use Rattle.kmipa_ops.specs.declared.why.Why.{Why}
 use Rattle.kmipa_ops.specs.declared.why.Why.TheVariants.{NoSuchObject, WrongState, EchoDiffers}
 use Rattle.kmipa_ops.specs.Objects.{meant, is_other_id}
-use Rattle.kmipa_ops.specs.Changes.{act_of, dates_after, bytes_after, thing_after, ChangesObject, change_speaks, material_after, dates_left, material_left, held_left, changed_at, with_changed, seen_changed, change_deed}
+use Rattle.kmipa_ops.specs.Changes.{act_of, dates_after, bytes_after, thing_after, ChangesObject, change_speaks, material_after, dates_left, material_left, held_left, changed_at, with_changed, change_deed, id_in, ChangeReason}
 use Rattle.kmipa_ops.specs.Meant.{place_meant, object_meant, is_not, is_excluded}
 use Rattle.kmipa_ops.proofs.TestLemmas.{not_none, echoes_if, echoes_not}
 use Rattle.kmipa_ops.proofs.StepLemmas.{Step, step_as}
 use Rattle.kmipa_object.specs.declared.state.State.{State}
 use Rattle.kmipa_store.specs.Queries.{state_of_place}
 use Rattle.kmipa_ops.specs.Whys.{whys}
-use Rattle.kmipa_ops.specs.After.{Changes, Leaves}
+use Rattle.kmipa_ops.specs.After.{Changes, LeavesAfter}
 use Rattle.kmipa_ops.proofs.GetLemmas.{meant_is, meant_at}
 use Rattle.kmipa_ops.proofs.MeantLemmas.{object_there, object_nowhere, in_state}
-use Rattle.kmipa_msgs.specs.Messages.{PayloadOf, changed}
+use Rattle.kmipa_msgs.specs.Messages.{changed}
 use Rattle.kmipa_msgs.specs.Sayable.{IsSayableId}
 use Rattle.kmipa_ops.proofs.DeedLaws.{IsDeed}
+use Rattle.std.specs.Bool.{Decides}
+use Rattle.kmipa_ops.proofs.ConditionLemmas.{never_decides, none_decides, id_decides, excluded_decides, none_same, excluded_same}
+use Rattle.kmipa_msgs.specs.Identifiers.{SaysChanged}
 
 -- two changes that agree on the element
 pub updated-agree : {X : Type 0} (xs : List X) (n : ℕ) (f g : X → X) (x : X) → slice_get xs n ≡ Some x → f x ≡ g x → updated xs n f ≡ updated xs n g
@@ -118,7 +121,7 @@ changed_is s u o place h change t life here at is put =
 
 -- and an operation what it leaves of the object that is meant
 pub leaves_changed : {E : Type 0} (s u : LedgerState) (before id p : Option (List ℕ)) (o : Option ℕ) (t : ℤ) (change : Change) (r : Result (Unit {0}) E) → o ≡ place_meant s.now.objects (meant id before) → p ≡ before
-    → Changes s (record { objects = changed_at s.now.objects o (held_left change t); secrets = s.now.secrets }) r u → Leaves s (with_changed s.now (meant id before) t change) before r u p
+    → Changes s (record { objects = changed_at s.now.objects o (held_left change t); secrets = s.now.secrets }) r u → LeavesAfter s (with_changed s.now (meant id before) t change) before r u p
 leaves_changed s u before id p o t change (Ok done) place held x =
     (x ∙ ap (λ (y : Option ℕ). now_changed s (record { objects = changed_at s.now.objects y (held_left change t); secrets = s.now.secrets })) place, held)
 leaves_changed s u before id p o t change (Err e) place held x = x
@@ -247,10 +250,6 @@ module _ (m : Meaning) (before asked : Option (List ℕ)) (t : ℤ) (change : Ch
   change_never EchoDiffers h c V p x = echoes_not bytes_eq bytes_eq-Decides shown x.id (ap (is_other_id shown) (sym x.about) ∙ h) x.echo
   change_never w h c V p x = cc
 
-one_changed : (p : PayloadOf) (id : Option (List ℕ)) → seen_changed p ≡ Some id → p ≡ changed id
-one_changed (changed a) id e = let same : a ≡ id = cc in ap changed same
-one_changed p id e = let bad : ⊥ = cc in absurd bad
-
 none_other : (about : Option (List ℕ)) → is_other_id None about ≡ false
 none_other None = refl
 none_other (Some id) = refl
@@ -272,16 +271,34 @@ hidden_change m before id t change sound silent =
     (λ V V' p x. unshown V before t id change x.0 V' p x.2)
     (change_step m before id t change None sound silent)
 
-pub is_change : (id : Option (List ℕ)) (change : Change) → IsDeed (change_deed id change)
+-- its test says what its reasons mean
+change_decides : (objects : List Held) (meant_id : Option (List ℕ)) (t : ℤ) (change : Change) (shown : Option (List ℕ)) (why : Why)
+    → Decides (change_speaks objects meant_id t change shown why) (ChangeReason objects meant_id t change shown why)
+change_decides objects meant_id t change shown NoSuchObject = none_decides (object_meant objects meant_id)
+change_decides objects meant_id t change shown WrongState = excluded_decides objects meant_id t (act_of change)
+change_decides objects meant_id t change shown EchoDiffers = id_decides shown meant_id
+change_decides objects meant_id t change shown why = never_decides
+
+-- and the same over ledgers with the same objects
+change_same : (hs gs : List Held) → cards_of hs ≡ cards_of gs → (meant_id : Option (List ℕ)) (t : ℤ) (change : Change) (shown : Option (List ℕ)) (why : Why)
+    → change_speaks hs meant_id t change shown why ≡ change_speaks gs meant_id t change shown why
+change_same hs gs same meant_id t change shown NoSuchObject = none_same hs gs same meant_id
+change_same hs gs same meant_id t change shown WrongState = excluded_same hs gs same (act_of change) t meant_id
+change_same hs gs same meant_id t change shown why = refl
+
+pub is_change : (id : Option (List ℕ)) (change : Change) → IsDeed (change_deed id change) SaysChanged IsSayableId
 is_change id change = record {
   back = λ shown. refl;
-  one = one_changed;
+  each = elim [ changed x ↦ inl (x, refl) | _ ↦ inr (refl, λ ts s. s) ];
+  carries = λ x. (λ h. (h, tt), λ h. h.0);
   quiet = λ rules m before t shown. refl;
   covers = λ rules m before t shown w h. covers_change m.objects (meant id before) t change shown w h;
   step = λ rules m before t a sound brought shown silent. change_step m before id t change a sound silent;
   never = λ rules m before t a w h c ch V p x. change_never m before id t change a w h c V p x;
   hidden = λ rules m before t may sound silent. hidden_change m before id t change sound silent;
   learns = λ m before t shown number bytes e. inl e;
+  decides = λ rules m before t shown w. change_decides m.objects (meant id before) t change (id_in shown) w;
+  same = λ rules m n same before t shown w. change_same m.objects n.objects same.0 (meant id before) t change (id_in shown) w;
 }
 
 -- AS THE PROGRAM LOOKS AT IT

@@ -14,7 +14,7 @@ use Rattle.kmipa_ops.specs.Chains.{Chain, ChainSome, CompletesEach, ChainsComple
 use Rattle.kmipa_ops.specs.Blame.{speaks, lowest}
 use Rattle.kmipa_ops.specs.After.{after, placeholder_after}
 use Rattle.kmipa_ops.proofs.AscendLemmas.{after_ascends}
-use Rattle.kmipa_ops.specs.Explains.{Tells, TellsBytes, Explains, Refuted, Taken, Took, is_readable, IsPossible, BlameIsExact}
+use Rattle.kmipa_ops.specs.Explains.{BringsOrShows, TellsBytes, Explains, Refuted, Taken, Took, is_readable, IsPossible, BlameIsExact}
 use Rattle.kmipa_ops.proofs.FirstLemmas.{find-some}
 use Rattle.kmipa_ops.proofs.ItemLemmas.{item_step, never, learns_after}
 
@@ -33,11 +33,11 @@ module _ (rules : RulesOf) (t : ℤ) where
   chain_split V p (x ∷ xs) ys W r c = let s = chain_split c.0 c.1 xs ys W r c.3 in (s.0, s.1, (c.0, c.1, c.2, s.2), s.3)
 
 -- what some of the items told the items told
-pub tells_front : (xs ys : List (AskOf × AnswerOf)) (bytes : List ℕ) → Tells xs bytes → Tells (xs ++ ys) bytes
+pub tells_front : (xs ys : List (AskOf × AnswerOf)) (bytes : List ℕ) → BringsOrShows xs bytes → BringsOrShows (xs ++ ys) bytes
 tells_front [] ys bytes h = absurd h
 tells_front (x ∷ xs) ys bytes h = elim h [ inl a ↦ inl a | inr b ↦ inr (elim b [ inl d ↦ inl d | inr e ↦ inr (tells_front xs ys bytes e) ]) ]
 
-pub tells_back : (xs ys : List (AskOf × AnswerOf)) (bytes : List ℕ) → Tells ys bytes → Tells (xs ++ ys) bytes
+pub tells_back : (xs ys : List (AskOf × AnswerOf)) (bytes : List ℕ) → BringsOrShows ys bytes → BringsOrShows (xs ++ ys) bytes
 tells_back [] ys bytes h = h
 tells_back (x ∷ xs) ys bytes h = inr (inr (tells_back xs ys bytes h))
 

@@ -14,7 +14,7 @@ use Rattle.kmipa_msgs.specs.declared.rules.Cause.{Cause}
 use Rattle.kmipa_msgs.specs.declared.rules.Cause.TheVariants.{WrongState, NotFound, TakenName}
 use Rattle.kmipa_ops.specs.Objects.{meant, card_meant}
 use Rattle.kmipa_ops.specs.Row.{row_subject, SubjectOf, on_object, on_names, on_nothing}
-use Rattle.kmipa_ops.specs.Rows.{row_of}
+use Rattle.kmipa_ops.specs.Rows.{asked_row}
 use Rattle.kmipa_ops.specs.Founded.{Holds, IsOfNothing, FoundedOf, FoundedIsDecided, is_live_there, is_must, is_refusable, holds_of, is_of_nothing, has_row, has_cause, founded_of}
 use Rattle.kmipa_ops.specs.Founded.FoundedOf.{unsaid, unlisted, of_nothing, caused}
 use Rattle.kmipa_ops.proofs.TestLemmas.{some_if, some_not, false_if, true_not}
@@ -117,4 +117,4 @@ of_decides rules cs before t subject None = (λ h. unsaid refl, λ h. refl)
 of_decides rules cs before t subject (Some reason) = (founded_if rules cs before t subject reason, founded_not rules cs before t subject reason)
 
 pub founded_decides : FoundedIsDecided
-founded_decides rules cs before t asked reason = of_decides rules cs before t (row_subject (row_of asked)) reason
+founded_decides rules cs before t asked reason = of_decides rules cs before t (row_subject (asked_row asked)) reason

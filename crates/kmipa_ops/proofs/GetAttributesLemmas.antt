@@ -1,5 +1,5 @@
 -- Get Attributes: the reasons speak exactly where the answer isn't possible, of inventories and of ledgers; it keeps the laws of operations.
-use Rattle.std.proofs.Common.{◌≡◌, ◌&&◌, ◌||◌, ◌==◌, ℕ, ℤ, Bool, true, false, not, List, slice_get, is_none, is_some, bytes_eq, option_map, Option, Some, None, refl, ap, sym, ◌∙◌, subst, IfSome, IsUtf8, find, inl, cond}
+use Rattle.std.proofs.Common.{◌≡◌, ◌&&◌, ◌||◌, ◌==◌, ℕ, ℤ, Bool, true, false, not, List, slice_get, is_none, is_some, bytes_eq, option_map, Option, Some, None, refl, ap, sym, ◌∙◌, subst, IfSome, IsUtf8, find, inl, cond, inr}
 use Rattle.std.specs.Option.{option_and_then}
 use Rattle.std.specs.Ordering.{int_eq}
 use Rattle.std.proofs.lemmas.Bool.{and_parts, or_parts, not-true}
@@ -13,21 +13,25 @@ use Rattle.kmipa_object.specs.Life.{state, state_number}
 use Rattle.kmipa_store.specs.Ledger.{Meaning, cards_of, Held}
 use Rattle.kmipa_store.specs.Choices.{Choice, inv, IsSound}
 use Rattle.kmipa_store.proofs.InventoryLemmas.{cards-inv}
-use Rattle.kmipa_msgs.specs.Messages.{GetAttributesOf, GotAttributesOf, PayloadOf, got_attributes}
+use Rattle.kmipa_msgs.specs.Messages.{GetAttributesOf, GotAttributesOf, got_attributes}
 use Rattle.kmipa_ops.specs.declared.judged.Judged.TheVariants.{Name, ObjectType, CryptographicAlgorithm, CryptographicLength, CryptographicUsageMask, State, InitialDate, ActivationDate, DeactivationDate, DestroyDate, CompromiseDate}
 use Rattle.kmipa_ops.specs.declared.why.Why.{Why}
 use Rattle.kmipa_ops.specs.declared.why.Why.TheVariants.{NoSuchObject, AttributeDiffers, AttributeMissing, EchoDiffers}
 use Rattle.kmipa_ops.specs.Objects.{meant, HasObject, card_meant, Agree, is_other_id, clash}
-use Rattle.kmipa_ops.specs.GetAttributes.{AttributesAreDecided, IsHad, IsOwnAt, ShowsAsked, HasRequired, GetsAttributes, has_stranger, is_foreign_date, asks_for, leaves_out, shows_other_value, shows_other_date, shows_foreign, shows_foreign_of, lacks_name, lacks_value, lacks_date, lacks_asked, lacks_required, lacks_required_of, get_attributes_speaks, SaysAttributes, seen_attributes, get_attributes_deed, attributes_speak}
+use Rattle.kmipa_ops.specs.GetAttributes.{AttributesAreDecided, IsHad, IsOwnAt, ShowsAsked, HasRequired, GetsAttributes, has_stranger, is_foreign_date, asks_for, leaves_out, shows_other_value, shows_other_date, shows_foreign, shows_foreign_of, lacks_name, lacks_value, lacks_date, lacks_asked, lacks_required, lacks_required_of, get_attributes_speaks, SaysAttributes, get_attributes_deed, attributes_speak, GetAttributesReason}
 use Rattle.kmipa_ops.proofs.NameLemmas.{strangers_if, strangers_not}
-use Rattle.kmipa_ops.proofs.TestLemmas.{false_if, five_parts, five_cases, three_cases, not_false, not_none, echoes_if, echoes_not, agree_if, agree_not}
+use Rattle.kmipa_ops.proofs.TestLemmas.{false_if, five_parts, five_cases, three_cases, not_false, not_none, echoes_if, echoes_not, agree_if, agree_not, true_not, refuted}
 use Rattle.kmipa_ops.proofs.StepLemmas.{Step, still_step}
 use Rattle.kmipa_ops.proofs.DeedLaws.{outer_whys, IsDeed}
 use Rattle.kmipa_ops.specs.Whys.{whys}
 use Rattle.kmipa_object.specs.declared.state.State.{State as StateOf}
 use Rattle.kmipa_store.specs.Queries.{state_of_place}
 use Rattle.kmipa_ops.specs.Meant.{place_meant, object_meant}
-use Rattle.kmipa_ops.proofs.MeantLemmas.{card_meant_is, object_there, object_nowhere, state_there}
+use Rattle.kmipa_ops.proofs.MeantLemmas.{object_there, object_nowhere, state_there}
+use Rattle.std.specs.Bool.{Decides}
+use Rattle.kmipa_ops.proofs.ConditionLemmas.{card_meant_is, never_decides, none_decides, id_decides}
+use Rattle.kmipa_msgs.specs.GetsAttributes.{AnswersGetAttributes}
+use Rattle.kmipa_msgs.specs.Sayable.{SaysOwn}
 
 -- asked for, there, and not shown
 out_if : (asked own shown : Bool) → (asked && own && not shown) ≡ false → asked ≡ true → own ≡ true → shown ≡ true
@@ -346,10 +350,6 @@ module _ (m : Meaning) (before : Option (List ℕ)) (t : ℤ) (asked : GetAttrib
   hidden_attributes_never a w h c V p x =
       gets_not (inv c m.objects) before t asked a w (hidden_speaks (inv c m.objects) before t asked a w (speaks_of c None w ∙ h)) V p x
 
-one_attributes : (p : PayloadOf) (a : GotAttributesOf) → seen_attributes p ≡ Some a → p ≡ got_attributes a
-one_attributes (got_attributes b) a e = let same : b ≡ a = cc in ap got_attributes same
-one_attributes p a e = let bad : ⊥ = cc in absurd bad
-
 quiet_attributes : (cs : List Card) (about : Option (List ℕ)) (t : ℤ) (g : GetAttributesOf) (shown : Option GotAttributesOf) → find (get_attributes_speaks cs about t g shown) outer_whys ≡ None
 quiet_attributes cs meant_id t g None = refl
 quiet_attributes cs meant_id t g (Some a) = refl
@@ -368,16 +368,51 @@ hidden_of m before t g sound silent =
     (λ c ch. let h = hidden_attributes m before t g silent c in (h.0, subst P (sym h.1) tt, h.2))
     (λ V V' p x. (x.2.leaves, x.2.placeholder))
 
-pub is_get_attributes : (g : GetAttributesOf) → IsDeed (get_attributes_deed g)
+-- of an object that may be there, a test that fails exactly where something holds
+card_refuted : (test : Card → Bool) (P : Card → Type 0) → ((c : Card) → Decides (test c) (P c → ⊥)) → (of : Option Card → Bool) → of None ≡ false → ((c : Card) → of (Some c) ≡ test c)
+    → (o : Option Card) → Decides (of o) ((c : Card) × (o ≡ Some c) × (P c → ⊥))
+card_refuted test P dec of nowhere there None = (
+  λ h. absurd (true_not (of None) h nowhere),
+  λ x. let e : None ≡ Some x.0 = x.1 in let bad : ⊥ = cc in absurd bad,
+)
+card_refuted test P dec of nowhere there (Some c) = (
+  λ h. (c, refl, (dec c).0 (sym (there c) ∙ h)),
+  λ x.
+      let e : Some c ≡ Some x.0 = x.1 in
+      let is : x.0 ≡ c = cc in
+      there c ∙ (dec c).1 (subst (λ (d : Card). P d → ⊥) is x.2),
+)
+
+-- its test says what its reasons mean
+get_attributes_decides : (cs : List Card) (meant_id : Option (List ℕ)) (t : ℤ) (g : GetAttributesOf) (shown : Option GotAttributesOf) (why : Why)
+    → Decides (get_attributes_speaks cs meant_id t g shown why) (GetAttributesReason cs meant_id t g shown why)
+get_attributes_decides cs meant_id t g None NoSuchObject = none_decides (card_meant cs meant_id)
+get_attributes_decides cs meant_id t g None why = never_decides
+get_attributes_decides cs meant_id t g (Some a) NoSuchObject = none_decides (card_meant cs meant_id)
+get_attributes_decides cs meant_id t g (Some a) AttributeDiffers =
+    card_refuted (λ c. shows_foreign c (state c.dates t) a.attributes) (λ c. IsOwnAt c t a.attributes)
+    (λ c. let d = attributes_are_decided.0 c t a.attributes in refuted (shows_foreign c (state c.dates t) a.attributes) d.0 d.1)
+    (λ o. shows_foreign_of o t a.attributes) refl (λ c. refl) (card_meant cs meant_id)
+get_attributes_decides cs meant_id t g (Some a) AttributeMissing =
+    card_refuted (λ c. lacks_required g c a.attributes) (λ c. HasRequired g c a.attributes)
+    (λ c. let d = attributes_are_decided.1 g c a.attributes in refuted (lacks_required g c a.attributes) d.0 d.1)
+    (λ o. lacks_required_of g o a.attributes) refl (λ c. refl) (card_meant cs meant_id)
+get_attributes_decides cs meant_id t g (Some a) EchoDiffers = id_decides a.id meant_id
+get_attributes_decides cs meant_id t g (Some a) why = never_decides
+
+pub is_get_attributes : (g : GetAttributesOf) → IsDeed (get_attributes_deed g) AnswersGetAttributes SaysOwn
 is_get_attributes g = record {
   back = λ a. refl;
-  one = one_attributes;
+  each = elim [ got_attributes x ↦ inl (x, refl) | _ ↦ inr (refl, λ ts s. s) ];
+  carries = λ x. (λ h. h, λ h. h);
   quiet = λ rules m before t shown. quiet_attributes (cards_of m.objects) (meant g.id before) t g shown;
   covers = λ rules m before t a w h. covers_attributes (cards_of m.objects) (meant g.id before) t g a w h;
   step = λ rules m before t a sound brought shown silent. attributes_step m before t g a sound silent;
   never = λ rules m before t a w h c ch V p x. attributes_never m before t g a w h c V p x;
   hidden = λ rules m before t may sound silent. hidden_of m before t g sound silent;
   learns = λ m before t shown number bytes e. inl e;
+  decides = λ rules m before t shown w. get_attributes_decides (cards_of m.objects) (meant g.id before) t g shown w;
+  same = λ rules m n same before t shown w. ap (λ (cs : List Card). get_attributes_speaks cs (meant g.id before) t g shown w) same.0;
 }
 
 -- against an answer about an object that is there

@@ -1,10 +1,10 @@
 -- Get: where nothing speaks against it the ledger goes on, and what speaks against it allows no choice; it keeps the laws of operations.
-use Rattle.std.proofs.Common.{◌≡◌, ◌&&◌, ◌==◌, ◌<◌, ℕ, ℤ, Bool, true, false, not, List, length, slice_get, All, is_none, bytes_eq, option_map, Option, Some, None, refl, ap, sym, ◌∙◌, subst, inl, inr, arith, ◌||◌, find}
+use Rattle.std.proofs.Common.{◌≡◌, ◌&&◌, ◌==◌, ◌<◌, ℕ, ℤ, Bool, true, false, not, List, length, slice_get, All, is_none, bytes_eq, option_map, Option, Some, None, refl, ap, sym, ◌∙◌, subst, inl, inr, arith, ◌||◌, find, ◌≢◌}
 use Rattle.std.specs.Ordering.{int_eq}
 use Rattle.std.specs.Option.{option_and_then}
 use Rattle.std.specs.Prelude.{if◌then◌else◌}
 use Rattle.std.proofs.lemmas.Slice.Eq.{bytes_eq-Decides}
-use Rattle.std.proofs.lemmas.Bool.{or_parts}
+use Rattle.std.proofs.lemmas.Bool.{or_parts, and_parts, and_from}
 use Rattle.std.proofs.lemmas.Bool.Decides.{Decides-eqb, Decides-int_eq}
 use Rattle.kmipa_attrs.specs.declared.object_type.ObjectType.{ObjectType}
 use Rattle.kmipa_attrs.specs.declared.object_type.ObjectType.TheVariants.{SymmetricKey, SecretData}
@@ -22,20 +22,22 @@ use Rattle.kmipa_store.specs.Choices.{Choice, Suits, Chooses, inv, thing, bytes_
 use Rattle.kmipa_store.proofs.ChoiceLemmas.{override, override_same, agrees_same, Chooses-told, told_bytes, Chooses-override, extends_told, length-told}
 use Rattle.kmipa_store.proofs.InventoryLemmas.{cards-inv, get-inv}
 use Rattle.kmipa_store.proofs.SoundLemmas.{inv_found, InRange-extends}
-use Rattle.kmipa_msgs.specs.Messages.{GotOf, PayloadOf, got}
+use Rattle.kmipa_msgs.specs.Messages.{GotOf, got}
 use Rattle.kmipa_ops.specs.declared.why.Why.{Why}
 use Rattle.kmipa_ops.specs.declared.why.Why.TheVariants.{NoSuchObject, WrongState, BytesDiffer, LengthImpossible, AttributeDiffers, EchoDiffers}
-use Rattle.kmipa_ops.specs.Objects.{meant, Echoes, Agree, is_other, clash, same_type, is_other_id}
+use Rattle.kmipa_ops.specs.Objects.{meant, Echoes, Agree, is_other, clash, same_type, is_other_id, Differs}
 use Rattle.kmipa_msgs.specs.Sayable.{SaysKey}
-use Rattle.kmipa_ops.specs.Get.{Gets, shows_other, get_speaks, taught, taught_at, seen_got, get_leaves, get_deed}
+use Rattle.kmipa_ops.specs.Get.{Gets, shows_other, get_speaks, taught, taught_at, get_leaves, get_deed, IsOther, GetReason}
 use Rattle.kmipa_ops.specs.Meant.{object_meant, secret_at, secret_meant, is_not, is_excluded}
-use Rattle.kmipa_ops.proofs.TestLemmas.{not_false, not_none, echoes_if, echoes_not, agree_if, agree_not, or_cases}
+use Rattle.kmipa_ops.proofs.TestLemmas.{not_false, not_none, echoes_if, echoes_not, agree_if, agree_not, or_cases, false_if, not_true, true_not, not_decides}
 use Rattle.kmipa_ops.proofs.StepLemmas.{Step, chose_before, still_step}
 use Rattle.kmipa_msgs.specs.declared.key_block.KeyFormat.TheVariants.{Raw}
 use Rattle.kmipa_ops.specs.Explains.{shows}
 use Rattle.kmipa_ops.proofs.LearnLemmas.{known_at, told_cases}
-use Rattle.kmipa_ops.proofs.DeedLaws.{Learns, outer_whys, IsDeed}
+use Rattle.kmipa_ops.proofs.DeedLaws.{Learns, outer_whys, IsDeed, KnowSame}
 use Rattle.kmipa_object.specs.declared.allow.Act.TheVariants as act
+use Rattle.kmipa_ops.proofs.ConditionLemmas.{never_decides, or_decides, none_decides, differs_decides, clashes_decides, id_decides, excluded_decides, object_same, none_same, excluded_same}
+use Rattle.kmipa_msgs.specs.Gets.{AnswersGet}
 
 pub same_type-Decides : (x y : ObjectType) → Decides (same_type x y) (x ≡ y)
 same_type-Decides SymmetricKey SymmetricKey = (λ h. refl, λ h. refl)
@@ -285,10 +287,6 @@ module _ (m : Meaning) (before asked : Option (List ℕ)) (t : ℤ) where
   get_never a EchoDiffers h c ch V p x = echoes_not bytes_eq bytes_eq-Decides a.id x.id (ap (is_other_id a.id) (sym x.about) ∙ h) x.echo
   get_never a w h c ch V p x = cc
 
-one_got : (p : PayloadOf) (a : GotOf) → seen_got p ≡ Some a → p ≡ got a
-one_got (got b) a e = let same : b ≡ a = cc in ap got same
-one_got p a e = let bad : ⊥ = cc in absurd bad
-
 quiet_get : (m : Meaning) (about : Option (List ℕ)) (t : ℤ) (shown : Option GotOf) → find (get_speaks m about t shown) outer_whys ≡ None
 quiet_get m meant_id t None = refl
 quiet_get m meant_id t (Some a) = refl
@@ -335,14 +333,89 @@ learns_get : (m : Meaning) (about : Option (List ℕ)) (shown : Option GotOf) �
 learns_get m meant_id None number bytes e = inl e
 learns_get m meant_id (Some a) number bytes e = learns_taught m (object_meant m.objects meant_id) a.block.material number bytes e
 
-pub is_get : (id : Option (List ℕ)) → IsDeed (get_deed id)
+-- its test says what its reasons mean
+from_decides : (o : Option (List ℕ)) (bytes : List ℕ) → Decides (differs_from o bytes) (Differs o bytes)
+from_decides None bytes = differs_decides bytes_eq bytes_eq-Decides None bytes
+from_decides (Some known) bytes = differs_decides bytes_eq bytes_eq-Decides (Some known) bytes
+
+otherwise_at : (o : Option Known) (bytes : List ℕ) → Decides (differs o bytes) ((secret : Known) × (o ≡ Some secret) × Differs secret.bytes bytes)
+otherwise_at None bytes = (λ h. let bad : ⊥ = cc in absurd bad, λ x. let e : None ≡ Some x.0 = x.1 in let bad : ⊥ = cc in absurd bad)
+otherwise_at (Some k) bytes = (
+  λ h. (k, refl, (from_decides k.bytes bytes).0 h),
+  λ x.
+      let e : Some k ≡ Some x.0 = x.1 in
+      let is : x.0 ≡ k = cc in
+      (from_decides k.bytes bytes).1 (subst (λ (s : Known). Differs s.bytes bytes) is x.2),
+)
+
+none_is : {A : Type 0} (o : Option A) → is_none o ≡ true → o ≡ None
+none_is o h = (none_decides o).0 h
+
+impossible_at : (o : Option Known) (bytes : List ℕ) → Decides (breaks o bytes) ((secret : Known) × (o ≡ Some secret) × (secret.bytes ≡ None) × (admits secret.rule bytes ≢ true))
+impossible_at None bytes = (λ h. let bad : ⊥ = cc in absurd bad, λ x. let e : None ≡ Some x.0 = x.1 in let bad : ⊥ = cc in absurd bad)
+impossible_at (Some k) bytes = (
+  λ h.
+      let w = and_parts (is_none k.bytes) (not (admits k.rule bytes)) h in
+      (k, refl, none_is k.bytes w.0, λ e. true_not (admits k.rule bytes) e (not_true (admits k.rule bytes) w.1)),
+  λ x.
+      let e : Some k ≡ Some x.0 = x.1 in
+      let is : k ≡ x.0 = cc in
+      and_from (is_none k.bytes) (not (admits k.rule bytes)) (ap (λ (s : Known). is_none s.bytes) is ∙ ap is_none x.2)
+      (ap not (ap (λ (s : Known). admits s.rule bytes) is ∙ false_if (admits x.0.rule bytes) x.3)),
+)
+
+other_decides : (a : GotOf) (h : Held) → Decides (shows_other a (Some h)) (IsOther a h.card)
+other_decides a h =
+    let type = differs_decides same_type same_type-Decides a.object_type h.card.kind in
+    let shape = not_decides (same_type a.shape h.card.kind) (same_type-Decides a.shape h.card.kind) in
+    let algorithm = clashes_decides (λ (x y : ℕ). x == y) Decides-eqb a.block.algorithm h.card.given.algorithm in
+    let bits = clashes_decides int_eq Decides-int_eq a.block.length h.card.given.length in
+    or_decides _ _ (or_decides _ _ (or_decides _ _ type shape) algorithm) bits
+
+other_at : (a : GotOf) (o : Option Held) → Decides (shows_other a o) ((h : Held) × (o ≡ Some h) × IsOther a h.card)
+other_at a None = (λ h. let bad : ⊥ = cc in absurd bad, λ x. let e : None ≡ Some x.0 = x.1 in let bad : ⊥ = cc in absurd bad)
+other_at a (Some h) = (
+  λ q. (h, refl, (other_decides a h).0 q),
+  λ x.
+      let e : Some h ≡ Some x.0 = x.1 in
+      let is : x.0 ≡ h = cc in
+      (other_decides a h).1 (subst (λ (k : Held). IsOther a k.card) is x.2),
+)
+
+get_decides : (m : Meaning) (meant_id : Option (List ℕ)) (t : ℤ) (shown : Option GotOf) (why : Why) → Decides (get_speaks m meant_id t shown why) (GetReason m meant_id t shown why)
+get_decides m meant_id t None NoSuchObject = none_decides (object_meant m.objects meant_id)
+get_decides m meant_id t None WrongState = excluded_decides m.objects meant_id t act.Get
+get_decides m meant_id t None why = never_decides
+get_decides m meant_id t (Some a) NoSuchObject = none_decides (object_meant m.objects meant_id)
+get_decides m meant_id t (Some a) WrongState = excluded_decides m.objects meant_id t act.Get
+get_decides m meant_id t (Some a) BytesDiffer = otherwise_at (secret_meant m meant_id) a.block.material
+get_decides m meant_id t (Some a) LengthImpossible = impossible_at (secret_meant m meant_id) a.block.material
+get_decides m meant_id t (Some a) AttributeDiffers = other_at a (object_meant m.objects meant_id)
+get_decides m meant_id t (Some a) EchoDiffers = id_decides a.id meant_id
+get_decides m meant_id t (Some a) why = never_decides
+
+-- and the same over ledgers of which the same is known
+get_same : (m n : Meaning) → KnowSame m n → (meant_id : Option (List ℕ)) (t : ℤ) (shown : Option GotOf) (why : Why) → get_speaks m meant_id t shown why ≡ get_speaks n meant_id t shown why
+get_same m n same meant_id t shown NoSuchObject = none_same m.objects n.objects same.0 meant_id
+get_same m n same meant_id t shown WrongState = excluded_same m.objects n.objects same.0 act.Get t meant_id
+get_same m n same meant_id t (Some a) BytesDiffer = ap (λ (o : Option Known). differs o a.block.material) (same.1 meant_id)
+get_same m n same meant_id t (Some a) LengthImpossible = ap (λ (o : Option Known). breaks o a.block.material) (same.1 meant_id)
+get_same m n same meant_id t (Some a) AttributeDiffers =
+    object_same m.objects n.objects same.0 (shows_other a) (λ h g e. λ i. shows_other a (Some (record { card = e i; material = Gone }))) meant_id
+get_same m n same meant_id t (Some a) why = refl
+get_same m n same meant_id t None why = refl
+
+pub is_get : (id : Option (List ℕ)) → IsDeed (get_deed id) AnswersGet SaysKey
 is_get id = record {
   back = λ a. refl;
-  one = one_got;
+  each = elim [ got x ↦ inl (x, refl) | _ ↦ inr (refl, λ ts s. s) ];
+  carries = λ x. (λ h. (h, tt), λ h. h.0);
   quiet = λ rules m before t shown. quiet_get m (meant id before) t shown;
   covers = λ rules m before t a w h. covers_get m (meant id before) t a w h;
   step = λ rules m before t a sound brought shown silent. get_step m before id t a sound shown silent;
   never = λ rules m before t a w h c ch V p x. get_never m before id t a w h c ch V p x;
   hidden = λ rules m before t may sound silent. hidden_get m before id t sound silent;
   learns = λ m before t shown. learns_get m (meant id before) shown;
+  decides = λ rules m before t shown w. get_decides m (meant id before) t shown w;
+  same = λ rules m n same before t shown w. get_same m n same (meant id before) t shown w;
 }

@@ -5,6 +5,7 @@ mod NameLemmas
 mod KnownLemmas
 mod StepLemmas
 mod DeedLaws
+mod ConditionLemmas
 mod LearnLemmas
 pub mod AddLemmas
 mod NewbornLemmas
@@ -15,7 +16,7 @@ mod GetAttributesLemmas
 mod LookLemmas
 mod LocateLemmas
 mod RowLemmas
-mod SayableLemmas
+pub mod SayableLemmas
 mod LowestLemmas
 mod FoundedLemmas
 mod ItemLemmas

@@ -11,7 +11,7 @@ use Rattle.kmipa_attrs.specs.ObjectTypes.{type_number}
 use Rattle.kmipa_object.specs.Inventory.{Card, live}
 use Rattle.kmipa_object.specs.Life.{state, state_number}
 use Rattle.kmipa_object.specs.declared.state.State.{State}
-use Rattle.kmipa_msgs.specs.Messages.{PayloadOf, located}
+use Rattle.kmipa_msgs.specs.Messages.{located}
 use Rattle.kmipa_ops.specs.declared.why.Why.{Why}
 use Rattle.kmipa_ops.specs.declared.why.Why.TheVariants.{ListedWrongly, ListedTooFew}
 use Rattle.kmipa_ops.specs.Objects.{card_meant, is_other, clash}
@@ -20,12 +20,14 @@ use Rattle.kmipa_attrs.specs.Filters.{FilterOf}
 use Rattle.kmipa_ops.specs.declared.fit.Fit.{Fit}
 use Rattle.kmipa_ops.specs.declared.fit.Fit.TheVariants as fit
 use Rattle.kmipa_ops.specs.Listing.{may_of, must_of}
-use Rattle.kmipa_ops.specs.Locate.{IsFit, May, Must, says_no, seen_located, may_fit, is_doubtful, must_fit, has_repeat, is_over, is_full, fits_here, is_listed, is_unsure, lists_misfit, leaves_out, Lists, locate_speaks, locate_look, ListsAreDecided}
-use Rattle.kmipa_ops.specs.Reasons.{ListsRightly, LeavesOut}
+use Rattle.kmipa_ops.specs.Locate.{IsFit, May, Must, says_no, may_fit, is_doubtful, must_fit, has_repeat, is_over, is_full, fits_here, is_listed, is_unsure, lists_misfit, leaves_out, Lists, locate_speaks, locate_look, ListsAreDecided, ListsRightly, LeavesOut, LocateReason}
 use Rattle.kmipa_ops.proofs.TestLemmas.{refuted, not_false, or_cases, or_right, true_not, false_if, not_true, each_if, each_not, five_parts, five_cases, three_cases, echoes_if, echoes_not, agree_if, agree_not}
 use Rattle.kmipa_ops.proofs.NameLemmas.{strangers_if, strangers_not}
 use Rattle.kmipa_ops.proofs.DeedLaws.{outer_whys}
 use Rattle.kmipa_ops.proofs.LookLemmas.{IsLook}
+use Rattle.kmipa_ops.proofs.ConditionLemmas.{never_decides}
+use Rattle.kmipa_msgs.specs.Locates.{AnswersLocate}
+use Rattle.kmipa_msgs.specs.Sayable.{SaysListed}
 
 and_true : (b : Bool) → (b && true) ≡ b
 and_true true = refl
@@ -171,46 +173,40 @@ module _ (cs : List Card) (t : ℤ) (q : FilterOf) (listed : List (List ℕ)) wh
   covered_decides : (c : Card) → Decides (covered c) (Must q (state c.dates t) c → Contains listed c.id)
   covered_decides c = implied (must_fit q (state c.dates t) c) (is_listed listed c.id) (must_decides q (state c.dates t) c) (listed_decides listed c.id)
 
-  right : locate_speaks cs t q (Some listed) ListedWrongly ≡ false → locate_speaks cs t q (Some listed) ListedTooFew ≡ false → Lists cs t q listed
-  right wrongly few =
+  rightly : locate_speaks cs t q (Some listed) ListedWrongly ≡ false → ListsRightly cs t q listed
+  rightly wrongly =
       let w = or_parts (has_repeat listed || is_over q.maximum (length listed)) (lists_misfit cs t q listed) wrongly in
       let x = or_parts (has_repeat listed) (is_over q.maximum (length listed)) w.0 in
-      record {
-        once = once_if listed x.0;
-        most = x.1;
-        fits = λ id at. each_if fitting (MayBeListed cs t q) (fits_decides cs t q) listed w.1 id at;
-        all = λ short c at must.
-            each_if covered (λ (d : Card). Must q (state d.dates t) d → Contains listed d.id) covered_decides cs
-            (ap (λ (b : Bool). not b && leaves_out cs t q listed) (sym short) ∙ few) c at must;
-      }
+      record { once = once_if listed x.0; most = x.1; fits = λ id at. each_if fitting (MayBeListed cs t q) (fits_decides cs t q) listed w.1 id at }
 
-  wrong : (w : Why) → locate_speaks cs t q (Some listed) w ≡ true → Lists cs t q listed → ⊥
-  wrong ListedWrongly h x =
+  not_rightly : locate_speaks cs t q (Some listed) ListedWrongly ≡ true → ListsRightly cs t q listed → ⊥
+  not_rightly h x =
       three_cases (has_repeat listed) (is_over q.maximum (length listed)) (lists_misfit cs t q listed) h
       (λ e. once_not listed e x.once)
       (λ e. true_not (is_over q.maximum (length listed)) e x.most)
       (λ e. each_not fitting (MayBeListed cs t q) (fits_decides cs t q) listed e x.fits)
+
+  right : locate_speaks cs t q (Some listed) ListedWrongly ≡ false → locate_speaks cs t q (Some listed) ListedTooFew ≡ false → Lists cs t q listed
+  right wrongly few = record {
+    right = rightly wrongly;
+    all = λ short c at must.
+        each_if covered (λ (d : Card). Must q (state d.dates t) d → Contains listed d.id) covered_decides cs
+        (ap (λ (b : Bool). not b && leaves_out cs t q listed) (sym short) ∙ few) c at must;
+  }
+
+  wrong : (w : Why) → locate_speaks cs t q (Some listed) w ≡ true → Lists cs t q listed → ⊥
+  wrong ListedWrongly h x = not_rightly h x.right
   wrong ListedTooFew h x =
       let w = and_parts (not (is_full q.maximum (length listed))) (leaves_out cs t q listed) h in
       each_not covered (λ (d : Card). Must q (state d.dates t) d → Contains listed d.id) covered_decides cs w.1 (x.all (not_true (is_full q.maximum (length listed)) w.0))
   wrong w h x = cc
 
   -- each of the two reasons by itself
-  pub wrongly_decides : Decides (locate_speaks cs t q (Some listed) ListedWrongly) (ListsRightly cs t q listed → ⊥)
+  wrongly_decides : Decides (locate_speaks cs t q (Some listed) ListedWrongly) (ListsRightly cs t q listed → ⊥)
   wrongly_decides =
-      refuted (locate_speaks cs t q (Some listed) ListedWrongly)
-      (λ e.
-      let w = or_parts (has_repeat listed || is_over q.maximum (length listed)) (lists_misfit cs t q listed) e in
-      let x = or_parts (has_repeat listed) (is_over q.maximum (length listed)) w.0 in
-      record { once = once_if listed x.0; most = x.1; fits = λ id at. each_if fitting (MayBeListed cs t q) (fits_decides cs t q) listed w.1 id at })
-      (λ x.
-      false_if (locate_speaks cs t q (Some listed) ListedWrongly) (λ h.
-      three_cases (has_repeat listed) (is_over q.maximum (length listed)) (lists_misfit cs t q listed) h
-      (λ e. once_not listed e x.once)
-      (λ e. true_not (is_over q.maximum (length listed)) e x.most)
-      (λ e. each_not fitting (MayBeListed cs t q) (fits_decides cs t q) listed e x.fits)))
+      refuted (locate_speaks cs t q (Some listed) ListedWrongly) rightly (λ x. false_if (locate_speaks cs t q (Some listed) ListedWrongly) (λ h. not_rightly h x))
 
-  pub few_decides : Decides (locate_speaks cs t q (Some listed) ListedTooFew) (LeavesOut cs t q listed)
+  few_decides : Decides (locate_speaks cs t q (Some listed) ListedTooFew) (LeavesOut cs t q listed)
   few_decides = (
     λ h.
         let w = and_parts (not (is_full q.maximum (length listed))) (leaves_out cs t q listed) h in
@@ -248,20 +244,25 @@ quiet_locate cs t q (Some listed) = refl
 none_speaks : (cs : List Card) (t : ℤ) (q : FilterOf) (w : Why) → locate_speaks cs t q None w ≡ false
 none_speaks cs t q w = refl
 
-one_located : (p : PayloadOf) (x : List (List ℕ)) → seen_located p ≡ Some x → p ≡ located x
-one_located (located y) x e = let same : y ≡ x = cc in ap located same
-one_located p x e = let bad : ⊥ = cc in absurd bad
+-- its test says what its reasons mean
+locate_decides : (cs : List Card) (t : ℤ) (q : FilterOf) (shown : Option (List (List ℕ))) (why : Why) → Decides (locate_speaks cs t q shown why) (LocateReason cs t q shown why)
+locate_decides cs t q None why = never_decides
+locate_decides cs t q (Some listed) ListedWrongly = wrongly_decides cs t q listed
+locate_decides cs t q (Some listed) ListedTooFew = few_decides cs t q listed
+locate_decides cs t q (Some listed) why = never_decides
 
-pub is_locate : (q : FilterOf) → IsLook (locate_look q)
+pub is_locate : (q : FilterOf) → IsLook (locate_look q) AnswersLocate SaysListed
 is_locate q = record {
   back = λ x. refl;
-  one = one_located;
+  each = elim [ located x ↦ inl (x, refl) | _ ↦ inr (refl, λ ts s. s) ];
+  carries = λ x. (λ h. (h, tt), λ h. h.0);
   quiet = λ cs before t shown. quiet_locate cs t q shown;
   covers = λ cs before t x w h. let e = none_speaks cs t q w in let bad : true ≡ false = sym h ∙ e in cc;
   right = λ cs before t x silent. (lists_decide cs t q x).0 silent;
   wrong = λ cs before t x w h y. wrong cs t q x w h y;
   hidden = λ cs before t may silent. let bad : ⊥ = cc in absurd bad;
   keeps = λ before x may. let bad : ⊥ = cc in absurd bad;
+  decides = λ cs before t shown w. locate_decides cs t q shown w;
 }
 
 -- HOW AN OBJECT FITS

@@ -11,11 +11,12 @@ use Rattle.kmipa_ops.specs.declared.why.Why.TheVariants.{NoSuchObject, WrongStat
 use Rattle.kmipa_ops.specs.Whys.{whys}
 use Rattle.kmipa_ops.specs.Objects.{is_other, clash}
 use Rattle.kmipa_ops.specs.Row.{Row, deed, idle, unknown, seen_in, row_speaks}
-use Rattle.kmipa_ops.specs.Rows.{row_of}
+use Rattle.kmipa_ops.specs.Rows.{asked_row}
 use Rattle.kmipa_ops.specs.Blame.{IsDoneUnopposed, outcome_speaks, frame_speaks, lowest}
 use Rattle.kmipa_ops.proofs.DeedLaws.{outer_whys, IsRow}
 use Rattle.kmipa_ops.proofs.RowLemmas.{is_row}
 use Rattle.kmipa_ops.proofs.FirstLemmas.{or_or, find-append, find-or}
+use Rattle.kmipa_msgs.specs.declared.operation.Operation.{Operation}
 
 -- the reasons between the outer ones and the last
 abbrev inner_whys : List Why
@@ -24,15 +25,15 @@ inner_whys = NoSuchObject ∷ WrongState ∷ IdentifierTaken ∷ NameTaken ∷ B
 abbrev last_whys : List Why
 last_whys = EchoDiffers ∷ []
 
-row_quiet : (row : Row) → IsRow row → (rules : RulesOf) (m : Meaning) (p : Option (List ℕ)) (t : ℤ) (payload : Option PayloadOf) → find (row_speaks row rules m p t payload) outer_whys ≡ None
-row_quiet (deed d) is rules m p t payload = is.quiet rules m p t (seen_in d payload)
-row_quiet idle is rules m p t payload = refl
-row_quiet unknown is rules m p t payload = refl
+row_quiet : (operation : Operation) (row : Row) → IsRow operation row → (rules : RulesOf) (m : Meaning) (p : Option (List ℕ)) (t : ℤ) (payload : Option PayloadOf) → find (row_speaks row rules m p t payload) outer_whys ≡ None
+row_quiet operation (deed d) is rules m p t payload = is.quiet rules m p t (seen_in d payload)
+row_quiet operation idle is rules m p t payload = refl
+row_quiet operation unknown is rules m p t payload = refl
 
 quiet : (status : Status) (rules : RulesOf) (m : Meaning) (p : Option (List ℕ)) (t : ℤ) (asked : AskedOf) (reason : Option ℕ) (payload : Option PayloadOf)
     → find (outcome_speaks status rules m p t asked reason payload) outer_whys ≡ None
-quiet Success rules m p t asked reason payload = row_quiet (row_of asked) (is_row asked) rules m p t payload
-quiet Undone rules m p t asked reason payload = row_quiet (row_of asked) (is_row asked) rules m p t payload
+quiet Success rules m p t asked reason payload = row_quiet (operation_asked asked) (asked_row asked) (is_row asked) rules m p t payload
+quiet Undone rules m p t asked reason payload = row_quiet (operation_asked asked) (asked_row asked) (is_row asked) rules m p t payload
 quiet Failed rules m p t asked reason payload = refl
 
 last : (f g : Bool) (w : Why) → cond (f || g) (Some w) None ≡ option_or (cond g (Some w) None) (cond f (Some w) None)

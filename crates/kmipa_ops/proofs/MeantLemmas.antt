@@ -1,7 +1,7 @@
 -- The object that is meant, as the ledger finds it, and what speaks against a Get of it.
 use Rattle.std.proofs.Common.{not, Result, Ok, Err, ◌≡◌, ◌++◌, [], ◌∷◌, ℕ, ℤ, Bool, true, false, cond, List, length, slice_get, find, is_none, option_map, Option, Some, None, refl, ap, sym, ◌∙◌}
 use Rattle.std.specs.Option.{option_and_then, option_or}
-use Rattle.kmipa_object.specs.Inventory.{live, place_of}
+use Rattle.kmipa_object.specs.Inventory.{live}
 use Rattle.kmipa_object.specs.Life.{state}
 use Rattle.kmipa_object.specs.Table.{allowed}
 use Rattle.kmipa_object.specs.declared.allow.Act.{Act}
@@ -14,13 +14,12 @@ use Rattle.kmipa_store.specs.Ledger.{Held, Known, Meaning, LedgerState, bytes_at
 use Rattle.kmipa_store.specs.Calls.{differs, breaks, is_unknown}
 use Rattle.kmipa_store.specs.Choices.{IsSound, GoneIfDestroyed}
 use Rattle.kmipa_store.proofs.ChoiceLemmas.{told-last}
-use Rattle.kmipa_store.proofs.InventoryLemmas.{get-cards_of}
 use Rattle.kmipa_store.proofs.LearnLemmas.{told_known}
 use Rattle.kmipa_msgs.specs.Messages.{GotOf}
 use Rattle.kmipa_ops.specs.declared.why.Why.{Why}
 use Rattle.kmipa_ops.specs.declared.why.Why.TheVariants.{NoSuchObject, WrongState, BytesDiffer, LengthImpossible, AttributeDiffers, EchoDiffers}
 use Rattle.kmipa_ops.specs.Whys.{whys}
-use Rattle.kmipa_ops.specs.After.{Changes, Leaves}
+use Rattle.kmipa_ops.specs.After.{Changes, LeavesAfter}
 use Rattle.kmipa_ops.specs.Objects.{meant, card_meant, is_other_id}
 use Rattle.kmipa_object.specs.declared.state.State.{State}
 use Rattle.kmipa_store.specs.Queries.{state_of_place}
@@ -28,16 +27,9 @@ use Rattle.kmipa_ops.specs.Founded.{is_must, is_live_there, is_refusable}
 use Rattle.kmipa_ops.specs.Shown.{IsSecretOf, live_speak}
 use Rattle.kmipa_ops.specs.Meant.{place_meant, object_meant, secret_at, secret_meant, is_not, is_excluded}
 use Rattle.kmipa_ops.specs.Get.{shows_other, differs_at, get_speaks, taught, taught_at}
+use Rattle.kmipa_ops.proofs.ConditionLemmas.{card_meant_is}
 use Rattle.kmipa_ops.proofs.TestLemmas.{true_not}
 use Rattle.kmipa_ops.proofs.GetLemmas.{alive_if, alive_not, meant_at}
-
-card_at : (hs : List Held) (o : Option ℕ) → option_and_then (slice_get (cards_of hs)) o ≡ option_map (λ (h : Held). h.card) (option_and_then (slice_get hs) o)
-card_at hs None = refl
-card_at hs (Some place) = get-cards_of hs place
-
-pub card_meant_is : (hs : List Held) (about : Option (List ℕ)) → card_meant (cards_of hs) about ≡ option_map (λ (h : Held). h.card) (object_meant hs about)
-card_meant_is hs None = refl
-card_meant_is hs (Some id) = card_at hs (place_of id (cards_of hs))
 
 -- the object at the place that is meant
 pub object_there : (hs : List Held) (about : Option (List ℕ)) (o : Option ℕ) (p : ℕ) (h : Held) → o ≡ Some p → o ≡ place_meant hs about → slice_get hs p ≡ Some h → object_meant hs about ≡ Some h
@@ -180,7 +172,7 @@ known_made s rule bytes known n v u is number made told =
 
 -- what a Get leaves, by the place of its object
 pub leaves_taught : {E : Type 0} (s u : LedgerState) (before id p : Option (List ℕ)) (o : Option ℕ) (bytes : List ℕ) (r : Result (Unit {0}) E) → o ≡ place_meant s.now.objects (meant id before) → p ≡ before
-    → Changes s (taught s.now (option_and_then (slice_get s.now.objects) o) bytes) r u → Leaves s (taught s.now (object_meant s.now.objects (meant id before)) bytes) before r u p
+    → Changes s (taught s.now (option_and_then (slice_get s.now.objects) o) bytes) r u → LeavesAfter s (taught s.now (object_meant s.now.objects (meant id before)) bytes) before r u p
 leaves_taught s u before id p o bytes (Ok done) place held x = (x ∙ ap (λ (y : Option ℕ). changed s (taught s.now (option_and_then (slice_get s.now.objects) y) bytes)) place, held)
 leaves_taught s u before id p o bytes (Err e) place held x = x
 

@@ -1,31 +1,42 @@
 -- Create and Register: what a ledger leaves that added their object; they keep the laws of operations.
-use Rattle.std.proofs.Common.{◌≡◌, ◌<◌, ℕ, ℤ, Bool, true, false, not, List, [], ◌∷◌, ◌++◌, length, All, is_some, ◌==◌, Option, Some, None, refl, ap, sym, ◌∙◌, subst, arith, length-append, slice_get, find, option_map, inl, inr}
+use Rattle.std.proofs.Common.{◌≡◌, ◌<◌, ℕ, ℤ, Bool, true, false, not, List, [], ◌∷◌, ◌++◌, length, All, is_some, ◌==◌, Option, Some, None, refl, ap, sym, ◌∙◌, subst, arith, length-append, slice_get, find, option_map, inl, inr, bytes_eq, ◌&&◌}
 use Rattle.std.proofs.lemmas.Bool.Decides.{Decides-eqb}
-use Rattle.kmipa_attrs.specs.Sets.{Attributes}
+use Rattle.kmipa_attrs.specs.Sets.{Attributes, NameOf}
 use Rattle.kmipa_attrs.specs.ObjectTypes.{type_number}
 use Rattle.kmipa_attrs.specs.declared.object_type.ObjectType.{ObjectType}
 use Rattle.kmipa_attrs.specs.declared.object_type.ObjectType.TheVariants.{SymmetricKey}
-use Rattle.kmipa_object.specs.Inventory.{given_of, Card, Thing, Admitted, place_of, rule_for, rule_of, admits, possible}
+use Rattle.kmipa_object.specs.Inventory.{given_of, Card, Thing, Admitted, place_of, rule_for, rule_of, admits, possible, live}
 use Rattle.kmipa_object.specs.declared.life.Material.TheVariants.{Secret}
 use Rattle.kmipa_object.proofs.RuleLemmas.{possible_admits, admits_possible}
 use Rattle.kmipa_store.specs.Ledger.{Held, Known, Meaning, cards_of}
 use Rattle.kmipa_store.specs.Choices.{Choice, Suits, Chooses, Agrees, inv, thing, IsSound}
 use Rattle.kmipa_store.proofs.ChoiceLemmas.{override, override_same, override_agrees, Chooses-fewer, Chooses-last, Chooses-more, extends_push}
 use Rattle.kmipa_store.proofs.InventoryLemmas.{cards-inv, inv-append, inv-same}
-use Rattle.kmipa_msgs.specs.Messages.{RulesOf, RegisterOf, RegisteredOf, PayloadOf, created, registered}
+use Rattle.kmipa_msgs.specs.Messages.{RulesOf, RegisterOf, RegisteredOf, created, registered}
 use Rattle.kmipa_ops.specs.declared.why.Why.{Why}
 use Rattle.kmipa_ops.specs.declared.why.Why.TheVariants.{IdentifierTaken, NameTaken, LengthImpossible, EchoDiffers}
-use Rattle.kmipa_ops.specs.Objects.{Echoes}
-use Rattle.kmipa_ops.specs.Register.{brought, Registers, register_speaks, register_says, register_leaves, seen_registered, register_deed}
-use Rattle.kmipa_ops.specs.Adding.{newborn, name_taken, AddsObject, adding_speaks, with_own}
-use Rattle.kmipa_ops.specs.Create.{Creates, create_speaks, create_says, create_leaves, seen_created, create_deed}
-use Rattle.kmipa_ops.proofs.TestLemmas.{not_false, not_some, echoes_if, echoes_not}
+use Rattle.kmipa_ops.specs.Objects.{Echoes, is_named, HasNameOf}
+use Rattle.kmipa_ops.specs.Register.{brought, Registers, register_speaks, register_says, register_leaves, register_deed, RegisterReason}
+use Rattle.kmipa_ops.specs.Adding.{newborn, name_taken, AddsObject, adding_speaks, with_own, AddingReason}
+use Rattle.kmipa_ops.specs.Create.{Creates, create_speaks, create_says, create_leaves, create_deed, CreateReason}
+use Rattle.kmipa_ops.proofs.TestLemmas.{not_false, not_some, echoes_if, echoes_not, some_if, some_not, not_decides}
 use Rattle.kmipa_ops.proofs.AddLemmas.{own_sound}
 use Rattle.kmipa_ops.proofs.StepLemmas.{Step, step_as}
 use Rattle.kmipa_object.proofs.ListLemmas.{get-append_cases}
 use Rattle.kmipa_ops.specs.Explains.{shows}
 use Rattle.kmipa_ops.proofs.LearnLemmas.{known_at}
 use Rattle.kmipa_ops.proofs.DeedLaws.{Learns, outer_whys, IsDeed}
+use Rattle.std.specs.Bool.{Decides}
+use Rattle.std.specs.List.{Contains, list_any}
+use Rattle.std.proofs.lemmas.Bool.{and_parts, and_from}
+use Rattle.std.proofs.lemmas.Slice.Eq.{bytes_eq-Decides}
+use Rattle.kmipa_object.specs.declared.rule.Rule.{Rule}
+use Rattle.kmipa_ops.proofs.ConditionLemmas.{never_decides, differs_decides}
+use Rattle.kmipa_ops.proofs.NameLemmas.{named_decides}
+use Rattle.kmipa_ops.proofs.ScanLemmas.{found_any}
+use Rattle.kmipa_msgs.specs.Creates.{AnswersCreate}
+use Rattle.kmipa_msgs.specs.Registers.{AnswersRegister}
+use Rattle.kmipa_msgs.specs.Sayable.{SaysNew}
 
 module _ (rules : RulesOf) (m : Meaning) (t : ℤ) (kind : ObjectType) (a : Attributes) (known : Option (List ℕ)) (x : RegisteredOf) where
   abbrev card : Card
@@ -147,14 +158,6 @@ learns_own m card known brought from number bytes e =
       | inr q ↦ inr (inl (from bytes (ap (λ (y : Known). y.bytes) (sym q.1) ∙ k.2)))
     ]
 
-one_created : (p : PayloadOf) (x : RegisteredOf) → seen_created p ≡ Some x → p ≡ created x
-one_created (created y) x e = let same : y ≡ x = cc in ap created same
-one_created p x e = let bad : ⊥ = cc in absurd bad
-
-one_registered : (p : PayloadOf) (x : RegisteredOf) → seen_registered p ≡ Some x → p ≡ registered x
-one_registered (registered y) x e = let same : y ≡ x = cc in ap registered same
-one_registered p x e = let bad : ⊥ = cc in absurd bad
-
 quiet_create : (rules : RulesOf) (m : Meaning) (a : Attributes) (shown : Option RegisteredOf) → find (create_says rules m a shown) outer_whys ≡ None
 quiet_create rules m a None = refl
 quiet_create rules m a (Some x) = refl
@@ -171,26 +174,91 @@ learns_register : (m : Meaning) (t : ℤ) (r : RegisterOf) (shown : Option Regis
 learns_register m t r None = λ number bytes e. inl e
 learns_register m t r (Some x) = learns_own m (newborn t x.id r.object_type (brought r)) (Some r.block.material) (Some r.block.material) (λ b q. q)
 
-pub is_create : (a : Attributes) → IsDeed (create_deed a)
+-- THEIR TESTS SAY WHAT THEIR REASONS MEAN
+
+taken_decides : (cs : List Card) (id : List ℕ) → Decides (is_some (place_of id cs)) ((c : Card) × Contains cs c × (id ≡ c.id))
+taken_decides cs id =
+    let p : Card → Bool = λ c. bytes_eq id c.id in
+    let dec : (c : Card) → Decides (p c) (id ≡ c.id) = λ c. bytes_eq-Decides id c.id in (
+      λ h. some_if p (λ c. id ≡ c.id) dec cs (sym (found_any p 0 cs) ∙ h),
+      λ x. found_any p 0 cs ∙ some_not p (λ c. id ≡ c.id) dec cs x.0 x.1 x.2,
+    )
+
+names_decides : (rules : RulesOf) (cs : List Card) (names : List NameOf) → Decides (name_taken rules cs names) ((rules.unique_names ≡ true) × (c : Card) × Contains cs c × (live c ≡ true) × HasNameOf names c)
+names_decides rules cs names =
+    let p : Card → Bool = λ c. live c && is_named names c in
+    let P : Card → Type 0 = λ c. (live c ≡ true) × HasNameOf names c in
+    let dec : (c : Card) → Decides (p c) (P c) =
+    λ c. (
+      λ h. let w = and_parts (live c) (is_named names c) h in (w.0, (named_decides names c).0 w.1),
+      λ x. and_from (live c) (is_named names c) x.0 ((named_decides names c).1 x.1),
+    ) in (
+      λ h.
+          let w = and_parts rules.unique_names (list_any p cs) h in
+          let s = some_if p P dec cs w.1 in
+          let both : P s.0 = s.2 in
+          (w.0, s.0, s.1, both.0, both.1),
+      λ x. and_from rules.unique_names (list_any p cs) x.0 (some_not p P dec cs x.1 x.2 (x.3, x.4)),
+    )
+
+possible_decides : (rule : Rule) → Decides (possible rule) ((bytes : List ℕ) × Admitted rule bytes)
+possible_decides rule = (possible_admits rule, λ x. admits_possible rule x.0 x.1.admitted)
+
+adding_decides : (rules : RulesOf) (cs : List Card) (kind : ObjectType) (names : List NameOf) (has_bytes : Bool) (HasBytes : Type 0) (x : RegisteredOf) → Decides has_bytes HasBytes
+    → (why : Why) → Decides (adding_speaks rules cs kind names has_bytes x why) (AddingReason rules cs kind names HasBytes x why)
+adding_decides rules cs kind names has_bytes HasBytes x dec IdentifierTaken = taken_decides cs x.id
+adding_decides rules cs kind names has_bytes HasBytes x dec NameTaken = names_decides rules cs names
+adding_decides rules cs kind names has_bytes HasBytes x dec LengthImpossible = not_decides has_bytes dec
+adding_decides rules cs kind names has_bytes HasBytes x dec EchoDiffers = differs_decides (λ (a b : ℕ). a == b) Decides-eqb x.object_type (type_number kind)
+adding_decides rules cs kind names has_bytes HasBytes x dec why = never_decides
+
+create_decides : (rules : RulesOf) (m : Meaning) (a : Attributes) (shown : Option RegisteredOf) (why : Why) → Decides (create_says rules m a shown why) (CreateReason rules (cards_of m.objects) a shown why)
+create_decides rules m a None why = never_decides
+create_decides rules m a (Some x) why =
+    adding_decides rules (cards_of m.objects) SymmetricKey a.names (possible (rule_for SymmetricKey (given_of a))) ((bytes : List ℕ) × Admitted (rule_for SymmetricKey (given_of a)) bytes) x (possible_decides (rule_for SymmetricKey (given_of a))) why
+
+register_decides : (rules : RulesOf) (m : Meaning) (r : RegisterOf) (shown : Option RegisteredOf) (why : Why)
+    → Decides (register_says rules m r shown why) (RegisterReason rules (cards_of m.objects) r shown why)
+register_decides rules m r None why = never_decides
+register_decides rules m r (Some x) why =
+    adding_decides rules (cards_of m.objects) r.object_type r.attributes.names (admits (rule_for r.object_type (given_of (brought r))) r.block.material)
+    (admits (rule_for r.object_type (given_of (brought r))) r.block.material ≡ true) x (λ h. h, λ h. h) why
+
+-- and the same over ledgers with the same objects
+create_same : (rules : RulesOf) (m n : Meaning) → cards_of m.objects ≡ cards_of n.objects → (a : Attributes) (shown : Option RegisteredOf) (why : Why) → create_says rules m a shown why ≡ create_says rules n a shown why
+create_same rules m n same a None why = refl
+create_same rules m n same a (Some x) why = ap (λ (cs : List Card). create_speaks rules cs a x why) same
+
+register_same : (rules : RulesOf) (m n : Meaning) → cards_of m.objects ≡ cards_of n.objects → (r : RegisterOf) (shown : Option RegisteredOf) (why : Why) → register_says rules m r shown why ≡ register_says rules n r shown why
+register_same rules m n same r None why = refl
+register_same rules m n same r (Some x) why = ap (λ (cs : List Card). register_speaks rules cs r x why) same
+
+pub is_create : (a : Attributes) → IsDeed (create_deed a) AnswersCreate SaysNew
 is_create a = record {
   back = λ x. refl;
-  one = one_created;
+  each = elim [ created x ↦ inl (x, refl) | _ ↦ inr (refl, λ ts s. s) ];
+  carries = λ x. (λ h. (h, tt), λ h. h.0);
   quiet = λ rules m before t shown. quiet_create rules m a shown;
   covers = λ rules m before t x w h. cc;
   step = λ rules m before t x sound brought shown silent. create_step rules m t a x sound silent;
   never = λ rules m before t x w h c ch V p y. create_never rules m t a x w h c V p y;
   hidden = λ rules m before t may sound silent. let bad : ⊥ = cc in absurd bad;
   learns = λ m before t shown. learns_create m t a shown;
+  decides = λ rules m before t shown w. create_decides rules m a shown w;
+  same = λ rules m n same before t shown w. create_same rules m n same.0 a shown w;
 }
 
-pub is_register : (r : RegisterOf) → IsDeed (register_deed r)
+pub is_register : (r : RegisterOf) → IsDeed (register_deed r) AnswersRegister SaysNew
 is_register r = record {
   back = λ x. refl;
-  one = one_registered;
+  each = elim [ registered x ↦ inl (x, refl) | _ ↦ inr (refl, λ ts s. s) ];
+  carries = λ x. (λ h. (h, tt), λ h. h.0);
   quiet = λ rules m before t shown. quiet_register rules m r shown;
   covers = λ rules m before t x w h. cc;
   step = λ rules m before t x sound brought shown silent. register_step rules m t r x sound brought silent;
   never = λ rules m before t x w h c ch V p y. register_never rules m t r x w h c V p y;
   hidden = λ rules m before t may sound silent. let bad : ⊥ = cc in absurd bad;
   learns = λ m before t shown. learns_register m t r shown;
+  decides = λ rules m before t shown w. register_decides rules m r shown w;
+  same = λ rules m n same before t shown w. register_same rules m n same.0 r shown w;
 }

@@ -1,17 +1,18 @@
 -- New objects: what Create and Register share.
-use Rattle.std.specs.Prelude.{◌≡◌, ◌&&◌, ℕ, ℤ, Bool, false, List, [], ◌∷◌, ◌++◌, Option, Some, None, ◌==◌, not, is_some, length, Result, Ok, Err}
+use Rattle.std.specs.Prelude.{◌≡◌, ◌&&◌, ℕ, ℤ, Bool, false, List, [], ◌∷◌, ◌++◌, Option, Some, None, ◌==◌, not, is_some, length, Result, Ok, Err, true}
 use Rattle.kmipa_attrs.specs.ObjectTypes.{type_number}
 use Rattle.kmipa_attrs.specs.Sets.{Attributes, NameOf}
 use Rattle.kmipa_attrs.specs.declared.object_type.ObjectType.{ObjectType}
-use Rattle.kmipa_object.specs.Inventory.{Card, Thing, cards, given_of, place_of, rule_of, Admitted}
+use Rattle.kmipa_object.specs.Inventory.{Card, Thing, cards, given_of, place_of, rule_of, Admitted, live}
 use Rattle.kmipa_object.specs.declared.life.Material.TheVariants.{Secret}
 use Rattle.kmipa_object.specs.declared.life.SecretNo.{SecretNo}
 use Rattle.kmipa_object.specs.declared.rule.Rule.{Rule}
 use Rattle.kmipa_store.specs.Ledger.{changed, Meaning, LedgerState}
 use Rattle.kmipa_msgs.specs.Messages.{RulesOf, RegisteredOf}
-use Rattle.kmipa_ops.specs.Objects.{Echoes, any_live_named, is_other}
+use Rattle.kmipa_ops.specs.Objects.{Echoes, any_live_named, is_other, HasNameOf, Differs}
 use Rattle.kmipa_ops.specs.declared.why.Why.{Why}
 use Rattle.kmipa_ops.specs.declared.why.Why.TheVariants.{IdentifierTaken, NameTaken, LengthImpossible, EchoDiffers}
+use Rattle.std.specs.List.{Contains}
 
 -- a new object of this type with these attributes, but for its bytes: its Initial Date is the moment
 abbrev pub newborn : ℤ → List ℕ → ObjectType → Attributes → Card
@@ -35,6 +36,14 @@ pub record AddsObject (rules : RulesOf) (V : List Thing) (t : ℤ) (kind : Objec
   pub echo : Echoes x.object_type (type_number kind)
   pub leaves : V' ≡ V ++ record { card = newborn t x.id kind a; bytes = Some bytes } ∷ []
   pub placeholder : after ≡ Some x.id
+
+-- against a Create or a Register that is done, of an object for which there are bytes or aren't
+abbrev pub AddingReason : RulesOf → List Card → ObjectType → List NameOf → (HasBytes : Type 0) → RegisteredOf → Why → Type 0
+AddingReason rules cs kind names HasBytes x IdentifierTaken = (c : Card) × Contains cs c × (x.id ≡ c.id)
+AddingReason rules cs kind names HasBytes x NameTaken = (rules.unique_names ≡ true) × (c : Card) × Contains cs c × (live c ≡ true) × HasNameOf names c
+AddingReason rules cs kind names HasBytes x LengthImpossible = HasBytes → ⊥
+AddingReason rules cs kind names HasBytes x EchoDiffers = Differs x.object_type (type_number kind)
+AddingReason rules cs kind names HasBytes x why = ⊥
 
 -- against a new object of this type and these names, for which there are bytes or aren't
 abbrev pub adding_speaks : RulesOf → List Card → ObjectType → List NameOf → Bool → RegisteredOf → Why → Bool

@@ -5,10 +5,10 @@ use Rattle.kmipa_msgs.specs.Messages.{AskedOf, PayloadOf}
 use Rattle.kmipa_msgs.specs.declared.response.Status.{Status}
 use Rattle.kmipa_msgs.specs.declared.response.Status.TheVariants.{Success, Failed, Undone}
 use Rattle.kmipa_ops.specs.Row.{row_leaves, row_holds}
-use Rattle.kmipa_ops.specs.Rows.{row_of}
+use Rattle.kmipa_ops.specs.Rows.{asked_row}
 
 abbrev pub after_done : Meaning → Option (List ℕ) → ℤ → AskedOf → Option PayloadOf → Meaning
-after_done m before t asked payload = row_leaves (row_of asked) m before t payload
+after_done m before t asked payload = row_leaves (asked_row asked) m before t payload
 
 abbrev pub after : Status → Meaning → Option (List ℕ) → ℤ → AskedOf → Option PayloadOf → Meaning
 after Success m before t asked payload = after_done m before t asked payload
@@ -17,7 +17,7 @@ after Failed m before t asked payload = m
 
 -- a Create, a Register or a Locate sets the placeholder
 abbrev pub placeholder_done : Option (List ℕ) → AskedOf → Option PayloadOf → Option (List ℕ)
-placeholder_done before asked payload = row_holds (row_of asked) before payload
+placeholder_done before asked payload = row_holds (asked_row asked) before payload
 
 abbrev pub placeholder_after : Status → Option (List ℕ) → AskedOf → Option PayloadOf → Option (List ℕ)
 placeholder_after Success before asked payload = placeholder_done before asked payload
@@ -25,9 +25,9 @@ placeholder_after Undone before asked payload = placeholder_done before asked pa
 placeholder_after Failed before asked payload = before
 
 -- what a step leaves that only want of memory refuses: the ledger and the placeholder, and after a refusal the marks
-abbrev pub Leaves : {E : Type 0} → LedgerState → Meaning → Option (List ℕ) → Result (Unit {0}) E → LedgerState → Option (List ℕ) → Type 0
-Leaves s n after (Ok done) u p = (u ≡ changed s n) × (p ≡ after)
-Leaves s n after (Err e) u p = u.marks ≡ s.marks
+abbrev pub LeavesAfter : {E : Type 0} → LedgerState → Meaning → Option (List ℕ) → Result (Unit {0}) E → LedgerState → Option (List ℕ) → Type 0
+LeavesAfter s n after (Ok done) u p = (u ≡ changed s n) × (p ≡ after)
+LeavesAfter s n after (Err e) u p = u.marks ≡ s.marks
 
 -- what a step does to the ledger alone
 abbrev pub Changes : {E : Type 0} → LedgerState → Meaning → Result (Unit {0}) E → LedgerState → Type 0

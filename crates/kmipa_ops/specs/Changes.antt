@@ -10,8 +10,8 @@ use Rattle.kmipa_object.specs.declared.life.Material.{Material}
 use Rattle.kmipa_object.specs.declared.life.Material.TheVariants.{Gone}
 use Rattle.kmipa_store.specs.Ledger.{Held, Meaning}
 use Rattle.kmipa_msgs.specs.Messages.{PayloadOf, changed}
-use Rattle.kmipa_ops.specs.Meant.{place_meant, object_meant, is_not, is_excluded}
-use Rattle.kmipa_ops.specs.Objects.{meant, HasObject, Echoes, is_other_id}
+use Rattle.kmipa_ops.specs.Meant.{place_meant, object_meant, is_not, is_excluded, IsExcluded}
+use Rattle.kmipa_ops.specs.Objects.{meant, HasObject, Echoes, is_other_id, Clashes}
 use Rattle.kmipa_msgs.specs.Sayable.{IsSayableId}
 use Rattle.kmipa_ops.specs.Row.{Deed, on_object}
 use Rattle.kmipa_ops.specs.declared.change.Change.{Change}
@@ -53,6 +53,13 @@ pub record ChangesObject (V : List Thing) (before : Option (List ℕ)) (t : ℤ)
   pub echo : Echoes shown id
   pub leaves : V' ≡ updated V place (thing_after change t)
   pub placeholder : after ≡ before
+
+-- against an Activate, a Revoke or a Destroy that is done, and shows this identifier if it is there
+abbrev pub ChangeReason : List Held → Option (List ℕ) → ℤ → Change → Option (List ℕ) → Why → Type 0
+ChangeReason objects about t change shown NoSuchObject = object_meant objects about ≡ None
+ChangeReason objects about t change shown WrongState = IsExcluded objects about t (act_of change)
+ChangeReason objects about t change shown EchoDiffers = Clashes shown about
+ChangeReason objects about t change shown why = ⊥
 
 -- against a change of an object that is done, and shows this identifier if it is there
 abbrev pub change_speaks : List Held → Option (List ℕ) → ℤ → Change → Option (List ℕ) → Why → Bool
@@ -112,6 +119,7 @@ change_deed id change = record {
   may_lack = true;
   does = λ rules V before t shown V' after. ChangesObject V before t id change shown V' after;
   speaks = λ rules m before t shown why. change_speaks m.objects (meant id before) t change (id_in shown) why;
+  means = λ rules m before t shown why. ChangeReason m.objects (meant id before) t change (id_in shown) why;
   leaves = λ m before t shown. with_changed m (meant id before) t change;
   holds = λ before shown. before;
 }

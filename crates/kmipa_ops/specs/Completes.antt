@@ -6,11 +6,11 @@ use Rattle.kmipa_msgs.specs.declared.response.Status.{Status}
 use Rattle.kmipa_msgs.specs.declared.response.Status.TheVariants.{Success, Failed, Undone}
 use Rattle.kmipa_ops.specs.Does.{Does}
 use Rattle.kmipa_ops.specs.Row.{Deed, deed, idle, unknown, row_is_of, row_may_lack, row_is_idle, Row}
-use Rattle.kmipa_ops.specs.Rows.{row_of}
+use Rattle.kmipa_ops.specs.Rows.{asked_row}
 
 -- the payload is one of the operation asked for
 abbrev pub is_of : AskedOf → PayloadOf → Bool
-is_of asked payload = row_is_of (row_of asked) payload
+is_of asked payload = row_is_of (asked_row asked) payload
 
 -- a payload of the operation, that a message can carry
 pub record IsFill (d : Deed) (filled : Option PayloadOf) : Type 0 where
@@ -25,7 +25,7 @@ FillsRow idle filled = filled ≡ None
 FillsRow unknown filled = filled ≡ None
 
 abbrev pub FillsAbsent : AskedOf → Option PayloadOf → Type 0
-FillsAbsent asked filled = FillsRow (row_of asked) filled
+FillsAbsent asked filled = FillsRow (asked_row asked) filled
 
 -- the payload itself; but where an Undone answer has none, what may stand in its place
 abbrev pub Fills : AskedOf → Status → Option PayloadOf → Option PayloadOf → Type 0
@@ -51,10 +51,10 @@ pub record DoesSome (rules : RulesOf) (V : List Thing) (before : Option (List �
 -- Where there is a payload to judge: at an answer to the operation asked for, a Success has the payload of that operation, and so has an
 -- Undone Create, Register or Locate; an Undone answer of another operation has it or none. An operation without effect has none.
 abbrev pub may_lack : AskedOf → Bool
-may_lack asked = row_may_lack (row_of asked)
+may_lack asked = row_may_lack (asked_row asked)
 
 abbrev pub is_idle : AskedOf → Bool
-is_idle asked = row_is_idle (row_of asked)
+is_idle asked = row_is_idle (asked_row asked)
 
 abbrev pub has_payload : AskedOf → Option PayloadOf → Bool
 has_payload asked None = is_idle asked

@@ -2,17 +2,23 @@
 use Rattle.std.specs.Prelude.{ℕ, ℤ, Bool, false, List, Option, Some, None}
 use Rattle.kmipa_attrs.specs.Sets.{Attributes}
 use Rattle.kmipa_attrs.specs.declared.object_type.ObjectType.TheVariants.{SymmetricKey}
-use Rattle.kmipa_object.specs.Inventory.{Card, Thing, given_of, rule_for, possible}
+use Rattle.kmipa_object.specs.Inventory.{Card, Thing, given_of, rule_for, possible, Admitted}
 use Rattle.kmipa_store.specs.Ledger.{Meaning, cards_of}
 use Rattle.kmipa_msgs.specs.Messages.{RulesOf, RegisteredOf, PayloadOf, created}
 use Rattle.kmipa_msgs.specs.Sayable.{SaysNew}
-use Rattle.kmipa_ops.specs.Adding.{newborn, AddsObject, adding_speaks, with_own, names_new}
+use Rattle.kmipa_ops.specs.Adding.{newborn, AddsObject, adding_speaks, with_own, names_new, AddingReason}
 use Rattle.kmipa_ops.specs.Row.{Deed, on_names}
 use Rattle.kmipa_ops.specs.declared.why.Why.{Why}
 
 -- of a Create, which makes a Symmetric Key, nobody says the bytes
 abbrev pub Creates : RulesOf → List Thing → ℤ → Attributes → RegisteredOf → List Thing → Option (List ℕ) → Type 0
 Creates rules V t a x V' after = (bytes : List ℕ) × AddsObject rules V t SymmetricKey a bytes x V' after
+
+-- against a new object whose answer is there: a Create's bytes nobody says, so that some must be possible; a Register brings them
+abbrev pub CreateReason : RulesOf → List Card → Attributes → Option RegisteredOf → Why → Type 0
+CreateReason rules cs a None why = ⊥
+CreateReason rules cs a (Some x) why =
+    AddingReason rules cs SymmetricKey a.names ((bytes : List ℕ) × Admitted (rule_for SymmetricKey (given_of a)) bytes) x why
 
 -- against a Create that is done: some bytes must be possible
 abbrev pub create_speaks : RulesOf → List Card → Attributes → RegisteredOf → Why → Bool
@@ -41,6 +47,7 @@ create_deed a = record {
   may_lack = false;
   does = λ rules V before t x V' after. Creates rules V t a x V' after;
   speaks = λ rules m before t shown why. create_says rules m a shown why;
+  means = λ rules m before t shown why. CreateReason rules (cards_of m.objects) a shown why;
   leaves = λ m before t shown. create_leaves m t a shown;
   holds = names_new;
 }

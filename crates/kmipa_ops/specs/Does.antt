@@ -9,11 +9,11 @@ use Rattle.kmipa_msgs.specs.declared.response.Status.TheVariants.{Success, Faile
 use Rattle.kmipa_ops.specs.Founded.{Founded}
 use Rattle.kmipa_ops.specs.Objects.{Echoes, Agree}
 use Rattle.kmipa_ops.specs.Row.{row_does}
-use Rattle.kmipa_ops.specs.Rows.{row_of}
+use Rattle.kmipa_ops.specs.Rows.{asked_row}
 
 -- an operation succeeds with this payload
 abbrev pub Succeeds : RulesOf → List Thing → Option (List ℕ) → ℤ → AskedOf → Option PayloadOf → List Thing → Option (List ℕ) → Type 0
-Succeeds rules V before t asked payload V' after = row_does (row_of asked) rules V before t payload V' after
+Succeeds rules V before t asked payload V' after = row_does (asked_row asked) rules V before t payload V' after
 
 -- a failed answer changes nothing, and is possible where its reason is founded
 pub record Fails (rules : RulesOf) (V : List Thing) (before : Option (List ℕ)) (t : ℤ) (asked : AskedOf) (reason : Option ℕ) (V' : List Thing) (after : Option (List ℕ)) : Type 0 where

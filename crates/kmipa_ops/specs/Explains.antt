@@ -9,7 +9,7 @@ use Rattle.kmipa_ops.specs.declared.why.Why.{Why}
 use Rattle.kmipa_ops.specs.declared.why.Refusal.{Refusal}
 use Rattle.kmipa_ops.specs.declared.why.Refusal.TheVariants.{Impossible, Memory}
 use Rattle.kmipa_ops.specs.Row.{row_brings}
-use Rattle.kmipa_ops.specs.Rows.{row_of}
+use Rattle.kmipa_ops.specs.Rows.{asked_row}
 use Rattle.kmipa_ops.specs.Objects.{is_other}
 use Rattle.kmipa_ops.specs.Completes.{DoesSome, can_judge}
 use Rattle.kmipa_ops.specs.Chains.{ChainSome}
@@ -18,7 +18,7 @@ use Rattle.kmipa_ops.specs.Blame.{lowest}
 
 -- the bytes that an ask brings
 abbrev pub brings : AskedOf → Option (List ℕ)
-brings asked = row_brings (row_of asked)
+brings asked = row_brings (asked_row asked)
 
 -- the bytes that an answer shows
 abbrev pub shows : Option PayloadOf → Option (List ℕ)
@@ -26,9 +26,9 @@ shows (Some (got a)) = Some a.block.material
 shows payload = None
 
 -- one of the asks brings these bytes, or one of the answers shows them
-abbrev pub Tells : List (AskOf × AnswerOf) → List ℕ → Type 0
-Tells [] bytes = ⊥
-Tells (pair ∷ pairs) bytes = (brings pair.0.asked ≡ Some bytes) ⊎ ((shows pair.1.payload ≡ Some bytes) ⊎ Tells pairs bytes)
+abbrev pub BringsOrShows : List (AskOf × AnswerOf) → List ℕ → Type 0
+BringsOrShows [] bytes = ⊥
+BringsOrShows (pair ∷ pairs) bytes = (brings pair.0.asked ≡ Some bytes) ⊎ ((shows pair.1.payload ≡ Some bytes) ⊎ BringsOrShows pairs bytes)
 
 -- the pairs lead the ledger from `m` to `n`, and the placeholder from `before` to `after`
 pub record Explains (rules : RulesOf) (t : ℤ) (m : Meaning) (before : Option (List ℕ)) (pairs : List (AskOf × AnswerOf)) (n : Meaning) (after : Option (List ℕ)) : Type 0 where
@@ -40,7 +40,7 @@ pub record Explains (rules : RulesOf) (t : ℤ) (m : Meaning) (before : Option (
       → (d : Choice) × Chooses n.secrets d × Agrees (length m.secrets) c d × (V ≡ inv d n.objects) × (p ≡ after)
   -- bytes are known only where they were, or where an item told them
   pub learns : (number : ℕ) (bytes : List ℕ) → bytes_at n.secrets number ≡ Some (Some bytes)
-      → (bytes_at m.secrets number ≡ Some (Some bytes)) ⊎ Tells pairs bytes
+      → (bytes_at m.secrets number ≡ Some (Some bytes)) ⊎ BringsOrShows pairs bytes
   pub grows : length m.secrets ≤ length n.secrets
   pub extends : Extends m.secrets n.secrets
   -- each object keeps a secret of its own

@@ -13,7 +13,7 @@ use Rattle.kmipa_msgs.specs.declared.rules.Cause.{Cause}
 use Rattle.kmipa_msgs.specs.declared.rules.Cause.TheVariants.{WrongState, NotFound, TakenName}
 use Rattle.kmipa_ops.specs.Objects.{meant, card_meant, any_named, HasNameOf}
 use Rattle.kmipa_ops.specs.Row.{row_subject, SubjectOf, on_object, on_names, on_nothing}
-use Rattle.kmipa_ops.specs.Rows.{row_of}
+use Rattle.kmipa_ops.specs.Rows.{asked_row}
 
 -- THE DEFINITION
 
@@ -55,7 +55,7 @@ pub data FoundedOf (rules : RulesOf) (cs : List Card) (before : Option (List ℕ
   caused : (row : RowOf) → Contains rules.rows row → reason ≡ Some row.reason → Holds cs before t subject row.cause → FoundedOf rules cs before t subject reason
 
 abbrev pub Founded : RulesOf → List Card → Option (List ℕ) → ℤ → AskedOf → Option ℕ → Type 0
-Founded rules cs before t asked reason = FoundedOf rules cs before t (row_subject (row_of asked)) reason
+Founded rules cs before t asked reason = FoundedOf rules cs before t (row_subject (asked_row asked)) reason
 
 -- THE TEST
 
@@ -110,7 +110,7 @@ founded_of rules cs before t subject (Some reason) =
     not (has_row rules reason) || is_of_nothing before subject || has_cause rules cs before t subject reason
 
 abbrev pub founded : RulesOf → List Card → Option (List ℕ) → ℤ → AskedOf → Option ℕ → Bool
-founded rules cs before t asked reason = founded_of rules cs before t (row_subject (row_of asked)) reason
+founded rules cs before t asked reason = founded_of rules cs before t (row_subject (asked_row asked)) reason
 
 -- the test says exactly the definition
 abbrev pub FoundedIsDecided : Type 0

@@ -1,14 +1,14 @@
 -- Get.
 use Rattle.std.specs.Ordering.{int_eq}
-use Rattle.std.specs.Prelude.{◌≡◌, ℕ, ℤ, Bool, true, false, List, Option, Some, None, ◌||◌, ◌==◌, not, is_none, option_and_then}
-use Rattle.kmipa_object.specs.Inventory.{Thing, live}
+use Rattle.std.specs.Prelude.{◌≡◌, ℕ, ℤ, Bool, true, false, List, Option, Some, None, ◌||◌, ◌==◌, not, is_none, option_and_then, ◌≢◌, ◌⊎◌}
+use Rattle.kmipa_object.specs.Inventory.{Thing, live, Card, admits}
 use Rattle.kmipa_object.specs.declared.life.Material.{Material}
 use Rattle.kmipa_object.specs.declared.life.Material.TheVariants.{Gone, Secret}
 use Rattle.kmipa_store.specs.Calls.{differs, breaks}
-use Rattle.kmipa_store.specs.Ledger.{Held, Meaning, told}
+use Rattle.kmipa_store.specs.Ledger.{Held, Meaning, told, Known}
 use Rattle.kmipa_msgs.specs.Messages.{GotOf, PayloadOf, got}
-use Rattle.kmipa_ops.specs.Meant.{object_meant, secret_at, secret_meant, is_excluded}
-use Rattle.kmipa_ops.specs.Objects.{meant, HasObject, Echoes, Agree, is_other, is_other_id, clash, same_type}
+use Rattle.kmipa_ops.specs.Meant.{object_meant, secret_at, secret_meant, is_excluded, IsExcluded}
+use Rattle.kmipa_ops.specs.Objects.{meant, HasObject, Echoes, Agree, is_other, is_other_id, clash, same_type, Differs, Clashes}
 use Rattle.kmipa_msgs.specs.Sayable.{SaysKey}
 use Rattle.kmipa_ops.specs.Row.{Deed, on_object}
 use Rattle.kmipa_ops.specs.declared.why.Why.{Why}
@@ -31,6 +31,28 @@ pub record Gets (V : List Thing) (before : Option (List ℕ)) (asked : Option (L
   pub echo : Echoes a.id id
   pub leaves : V' ≡ V
   pub placeholder : after ≡ before
+
+-- other bytes of it are known
+abbrev pub IsKnownOtherwise : Meaning → Option (List ℕ) → List ℕ → Type 0
+IsKnownOtherwise m about bytes = (secret : Known) × (secret_meant m about ≡ Some secret) × Differs secret.bytes bytes
+
+-- its bytes aren't known, and can't be these
+abbrev pub IsImpossible : Meaning → Option (List ℕ) → List ℕ → Type 0
+IsImpossible m about bytes = (secret : Known) × (secret_meant m about ≡ Some secret) × (secret.bytes ≡ None) × (admits secret.rule bytes ≢ true)
+
+-- what a Get shows beside the bytes isn't the object's: its type, in two places, its algorithm or its length
+abbrev pub IsOther : GotOf → Card → Type 0
+IsOther a c = ((Differs a.object_type c.kind ⊎ (a.shape ≢ c.kind)) ⊎ Clashes a.block.algorithm c.given.algorithm) ⊎ Clashes a.block.length c.given.length
+
+-- against a Get that is done, about this identifier, and shows this if its payload is there
+abbrev pub GetReason : Meaning → Option (List ℕ) → ℤ → Option GotOf → Why → Type 0
+GetReason m about t shown NoSuchObject = object_meant m.objects about ≡ None
+GetReason m about t shown WrongState = IsExcluded m.objects about t act.Get
+GetReason m about t (Some a) BytesDiffer = IsKnownOtherwise m about a.block.material
+GetReason m about t (Some a) LengthImpossible = IsImpossible m about a.block.material
+GetReason m about t (Some a) AttributeDiffers = (h : Held) × (object_meant m.objects about ≡ Some h) × IsOther a h.card
+GetReason m about t (Some a) EchoDiffers = Clashes a.id about
+GetReason m about t shown why = ⊥
 
 -- what a Get shows, but for the bytes and the identifier, isn't the object's: its type, twice, and, where both are there, algorithm and length
 abbrev pub shows_other : GotOf → Option Held → Bool
@@ -82,6 +104,7 @@ get_deed id = record {
   may_lack = true;
   does = λ rules V before t a V' after. Gets V before id a V' after;
   speaks = λ rules m before t shown why. get_speaks m (meant id before) t shown why;
+  means = λ rules m before t shown why. GetReason m (meant id before) t shown why;
   leaves = λ m before t shown. get_leaves m (meant id before) shown;
   holds = λ before shown. before;
 }

@@ -4,6 +4,7 @@ use Rattle.std.specs.List.{Contains, list_any}
 use Rattle.std.specs.Ordering.{int_eq}
 use Rattle.kmipa_attrs.specs.Sets.{NameOf, Attributes}
 use Rattle.kmipa_attrs.specs.ObjectTypes.{type_number}
+use Rattle.kmipa_attrs.specs.Tags.{activation_date, compromise_date, cryptographic_algorithm, cryptographic_length, cryptographic_usage_mask, deactivation_date, destroy_date, initial_date, name_tag, object_type_tag, state_tag}
 use Rattle.kmipa_object.specs.Inventory.{Card, Thing, live}
 use Rattle.kmipa_object.specs.Life.{Dates, state, state_number}
 use Rattle.kmipa_msgs.specs.Messages.{GetAttributesOf, GotAttributesOf, PayloadOf, got_attributes}
@@ -15,7 +16,7 @@ use Rattle.kmipa_ops.specs.declared.judged.Judged.{Judged}
 use Rattle.kmipa_ops.specs.declared.judged.Judged.TheVariants.{Name, ObjectType, CryptographicAlgorithm, CryptographicLength, CryptographicUsageMask, State, InitialDate, ActivationDate, DeactivationDate, DestroyDate, CompromiseDate}
 use Rattle.kmipa_ops.specs.declared.why.Why.{Why}
 use Rattle.kmipa_ops.specs.declared.why.Why.TheVariants.{NoSuchObject, AttributeDiffers, AttributeMissing, EchoDiffers}
-use Rattle.kmipa_ops.specs.Objects.{meant, HasObject, card_meant, Echoes, Agree, is_other, is_other_id, clash, same_name}
+use Rattle.kmipa_ops.specs.Objects.{meant, HasObject, card_meant, Echoes, Agree, is_other, is_other_id, clash, same_name, Clashes}
 use Rattle.kmipa_object.specs.declared.allow.Act.TheVariants as act
 
 -- WHAT MAY BE SHOWN
@@ -48,17 +49,17 @@ pub record IsOwnAt (c : Card) (t : ℤ) (shown : Attributes) : Type 0 where
 
 -- the tags of the judged attributes
 abbrev pub judged_tag : Judged → ℕ
-judged_tag ActivationDate = 0x42_0001
-judged_tag CompromiseDate = 0x42_0020
-judged_tag CryptographicAlgorithm = 0x42_0028
-judged_tag CryptographicLength = 0x42_002A
-judged_tag CryptographicUsageMask = 0x42_002C
-judged_tag DeactivationDate = 0x42_002F
-judged_tag DestroyDate = 0x42_0033
-judged_tag InitialDate = 0x42_0039
-judged_tag Name = 0x42_0053
-judged_tag ObjectType = 0x42_0057
-judged_tag State = 0x42_008D
+judged_tag ActivationDate = activation_date
+judged_tag CompromiseDate = compromise_date
+judged_tag CryptographicAlgorithm = cryptographic_algorithm
+judged_tag CryptographicLength = cryptographic_length
+judged_tag CryptographicUsageMask = cryptographic_usage_mask
+judged_tag DeactivationDate = deactivation_date
+judged_tag DestroyDate = destroy_date
+judged_tag InitialDate = initial_date
+judged_tag Name = name_tag
+judged_tag ObjectType = object_type_tag
+judged_tag State = state_tag
 
 -- an attribute is asked for where a reference names it, and each one is where there are no references
 abbrev pub asks_for : GetAttributesOf → Judged → Bool
@@ -94,6 +95,14 @@ pub record GetsAttributes (V : List Thing) (before : Option (List ℕ)) (t : ℤ
   pub echo : Echoes a.id id
   pub leaves : V' ≡ V
   pub placeholder : after ≡ before
+
+-- against a Get Attributes that is done
+abbrev pub GetAttributesReason : List Card → Option (List ℕ) → ℤ → GetAttributesOf → Option GotAttributesOf → Why → Type 0
+GetAttributesReason cs about t g shown NoSuchObject = card_meant cs about ≡ None
+GetAttributesReason cs about t g (Some a) AttributeDiffers = (c : Card) × (card_meant cs about ≡ Some c) × (IsOwnAt c t a.attributes → ⊥)
+GetAttributesReason cs about t g (Some a) AttributeMissing = (c : Card) × (card_meant cs about ≡ Some c) × (HasRequired g c a.attributes → ⊥)
+GetAttributesReason cs about t g (Some a) EchoDiffers = Clashes a.id about
+GetAttributesReason cs about t g shown why = ⊥
 
 -- WHAT SPEAKS AGAINST IT
 
@@ -202,6 +211,7 @@ get_attributes_deed g = record {
   may_lack = true;
   does = λ rules V before t a V' after. GetsAttributes V before t g a V' after;
   speaks = λ rules m before t shown why. get_attributes_speaks (cards_of m.objects) (meant g.id before) t g shown why;
+  means = λ rules m before t shown why. GetAttributesReason (cards_of m.objects) (meant g.id before) t g shown why;
   leaves = λ m before t shown. m;
   holds = λ before shown. before;
 }

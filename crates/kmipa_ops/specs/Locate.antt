@@ -53,13 +53,27 @@ abbrev pub is_full : Option ℤ → ℕ → Bool
 is_full None n = false
 is_full (Some most) n = not (int_lt (pos n) most)
 
--- the list is right of these objects at this moment
-pub record Lists (cs : List Card) (t : ℤ) (q : FilterOf) (listed : List (List ℕ)) : Type 0 where
+-- what is listed is right: nothing twice, only what may be listed, at most the maximum
+pub record ListsRightly (cs : List Card) (t : ℤ) (q : FilterOf) (listed : List (List ℕ)) : Type 0 where
   pub once : (i j : ℕ) (id : List ℕ) → slice_get listed i ≡ Some id → slice_get listed j ≡ Some id → i ≡ j
   pub fits : (id : List ℕ) → Contains listed id → (c : Card) × (card_meant cs (Some id) ≡ Some c) × May q (state c.dates t) c
   pub most : is_over q.maximum (length listed) ≡ false
+
+-- the list is right of these objects at this moment
+pub record Lists (cs : List Card) (t : ℤ) (q : FilterOf) (listed : List (List ℕ)) : Type 0 where
+  pub right : ListsRightly cs t q listed
   -- each that must be listed is, unless as many as the maximum are
   pub all : is_full q.maximum (length listed) ≡ false → (c : Card) → Contains cs c → Must q (state c.dates t) c → Contains listed c.id
+
+-- fewer than the maximum are listed, and an object isn't that must be
+abbrev pub LeavesOut : List Card → ℤ → FilterOf → List (List ℕ) → Type 0
+LeavesOut cs t q listed = (is_full q.maximum (length listed) ≡ false) × (c : Card) × Contains cs c × Must q (state c.dates t) c × (Contains listed c.id → ⊥)
+
+-- against a Locate that is done
+abbrev pub LocateReason : List Card → ℤ → FilterOf → Option (List (List ℕ)) → Why → Type 0
+LocateReason cs t q (Some listed) ListedWrongly = ListsRightly cs t q listed → ⊥
+LocateReason cs t q (Some listed) ListedTooFew = LeavesOut cs t q listed
+LocateReason cs t q shown why = ⊥
 
 -- the placeholder is the one that is listed, else empty
 abbrev pub only : List (List ℕ) → Option (List ℕ)
@@ -139,6 +153,7 @@ locate_look q = record {
   may_lack = false;
   Sees = λ cs before t listed. Lists cs t q listed;
   speaks = λ cs before t shown why. locate_speaks cs t q shown why;
+  means = λ cs before t shown why. LocateReason cs t q shown why;
   holds = names_only;
 }
 

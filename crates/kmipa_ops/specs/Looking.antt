@@ -16,6 +16,7 @@ pub record Look : Type 1 where
   -- what is shown is right of these objects
   pub Sees : List Card → Option (List ℕ) → ℤ → Shown → Type 0
   pub speaks : List Card → Option (List ℕ) → ℤ → Option Shown → Why → Bool
+  pub means : List Card → Option (List ℕ) → ℤ → Option Shown → Why → Type 0
   pub holds : Option (List ℕ) → Option Shown → Option (List ℕ)
 
 abbrev pub look_deed : Look → Deed
@@ -29,6 +30,7 @@ look_deed l = record {
   may_lack = l.may_lack;
   does = λ rules V before t x V' after. l.Sees (cards V) before t x × (V' ≡ V) × (after ≡ l.holds before (Some x));
   speaks = λ rules m before t shown why. l.speaks (cards_of m.objects) before t shown why;
+  means = λ rules m before t shown why. l.means (cards_of m.objects) before t shown why;
   leaves = λ m before t shown. m;
   holds = l.holds;
 }

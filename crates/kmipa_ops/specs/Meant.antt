@@ -1,5 +1,5 @@
 -- The object that is meant, in a ledger.
-use Rattle.std.specs.Prelude.{ℕ, ℤ, Bool, true, false, List, Option, Some, None, slice_get, option_and_then}
+use Rattle.std.specs.Prelude.{ℕ, ℤ, Bool, true, false, List, Option, Some, None, slice_get, option_and_then, ◌≡◌}
 use Rattle.kmipa_object.specs.Inventory.{place_of}
 use Rattle.kmipa_object.specs.Life.{state}
 use Rattle.kmipa_object.specs.Table.{allowed}
@@ -26,6 +26,10 @@ place_about objects before on_nothing = None
 -- the object itself
 abbrev pub object_meant : List Held → Option (List ℕ) → Option Held
 object_meant objects about = option_and_then (slice_get objects) (place_meant objects about)
+
+-- its state excludes the operation
+abbrev pub IsExcluded : List Held → Option (List ℕ) → ℤ → Act → Type 0
+IsExcluded objects about t act = (h : Held) × (object_meant objects about ≡ Some h) × (allowed act (state h.card.dates t) ≡ Not)
 
 -- its secret, unless it is gone
 abbrev pub secret_at : List Known → Material → Option Known

@@ -1,5 +1,5 @@
 -- What an item is about: the identifier that is meant, the object that has it, and the fields that repeat what is known.
-use Rattle.std.specs.Prelude.{◌≡◌, ◌&&◌, ◌==◌, ℕ, Bool, false, not, List, Option, Some, None, bytes_eq, slice_get, option_and_then}
+use Rattle.std.specs.Prelude.{◌≡◌, ◌&&◌, ◌==◌, ℕ, Bool, false, not, List, Option, Some, None, bytes_eq, slice_get, option_and_then, ◌≢◌}
 use Rattle.std.specs.List.{Contains, list_any}
 use Rattle.kmipa_attrs.specs.Sets.{NameOf}
 use Rattle.kmipa_attrs.specs.ObjectTypes.{type_number}
@@ -30,6 +30,14 @@ Echoes (Some x) expected = x ≡ expected
 abbrev pub Agree : {A : Type 0} → Option A → Option A → Type 0
 Agree None other = Unit {0}
 Agree (Some x) other = Echoes other x
+
+-- a field is there, and says something else than is expected
+abbrev pub Differs : {A : Type 0} → Option A → A → Type 0
+Differs {A} shown expected = (x : A) × (shown ≡ Some x) × (x ≢ expected)
+
+-- two fields are there, and differ
+abbrev pub Clashes : {A : Type 0} → Option A → Option A → Type 0
+Clashes {A} shown other = (y : A) × (other ≡ Some y) × Differs shown y
 
 -- a field is there, and says something else
 abbrev pub is_other : {A : Type 0} → (A → A → Bool) → Option A → A → Bool

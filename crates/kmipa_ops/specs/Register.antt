@@ -1,11 +1,11 @@
 -- Register.
-use Rattle.std.specs.Prelude.{ℕ, ℤ, Bool, false, List, Option, Some, None}
+use Rattle.std.specs.Prelude.{ℕ, ℤ, Bool, false, List, Option, Some, None, ◌≡◌, true}
 use Rattle.kmipa_attrs.specs.Sets.{Attributes}
 use Rattle.kmipa_object.specs.Inventory.{Card, Thing, given_of, rule_for, admits}
 use Rattle.kmipa_store.specs.Ledger.{Meaning, cards_of}
 use Rattle.kmipa_msgs.specs.Messages.{RulesOf, RegisterOf, RegisteredOf, PayloadOf, registered}
 use Rattle.kmipa_msgs.specs.Sayable.{SaysNew}
-use Rattle.kmipa_ops.specs.Adding.{newborn, AddsObject, adding_speaks, with_own, names_new}
+use Rattle.kmipa_ops.specs.Adding.{newborn, AddsObject, adding_speaks, with_own, names_new, AddingReason}
 use Rattle.kmipa_ops.specs.Row.{Deed, on_names}
 use Rattle.kmipa_ops.specs.declared.why.Why.{Why}
 
@@ -23,6 +23,11 @@ brought r = record r.attributes {
 
 abbrev pub Registers : RulesOf → List Thing → ℤ → RegisterOf → RegisteredOf → List Thing → Option (List ℕ) → Type 0
 Registers rules V t r x V' after = AddsObject rules V t r.object_type (brought r) r.block.material x V' after
+
+abbrev pub RegisterReason : RulesOf → List Card → RegisterOf → Option RegisteredOf → Why → Type 0
+RegisterReason rules cs r None why = ⊥
+RegisterReason rules cs r (Some x) why =
+    AddingReason rules cs r.object_type r.attributes.names (admits (rule_for r.object_type (given_of (brought r))) r.block.material ≡ true) x why
 
 -- against a Register that is done: its bytes must be possible
 abbrev pub register_speaks : RulesOf → List Card → RegisterOf → RegisteredOf → Why → Bool
@@ -52,6 +57,7 @@ register_deed r = record {
   may_lack = false;
   does = λ rules V before t x V' after. Registers rules V t r x V' after;
   speaks = λ rules m before t shown why. register_says rules m r shown why;
+  means = λ rules m before t shown why. RegisterReason rules (cards_of m.objects) r shown why;
   leaves = λ m before t shown. register_leaves m t r shown;
   holds = names_new;
 }

@@ -30,6 +30,8 @@ pub record Deed : Type 1 where
   pub does : RulesOf → List Thing → Option (List ℕ) → ℤ → Shown → List Thing → Option (List ℕ) → Type 0
   -- this reason speaks against it where it is done, and shows this if its payload is there
   pub speaks : RulesOf → Meaning → Option (List ℕ) → ℤ → Option Shown → Why → Bool
+  -- what each reason that speaks against it means
+  pub means : RulesOf → Meaning → Option (List ℕ) → ℤ → Option Shown → Why → Type 0
   -- the ledger and the placeholder after it
   pub leaves : Meaning → Option (List ℕ) → ℤ → Option Shown → Meaning
   pub holds : Option (List ℕ) → Option Shown → Option (List ℕ)
@@ -78,6 +80,11 @@ abbrev pub row_speaks : Row → RulesOf → Meaning → Option (List ℕ) → �
 row_speaks (deed d) rules m before t payload why = d.speaks rules m before t (seen_in d payload) why
 row_speaks idle rules m before t payload why = false
 row_speaks unknown rules m before t payload why = false
+
+abbrev pub row_reason : Row → RulesOf → Meaning → Option (List ℕ) → ℤ → Option PayloadOf → Why → Type 0
+row_reason (deed d) rules m before t payload why = d.means rules m before t (seen_in d payload) why
+row_reason idle rules m before t payload why = ⊥
+row_reason unknown rules m before t payload why = ⊥
 
 abbrev pub row_leaves : Row → Meaning → Option (List ℕ) → ℤ → Option PayloadOf → Meaning
 row_leaves (deed d) m before t payload = d.leaves m before t (seen_in d payload)

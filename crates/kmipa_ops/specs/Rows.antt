@@ -10,14 +10,14 @@ use Rattle.kmipa_ops.specs.Revoke.{revoke_deed}
 use Rattle.kmipa_ops.specs.Row.{deed, idle, unknown, Row}
 use Rattle.kmipa_ops.specs.GetAttributes.{get_attributes_deed}
 
-abbrev pub row_of : AskedOf → Row
-row_of (creates a) = deed (create_deed a)
-row_of (registers r) = deed (register_deed r)
-row_of (locates q) = deed (locate_deed q)
-row_of (gets id) = deed (get_deed id)
-row_of (gets_attributes g) = deed (get_attributes_deed g)
-row_of (activates id) = deed (activate_deed id)
-row_of (revokes r) = deed (revoke_deed r)
-row_of (destroys id) = deed (destroy_deed id)
-row_of (idles number) = idle
-row_of (does_other number) = unknown
+abbrev pub asked_row : AskedOf → Row
+asked_row (creates a) = deed (create_deed a)
+asked_row (registers r) = deed (register_deed r)
+asked_row (locates q) = deed (locate_deed q)
+asked_row (gets id) = deed (get_deed id)
+asked_row (gets_attributes g) = deed (get_attributes_deed g)
+asked_row (activates id) = deed (activate_deed id)
+asked_row (revokes r) = deed (revoke_deed r)
+asked_row (destroys id) = deed (destroy_deed id)
+asked_row (idles number) = idle
+asked_row (does_other number) = unknown

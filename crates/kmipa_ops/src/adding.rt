@@ -5,7 +5,7 @@ ghost use Rattle.kmipa_attrs.specs.Sets.{attributes_of, name_of};
 ghost use Rattle.kmipa_object.specs.Life.{dates_of};
 ghost use Rattle.kmipa_store.specs.Ledger.{cards_of};
 ghost use Rattle.kmipa_msgs.specs.Messages.{lent, maybe_lent, registered_of, rules_of};
-ghost use Rattle.kmipa_ops.specs.After.{Leaves};
+ghost use Rattle.kmipa_ops.specs.After.{LeavesAfter};
 ghost use Rattle.kmipa_ops.specs.Placeholders.{placeholder_of};
 ghost use Rattle.kmipa_ops.specs.Whys.{whys};
 ghost use Rattle.kmipa_ops.specs.Adding.{MakesOwn, with_own, adding_speaks, name_taken, newborn};
@@ -71,7 +71,7 @@ pub(crate) fn add<L: Ledger>(
     placeholder: &mut Placeholder,
     object: Newborn,
 ) -> Result<(), AllocError>
-    ensures { Leaves (L.state ledger.old)
+    ensures { LeavesAfter (L.state ledger.old)
         (with_own (L.state ledger.old).now
         (newborn (L.moment ledger.old) (lent object.entry.id) object.entry.kind
         (attributes_of object.entry.attributes)) (maybe_lent object.entry.material))

@@ -5,7 +5,7 @@ ghost use Rattle.kmipa_attrs.specs.Sets.{attributes_of};
 ghost use Rattle.kmipa_attrs.specs.declared.object_type.ObjectType.TheVariants.{SymmetricKey};
 ghost use Rattle.kmipa_store.specs.Ledger.{cards_of};
 ghost use Rattle.kmipa_msgs.specs.Messages.{creates, payload_of, registered_of, rules_of};
-ghost use Rattle.kmipa_ops.specs.After.{Leaves};
+ghost use Rattle.kmipa_ops.specs.After.{LeavesAfter};
 ghost use Rattle.kmipa_ops.specs.Placeholders.{placeholder_of};
 ghost use Rattle.kmipa_ops.specs.Whys.{whys};
 ghost use Rattle.kmipa_ops.specs.Adding.{with_own, newborn};
@@ -118,7 +118,7 @@ pub(crate) fn create<L: Ledger>(
     attributes: &AttrSet,
     id: &str,
 ) -> Result<(), AllocError>
-    ensures { Leaves (L.state ledger.old)
+    ensures { LeavesAfter (L.state ledger.old)
         (with_own (L.state ledger.old).now
         (newborn (L.moment ledger.old) id.now SymmetricKey (attributes_of attributes.now)) None) (Some id.now) result
         (L.state ledger.new) (placeholder_of placeholder.new) }

@@ -23,14 +23,14 @@ pub(crate) trait Deed {
     ghost use Rattle.std.specs.Prelude.{◌≡◌, ◌<◌, IfOk, IfSome, find, length, option_map};
     ghost use Rattle.kmipa_store.specs.Choices.{IsSound};
     ghost use Rattle.kmipa_msgs.specs.Messages.{AskedOf, maybe_lent, payload_of, rules_of};
-    ghost use Rattle.kmipa_ops.specs.After.{Leaves, after_done, placeholder_done};
+    ghost use Rattle.kmipa_ops.specs.After.{LeavesAfter, after_done, placeholder_done};
     ghost use Rattle.kmipa_ops.specs.Blame.{IsUnopposed, done_speaks};
     ghost use Rattle.kmipa_ops.specs.Completes.{is_idle, is_of, may_lack};
     ghost use Rattle.kmipa_ops.specs.Explains.{brings};
     ghost use Rattle.kmipa_ops.specs.Meant.{place_about};
     ghost use Rattle.kmipa_ops.specs.Placeholders.{placeholder_of};
     ghost use Rattle.kmipa_ops.specs.Row.{row_subject};
-    ghost use Rattle.kmipa_ops.specs.Rows.{row_of};
+    ghost use Rattle.kmipa_ops.specs.Rows.{asked_row};
     ghost use Rattle.kmipa_ops.specs.Subjects.{subject_of};
     ghost use Rattle.kmipa_ops.specs.Whys.{whys};
 
@@ -51,7 +51,7 @@ pub(crate) trait Deed {
 
     /// Whom a refusal of it is judged by.
     fn subject(&self) -> Subject<'_>
-        ensures { subject_of result ≡ row_subject (row_of (asked self.now)) };
+        ensures { subject_of result ≡ row_subject (asked_row (asked self.now)) };
 
     /// The bytes that it brings.
     fn brings(&self) -> Option<&[u8]>
@@ -69,7 +69,7 @@ pub(crate) trait Deed {
     ) -> Result<Option<Why>, AllocError>
         requires sound { IsSound (L.state ledger.now).now }
         requires place { place ≡ place_about (L.state ledger.now).now.objects (placeholder_of placeholder.now)
-            (row_subject (row_of (asked self.now))) }
+            (row_subject (asked_row (asked self.now))) }
         requires within { IfSome place (λ p. p < length (L.state ledger.now).now.objects) }
         ensures { IfOk result
             (λ why. why
@@ -87,11 +87,11 @@ pub(crate) trait Deed {
     ) -> Result<(), AllocError>
         requires sound { IsSound (L.state ledger.old).now }
         requires place { place ≡ place_about (L.state ledger.old).now.objects (placeholder_of placeholder.old)
-            (row_subject (row_of (asked self.now))) }
+            (row_subject (asked_row (asked self.now))) }
         requires within { IfSome place (λ p. p < length (L.state ledger.old).now.objects) }
         requires unopposed { IsUnopposed (L.state ledger.old).now (placeholder_of placeholder.old)
             (L.moment ledger.old) (asked self.now) (option_map payload_of payload.now) }
-        ensures { Leaves (L.state ledger.old)
+        ensures { LeavesAfter (L.state ledger.old)
             (after_done (L.state ledger.old).now (placeholder_of placeholder.old) (L.moment ledger.old)
             (asked self.now) (option_map payload_of payload.now))
             (placeholder_done (placeholder_of placeholder.old) (asked self.now)

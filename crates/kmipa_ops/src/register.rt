@@ -5,7 +5,7 @@ ghost use Rattle.kmipa_attrs.specs.Sets.{attributes_of};
 ghost use Rattle.kmipa_object.specs.Inventory.{given_of, rule_for};
 ghost use Rattle.kmipa_store.specs.Ledger.{cards_of};
 ghost use Rattle.kmipa_msgs.specs.Messages.{lent, payload_of, register_of, registered_of, registers, rules_of};
-ghost use Rattle.kmipa_ops.specs.After.{Leaves};
+ghost use Rattle.kmipa_ops.specs.After.{LeavesAfter};
 ghost use Rattle.kmipa_ops.specs.Placeholders.{placeholder_of};
 ghost use Rattle.kmipa_ops.specs.Whys.{whys};
 ghost use Rattle.kmipa_ops.specs.Adding.{with_own, newborn};
@@ -149,7 +149,7 @@ pub(crate) fn register<L: Ledger>(
     register: &Register,
     id: &str,
 ) -> Result<(), AllocError>
-    ensures { Leaves (L.state ledger.old)
+    ensures { LeavesAfter (L.state ledger.old)
         (with_own (L.state ledger.old).now
         (newborn (L.moment ledger.old) id.now register.now.object_type (brought (register_of register.now)))
         (Some (lent register.now.block.material))) (Some id.now) result (L.state ledger.new)

@@ -4,7 +4,7 @@ ghost use Rattle.std.specs.Prelude.{◌≡◌, ◌<◌, All, IfOk, IfSome, bytes
 ghost use Rattle.kmipa_store.specs.Choices.{IsSound};
 ghost use Rattle.kmipa_msgs.specs.Operations.{operation_number};
 ghost use Rattle.kmipa_msgs.specs.Messages.{answer_of, ask_of, asked_of, maybe_lent, operation_asked, payload_of, rules_of};
-ghost use Rattle.kmipa_ops.specs.After.{Leaves, after, placeholder_after};
+ghost use Rattle.kmipa_ops.specs.After.{LeavesAfter, after, placeholder_after};
 ghost use Rattle.kmipa_ops.specs.Asks.{ask_with};
 ghost use Rattle.kmipa_ops.specs.Blame.{IsDoneUnopposed, failure_speaks, lowest, outcome_speaks};
 ghost use Rattle.kmipa_ops.specs.Explains.{AreBytes, Taken, TellsBytes, brings, is_readable, shows};
@@ -12,7 +12,7 @@ ghost use Rattle.kmipa_ops.specs.Meant.{place_about};
 ghost use Rattle.kmipa_ops.specs.Objects.{clash};
 ghost use Rattle.kmipa_ops.specs.Placeholders.{placeholder_of};
 ghost use Rattle.kmipa_ops.specs.Row.{row_subject};
-ghost use Rattle.kmipa_ops.specs.Rows.{row_of};
+ghost use Rattle.kmipa_ops.specs.Rows.{asked_row};
 ghost use Rattle.kmipa_ops.specs.Whys.{whys};
 
 use crate::deed::Deed;
@@ -144,7 +144,7 @@ fn lowest_why<D: Deed, L: Ledger>(
     requires sound { IsSound (L.state ledger.now).now }
     requires number { frame.number ≡ operation_number (operation_asked (D.asked deed.now)) }
     requires place { place ≡ place_about (L.state ledger.now).now.objects (placeholder_of placeholder.now)
-        (row_subject (row_of (D.asked deed.now))) }
+        (row_subject (asked_row (D.asked deed.now))) }
     requires within { IfSome place (λ p. p < length (L.state ledger.now).now.objects) }
     ensures { IfOk result
         (λ why. why
@@ -184,7 +184,7 @@ fn outcome_why<D: Deed, L: Ledger>(
 ) -> Result<Option<Why>, AllocError>
     requires sound { IsSound (L.state ledger.now).now }
     requires place { place ≡ place_about (L.state ledger.now).now.objects (placeholder_of placeholder.now)
-        (row_subject (row_of (D.asked deed.now))) }
+        (row_subject (asked_row (D.asked deed.now))) }
     requires within { IfSome place (λ p. p < length (L.state ledger.now).now.objects) }
     ensures { IfOk result
         (λ why. why
@@ -209,7 +209,7 @@ fn failure_why<D: Deed, L: Ledger>(
     reason: Option<u32>,
 ) -> Option<Why>
     requires place { place ≡ place_about (L.state ledger.now).now.objects (placeholder_of placeholder.now)
-        (row_subject (row_of (D.asked deed.now))) }
+        (row_subject (asked_row (D.asked deed.now))) }
     requires within { IfSome place (λ p. p < length (L.state ledger.now).now.objects) }
     ensures { result ≡ find
         (failure_speaks (rules_of rules.now) (L.state ledger.now).now (placeholder_of placeholder.now)
@@ -233,11 +233,11 @@ fn leave<D: Deed, L: Ledger>(
 ) -> Result<(), AllocError>
     requires sound { IsSound (L.state ledger.old).now }
     requires place { place ≡ place_about (L.state ledger.old).now.objects (placeholder_of placeholder.old)
-        (row_subject (row_of (D.asked deed.now))) }
+        (row_subject (asked_row (D.asked deed.now))) }
     requires within { IfSome place (λ p. p < length (L.state ledger.old).now.objects) }
     requires unopposed { IsDoneUnopposed answer.now.status (L.state ledger.old).now (placeholder_of placeholder.old)
         (L.moment ledger.old) (D.asked deed.now) (answer_of answer.now).payload }
-    ensures { Leaves (L.state ledger.old)
+    ensures { LeavesAfter (L.state ledger.old)
         (after answer.now.status (L.state ledger.old).now (placeholder_of placeholder.old) (L.moment ledger.old)
         (D.asked deed.now) (answer_of answer.now).payload)
         (placeholder_after answer.now.status (placeholder_of placeholder.old) (D.asked deed.now)

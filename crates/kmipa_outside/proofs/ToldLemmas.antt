@@ -8,7 +8,7 @@ use Rattle.kmipa_msgs.specs.Kinds.{kind_number}
 use Rattle.kmipa_msgs.specs.Outside.{EachFault}
 use Rattle.kmipa_outside.specs.Demands.{Fails, fails_in}
 use Rattle.kmipa_outside.specs.Laws.{AnyOf, Each, IsBroken}
-use Rattle.kmipa_outside.specs.Told.{field_told, told, told_of, within_of}
+use Rattle.kmipa_outside.specs.Told.{field_told, fields_told, told_of, within_of}
 use Rattle.kmipa_outside.specs.declared.demand.Demand.{Demand}
 use Rattle.kmipa_outside.specs.declared.told.FieldTold.{FieldTold}
 use Rattle.kmipa_outside.specs.declared.told.Stands.{Stands}
@@ -71,10 +71,10 @@ broken_first k within us d ds rest true (Some s) e f rests h = inl (one_kind d.k
 broken_first k within us d ds rest true None e f rests h = inr (rests h)
 broken_first k within us d ds rest false r e f rests h = inr (rests h)
 
-pub told_any : (k : OutsideKind) (within : Option ℕ) (ts : Trees) (ds : List Demand) → told k within ts ds ≢ [] → AnyOf (IsBroken k (within_of within ts)) ds
+pub told_any : (k : OutsideKind) (within : Option ℕ) (ts : Trees) (ds : List Demand) → fields_told k within ts ds ≢ [] → AnyOf (IsBroken k (within_of within ts)) ds
 told_any k within ts [] h = absurd (h refl)
 told_any k within ts (d ∷ ds) h =
-    broken_first k within (within_of within ts) d ds (told k within ts ds) (kind_number d.kind == kind_number k) (fails_in d (within_of within ts)) refl refl (told_any k within ts ds) h
+    broken_first k within (within_of within ts) d ds (fields_told k within ts ds) (kind_number d.kind == kind_number k) (fails_in d (within_of within ts)) refl refl (told_any k within ts ds) h
 
 told_first : (within : Option ℕ) (d : Demand) (rest : List FieldTold) (b : Bool) (r : Option Stands) → b ≡ true → is_some r ≡ true → cons_option (cond b (option_map (field_told within d) r) None) rest ≢ []
 told_first within d rest true (Some s) e f h = cc
@@ -85,21 +85,21 @@ told_rest : (o : Option FieldTold) (rest : List FieldTold) → rest ≢ [] → c
 told_rest None rest h e = h e
 told_rest (Some x) rest h e = cc
 
-pub any_told : (k : OutsideKind) (within : Option ℕ) (ts : Trees) (ds : List Demand) → AnyOf (IsBroken k (within_of within ts)) ds → told k within ts ds ≢ []
+pub any_told : (k : OutsideKind) (within : Option ℕ) (ts : Trees) (ds : List Demand) → AnyOf (IsBroken k (within_of within ts)) ds → fields_told k within ts ds ≢ []
 any_told k within ts [] h e = absurd h
 any_told k within ts (d ∷ ds) h e = elim h [
-  | inl p ↦ told_first within d (told k within ts ds) (kind_number d.kind == kind_number k) (fails_in d (within_of within ts)) (eq-eqb (kind_number d.kind) (kind_number k) (ap kind_number p.0)) p.1 e
-  | inr q ↦ told_rest (told_of k within ts d) (told k within ts ds) (any_told k within ts ds q) e
+  | inl p ↦ told_first within d (fields_told k within ts ds) (kind_number d.kind == kind_number k) (fails_in d (within_of within ts)) (eq-eqb (kind_number d.kind) (kind_number k) (ap kind_number p.0)) p.1 e
+  | inr q ↦ told_rest (told_of k within ts d) (fields_told k within ts ds) (any_told k within ts ds q) e
 ]
 
 -- two tables, one behind the other
-pub told_both : (k : OutsideKind) (ts : Trees) (v w : Option ℕ) (ds es : List Demand) → told k v ts ds ++ told k w ts es ≢ [] → AnyOf (IsBroken k (within_of v ts)) ds ⊎ AnyOf (IsBroken k (within_of w ts)) es
-told_both k ts v w ds es h = elim (some_of (told k v ts ds) (told k w ts es) h) [ inl g ↦ inl (told_any k v ts ds g) | inr g ↦ inr (told_any k w ts es g) ]
+pub told_both : (k : OutsideKind) (ts : Trees) (v w : Option ℕ) (ds es : List Demand) → fields_told k v ts ds ++ fields_told k w ts es ≢ [] → AnyOf (IsBroken k (within_of v ts)) ds ⊎ AnyOf (IsBroken k (within_of w ts)) es
+told_both k ts v w ds es h = elim (some_of (fields_told k v ts ds) (fields_told k w ts es) h) [ inl g ↦ inl (told_any k v ts ds g) | inr g ↦ inr (told_any k w ts es g) ]
 
-pub both_told : (k : OutsideKind) (ts : Trees) (v w : Option ℕ) (ds es : List Demand) → AnyOf (IsBroken k (within_of v ts)) ds ⊎ AnyOf (IsBroken k (within_of w ts)) es → told k v ts ds ++ told k w ts es ≢ []
+pub both_told : (k : OutsideKind) (ts : Trees) (v w : Option ℕ) (ds es : List Demand) → AnyOf (IsBroken k (within_of v ts)) ds ⊎ AnyOf (IsBroken k (within_of w ts)) es → fields_told k v ts ds ++ fields_told k w ts es ≢ []
 both_told k ts v w ds es h = elim h [
-  | inl g ↦ some_left (told k v ts ds) (told k w ts es) (any_told k v ts ds g)
-  | inr g ↦ some_right (told k v ts ds) (told k w ts es) (any_told k w ts es g)
+  | inl g ↦ some_left (fields_told k v ts ds) (fields_told k w ts es) (any_told k v ts ds g)
+  | inr g ↦ some_right (fields_told k v ts ds) (fields_told k w ts es) (any_told k w ts es g)
 ]
 
 -- ---- reasons

@@ -17,7 +17,7 @@ use Rattle.kmipa_outside.specs.AgreementDemands.{agreement_demands}
 use Rattle.kmipa_outside.specs.Demands.{wants}
 use Rattle.kmipa_outside.specs.HeaderDemands.{request_header_demands}
 use Rattle.kmipa_outside.specs.Tables.{asked_demands}
-use Rattle.kmipa_outside.specs.Told.{told}
+use Rattle.kmipa_outside.specs.Told.{fields_told}
 use Rattle.kmipa_outside.specs.declared.demand.Demand.{Demand}
 use Rattle.kmipa_outside.specs.declared.demand.Inside.TheVariants as inner
 use Rattle.kmipa_outside.specs.declared.demand.Step.TheVariants.{Tag}
@@ -31,7 +31,7 @@ header_demand tag = wants inner.Here (Tag tag) (wanted.Typed type.Structure) kin
 
 -- the header of a message itself, and the demands on its fields
 abbrev pub header_told : ℕ → OutsideKind → Tree → List Demand → List FieldTold
-header_told tag k t ds = told k None (children t) (header_demand tag ∷ []) ++ told k (Some tag) (children t) ds
+header_told tag k t ds = fields_told k None (children t) (header_demand tag ∷ []) ++ fields_told k (Some tag) (children t) ds
 
 -- a Request Payload is a structure, where it is read
 abbrev pub form_demands : Operation → List Demand
@@ -65,7 +65,7 @@ payload_demands unordered (There n) ts = asked_demands (operation_of n) ++ (nami
 abbrev pub item_told : Bool → OutsideKind → Tree → List FieldTold
 item_told unordered k t =
     let operation = at as_enumeration operation_tag (children t) in
-    told k None (children t) (ask_demands operation) ++ told k (Some request_payload) (children t) (payload_demands unordered operation (inside request_payload (children t)))
+    fields_told k None (children t) (ask_demands operation) ++ fields_told k (Some request_payload) (children t) (payload_demands unordered operation (inside request_payload (children t)))
 
 -- of a message without the item nothing is told
 abbrev pub of_item : (Tree → List FieldTold) → Option Tree → List FieldTold

@@ -21,7 +21,7 @@ use Rattle.kmipa_outside.specs.DoneDemands.{answer_demands}
 use Rattle.kmipa_outside.specs.HeaderDemands.{response_header_demands}
 use Rattle.kmipa_outside.specs.Requests.{header_told, of_item}
 use Rattle.kmipa_outside.specs.Tables.{done_demands}
-use Rattle.kmipa_outside.specs.Told.{told}
+use Rattle.kmipa_outside.specs.Told.{fields_told}
 use Rattle.kmipa_outside.specs.declared.demand.Demand.{Demand}
 use Rattle.kmipa_outside.specs.declared.demand.Inside.TheVariants as inside
 use Rattle.kmipa_outside.specs.declared.demand.Numbers.TheVariants as numbers
@@ -71,7 +71,7 @@ shown_in a ts = shown_as (own a (at as_enumeration operation_tag ts)) (status_in
 abbrev pub answer_told : Option AskOf → OutsideKind → Tree → List FieldTold
 answer_told a k t =
     let shown = shown_in a (children t) in
-    told k None (children t) (answer_demands ++ outcome_demands shown) ++ told k (Some response_payload) (children t) (shown_demands shown (at as_structure response_payload (children t)))
+    fields_told k None (children t) (answer_demands ++ outcome_demands shown) ++ fields_told k (Some response_payload) (children t) (shown_demands shown (at as_structure response_payload (children t)))
 
 -- the fields of the response to this request, or of an item of it, that aren't as wanted
 abbrev pub response_fields : Tree → RequestOf → ℕ → OutsideKind → List FieldTold

@@ -22,5 +22,5 @@ abbrev pub told_of : OutsideKind → Option ℕ → Trees → Demand → Option 
 told_of k within ts d = cond (kind_number d.kind == kind_number k) (option_map (field_told within d) (fails_in d (within_of within ts))) None
 
 -- all those of a table, in its order
-abbrev pub told : OutsideKind → Option ℕ → Trees → List Demand → List FieldTold
-told k within ts ds = filter_map (told_of k within ts) ds
+abbrev pub fields_told : OutsideKind → Option ℕ → Trees → List Demand → List FieldTold
+fields_told k within ts ds = filter_map (told_of k within ts) ds

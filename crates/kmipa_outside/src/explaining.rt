@@ -44,7 +44,8 @@ pub fn explain_outside(
 ) -> Result<OutsideExplanation, CheckFault>
     requires recorded { AreRecorded (transcript_of transcript.now) }
     requires outside { IsFirstOutside (transcript_of transcript.now) number side outside.item outside.kind }
-    ensures explains { IfOk result (ExplainsOutside (transcript_of transcript.now) number side outside.item outside.kind) }
+    ensures explains { IfOk result (ExplainsOutside
+        (transcript_of transcript.now) number side outside.item outside.kind) }
     ensures memory { IfErr result (λ fault. fault ≡ CheckFault.Memory) }
 {
     match begin_of(&transcript.marks, number) {
@@ -115,7 +116,8 @@ fn explained(
     outside: Outside,
 ) -> Result<OutsideExplanation, CheckFault>
     requires begun { IsBeginOf (map mark_of marks.now) number begin.now }
-    requires outside { IsOutsideOn (map mark_of marks.now) number side begin.now.message.items outside.item outside.kind }
+    requires outside { IsOutsideOn (map mark_of marks.now) number side begin.now.message.items outside.item
+        outside.kind }
     ensures explains { IfOk result (ExplainsOutside (map mark_of marks.now) number side outside.item outside.kind) }
     ensures memory { IfErr result (λ fault. fault ≡ CheckFault.Memory) }
 {
@@ -140,7 +142,8 @@ fn answer_told(
     outside: Outside,
 ) -> Result<MessageTold, CheckFault>
     requires { IsResponseOutside (map mark_of marks.now) number begin.now.message.items outside.item outside.kind }
-    ensures tells { IfOk result (TellsAnswer (map mark_of marks.now) number begin.now.message.items outside.item outside.kind) }
+    ensures tells { IfOk result (TellsAnswer
+        (map mark_of marks.now) number begin.now.message.items outside.item outside.kind) }
     ensures memory { IfErr result (λ fault. fault ≡ CheckFault.Memory) }
 {
     let fault = CheckFault::Outside(number, Side::Server, outside);

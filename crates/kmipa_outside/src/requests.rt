@@ -7,7 +7,7 @@ ghost use Rattle.kmipa_ttlv.specs.ViewTree.{view_tree, view_trees};
 ghost use Rattle.kmipa_attrs.specs.Fields.{as_structure, every, or_none};
 ghost use Rattle.kmipa_attrs.specs.Tags.{batch_item};
 ghost use Rattle.kmipa_msgs.specs.Headers.{batch};
-ghost use Rattle.kmipa_msgs.specs.Requests.{is_loose, is_without_order};
+ghost use Rattle.kmipa_msgs.specs.Requests.{lacks_order, is_without_order};
 ghost use Rattle.kmipa_msgs.specs.Tables.{children};
 ghost use Rattle.kmipa_outside.specs.Requests.{ask_demands, form_demands, header_demand, header_told, item_told, naming_demands, payload_demands, request_fields};
 

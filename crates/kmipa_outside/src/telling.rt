@@ -3,7 +3,7 @@
 ghost use Rattle.std.specs.Prelude.{◌≡◌, ◌++◌, IfOk, OnOk};
 ghost use Rattle.std.specs.Option.{option_to_list};
 ghost use Rattle.kmipa_ttlv.specs.ViewTree.{view_trees};
-ghost use Rattle.kmipa_outside.specs.Told.{told, told_of, within_of};
+ghost use Rattle.kmipa_outside.specs.Told.{fields_told, told_of, within_of};
 
 use crate::demand::Demand;
 use crate::failing::fails_in;
@@ -21,7 +21,7 @@ pub(crate) fn tell(
     children: Children,
     demands: &[Demand],
 ) -> Result<Vec<FieldTold>, AllocError>
-    ensures { IfOk result (λ fields. fields.items ≡ told kind within (view_trees children.entry) demands.now) }
+    ensures { IfOk result (λ fields. fields.items ≡ fields_told kind within (view_trees children.entry) demands.now) }
 {
     let mut fields = Vec::new(alloc);
     for demand in demands {

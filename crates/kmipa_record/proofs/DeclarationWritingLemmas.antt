@@ -23,8 +23,8 @@ use Rattle.kmipa_attrs.specs.Writing.{short_name, with_scalars, single_rows, enu
 use Rattle.kmipa_attrs.proofs.ShortLemmas.{short_least, short_plain}
 use Rattle.kmipa_attrs.proofs.WriteLemmas.{short_said, once-same, said-HasNoRepeats}
 use Rattle.kmipa_record.specs.Declarations.{DeclarationOf, declaration_header, row_item, row, entry, SaysRecord, IsDeclaration}
-use Rattle.kmipa_record.specs.DeclarationWriting.{written_entry, AreSayable, MayStand, MayStandTogether, IsWritableDeclaration}
-use Rattle.kmipa_record.specs.Entries.{EntryOf, entry_of, listed_tags, is_listed, AreListed, material, SaysEntry}
+use Rattle.kmipa_record.specs.DeclarationWriting.{AreSayable, MayStand, MayStandTogether, IsWritableDeclaration}
+use Rattle.kmipa_record.specs.Entries.{EntryOf, entry_of, listed_tags, is_listed, AreListed, material, SaysEntry, written_entry}
 use Rattle.kmipa_record.specs.Writing.{Appends, IsWrittenDeclaration, Unwritten, no_memory, no_file, AddsAll, Refused, starved, refused}
 use Rattle.kmipa_record.specs.declared.entry.Entry.{Entry}
 use Rattle.kmipa_record.specs.declared.fault.RecordKind.{RecordKind}

@@ -3,7 +3,7 @@ use Rattle.std.proofs.Common.{◌≡◌, ℕ, ◌+◌, List, [], ◌∷◌, ◌+
 use Rattle.kmipa_ttlv.specs.Tree.{Tree}
 use Rattle.kmipa_ttlv.specs.Stream.{Begins, capped, IsSplit}
 use Rattle.kmipa_ttlv.proofs.StreamLemmas.{item_given}
-use Rattle.kmipa_record.specs.Files.{IsRightUpTo, FirstFault, in_bytes, in_item, at_end, Tells, place_of}
+use Rattle.kmipa_record.specs.Files.{IsRightUpTo, FirstFault, in_bytes, in_item, at_end, Tells, rest_place}
 use Rattle.kmipa_record.specs.Reading.{IsReading, TellsFlawOf, ReadFails, Takes, HeaderFault, torn, absent, other, HeaderFails}
 use Rattle.kmipa_record.specs.declared.fault.RecordFault.{RecordFault}
 use Rattle.kmipa_record.specs.declared.fault.RecordKind.{RecordKind}
@@ -50,7 +50,7 @@ module _ (AreRight : List Tree → Type 0) where
         let split : IsSplit file given rest place None = s.reading in
         let same : rest ≡ t.front ++ ys = t.consumed in
         in_item given item t.front ys (record { right = s.right; begins = subst (Begins given file) same split.begins }) t.spelled wrong
-        (split.placed ∙ ap (place_of file) same)
+        (split.placed ∙ ap (rest_place file) same)
 
     -- a fault of the bytes, of the device or of memory
     pub tells_read : (file : List ℕ) (given : List Tree) (left : List ℕ) (place : ℕ) (failed : Bool) (f : RecordFault) → Stands file given left place

@@ -8,7 +8,7 @@ use Rattle.kmipa_ttlv.specs.Stream.{Begins, capped, IsBeginningOf}
 use Rattle.kmipa_ttlv.specs.declared.fault.FaultKind.{FaultKind}
 use Rattle.kmipa_ttlv.proofs.LawLemmas.{one_spelling_lem, one_flaw_lem}
 use Rattle.kmipa_ttlv.proofs.StreamLemmas.{all_given}
-use Rattle.kmipa_record.specs.Files.{IsUpTo, FirstFault, in_bytes, in_item, at_end, place_of}
+use Rattle.kmipa_record.specs.Files.{IsUpTo, FirstFault, in_bytes, in_item, at_end, rest_place}
 use Rattle.kmipa_record.specs.declared.fault.RecordKind.{RecordKind}
 use Rattle.kmipa_record.specs.declared.fault.RecordKind.TheVariants.{Ttlv}
 
@@ -84,8 +84,8 @@ module _ {X : Type 0} (item_of : X → Tree) where
 module _ (AreRight : List Tree → Type 0) (ItemFault : List Tree → Tree → RecordKind → Type 0) (EndFault : List ℕ → List Tree → ℕ → RecordKind → Type 0) where
   -- what is wrong where these items end and this rest begins
   data Wrong (bytes : List ℕ) (items : List Tree) (rest : List ℕ) (offset : ℕ) (kind : RecordKind) : Type 0 where
-    wrong_bytes : (from : ℕ) (flaw : FaultKind) → 0 < length rest → OuterFlaw rest from flaw → offset ≡ capped (place_of bytes rest + from) → kind ≡ Ttlv flaw → Wrong bytes items rest offset kind
-    wrong_item : (item : Tree) (front behind : List ℕ) → rest ≡ front ++ behind → Spells item front → ItemFault items item kind → offset ≡ place_of bytes rest → Wrong bytes items rest offset kind
+    wrong_bytes : (from : ℕ) (flaw : FaultKind) → 0 < length rest → OuterFlaw rest from flaw → offset ≡ capped (rest_place bytes rest + from) → kind ≡ Ttlv flaw → Wrong bytes items rest offset kind
+    wrong_item : (item : Tree) (front behind : List ℕ) → rest ≡ front ++ behind → Spells item front → ItemFault items item kind → offset ≡ rest_place bytes rest → Wrong bytes items rest offset kind
     wrong_end : rest ≡ [] → EndFault bytes items offset kind → Wrong bytes items rest offset kind
 
   record Located (bytes : List ℕ) (offset : ℕ) (kind : RecordKind) : Type 0 where
@@ -139,7 +139,7 @@ module _ (AreRight : List Tree → Type 0) (ItemFault : List Tree → Tree → R
       one_wrong : (bytes : List ℕ) (items : List Tree) (rest : List ℕ) (o p : ℕ) (j k : RecordKind) → Wrong bytes items rest o j → Wrong bytes items rest p k → (o ≡ p) × (j ≡ k)
       one_wrong bytes items rest o p j k (wrong_bytes m a s f x y) (wrong_bytes n b t g v w) =
           let one = one_flaw_lem rest m n a b f g in
-          (x ∙ ap (λ (from : ℕ). capped (place_of bytes rest + from)) one.0 ∙ sym v, y ∙ ap Ttlv one.1 ∙ sym w)
+          (x ∙ ap (λ (from : ℕ). capped (rest_place bytes rest + from)) one.0 ∙ sym v, y ∙ ap Ttlv one.1 ∙ sym w)
       one_wrong bytes items rest o p j k (wrong_bytes m a s f x y) (wrong_item item front behind e t g v) = absurd (flawed_no_item item front behind rest m a e t f)
       one_wrong bytes items rest o p j k (wrong_bytes m a s f x y) (wrong_end none g) = absurd (omega (arith, s, ap length none))
       one_wrong bytes items rest o p j k (wrong_item item front behind e t g v) (wrong_bytes m a s f x y) = absurd (flawed_no_item item front behind rest m a e t f)

@@ -1,4 +1,4 @@
--- The calls of some marks: where each stands. Not promised: `Marks` says what a transcript is.
+-- The calls of some marks: where each stands.
 use Rattle.std.specs.Prelude.{◌≡◌, ◌≤◌, ◌<◌, ℕ, ◌+◌, ℤ, pos, ◌≤ℤ◌, ◌<ℤ◌, List, length, Contains, Option, None, Some, IsSome}
 use Rattle.kmipa_record.specs.NumberMaps.{value_at, Sets}
 use Rattle.kmipa_record.specs.NumberMaps as numbers
@@ -18,6 +18,19 @@ progress_of calls call = value_at calls.progress call
 abbrev pub count_of : Calls → ℕ
 count_of calls = numbers.count_of calls.progress
 
+-- a call stands so after these marks
+abbrev pub StandsSo : List MarkOf → ℤ → Option Progress → Type 0
+StandsSo marks call None = ¬ (Contains (begun marks) call) × ¬ (Contains (ended marks) call)
+StandsSo marks call (Some Open) = Contains (begun marks) call × ¬ (Contains (ended marks) call)
+StandsSo marks call (Some Ended) = Contains (begun marks) call × Contains (ended marks) call
+
+-- each call stands as these marks leave it, and so many were begun
+pub record Follow (marks : List MarkOf) (calls : Calls) : Type 0 where
+  pub each : (call : ℤ) → StandsSo marks call (progress_of calls call)
+  pub count : count_of calls ≡ length (begun marks)
+
+-- ---- what a mark does, not promised: `Marks` says what a transcript is
+
 -- this call stands so now, and the others as before
 abbrev pub Puts : Calls → Calls → ℤ → Progress → Type 0
 Puts old new call progress = Sets old.progress new.progress call progress
@@ -25,8 +38,6 @@ Puts old new call progress = Sets old.progress new.progress call progress
 pub record HasNone (calls : Calls) : Type 0 where
   pub each : (call : ℤ) → progress_of calls call ≡ None
   pub count : count_of calls ≡ 0
-
--- ---- what a mark does
 
 pub record BeginsCall (old new : Calls) (call : ℤ) : Type 0 where
   pub number : IsCallNumber call
@@ -59,15 +70,3 @@ Takes old new (ends call message) = EndsCall old new call
 abbrev pub Refuses : Calls → MarkOf → RecordKind → Type 0
 Refuses old (begins call client message) kind = RefusesBegin old call kind
 Refuses old (ends call message) kind = RefusesEnd old call kind
-
--- ---- the calls that were begun by some marks
-
--- a call stands so after these marks
-abbrev pub StandsSo : List MarkOf → ℤ → Option Progress → Type 0
-StandsSo marks call None = ¬ (Contains (begun marks) call) × ¬ (Contains (ended marks) call)
-StandsSo marks call (Some Open) = Contains (begun marks) call × ¬ (Contains (ended marks) call)
-StandsSo marks call (Some Ended) = Contains (begun marks) call × Contains (ended marks) call
-
-pub record Follow (marks : List MarkOf) (calls : Calls) : Type 0 where
-  pub each : (call : ℤ) → StandsSo marks call (progress_of calls call)
-  pub count : count_of calls ≡ length (begun marks)

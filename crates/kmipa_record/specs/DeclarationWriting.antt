@@ -1,22 +1,11 @@
 -- How a declaration is written. Not promised: `Writing` says what is written.
-use Rattle.std.specs.Prelude.{◌≡◌, ◌≢◌, ℕ, List, All, AllPairs, None}
-use Rattle.kmipa_ttlv.specs.Tree.{Tree}
-use Rattle.kmipa_ttlv.specs.Spelling.{Spells}
+use Rattle.std.specs.Prelude.{◌≡◌, ◌≢◌, List, All, AllPairs, None}
 use Rattle.kmipa_ttlv.specs.Written.{Legal}
 use Rattle.kmipa_msgs.specs.Messages.{RowOf}
 use Rattle.kmipa_attrs.specs.Names.{HasNoRepeats}
 use Rattle.kmipa_attrs.specs.Sets.{Attributes}
-use Rattle.kmipa_attrs.specs.Writing.{short_children}
 use Rattle.kmipa_record.specs.Declarations.{DeclarationOf, row_item}
-use Rattle.kmipa_record.specs.Entries.{EntryOf, entry_item, IsDeclarable}
-
--- the record of an entry as it is written: its attributes in the shortest form
-abbrev pub written_entry : EntryOf → Tree
-written_entry e = entry_item e.id e.kind (short_children e.attributes) e.bytes
-
--- no declaration has the entry: it is too long for one item, in its shortest form too
-abbrev pub IsTooLong : EntryOf → Type 0
-IsTooLong e = (bytes : List ℕ) → ¬ (Spells (written_entry e) bytes)
+use Rattle.kmipa_record.specs.Entries.{EntryOf, IsDeclarable, written_entry}
 
 -- attributes that some record of an entry says: each name once, and neither Object Type nor State
 pub record AreSayable (a : Attributes) : Type 0 where

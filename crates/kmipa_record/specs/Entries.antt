@@ -13,6 +13,8 @@ use Rattle.kmipa_attrs.specs.declared.object_type.ObjectType.{ObjectType}
 use Rattle.kmipa_attrs.specs.declared.object_type.ObjectType.TheVariants.{SymmetricKey, SecretData}
 use Rattle.kmipa_record.specs.Tags.{entry_tag}
 use Rattle.kmipa_record.specs.declared.entry.Entry.{Entry}
+use Rattle.kmipa_ttlv.specs.Spelling.{Spells}
+use Rattle.kmipa_attrs.specs.Writing.{short_children}
 
 -- an object: its identifier, its type, its attributes, and its bytes where they are declared
 pub record EntryOf : Type 0 where
@@ -95,3 +97,11 @@ pub record IsDeclarable (e : EntryOf) : Type 0 where
   pub whole : e.attributes.destroy ≡ None → IfSome (key_bits e.kind e.attributes) AreWholeBytes
   pub fitting : e.attributes.destroy ≡ None → IfSome e.bytes (λ bytes. IfSome (key_bits e.kind e.attributes) (λ bits. bits ≡ pos (8 * length bytes)))
   pub small : IfSome e.bytes AreBytes
+
+-- the record of an entry as it is written: its attributes in the shortest form
+abbrev pub written_entry : EntryOf → Tree
+written_entry e = entry_item e.id e.kind (short_children e.attributes) e.bytes
+
+-- no declaration has the entry: it is too long for one item, in its shortest form too
+abbrev pub IsTooLong : EntryOf → Type 0
+IsTooLong e = (bytes : List ℕ) → ¬ (Spells (written_entry e) bytes)

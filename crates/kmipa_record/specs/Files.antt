@@ -12,8 +12,8 @@ use Rattle.kmipa_record.specs.declared.fault.RecordKind.{RecordKind}
 use Rattle.kmipa_record.specs.declared.fault.RecordKind.TheVariants.{Ttlv}
 
 -- the place in a file at which this rest of it begins
-abbrev pub place_of : List ℕ → List ℕ → ℕ
-place_of bytes rest = capped (length bytes - length rest)
+abbrev pub rest_place : List ℕ → List ℕ → ℕ
+rest_place bytes rest = capped (length bytes - length rest)
 
 -- The file begins with the spellings of these items, and the rest is after them; by the word none of them is faulty.
 pub record IsUpTo (AreRight : List Tree → Type 0) (bytes : List ℕ) (items : List Tree) (rest : List ℕ) : Type 0 where
@@ -25,7 +25,7 @@ pub record IsRightUpTo (AreRight : List Tree → Type 0) (bytes : List ℕ) (pla
   pub items : List Tree
   pub rest : List ℕ
   pub up_to : IsUpTo AreRight bytes items rest
-  pub placed : place ≡ place_of bytes rest
+  pub placed : place ≡ rest_place bytes rest
 
 -- The first fault of a file: up to it no item is faulty, and there
 --   come bytes, but none that spell an item: the flaw of these bytes;
@@ -34,9 +34,9 @@ pub record IsRightUpTo (AreRight : List Tree → Type 0) (bytes : List ℕ) (pla
 pub data FirstFault (AreRight : List Tree → Type 0) (ItemFault : List Tree → Tree → RecordKind → Type 0) (EndFault : List ℕ → List Tree → ℕ → RecordKind → Type 0)
     (bytes : List ℕ) (offset : ℕ) (kind : RecordKind) : Type 0 where
   in_bytes : (items : List Tree) (rest : List ℕ) (from : ℕ) (flaw : FaultKind) → IsUpTo AreRight bytes items rest → 0 < length rest → OuterFlaw rest from flaw
-      → offset ≡ capped (place_of bytes rest + from) → kind ≡ Ttlv flaw → FirstFault AreRight ItemFault EndFault bytes offset kind
+      → offset ≡ capped (rest_place bytes rest + from) → kind ≡ Ttlv flaw → FirstFault AreRight ItemFault EndFault bytes offset kind
   in_item : (items : List Tree) (item : Tree) (front rest : List ℕ) → IsUpTo AreRight bytes items (front ++ rest) → Spells item front → ItemFault items item kind
-      → offset ≡ place_of bytes (front ++ rest) → FirstFault AreRight ItemFault EndFault bytes offset kind
+      → offset ≡ rest_place bytes (front ++ rest) → FirstFault AreRight ItemFault EndFault bytes offset kind
   at_end : (items : List Tree) → IsUpTo AreRight bytes items [] → EndFault bytes items offset kind → FirstFault AreRight ItemFault EndFault bytes offset kind
 
 -- The fault that a reader tells of a file is its first; or the input is failed, or memory ran out, after what is right.

@@ -51,8 +51,8 @@ abbrev pub reference_of : {R : Type 0} → Marks R → ℕ
 reference_of m = m.input.ghost_name
 
 -- where the mark begins that was given last
-abbrev pub place_of : {R : Type 0} → Marks R → ℕ
-place_of m = m.place
+abbrev pub given_place : {R : Type 0} → Marks R → ℕ
+given_place m = m.place
 
 -- the fault that was reported
 abbrev pub reported_of : {R : Type 0} → Marks R → Option RecordFault

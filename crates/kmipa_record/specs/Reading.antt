@@ -1,4 +1,4 @@
--- How a file is read item by item. Not promised: the readers' contracts stand in the words of the files.
+-- How a file is read item by item.
 use Rattle.std.specs.Prelude.{◌≡◌, ◌≤◌, ◌<◌, ℕ, ◌+◌, List, [], ◌++◌, length, Bool, IsTrue, None}
 use Rattle.kmipa_ttlv.specs.Tree.{Tree}
 use Rattle.kmipa_ttlv.specs.Spelling.{Spells}
@@ -14,6 +14,20 @@ use Rattle.kmipa_record.specs.declared.fault.RecordKind.TheVariants.{Ttlv, Heade
 use Rattle.kmipa_record.specs.declared.record.Next.{Next}
 use Rattle.kmipa_record.specs.declared.record.Next.TheVariants.{End, Other, Record}
 
+-- the header and the items that were read of a file, which has this left at this place
+abbrev pub IsReading : List ℕ → List Tree → List ℕ → ℕ → Type 0
+IsReading file given left place = IsSplit file given left place None
+
+-- the item was at the front of what was left, and the rest is left after it
+pub record Takes (item : Tree) (left after : List ℕ) (place place' : ℕ) : Type 0 where
+  pub front : List ℕ
+  pub spelled : Spells item front
+  pub consumed : left ≡ front ++ after
+  pub taken : place' ≡ place + length front
+  pub small : place' ≤ 0x100_0000_0000
+
+-- ---- how its reader goes on, not promised: the readers' contracts stand in the words of the files
+
 -- a fault of a read, as one of a file
 abbrev pub record_kind : FaultKind → RecordKind
 record_kind flaw.Device = kinds.Device
@@ -26,18 +40,6 @@ record_kind flaw.BadText = Ttlv flaw.BadText
 record_kind flaw.Overrun = Ttlv flaw.Overrun
 record_kind flaw.TooDeep = Ttlv flaw.TooDeep
 record_kind flaw.TooLong = Ttlv flaw.TooLong
-
--- the header and the items that were read of a file, which has this left at this place
-abbrev pub IsReading : List ℕ → List Tree → List ℕ → ℕ → Type 0
-IsReading file given left place = IsSplit file given left place None
-
--- the item was at the front of what was left, and the rest is left after it
-pub record Takes (item : Tree) (left after : List ℕ) (place place' : ℕ) : Type 0 where
-  pub front : List ℕ
-  pub spelled : Spells item front
-  pub consumed : left ≡ front ++ after
-  pub taken : place' ≡ place + length front
-  pub small : place' ≤ 0x100_0000_0000
 
 -- the fault is the flaw of the rest at this place, which is more than nothing
 pub record TellsFlawOf (place : ℕ) (rest : List ℕ) (f : RecordFault) : Type 0 where

@@ -17,8 +17,8 @@ abbrev pub reference_of : {R : Type 0} → RecordedMarks R → ℕ
 reference_of m = given.reference_of m.source
 
 -- where the mark begins that came last
-abbrev pub place_of : {R : Type 0} → RecordedMarks R → ℕ
-place_of m = given.place_of m.source
+abbrev pub mark_place : {R : Type 0} → RecordedMarks R → ℕ
+mark_place m = given.given_place m.source
 
 -- the fault that was reported
 abbrev pub reported_of : {R : Type 0} → RecordedMarks R → Option RecordFault

@@ -42,7 +42,8 @@ pub fn read_declaration<R: Read>(
         (λ declaration. IsDeclaration (came_of input.new) (declaration_of declaration) × IsTrue (is_ended input.new)) }
     // What is read may be declared.
     ensures declared { IfOk result (λ declaration. AreDeclared (declaration_of declaration)) }
-    // Else the first fault is reported, whatever follows what came, and nothing where the end was seen; unless a read failed or memory ran out.
+    // Else the first fault is reported, whatever follows what came, and nothing where the end was seen;
+    // unless a read failed or memory ran out.
     ensures fault { (file : List ℕ) → IsFileOf file input.new
         → IfErr result (Tells DeclarationFault IsDeclarationUpTo file (is_failed input.new)) }
     // These two are reported where the item begins that was being read.

@@ -6,8 +6,8 @@ ghost use Rattle.kmipa_ttlv.specs.ItemTree.{tree};
 ghost use Rattle.kmipa_attrs.specs.Sets.{attributes_of};
 ghost use Rattle.kmipa_msgs.specs.Messages.{row_of};
 ghost use Rattle.kmipa_record.specs.Declarations.{declaration_of, declaration_header, row_item, IsDeclaration};
-ghost use Rattle.kmipa_record.specs.DeclarationWriting.{written_entry, AreSayable, IsTooLong, MayStand, MayStandTogether, IsWritableDeclaration};
-ghost use Rattle.kmipa_record.specs.Entries.{entry_of, items_of, AreBytes};
+ghost use Rattle.kmipa_record.specs.DeclarationWriting.{AreSayable, MayStand, MayStandTogether, IsWritableDeclaration};
+ghost use Rattle.kmipa_record.specs.Entries.{entry_of, items_of, AreBytes, written_entry, IsTooLong};
 ghost use Rattle.kmipa_record.specs.Writing.{Appends, IsWrittenDeclaration, Unwritten, AddsAll, Refused};
 
 use crate::append::{Written, append, append_all};

@@ -35,7 +35,7 @@ impl<'a, R: Read> Marks<'a, R> {
     ghost use Rattle.kmipa_ttlv.specs.Input.{came_of, taken_of, is_failed, IsFileOf, StaysOver};
     ghost use Rattle.kmipa_record.specs.Files.{Tells, TellsItem};
     ghost use Rattle.kmipa_record.specs.Marks.{MarkOf, mark_of};
-    ghost use Rattle.kmipa_record.specs.MarkReading.{input_of, reference_of, place_of, reported_of, HasGiven, GivesNext, StandsNext, FaultBehind, IsRightBehind};
+    ghost use Rattle.kmipa_record.specs.MarkReading.{input_of, reference_of, given_place, reported_of, HasGiven, GivesNext, StandsNext, FaultBehind, IsRightBehind};
 
     /// The marks of a transcript of whose bytes none was read.
     pub fn new(alloc: Global, input: &'a mut Input<R>) -> Marks<'a, R>
@@ -66,14 +66,14 @@ impl<'a, R: Read> Marks<'a, R> {
 
     /// Where the mark that was given last begins, counted in bytes from the transcript's first.
     pub fn place(&self) -> u64
-        ensures { result ≡ place_of self.now }
+        ensures { result ≡ given_place self.now }
     {
         self.place
     }
 
     /// Refuses the mark that was given last: the fault that is reported from now on.
     pub(crate) fn refuse(&mut self, kind: RecordKind) -> RecordFault
-        ensures fault { result ≡ record { offset = place_of self.old; kind = kind } }
+        ensures fault { result ≡ record { offset = given_place self.old; kind = kind } }
         ensures reported { reported_of self.new ≡ Some result }
         ensures input { input_of self.new ≡ input_of self.old }
         ensures same_reference { reference_of self.new ≡ reference_of self.old }
@@ -93,10 +93,11 @@ impl<'a, R: Read> Marks<'a, R> {
         // A mark stands after those, at the place that is then reported.
         ensures placed { (marks : List MarkOf) → HasGiven marks self.old
             → IfOk result
-            (λ next. IfSome next (λ mark. StandsNext marks (mark_of mark) (place_of self.new) (input_of self.new))) }
+            (λ next. IfSome next (λ mark. StandsNext marks (mark_of mark) (given_place self.new) (input_of self.new))) }
         ensures nearer { IfOk result
             (λ next. IfSome next (λ mark. taken_of (input_of self.old) < taken_of (input_of self.new))) }
-        // A fault is the first after the marks that were given, whatever follows what came, unless a read failed or memory ran out.
+        // A fault is the first after the marks that were given, whatever follows what came, unless a read
+        // failed or memory ran out.
         ensures fault { (marks : List MarkOf) (file : List ℕ) → HasGiven marks self.old → reported_of self.old ≡ None
             → IsFileOf file (input_of self.new)
             → IfErr result (Tells (FaultBehind marks) (IsRightBehind marks) file (is_failed (input_of self.new))) }

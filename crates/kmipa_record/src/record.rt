@@ -2,7 +2,7 @@
 
 ghost use Rattle.std.specs.Prelude.{◌≡◌, ◌≤◌, ◌↔◌, vec_len, ◌+◌, ◌++◌, ◌≢◌, ℕ, List, IsTrue, true, false, IfOk, IfErr, OnOk, MatchOption, MatchResult};
 ghost use Rattle.std.specs.Io.{appended_bytes, StartsWith};
-ghost use Rattle.kmipa_ttlv.specs.Input.{came_of, taken_of, is_ended, is_failed, Leaves, EndsWith, StaysOver};
+ghost use Rattle.kmipa_ttlv.specs.Input.{came_of, taken_of, is_ended, is_failed, LeavesBelow, EndsWith, StaysOver};
 ghost use Rattle.kmipa_ttlv.specs.Reading.{IsWhole, ReadTells};
 ghost use Rattle.kmipa_ttlv.specs.Spelling.{Spells};
 ghost use Rattle.kmipa_ttlv.specs.Tree.{Tree};
@@ -43,9 +43,9 @@ pub fn read_header<R: Read, H: Record + Drop>(
     input: &mut Input<R>,
     bytes: &mut Vec<u8>,
 ) -> Result<H, RecordFault>
-    ensures ok { (left after : List ℕ) → Leaves input.old input.new left after
+    ensures ok { (left after : List ℕ) → LeavesBelow input.old input.new left after
         → IfOk result (TakesSaid H.says left after (taken_of input.old) (taken_of input.new)) }
-    ensures fault { (left after : List ℕ) → Leaves input.old input.new left after → EndsWith input.new after
+    ensures fault { (left after : List ℕ) → LeavesBelow input.old input.new left after → EndsWith input.new after
         → IfErr result (HeaderFails H.is_record (taken_of input.old) left (is_failed input.new)) }
     ensures place { IfErr result (TellsItem (came_of input.new)) }
     ensures sound { MatchResult result (λ _. is_failed input.new ≡ false)
@@ -71,10 +71,10 @@ pub fn read_next<R: Read, T: Record + Drop>(
     input: &mut Input<R>,
     bytes: &mut Vec<u8>,
 ) -> Result<Next<T>, RecordFault>
-    ensures ok { (left after : List ℕ) → Leaves input.old input.new left after
+    ensures ok { (left after : List ℕ) → LeavesBelow input.old input.new left after
         → IfOk result
         (NextIs T.says T.is_record left after (taken_of input.old) (taken_of input.new) (is_ended input.new)) }
-    ensures fault { (left after : List ℕ) → Leaves input.old input.new left after → EndsWith input.new after
+    ensures fault { (left after : List ℕ) → LeavesBelow input.old input.new left after → EndsWith input.new after
         → IfErr result (ReadFails (taken_of input.old) left (is_failed input.new)) }
     ensures place { IfErr result (TellsItem (came_of input.new)) }
     ensures sound { MatchResult result (λ _. is_failed input.new ≡ false)

@@ -5,7 +5,7 @@ ghost use Rattle.kmipa_ttlv.specs.Input.{came_of, taken_of, is_ended, is_failed,
 ghost use Rattle.kmipa_record.specs.Files.{Tells, TellsItem};
 ghost use Rattle.kmipa_record.specs.Marks.{MarkOf, mark_of};
 ghost use Rattle.kmipa_record.specs.MarkReading.{StandsNext};
-ghost use Rattle.kmipa_record.specs.TranscriptReading.{input_of, reference_of, place_of, reported_of, HaveCome};
+ghost use Rattle.kmipa_record.specs.TranscriptReading.{input_of, reference_of, mark_place, reported_of, HaveCome};
 ghost use Rattle.kmipa_record.specs.Transcripts.{IsTranscript, TranscriptFault, IsTranscriptUpTo};
 
 use crate::calls::Calls;
@@ -53,7 +53,7 @@ impl<'a, R: Read> RecordedMarks<'a, R> {
 
     /// Where the mark that came last begins, counted in bytes from the transcript's first.
     pub fn place(&self) -> u64
-        ensures { result ≡ place_of self.now }
+        ensures { result ≡ mark_place self.now }
     {
         self.source.place()
     }
@@ -69,14 +69,16 @@ impl<'a, R: Read> RecordedMarks<'a, R> {
         // A mark stands after those, at the place that is then reported.
         ensures placed { (marks : List MarkOf) → HaveCome marks self.old
             → IfOk result
-            (λ next. IfSome next (λ mark. StandsNext marks (mark_of mark) (place_of self.new) (input_of self.new))) }
+            (λ next. IfSome next (λ mark. StandsNext marks (mark_of mark) (mark_place self.new) (input_of self.new))) }
         ensures nearer { IfOk result
             (λ next. IfSome next (λ mark. taken_of (input_of self.old) < taken_of (input_of self.new))) }
         // A fault is the transcript's first, whatever follows what came, unless a read failed or memory ran out.
-        ensures fault { (marks : List MarkOf) (file : List ℕ) → HaveCome marks self.old → IsFileOf file (input_of self.new)
+        ensures fault { (marks : List MarkOf) (file : List ℕ) → HaveCome marks self.old
+            → IsFileOf file (input_of self.new)
             → IfErr result (Tells TranscriptFault IsTranscriptUpTo file (is_failed (input_of self.new))) }
         // Device and Memory are reported where the item begins that was being read.
-        ensures place { (marks : List MarkOf) → HaveCome marks self.old → IfErr result (TellsItem (came_of (input_of self.new))) }
+        ensures place { (marks : List MarkOf) → HaveCome marks self.old
+            → IfErr result (TellsItem (came_of (input_of self.new))) }
         ensures sound { reported_of self.old ≡ None
             → MatchResult result (λ _. is_failed (input_of self.new) ≡ false)
             (λ f. f.kind ≢ RecordKind.Device → is_failed (input_of self.new) ≡ false) }

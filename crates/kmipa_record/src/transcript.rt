@@ -146,7 +146,8 @@ pub fn read_transcript<R: Read>(
         (λ transcript. IsTranscript (came_of input.new) (transcript_of transcript) × IsTrue (is_ended input.new)) }
     // Its calls begin and end as those of a transcript do; a call without an end mark is open.
     ensures recorded { IfOk result (λ transcript. AreRecorded (transcript_of transcript)) }
-    // Else the first fault is reported, whatever follows what came, and nothing where the end was seen; unless a read failed or memory ran out.
+    // Else the first fault is reported, whatever follows what came, and nothing where the end was seen;
+    // unless a read failed or memory ran out.
     ensures fault { (file : List ℕ) → IsFileOf file input.new
         → IfErr result (Tells TranscriptFault IsTranscriptUpTo file (is_failed input.new)) }
     // These two are reported where the item begins that was being read.

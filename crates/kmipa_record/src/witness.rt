@@ -2,7 +2,7 @@
 
 ghost use Rattle.std.specs.Prelude.{◌≡◌, ◌<◌, ◌↔◌, ℕ, List, [], ◌∷◌, ◌++◌, ◌≢◌, true, false, IsTrue, map, IfOk, IfErr, MatchResult};
 ghost use Rattle.std.specs.Io.{StartsWith, appended_bytes};
-ghost use Rattle.kmipa_ttlv.specs.Input.{came_of, taken_of, is_ended, is_failed, Leaves, EndsWith, IsFileOf, StaysOver};
+ghost use Rattle.kmipa_ttlv.specs.Input.{came_of, taken_of, is_ended, is_failed, LeavesBelow, EndsWith, IsFileOf, StaysOver};
 ghost use Rattle.kmipa_record.specs.Files.{Tells, TellsItem};
 ghost use Rattle.kmipa_record.specs.Marks.{IsCallNumber};
 ghost use Rattle.kmipa_record.specs.Witnesses.{turn_of, witness_of, ArePayloads, Admits, IsWitness, WitnessFault, IsWitnessUpTo};
@@ -31,7 +31,8 @@ pub fn read_witness<R: Read>(alloc: Global, input: &mut Input<R>) -> Result<Witn
     // What is read is what the bytes are that came, to the end that was seen.
     ensures found { IfOk result
         (λ witness. IsWitness (came_of input.new) (witness_of witness) × IsTrue (is_ended input.new)) }
-    // Else the first fault is reported, whatever follows what came, and nothing where the end was seen; unless a read failed or memory ran out.
+    // Else the first fault is reported, whatever follows what came, and nothing where the end was seen;
+    // unless a read failed or memory ran out.
     ensures fault { (file : List ℕ) → IsFileOf file input.new
         → IfErr result (Tells WitnessFault IsWitnessUpTo file (is_failed input.new)) }
     // These two are reported where the item begins that was being read.
@@ -56,10 +57,10 @@ fn read_turn<R: Read>(
     bytes: &mut Vec<u8>,
     turns: &mut Vec<Turn>,
 ) -> Result<bool, RecordFault>
-    ensures read { (file left after : List ℕ) → Leaves input.old input.new left after
+    ensures read { (file left after : List ℕ) → LeavesBelow input.old input.new left after
         → IsReadSoFar file version (map turn_of turns.old.items) left (taken_of input.old)
         → IfOk result (λ more. IsReadSoFar file version (map turn_of turns.new.items) after (taken_of input.new)) }
-    ensures fault { (file left after : List ℕ) → Leaves input.old input.new left after → EndsWith input.new after
+    ensures fault { (file left after : List ℕ) → LeavesBelow input.old input.new left after → EndsWith input.new after
         → IsReadSoFar file version (map turn_of turns.old.items) left (taken_of input.old)
         → IfErr result (Tells WitnessFault IsWitnessUpTo file (is_failed input.new)) }
     ensures place { IfErr result (TellsItem (came_of input.new)) }

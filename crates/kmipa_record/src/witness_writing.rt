@@ -83,15 +83,18 @@ fn append_turn(alloc: Global, turn: &Turn, out: &mut Vec<u8>) -> Result<(), Reco
 
 /// Whether a turn gives nothing besides the number of its call.
 fn is_bare(turn: &Turn) -> bool
-    ensures { result ≡ true → turn_of turn.now ≡ record { call = turn.now.call; answer = None; places = []; fills = [] } }
+    ensures { result ≡ true → turn_of turn.now ≡ record
+        { call = turn.now.call; answer = None; places = []; fills = [] } }
 {
     turn.answer.is_none() && turn.places.is_empty() && turn.fills.is_empty()
 }
 
 /// Appends the item of a turn that gives only this number: the header of 16 bytes, and in them the number's own, the number, and its padding.
 fn append_bare(call: i32, out: &mut Vec<u8>) -> Result<(), RecordKind>
-    ensures ok { OnOk result (Adds (turn_item (record { call = call; answer = None; places = []; fills = [] })) out.old.items out.new.items) }
-    ensures legal { OnOk result (Legal 16 (turn_item (record { call = call; answer = None; places = []; fills = [] }))) }
+    ensures ok { OnOk result (Adds (turn_item
+        (record { call = call; answer = None; places = []; fills = [] })) out.old.items out.new.items) }
+    ensures legal { OnOk result (Legal 16
+        (turn_item (record { call = call; answer = None; places = []; fills = [] }))) }
     ensures memory { IfErr result (λ kind. kind ≡ RecordKind.Memory) }
     ensures same { IfErr result (λ _. out.new.items ≡ out.old.items) }
 {

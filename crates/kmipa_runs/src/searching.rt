@@ -54,7 +54,8 @@ pub fn search_run<R: Read, W: Watch>(
         (appended_bytes made.old.items made.new.items)
         ⊎ (IsSilent result (appended_bytes out.old.items out.new.items)
         × (appended_bytes made.old.items made.new.items ≡ []))) }
-    // Status 0 is answered only where the bytes that came, to the ends that were seen, are accepted with the witness that is made.
+    // Status 0 is answered only where the bytes that came, to the ends that were seen, are accepted with the
+    // witness that is made.
     ensures accepts { result ≡ Status.Done
         → AreAccepted (came_of transcript.new) (came_of declaration.new) (appended_bytes made.old.items made.new.items)
         × IsTrue (is_ended transcript.new) × IsTrue (is_ended declaration.new) }

@@ -31,7 +31,8 @@ pub fn write_run<R: Read>(
     made: &mut Vec<u8>,
 ) -> Status
     requires { came_of input.old ≡ [] }
-    // What is made and printed is that of the bytes that came; they are refused where one of them is no digit, whatever follows.
+    // What is made and printed is that of the bytes that came; they are refused where one of them is no
+    // digit, whatever follows.
     ensures writes { Writes (came_of input.new) (is_failed input.new) result
         (appended_bytes out.old.items out.new.items) (appended_bytes made.old.items made.new.items) }
     // Nothing else is reported before the end was seen, but want of memory or a failed input.

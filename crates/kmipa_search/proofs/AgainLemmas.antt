@@ -14,10 +14,9 @@ use Rattle.kmipa_check.specs.Described.{Describes}
 use Rattle.kmipa_check.specs.Runs.{Linked, rules_declared}
 use Rattle.kmipa_check.specs.Steps.{StepOf}
 use Rattle.kmipa_check.specs.Verdicts.{AreKnown}
-use Rattle.kmipa_search.specs.Ends.{AreSame}
-use Rattle.kmipa_search.specs.Progress.{no_step, step_at, so_far, IsDead, AreNext}
+use Rattle.kmipa_search.specs.Taken.{no_step, step_at, so_far, IsDead, AreNext, AreSame}
 use Rattle.kmipa_search.specs.Settled.{AreApart, AreTold, IsLone, IsSettled, IsTold, target}
-use Rattle.kmipa_search.proofs.ElementLemmas.{at_within, same_elements, some_at}
+use Rattle.kmipa_check.proofs.PlaceLemmas.{at_within, same_elements, some_at}
 use Rattle.kmipa_search.proofs.EndLemmas.{dead_again, pairs_join}
 use Rattle.kmipa_search.proofs.NextLemmas.{call_taken, place_taken}
 use Rattle.kmipa_search.proofs.PlaceLemmas.{one_cases}

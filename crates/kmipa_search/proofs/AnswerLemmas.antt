@@ -16,7 +16,7 @@ use Rattle.kmipa_check.specs.Steps.{StepOf, IsStep}
 use Rattle.kmipa_check.specs.Plain.{bare_turn}
 use Rattle.kmipa_check.specs.Runs.{IsAccepted, IsExplained, TakeEachOnce, rules_declared}
 use Rattle.kmipa_check.specs.Laws.{AreMade, OneListOfCalls}
-use Rattle.kmipa_check.specs.Ordering.{Decided}
+use Rattle.kmipa_check.specs.Deciding.{Decided}
 use Rattle.kmipa_check.specs.Verdicts.{AreKnown, Checks}
 use Rattle.kmipa_check.specs.declared.fault.CheckFault.{CheckFault}
 use Rattle.kmipa_check.specs.declared.fault.CheckFault.TheVariants as fault
@@ -26,13 +26,14 @@ use Rattle.kmipa_search.specs.LawsOfCheck.{LawsOfCheck}
 use Rattle.kmipa_search.specs.Candidates.{AreNotPlain}
 use Rattle.kmipa_search.specs.Plain.{ArePlain, AreApart, IsForced}
 use Rattle.kmipa_search.specs.Next.{weight}
-use Rattle.kmipa_search.specs.Progress.{no_step, step_at, ordered, HaveRun, CanBeTaken, Opens, ComesTo}
+use Rattle.kmipa_search.specs.Progress.{ordered, HaveRun, CanBeTaken, Opens, ComesTo}
+use Rattle.kmipa_search.specs.Taken.{no_step, step_at}
 use Rattle.kmipa_search.specs.Confirming.{Confirms, IsTried, turns_at}
 use Rattle.kmipa_search.specs.Laws.{IsEnough, EnoughDecides, ForcedIsLight}
 use Rattle.kmipa_search.specs.Found.{HasDecided, stopped, enough, one_by_one, Finds, Searches}
 use Rattle.kmipa_search.specs.declared.found.Found.{Found}
 use Rattle.kmipa_search.specs.declared.found.Found.TheVariants.{Yes, GaveUp}
-use Rattle.kmipa_search.proofs.ElementLemmas.{contains_at, at_contains, mapped_from, get_at}
+use Rattle.kmipa_check.proofs.PlaceLemmas.{contains_at, at_contains, mapped_from, get_at}
 use Rattle.kmipa_search.proofs.WritableLemmas.{bare_written, recorded_number}
 use Rattle.kmipa_search.proofs.PermutationLemmas.{IsOnce, once_pairs}
 use Rattle.kmipa_search.proofs.PlaceLemmas.{one_place}

@@ -8,7 +8,8 @@ use Rattle.std.proofs.lemmas.Bool.{lt-ltb, ltb-true}
 use Rattle.std.proofs.lemmas.Option.{get_or_from_slice_get, slice_get-get_or}
 use Rattle.kmipa_check.specs.Steps.{StepOf}
 use Rattle.kmipa_search.specs.Plain.{AreApart}
-use Rattle.kmipa_search.specs.Progress.{no_step, step_at, AreBegun}
+use Rattle.kmipa_search.specs.Progress.{AreBegun}
+use Rattle.kmipa_search.specs.Taken.{no_step, step_at}
 use Rattle.kmipa_search.specs.Links.{at}
 use Rattle.kmipa_search.specs.Ranks.{IsRanked, ByStamp, HasRank, end_of, AreEnded, AreClosed, parts}
 use Rattle.kmipa_search.proofs.NextTestLemmas.{either_true, neither, true_of}

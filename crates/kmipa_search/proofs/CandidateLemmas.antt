@@ -9,10 +9,10 @@ use Rattle.kmipa_check.specs.Steps.{StepOf, NeedsFill}
 use Rattle.kmipa_check.specs.declared.call.Call.{Call}
 use Rattle.kmipa_search.specs.Candidates.{AreNotPlain, IsNotPlain, IsOpen, candidate_call, candidate_step}
 use Rattle.kmipa_search.specs.Plain.{ArePlain, IsPlainStep}
-use Rattle.kmipa_search.specs.Progress.{no_step, step_at}
+use Rattle.kmipa_search.specs.Taken.{no_step, step_at}
 use Rattle.kmipa_search.specs.Ranks.{end_or, AreEnded}
 use Rattle.kmipa_search.specs.declared.candidate.Candidate.{Candidate}
-use Rattle.kmipa_search.proofs.ElementLemmas.{mapped_from}
+use Rattle.kmipa_check.proofs.PlaceLemmas.{mapped_from}
 
 -- each has ended
 pub candidates_ended : (calls : List Candidate) → AreEnded (map candidate_step calls)

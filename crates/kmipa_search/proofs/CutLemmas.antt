@@ -1,7 +1,7 @@
 -- An order of what stands once.
 use Rattle.std.proofs.Common.{◌≡◌, ◌<◌, ℕ, zero, suc, List, [], ◌∷◌, ◌++◌, take, drop, Some, slice_get, ap, subst, arith}
 use Rattle.std.specs.Prelude.{IsPermutation}
-use Rattle.kmipa_search.proofs.ElementLemmas.{contains_at}
+use Rattle.kmipa_check.proofs.PlaceLemmas.{contains_at}
 use Rattle.kmipa_search.proofs.PermutationLemmas.{IsOnce}
 use Rattle.kmipa_search.proofs.PlaceLemmas.{once_at, fresh}
 

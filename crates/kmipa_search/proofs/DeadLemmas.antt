@@ -13,7 +13,8 @@ use Rattle.kmipa_check.specs.Laws.{RefusedIsNever}
 use Rattle.kmipa_check.specs.Verdicts.{AreKnown}
 use Rattle.kmipa_search.proofs.PermutationLemmas.{IsOnce}
 use Rattle.kmipa_search.specs.Next.{IsNext}
-use Rattle.kmipa_search.specs.Progress.{step_at, so_far, TakesAll, HaveRun, CanBeTaken, IsDead, AreNext, AreTimed}
+use Rattle.kmipa_search.specs.Progress.{HaveRun, CanBeTaken, AreTimed}
+use Rattle.kmipa_search.specs.Taken.{step_at, so_far, TakesAll, IsDead, AreNext}
 use Rattle.kmipa_search.proofs.NextLemmas.{call_of_next, length_so_far, permuted_so_far, placed_so_far, next_of_order}
 
 module _ (declared : DeclarationOf) (calls : List StepOf) where

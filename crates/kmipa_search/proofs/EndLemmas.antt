@@ -19,9 +19,10 @@ use Rattle.kmipa_record.specs.Declarations.{DeclarationOf}
 use Rattle.kmipa_check.specs.Described.{Describes}
 use Rattle.kmipa_check.specs.Runs.{Before, Linked, rules_declared}
 use Rattle.kmipa_check.proofs.RunLemmas.{linked_join, linked_split}
-use Rattle.kmipa_search.specs.Progress.{so_far, TakesAll, IsDead, AreNext}
-use Rattle.kmipa_search.specs.Ends.{StillOf, AreSame, still, stills, EqualIsEqual}
-use Rattle.kmipa_search.proofs.ElementLemmas.{at_contains, contains_at, get_at, mapped_from}
+use Rattle.kmipa_search.specs.Taken.{so_far, TakesAll, IsDead, AreNext, AreSame}
+use Rattle.kmipa_search.specs.Laws.{EqualIsEqual}
+use Rattle.kmipa_search.specs.Stills.{StillOf, still, stills}
+use Rattle.kmipa_check.proofs.PlaceLemmas.{at_contains, contains_at, get_at, mapped_from}
 use Rattle.kmipa_search.proofs.LinksLemmas.{same_or}
 use Rattle.kmipa_search.proofs.PermutationLemmas.{once_pairs, permuted}
 use Rattle.kmipa_search.proofs.PickLemmas.{lower}

@@ -30,8 +30,9 @@ use Rattle.kmipa_check.specs.Steps.{StepOf, order_of}
 use Rattle.kmipa_check.specs.Described.{IsDescribed, card_declared}
 use Rattle.kmipa_check.specs.Runs.{Linked, rules_declared}
 use Rattle.kmipa_check.specs.Verdicts.{AreKnown}
-use Rattle.kmipa_search.specs.Ends.{StillOf, still, stills, LiveAlike, StandAmong}
-use Rattle.kmipa_search.proofs.ElementLemmas.{at_contains, contains_at, mapped_from, get_at, some_at}
+use Rattle.kmipa_search.specs.Ends.{LiveAlike, StandAmong}
+use Rattle.kmipa_search.specs.Stills.{StillOf, still, stills}
+use Rattle.kmipa_check.proofs.PlaceLemmas.{at_contains, contains_at, mapped_from, get_at, some_at}
 use Rattle.kmipa_search.proofs.PermutationLemmas.{once_pairs, permuted}
 use Rattle.kmipa_search.proofs.PickLemmas.{lower}
 

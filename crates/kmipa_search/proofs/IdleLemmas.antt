@@ -29,9 +29,9 @@ use Rattle.kmipa_check.specs.Runs.{Before, IsPlaced, Linked, rules_declared}
 use Rattle.kmipa_check.specs.Verdicts.{AreKnown}
 use Rattle.kmipa_check.proofs.RunLemmas.{linked_join, linked_split}
 use Rattle.kmipa_search.specs.Next.{IsNext}
-use Rattle.kmipa_search.specs.Progress.{step_at, so_far, TakesAll, IsDead, AreNext}
+use Rattle.kmipa_search.specs.Taken.{step_at, so_far, TakesAll, IsDead, AreNext}
 use Rattle.kmipa_search.specs.Idle.{only_looks, is_idle_item, AllIdle, IsIdleStep, IsIdleAt, AreIdleFrom}
-use Rattle.kmipa_search.proofs.ElementLemmas.{contains_at, at_contains, mapped_from, get_at}
+use Rattle.kmipa_check.proofs.PlaceLemmas.{contains_at, at_contains, mapped_from, get_at}
 use Rattle.kmipa_search.proofs.PermutationLemmas.{IsOnce, permuted}
 use Rattle.kmipa_search.proofs.PlaceLemmas.{one_place, one_cases, has_head, fresh, pairs_behind}
 use Rattle.kmipa_search.proofs.CutLemmas.{cut}

@@ -1,4 +1,3 @@
-pub mod ElementLemmas
 pub mod PermutationLemmas
 pub mod PlaceLemmas
 pub mod CutLemmas

@@ -6,9 +6,9 @@ use Rattle.kmipa_object.specs.Inventory.{Card, place_of}
 use Rattle.kmipa_store.specs.Ledger.{Held, Known}
 use Rattle.kmipa_msgs.specs.Messages.{AskOf, AnswerOf, RequestOf, ResponseOf}
 use Rattle.kmipa_check.specs.Steps.{StepOf, order_of}
-use Rattle.kmipa_search.specs.Progress.{step_at}
+use Rattle.kmipa_search.specs.Taken.{step_at}
 use Rattle.kmipa_search.specs.Settled.{is_steady_item, IsSteadyAt, AreSteadyFrom, done_id, lone_item, target, IsLone, IsTold, AreApartTo, Marks, MarksPlace, marked}
-use Rattle.kmipa_search.proofs.ElementLemmas.{below_suc}
+use Rattle.kmipa_check.proofs.PlaceLemmas.{below_suc}
 use Rattle.kmipa_search.proofs.IdleLemmas.{pair_within, zip_at}
 use Rattle.kmipa_search.proofs.LinksLemmas.{same_or}
 use Rattle.kmipa_search.proofs.PickLemmas.{lower}

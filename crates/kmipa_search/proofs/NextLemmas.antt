@@ -8,10 +8,11 @@ use Rattle.std.proofs.lemmas.List.Sorted.{IsPermutation-sym, Contains-permutatio
 use Rattle.std.proofs.lemmas.Option.{get_or_from_slice_get}
 use Rattle.kmipa_check.specs.Steps.{StepOf}
 use Rattle.kmipa_check.specs.Runs.{Before, IsPlaced}
-use Rattle.kmipa_search.proofs.ElementLemmas.{contains_at, at_contains}
+use Rattle.kmipa_check.proofs.PlaceLemmas.{contains_at, at_contains}
 use Rattle.kmipa_search.proofs.PermutationLemmas.{IsOnce, at_most, permuted}
 use Rattle.kmipa_search.specs.Next.{IsNext}
-use Rattle.kmipa_search.specs.Progress.{no_step, step_at, so_far, AreNext, AreTimed}
+use Rattle.kmipa_search.specs.Progress.{AreTimed}
+use Rattle.kmipa_search.specs.Taken.{no_step, step_at, so_far, AreNext}
 use Rattle.kmipa_search.proofs.PlaceLemmas.{one_place, one_cases, has_head, fresh, pairs_behind, pairs_pushed}
 
 module _ (calls : List StepOf) where

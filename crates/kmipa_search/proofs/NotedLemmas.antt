@@ -3,7 +3,8 @@ use Rattle.std.proofs.Common.{◌≡◌, ◌⊎◌, inl, inr, ℕ, List, [], ◌
 use Rattle.std.specs.declared.alloc.Global.{Global}
 use Rattle.std.proofs.lemmas.List.Elements.{Contains-append_cases}
 use Rattle.kmipa_store.specs.Ledger.{Meaning}
-use Rattle.kmipa_search.specs.Ends.{Shared, stills, stills_shared, AreAlikeFrom, IsSetOf, IsEndOf, IsAdded, IsNoted}
+use Rattle.kmipa_search.specs.Ends.{Shared, stills_shared, AreAlikeFrom, IsSetOf, IsEndOf, IsAdded, IsNoted}
+use Rattle.kmipa_search.specs.Stills.{stills}
 use Rattle.kmipa_search.specs.declared.ends.End.{End}
 use Rattle.kmipa_search.specs.declared.taken.CallSet.{CallSet}
 use Rattle.kmipa_search.proofs.PlaceLemmas.{one_cases}

@@ -5,7 +5,7 @@ use Rattle.std.proofs.lemmas.List.{length-append}
 use Rattle.std.proofs.lemmas.List.Elements.{Contains-append_cases, Contains-append_left, Contains-append_right}
 use Rattle.std.proofs.lemmas.List.Sorted.{Contains-permutation, length_permutation}
 use Rattle.std.proofs.lemmas.Option.{get_or_from_slice_get, slice_get_within, slice_get-get_or}
-use Rattle.kmipa_search.proofs.ElementLemmas.{contains_at, at_contains, pushed_at}
+use Rattle.kmipa_check.proofs.PlaceLemmas.{contains_at, at_contains, pushed_at}
 use Rattle.kmipa_search.proofs.PermutationLemmas.{IsOnce, at_most}
 
 pub once_at : {X : Type 0} (xs : List X) → ((i j : ℕ) (x : X) → i < j → slice_get xs i ≡ Some x → slice_get xs j ≡ Some x → ⊥) → IsOnce xs

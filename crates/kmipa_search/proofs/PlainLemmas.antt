@@ -17,9 +17,10 @@ use Rattle.kmipa_check.specs.Plain.{PlainCallHasOneStep, bare_turn}
 use Rattle.kmipa_search.specs.LawsOfCheck.{LawsOfCheck}
 use Rattle.kmipa_search.specs.Plain.{IsPlainStep, ArePlain}
 use Rattle.kmipa_search.specs.Progress as progress
-use Rattle.kmipa_search.specs.Progress.{no_step, step_at, AllReadable, AreBegun, TakesAll}
+use Rattle.kmipa_search.specs.Progress.{AllReadable, AreBegun}
+use Rattle.kmipa_search.specs.Taken.{no_step, step_at, TakesAll}
 use Rattle.kmipa_search.specs.Ranks.{end_or, AreEnded, AreClosed}
-use Rattle.kmipa_search.proofs.ElementLemmas.{contains_at, at_contains}
+use Rattle.kmipa_check.proofs.PlaceLemmas.{contains_at, at_contains}
 use Rattle.kmipa_search.proofs.PermutationLemmas.{IsOnce, at_most, permuted}
 use Rattle.kmipa_search.proofs.PlaceLemmas.{once_at}
 use Rattle.kmipa_search.proofs.LinksLemmas.{which}

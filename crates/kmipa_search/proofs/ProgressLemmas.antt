@@ -11,7 +11,8 @@ use Rattle.kmipa_msgs.specs.Messages.{RulesOf}
 use Rattle.kmipa_batch.specs.Refusals.{CallExplainsAlong, CallRefutedAlong}
 use Rattle.kmipa_check.specs.Steps.{StepOf, order_of}
 use Rattle.kmipa_check.specs.Runs.{rules_declared}
-use Rattle.kmipa_search.specs.Progress.{step_at, so_far, ordered, places, AreBegun, AreSoundBehind, CanBeTaken, Searching, Opens, CallTried, ComesTo}
+use Rattle.kmipa_search.specs.Progress.{ordered, places, AreBegun, AreSoundBehind, CanBeTaken, Searching, Opens, CallTried, ComesTo}
+use Rattle.kmipa_search.specs.Taken.{step_at, so_far}
 use Rattle.kmipa_search.specs.Descents.{Progress}
 use Rattle.kmipa_search.specs.Idle.{IsIdleStep}
 use Rattle.kmipa_search.specs.Tries.{IsPick, IsPicked, IsBehind, none_tried}
@@ -19,7 +20,7 @@ use Rattle.kmipa_search.specs.declared.tried.Tried.{Tried}
 use Rattle.kmipa_search.specs.declared.tried.Visit.{Visit}
 use Rattle.kmipa_search.specs.Remaining.{AreRemaining, IsCursor}
 use Rattle.kmipa_search.specs.declared.remaining.Remaining.{Remaining}
-use Rattle.kmipa_search.proofs.ElementLemmas.{contains_at}
+use Rattle.kmipa_check.proofs.PlaceLemmas.{contains_at}
 use Rattle.kmipa_search.proofs.PlaceLemmas.{one_cases}
 use Rattle.kmipa_search.proofs.DeadLemmas.{none_runs}
 use Rattle.kmipa_search.proofs.SearchLemmas.{AreWishes, search_starts, step_left, search_refused, search_taken, search_found, search_ends, search_back}

@@ -8,10 +8,10 @@ use Rattle.std.proofs.lemmas.Option.{slice_get_within, slice_get-get_or, get_or_
 use Rattle.std.proofs.lemmas.Float.{T_from_true}
 use Rattle.std.proofs.lemmas.Bool.{lt-ltb, ltb-true}
 use Rattle.kmipa_check.specs.Steps.{StepOf}
-use Rattle.kmipa_search.specs.Progress.{no_step}
+use Rattle.kmipa_search.specs.Taken.{no_step, step_at}
 use Rattle.kmipa_check.specs.Runs.{Before, EndsAhead}
 use Rattle.kmipa_search.specs.Next.{IsNext}
-use Rattle.kmipa_search.specs.Progress.{step_at, AreBegun, IsNextFrom}
+use Rattle.kmipa_search.specs.Progress.{AreBegun, IsNextFrom}
 use Rattle.kmipa_search.specs.Remaining.{IsCursor}
 use Rattle.kmipa_search.specs.Links.{at, IsAfter, AreLinked, before_with, after_without, before_without}
 use Rattle.kmipa_search.specs.Ranks.{IsRanked, ByStamp, ByEnd, LeftRank, WereLinked, rank_from, allows, end_of, AreEnded}
@@ -37,9 +37,6 @@ less_least (pos m) (pos n) p = le_z_yes (yes_leb (omega (arith, ltb_yes p.lt)))
 less_least (pos m) (negsuc n) p = absurd p.lt
 less_least (negsuc m) (pos n) p = le_z_yes tt
 less_least (negsuc m) (negsuc n) p = le_z_yes (yes_leb (omega (arith, ltb_yes p.lt)))
-
-stamp_of : List StepOf → ℕ → ℤ
-stamp_of calls p = (step_at calls p).response.stamp
 
 pub by_stamp_least : (calls : List StepOf) (p q : ℕ) → (p ≡ q) ⊎ ByStamp calls p q → (step_at calls p).response.stamp ≤ℤ (step_at calls q).response.stamp
 by_stamp_least calls p q (inl e) = let P : ℕ → Type 0 = λ k. (step_at calls p).response.stamp ≤ℤ (step_at calls k).response.stamp in subst P e (≤ℤ_refl (step_at calls p).response.stamp)

@@ -27,14 +27,15 @@ use Rattle.kmipa_check.proofs.ReplayLemmas.{refused_call}
 use Rattle.kmipa_check.proofs.RunLemmas.{taken_is_known_lem}
 use Rattle.kmipa_search.specs.Next.{IsNext}
 use Rattle.kmipa_search.specs.Plain.{ArePlain}
-use Rattle.kmipa_search.specs.Progress.{no_step, step_at, so_far, AreNext, CallTried, IsNextFrom}
+use Rattle.kmipa_search.specs.Progress.{CallTried, IsNextFrom}
+use Rattle.kmipa_search.specs.Taken.{no_step, step_at, so_far, AreNext}
 use Rattle.kmipa_search.specs.Reached.{CanBeDone, HaveSteps, TellsLast, TellsNext, TellsAllNext, IsReached, Reaches}
 use Rattle.kmipa_search.specs.Reaching.{AreTaken, IsJudged, TellsAhead}
 use Rattle.kmipa_search.specs.Remaining.{AreRemaining}
 use Rattle.kmipa_search.specs.declared.stuck.NextCall.{NextCall}
 use Rattle.kmipa_search.specs.declared.stuck.Reached.{Reached}
 use Rattle.kmipa_search.specs.declared.remaining.Remaining.{Remaining}
-use Rattle.kmipa_search.proofs.ElementLemmas.{below_suc, some_at}
+use Rattle.kmipa_check.proofs.PlaceLemmas.{below_suc, some_at}
 use Rattle.kmipa_search.proofs.LinksLemmas.{which}
 use Rattle.kmipa_search.proofs.PlaceLemmas.{one_cases, has_head, pairs_pushed}
 use Rattle.kmipa_search.proofs.NextLemmas.{length_so_far, placed_so_far}

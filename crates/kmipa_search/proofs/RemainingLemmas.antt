@@ -3,7 +3,8 @@ use Rattle.std.proofs.Common.{◌≡◌, ◌<◌, ◌≤◌, ℕ, Bool, true, fa
 use Rattle.std.proofs.lemmas.Option.{slice_get_within}
 use Rattle.kmipa_check.specs.Steps.{StepOf}
 use Rattle.kmipa_search.specs.Next.{IsNext}
-use Rattle.kmipa_search.specs.Progress.{step_at, AreBegun, IsNextFrom}
+use Rattle.kmipa_search.specs.Progress.{AreBegun, IsNextFrom}
+use Rattle.kmipa_search.specs.Taken.{step_at}
 use Rattle.kmipa_search.specs.Links.{at, AreLinked, IsWithin, after_without, before_without}
 use Rattle.kmipa_search.specs.Ranks.{IsRanked, ByStamp, ByEnd, LeftRank, WereLinked, rank_from, allows, AreEnded}
 use Rattle.kmipa_search.specs.Remaining.{AreRemaining, IsCursor}

@@ -7,11 +7,13 @@ use Rattle.kmipa_record.specs.Declarations.{DeclarationOf}
 use Rattle.kmipa_msgs.specs.Messages.{RulesOf}
 use Rattle.kmipa_check.specs.Steps.{StepOf}
 use Rattle.kmipa_check.specs.Verdicts.{AreKnown}
-use Rattle.kmipa_search.specs.Progress.{so_far, AreBegun, AreNext, IsDead, Opens, Searching, places}
+use Rattle.kmipa_search.specs.Progress.{AreBegun, Opens, Searching, places}
+use Rattle.kmipa_search.specs.Taken.{so_far, AreNext, IsDead, AreSame}
 use Rattle.kmipa_search.specs.Cursors.{IsCursor}
 use Rattle.kmipa_search.specs.Descents.{Progress}
 use Rattle.kmipa_search.specs.Tries.{IsPicked, closed, none_tried, all_tried}
-use Rattle.kmipa_search.specs.Ends.{stills, stills_shared, StandAmong, AreFlagged, AreSame, IsEndOf, IsEndLike, IsSetOf, IsArrival, IsNoted, Remembers}
+use Rattle.kmipa_search.specs.Ends.{stills_shared, StandAmong, AreFlagged, IsEndOf, IsEndLike, IsSetOf, IsArrival, IsNoted, Remembers}
+use Rattle.kmipa_search.specs.Stills.{stills}
 use Rattle.kmipa_search.specs.Settled.{IsFront}
 use Rattle.kmipa_search.specs.declared.ends.End.{End}
 use Rattle.kmipa_search.specs.declared.remaining.Remaining.{Remaining}

@@ -18,7 +18,8 @@ use Rattle.kmipa_search.specs.Next.{weigh, weight}
 use Rattle.kmipa_search.specs.Tries.{IsTried, closed, ahead, wished, IsPick, IsPicked, IsBehind, none_tried}
 use Rattle.kmipa_search.specs.Links.{at}
 use Rattle.kmipa_search.specs.Idle.{IsIdleStep}
-use Rattle.kmipa_search.specs.Progress.{so_far, CanBeTaken, IsDead, Cleared, places, KnowsAll, Searching, IsOwed, Opens}
+use Rattle.kmipa_search.specs.Progress.{CanBeTaken, Cleared, places, KnowsAll, Searching, IsOwed, Opens}
+use Rattle.kmipa_search.specs.Taken.{so_far, IsDead}
 use Rattle.kmipa_search.specs.declared.tried.Tried.{Tried}
 use Rattle.kmipa_search.specs.declared.tried.Visit.{Visit}
 use Rattle.kmipa_search.proofs.NextLemmas.{call_of_next}

@@ -23,7 +23,7 @@ use Rattle.kmipa_batch.specs.Calls.{pairs_of, Leaves, goes_back, goes_on, CallAl
 use Rattle.kmipa_check.specs.Steps.{StepOf, order_of}
 use Rattle.kmipa_check.specs.Runs.{Linked}
 use Rattle.kmipa_search.specs.Settled.{reads_only, is_steady_item, AreSteadyFrom, changed_id, done_id, lone_item, target, IsLone}
-use Rattle.kmipa_search.proofs.ElementLemmas.{at_within, some_at, get_at}
+use Rattle.kmipa_check.proofs.PlaceLemmas.{at_within, some_at, get_at}
 use Rattle.kmipa_search.proofs.FrontLemmas.{shown_by}
 use Rattle.kmipa_search.proofs.IdleLemmas.{Pairwise}
 use Rattle.kmipa_search.proofs.LinksLemmas.{same_or}

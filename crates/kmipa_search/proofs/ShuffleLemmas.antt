@@ -19,7 +19,7 @@ use Rattle.kmipa_msgs.specs.declared.response.Status.TheVariants.{Success, Faile
 use Rattle.kmipa_msgs.specs.Messages.{RulesOf, AskedOf, creates, registers, locates, gets, gets_attributes, activates, revokes, destroys, idles, does_other, GetAttributesOf, GotOf, GotAttributesOf, RegisteredOf, AskOf, PayloadOf, RequestOf, AnswerOf, ResponseOf}
 use Rattle.kmipa_ops.specs.Objects.{card_meant, HasObject, is_named}
 use Rattle.kmipa_ops.specs.Row.{SubjectOf, on_object, on_names, on_nothing, row_subject, seen_in}
-use Rattle.kmipa_ops.specs.Rows.{row_of}
+use Rattle.kmipa_ops.specs.Rows.{asked_row}
 use Rattle.kmipa_ops.specs.Founded.{Holds, FoundedOf, unsaid, unlisted, of_nothing, caused}
 use Rattle.kmipa_ops.specs.Adding.{AddsObject, name_taken, newborn}
 use Rattle.kmipa_ops.specs.Changes.{ChangesObject, change_deed, thing_after}
@@ -35,7 +35,7 @@ use Rattle.kmipa_ops.specs.Chains.{Chain}
 use Rattle.kmipa_batch.specs.Calls.{pairs_taken, Leaves, goes_back, goes_on, CallAlong, CallSomeAlong}
 use Rattle.kmipa_check.specs.Steps.{StepOf, order_of}
 use Rattle.kmipa_check.specs.Runs.{Linked}
-use Rattle.kmipa_search.proofs.ElementLemmas.{contains_at, at_contains, mapped_from, get_at, pushed_at}
+use Rattle.kmipa_check.proofs.PlaceLemmas.{contains_at, at_contains, mapped_from, get_at, pushed_at}
 use Rattle.kmipa_search.proofs.SettledLemmas.{Distinct, object_id, updated_here, updated_other}
 
 -- inventories with the same objects, in whatever order these arrived
@@ -128,9 +128,11 @@ taken_again V W s rules names = ap (λ (b : Bool). rules.unique_names && b) (any
 
 lists_again : (V W : List Thing) → Shuffled V W → (t : ℤ) (q : FilterOf) (listed : List (List ℕ)) → Lists (cards V) t q listed → Lists (cards W) t q listed
 lists_again V W s t q listed l = record {
-  once = l.once;
-  fits = λ id has. let f = l.fits id has in (f.0, sym (card_again V W s (Some id)) ∙ f.1, f.2);
-  most = l.most;
+  right = record {
+    once = l.right.once;
+    fits = λ id has. let f = l.right.fits id has in (f.0, sym (card_again V W s (Some id)) ∙ f.1, f.2);
+    most = l.right.most;
+  };
   all = λ full c has must. l.all full c (has_card W V (turned V W s) c has) must;
 }
 
@@ -362,7 +364,7 @@ module _ (rules : RulesOf) (t : ℤ) (V W : List Thing) (s : Shuffled V W) (befo
       → (W' : List Thing) × Outcome status rules W before t asked reason payload W' after × Shuffled V' W'
   outcome_again Failed asked reason payload o = (
     W,
-    record { founded = founded_again V W s rules before t (row_subject (row_of asked)) reason o.founded; leaves = refl; placeholder = o.placeholder },
+    record { founded = founded_again V W s rules before t (row_subject (asked_row asked)) reason o.founded; leaves = refl; placeholder = o.placeholder },
     stays V W V' s o.leaves,
   )
   outcome_again Success asked reason payload o = succeeds_again asked payload o

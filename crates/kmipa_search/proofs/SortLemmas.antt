@@ -9,9 +9,9 @@ use Rattle.std.proofs.lemmas.List.{length-map}
 use Rattle.std.proofs.lemmas.List.Sorted.{IsPermutation-map, IsPermutation-sym, Contains-permutation, length_permutation, sorted_far, ranks_by}
 use Rattle.std.proofs.lemmas.Option.{get_or_from_slice_get, slice_get-get_or, slice_get_within}
 use Rattle.kmipa_check.specs.Steps.{StepOf}
-use Rattle.kmipa_search.proofs.ElementLemmas.{contains_at, at_contains, mapped_from}
+use Rattle.kmipa_check.proofs.PlaceLemmas.{contains_at, at_contains, mapped_from}
 use Rattle.kmipa_search.proofs.PermutationLemmas.{IsOnce, contains_mapped}
-use Rattle.kmipa_search.specs.Progress.{step_at}
+use Rattle.kmipa_search.specs.Taken.{step_at}
 use Rattle.kmipa_search.specs.Links.{at}
 use Rattle.kmipa_search.specs.Ranks.{IsRanked, ByStamp, ByEnd, HasRank, AreNoted, end_of}
 use Rattle.kmipa_search.proofs.PlaceLemmas.{once_at, one_place}

@@ -5,8 +5,9 @@ use Rattle.std.proofs.lemmas.Option.{slice_get_within, slice_get_read, get_or_fr
 use Rattle.kmipa_attrs.specs.Sets.{NameOf, name_of}
 use Rattle.kmipa_attrs.specs.declared.name.Name.{Name}
 use Rattle.kmipa_store.specs.Ledger.{Held, Meaning}
-use Rattle.kmipa_search.specs.Ends.{Shared, StillOf, IsAlikeAt, AreAlike, StandsAmong, StandAmong, still, still_shared, stills, stills_shared}
-use Rattle.kmipa_search.proofs.ElementLemmas.{same_elements, mapped_from, get_at, some_at, at_within, pushed_at}
+use Rattle.kmipa_search.specs.Ends.{Shared, IsAlikeAt, AreAlike, StandsAmong, StandAmong, still_shared, stills_shared}
+use Rattle.kmipa_search.specs.Stills.{StillOf, still, stills}
+use Rattle.kmipa_check.proofs.PlaceLemmas.{same_elements, mapped_from, get_at, some_at, at_within, pushed_at}
 use Rattle.kmipa_search.proofs.LinksLemmas.{same_or}
 
 -- one object more on both sides

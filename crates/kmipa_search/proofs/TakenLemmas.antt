@@ -7,7 +7,7 @@ use Rattle.kmipa_search.specs.Ends.{flag, AreFlagged, IsSetOf}
 use Rattle.kmipa_search.specs.declared.taken.CallSet.{CallSet}
 use Rattle.kmipa_search.specs.declared.taken.TakenCalls.{TakenCalls}
 use Rattle.kmipa_search.proofs.LinksLemmas.{same_or, which}
-use Rattle.kmipa_search.proofs.ElementLemmas.{below_suc}
+use Rattle.kmipa_check.proofs.PlaceLemmas.{below_suc}
 use Rattle.kmipa_search.proofs.PermutationLemmas.{IsOnce, at_most, once_pairs}
 use Rattle.kmipa_search.proofs.PickLemmas.{lower}
 use Rattle.kmipa_search.proofs.PlaceLemmas.{one_cases, has_head}

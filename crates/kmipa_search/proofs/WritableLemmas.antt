@@ -15,7 +15,7 @@ use Rattle.kmipa_record.specs.Witnesses.{TurnOf, turn_item, Admits, IsWitness}
 use Rattle.kmipa_record.specs.declared.version.Version.TheVariants.{First}
 use Rattle.kmipa_check.specs.Calls.{CallOf, IsRecorded}
 use Rattle.kmipa_check.specs.Plain.{bare_turn}
-use Rattle.kmipa_search.proofs.ElementLemmas.{contains_at, mapped_from}
+use Rattle.kmipa_check.proofs.PlaceLemmas.{contains_at, mapped_from}
 
 -- a structure with one number in it
 abbrev tree : ℕ → ℕ → ℤ → Tree

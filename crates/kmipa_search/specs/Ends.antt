@@ -1,17 +1,17 @@
 -- Dead ends that are remembered: which calls were taken, and what the ledger stood for. Not promised.
-use Rattle.std.specs.Prelude.{◌≡◌, ◌≢◌, ◌<◌, ◌≤◌, ◌⊎◌, ℕ, Vec, Bool, true, false, List, length, map, slice_get, slice_index_or, AllPairs, Contains, IsPermutation, Option, Some, None, option_map}
+use Rattle.std.specs.Prelude.{◌≡◌, ◌<◌, ◌≤◌, ◌⊎◌, ℕ, Vec, Bool, true, false, List, length, map, slice_get, slice_index_or, Contains, Option, Some, None, option_map}
 use Rattle.std.specs.declared.alloc.Global.{Global}
 use Rattle.std.specs.declared.rc.Rc.{Rc}
-use Rattle.kmipa_object.specs.Inventory.{Card, card_of}
-use Rattle.kmipa_store.specs.Ledger.{Held, Known, Meaning}
+use Rattle.kmipa_object.specs.Inventory.{card_of}
+use Rattle.kmipa_store.specs.Ledger.{Meaning}
 use Rattle.kmipa_store.specs.Choices.{IsSound}
 use Rattle.kmipa_record.specs.Declarations.{DeclarationOf}
 use Rattle.kmipa_record.specs.Entries.{items_of}
 use Rattle.kmipa_msgs.specs.Messages.{RulesOf}
-use Rattle.kmipa_check.specs.Left.{bytes_left}
 use Rattle.kmipa_check.specs.Steps.{StepOf}
 use Rattle.kmipa_check.specs.Verdicts.{AreKnown}
-use Rattle.kmipa_search.specs.Progress.{so_far, AreBegun, AreNext, IsDead, Opens}
+use Rattle.kmipa_search.specs.Progress.{AreBegun, Opens}
+use Rattle.kmipa_search.specs.Taken.{so_far, AreNext, IsDead}
 use Rattle.kmipa_search.specs.Settled.{IsFront}
 use Rattle.kmipa_search.specs.Tries.{none_tried, all_tried}
 use Rattle.kmipa_search.specs.declared.tried.Tried.{Tried}
@@ -19,20 +19,9 @@ use Rattle.kmipa_search.specs.declared.taken.TakenCalls.{TakenCalls}
 use Rattle.kmipa_search.specs.declared.taken.CallSet.{CallSet}
 use Rattle.kmipa_search.specs.declared.stills.Still.{Still}
 use Rattle.kmipa_search.specs.declared.ends.End.{End}
+use Rattle.kmipa_search.specs.Stills.{StillOf, stills}
 
 -- WHAT A LEDGER STANDS FOR
-
--- an object as it stands, with its bytes where they are known; the number of its secret is left out, which hangs on what arrived before it
-pub record StillOf : Type 0 where
-  pub card : Card
-  pub bytes : Option (List ℕ)
-
-abbrev pub still : List Known → Held → StillOf
-still secrets h = record { card = h.card; bytes = bytes_left secrets h.material }
-
--- all objects of a ledger as they stand, in the order of arrival
-abbrev pub stills : Meaning → List StillOf
-stills m = map (still m.secrets) m.objects
 
 -- what the program's copy of an object means
 abbrev pub still_of : Still → StillOf
@@ -105,12 +94,6 @@ pub record IsSetOf (taken : List ℕ) (k : CallSet) : Type 0 where
   pub are : (p : ℕ) → Contains taken p → (p < k.low) ⊎ Contains k.rest.items p
   pub only : (p : ℕ) → (p < k.low) ⊎ Contains k.rest.items p → Contains taken p
 
--- two lists of calls have the same calls
-pub record AreSame (taken others : List ℕ) : Type 0 where
-  pub long : length others ≡ length taken
-  pub each : (p : ℕ) → Contains taken p → Contains others p
-  pub back : (p : ℕ) → Contains others p → Contains taken p
-
 -- ENDS
 
 -- an end is that of these calls over a ledger whose objects stand alike, place by place: those of the first so many places as far as they can
@@ -147,16 +130,7 @@ IsAdded old set objects new = (e : End) → Contains new e → Contains old e �
 abbrev pub IsNoted : Option ℕ → List End → List ℕ → Meaning → List End → Type 0
 IsNoted front old taken m new = (e : End) → Contains new e → Contains old e ⊎ IsEndOf front taken m e
 
--- THE LAW
-
--- Equal is equal: the same calls taken, and ledgers with the same objects as they stand, in whatever order these arrived and whatever numbers their
--- secrets have: where the one leads to no run, nor does the other.
-abbrev pub EqualIsEqual : Type 0
-EqualIsEqual =
-    (declared : DeclarationOf) (calls : List StepOf) (taken others : List ℕ) (m n : Meaning) → AllPairs (λ (a b : StepOf). a ≢ b) calls
-    → AreNext calls taken → AreNext calls others → AreSame taken others
-    → AreKnown declared (so_far calls taken) m → IsSound m → AreKnown declared (so_far calls others) n → IsSound n → IsPermutation (stills m) (stills n)
-    → IsDead declared calls taken → IsDead declared calls others
+-- WHAT A SEARCH REMEMBERS
 
 -- What a search remembers: the calls taken are marked, where these begin in their order, and each end leads to no run. The front are the objects
 -- with which it began, where they are compared.

@@ -1,4 +1,4 @@
--- Calls without effect, whose possibility hangs on no bytes. Not promised.
+-- Calls without effect, whose possibility hangs on no bytes.
 use Rattle.std.specs.Prelude.{◌≡◌, ◌≤◌, ℕ, Bool, true, false, List, [], ◌∷◌, slice_get, Some, None}
 use Rattle.kmipa_msgs.specs.declared.response.Status.{Status}
 use Rattle.kmipa_msgs.specs.declared.response.Status.TheVariants.{Success, Failed, Undone}
@@ -19,13 +19,6 @@ is_idle_item asked Failed = true
 is_idle_item asked Success = only_looks asked
 is_idle_item asked Undone = only_looks asked
 
-abbrev pub IsIdleAt : RequestOf → ResponseOf → ℕ → Type 0
-IsIdleAt request response place = (ask : AskOf) (answer : AnswerOf) → slice_get (pairs_of request response) place ≡ Some (ask, answer) → is_idle_item ask.asked answer.status ≡ true
-
--- all items from this place on are without effect
-abbrev pub AreIdleFrom : RequestOf → ResponseOf → ℕ → Type 0
-AreIdleFrom request response from = (place : ℕ) → from ≤ place → IsIdleAt request response place
-
 -- the same along a list of pairs
 abbrev pub AllIdle : List (AskOf × AnswerOf) → Type 0
 AllIdle [] = Unit {0}
@@ -34,3 +27,12 @@ AllIdle (pair ∷ pairs) = (is_idle_item pair.0.asked pair.1.status ≡ true) ×
 -- a step by place, whose items are all without effect
 abbrev pub IsIdleStep : StepOf → Type 0
 IsIdleStep s = (order_of s ≡ None) × AllIdle (pairs_of s.request s.response)
+
+-- ---- place by place, not promised
+
+abbrev pub IsIdleAt : RequestOf → ResponseOf → ℕ → Type 0
+IsIdleAt request response place = (ask : AskOf) (answer : AnswerOf) → slice_get (pairs_of request response) place ≡ Some (ask, answer) → is_idle_item ask.asked answer.status ≡ true
+
+-- all items from this place on are without effect
+abbrev pub AreIdleFrom : RequestOf → ResponseOf → ℕ → Type 0
+AreIdleFrom request response from = (place : ℕ) → from ≤ place → IsIdleAt request response place

@@ -1,5 +1,5 @@
 -- Laws: where a search decides, and what the words of its promise come to.
-use Rattle.std.specs.Prelude.{◌≡◌, ◌≢◌, ◌≤◌, ◌⊎◌, ◌↔◌, ℕ, Bool, true, false, List, ◌∷◌, length, AllPairs}
+use Rattle.std.specs.Prelude.{◌≡◌, ◌≢◌, ◌≤◌, ◌⊎◌, ◌↔◌, ℕ, Bool, true, false, List, ◌∷◌, length, AllPairs, IsPermutation}
 use Rattle.kmipa_store.specs.Choices.{IsSound}
 use Rattle.kmipa_store.specs.Ledger.{Meaning}
 use Rattle.kmipa_record.specs.Marks.{MarkOf, AreRecorded}
@@ -9,14 +9,15 @@ use Rattle.kmipa_batch.specs.Refusals.{CallExplainsAlong}
 use Rattle.kmipa_check.specs.Steps.{StepOf, order_of}
 use Rattle.kmipa_check.specs.Runs.{IsExplained, rules_declared}
 use Rattle.kmipa_check.specs.Verdicts.{AreKnown}
-use Rattle.kmipa_check.specs.Ordering.{Decided}
+use Rattle.kmipa_check.specs.Deciding.{Decided}
 use Rattle.kmipa_search.specs.Idle.{IsIdleStep}
 use Rattle.kmipa_search.specs.Plain.{ArePlain, IsForced}
 use Rattle.kmipa_search.specs.Next.{IsNext, is_next, weight}
-use Rattle.kmipa_search.specs.Progress.{so_far, AreNext, IsDead}
+use Rattle.kmipa_search.specs.Taken.{so_far, AreNext, IsDead, AreSame}
 use Rattle.kmipa_search.specs.Found.{Finds}
 use Rattle.kmipa_search.specs.declared.found.Found.{Found}
 use Rattle.kmipa_search.specs.declared.found.Found.TheVariants.{Yes, GaveUp}
+use Rattle.kmipa_search.specs.Stills.{stills}
 
 abbrev pub is_yes : Found → Bool
 is_yes (Yes witness count) = true
@@ -46,3 +47,12 @@ IdleFirst = (declared : DeclarationOf) (calls : List StepOf) (taken : List ℕ) 
     → AllPairs (λ (a b : StepOf). a ≢ b) calls → AreNext calls taken → AreKnown declared (so_far calls taken) m
     → CallExplainsAlong (rules_declared declared) m n.call.request n.call.response (order_of n.call) k → IsSound k → IsIdleStep n.call
     → IsDead declared calls (p ∷ taken) → IsDead declared calls taken
+
+-- Equal is equal: the same calls taken, and ledgers with the same objects as they stand, in whatever order these arrived and whatever numbers their
+-- secrets have: where the one leads to no run, nor does the other.
+abbrev pub EqualIsEqual : Type 0
+EqualIsEqual =
+    (declared : DeclarationOf) (calls : List StepOf) (taken others : List ℕ) (m n : Meaning) → AllPairs (λ (a b : StepOf). a ≢ b) calls
+    → AreNext calls taken → AreNext calls others → AreSame taken others
+    → AreKnown declared (so_far calls taken) m → IsSound m → AreKnown declared (so_far calls others) n → IsSound n → IsPermutation (stills m) (stills n)
+    → IsDead declared calls taken → IsDead declared calls others

@@ -6,6 +6,7 @@ pub mod Forced
 pub mod Laws
 pub mod LawsOfCheck
 pub mod Candidates
+pub mod Taken
 pub mod Progress
 pub mod Outcomes
 pub mod Confirming
@@ -21,4 +22,5 @@ pub mod Tries
 pub mod Wished
 pub mod Idle
 pub mod Settled
+pub mod Stills
 pub mod Ends

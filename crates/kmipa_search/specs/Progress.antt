@@ -1,17 +1,16 @@
 -- A search on its way: the places taken, the newest first. Not promised: `Found` says what a search tells.
-use Rattle.std.specs.Prelude.{◌≡◌, ◌≢◌, ◌<◌, ◌≤◌, ◌⊎◌, ◌+◌, ◌-◌, ◌++◌, ℕ, pos, suc, true, cond, List, [], ◌∷◌, map, length, slice_index_or, AllPairs, Contains, IsPermutation, Option, Some, None, Result, Ok, Err}
+use Rattle.std.specs.Prelude.{◌≡◌, ◌≢◌, ◌<◌, ◌≤◌, ◌⊎◌, ◌+◌, ◌-◌, ℕ, suc, true, cond, List, [], ◌∷◌, map, length, AllPairs, Contains, IsPermutation, Option, Some, None, Result, Ok, Err}
 use Rattle.kmipa_object.specs.Inventory.{Thing}
 use Rattle.kmipa_store.specs.Ledger.{LedgerState, Meaning}
 use Rattle.kmipa_store.specs.Choices.{IsSound}
 use Rattle.kmipa_record.specs.Declarations.{DeclarationOf}
 use Rattle.kmipa_msgs.specs.Messages.{RulesOf}
-use Rattle.kmipa_msgs.specs.declared.request.BatchOption.TheVariants.{Stop}
 use Rattle.kmipa_ops.specs.declared.why.Why.{Why}
 use Rattle.kmipa_batch.specs.Readable.{IsReadableCall}
 use Rattle.kmipa_batch.specs.Refusals.{CallExplainsAlong, CallRefutedAlong}
-use Rattle.kmipa_check.specs.Steps.{StepOf, order_of, step_with}
+use Rattle.kmipa_check.specs.Steps.{StepOf, order_of}
 use Rattle.kmipa_check.specs.Described.{Describes}
-use Rattle.kmipa_check.specs.Runs.{Before, IsPlaced, Linked, rules_declared}
+use Rattle.kmipa_check.specs.Runs.{Before, IsPlaced, rules_declared}
 use Rattle.kmipa_check.specs.Verdicts.{AreKnown}
 use Rattle.kmipa_check.specs.Laws.{TakenIsKnown, RefusedIsNever}
 use Rattle.kmipa_check.specs.declared.fault.CheckFault.{CheckFault}
@@ -21,12 +20,7 @@ use Rattle.kmipa_search.specs.Cursors.{IsCursor}
 use Rattle.kmipa_search.specs.Tries.{IsTried}
 use Rattle.kmipa_search.specs.declared.tried.Tried.{Tried}
 use Rattle.kmipa_search.specs.declared.tried.Visit.{Visit}
-
-abbrev pub no_step : StepOf
-no_step = step_with (record { number = pos 0; begin = 0; end = None; request = record { option = Stop; ordered = true; items = [] }; response = None }) (record { stamp = pos 0; items = [] })
-
-abbrev pub step_at : List StepOf → ℕ → StepOf
-step_at calls place = slice_index_or calls place no_step
+use Rattle.kmipa_search.specs.Taken.{step_at, TakesAll, so_far, IsDead, AreNext}
 
 -- the steps at these places
 abbrev pub ordered : List StepOf → List ℕ → List StepOf
@@ -39,13 +33,6 @@ AllReadable calls = (c : StepOf) → Contains calls c → IsReadableCall c.reque
 -- steps that begin in their order
 abbrev pub AreBegun : List StepOf → Type 0
 AreBegun calls = (p q : ℕ) → p < q → q < length calls → (step_at calls p).begin < (step_at calls q).begin
-
--- a run of these steps in this order, from this inventory
-pub record TakesAll (rules : RulesOf) (calls : List StepOf) (start : List Thing) (order : List StepOf) : Type 0 where
-  pub once : IsPermutation calls order
-  pub placed : IsPlaced order
-  pub last : List Thing
-  pub linked : Linked rules start order last
 
 -- some described inventory and some order of these steps have a run
 pub record HaveRun (declared : DeclarationOf) (calls : List StepOf) : Type 0 where
@@ -61,21 +48,6 @@ pub record CanBeTaken (declared : DeclarationOf) (calls order : List StepOf) : T
   pub known : Meaning
   pub knows : AreKnown declared order known
   pub sound : IsSound known
-
--- the calls taken, the oldest first
-abbrev pub so_far : List StepOf → List ℕ → List StepOf
-so_far calls [] = []
-so_far calls (p ∷ taken) = so_far calls taken ++ step_at calls p ∷ []
-
--- no run of the calls from a described inventory begins with those taken
-abbrev pub IsDead : DeclarationOf → List StepOf → List ℕ → Type 0
-IsDead declared calls taken = (start : List Thing) (order rest : List StepOf)
-    → Describes declared start → TakesAll (rules_declared declared) calls start order → order ≡ so_far calls taken ++ rest → ⊥
-
--- each was next when it was taken
-abbrev pub AreNext : List StepOf → List ℕ → Type 0
-AreNext calls [] = Unit {0}
-AreNext calls (p ∷ taken) = IsNext calls taken p × AreNext calls taken
 
 -- no next call that was tried leads to a run
 abbrev pub Cleared : DeclarationOf → List StepOf → List ℕ → List ℕ → Tried → Type 0

@@ -1,7 +1,7 @@
 -- Calls in an order of their own, and the links of those that are left. Not promised.
 use Rattle.std.specs.Prelude.{◌≡◌, ◌<◌, ◌≤◌, ◌<ℤ◌, ◌⊎◌, ◌&&◌, ◌||◌, int_lt, ℕ, zero, suc, Bool, not, nat_lt, int_le, List, [], ◌∷◌, length, Contains, Option, Some, None}
 use Rattle.kmipa_check.specs.Steps.{StepOf}
-use Rattle.kmipa_search.specs.Progress.{step_at}
+use Rattle.kmipa_search.specs.Taken.{step_at}
 use Rattle.kmipa_search.specs.Links.{at, AreLinked, after_with, before_with}
 
 -- so many places in an order: the ranks are numbered from 1 on

@@ -13,7 +13,7 @@ use Rattle.kmipa_check.specs.declared.fault.CheckFault.TheVariants.{Memory}
 use Rattle.kmipa_check.specs.declared.verdict.Refused.{Refused}
 use Rattle.kmipa_search.specs.Next.{IsNext}
 use Rattle.kmipa_search.specs.Plain.{ArePlain}
-use Rattle.kmipa_search.specs.Progress.{step_at, so_far, AreNext}
+use Rattle.kmipa_search.specs.Taken.{step_at, so_far, AreNext}
 use Rattle.kmipa_search.specs.declared.stuck.NextCall.{NextCall}
 use Rattle.kmipa_search.specs.declared.stuck.Reached.{Reached}
 

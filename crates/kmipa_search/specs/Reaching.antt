@@ -13,7 +13,7 @@ use Rattle.kmipa_check.specs.declared.fault.CheckFault.TheVariants.{Outside, Wit
 use Rattle.kmipa_check.specs.declared.verdict.Refused.{Refused}
 use Rattle.kmipa_search.specs.Cursors.{IsCursor}
 use Rattle.kmipa_search.specs.Next.{IsNext}
-use Rattle.kmipa_search.specs.Progress.{so_far}
+use Rattle.kmipa_search.specs.Taken.{so_far}
 use Rattle.kmipa_search.specs.Reached.{TellsNext}
 use Rattle.kmipa_search.specs.Remaining.{AreRemaining}
 use Rattle.kmipa_search.specs.declared.stuck.NextCall.{NextCall}

@@ -2,7 +2,7 @@
 use Rattle.std.specs.Prelude.{ℕ, List, length}
 use Rattle.kmipa_check.specs.Steps.{StepOf}
 pub use Rattle.kmipa_search.specs.Cursors.{IsCursor}
-use Rattle.kmipa_search.specs.Progress.{AreNext}
+use Rattle.kmipa_search.specs.Taken.{AreNext}
 use Rattle.kmipa_search.specs.Ranks.{IsRanked, ByStamp, ByEnd, WereLinked}
 use Rattle.kmipa_search.specs.declared.remaining.Remaining.{Remaining}
 

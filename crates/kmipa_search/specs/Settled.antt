@@ -10,7 +10,7 @@ use Rattle.kmipa_msgs.specs.declared.response.Status.TheVariants.{Success, Faile
 use Rattle.kmipa_msgs.specs.Messages.{AskedOf, locates, gets, gets_attributes, activates, revokes, destroys, idles, AskOf, AnswerOf, RequestOf, ResponseOf}
 use Rattle.kmipa_batch.specs.Calls.{pairs_of}
 use Rattle.kmipa_check.specs.Steps.{StepOf, order_of}
-use Rattle.kmipa_search.specs.Progress.{step_at}
+use Rattle.kmipa_search.specs.Taken.{step_at}
 
 -- OBJECTS
 

@@ -147,7 +147,7 @@ impl Ends {
     /// The number of the newest end of this hash, and one more; or 0, where there is none.
     #[inline(always)]
     fn alike(&self, hash: u64) -> usize {
-        let mut number = number_at(&self.newest, place_of(hash, self.newest.len()));
+        let mut number = number_at(&self.newest, chain_place(hash, self.newest.len()));
         'chain: while number > 0 {
             if number > self.ends.len() {
                 return 0;
@@ -257,7 +257,7 @@ impl Ends {
         ensures { IsAdded self.old.ends.items set objects self.new.ends.items }
     {
         grow(alloc, &self.ends, &mut self.older, &mut self.newest)?;
-        let place = place_of(hash, self.newest.len());
+        let place = chain_place(hash, self.newest.len());
         append(&mut self.older, number_at(&self.newest, place))?;
         self.ends.push(End { set, objects, hash })?;
         let number = self.ends.len();
@@ -300,7 +300,7 @@ fn places_for(ends: usize, places: usize) -> usize {
 fn spread(ends: &[End], older: &mut Vec<usize>, newest: &mut Vec<usize>) {
     let mut count = 0;
     'ends: while count < ends.len() {
-        let place = place_of(ends[count].hash, newest.len());
+        let place = chain_place(ends[count].hash, newest.len());
         put(older, count, number_at(newest, place));
         count += 1;
         put(newest, place, count);
@@ -358,7 +358,7 @@ fn chain_of(hash: u64) -> usize {
 }
 
 /// The place of a hash in a table of so many, which it shares with other chains.
-fn place_of(hash: u64, places: usize) -> usize {
+fn chain_place(hash: u64, places: usize) -> usize {
     if places == 0 {
         return 0;
     }

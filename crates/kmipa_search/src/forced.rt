@@ -3,11 +3,12 @@
 ghost use Rattle.std.specs.Prelude.{◌≡◌, ◌<◌, AllPairs, IfOk, length, map};
 ghost use Rattle.kmipa_record.specs.Marks.{AreRecorded};
 ghost use Rattle.kmipa_record.specs.Transcripts.{transcript_of};
-ghost use Rattle.kmipa_check.specs.Ordering.{Decided};
+ghost use Rattle.kmipa_check.specs.Deciding.{Decided};
 ghost use Rattle.kmipa_search.specs.Candidates.{candidate_step};
 ghost use Rattle.kmipa_search.specs.Forced.{TellsForced};
 ghost use Rattle.kmipa_search.specs.Plain.{AreApart};
-ghost use Rattle.kmipa_search.specs.Progress.{AreBegun, step_at};
+ghost use Rattle.kmipa_search.specs.Progress.{AreBegun};
+ghost use Rattle.kmipa_search.specs.Taken.{step_at};
 ghost use Rattle.kmipa_search.specs.Ranks.{AreClosed, parts};
 
 use crate::candidate::Candidate;

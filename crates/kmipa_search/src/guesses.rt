@@ -4,16 +4,13 @@ ghost use Rattle.std.specs.Prelude.{◌≡◌, IfOk};
 
 use crate::candidate::Candidate;
 use kmipa_attrs::Filter;
+use kmipa_attrs::tags::{RESPONSE_PAYLOAD, UNIQUE_IDENTIFIER};
 use kmipa_msgs::{Ask, Asked, is_wanted};
 use kmipa_ops::{Fit, matches};
 use kmipa_record::{Fill, Turn};
 use kmipa_store::Ledger;
 use kmipa_ttlv::{Item, Tag};
 use std::alloc::{AllocError, Global};
-
-const RESPONSE_PAYLOAD: u32 = 0x42_007C;
-
-const UNIQUE_IDENTIFIER: u32 = 0x42_0094;
 
 /// The turn that is tried of a call: it fills in a guess where the call waits for a payload, and gives nothing else.
 pub fn guessed_turn<L: Ledger>(

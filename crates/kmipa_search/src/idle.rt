@@ -4,7 +4,7 @@ ghost use Rattle.std.specs.Prelude.{◌≡◌, true, map};
 ghost use Rattle.kmipa_msgs.specs.Messages.{asked_of, request_of, response_of};
 ghost use Rattle.kmipa_search.specs.Candidates.{candidate_step};
 ghost use Rattle.kmipa_search.specs.Idle.{AreIdleFrom, IsIdleAt, IsIdleStep, is_idle_item, only_looks};
-ghost use Rattle.kmipa_search.specs.Progress.{step_at};
+ghost use Rattle.kmipa_search.specs.Taken.{step_at};
 
 use crate::candidate::Candidate;
 use kmipa_msgs::{Asked, Request, Response, Status};

@@ -1,7 +1,6 @@
 //! Laws of the definitions.
 
-ghost use Rattle.kmipa_search.specs.Ends.{EqualIsEqual};
-ghost use Rattle.kmipa_search.specs.Laws.{EnoughDecides, ForcedIsLight, IdleFirst, NextIsTested};
+ghost use Rattle.kmipa_search.specs.Laws.{EnoughDecides, ForcedIsLight, IdleFirst, NextIsTested, EqualIsEqual};
 
 use kmipa_check::one_list_of_calls;
 

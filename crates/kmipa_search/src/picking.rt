@@ -4,7 +4,8 @@ ghost use Rattle.std.specs.Prelude.{◌≡◌, ◌<◌, ◌≤◌, ℕ, List, tr
 ghost use Rattle.kmipa_search.specs.Candidates.{candidate_step};
 ghost use Rattle.kmipa_search.specs.Ends.{AreFlagged};
 ghost use Rattle.kmipa_check.specs.Steps.{StepOf};
-ghost use Rattle.kmipa_search.specs.Progress.{AreBegun, step_at};
+ghost use Rattle.kmipa_search.specs.Progress.{AreBegun};
+ghost use Rattle.kmipa_search.specs.Taken.{step_at};
 ghost use Rattle.kmipa_search.specs.Ranks.{InAnyOrder, IsRanked, WereLinked, allows};
 ghost use Rattle.kmipa_search.specs.Remaining.{AreRemaining, IsCursor};
 ghost use Rattle.kmipa_search.specs.Tries.{IsBest, IsBetter, IsFirst, IsPicked, IsPreferred};

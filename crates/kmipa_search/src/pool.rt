@@ -5,7 +5,8 @@ ghost use Rattle.kmipa_object.specs.declared.life.SecretNo.{SecretNo};
 ghost use Rattle.kmipa_object.specs.declared.life.Material.TheVariants.{Secret};
 ghost use Rattle.kmipa_store.specs.Ledger.{held};
 ghost use Rattle.kmipa_store.specs.Choices.{IsSound};
-ghost use Rattle.kmipa_search.specs.Ends.{AreAlike, IsAlikeAt, still, still_shared, stills, stills_shared};
+ghost use Rattle.kmipa_search.specs.Ends.{AreAlike, IsAlikeAt, still_shared, stills_shared};
+ghost use Rattle.kmipa_search.specs.Stills.{still, stills};
 
 use crate::stills::{Still, copy_of, known_of, stands_at};
 use kmipa_attrs::Name;

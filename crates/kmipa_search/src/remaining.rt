@@ -111,7 +111,7 @@ impl Remaining {
 
 ghost use Rattle.std.specs.Prelude.{◌≡◌, ◌<◌, true, length, map};
 ghost use Rattle.kmipa_search.specs.Candidates.{candidate_step};
-ghost use Rattle.kmipa_search.specs.Progress.{step_at};
+ghost use Rattle.kmipa_search.specs.Taken.{step_at};
 ghost use Rattle.kmipa_search.specs.Ranks.{allows};
 
 /// Whether the call at a place is a next one, where those at these places have the least stamp and the least end.

@@ -10,7 +10,8 @@ ghost use Rattle.kmipa_store.specs.Ledger.{held};
 ghost use Rattle.kmipa_store.specs.Choices.{IsSound};
 ghost use Rattle.kmipa_record.specs.Entries.{items_of};
 ghost use Rattle.kmipa_check.specs.Left.{bytes_left};
-ghost use Rattle.kmipa_search.specs.Ends.{IsAlikeAt, StandAmong, StandsAmong, still, still_of, stills, stills_shared};
+ghost use Rattle.kmipa_search.specs.Ends.{IsAlikeAt, StandAmong, StandsAmong, still_of, stills_shared};
+ghost use Rattle.kmipa_search.specs.Stills.{still, stills};
 
 use kmipa_attrs::{AttrSet, Name};
 use kmipa_object::{Life, Material, Object};

@@ -12,7 +12,7 @@ use Rattle.kmipa_record.specs.declared.transcript.Transcript.{Transcript}
 use Rattle.kmipa_record.specs.declared.witness.Witness.{Witness}
 use Rattle.kmipa_check.specs.Calls.{AreCalls}
 use Rattle.kmipa_check.specs.Described.{Describes}
-use Rattle.kmipa_check.specs.Left.{IsLeft, Leaves, LeavesAtYes}
+use Rattle.kmipa_check.specs.Left.{IsLeft, LeavesDeclaration, LeavesAtYes}
 use Rattle.kmipa_check.specs.Orders.{IsOrder}
 use Rattle.kmipa_check.specs.Runs.{IsPlaced}
 use Rattle.kmipa_check.specs.Segments.{AreApart, HaveBegun, Leads}

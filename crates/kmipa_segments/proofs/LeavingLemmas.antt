@@ -11,8 +11,7 @@ use borrow.Author.Count.{below_more}
 use Rattle.kmipa_record.specs.Marks.{MarkOf}
 use Rattle.kmipa_record.specs.Transcripts.{transcript_of}
 use Rattle.kmipa_record.specs.Declarations.{DeclarationOf, declaration_of, IsDeclaration}
-use Rattle.kmipa_record.specs.DeclarationWriting.{IsTooLong}
-use Rattle.kmipa_record.specs.Entries.{EntryOf, entry_of}
+use Rattle.kmipa_record.specs.Entries.{EntryOf, entry_of, IsTooLong}
 use Rattle.kmipa_record.specs.Witnesses.{TurnOf, witness_of}
 use Rattle.kmipa_record.specs.Writing.{Appends, IsWrittenDeclaration, Unwritten, no_memory, no_file}
 use Rattle.kmipa_record.specs.declared.entry.Entry.{Entry}

@@ -71,8 +71,8 @@ plain_of calls steps plain s of =
     record { call = c; known = of.2; plain = record { response = step.response; plain = step.plain; is = plain_call_has_one_step_lem c step.response of.1 s step.plain of.3 } }
 
 -- the Time Stamp of a step of a call that has ended is that of its response
-stamp_of : (c : CallOf) (t : TurnOf) (s : StepOf) (response : ResponseOf) → IsStep c t s → c.response ≡ Some response → s.response.stamp ≡ response.stamp
-stamp_of c t s response step has = by step.answered
+recorded_stamp : (c : CallOf) (t : TurnOf) (s : StepOf) (response : ResponseOf) → IsStep c t s → c.response ≡ Some response → s.response.stamp ≡ response.stamp
+recorded_stamp c t s response step has = by step.answered
   where
     by : IsAnswered c t step.response → s.response.stamp ≡ response.stamp
     by (recorded is bare) =
@@ -116,7 +116,7 @@ below_since calls once since run e takes h =
     let of = takes.of_calls t.0 t.1 in
     let same = one_call calls once of.0 e.call of.2 e.known (sym (step_number of.0 of.1 t.0 of.3) ∙ t.2) in
     let P : CallOf → Type 0 = λ c. IsStep c of.1 t.0 in
-    let stamp = stamp_of e.call of.1 t.0 e.response (subst P same of.3) e.given in
+    let stamp = recorded_stamp e.call of.1 t.0 e.response (subst P same of.3) e.given in
     let Q : Option ℤ → Type 0 = λ o. AreSince o run in
     let B : ℤ → Type 0 = λ z. e.moment ≤ℤ z in
     clash_ℤ e.below (subst B stamp (subst Q e.is h t.0 t.1))

@@ -1,11 +1,10 @@
 -- What the check of a segment makes and prints: its verdict, and at a yes the declaration that its run leaves.
-use Rattle.std.specs.Prelude.{◌≡◌, ◌⊎◌, ◌<◌, ◌+◌, ℕ, ℤ, List, [], ◌∷◌, ◌++◌, Bool, true, false, Option, Some, None, Result, Ok, Err, codes, length, slice_get}
+use Rattle.std.specs.Prelude.{◌≡◌, ◌<◌, ◌+◌, ℕ, ℤ, List, [], ◌∷◌, ◌++◌, Bool, true, false, Option, Some, None, Result, Ok, Err, codes, length, slice_get}
 use Rattle.std.specs.Fmt.{decimal, signed_decimal}
 use Rattle.kmipa_record.specs.Marks.{MarkOf}
 use Rattle.kmipa_record.specs.Transcripts.{transcript_of, IsTranscript}
 use Rattle.kmipa_record.specs.Declarations.{DeclarationOf, declaration_of, IsDeclaration}
-use Rattle.kmipa_record.specs.DeclarationWriting.{IsTooLong}
-use Rattle.kmipa_record.specs.Entries.{EntryOf}
+use Rattle.kmipa_record.specs.Entries.{EntryOf, IsTooLong}
 use Rattle.kmipa_record.specs.Witnesses.{TurnOf, witness_of, IsWitness}
 use Rattle.kmipa_check.specs.Audits.{AreRecords, AuditFails}
 use Rattle.kmipa_check.specs.Left.{LeavesAtYes}

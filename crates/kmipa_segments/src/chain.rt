@@ -81,7 +81,8 @@ impl Chain {
             → ChecksNext self.old.held t w (is_failed transcript.new) (is_failed witness.new) outcome)
             × (PrintsNext outcome result (appended_bytes out.old.items out.new.items)
             ⊎ IsSilent result (appended_bytes out.old.items out.new.items)) }
-        // Status 0 is answered only of a segment that goes on from what was held, and joins all before it; what it leads to is held then.
+        // Status 0 is answered only of a segment that goes on from what was held, and joins all before it;
+        // what it leads to is held then.
         ensures goes_on { result ≡ Status.Done
             → GoesOnBy self.old.held self.new.held (came_of transcript.new) (came_of witness.new)
             × IsTrue (is_ended transcript.new) × IsTrue (is_ended witness.new) }

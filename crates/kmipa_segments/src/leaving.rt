@@ -51,8 +51,8 @@ pub fn segment_run<R: Read>(
         (appended_bytes made.old.items made.new.items)
         ⊎ (IsSilent result (appended_bytes out.old.items out.new.items)
         × (appended_bytes made.old.items made.new.items ≡ []))) }
-    // Status 0 is answered only where the bytes that came, to the ends that were seen, are accepted from the moment on; and where it is asked
-    // for, what they lead to is made.
+    // Status 0 is answered only where the bytes that came, to the ends that were seen, are accepted from the
+    // moment on; and where it is asked for, what they lead to is made.
     ensures leads { result ≡ Status.Done
         → LeadsAsAsked leaves (came_of transcript.new) (came_of declaration.new) (came_of witness.new) since
         (appended_bytes made.old.items made.new.items)
@@ -143,7 +143,8 @@ fn tell_checked(alloc: Global, segment: &Segment, out: &mut Vec<u8>, made: &mut 
 
 /// Appends the lines of the verdict.
 fn tell_verdict(alloc: Global, segment: &Segment, out: &mut Vec<u8>) -> Status
-    ensures prints { PrintsVerdict (transcript_of segment.now.records.transcript) (witness_of segment.now.records.witness)
+    ensures prints { PrintsVerdict (transcript_of segment.now.records.transcript)
+        (witness_of segment.now.records.witness)
         segment.now.checked.verdict
         result (appended_bytes out.old.items out.new.items)
         ⊎ IsSilent result (appended_bytes out.old.items out.new.items) }

@@ -65,8 +65,8 @@ pub fn search_segment_run<R: Read, W: Watch>(
         ⊎ (IsSilent result (appended_bytes out.old.items out.new.items)
         × (appended_bytes made.old.items made.new.items ≡ [])
         × (appended_bytes left.old.items left.new.items ≡ []))) }
-    // Status 0 is answered only where the bytes that came, to the ends that were seen, are accepted from the moment on with the witness that is
-    // made; and where it is asked for, what they lead to is made.
+    // Status 0 is answered only where the bytes that came, to the ends that were seen, are accepted from the
+    // moment on with the witness that is made; and where it is asked for, what they lead to is made.
     ensures leads { result ≡ Status.Done
         → LeadsAsAsked leaves (came_of transcript.new) (came_of declaration.new)
         (appended_bytes made.old.items made.new.items) since

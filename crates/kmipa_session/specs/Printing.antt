@@ -34,8 +34,8 @@ text_of voice [] status.Failed = memory_text voice
 text_of voice lines said = lines
 
 -- these lines of a status are printed behind what was printed before, and it is left; or a print failed
-abbrev pub Tells : Voice → List ℕ → Status → List ℕ → List ℕ → Bool → Status → Type 0
-Tells voice lines said before after failed left = ((left ≡ said) × (after ≡ before ++ text_of voice lines said)) ⊎ ((left ≡ status.Failed) × IsTrue failed)
+abbrev pub TellsLines : Voice → List ℕ → Status → List ℕ → List ℕ → Bool → Status → Type 0
+TellsLines voice lines said before after failed left = ((left ≡ said) × (after ≡ before ++ text_of voice lines said)) ⊎ ((left ≡ status.Failed) × IsTrue failed)
 
 -- the line of what was refused: for want of memory, or else since a file can't be opened, read or written
 abbrev pub trouble_text : Voice → Bool → List ℕ
@@ -44,9 +44,9 @@ trouble_text voice false = device_text voice
 
 -- it is printed
 abbrev pub TellsTrouble : Voice → Bool → List ℕ → List ℕ → Bool → Status → Type 0
-TellsTrouble voice lacked before after failed left = Tells voice (trouble_text voice lacked) status.Failed before after failed left
+TellsTrouble voice lacked before after failed left = TellsLines voice (trouble_text voice lacked) status.Failed before after failed left
 
 -- behind the lines of a run that printed by itself: nothing, or, where nothing was printed, that memory ran out
 abbrev pub TellsRest : Status → List ℕ → List ℕ → Bool → Status → Type 0
 TellsRest said before after failed left = ((left ≡ said) × (after ≡ before))
-    ⊎ ((said ≡ status.Failed) × (before ≡ []) × Tells Lines [] status.Failed before after failed left)
+    ⊎ ((said ≡ status.Failed) × (before ≡ []) × TellsLines Lines [] status.Failed before after failed left)

@@ -8,7 +8,7 @@ use Rattle.kmipa_runs.specs.declared.status.Status.{Status}
 use Rattle.kmipa_runs.specs.declared.status.Status.TheVariants as status
 use Rattle.kmipa_session.specs.Checks.{Checks, ChecksInSegment}
 use Rattle.kmipa_session.specs.Jobs.{asked_of, IsNoMoment, IsSince}
-use Rattle.kmipa_session.specs.Printing.{trouble_text, Tells, TellsRest, TellsTrouble, voice_of}
+use Rattle.kmipa_session.specs.Printing.{trouble_text, TellsLines, TellsRest, TellsTrouble, voice_of}
 use Rattle.kmipa_session.specs.Searches.{Searches, SearchesInSegment, Shows}
 use Rattle.kmipa_session.specs.Worlds.{input_of, name_of}
 use Rattle.kmipa_session.specs.declared.did.Did.{Did}
@@ -27,12 +27,12 @@ use Rattle.kmipa_session.specs.declared.voice.Voice.TheVariants as voice
 
 -- ---- files that were read and made, where F are files that were opened, M files that were made, and E refusals
 
--- this file was made under this name, of these bytes, if the status is `Done`; else none was
+-- this file was made under this name, of these bytes, if the status is `Done`; else none is told as made
 abbrev pub IsMade : {M : Type 0} → (M → List ℕ × List ℕ) → List ℕ → List ℕ → Status → Option M → Type 0
 IsMade made name bytes said None = said ≢ status.Done
 IsMade made name bytes said (Some file) = (said ≡ status.Done) × (made file ≡ (name, bytes))
 
--- so it is where the file is asked for; else none was
+-- so it is where the file is asked for; else none is told as made
 abbrev pub IsMadeAsAsked : {M : Type 0} → (M → List ℕ × List ℕ) → Option (Bor (List ℕ)) → List ℕ → Status → Option M → Type 0
 IsMadeAsAsked made None bytes said file = file ≡ None
 IsMadeAsAsked made (Some name) bytes said file = IsMade made name.now bytes said file
@@ -42,7 +42,7 @@ abbrev pub IsUntold : {F M E : Type 0} → SegmentWords → Did F M E → Status
 IsUntold segment did.Nothing said lines = IsNoMoment segment.not_before × (said ≡ status.Usage) × (lines ≡ [])
 IsUntold segment other said lines = ⊥
 
--- A mistake in the words was told on standard error; or that was refused.
+-- Nothing is printed, and the status is that of a mistake in the words; or that it is told was refused.
 abbrev pub TellsMistake : {F M E : Type 0} → Did F M E → List ℕ → List ℕ → Status → Type 0
 TellsMistake did.Nothing before after left = (after ≡ before) × (left ≡ status.Usage)
 TellsMistake (did.Refused e) before after left = (after ≡ before) × (left ≡ status.Failed)
@@ -96,11 +96,11 @@ module _ {F M E : Type 0} (made : M → List ℕ × List ℕ) (lacked : E → Bo
   -- This was done, or it was refused, and its lines are printed.
   abbrev pub TellsWhat : Voice → (Did F M E → Status → List ℕ → Type 0) → Did F M E → List ℕ → List ℕ → Bool → Status → Type 0
   TellsWhat voice Has done before after failed left = (said : Status) × (lines : List ℕ)
-      × (Has done said lines ⊎ IsRefused voice done said lines) × Tells voice lines said before after failed left
+      × (Has done said lines ⊎ IsRefused voice done said lines) × TellsLines voice lines said before after failed left
 
   -- what was done, or a refusal, is told
   abbrev pub TellsDone : Voice → Result (Said × Did F M E) E → Did F M E → List ℕ → List ℕ → Bool → Status → Type 0
-  TellsDone voice (Ok it) done before after failed left = (done ≡ it.1) × Tells voice it.0.lines.items it.0.status before after failed left
+  TellsDone voice (Ok it) done before after failed left = (done ≡ it.1) × TellsLines voice it.0.lines.items it.0.status before after failed left
   TellsDone voice (Err e) done before after failed left = (done ≡ did.Refused e) × TellsTrouble voice (lacked e) before after failed left
 
   abbrev pub RunsCheck : List ℕ → List ℕ → List ℕ → Option Asked → SegmentWords → Did F M E → List ℕ → List ℕ → Bool → Status → Type 0

@@ -22,7 +22,7 @@ pub enum Did<'n, F, M, E> {
     Written(Named<'n, F>, Option<M>),
     /// A folder of segments was judged. Which files were read and made isn't told.
     Chained,
-    /// Something was refused, and then nothing was made.
+    /// Something was refused, and no file is told as made.
     Refused(E),
 }
 

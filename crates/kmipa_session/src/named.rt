@@ -21,13 +21,23 @@ pub struct Named<'n, R> {
 }
 
 impl<'n, R: Read> Named<'n, R> {
-    ghost use Rattle.std.specs.Prelude.{◌≡◌, [], IsTrue, IfOk, OnErr, OnOk, Some, None};
+    ghost use Rattle.std.specs.Prelude.{◌≡◌, ◌⊎◌, ℕ, List, [], IsTrue, IfErr, IfOk, OnErr, OnOk, Result, Some, None};
     ghost use Rattle.std.specs.Io.{StartsWith, appended_bytes};
-    ghost use Rattle.kmipa_ttlv.specs.Input.{came_of, is_failed};
+    ghost use Rattle.kmipa_ttlv.specs.Input.{came_of, is_ended, is_failed, IsFileOf};
     ghost use Rattle.kmipa_runs.specs.Inputs.{Writes};
-    ghost use Rattle.kmipa_record.specs.Declarations.{AreDeclared, declaration_of};
+    ghost use Rattle.kmipa_record.specs.Declarations.{AreDeclared, DeclarationFault, DeclarationOf, IsDeclaration, IsDeclarationUpTo, declaration_of};
+    ghost use Rattle.kmipa_record.specs.Files.{Tells};
+    ghost use Rattle.kmipa_record.specs.declared.fault.RecordFault.{RecordFault};
+    ghost use Rattle.kmipa_check.specs.declared.auditing.AuditFault.{AuditFault};
+    ghost use Rattle.kmipa_runs.specs.Lines.{PrintsFault};
+    ghost use Rattle.kmipa_runs.specs.Statuses.{IsSilent};
     ghost use Rattle.kmipa_runs.specs.declared.status.Status.{Status};
-    ghost use Rattle.kmipa_segments.specs.Chaining.{IsNextOf};
+    ghost use Rattle.kmipa_segments.specs.Chaining.{IsChain, IsNamed, IsNextOf};
+    ghost use Rattle.kmipa_segments.specs.Chains.{ChecksNext, PrintsNext, PrintsNextFound, SearchesNext};
+    ghost use Rattle.kmipa_segments.specs.Comparing.{ComparesFile, Fits, PrintsCompared};
+    ghost use Rattle.kmipa_segments.specs.declared.comparing.Compared.{Compared};
+    ghost use Rattle.kmipa_segments.specs.declared.next.NextSegment.{NextSegment};
+    ghost use Rattle.kmipa_segments.specs.declared.segment_search.FoundSegment.{FoundSegment};
     ghost use Rattle.kmipa_session.specs.Checks.{Checks, ChecksInSegment};
     ghost use Rattle.kmipa_session.specs.Searches.{Searches, SearchesInSegment, Shows};
     ghost use Rattle.kmipa_session.specs.Worlds.{input_of, name_of};
@@ -181,11 +191,22 @@ impl<'n, R: Read> Named<'n, R> {
     {
         write_items(alloc, &mut self.input)
     }
+
     /// The chain of no segments, from the declaration that the file is. Where it is none, appends the line of its first fault, and answers the
     /// status.
     pub fn begin(&mut self, alloc: Global, lines: &mut Vec<u8>) -> Result<Chain, Status>
         requires { came_of (input_of self.old) ≡ [] }
+        ensures begins { IfOk result (λ chain.
+            IsDeclaration (came_of (input_of self.new)) (declaration_of chain.held.declaration)
+            × IsTrue (is_ended (input_of self.new))
+            × IsChain (declaration_of chain.held.declaration) [] chain.held) }
         ensures declared { IfOk result (λ chain. AreDeclared (declaration_of chain.held.declaration)) }
+        ensures refuses { IfErr result (λ status. (fault : RecordFault)
+            × ((d : List ℕ) → IsFileOf d (input_of self.new)
+            → Tells DeclarationFault IsDeclarationUpTo d (is_failed (input_of self.new)) fault)
+            × (PrintsFault (AuditFault.Declaration fault) status (appended_bytes lines.old.items lines.new.items)
+            ⊎ IsSilent status (appended_bytes lines.old.items lines.new.items))) }
+        ensures appends { StartsWith lines.new.items lines.old.items }
     {
         chain_begin(alloc, &mut self.input, lines)
     }
@@ -202,12 +223,20 @@ impl<'n, R: Read> Named<'n, R> {
         requires declared { AreDeclared (declaration_of chain.old.held.declaration) }
         requires transcript { came_of (input_of transcript.old) ≡ [] }
         requires witness { came_of (input_of witness.old) ≡ [] }
-        ensures joins { result ≡ Status.Done → IsNextOf chain.old.held chain.new.held
+        ensures prints { (outcome : Result NextSegment AuditFault)
+            × ((t w : List ℕ) → IsFileOf t (input_of transcript.new) → IsFileOf w (input_of witness.new)
+            → ChecksNext chain.old.held t w (is_failed (input_of transcript.new))
+            (is_failed (input_of witness.new)) outcome)
+            × (IsNamed name.now (λ told. PrintsNext outcome result told)
+            (appended_bytes lines.old.items lines.new.items)
+            ⊎ IsSilent result (appended_bytes lines.old.items lines.new.items)) }
+        ensures goes_on { result ≡ Status.Done → IsNextOf chain.old.held chain.new.held
             (record {
               transcript = came_of (input_of transcript.new);
               witness = Some (came_of (input_of witness.new));
-            }) }
+            }) × IsTrue (is_ended (input_of transcript.new)) × IsTrue (is_ended (input_of witness.new)) }
         ensures declared { AreDeclared (declaration_of chain.new.held.declaration) }
+        ensures appends { StartsWith lines.new.items lines.old.items }
     {
         chain_check(
             alloc,
@@ -231,9 +260,17 @@ impl<'n, R: Read> Named<'n, R> {
     ) -> Status
         requires declared { AreDeclared (declaration_of chain.old.held.declaration) }
         requires fresh { came_of (input_of self.old) ≡ [] }
-        ensures joins { result ≡ Status.Done → IsNextOf chain.old.held chain.new.held
-            (record { transcript = came_of (input_of self.new); witness = None }) }
+        ensures prints { (outcome : Result FoundSegment AuditFault)
+            × ((t : List ℕ) → IsFileOf t (input_of self.new)
+            → SearchesNext chain.old.held t (is_failed (input_of self.new)) budget outcome)
+            × (IsNamed name.now (λ told. PrintsNextFound outcome result told)
+            (appended_bytes lines.old.items lines.new.items)
+            ⊎ IsSilent result (appended_bytes lines.old.items lines.new.items)) }
+        ensures goes_on { result ≡ Status.Done → IsNextOf chain.old.held chain.new.held
+            (record { transcript = came_of (input_of self.new); witness = None })
+            × IsTrue (is_ended (input_of self.new)) }
         ensures declared { AreDeclared (declaration_of chain.new.held.declaration) }
+        ensures appends { StartsWith lines.new.items lines.old.items }
     {
         chain_search(alloc, chain, name, &mut self.input, budget, watch, lines)
     }
@@ -247,6 +284,16 @@ impl<'n, R: Read> Named<'n, R> {
         lines: &mut Vec<u8>,
     ) -> Status
         requires { came_of (input_of self.old) ≡ [] }
+        ensures prints { (outcome : Result Compared RecordFault)
+            × ((d : List ℕ) → IsFileOf d (input_of self.new)
+            → ComparesFile (declaration_of chain.now.held.declaration) d (is_failed (input_of self.new)) outcome)
+            × (IsNamed name.now (λ told. PrintsCompared outcome result told)
+            (appended_bytes lines.old.items lines.new.items)
+            ⊎ IsSilent result (appended_bytes lines.old.items lines.new.items)) }
+        ensures fits { result ≡ Status.Done → (other : DeclarationOf)
+            × IsDeclaration (came_of (input_of self.new)) other
+            × Fits (declaration_of chain.now.held.declaration) other × IsTrue (is_ended (input_of self.new)) }
+        ensures appends { StartsWith lines.new.items lines.old.items }
     {
         chain_compare(alloc, chain, name, &mut self.input, lines)
     }

@@ -2,7 +2,7 @@
 
 ghost use Rattle.std.specs.Prelude.{◌≡◌, IfOk, OnErr};
 ghost use Rattle.kmipa_runs.specs.declared.status.Status.{Status};
-ghost use Rattle.kmipa_session.specs.Printing.{Tells, TellsRest, TellsTrouble, text_of, trouble_text};
+ghost use Rattle.kmipa_session.specs.Printing.{TellsLines, TellsRest, TellsTrouble, text_of, trouble_text};
 
 use crate::voice::{Voice, device_text, memory_text};
 use crate::world::{Out, World};
@@ -10,7 +10,7 @@ use kmipa_runs::{Status, Unprinted};
 
 /// Prints what came of a run, and answers its status, or `Failed` where that can't be printed.
 pub fn tell<O: Out>(out: &mut O, voice: Voice, lines: &[u8], status: Status) -> Status
-    ensures { Tells voice lines.now status (O.printed out.old) (O.printed out.new) (O.has_failed out.new) result }
+    ensures { TellsLines voice lines.now status (O.printed out.old) (O.printed out.new) (O.has_failed out.new) result }
 {
     match out.print(text_of(voice, lines, status)) {
         Ok(()) => status,

@@ -10,8 +10,8 @@ use Rattle.kmipa_record.specs.Witnesses.{TurnOf, turn_of}
 use Rattle.kmipa_record.specs.declared.turn.Turn.{Turn}
 use Rattle.kmipa_check.specs.CallReading.{AreReadUpTo}
 use Rattle.kmipa_check.specs.Calls.{CallOf, AreCalls, HasBegin, HasEnd, IsRecorded, IsFirstOutside}
-use Rattle.kmipa_check.specs.Orders.{IsNamed, AreFormedBelow, IsOrder, WitnessFaultAt, left_out}
-use Rattle.kmipa_check.specs.Ordering.{AreFormed, Decided}
+use Rattle.kmipa_check.specs.Orders.{IsNamed, AreFormedBelow, IsOrder, WitnessFaultAt, left_out, AreFormed}
+use Rattle.kmipa_check.specs.Deciding.{Decided}
 use Rattle.kmipa_check.specs.Replays.{Replayed}
 use Rattle.kmipa_check.specs.Steps.{StepOf}
 use Rattle.kmipa_check.specs.declared.fault.CheckFault.{CheckFault}

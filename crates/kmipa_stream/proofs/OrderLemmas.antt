@@ -11,7 +11,7 @@ use Rattle.kmipa_record.specs.declared.turn.Turn.{Turn}
 use Rattle.kmipa_check.specs.Calls.{CallOf, AreCalls, IsRecorded, IsEnded, has_ended, is_open, HasEnd, HasBegin}
 use Rattle.kmipa_check.specs.Late.{is_below}
 use Rattle.kmipa_check.specs.Orders.{NamesAt, NamesBefore, IsFormed, IsOrder}
-use Rattle.kmipa_check.specs.Ordering.{Decided}
+use Rattle.kmipa_check.specs.Deciding.{Decided}
 use Rattle.kmipa_check.specs.Runs.{EndsAhead}
 use Rattle.kmipa_check.specs.Steps.{StepOf, IsStep}
 use Rattle.kmipa_check.specs.Verdicts.{IsLate, RunsBack}

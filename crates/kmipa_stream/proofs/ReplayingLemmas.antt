@@ -9,7 +9,7 @@ use Rattle.kmipa_record.specs.declared.turn.Turn.{Turn}
 use Rattle.kmipa_check.specs.Calls.{CallOf, AreCalls, IsRecorded}
 use Rattle.kmipa_check.specs.Late.{is_below}
 use Rattle.kmipa_check.specs.Orders.{IsFormed, IsOrder, GivenFault, twice, unfit, WitnessFaultAt, in_turn}
-use Rattle.kmipa_check.specs.Ordering.{Decided}
+use Rattle.kmipa_check.specs.Deciding.{Decided}
 use Rattle.kmipa_check.specs.Replays.{TurnTaken, TurnTold}
 use Rattle.kmipa_check.specs.Runs.{rules_declared}
 use Rattle.kmipa_check.specs.Stamps.{IsAnsweredAt, by_mark, by_turn}

@@ -11,7 +11,7 @@ use Rattle.kmipa_check.specs.Calls.{HasEnd}
 use Rattle.kmipa_check.specs.Numbers.{place_in, StandsFirst}
 use Rattle.kmipa_check.specs.Late.{is_below}
 use Rattle.kmipa_check.specs.Orders.{IsNamed}
-use Rattle.kmipa_check.specs.Ordering.{Decided}
+use Rattle.kmipa_check.specs.Deciding.{Decided}
 use Rattle.kmipa_check.specs.declared.numbers.FirstPlaces.{FirstPlaces}
 use Rattle.kmipa_check.proofs.PlaceLemmas.{mapped_from, get_at, pushed_at, apart, below_suc}
 use Rattle.kmipa_stream.specs.Waiting.{AreNamedAt, IsPassed, AreEnds, Wait, IsFirstWaiting}

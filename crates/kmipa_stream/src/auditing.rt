@@ -195,7 +195,8 @@ fn take_marks<R: Read>(
     auditor: &mut Auditor<'_>,
 ) -> Result<bool, RecordFault>
     requires come { HaveCome [] source.old }
-    requires first { (turns : List turns.Turn) × (declared : DeclarationOf) × Stands false [] turns declared auditor.old }
+    requires first { (turns : List turns.Turn) × (declared : DeclarationOf)
+        × Stands false [] turns declared auditor.old }
     ensures taken { (turns : List turns.Turn) (declared : DeclarationOf) → Stands false [] turns declared auditor.old
         → IfOk result (λ sufficed. (marks : List MarkOf) × IsTranscript (came_of (input_of source.new)) marks
         × IsTrue (is_ended (input_of source.new))

@@ -31,7 +31,7 @@ impl<'w> Auditor<'w> {
     ghost use Rattle.kmipa_record.specs.Marks.{AreRecorded, MarkOf, ends, mark_of};
     ghost use Rattle.kmipa_record.specs.Witnesses.{turn_of};
     ghost use Rattle.kmipa_record.specs.declared.turn.Turn as turns;
-    ghost use Rattle.kmipa_check.specs.Ordering.{Decided};
+    ghost use Rattle.kmipa_check.specs.Deciding.{Decided};
     ghost use Rattle.kmipa_stream.specs.Opening.{Opens};
     ghost use Rattle.kmipa_stream.specs.Standing.{AreAllReleased, IsDone, IsFirstLeftOut, IsUnnamed, Judges, LetsGoAt, MayTake, Standing, Stands, TellsLeftOut};
     ghost use Rattle.kmipa_stream.specs.Waiting.{AreNamedAt};
@@ -177,7 +177,8 @@ impl<'w> Auditor<'w> {
     fn read(&mut self, place: usize, closed: bool) -> Result<(), AllocError>
         ensures stands { (marks : List MarkOf) (turns : List turns.Turn) (declared : DeclarationOf)
             → Stands closed marks turns declared self.old → OnOk result (Stands closed marks turns declared self.new) }
-        ensures let_go { closed ≡ true → OnOk result (LetsGoAt self.old.seen.calls.items self.new.seen.calls.items place) }
+        ensures let_go { closed ≡ true → OnOk result
+            (LetsGoAt self.old.seen.calls.items self.new.seen.calls.items place) }
         ensures replay { self.new.replay ≡ self.old.replay }
         ensures lowest { OnOk result (self.new.lowest ≡ None → self.old.lowest ≡ None) }
     {

@@ -40,7 +40,8 @@ impl Ends {
 
     /// Takes an end mark, behind the others.
     pub fn push(&mut self, number: i32, place: usize) -> Result<(), AllocError>
-        ensures { (marks : List MarkOf) (turns : List Turn) (count : ℕ) (answered : List ℕ) → Wait marks turns count self.old
+        ensures { (marks : List MarkOf) (turns : List Turn) (count : ℕ) (answered : List ℕ)
+            → Wait marks turns count self.old
             → place ≡ length marks
             → OnOk result (Wait (marks ++ ends number answered ∷ []) turns count self.new) }
     {

@@ -4,7 +4,7 @@ ghost use Rattle.std.specs.Prelude.{List, map};
 ghost use Rattle.kmipa_record.specs.Witnesses.{turn_of};
 ghost use Rattle.kmipa_record.specs.declared.turn.Turn.{Turn};
 ghost use Rattle.kmipa_check.specs.Orders.{IsNamed};
-ghost use Rattle.kmipa_check.specs.Ordering.{Decided};
+ghost use Rattle.kmipa_check.specs.Deciding.{Decided};
 ghost use Rattle.kmipa_stream.specs.Waiting.{AreNamedAt, IsPassed};
 
 use kmipa_check::FirstPlaces;

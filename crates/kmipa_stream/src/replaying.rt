@@ -52,7 +52,7 @@ impl<'w> Replay<'w> {
     ghost use Rattle.kmipa_record.specs.declared.turn.Turn as turns;
     ghost use Rattle.kmipa_check.specs.Calls.{IsRecorded, call_of};
     ghost use Rattle.kmipa_check.specs.Orders.{IsNamed};
-    ghost use Rattle.kmipa_check.specs.Ordering.{Decided};
+    ghost use Rattle.kmipa_check.specs.Deciding.{Decided};
     ghost use Rattle.kmipa_check.specs.Places.{MayBeTaken};
     ghost use Rattle.kmipa_check.specs.Steps.{step_of};
     ghost use Rattle.kmipa_stream.specs.Opening.{Opens};
@@ -167,7 +167,8 @@ impl<'w> Replay<'w> {
             → AnswersAhead closed marks turns step.now.number (step_of step.now).response.stamp
             → OnOk result
             (Replays closed marks turns declared self.new × Wait marks turns self.new.formed ends.new) }
-        ensures formed { OnOk result ((self.new.turns.now ≡ self.old.turns.now) × (self.new.formed ≡ self.old.formed + 1)) }
+        ensures formed { OnOk result ((self.new.turns.now ≡ self.old.turns.now)
+            × (self.new.formed ≡ self.old.formed + 1)) }
     {
         let turn = self.formed;
         self.formed = turn + 1;

@@ -4,7 +4,7 @@ ghost use Rattle.std.specs.Prelude.{◌≡◌, ◌<◌, ◌+◌, ◌^◌, IfOk, 
 ghost use Rattle.kmipa_batch.specs.Readable.{IsReadableCall};
 ghost use Rattle.kmipa_store.specs.Choices.{IsSound};
 ghost use Rattle.kmipa_msgs.specs.Messages.{rules_of};
-ghost use Rattle.kmipa_check.specs.Ordering.{Decided};
+ghost use Rattle.kmipa_check.specs.Deciding.{Decided};
 ghost use Rattle.kmipa_check.specs.Places.{MayBeTaken};
 ghost use Rattle.kmipa_check.specs.Replays.{TurnTaken};
 ghost use Rattle.kmipa_check.specs.Steps.{StepOf, step_of};

@@ -17,7 +17,7 @@ use Rattle.kmipa_msgs.specs.declared.request.BatchOption.{BatchOption}
 use Rattle.kmipa_msgs.specs.declared.request.BatchOption.TheVariants.{Stop, Continue, Undo}
 use Rattle.kmipa_msgs.specs.declared.response.Status.{Status as ItemStatus}
 use Rattle.kmipa_msgs.specs.declared.response.Status.TheVariants.{Success, Failed, Undone}
-use Rattle.kmipa_explain.specs.Reading.{text_of}
+use Rattle.kmipa_explain.specs.Meant.{text_of}
 use Rattle.kmipa_explain.specs.declared.explanation.Cause.{Cause}
 use Rattle.kmipa_explain.specs.declared.explanation.Cause.TheVariants as cause
 use Rattle.kmipa_explain.specs.declared.explanation.Operations.{Operations}

@@ -12,7 +12,7 @@ use Rattle.kmipa_explain.specs.declared.explanation.Operations.{Operations}
 use Rattle.kmipa_explain.specs.declared.explanation.Shape.{Shape}
 use Rattle.kmipa_explain.specs.declared.explanation.Story.{Story}
 use Rattle.kmipa_explain.specs.declared.explanation.TurnBefore.{TurnBefore}
-use Rattle.kmipa_explain.specs.Reading.{text_of}
+use Rattle.kmipa_explain.specs.Meant.{text_of}
 use Rattle.kmipa_explain.specs.declared.held.BytesHeld.{BytesHeld}
 use Rattle.kmipa_telling.specs.AttributeClaims.{TellsAttributes}
 use Rattle.kmipa_telling.specs.Causes.{option_text, status_text}

@@ -20,8 +20,7 @@ use Rattle.kmipa_telling.specs.UnfitLines.{unfit_lines}
 use Rattle.kmipa_telling.specs.declared.fault_told.FaultMeaning.{FaultMeaning}
 use Rattle.kmipa_telling.specs.declared.fault_told.FaultMeaning.TheVariants.{Outside, Witness}
 use Rattle.kmipa_telling.specs.declared.fault_told.FaultTold.{FaultTold}
-use Rattle.kmipa_unfit.specs.Explanations.{ExplainsWitness}
-use Rattle.kmipa_unfit.specs.Finding.{HasFault}
+use Rattle.kmipa_unfit.specs.Explanations.{ExplainsWitness, HasFault}
 
 -- a fault of which its line is all that is told
 abbrev pub bare_fault : AuditFault → FaultTold

@@ -1,6 +1,6 @@
 -- What is told in JSON of why a witness doesn't fit its transcript.
 use Rattle.std.specs.Prelude.{ℕ, pos, List, true, false, codes, Option, Some, None}
-use Rattle.kmipa_explain.specs.Reading.{text_of}
+use Rattle.kmipa_explain.specs.Meant.{text_of}
 use Rattle.serde_json.specs.Data.{Members, array, boolean, no_members, object, string, put}
 use Rattle.kmipa_json.specs.Told.{count, integer}
 use Rattle.kmipa_msgs.specs.Kinds.{kind_name, kind_number}

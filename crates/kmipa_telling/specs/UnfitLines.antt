@@ -1,7 +1,7 @@
 -- The lines of why a witness doesn't fit its transcript.
 use Rattle.std.specs.Prelude.{ℕ, ℤ, List, [], ◌∷◌, ◌++◌, codes, flat_map, length, take, Option, Some, None}
 use Rattle.std.specs.Fmt.{decimal, signed_decimal}
-use Rattle.kmipa_explain.specs.Reading.{text_of}
+use Rattle.kmipa_explain.specs.Meant.{text_of}
 use Rattle.kmipa_runs.specs.Lines.{line}
 use Rattle.kmipa_runs.specs.Shown.{quoted}
 use Rattle.kmipa_telling.specs.Phrases.{more_line, operation_text}

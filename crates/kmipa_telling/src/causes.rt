@@ -1,7 +1,7 @@
 //! The lines of what a reason rests on, reason by reason.
 
 ghost use Rattle.std.specs.Prelude.{◌≡◌, IfOk, codes, string_bytes};
-ghost use Rattle.kmipa_explain.specs.Reading.{text_of};
+ghost use Rattle.kmipa_explain.specs.Meant.{text_of};
 ghost use Rattle.kmipa_telling.specs.AttributeCauses.{PrintsAttributes};
 ghost use Rattle.kmipa_telling.specs.Sources.{object_source};
 ghost use Rattle.kmipa_telling.specs.Causes.{PrintsBefore, PrintsCause, absent_line, answered_text, asked_text, bytes_lines, failed_text, operations_lines, option_text, shape_lines, status_text};

@@ -2,7 +2,7 @@
 
 ghost use Rattle.std.specs.Prelude.{◌≡◌, IfOk, OnOk};
 ghost use Rattle.kmipa_json.specs.Told.{items_of, members_of};
-ghost use Rattle.kmipa_explain.specs.Reading.{text_of};
+ghost use Rattle.kmipa_explain.specs.Meant.{text_of};
 ghost use Rattle.kmipa_telling.specs.Lists.{AreObjects};
 ghost use Rattle.kmipa_telling.specs.Claims.{TellsBefore, TellsCause, TellsClaims, TellsLater, TellsMeaning, TellsStory, TellsStoryOf, bytes_members, call_items, call_members, missing_members, operations_members, shape_members};
 ghost use Rattle.kmipa_telling.specs.EventClaims.{TellsEvent};

@@ -4,7 +4,7 @@ ghost use Rattle.std.specs.Prelude.{◌≡◌, ◌++◌, ◌∷◌, List, [], If
 ghost use Rattle.kmipa_record.specs.Marks.{AreRecorded};
 ghost use Rattle.kmipa_record.specs.Transcripts.{transcript_of};
 ghost use Rattle.kmipa_check.specs.Calls.{AreCalls, CallOf, call_of};
-ghost use Rattle.kmipa_check.specs.Ordering.{Decided};
+ghost use Rattle.kmipa_check.specs.Deciding.{Decided};
 ghost use Rattle.kmipa_check.specs.Steps.{StepOf};
 ghost use Rattle.kmipa_search.specs.Plain.{ArePlain};
 ghost use Rattle.kmipa_telling.specs.Deciding.{AreUnplain, IsPlain, TellsDecision};

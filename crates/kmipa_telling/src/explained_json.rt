@@ -85,8 +85,8 @@ fn lines_of<R>(
     outcome: &Result<Explained, FaultTold>,
 ) -> Result<Lines, AllocError>
     requires { HoldsAll held.now transcript.now declaration.now witness.now }
-    ensures { IfOk result (λ lines. PrintsExplainedJson transcript.now declaration.now witness.now outcome.now lines.status
-        (string_bytes lines.text)) }
+    ensures { IfOk result (λ lines. PrintsExplainedJson transcript.now declaration.now witness.now outcome.now
+        lines.status (string_bytes lines.text)) }
 {
     let mut told = open_files(alloc, transcript, declaration, witness, held)?;
     let status = tell_explained(alloc, &mut told, outcome)?;

@@ -38,8 +38,8 @@ pub fn explain_search_run<R: Read, W: Watch>(
 ) -> Status
     requires transcript { came_of transcript.old ≡ [] }
     requires declaration { came_of declaration.old ≡ [] }
-    // What is made and printed tells what a search answers of whatever the inputs may be, with what its giving up or its fault means, or memory
-    // ran out.
+    // What is made and printed tells what a search answers of whatever the inputs may be, with what its
+    // giving up or its fault means, or memory ran out.
     ensures prints { (outcome : Result Judged FaultTold)
         × ((t d : List ℕ) → IsFileOf t transcript.new → IsFileOf d declaration.new
         → DecidesFiles t d (is_failed transcript.new) (is_failed declaration.new) budget forced outcome)
@@ -47,7 +47,8 @@ pub fn explain_search_run<R: Read, W: Watch>(
         (appended_bytes made.old.items made.new.items)
         ⊎ (IsSilent result (appended_bytes out.old.items out.new.items)
         × (appended_bytes made.old.items made.new.items ≡ []))) }
-    // Status 0 is answered only where the bytes that came, to the ends that were seen, are accepted with the witness that is made.
+    // Status 0 is answered only where the bytes that came, to the ends that were seen, are accepted with the
+    // witness that is made.
     ensures accepts { result ≡ Status.Done
         → AreAccepted (came_of transcript.new) (came_of declaration.new) (appended_bytes made.old.items made.new.items)
         × IsTrue (is_ended transcript.new) × IsTrue (is_ended declaration.new) }

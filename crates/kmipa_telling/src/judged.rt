@@ -6,7 +6,7 @@ ghost use Rattle.kmipa_record.specs.Transcripts.{transcript_of};
 ghost use Rattle.kmipa_telling.specs.Deciding.{DecidesRecords};
 
 use crate::deciding::decide;
-use crate::stuck::place_of;
+use crate::stuck::deepest_place;
 use kmipa_check::CheckFault;
 use kmipa_record::{Declaration, Transcript};
 use kmipa_runs::{Searched, search_records};
@@ -67,7 +67,7 @@ pub fn judge_records<W: Watch>(
         Found::GaveUp(count) => {
             let said = decide(alloc, transcript, budget, *count)?;
             let order = deepest.into_calls()?;
-            let reached = place_of(alloc, transcript, declaration, &said, &order)?;
+            let reached = deepest_place(alloc, transcript, declaration, &said, &order)?;
             Ok(Judged {
                 searched,
                 decision: Some(said),

@@ -28,7 +28,8 @@ pub fn read_held<K: Kept + Drop, R: Read>(
     // What is read is what the bytes are that came, to the end that was seen.
     ensures found { IfOk result
         (λ read. IfOk read (λ kept. K.is (came_of input.new) kept × IsTrue (is_ended input.new))) }
-    // Else the first fault is reported, whatever follows what came, and nothing where the end was seen; unless a read failed or memory ran out.
+    // Else the first fault is reported, whatever follows what came, and nothing where the end was seen;
+    // unless a read failed or memory ran out.
     ensures fault { (file : List ℕ) → IsFileOf file input.new
         → IfOk result (λ read. IfErr read (Tells K.flaw K.right file (is_failed input.new))) }
     ensures held { OnOk result (held.new.items ≡ came_of input.new) }

@@ -15,7 +15,7 @@ use std::alloc::Global;
 
 /// The deepest place of a search that gave up, of which this is said: how far the calls of a hint can be taken, and what is told of each that
 /// may be next behind them. None where some call isn't plain.
-pub fn place_of(
+pub fn deepest_place(
     alloc: Global,
     transcript: &Transcript,
     declaration: &Declaration,

@@ -1,7 +1,7 @@
 //! The lines of why a witness doesn't fit its transcript.
 
 ghost use Rattle.std.specs.Prelude.{◌≡◌, IfOk, flat_map, string_bytes, take};
-ghost use Rattle.kmipa_explain.specs.Reading.{text_of};
+ghost use Rattle.kmipa_explain.specs.Meant.{text_of};
 ghost use Rattle.kmipa_telling.specs.UnfitLines.{asked_line, asked_lines, client_line, fill_lines, given_lines, named_line, place_lines, stands_lines, turn_line, unfit_lines};
 
 use crate::phrases::{MOST, more_line, operation_text};

@@ -9,7 +9,7 @@ ghost use Rattle.kmipa_ttlv.specs.Spelled.{IsScalarAt};
 ghost use Rattle.kmipa_ttlv.specs.ViewTree.{view_tree};
 ghost use Rattle.kmipa_ttlv.specs.Spelling.{extent, Holds, Stands, Run, Spells, IsFront};
 ghost use Rattle.kmipa_ttlv.specs.Tree.{Tree, Trees};
-ghost use Rattle.kmipa_ttlv.specs.Flaw.{allows, ScalarFlaw, ValueFlaw, FirstFlawed, Flaw, OuterFlaw, Shows, Tells};
+ghost use Rattle.kmipa_ttlv.specs.Flaw.{allows, ScalarFlaw, ValueFlaw, FirstFlawed, Flaw, OuterFlaw, Shows, ReportsFault};
 
 use crate::copying::copy_item;
 use crate::fault::{FaultKind, TtlvFault};
@@ -33,7 +33,7 @@ pub fn decode(alloc: Global, bytes: &[u8]) -> Result<(Item, usize), TtlvFault>
     ensures only { (t : Tree) (n : ℕ) → n ≤ length bytes.now → Spells t (take n bytes.now)
         → MatchResult result (λ x. (tree x.0 ≡ t) × (x.1 ≡ n)) (λ f. f.kind ≡ FaultKind.Memory) }
     // Else the first test that fails is reported, unless memory ran out.
-    ensures flaw { IfErr result (λ f. Tells f (OuterFlaw bytes.now)) }
+    ensures flaw { IfErr result (λ f. ReportsFault f (OuterFlaw bytes.now)) }
 {
     read_copy(alloc, bytes)
 }
@@ -50,7 +50,7 @@ pub fn decode_view(bytes: &[u8]) -> Result<(View<'_>, usize), TtlvFault>
 }
 
 fn read_copy(alloc: Global, bytes: &[u8]) -> Result<(Item, usize), TtlvFault>
-    ensures { MatchResult result (λ x. IsFront (tree x.0) x.1 bytes.now) (λ f. Tells f (OuterFlaw bytes.now)) }
+    ensures { MatchResult result (λ x. IsFront (tree x.0) x.1 bytes.now) (λ f. ReportsFault f (OuterFlaw bytes.now)) }
 {
     let (view, taken) = read_outermost(bytes)?;
     Ok((copy_item(alloc, &view)?, taken))

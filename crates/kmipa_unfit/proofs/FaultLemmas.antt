@@ -21,7 +21,8 @@ use Rattle.kmipa_check.proofs.OnceLemmas.{IsOnce, once_pairs}
 use Rattle.kmipa_check.proofs.PlaceLemmas.{at_contains, contains_at}
 use Rattle.kmipa_check.proofs.RecordedLemmas.{same_calls, recorded_at}
 use Rattle.kmipa_check.proofs.WholeOrderLemmas.{number_of, same_call}
-use Rattle.kmipa_unfit.specs.Finding.{HasFault, IsBegun, IsFound, IsNamedFault, LeavesOut}
+use Rattle.kmipa_unfit.specs.Finding.{IsBegun, IsFound, IsNamedFault, LeavesOut}
+use Rattle.kmipa_unfit.specs.Explanations.{HasFault}
 
 -- what a turn gives to a call is another fault than a call that is left out
 given_kind : (c : CallOf) (t : TurnOf) (kind : WitnessKind) → GivenFault c t kind → kind ≡ LeftOut → ⊥

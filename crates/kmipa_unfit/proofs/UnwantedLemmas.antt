@@ -6,8 +6,7 @@ use Rattle.kmipa_msgs.specs.declared.kind.OutsideKind.{OutsideKind}
 use Rattle.kmipa_msgs.specs.Messages.{AskOf, AnswerOf, RequestOf, ResponseOf}
 use Rattle.kmipa_msgs.specs.Wanted.{Wanted}
 use Rattle.kmipa_record.specs.Witnesses.{FillOf}
-use Rattle.kmipa_check.specs.Fills.{AreWanted, IsFor, IsFormless, SomeFormless}
-use Rattle.kmipa_check.specs.Filling.{IsWantedItem}
+use Rattle.kmipa_check.specs.Fills.{AreWanted, IsFor, IsFormless, SomeFormless, IsWantedItem}
 use Rattle.kmipa_check.proofs.FillLemmas.{pair_at, pair_left}
 use Rattle.kmipa_check.proofs.FillingLemmas.{is_wanted_here}
 use Rattle.kmipa_check.proofs.PlaceLemmas.{at_contains, at_within}

@@ -4,7 +4,7 @@ use Rattle.std.specs.String.{string_bytes}
 use Rattle.kmipa_record.specs.Marks.{MarkOf, begins}
 use Rattle.kmipa_record.specs.Witnesses.{TurnOf}
 use Rattle.kmipa_check.specs.Calls.{CallOf, AreCalls}
-use Rattle.kmipa_check.specs.Orders.{HasCall, IsLeftOut, NamesAt, NamesBefore}
+use Rattle.kmipa_check.specs.Orders.{HasCall, IsLeftOut, NamesAt, NamesBefore, WitnessFaultAt}
 use Rattle.kmipa_check.specs.declared.fault.WitnessKind.{WitnessKind}
 use Rattle.kmipa_check.specs.declared.fault.WitnessKind.TheVariants as kinds
 use Rattle.kmipa_unfit.specs.UnfitTurns.{TellsGiven, numbers_asked}
@@ -81,3 +81,7 @@ pub record ExplainsWitness (marks : List MarkOf) (turns : List TurnOf) (at : ℕ
   pub calls : List CallOf
   pub are : AreCalls marks calls
   pub explains : ExplainsFault marks calls turns at kind e
+
+-- the witness has this fault, among the calls of the transcript
+abbrev pub HasFault : List MarkOf → List TurnOf → ℕ → WitnessKind → Type 0
+HasFault marks turns at kind = (calls : List CallOf) × AreCalls marks calls × WitnessFaultAt calls turns at kind

@@ -5,8 +5,7 @@ use Rattle.kmipa_msgs.specs.Messages.{AskOf, RequestOf, ResponseOf}
 use Rattle.kmipa_msgs.specs.Outside.{OutsideAt}
 use Rattle.kmipa_msgs.specs.Payloads.{PayloadFault}
 use Rattle.kmipa_record.specs.Witnesses.{FillOf}
-use Rattle.kmipa_check.specs.Fills.{IsFormless}
-use Rattle.kmipa_check.specs.Filling.{IsWantedItem}
+use Rattle.kmipa_check.specs.Fills.{IsFormless, IsWantedItem}
 use Rattle.kmipa_unfit.specs.UnfitFills.{UnwantedFillAt}
 use Rattle.kmipa_unfit.specs.declared.explanation.Unwanted.{Unwanted}
 

@@ -7,9 +7,9 @@ use Rattle.kmipa_msgs.specs.Messages.{RequestOf, ResponseOf, response_of}
 use Rattle.kmipa_msgs.specs.Responses.{ResponseFault}
 use Rattle.kmipa_record.specs.Marks.{MarkOf, begins}
 use Rattle.kmipa_record.specs.Witnesses.{TurnOf}
-use Rattle.kmipa_check.specs.Calls.{CallOf, AreCalls, AreOutside, AreResponse}
+use Rattle.kmipa_check.specs.Calls.{CallOf, AreOutside, AreResponse}
 use Rattle.kmipa_check.specs.Fills.{FillFault}
-use Rattle.kmipa_check.specs.Orders.{GivenFault, IsLeftOut, NamesAt, NamesBefore, WitnessFaultAt}
+use Rattle.kmipa_check.specs.Orders.{GivenFault, IsLeftOut, NamesAt, NamesBefore}
 use Rattle.kmipa_check.specs.Places.{PlacesFault}
 use Rattle.kmipa_check.specs.declared.fault.CheckFault.{CheckFault}
 use Rattle.kmipa_check.specs.declared.fault.CheckFault.TheVariants.{Memory}
@@ -20,10 +20,6 @@ use Rattle.kmipa_unfit.specs.UnfitTurns.{TellsGiven}
 use Rattle.kmipa_unfit.specs.declared.explanation.Unfit.{Unfit}
 use Rattle.kmipa_unfit.specs.declared.explanation.Unfit.TheVariants.{Answer}
 use Rattle.kmipa_unfit.specs.declared.explanation.Unfit.TheVariants as unfit
-
--- the witness has this fault, among the calls of the transcript
-abbrev pub HasFault : List MarkOf → List TurnOf → ℕ → WitnessKind → Type 0
-HasFault marks turns at kind = (calls : List CallOf) × AreCalls marks calls × WitnessFaultAt calls turns at kind
 
 -- the call has its begin mark
 pub record IsBegun (marks : List MarkOf) (c : CallOf) : Type 0 where

@@ -8,9 +8,8 @@ use Rattle.kmipa_msgs.specs.Payloads.{PayloadFault}
 use Rattle.kmipa_msgs.specs.Wanted.{NeedsPayload}
 use Rattle.kmipa_record.specs.Witnesses.{FillOf}
 use Rattle.kmipa_batch.specs.Calls.{pairs_of}
-use Rattle.kmipa_check.specs.Fills.{IsFor, IsWantedAt}
+use Rattle.kmipa_check.specs.Fills.{IsFor, IsWantedAt, HasFillFor, HaveFillsBelow, IsWantedItem}
 use Rattle.kmipa_check.specs.Fills
-use Rattle.kmipa_check.specs.Filling.{HasFillFor, HaveFillsBelow, IsWantedItem}
 use Rattle.kmipa_check.specs.declared.fault.WitnessKind.{WitnessKind}
 use Rattle.kmipa_check.specs.declared.fault.WitnessKind.TheVariants as kinds
 use Rattle.kmipa_unfit.specs.UnfitOrders.{AreAnswered, IsUnanswered}

@@ -4,7 +4,7 @@ use Rattle.std.specs.Prelude.{◌≡◌, ◌≢◌, ◌<◌, ◌↔◌, ℕ, ◌
 use Rattle.kmipa_msgs.specs.declared.request.BatchOption.TheVariants.{Continue}
 use Rattle.kmipa_msgs.specs.Messages.{RequestOf, ResponseOf}
 use Rattle.kmipa_batch.specs.Calls.{RefusesMessage}
-use Rattle.kmipa_batch.specs.Orders.{IsAnswered}
+use Rattle.kmipa_batch.specs.Orders.{IsAnsweredPlace}
 use Rattle.kmipa_batch.specs.Shapes.{IsFirstFailed}
 use Rattle.kmipa_unfit.specs.declared.explanation.Disorder.{Disorder}
 use Rattle.kmipa_unfit.specs.declared.explanation.OrderTold.{OrderTold}
@@ -15,7 +15,7 @@ use Rattle.kmipa_unfit.specs.declared.explanation.Wrong.TheVariants.{Unanswered,
 
 -- so many items of the call are answered: the first ones
 abbrev pub AreAnswered : RequestOf → ResponseOf → ℕ → Type 0
-AreAnswered request response count = (place : ℕ) → place < count ↔ IsAnswered request response place
+AreAnswered request response count = (place : ℕ) → place < count ↔ IsAnsweredPlace request response place
 
 -- why the items of a call are taken by place: its message is refused as a whole; it has fewer than two items; or its Batch Order Option
 -- isn't False (KMIP 2.1, Batch Order Option)
@@ -31,7 +31,7 @@ pub record IsOrdered (request : RequestOf) (response : ResponseOf) (numbers : Li
 
 -- the number is that of no item that is answered
 abbrev pub IsUnanswered : RequestOf → ResponseOf → ℤ → Type 0
-IsUnanswered request response number = (place : ℕ) → number ≡ pos (place + 1) → IsAnswered request response place → ⊥
+IsUnanswered request response number = (place : ℕ) → number ≡ pos (place + 1) → IsAnsweredPlace request response place → ⊥
 
 -- the number stands at two places
 pub record IsTwice (numbers : List ℤ) (number : ℤ) : Type 0 where
@@ -45,7 +45,7 @@ pub record IsTwice (numbers : List ℤ) (number : ℤ) : Type 0 where
 pub record IsMissing (request : RequestOf) (response : ResponseOf) (numbers : List ℤ) (item : ℕ) : Type 0 where
   pub place : ℕ
   pub counted : item ≡ place + 1
-  pub answered : IsAnswered request response place
+  pub answered : IsAnsweredPlace request response place
   pub absent : Contains numbers (pos item) → ⊥
 
 -- the item is the first that failed, under Stop or Undo, and its number doesn't stand last

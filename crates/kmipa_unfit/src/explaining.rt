@@ -7,8 +7,8 @@ ghost use Rattle.kmipa_record.specs.Transcripts.{transcript_of};
 ghost use Rattle.kmipa_record.specs.Witnesses.{TurnOf, turn_of, witness_of};
 ghost use Rattle.kmipa_check.specs.Calls.{AreCalls, call_of};
 ghost use Rattle.kmipa_check.specs.Orders.{HasCall, TurnFault};
-ghost use Rattle.kmipa_unfit.specs.Explanations.{ExplainsTurn, ExplainsUnnamed, ExplainsWitness, IsClientOf};
-ghost use Rattle.kmipa_unfit.specs.Finding.{HasFault, IsBegun, IsFound, LeavesOut};
+ghost use Rattle.kmipa_unfit.specs.Explanations.{ExplainsTurn, ExplainsUnnamed, ExplainsWitness, IsClientOf, HasFault};
+ghost use Rattle.kmipa_unfit.specs.Finding.{IsBegun, IsFound, LeavesOut};
 
 use crate::explanation::{Unfit, WitnessExplanation};
 use crate::turns::{named_unfit, operations_of};
@@ -25,7 +25,8 @@ pub fn explain_witness(
 ) -> Result<WitnessExplanation, CheckFault>
     requires recorded { AreRecorded (transcript_of transcript.now) }
     requires fault { HasFault (transcript_of transcript.now) (witness_of witness.now) fault.at fault.kind }
-    ensures explains { IfOk result (ExplainsWitness (transcript_of transcript.now) (witness_of witness.now) fault.at fault.kind) }
+    ensures explains { IfOk result (ExplainsWitness (transcript_of transcript.now)
+        (witness_of witness.now) fault.at fault.kind) }
     ensures memory { IfErr result (λ fault. fault ≡ CheckFault.Memory) }
 {
     let calls = read_calls(alloc, transcript)?;
@@ -82,7 +83,8 @@ fn turn_told(
     requires recorded { AreRecorded (map mark_of marks.now) }
     requires calls { AreCalls (map mark_of marks.now) (map call_of calls.now) }
     requires fault { TurnFault (map call_of calls.now) (map turn_of turns.now) place kind }
-    ensures explains { IfOk result (ExplainsTurn (map mark_of marks.now) (map call_of calls.now) (map turn_of turns.now) place kind) }
+    ensures explains { IfOk result (ExplainsTurn (map mark_of marks.now) (map call_of calls.now)
+        (map turn_of turns.now) place kind) }
     ensures memory { IfErr result (λ fault. fault ≡ CheckFault.Memory) }
 {
     let turn = &turns[place];

@@ -4,14 +4,13 @@ ghost use Rattle.std.specs.Prelude.{◌≡◌, ◌<◌, IfErr, IfOk, MatchOption
 ghost use Rattle.kmipa_msgs.specs.Messages.{answer_of, ask_of, request_of, response_of};
 ghost use Rattle.kmipa_msgs.specs.Wanted.{Wanted};
 ghost use Rattle.kmipa_record.specs.Witnesses.{fill_of};
-ghost use Rattle.kmipa_check.specs.Fills.{AreWanted, FillFault, IsFor, IsWanted, NoneMissing, SomeFormless};
-ghost use Rattle.kmipa_check.specs.Filling.{HasFillFor, IsWantedItem};
-ghost use Rattle.kmipa_check.specs.Ordering.{Decided};
+ghost use Rattle.kmipa_check.specs.Fills.{AreWanted, FillFault, IsFor, IsWanted, NoneMissing, SomeFormless, HasFillFor, IsWantedItem};
+ghost use Rattle.kmipa_check.specs.Deciding.{Decided};
 ghost use Rattle.kmipa_unfit.specs.UnfitFills.{IsFormlessFill, IsMissingFill, IsUnwantedFill, TellsFill, UnwantedAnswer, UnwantedItem};
 ghost use Rattle.kmipa_unfit.specs.FillFinding.{FillSays, IsAhead, IsAlone, IsWantedFill, UnwantedAt};
 
 use crate::explanation::{FormlessFill, MissingFill, Unfit, Unwanted, UnwantedFill};
-use crate::orders::{answered_count, is_item, place_of};
+use crate::orders::{answered_count, is_item, item_place};
 use kmipa_check::{CheckFault, WitnessKind};
 use kmipa_msgs::{
     Answer, Ask, OutsideKind, ReadFault, Request, Response, Status, is_wanted, read_payload,
@@ -29,7 +28,8 @@ pub fn fill_unfit(
     kind: WitnessKind,
 ) -> Result<Unfit, CheckFault>
     requires { FillFault (request_of request.now) (response_of response.now) (map fill_of fills.now) kind }
-    ensures tells { IfOk result (TellsFill (request_of request.now) (response_of response.now) (map fill_of fills.now) kind) }
+    ensures tells { IfOk result (TellsFill (request_of request.now) (response_of response.now)
+        (map fill_of fills.now) kind) }
     ensures memory { IfErr result (λ fault. fault ≡ CheckFault.Memory) }
 {
     match kind {
@@ -95,7 +95,7 @@ fn item_unwanted(request: &Request, response: &Response, item: i32) -> Option<Un
     if item < 1 {
         return Some(Unwanted::Unanswered(answered));
     }
-    let place = place_of(item);
+    let place = item_place(item);
     if place >= answered {
         return Some(Unwanted::Unanswered(answered));
     }
@@ -207,7 +207,7 @@ fn formless_fill(
     let mut at = 0;
     'fills: while at < fills.len() {
         let fill = &fills[at];
-        let place = place_of(fill.item);
+        let place = item_place(fill.item);
         let ask = &request.items[place];
         if let Some(kind) = fill_kind(alloc, fill, ask)? {
             return Ok(FormlessFill {

@@ -3,7 +3,7 @@
 ghost use Rattle.std.specs.Prelude.{◌≡◌, ◌+◌, ◌≤◌, ◌≤ℤ◌, IfOk, MatchOption, length, map, pos};
 ghost use Rattle.kmipa_msgs.specs.Messages.{answer_of, request_of, response_of};
 ghost use Rattle.kmipa_batch.specs.Shapes.{is_failed};
-ghost use Rattle.kmipa_check.specs.Ordering.{Decided};
+ghost use Rattle.kmipa_check.specs.Deciding.{Decided};
 ghost use Rattle.kmipa_check.specs.Places.{WantsOrder};
 ghost use Rattle.kmipa_unfit.specs.UnfitOrders.{AreAnswered, IsDisordered, IsOrderTold, IsOrdered, IsTwice, IsWrong};
 ghost use Rattle.kmipa_unfit.specs.OrderFinding.{AreOnce, AreWithin, FailsFirst, HasItem, HaveAll, IsBeyond, IsLeft, IsOrderless, IsWithin, StandsAhead};
@@ -111,11 +111,11 @@ fn is_within(number: i32, answered: usize) -> bool
     if number < 1 {
         return false;
     }
-    place_of(number) < answered
+    item_place(number) < answered
 }
 
 /// The place, counted from 0, of the item of this number.
-pub fn place_of(item: i32) -> usize
+pub fn item_place(item: i32) -> usize
     requires { pos 1 ≤ℤ item }
     ensures { item ≡ pos (result + 1) }
 {
@@ -186,7 +186,7 @@ pub fn is_item(number: i32, place: usize) -> bool
     if number < 1 {
         return false;
     }
-    place_of(number) == place
+    item_place(number) == place
 }
 
 /// The first item that failed, counted from 1.

@@ -155,7 +155,8 @@ fn answered_unfit(
     kind: WitnessKind,
 ) -> Result<Unfit, CheckFault>
     requires { IsAnsweredFault (request_of request.now) (response_of response.now) (turn_of turn.now) kind }
-    ensures tells { IfOk result (TellsAnswered (request_of request.now) (response_of response.now) (turn_of turn.now) kind) }
+    ensures tells { IfOk result (TellsAnswered (request_of request.now) (response_of response.now)
+        (turn_of turn.now) kind) }
     ensures memory { IfErr result (λ fault. fault ≡ CheckFault.Memory) }
 {
     match kind {

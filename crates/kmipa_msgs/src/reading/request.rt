@@ -7,7 +7,7 @@ ghost use Rattle.kmipa_attrs.specs.declared.fields.Field.TheVariants.{There};
 ghost use Rattle.kmipa_attrs.specs.Tags.{batch_error_continuation_option, batch_order_option};
 ghost use Rattle.kmipa_msgs.specs.Messages.{request_of};
 ghost use Rattle.kmipa_msgs.specs.Outside.{Gives};
-ghost use Rattle.kmipa_msgs.specs.Requests.{TellsRequest, is_loose, option_in, order_in, order_said, request_in};
+ghost use Rattle.kmipa_msgs.specs.Requests.{TellsRequest, lacks_order, option_in, order_in, order_said, request_in};
 
 use crate::fault::ReadFault;
 use crate::kind::OutsideKind;
@@ -38,7 +38,7 @@ fn request<'a>(alloc: Global, message: &View<'a>) -> Result<Request<'a>, ReadFau
     let (children, header) = parts.ok_or(OutsideKind::NotAMessage)?;
     let count = item_count(children);
     let (option, ordered) = request_header(header, count)?;
-    let unordered = is_loose(ordered, count);
+    let unordered = lacks_order(ordered, count);
     let items = read_asks(alloc, unordered, count, children)?;
     Ok(Request {
         option,
@@ -83,8 +83,8 @@ fn ordered(header: Children) -> Result<bool, OutsideKind>
 }
 
 /// Whether there are several items in no order.
-fn is_loose(ordered: bool, items: usize) -> bool
-    ensures { result ≡ is_loose (There ordered) items }
+fn lacks_order(ordered: bool, items: usize) -> bool
+    ensures { result ≡ lacks_order (There ordered) items }
 {
     !ordered && items > 1
 }

@@ -45,8 +45,8 @@ returns g c =
     (got_some ask_of c.deref.result.now c.args.request.now.items.items c.args.place c.in-Some.ask.now c.deref.ensures.value c.in-Some.ensures.lookup.3.0 c.in-Some.ensures.lookup.1)
     (got_some answer_of c.deref-2.result.now c.args.response.now.items.items c.args.place c.in-Some-get.answer.now c.deref-2.ensures.value c.in-Some-get.ensures.lookup.3.0 c.in-Some-get.ensures.lookup.1)
     in
-    let fits : FitsSigned w64 c.stamp_of-t.result = search rules in
+    let fits : FitsSigned w64 c.response_stamp-t.result = search rules in
     pair_taken (rules_of c.args.rules.now) (g.L.Ledger.state c.args.ledger.now) (placeholder_of c.args.placeholder.now) _ c.args.response.now.stamp ask answer
     (slice_get (pairs_of (request_of c.args.request.now) (response_of c.args.response.now)) c.args.place)
-    (to_z-of_z w64 c.stamp_of-t.result fits ∙ c.stamp_of-t.ensures) there
+    (to_z-of_z w64 c.response_stamp-t.result fits ∙ c.response_stamp-t.ensures) there
     c.take.result (g.L.Ledger.state c.take.new.ledger) (placeholder_of c.take.new.placeholder) c.take.ensures

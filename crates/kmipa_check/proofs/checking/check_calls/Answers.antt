@@ -6,8 +6,7 @@ use Rattle.kmipa_record.specs.Transcripts.{transcript_of}
 use Rattle.kmipa_record.specs.Witnesses.{turn_of, witness_of}
 use Rattle.kmipa_record.specs.declared.turn.Turn.{Turn}
 use Rattle.kmipa_check.specs.Calls.{call_of, AreCalls}
-use Rattle.kmipa_check.specs.Orders.{IsOrder}
-use Rattle.kmipa_check.specs.Ordering.{AreFormed, OrderFault}
+use Rattle.kmipa_check.specs.Orders.{IsOrder, AreFormed, OrderFault}
 use Rattle.kmipa_check.specs.Steps.{step_of}
 use Rattle.kmipa_check.specs.Replays.{AllTakable, TellsRun}
 use Rattle.kmipa_check.specs.declared.call.Call.{Call}

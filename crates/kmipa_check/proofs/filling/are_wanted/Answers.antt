@@ -6,7 +6,7 @@ use Rattle.std.proofs.lemmas.List.{length-map}
 use Rattle.kmipa_msgs.specs.Messages.{request_of, response_of}
 use Rattle.kmipa_record.specs.Witnesses.{fill_of}
 use Rattle.kmipa_record.specs.declared.fill.Fill.{Fill}
-use Rattle.kmipa_check.specs.Filling.{IsWantedItem}
+use Rattle.kmipa_check.specs.Fills.{IsWantedItem}
 use Rattle.kmipa_check.specs.Numbers.{place_in, is_noted}
 use Rattle.kmipa_check.proofs.PlaceLemmas.{mapped_at}
 use Rattle.kmipa_check.proofs.FillingLemmas.{wanted_none, wanted_more, wanted_all, numbered_all, wanted_not, wanted_twice, first_item, second_item, fits_small}

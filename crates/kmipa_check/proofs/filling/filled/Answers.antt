@@ -11,8 +11,8 @@ use Rattle.kmipa_check.proofs.PlaceLemmas.{mapped_at, some_at}
 use Rattle.kmipa_check.proofs.FillingLemmas.{filled_up_to_more, filled_up_to_all, form_fault, fill_for, wanted_from_one, wanted_place, wanted_within}
 use Rattle.kmipa_check.proofs.filling.filled.Goals as goal
 
-pub place_of-place-requires : goal.place_of-place-requires
-place_of-place-requires c =
+pub item_place-place-requires : goal.item_place-place-requires
+item_place-place-requires c =
     let fits : SFits w32 c.index-fills-at.result.item = search rules in
     let there = mapped_at fill_of c.args.fills.now c.fills.at c.index-fills-at.result c.fills-test.true c.index-fills-at.is in
     let P : ℤ → Type 0 = λ z. pos 1 ≤ℤ z in
@@ -23,12 +23,12 @@ pub index-requires : goal.index-requires
 index-requires c =
     let fits : SFits w32 c.index-fills-at.result.item = search rules in
     let there = mapped_at fill_of c.args.fills.now c.fills.at c.index-fills-at.result c.fills-test.true c.index-fills-at.is in
-    let its = fill_for c.index-fills-at.result c.place_of-place.result fits c.place_of-place.ensures in
+    let its = fill_for c.index-fills-at.result c.item_place-place.result fits c.item_place-place.ensures in
     let request = request_of c.args.request.now in
     let response = response_of c.args.response.now in
     let fills = map fill_of c.args.fills.now in
     let fill = fill_of c.index-fills-at.result in
-    let w = wanted_within request response c.place_of-place.result (wanted_place request response fills c.fills.at fill c.place_of-place.result c.requires.wanted there its) in
+    let w = wanted_within request response c.item_place-place.result (wanted_place request response fills c.fills.at fill c.item_place-place.result c.requires.wanted there its) in
     let asked : vec_len c.args.request.now.items ≡ length c.args.request.now.items.items = search rules in
     omega (arith, w.0, asked, length-map c.args.request.now.items.items ask_of)
 
@@ -37,28 +37,28 @@ returns-in_err-payload c =
     let p = err_from_is_err_and c.from_residual-in_err-payload.result c.from_residual-in_err-payload.ensures.1 in
     let fits : SFits w32 c.index-fills-at.result.item = search rules in
     let there = mapped_at fill_of c.args.fills.now c.fills.at c.index-fills-at.result c.fills-test.true c.index-fills-at.is in
-    let its = fill_for c.index-fills-at.result c.place_of-place.result fits c.place_of-place.ensures in
+    let its = fill_for c.index-fills-at.result c.item_place-place.result fits c.item_place-place.ensures in
     let request = request_of c.args.request.now in
     let response = response_of c.args.response.now in
     let fills = map fill_of c.args.fills.now in
     let fill = fill_of c.index-fills-at.result in
-    let w = wanted_within request response c.place_of-place.result (wanted_place request response fills c.fills.at fill c.place_of-place.result c.requires.wanted there its) in
+    let w = wanted_within request response c.item_place-place.result (wanted_place request response fills c.fills.at fill c.item_place-place.result c.requires.wanted there its) in
     let asked : vec_len c.args.request.now.items ≡ length c.args.request.now.items.items = search rules in
-    let ask = mapped_at ask_of c.args.request.now.items.items c.place_of-place.result c.index.result.now (omega (arith, w.0, length-map c.args.request.now.items.items ask_of)) c.index.ensures in
-    let answer = some_at response.items c.place_of-place.result w.1 in
+    let ask = mapped_at ask_of c.args.request.now.items.items c.item_place-place.result c.index.result.now (omega (arith, w.0, length-map c.args.request.now.items.items ask_of)) c.index.ensures in
+    let answer = some_at response.items c.item_place-place.result w.1 in
     rw (p.1, p.2)
-    (form_fault request response fills c.requires.wanted c.fills.at fill there c.place_of-place.result its (ask_of c.index.result.now) ask answer.0 answer.1 c.in_err-payload.field-0.0 c.in_err-payload.ensures)
+    (form_fault request response fills c.requires.wanted c.fills.at fill there c.item_place-place.result its (ask_of c.index.result.now) ask answer.0 answer.1 c.in_err-payload.field-0.0 c.in_err-payload.ensures)
 
 pub index_mut-requires : goal.index_mut-requires
 index_mut-requires c =
     let fits : SFits w32 c.index-fills-at.result.item = search rules in
     let there = mapped_at fill_of c.args.fills.now c.fills.at c.index-fills-at.result c.fills-test.true c.index-fills-at.is in
-    let its = fill_for c.index-fills-at.result c.place_of-place.result fits c.place_of-place.ensures in
+    let its = fill_for c.index-fills-at.result c.item_place-place.result fits c.item_place-place.ensures in
     let request = request_of c.args.request.now in
     let response = response_of c.args.response.now in
     let fills = map fill_of c.args.fills.now in
     let fill = fill_of c.index-fills-at.result in
-    let w = wanted_within request response c.place_of-place.result (wanted_place request response fills c.fills.at fill c.place_of-place.result c.requires.wanted there its) in
+    let w = wanted_within request response c.item_place-place.result (wanted_place request response fills c.fills.at fill c.item_place-place.result c.requires.wanted there its) in
     let asked : vec_len c.args.request.now.items ≡ length c.args.request.now.items.items = search rules in
     let answered : vec_len c.fills.full.items ≡ length c.fills.full.items.items = search rules in
     let counted = c.fills.invariant.counted in
@@ -68,22 +68,22 @@ pub fills-preserved : goal.fills-preserved
 fills-preserved c =
     let fits : SFits w32 c.index-fills-at.result.item = search rules in
     let there = mapped_at fill_of c.args.fills.now c.fills.at c.index-fills-at.result c.fills-test.true c.index-fills-at.is in
-    let its = fill_for c.index-fills-at.result c.place_of-place.result fits c.place_of-place.ensures in
+    let its = fill_for c.index-fills-at.result c.item_place-place.result fits c.item_place-place.ensures in
     let request = request_of c.args.request.now in
     let response = response_of c.args.response.now in
     let fills = map fill_of c.args.fills.now in
     let fill = fill_of c.index-fills-at.result in
-    let w = wanted_within request response c.place_of-place.result (wanted_place request response fills c.fills.at fill c.place_of-place.result c.requires.wanted there its) in
+    let w = wanted_within request response c.item_place-place.result (wanted_place request response fills c.fills.at fill c.item_place-place.result c.requires.wanted there its) in
     let asked : vec_len c.args.request.now.items ≡ length c.args.request.now.items.items = search rules in
-    let ask = mapped_at ask_of c.args.request.now.items.items c.place_of-place.result c.index.result.now (omega (arith, w.0, length-map c.args.request.now.items.items ask_of)) c.index.ensures in
+    let ask = mapped_at ask_of c.args.request.now.items.items c.item_place-place.result c.index.result.now (omega (arith, w.0, length-map c.args.request.now.items.items ask_of)) c.index.ensures in
     let counted = c.fills.invariant.counted in
-    let within : c.place_of-place.result < length c.fills.full.items.items =
+    let within : c.item_place-place.result < length c.fills.full.items.items =
     omega (arith, w.1, counted, length-map c.args.response.now.items.items answer_of, length-map c.fills.full.items.items answer_of) in
     let new : Answer = record c.index_mut.result.now { payload = Some c.in_ok-payload.payload } in
-    filled_up_to_more request response fills c.requires.wanted c.fills.at fill there c.place_of-place.result its (ask_of c.index.result.now) ask (response_of c.fills.full) _
+    filled_up_to_more request response fills c.requires.wanted c.fills.at fill there c.item_place-place.result its (ask_of c.index.result.now) ask (response_of c.fills.full) _
     (answer_of c.index_mut.result.now) (payload_of c.in_ok-payload.payload) c.fills.invariant
-    (mapped_at answer_of c.fills.full.items.items c.place_of-place.result c.index_mut.result.now within c.index_mut.ensures.value) c.in_ok-payload.ensures refl
-    (map-set answer_of c.fills.full.items.items c.place_of-place.result new)
+    (mapped_at answer_of c.fills.full.items.items c.item_place-place.result c.index_mut.result.now within c.index_mut.ensures.value) c.in_ok-payload.ensures refl
+    (map-set answer_of c.fills.full.items.items c.item_place-place.result new)
 
 pub returns : goal.returns
 returns c =

@@ -3,9 +3,9 @@ use mir.Val.{SFits}
 use mir.Syntax.{w32}
 use Rattle.std.proofs.lemmas.Int.{to_z-of_z}
 use Rattle.kmipa_record.specs.Witnesses.{fill_of}
-use Rattle.kmipa_check.specs.Filling.{HasFillFor}
+use Rattle.kmipa_check.specs.Fills.{HasFillFor}
 use Rattle.kmipa_check.specs.Numbers.{place_in}
-use Rattle.kmipa_check.specs.Ordering.{Decided}
+use Rattle.kmipa_check.specs.Deciding.{Decided}
 use Rattle.kmipa_check.proofs.FillingLemmas.{fill_decided, too_large}
 use Rattle.kmipa_check.proofs.filling.has_fill.Goals as goal
 

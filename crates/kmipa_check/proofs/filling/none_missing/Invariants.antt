@@ -1,7 +1,7 @@
 use Rattle.std.proofs.Common.{◌-◌, length, map}
 use Rattle.kmipa_msgs.specs.Messages.{request_of, response_of}
 use Rattle.kmipa_record.specs.Witnesses.{fill_of}
-use Rattle.kmipa_check.specs.Filling.{HaveFillsBelow}
+use Rattle.kmipa_check.specs.Fills.{HaveFillsBelow}
 use Rattle.kmipa_check.proofs.filling.none_missing.Given as goal
 
 abbrev pub invariant-items : goal.invariant-items

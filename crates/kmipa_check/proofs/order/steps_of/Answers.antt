@@ -8,7 +8,7 @@ use Rattle.kmipa_check.specs.declared.fault.CheckFault.{CheckFault}
 use Rattle.kmipa_check.specs.declared.step.Step.{Step}
 use Rattle.kmipa_check.specs.Calls.{call_of}
 use Rattle.kmipa_check.specs.Steps.{StepOf, step_of}
-use Rattle.kmipa_check.specs.Ordering.{AreFormed, OrderFault}
+use Rattle.kmipa_check.specs.Orders.{AreFormed, OrderFault}
 use Rattle.kmipa_check.proofs.OrderLemmas.{fault_reported, formed_more, formed_below, formed_whole, pushed_steps}
 use Rattle.kmipa_check.proofs.WholeOrderLemmas.{left_out_reported, missing_counted, reported_number, order_reported}
 use Rattle.kmipa_check.proofs.order.steps_of.Goals as goal

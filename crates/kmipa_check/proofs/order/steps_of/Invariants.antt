@@ -2,7 +2,7 @@ use Rattle.std.proofs.Common.{◌-◌, length, map}
 use Rattle.kmipa_record.specs.Witnesses.{turn_of}
 use Rattle.kmipa_check.specs.Calls.{call_of}
 use Rattle.kmipa_check.specs.Steps.{step_of}
-use Rattle.kmipa_check.specs.Ordering.{AreFormed}
+use Rattle.kmipa_check.specs.Orders.{AreFormed}
 use Rattle.kmipa_check.proofs.order.steps_of.Given as goal
 
 abbrev pub invariant-turns : goal.invariant-turns

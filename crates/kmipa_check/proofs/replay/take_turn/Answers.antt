@@ -6,7 +6,7 @@ use Rattle.kmipa_batch.specs.Orders.{order_given}
 use Rattle.kmipa_batch.specs.Readable.{IsReadableCall}
 use Rattle.kmipa_batch.specs.Refusals.{CallTakenAlong}
 use Rattle.kmipa_check.specs.Steps.{order_of, step_of}
-use Rattle.kmipa_check.specs.Ordering.{Decided}
+use Rattle.kmipa_check.specs.Deciding.{Decided}
 use Rattle.kmipa_check.specs.Verdicts.{RunsBack}
 use Rattle.kmipa_check.proofs.PlacesLemmas.{from_one, may_take}
 use Rattle.kmipa_check.proofs.TurnLemmas.{late_here, turn_late, turn_back, turn_not_taken, turn_done, turn_at, turn_takable}

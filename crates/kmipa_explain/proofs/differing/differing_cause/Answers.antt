@@ -5,7 +5,7 @@ use Rattle.kmipa_msgs.specs.Messages.{payload_of}
 use Rattle.kmipa_record.specs.Declarations.{declaration_of}
 use Rattle.kmipa_record.specs.Entries.{entry_of}
 use Rattle.kmipa_explain.specs.Holding.{object_held}
-use Rattle.kmipa_explain.specs.Reading.{text_of}
+use Rattle.kmipa_explain.specs.Meant.{text_of}
 use Rattle.kmipa_explain.specs.Values.{attributes_at}
 use Rattle.kmipa_explain.proofs.ValueLemmas.{differing_told}
 use Rattle.kmipa_explain.proofs.differing.differing_cause.Goals as goal

@@ -2,7 +2,7 @@ use Rattle.std.specs.Prelude.{MatchOption}
 use Rattle.std.proofs.Common.{Option, subst}
 use Rattle.kmipa_msgs.specs.Messages.{answer_of, ask_of}
 use Rattle.kmipa_explain.specs.Echoes.{Differs, IsEcho, id_repeated}
-use Rattle.kmipa_explain.specs.Reading.{text_of}
+use Rattle.kmipa_explain.specs.Meant.{text_of}
 use Rattle.kmipa_explain.specs.declared.held.EchoHeld.{EchoHeld}
 use Rattle.kmipa_explain.proofs.EchoLemmas.{none_differs}
 use Rattle.kmipa_explain.proofs.echoes.echo_cause.Goals as goal

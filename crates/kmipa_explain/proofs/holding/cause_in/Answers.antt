@@ -7,7 +7,7 @@ use Rattle.kmipa_ops.specs.Placeholders.{placeholder_of}
 use Rattle.kmipa_check.specs.Steps.{step_of}
 use Rattle.kmipa_explain.specs.Holding.{TellsHeld}
 use Rattle.kmipa_explain.specs.Items.{about}
-use Rattle.kmipa_explain.specs.Reading.{text_of}
+use Rattle.kmipa_explain.specs.Meant.{text_of}
 use Rattle.kmipa_explain.specs.Reasoned.{HeldReason}
 use Rattle.kmipa_explain.proofs.PairLemmas.{pair_is}
 use Rattle.kmipa_explain.proofs.holding.cause_in.Goals as goal

@@ -3,7 +3,7 @@ use Rattle.kmipa_msgs.specs.Messages.{answer_of, ask_of}
 use Rattle.kmipa_record.specs.Declarations.{declaration_of}
 use Rattle.kmipa_ops.specs.declared.why.Why.{Why}
 use Rattle.kmipa_explain.specs.Holding.{TellsHeld}
-use Rattle.kmipa_explain.specs.Reading.{text_of}
+use Rattle.kmipa_explain.specs.Meant.{text_of}
 use Rattle.kmipa_explain.specs.Reasoned.{HeldReason}
 use Rattle.kmipa_explain.proofs.holding.cause_of_meant.Goals as goal
 

@@ -6,7 +6,8 @@ use Rattle.kmipa_record.specs.Declarations.{declaration_of}
 use Rattle.kmipa_ops.specs.Placeholders.{placeholder_of}
 use Rattle.kmipa_check.specs.Steps.{step_of}
 use Rattle.kmipa_explain.specs.Items.{about}
-use Rattle.kmipa_explain.specs.Reading.{seen_subject, text_of}
+use Rattle.kmipa_explain.specs.Reading.{seen_subject}
+use Rattle.kmipa_explain.specs.Meant.{text_of}
 use Rattle.kmipa_explain.specs.Whence.{subject_held}
 use Rattle.kmipa_explain.specs.declared.subject.Subject.{Subject}
 use Rattle.kmipa_explain.proofs.PairLemmas.{pair_is}

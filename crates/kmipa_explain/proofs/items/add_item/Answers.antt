@@ -5,8 +5,8 @@ use Rattle.kmipa_batch.specs.Calls.{pairs_of}
 use Rattle.kmipa_batch.proofs.PlaceLemmas.{got_none, got_some, pair_both, pair_no_left, pair_no_right}
 use Rattle.kmipa_check.specs.Steps.{step_of}
 use Rattle.kmipa_explain.specs.Effects.{dates_set}
-use Rattle.kmipa_explain.specs.Meant.{dates_told}
-use Rattle.kmipa_explain.specs.Reading.{seen_item, text_of}
+use Rattle.kmipa_explain.specs.Meant.{dates_told, text_of}
+use Rattle.kmipa_explain.specs.Reading.{seen_item}
 use Rattle.kmipa_explain.proofs.ItemLemmas.{fields_are, item_absent, item_added}
 use Rattle.kmipa_explain.proofs.items.add_item.Goals as goal
 

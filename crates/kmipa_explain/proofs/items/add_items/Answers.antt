@@ -1,6 +1,7 @@
 use Rattle.std.proofs.Common.{None, map, refl, arith}
 use Rattle.kmipa_check.specs.Steps.{step_of}
-use Rattle.kmipa_explain.specs.Reading.{seen_item, text_of}
+use Rattle.kmipa_explain.specs.Reading.{seen_item}
+use Rattle.kmipa_explain.specs.Meant.{text_of}
 use Rattle.kmipa_explain.proofs.ItemLemmas.{adds_all, adds_more, adds_none}
 use Rattle.kmipa_explain.proofs.items.add_items.Goals as goal
 

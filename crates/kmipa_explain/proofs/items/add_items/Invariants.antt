@@ -1,7 +1,8 @@
 use Rattle.std.proofs.Common.{◌-◌, ◌++◌, map}
 use Rattle.kmipa_check.specs.Steps.{step_of}
 use Rattle.kmipa_explain.specs.Items.{items_of_call}
-use Rattle.kmipa_explain.specs.Reading.{seen_item, text_of}
+use Rattle.kmipa_explain.specs.Reading.{seen_item}
+use Rattle.kmipa_explain.specs.Meant.{text_of}
 use Rattle.kmipa_explain.proofs.ItemLemmas.{AddsUp}
 use Rattle.kmipa_explain.proofs.items.add_items.Given as goal
 

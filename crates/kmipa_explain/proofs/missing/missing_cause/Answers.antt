@@ -5,7 +5,7 @@ use Rattle.kmipa_msgs.specs.Messages.{ask_of, get_attributes_of, got_attributes_
 use Rattle.kmipa_record.specs.Declarations.{declaration_of}
 use Rattle.kmipa_record.specs.Entries.{entry_of}
 use Rattle.kmipa_explain.specs.Holding.{object_held}
-use Rattle.kmipa_explain.specs.Reading.{text_of}
+use Rattle.kmipa_explain.specs.Meant.{text_of}
 use Rattle.kmipa_explain.specs.Values.{AreAllMissing, attributes_at}
 use Rattle.kmipa_explain.proofs.ValueLemmas.{missing_told}
 use Rattle.kmipa_explain.proofs.missing.missing_cause.Goals as goal

@@ -3,7 +3,8 @@ use Rattle.std.specs.String.{string_bytes}
 use Rattle.kmipa_record.specs.Declarations.{declaration_of}
 use Rattle.kmipa_check.proofs.PlaceLemmas.{mapped_at}
 use Rattle.kmipa_explain.specs.Items.{ItemOf}
-use Rattle.kmipa_explain.specs.Reading.{IsStoryAt, seen_item, text_of}
+use Rattle.kmipa_explain.specs.Reading.{IsStoryAt, seen_item}
+use Rattle.kmipa_explain.specs.Meant.{text_of}
 use Rattle.kmipa_explain.specs.declared.item.Item.{Item}
 use Rattle.kmipa_explain.proofs.StoryLemmas.{no_story, not_about, story_there}
 use Rattle.kmipa_explain.proofs.story.story_in.Goals as goal

@@ -4,8 +4,7 @@ use Rattle.kmipa_msgs.specs.Messages.{maybe_lent}
 use Rattle.kmipa_record.specs.Declarations.{declaration_of}
 use Rattle.kmipa_record.specs.Entries.{EntryOf, entry_of}
 use Rattle.kmipa_record.specs.declared.entry.Entry.{Entry}
-use Rattle.kmipa_explain.specs.Meant.{object_held}
-use Rattle.kmipa_explain.specs.Reading.{text_of}
+use Rattle.kmipa_explain.specs.Meant.{object_held, text_of}
 use Rattle.kmipa_explain.specs.Whence.{id_of_cause, subject_at}
 use Rattle.kmipa_explain.proofs.subject.subject_held.Goals as goal
 

@@ -6,8 +6,8 @@ use Rattle.kmipa_ttlv.specs.Written.{Legal}
 use Rattle.kmipa_msgs.specs.Messages.{row_of}
 use Rattle.kmipa_msgs.specs.declared.rules.Row.{Row}
 use Rattle.kmipa_record.specs.Declarations.{declaration_of, declaration_header, row_item}
-use Rattle.kmipa_record.specs.DeclarationWriting.{written_entry, MayStandTogether}
-use Rattle.kmipa_record.specs.Entries.{entry_of}
+use Rattle.kmipa_record.specs.DeclarationWriting.{MayStandTogether}
+use Rattle.kmipa_record.specs.Entries.{entry_of, written_entry}
 use Rattle.kmipa_record.specs.Writing.{Adds, AddsAll}
 use Rattle.kmipa_record.specs.declared.entry.Entry.{Entry}
 use Rattle.kmipa_record.proofs.DeclarationWritingLemmas.{items_of, adds_joined, entries_able}

@@ -1,7 +1,7 @@
 use Rattle.std.proofs.Common.{[], map, refl}
 use Rattle.kmipa_ttlv.specs.Input.{came_of, is_failed}
 use Rattle.kmipa_record.specs.Marks.{mark_of}
-use Rattle.kmipa_record.specs.TranscriptReading.{input_of, place_of}
+use Rattle.kmipa_record.specs.TranscriptReading.{input_of, mark_place}
 use Rattle.kmipa_record.specs.declared.fault.RecordFault.{RecordFault}
 use Rattle.kmipa_record.specs.declared.fault.RecordKind.TheVariants.{Memory}
 use Rattle.kmipa_record.proofs.TranscriptLemmas.{unkept_reported, unkept_place}
@@ -17,7 +17,7 @@ returns-clause-fault g c = λ file is.
       | in-Ok w ↦ rw w.result-is tt
       | in-Err w ↦
           let f : RecordFault = record { offset = w.place.result; kind = Memory } in
-          rw w.result-is (unkept_reported file (came_of (input_of source)) is.0 marks (mark_of c.in-Some.mark) (place_of source) (is_failed (input_of source)) f is.1 c.requires.recorded (stands is.0) w.place.ensures refl)
+          rw w.result-is (unkept_reported file (came_of (input_of source)) is.0 marks (mark_of c.in-Some.mark) (mark_place source) (is_failed (input_of source)) f is.1 c.requires.recorded (stands is.0) w.place.ensures refl)
     ]
 
 pub returns-clause-place : goal.returns-clause-place
@@ -29,5 +29,5 @@ returns-clause-place g c =
       | in-Ok w ↦ rw w.result-is tt
       | in-Err w ↦
           let f : RecordFault = record { offset = w.place.result; kind = Memory } in
-          rw w.result-is (unkept_place (came_of (input_of source)) marks (mark_of c.in-Some.mark) (place_of source) f (stands []) w.place.ensures refl)
+          rw w.result-is (unkept_place (came_of (input_of source)) marks (mark_of c.in-Some.mark) (mark_place source) f (stands []) w.place.ensures refl)
     ]

@@ -1,5 +1,6 @@
 use Rattle.std.proofs.Common.{ℕ, List, Option, sym, ap, subst}
-use Rattle.kmipa_search.specs.Ends.{StillOf, StandAmong, StandAmongFrom, stills, stills_shared}
+use Rattle.kmipa_search.specs.Ends.{StandAmong, StandAmongFrom, stills_shared}
+use Rattle.kmipa_search.specs.Stills.{StillOf, stills}
 use Rattle.kmipa_search.proofs.ends.is_end.Goals as goal
 
 pub returns-in-Some : goal.returns-in-Some

@@ -1,7 +1,7 @@
 use Rattle.std.proofs.Common.{◌≡◌, ◌<◌, ℕ, true, ◌-◌, ◌+◌, length, map}
 use Rattle.kmipa_search.specs.Candidates.{candidate_step}
 use Rattle.kmipa_search.specs.Links.{at}
-use Rattle.kmipa_search.specs.Progress.{step_at}
+use Rattle.kmipa_search.specs.Taken.{step_at}
 use Rattle.kmipa_search.specs.Ranks.{parts}
 use Rattle.kmipa_search.proofs.forced.are_apart.Given as goal
 

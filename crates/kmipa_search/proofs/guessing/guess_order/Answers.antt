@@ -7,7 +7,7 @@ use Rattle.std.proofs.lemmas.Option.{slice_get_read}
 use Rattle.kmipa_record.specs.declared.turn.Turn.{Turn}
 use Rattle.kmipa_search.specs.Guessing.{GuessTried}
 use Rattle.kmipa_search.specs.declared.guessing.Taken.{Taken}
-use Rattle.kmipa_search.proofs.ElementLemmas.{contains_at}
+use Rattle.kmipa_check.proofs.PlaceLemmas.{contains_at}
 use Rattle.kmipa_search.proofs.GuessLemmas.{guessing_begins, guessing_taken, guessing_back, some_marks, one_less}
 use Rattle.kmipa_search.proofs.guessing.guess_order.Goals as goal
 

@@ -1,6 +1,6 @@
 use Rattle.std.proofs.Common.{◌≡◌, length, vec_len, rules, arith}
 use Rattle.kmipa_msgs.specs.Messages.{ask_of, answer_of, request_of, response_of}
-use Rattle.kmipa_search.proofs.ElementLemmas.{mapped_at}
+use Rattle.kmipa_check.proofs.PlaceLemmas.{mapped_at}
 use Rattle.kmipa_search.proofs.IdleLemmas.{idle_here}
 use Rattle.kmipa_search.proofs.idle.is_idle_at.Goals as goal
 

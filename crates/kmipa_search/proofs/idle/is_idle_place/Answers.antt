@@ -3,8 +3,8 @@ use Rattle.std.proofs.lemmas.Option.{get_or_from_slice_get}
 use Rattle.kmipa_check.specs.Steps.{StepOf}
 use Rattle.kmipa_search.specs.Candidates.{candidate_step}
 use Rattle.kmipa_search.specs.Idle.{IsIdleStep}
-use Rattle.kmipa_search.specs.Progress.{no_step}
-use Rattle.kmipa_search.proofs.ElementLemmas.{mapped_at}
+use Rattle.kmipa_search.specs.Taken.{no_step}
+use Rattle.kmipa_check.proofs.PlaceLemmas.{mapped_at}
 use Rattle.kmipa_search.proofs.idle.is_idle_place.Goals as goal
 
 pub returns : goal.returns

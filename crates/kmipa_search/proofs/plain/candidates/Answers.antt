@@ -6,7 +6,7 @@ use Rattle.kmipa_check.specs.declared.call.Call.{Call}
 use Rattle.kmipa_search.specs.Candidates.{candidate_step}
 use Rattle.kmipa_search.specs.Plain.{ArePlain}
 use Rattle.kmipa_search.specs.declared.candidate.Candidate.{Candidate}
-use Rattle.kmipa_search.proofs.ElementLemmas.{mapped_at}
+use Rattle.kmipa_check.proofs.PlaceLemmas.{mapped_at}
 use Rattle.kmipa_search.proofs.CutLemmas.{cut}
 use Rattle.kmipa_search.proofs.PlainLemmas.{not_plain, plain_pushed}
 use Rattle.kmipa_search.proofs.plain.candidates.Goals as goal

@@ -3,7 +3,7 @@ use Rattle.std.specs.declared.alloc.Global.{Global}
 use Rattle.kmipa_check.specs.Calls.{call_of}
 use Rattle.kmipa_search.specs.Candidates.{AreOfCalls, own_call}
 use Rattle.kmipa_search.specs.declared.candidate.Candidate.{Candidate}
-use Rattle.kmipa_search.proofs.ElementLemmas.{mapped_at, contains_at}
+use Rattle.kmipa_check.proofs.PlaceLemmas.{mapped_at, contains_at}
 use Rattle.kmipa_search.proofs.GuessLemmas.{none_of_calls, more_of_calls}
 use Rattle.kmipa_search.proofs.plain.every_candidate.Goals as goal
 use Rattle.kmipa_search.proofs.plain.every_candidate.Goals.{in-Some+in_ok-push, in_default}

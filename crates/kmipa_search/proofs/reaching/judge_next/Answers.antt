@@ -5,7 +5,7 @@ use Rattle.kmipa_msgs.specs.Messages.{rules_of}
 use Rattle.kmipa_search.specs.Candidates.{candidate_step}
 use Rattle.kmipa_search.specs.Reaching.{IsJudged, TellsAhead}
 use Rattle.kmipa_search.specs.declared.stuck.NextCall.{NextCall}
-use Rattle.kmipa_search.proofs.ElementLemmas.{contains_at, mapped_at}
+use Rattle.kmipa_check.proofs.PlaceLemmas.{contains_at, mapped_at}
 use Rattle.kmipa_search.proofs.ReachedLemmas.{told_next, tells_more, tells_all, tells_past}
 use Rattle.kmipa_search.proofs.reaching.judge_next.Goals as goal
 

@@ -4,7 +4,8 @@ use Rattle.kmipa_record.specs.Declarations.{DeclarationOf}
 use Rattle.kmipa_check.specs.Runs.{rules_declared}
 use Rattle.kmipa_check.specs.Verdicts.{AreKnown}
 use Rattle.kmipa_search.specs.Candidates.{candidate_step}
-use Rattle.kmipa_search.specs.Progress.{AreBegun, so_far}
+use Rattle.kmipa_search.specs.Progress.{AreBegun}
+use Rattle.kmipa_search.specs.Taken.{so_far}
 use Rattle.kmipa_search.specs.Reaching.{TellsAhead}
 use Rattle.kmipa_search.specs.Remaining.{AreRemaining}
 use Rattle.kmipa_search.proofs.reaching.judge_next.Given as goal

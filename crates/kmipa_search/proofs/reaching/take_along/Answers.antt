@@ -6,7 +6,7 @@ use Rattle.kmipa_batch.specs.Refusals.{CallExplainsAlong}
 use Rattle.kmipa_check.specs.Steps.{order_of}
 use Rattle.kmipa_search.specs.Candidates.{candidate_step}
 use Rattle.kmipa_search.specs.Reaching.{AreTaken}
-use Rattle.kmipa_search.proofs.ElementLemmas.{contains_at, mapped_at}
+use Rattle.kmipa_check.proofs.PlaceLemmas.{contains_at, mapped_at}
 use Rattle.kmipa_search.proofs.ReachedLemmas.{none_taken, some_taken, taken_more}
 use Rattle.kmipa_search.proofs.reaching.take_along.Goals as goal
 

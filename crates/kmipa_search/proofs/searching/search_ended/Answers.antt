@@ -7,7 +7,7 @@ use Rattle.kmipa_record.specs.Witnesses.{witness_of}
 use Rattle.kmipa_check.specs.Plain.{bare_turn}
 use Rattle.kmipa_search.specs.Candidates.{candidate_step}
 use Rattle.kmipa_search.specs.Confirming.{turns_at}
-use Rattle.kmipa_search.specs.Progress.{step_at}
+use Rattle.kmipa_search.specs.Taken.{step_at}
 use Rattle.kmipa_search.proofs.AnswerLemmas.{tried}
 use Rattle.kmipa_search.proofs.searching.search_ended.Goals as goal
 

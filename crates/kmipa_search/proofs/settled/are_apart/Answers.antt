@@ -3,9 +3,9 @@ use Rattle.std.proofs.lemmas.List.{length-map}
 use Rattle.std.proofs.lemmas.Option.{get_or_from_slice_get}
 use Rattle.kmipa_store.specs.Ledger.{cards_of}
 use Rattle.kmipa_search.specs.Candidates.{candidate_step}
-use Rattle.kmipa_search.specs.Progress.{no_step}
+use Rattle.kmipa_search.specs.Taken.{no_step}
 use Rattle.kmipa_search.specs.Settled.{AreApartTo, Marks}
-use Rattle.kmipa_search.proofs.ElementLemmas.{mapped_at}
+use Rattle.kmipa_check.proofs.PlaceLemmas.{mapped_at}
 use Rattle.kmipa_search.proofs.LoneLemmas.{marked_none, marked_next}
 use Rattle.kmipa_search.proofs.settled.are_apart.Goals as goal
 

@@ -1,7 +1,7 @@
 use Rattle.std.proofs.Common.{◌≡◌, ◌-◌, true, arith, rules}
 use Rattle.kmipa_store.specs.Ledger.{held}
 use Rattle.kmipa_store.proofs.SoundLemmas.{number_below}
-use Rattle.kmipa_search.proofs.ElementLemmas.{at_within}
+use Rattle.kmipa_check.proofs.PlaceLemmas.{at_within}
 use Rattle.kmipa_search.proofs.LoneLemmas.{told_on}
 use Rattle.kmipa_search.proofs.settled.are_told.Goals as goal
 

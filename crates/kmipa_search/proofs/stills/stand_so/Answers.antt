@@ -1,6 +1,7 @@
 use Rattle.std.proofs.Common.{◌≡◌, ◌-◌, true, sym, ap, subst, arith, rules}
 use Rattle.std.proofs.lemmas.List.{length-map}
-use Rattle.kmipa_search.specs.Ends.{StillOf, StandsAmong, still, still_of, stills}
+use Rattle.kmipa_search.specs.Ends.{StandsAmong, still_of}
+use Rattle.kmipa_search.specs.Stills.{StillOf, still, stills}
 use Rattle.kmipa_search.proofs.StillLemmas.{all_among, among_on}
 use Rattle.kmipa_search.proofs.stills.stand_so.Goals as goal
 

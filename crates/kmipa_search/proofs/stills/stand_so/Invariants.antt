@@ -1,5 +1,6 @@
 use Rattle.std.proofs.Common.{◌≡◌, ◌≤◌, ℕ, length, slice_get, Some}
-use Rattle.kmipa_search.specs.Ends.{Shared, StandsAmong, still_shared, stills}
+use Rattle.kmipa_search.specs.Ends.{Shared, StandsAmong, still_shared}
+use Rattle.kmipa_search.specs.Stills.{stills}
 use Rattle.kmipa_search.proofs.stills.stand_so.Given as goal
 
 abbrev pub invariant-objects : goal.invariant-objects

@@ -1,6 +1,7 @@
 use Rattle.std.proofs.Common.{◌≡◌, ◌∙◌, true, arith, rules}
 use Rattle.kmipa_store.specs.Ledger.{held}
-use Rattle.kmipa_search.specs.Ends.{still, still_of}
+use Rattle.kmipa_search.specs.Ends.{still_of}
+use Rattle.kmipa_search.specs.Stills.{still}
 use Rattle.kmipa_search.proofs.StillLemmas.{alike_at}
 use Rattle.kmipa_search.proofs.stills.stands_at.Goals as goal
 

@@ -1,6 +1,6 @@
 use Rattle.std.proofs.Common.{◌≡◌, slice_index_or, true, sym, ◌∙◌, arith, rules}
 use Rattle.std.proofs.lemmas.Option.{slice_get-get_or}
-use Rattle.kmipa_search.proofs.ElementLemmas.{at_contains, at_within}
+use Rattle.kmipa_check.proofs.PlaceLemmas.{at_contains, at_within}
 use Rattle.kmipa_search.proofs.TakenLemmas.{rising_more}
 use Rattle.kmipa_search.proofs.taken.are_marked.Goals as goal
 

@@ -3,4 +3,4 @@ use Rattle.kmipa_session.proofs.ChainingLemmas.{told_done}
 use Rattle.kmipa_session.proofs.chaining.search.Goals as goal
 
 pub returns-clause-joins : goal.returns-clause-joins
-returns-clause-joins g c = λ done. one_more _ _ _ (c.search_next-status.ensures.joins (told_done c.tell.result c.search_next-status.result c.tell.ensures done))
+returns-clause-joins g c = λ done. one_more _ _ _ (c.search_next-status.ensures.goes_on (told_done c.tell.result c.search_next-status.result c.tell.ensures done)).0

@@ -4,7 +4,7 @@ use Rattle.kmipa_batch.specs.Orders.{order_given}
 use Rattle.kmipa_batch.specs.Refusals.{CallTakenAlong}
 use Rattle.kmipa_batch.specs.declared.refusal.CallRefusal.TheVariants as refusal
 use Rattle.kmipa_check.specs.Steps.{order_of, step_of}
-use Rattle.kmipa_check.specs.Ordering.{Decided}
+use Rattle.kmipa_check.specs.Deciding.{Decided}
 use Rattle.kmipa_check.specs.Verdicts.{IsLate, RunsBack}
 use Rattle.kmipa_check.specs.declared.verdict.Refused.{Refused}
 use Rattle.kmipa_check.proofs.ReplayLemmas.{replayed_more, refused_back, refused_call}

@@ -4,7 +4,7 @@ use Rattle.std.proofs.lemmas.Grind.{flat_map-append}
 use Rattle.std.proofs.lemmas.List.{map-append, take-append-drop}
 use Rattle.std.proofs.lemmas.Result.{err_from_is_err_and}
 use Rattle.kmipa_ttlv.specs.ItemTree.{tree}
-use Rattle.kmipa_ttlv.specs.Frames.{rest_of, place_of, fault_of, IsAfter}
+use Rattle.kmipa_ttlv.specs.Frames.{rest_of, frame_place, fault_of, IsAfter}
 use Rattle.kmipa_ttlv.specs.Stream.{Begins, IsCutShort, IsFlawedBehind}
 use Rattle.kmipa_ttlv.specs.Tree.{Tree}
 use Rattle.kmipa_ttlv.specs.declared.fault.FaultKind.TheVariants.{Truncated}
@@ -52,5 +52,5 @@ returns-in_err-item-clause-fault c =
     let s = c.next.new.self in
     let all : came ++ bytes_of (drop i pieces) ≡ bytes_of pieces = sym (flat_map-append (λ (piece : Vec ℕ Global). piece.items) (take i pieces) (drop i pieces)) ∙ ap bytes_of (take-append-drop i pieces) in
     rw (p.1, p.2) (ByKind-together f.kind _ _ _ _ (IsFlawedBehind (bytes_of pieces) f)
-    (λ tells stays. flawed_behind came (bytes_of (drop i pieces)) (bytes_of pieces) given (rest_of s) (place_of s) (fault_of s) f all stays (tells came given c.items.invariant).0)
+    (λ tells stays. flawed_behind came (bytes_of (drop i pieces)) (bytes_of pieces) given (rest_of s) (frame_place s) (fault_of s) f all stays (tells came given c.items.invariant).0)
     c.in_err-item.ensures.tells c.in_err-item.ensures.stays)

@@ -3,7 +3,7 @@ use Rattle.kmipa_ttlv.specs.Tree.{Tree}
 use Rattle.kmipa_ttlv.specs.ViewTree.{view_tree}
 use Rattle.kmipa_msgs.specs.declared.fault.ReadFault.{ReadFault}
 use Rattle.kmipa_msgs.specs.Messages.{ask_of, payload_of}
-use Rattle.kmipa_msgs.specs.Outside.{Inside, OutsideAt, Tells}
+use Rattle.kmipa_msgs.specs.Outside.{Inside, OutsideAt, TellsSaid}
 use Rattle.kmipa_msgs.specs.Payloads.{SaysPayload, PayloadFault}
 use Rattle.kmipa_unfit.proofs.fills.fill_kind.Goals as goal
 
@@ -17,5 +17,5 @@ pub returns-in-Err-Outside : goal.returns-in-Err-Outside
 returns-in-Err-Outside c =
     let P : Tree → Type 0 = λ t. OutsideAt (PayloadFault t (ask_of c.args.ask.now)) c.in-Err-Outside.outside.item c.in-Err-Outside.outside.kind in
     let t = view_tree c.lend-view.result in
-    let R : ReadFault → Type 0 = λ x. Tells payload_of (SaysPayload t (ask_of c.args.ask.now)) (PayloadFault t (ask_of c.args.ask.now)) (Err x) in
+    let R : ReadFault → Type 0 = λ x. TellsSaid payload_of (SaysPayload t (ask_of c.args.ask.now)) (PayloadFault t (ask_of c.args.ask.now)) (Err x) in
     (c.in-Err-Outside.outside.item, subst P c.lend-view.ensures (subst R c.in-Err-Outside.field-0-is c.in-Err-Outside.ensures))

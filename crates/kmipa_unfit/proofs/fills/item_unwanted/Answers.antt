@@ -11,33 +11,33 @@ use Rattle.kmipa_unfit.proofs.fills.item_unwanted.Goals as goal
 pub returns-then-place-answered : goal.returns-then-place-answered
 returns-then-place-answered c =
     let fits : SFits w32 c.args.item = search rules in
-    let is : c.args.item ≡ pos (c.place_of-place.result + 1) = sym (to_z-of_z w32 c.args.item fits) ∙ c.place_of-place.ensures in (
+    let is : c.args.item ≡ pos (c.item_place-place.result + 1) = sym (to_z-of_z w32 c.args.item fits) ∙ c.item_place-place.ensures in (
       c.answered_count-answered.ensures,
-      past_answered (request_of c.args.request.now) (response_of c.args.response.now) c.answered_count-answered.result c.args.item c.place_of-place.result c.answered_count-answered.ensures is
+      past_answered (request_of c.args.request.now) (response_of c.args.response.now) c.answered_count-answered.result c.args.item c.item_place-place.result c.answered_count-answered.ensures is
           (omega (arith, c.if-place-answered.true)),
     )
 
 pub index-requires : goal.index-requires
 index-requires c =
     let asked : vec_len c.args.request.now.items ≡ length c.args.request.now.items.items = search rules in
-    let below : c.place_of-place.result < c.answered_count-answered.result = omega (arith, c.if-place-answered.false) in
-    let w = (c.answered_count-answered.ensures c.place_of-place.result).0 below in
+    let below : c.item_place-place.result < c.answered_count-answered.result = omega (arith, c.if-place-answered.false) in
+    let w = (c.answered_count-answered.ensures c.item_place-place.result).0 below in
     omega (arith, w.0, asked, length-map c.args.request.now.items.items ask_of)
 
 pub index-requires-2 : goal.index-requires-2
 index-requires-2 c =
     let answered : vec_len c.args.response.now.items ≡ length c.args.response.now.items.items = search rules in
-    let below : c.place_of-place.result < c.answered_count-answered.result = omega (arith, c.if-place-answered.false) in
-    let w = (c.answered_count-answered.ensures c.place_of-place.result).0 below in
+    let below : c.item_place-place.result < c.answered_count-answered.result = omega (arith, c.if-place-answered.false) in
+    let w = (c.answered_count-answered.ensures c.item_place-place.result).0 below in
     omega (arith, w.1, answered, length-map c.args.response.now.items.items answer_of)
 
 pub returns : goal.returns
 returns c =
     let fits : SFits w32 c.args.item = search rules in
-    let is : c.args.item ≡ pos (c.place_of-place.result + 1) = sym (to_z-of_z w32 c.args.item fits) ∙ c.place_of-place.ensures in
-    let below : c.place_of-place.result < c.answered_count-answered.result = omega (arith, c.if-place-answered.false) in
-    let w = (c.answered_count-answered.ensures c.place_of-place.result).0 below in
-    item_reported (request_of c.args.request.now) (response_of c.args.response.now) c.args.item c.place_of-place.result (ask_of c.index.result.now) (answer_of c.index-2.result.now) c.answer_unwanted.result is
-    (mapped_at ask_of c.args.request.now.items.items c.place_of-place.result c.index.result.now (omega (arith, w.0, length-map c.args.request.now.items.items ask_of)) c.index.ensures)
-    (mapped_at answer_of c.args.response.now.items.items c.place_of-place.result c.index-2.result.now (omega (arith, w.1, length-map c.args.response.now.items.items answer_of)) c.index-2.ensures)
+    let is : c.args.item ≡ pos (c.item_place-place.result + 1) = sym (to_z-of_z w32 c.args.item fits) ∙ c.item_place-place.ensures in
+    let below : c.item_place-place.result < c.answered_count-answered.result = omega (arith, c.if-place-answered.false) in
+    let w = (c.answered_count-answered.ensures c.item_place-place.result).0 below in
+    item_reported (request_of c.args.request.now) (response_of c.args.response.now) c.args.item c.item_place-place.result (ask_of c.index.result.now) (answer_of c.index-2.result.now) c.answer_unwanted.result is
+    (mapped_at ask_of c.args.request.now.items.items c.item_place-place.result c.index.result.now (omega (arith, w.0, length-map c.args.request.now.items.items ask_of)) c.index.ensures)
+    (mapped_at answer_of c.args.response.now.items.items c.item_place-place.result c.index-2.result.now (omega (arith, w.1, length-map c.args.response.now.items.items answer_of)) c.index-2.ensures)
     c.answer_unwanted.ensures

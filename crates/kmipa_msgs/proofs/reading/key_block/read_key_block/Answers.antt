@@ -7,7 +7,7 @@ use Rattle.kmipa_msgs.specs.declared.kind.OutsideKind.TheVariants.{Format, Missi
 use Rattle.kmipa_msgs.specs.Kinds.{kind_number}
 use Rattle.kmipa_msgs.specs.Tables.{there}
 use Rattle.kmipa_msgs.proofs.ViewLemmas.{joined, optional_row}
-use Rattle.kmipa_msgs.proofs.BlockLemmas.{plain_rows, block_view, seen_block}
+use Rattle.kmipa_msgs.proofs.BlockLemmas.{plain_block_rows, block_view, seen_block}
 use Rattle.kmipa_msgs.proofs.reading.key_block.read_key_block.Goals as goal
 
 pub returns-in_err-format : goal.returns-in_err-format
@@ -18,7 +18,7 @@ returns-in_err-format c =
     let described = joined kind_number _ _ c.both-2.result _ _ c.both-2.ensures (joined kind_number _ _ c.both.result _ _ c.both.ensures c.format.ensures algorithm) bits in
     let there = c.value_there.ensures ∙ ap (λ f. there f Missing Format) c.structure_at-value.ensures in
     let value = joined kind_number _ _ c.both-3.result _ _ c.both-3.ensures c.unless_there-unwrapped.ensures there in
-    let plain : c.both-4.result ≡ plain_rows ts = joined kind_number _ _ c.both-4.result _ _ c.both-4.ensures described value in
+    let plain : c.both-4.result ≡ plain_block_rows ts = joined kind_number _ _ c.both-4.result _ _ c.both-4.ensures described value in
     let e : c.from_residual.result ≡ Err c.in_err-format.field-0.0 = search rules in
     rw e (
     ap (map_ok block_view) (sym c.in_err-format.was)

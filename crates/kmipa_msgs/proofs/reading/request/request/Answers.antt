@@ -40,13 +40,13 @@ returns-in_err-items c =
     let t = view_tree c.args.message.now in
     let ts = view_trees c.in_ok-children.children in
     let e : c.from_residual-in_err-items.result ≡ Err c.in_err-items.field-0.0 = search rules in
-    rw e (gives_items request_of asks_of (request_at (header_at (c.in_ok-option.option, c.in_ok-option.ordered))) c.in_err-items.field-0.0 (from_one (each_in (λ place. item_in c.is_loose-unordered.result) (every batch_item ts))) (request_in t) c.in_err-items.ensures
-    (whole_request t ts (view_trees c.in_ok-children.header) c.item_count-count.result c.is_loose-unordered.result (c.in_ok-option.option, c.in_ok-option.ordered) opens count (c.is_loose-unordered.ensures ∙ loose_as_said (view_trees c.in_ok-children.header) c.item_count-count.result (c.in_ok-option.option, c.in_ok-option.ordered) c.in_ok-option.ensures) c.in_ok-option.ensures))
+    rw e (gives_items request_of asks_of (request_at (header_at (c.in_ok-option.option, c.in_ok-option.ordered))) c.in_err-items.field-0.0 (from_one (each_in (λ place. item_in c.lacks_order-unordered.result) (every batch_item ts))) (request_in t) c.in_err-items.ensures
+    (whole_request t ts (view_trees c.in_ok-children.header) c.item_count-count.result c.lacks_order-unordered.result (c.in_ok-option.option, c.in_ok-option.ordered) opens count (c.lacks_order-unordered.ensures ∙ loose_as_said (view_trees c.in_ok-children.header) c.item_count-count.result (c.in_ok-option.option, c.in_ok-option.ordered) c.in_ok-option.ensures) c.in_ok-option.ensures))
 
 pub returns : goal.returns
 returns c =
     let P : Option (Children × Children) → Type 0 = λ o. Opens request_message request_header_tag (view_tree c.args.message.now) o in
     let opens = subst P c.in_ok-children.ensures.ok_part c.message_parts-parts.ensures in
     let count = c.item_count-count.ensures in
-    whole_request (view_tree c.args.message.now) (view_trees c.in_ok-children.children) (view_trees c.in_ok-children.header) c.item_count-count.result c.is_loose-unordered.result (c.in_ok-option.option, c.in_ok-option.ordered) opens count (c.is_loose-unordered.ensures ∙ loose_as_said (view_trees c.in_ok-children.header) c.item_count-count.result (c.in_ok-option.option, c.in_ok-option.ordered) c.in_ok-option.ensures) c.in_ok-option.ensures
+    whole_request (view_tree c.args.message.now) (view_trees c.in_ok-children.children) (view_trees c.in_ok-children.header) c.item_count-count.result c.lacks_order-unordered.result (c.in_ok-option.option, c.in_ok-option.ordered) opens count (c.lacks_order-unordered.ensures ∙ loose_as_said (view_trees c.in_ok-children.header) c.item_count-count.result (c.in_ok-option.option, c.in_ok-option.ordered) c.in_ok-option.ensures) c.in_ok-option.ensures
     ∙ ap (map_ok (request_at (header_at (c.in_ok-option.option, c.in_ok-option.ordered)))) c.in_ok-items.ensures

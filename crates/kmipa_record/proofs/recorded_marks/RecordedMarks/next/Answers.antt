@@ -2,7 +2,7 @@ use Rattle.std.proofs.Common.{[], refl}
 use Rattle.std.proofs.lemmas.Result.{err_from_is_err_and}
 use Rattle.kmipa_ttlv.specs.Input.{came_of, is_failed}
 use Rattle.kmipa_record.specs.Marks.{mark_of}
-use Rattle.kmipa_record.specs.MarkReading.{input_of, place_of}
+use Rattle.kmipa_record.specs.MarkReading.{input_of, given_place}
 use Rattle.kmipa_record.proofs.TranscriptLemmas.{behind_reported, refused_reported, refused_place, one_more_come}
 use Rattle.kmipa_record.proofs.recorded_marks.RecordedMarks.next.Goals as goal
 
@@ -21,12 +21,12 @@ returns-in-Err-clause-fault g c = λ marks file come is.
     let source = c.next.new.self in
     let stands = rw c.in-Some.is at (c.in_ok-mark.ensures.placed marks come.given) in
     let here = rw c.refuse.ensures.input at is in
-    rw (c.refuse.ensures.input, c.refuse.ensures.fault) (refused_reported file (came_of (input_of source)) here.0 marks c.args.self.now.calls (mark_of c.in-Some.mark) (place_of source) (is_failed (input_of source))
-    (record { offset = place_of source; kind = c.in-Err.kind }) here.1 come.recorded come.follow (stands here.0) refl c.in-Err.ensures)
+    rw (c.refuse.ensures.input, c.refuse.ensures.fault) (refused_reported file (came_of (input_of source)) here.0 marks c.args.self.now.calls (mark_of c.in-Some.mark) (given_place source) (is_failed (input_of source))
+    (record { offset = given_place source; kind = c.in-Err.kind }) here.1 come.recorded come.follow (stands here.0) refl c.in-Err.ensures)
 
 pub returns-in-Err-clause-place : goal.returns-in-Err-clause-place
 returns-in-Err-clause-place g c = λ marks come.
     let source = c.next.new.self in
     let stands = rw c.in-Some.is at (c.in_ok-mark.ensures.placed marks come.given) in
-    rw (c.refuse.ensures.input, c.refuse.ensures.fault) (refused_place (came_of (input_of source)) marks c.args.self.now.calls (mark_of c.in-Some.mark) (place_of source)
-    (record { offset = place_of source; kind = c.in-Err.kind }) (stands []) refl c.in-Err.ensures)
+    rw (c.refuse.ensures.input, c.refuse.ensures.fault) (refused_place (came_of (input_of source)) marks c.args.self.now.calls (mark_of c.in-Some.mark) (given_place source)
+    (record { offset = given_place source; kind = c.in-Err.kind }) (stands []) refl c.in-Err.ensures)

@@ -1,7 +1,8 @@
 use Rattle.std.proofs.Common.{Vec, Option, Some, subst}
 use Rattle.std.specs.Prelude.{IfSome}
 use Rattle.std.specs.declared.alloc.Global.{Global}
-use Rattle.kmipa_search.specs.Ends.{Shared, AreAlike, stills, stills_shared}
+use Rattle.kmipa_search.specs.Ends.{Shared, AreAlike, stills_shared}
+use Rattle.kmipa_search.specs.Stills.{stills}
 use Rattle.kmipa_search.proofs.NotedLemmas.{noted}
 use Rattle.kmipa_search.proofs.ends.Ends.keep_objects.Goals as goal
 

@@ -7,11 +7,12 @@ use Rattle.kmipa_search.specs.Candidates.{candidate_step}
 use Rattle.kmipa_search.specs.Descents.{Progress}
 use Rattle.kmipa_search.specs.Ends.{Remembers}
 use Rattle.kmipa_search.specs.Idle.{IsIdleStep}
-use Rattle.kmipa_search.specs.Progress.{no_step, AreBegun, CallTried, places}
+use Rattle.kmipa_search.specs.Progress.{AreBegun, CallTried, places}
+use Rattle.kmipa_search.specs.Taken.{no_step}
 use Rattle.kmipa_search.specs.Ranks.{WereLinked}
 use Rattle.kmipa_search.specs.Tries.{IsPick, none_tried}
 use Rattle.kmipa_search.specs.declared.tried.Visit.{Visit}
-use Rattle.kmipa_search.proofs.ElementLemmas.{mapped_at, contains_at}
+use Rattle.kmipa_check.proofs.PlaceLemmas.{mapped_at, contains_at}
 use Rattle.kmipa_search.proofs.PickLemmas.{wishes_above}
 use Rattle.kmipa_search.proofs.ProgressLemmas.{progress_taken, progress_refused, popped}
 use Rattle.kmipa_search.proofs.RememberLemmas.{remembers_taken, progress_arrived}

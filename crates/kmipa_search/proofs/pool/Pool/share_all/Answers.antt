@@ -3,7 +3,8 @@ use Rattle.std.proofs.lemmas.List.{length-append, length-map, take_all}
 use Rattle.kmipa_store.specs.Ledger.{held}
 use Rattle.kmipa_store.proofs.SoundLemmas.{number_below}
 use Rattle.kmipa_search.proofs.StillLemmas.{copied, none_alike}
-use Rattle.kmipa_search.specs.Ends.{StillOf, AreAlike, still, stills, stills_shared}
+use Rattle.kmipa_search.specs.Ends.{AreAlike, stills_shared}
+use Rattle.kmipa_search.specs.Stills.{StillOf, still, stills}
 use Rattle.kmipa_search.proofs.pool.Pool.share_all.Goals as goal
 
 pub share-requires : goal.share-requires

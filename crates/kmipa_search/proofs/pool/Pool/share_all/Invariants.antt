@@ -1,5 +1,6 @@
 use Rattle.std.proofs.Common.{◌≡◌, ◌≤◌, ◌-◌, length, take}
-use Rattle.kmipa_search.specs.Ends.{AreAlike, stills, stills_shared}
+use Rattle.kmipa_search.specs.Ends.{AreAlike, stills_shared}
+use Rattle.kmipa_search.specs.Stills.{stills}
 use Rattle.kmipa_search.proofs.pool.Pool.share_all.Given as goal
 
 abbrev pub invariant-objects : goal.invariant-objects

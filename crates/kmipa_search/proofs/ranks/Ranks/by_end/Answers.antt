@@ -2,7 +2,7 @@ use Rattle.std.proofs.Common.{◌≡◌, ◌≢◌, ◌∙◌, ℕ, ◌∷◌, m
 use Rattle.std.specs.Prelude.{AllPairs}
 use Rattle.std.proofs.lemmas.List.{take_all}
 use Rattle.kmipa_search.specs.Candidates.{candidate_step}
-use Rattle.kmipa_search.specs.Progress.{step_at}
+use Rattle.kmipa_search.specs.Taken.{step_at}
 use Rattle.kmipa_search.specs.Ranks.{end_of, IsRanked, HasRank, AreNoted, ByEnd}
 use Rattle.kmipa_search.specs.declared.ranks.Ranks.{Ranks}
 use Rattle.kmipa_search.proofs.SortLemmas.{if_ok, ranked_as, by_end_of, ends_total}

@@ -1,6 +1,6 @@
 use Rattle.std.proofs.Common.{◌≡◌, ◌<◌, ◌≤◌, ℕ, length, map, take, get_or, ◌-◌}
 use Rattle.kmipa_search.specs.Candidates.{candidate_step}
-use Rattle.kmipa_search.specs.Progress.{step_at}
+use Rattle.kmipa_search.specs.Taken.{step_at}
 use Rattle.kmipa_search.specs.Ranks.{end_of}
 use Rattle.kmipa_search.proofs.ranks.Ranks.by_end.Given as goal
 

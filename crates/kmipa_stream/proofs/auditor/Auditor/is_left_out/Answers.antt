@@ -4,7 +4,7 @@ use mir.Syntax.{w32}
 use Rattle.std.proofs.lemmas.Int.{to_z-of_z}
 use Rattle.kmipa_record.specs.Witnesses.{turn_of}
 use Rattle.kmipa_check.specs.Orders.{IsNamed}
-use Rattle.kmipa_check.specs.Ordering.{Decided}
+use Rattle.kmipa_check.specs.Deciding.{Decided}
 use Rattle.kmipa_stream.proofs.ConcludingLemmas.{unnamed_decided, not_left_out}
 use Rattle.kmipa_stream.proofs.auditor.Auditor.is_left_out.Goals as goal
 

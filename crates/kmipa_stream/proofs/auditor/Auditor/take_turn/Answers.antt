@@ -2,7 +2,7 @@ use Rattle.std.proofs.Common.{◌≡◌, ◌<◌, ℕ, Bool, Option, Some, None,
 use Rattle.kmipa_record.specs.NumberMaps.{value_at}
 use Rattle.kmipa_record.specs.Witnesses.{turn_of}
 use Rattle.kmipa_check.specs.Calls.{call_of}
-use Rattle.kmipa_check.specs.Ordering.{Decided}
+use Rattle.kmipa_check.specs.Deciding.{Decided}
 use Rattle.kmipa_check.proofs.PlaceLemmas.{at_within}
 use Rattle.kmipa_stream.specs.Replaying.{IsAtEnd, IsRecordedAhead}
 use Rattle.kmipa_stream.specs.Standing.{IsDoneBy}

@@ -1,6 +1,6 @@
 use Rattle.std.proofs.Common.{◌≡◌, Bool, Some, slice_get, get_or, length, subst, refl, arith, ◌+◌, rules}
 use Rattle.std.proofs.lemmas.Option.{slice_get_read}
-use Rattle.kmipa_check.specs.Ordering.{Decided}
+use Rattle.kmipa_check.specs.Deciding.{Decided}
 use Rattle.kmipa_stream.specs.Waiting.{IsPassed}
 use Rattle.kmipa_stream.proofs.WaitingLemmas.{wait_more, wait_pass, none_waits, first_waits}
 use Rattle.kmipa_stream.proofs.ends.Ends.first_waiting.Goals as goal

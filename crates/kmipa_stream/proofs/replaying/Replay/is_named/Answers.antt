@@ -5,7 +5,7 @@ use Rattle.kmipa_check.specs.Orders.{IsNamed}
 use mir.Val.{SFits}
 use mir.Syntax.{w32}
 use Rattle.std.proofs.lemmas.Int.{to_z-of_z}
-use Rattle.kmipa_check.specs.Ordering.{Decided}
+use Rattle.kmipa_check.specs.Deciding.{Decided}
 use Rattle.kmipa_stream.proofs.replaying.Replay.is_named.Goals as goal
 
 pub returns : goal.returns

@@ -5,7 +5,7 @@ use Rattle.kmipa_telling.specs.Deciding.{TellsDecision, TellsPlaceOf}
 use Rattle.kmipa_telling.specs.declared.judged.Decision.{Decision}
 use Rattle.kmipa_telling.specs.declared.judged.Decision.TheVariants as decision
 use Rattle.kmipa_telling.proofs.DecidingLemmas.{decided_have_steps, spent_have_steps}
-use Rattle.kmipa_telling.proofs.stuck.place_of.Goals as goal
+use Rattle.kmipa_telling.proofs.stuck.deepest_place.Goals as goal
 
 pub returns-in-Decided : goal.returns-in-Decided
 returns-in-Decided c = λ budget count recorded tells.

@@ -1,7 +1,7 @@
 use Rattle.std.proofs.Common.{◌-◌, length, map}
 use Rattle.kmipa_explain.specs.Reading.{is_that, seen_item}
 use Rattle.kmipa_explain.proofs.KeptLemmas.{NoneBelow}
-use Rattle.kmipa_explain.proofs.story.place_of.Given as goal
+use Rattle.kmipa_explain.proofs.story.refused_place.Given as goal
 
 abbrev pub invariant-items : goal.invariant-items
 invariant-items l = NoneBelow (is_that l.refused) (map seen_item l.items) l.place

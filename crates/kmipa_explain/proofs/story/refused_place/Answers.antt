@@ -3,7 +3,7 @@ use Rattle.std.proofs.lemmas.List.{length-map}
 use Rattle.kmipa_check.proofs.PlaceLemmas.{mapped_at}
 use Rattle.kmipa_explain.specs.Reading.{is_that, seen_item}
 use Rattle.kmipa_explain.proofs.KeptLemmas.{none_all, none_first, none_more}
-use Rattle.kmipa_explain.proofs.story.place_of.Goals as goal
+use Rattle.kmipa_explain.proofs.story.refused_place.Goals as goal
 
 pub items-init : goal.items-init
 items-init c = none_first (is_that c.args.refused) (map seen_item c.args.items.now)
