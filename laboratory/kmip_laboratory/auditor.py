@@ -22,9 +22,11 @@ class Auditor:
 
     def __init__(self, program: Optional[str] = None) -> None:
         self.program = _abiding(program) if program else _found()
-        if shutil.which(self.program) is None:
+        found = shutil.which(self.program)
+        if found is None:
             raise Trouble(f"there is no auditor at {self.program}: build it (README.md says how), or give its program "
                           f"in {VARIABLE}")
+        self.file = found
 
     def version(self) -> str:
         """What the program calls itself."""

@@ -24,6 +24,9 @@ BEGIN_FRONT, END_FRONT = ttlv.front(BEGIN_MARK, Kind.STRUCTURE), ttlv.front(END_
 CALL_FRONT, CLIENT_FRONT = ttlv.front(CALL, Kind.INTEGER), ttlv.front(CLIENT, Kind.TEXT)
 MESSAGE_FRONT = ttlv.front(MESSAGE, Kind.BYTES)
 
+FILE_HEADER = ttlv.structure(HEADER, ttlv.integer(VERSION, 1))
+# What stands behind these of its bytes is padding, and may be anything.
+TOLD_BYTES_OF_HEADER = 20
 MOST_CALLS = 100_000
 
 
@@ -67,7 +70,7 @@ class TranscriptWriter:
                           "give --out another name") from None
         except OSError as error:
             raise Trouble(f"{path} can't be written: {error.strerror}; give --out another name") from None
-        self._append(ttlv.structure(HEADER, ttlv.integer(VERSION, 1)))
+        self._append(FILE_HEADER)
 
     def begin(self, client: str, request: bytes) -> int:
         """Marks that a request is whole, and answers the number of its call."""
@@ -154,22 +157,30 @@ def spelled_marks_in(path: str) -> Iterator[Tuple[Mark, bytes]]:
 
 def _marks_of(file: BinaryIO, path: str) -> Iterator[Tuple[Mark, bytes]]:
     """Tells where the file is not what it should be: header, then marks; an end for a call that began, and once."""
-    place = 0
+    fault = _fault_of_header(file.read(len(FILE_HEADER)))
+    if fault:
+        raise Trouble(f"{path} is no transcript: {fault}; give one that `kmip_record proxy` or `keylog` made")
+    place = len(FILE_HEADER)
     begun: Dict[int, bool] = {}
     while front := file.read(ttlv.HEADER_LENGTH):
-        if place == 0 and front[:4] != HEADER.to_bytes(3, "big") + bytes([Kind.STRUCTURE]):
-            raise Trouble(f"{path} is no transcript: at offset 0 there is no header of one; give one that `kmip_record "
-                          "proxy` or `keylog` made")
         record = _record(file, front, path, place)
-        if place > 0:
-            yield _mark_of(record, begun, path, place), record
+        yield _mark_of(record, begun, path, place), record
         place += len(record)
-    if place == 0:
-        raise Trouble(f"{path} is no transcript: it is empty; give one that `kmip_record proxy` or `keylog` made")
+
+
+def _fault_of_header(front: bytes) -> Optional[str]:
+    """Why these first bytes of a file are no header of a transcript, if they are none. Behind a torn one nothing stands
+    that a cut could leave."""
+    if not front:
+        return "it is empty"
+    if len(front) < len(FILE_HEADER) and FILE_HEADER.startswith(front):
+        return f"it has the first {len(front)} bytes of the header of one, and nothing else"
+    told = front[:TOLD_BYTES_OF_HEADER] == FILE_HEADER[:TOLD_BYTES_OF_HEADER]
+    return None if told and len(front) == len(FILE_HEADER) else "at offset 0 there is no header of one"
 
 
 def _record(file: BinaryIO, front: bytes, path: str, place: int) -> bytes:
-    """The bytes of the record that begins with these."""
+    """The bytes of the record that begins with these, behind the header."""
     try:
         if len(front) < ttlv.HEADER_LENGTH:
             raise Torn("its header is torn")

@@ -8,6 +8,10 @@ class Trouble(Exception):
     """Ends the whole work. Its text says what is wrong and what to do."""
 
 
+class WrongWords(Trouble):
+    """The words can't be meant so. It ends the work ahead of its begin, with the status of words that nobody knows."""
+
+
 class ConnectionTrouble(Exception):
     """Ends one connection alone. Its text says what went wrong on it."""
 

@@ -199,12 +199,12 @@ class Blind(unittest.TestCase):
         sources = [EXAMPLES / "query" / name for name in NAMES[:2]]
         there = self.folder / "there"
         there.write_text("mine")
-        for targets, words in (([self.folder / "a", there], "is there already"),
-                               ([self.folder / "a", self.folder / "a"], "is named twice"),
-                               ([self.folder / "a", self.folder / "no" / "b"], "can't be written")):
+        for targets, status, words in (([self.folder / "a", there], 1, "is there already"),
+                                       ([self.folder / "a", self.folder / "a"], 64, "is named for two outputs"),
+                                       ([self.folder / "a", self.folder / "no" / "b"], 1, "can't be written")):
             with self.subTest(words):
                 done = record("blind", *sources, *targets)
-                self.assertEqual((done.status, len(done.err.splitlines())), (1, 1))
+                self.assertEqual((done.status, len(done.err.splitlines())), (status, 1))
                 self.assertIn(words, done.err)
                 self.assertEqual([path.name for path in self.folder.iterdir()], ["there"])
         self.assertEqual(there.read_text(), "mine")

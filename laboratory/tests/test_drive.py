@@ -111,6 +111,16 @@ class OnTheWire(Laboratory):
         self.assertEqual(again.returncode, 1)
         self.assertIn(f"{out} is there already", again.stderr)
 
+    def test_no_recording_is_a_file_that_is_read(self) -> None:
+        mix, link = self.folder / "own.mix", self.folder / "link"
+        mix.write_text("get 1\n")
+        link.symlink_to(self.certificates / "client-1.key")
+        for word in ("drive", "audit"):
+            for out in ("client-1.pem", "client-1.key", "authority.pem", link, mix):
+                done = self.drive(1, "--mix", mix, "--out", out, word=word)
+                self.assertEqual((done.returncode, done.stdout, done.stderr.count("\n")), (64, "", 1), done.stderr)
+                self.assertIn(f"kmip_drive: {out} is an input too", done.stderr)
+
     def test_what_befalls_calls_is_counted_and_leaves_open_calls(self) -> None:
         out = self.folder / "out"
         done = self.drive(self.simulated(), "--calls", "200", "--cut-before-sending", "0.1", "--cut-in-request", "0.1",

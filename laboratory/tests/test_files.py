@@ -2,13 +2,20 @@
 
 from __future__ import annotations
 
+import contextlib
+import io
+import os
+import stat
 import unittest
+from pathlib import Path
 from unittest import mock
 
 import messages
-from laboratory import Laboratory, run
+from laboratory import InFolder, Laboratory, run
 
 from kmip_laboratory import certificate, ttlv
+from kmip_laboratory.files import write_file
+from kmip_laboratory.recording.words import main
 from kmip_laboratory.transcript import TranscriptWriter
 from kmip_laboratory.trouble import Trouble
 
@@ -82,6 +89,65 @@ class Files(Laboratory):
             transcript.end(second, messages.not_found(1_700_000_000))
         run("order", path, "--out", self.folder / "witness.ttlv")
         self.assertEqual((self.folder / "witness.ttlv").read_bytes(), bytes.fromhex(WITNESS))
+
+
+class Making(InFolder):
+    """How files are made, whole or not at all."""
+
+    def test_what_a_killed_run_left_hinders_no_other_and_stays(self) -> None:
+        source, new = self.folder / "t", self.folder / "new"
+        with TranscriptWriter(str(source)) as transcript:
+            transcript.begin("a", bytes.fromhex(REQUEST))
+        left = self.folder / f"new.{os.getpid()}.part"
+        for words in (["order", source, "--out", new], ["order", source, "--out", new, "--force"],
+                      ["declare", "--empty", "--out", new], ["translate", source, new], ["sift", source, new],
+                      ["blind", source, new], ["cut", source, new, "--segment-calls", 1]):
+            for is_folder in (False, True):
+                with self.subTest(words[0], is_folder=is_folder):
+                    self.leave(left, is_folder)
+                    with contextlib.redirect_stdout(io.StringIO()), contextlib.redirect_stderr(io.StringIO()) as said:
+                        status = main(list(map(str, words)))
+                    self.assertEqual((status, said.getvalue().count("already")), (0, 0), said.getvalue())
+                    self.assertEqual(sorted(path.name for path in self.folder.iterdir()), ["new", left.name, "t"])
+                    self.clear(left, is_folder)
+                    for path in [*new.iterdir(), new] if new.is_dir() else [new]:
+                        path.rmdir() if path.is_dir() else path.unlink()
+
+    def leave(self, left: Path, is_folder: bool) -> None:
+        """Something of a run that was killed, or of somebody else."""
+        if is_folder:
+            left.mkdir()
+        (left / "mine" if is_folder else left).write_bytes(b"mine")
+
+    def clear(self, left: Path, is_folder: bool) -> None:
+        """Takes it away again; it has to be as it was."""
+        mine = left / "mine" if is_folder else left
+        self.assertEqual(mine.read_bytes(), b"mine")
+        mine.unlink()
+        if is_folder:
+            left.rmdir()
+
+    def test_what_can_not_be_written_whole_leaves_what_was_there(self) -> None:
+        (self.folder / "old").write_bytes(b"mine")
+        with mock.patch("os.fchmod", side_effect=OSError(28, "No space left on device")):
+            with self.assertRaisesRegex(Trouble, "old can't be written: No space left on device; give it another name"):
+                write_file(str(self.folder / "old"), b"other", force=True)
+        self.assertEqual([path.read_bytes() for path in self.folder.iterdir()], [b"mine"])
+
+    @unittest.skipUnless(os.geteuid() == 0, "needs root, which may give a file to others")
+    def test_what_is_written_over_keeps_its_owner_where_that_may_be(self) -> None:
+        old = self.folder / "old"
+        for may, owner, before, mode in ((True, (1234, 2345), 0o664, 0o664), (False, (0, 0), 0o664, 0o644),
+                                         (False, (0, 0), 0o640, 0o600), (False, (0, 0), 0o644, 0o644)):
+            old.write_bytes(b"mine")
+            os.chown(old, 1234, 2345)
+            old.chmod(before)
+            refusing = contextlib.nullcontext() if may else mock.patch("os.fchown", side_effect=PermissionError)
+            with self.subTest(may=may, before=before), refusing:
+                write_file(str(old), b"other", force=True)
+                there = old.stat()
+                self.assertEqual((old.read_bytes(), (there.st_uid, there.st_gid)), (b"other", owner))
+                self.assertEqual(stat.S_IMODE(there.st_mode), mode, "another group may do what everybody may")
 
 
 class Items(unittest.TestCase):

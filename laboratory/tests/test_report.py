@@ -10,6 +10,7 @@ import re
 import resource
 import shlex
 import shutil
+import stat
 import subprocess
 import sys
 import tempfile
@@ -228,6 +229,60 @@ class Report(unittest.TestCase):
         self.assertEqual(self.out.read_text(), "mine")
         self.assertEqual(report(self.out, EXAMPLES / "query", "--force").returncode, 0)
         self.assertTrue(self.out.read_text().startswith("<!DOCTYPE html>"))
+
+    def test_no_report_is_written_over_a_recording_or_another_report(self) -> None:
+        folder = self.folder / "recording"
+        shutil.copytree(EXAMPLES / "query", folder)
+        (self.folder / "link").symlink_to(folder / "transcript.ttlv")
+        os.link(folder / "declaration.ttlv", self.folder / "hard")
+        (self.folder / "same").symlink_to(".")
+        (folder / "witness.ttlv").unlink()
+        program = self.folder / "auditor"
+        program.write_text(f"#!/bin/sh\nexec {AUDITOR} \"$@\"\n")
+        program.chmod(0o700)
+        before = {path: path.read_bytes() for path in [program, *folder.iterdir()]}
+        outs = [folder, self.folder / "link", self.folder / "hard", folder / "witness.ttlv", program,
+                *(self.folder / "same" / "recording" / name for name in ("transcript.ttlv", "declaration.ttlv"))]
+        with unittest.mock.patch.dict(os.environ, {"KMIP_AUDIT": str(program)}):
+            for force in ([], ["--force"]):
+                for out in outs:
+                    self.assertIn(" is an input too", self.mistaken(out, folder, *force))
+                    self.assertIn(" is an input too", self.mistaken(self.out, self.folder, "--junit", out, *force))
+                for junit in (self.out, self.folder / "same" / "out.html"):
+                    said = self.mistaken(self.out, folder, "--junit", junit, *force)
+                    self.assertIn(" is named for two outputs", said)
+        self.assertEqual({path: path.read_bytes() for path in [program, *folder.iterdir()]}, before)
+        self.assertEqual(sorted(path.name for path in self.folder.iterdir()),
+                         ["auditor", "hard", "link", "recording", "same"])
+
+    def mistaken(self, *words: object) -> str:
+        """The one line on standard error at these words, which are refused with status 64."""
+        done = report(*words)
+        self.assertEqual((done.returncode, done.stdout, done.stderr.count("\n")), (64, "", 1), (words, done.stderr))
+        return done.stderr
+
+    def test_what_is_written_over_keeps_its_mode_and_what_is_read_only_stays(self) -> None:
+        other = self.folder / "junit.xml"
+        words = (self.out, EXAMPLES / "query", "--junit", other, "--force")
+        self.assertEqual(report(*words).returncode, 0)
+        self.assertEqual(stat.S_IMODE(self.out.stat().st_mode), 0o600, "a new one is its owner's alone")
+        for mode in (0o644, 0o664):
+            for path in (self.out, other):
+                path.write_text("mine")
+                path.chmod(mode)
+            self.assertEqual(report(*words).returncode, 0)
+            for path in (self.out, other):
+                self.assertEqual((stat.S_IMODE(path.stat().st_mode), path.read_text() == "mine"), (mode, False))
+        for path in (self.out, other):
+            for mode in (0o400, 0o444):
+                self.out.write_text("mine")
+                path.write_text("mine")
+                path.chmod(mode)
+                done = report(*words)
+                self.assertEqual((done.returncode, done.stdout), (1, ""))
+                self.assertIn(f"{path} is read-only, and is left as it is", done.stderr)
+                self.assertEqual((stat.S_IMODE(path.stat().st_mode), self.out.read_text()), (mode, "mine"))
+                path.chmod(0o600)
 
     def test_each_printed_line_is_read(self) -> None:
         for line, outcome, number in (("yes", Outcome.YES, None), ("yes: 86 steps", Outcome.YES, None),

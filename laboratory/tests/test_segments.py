@@ -72,7 +72,8 @@ class Cut(InFolder):
         words = ("--segment-calls", 1)
         self.assertIn("long has no whole record at offset", self.refused("cut", "long", "short", *words))
         self.assertIn("`cut` needs --segment-calls or --segment-seconds", self.refused("cut", "long", "short"))
-        self.assertIn("long is there already", self.refused("cut", "long", "long", *words))
+        (self.folder / "there").mkdir()
+        self.assertIn("there is there already", self.refused("cut", "long", "there", *words))
         self.assertEqual(run("cut", "long", "short", "--segment-calls", "0", cwd=self.folder).returncode, 64)
 
 

@@ -7,6 +7,7 @@ import os
 from typing import Dict, List
 
 from .. import fresh
+from ..outputs import see_apart
 from ..records import read_file
 from ..trouble import Trouble
 from . import replacing
@@ -34,8 +35,11 @@ def run(words: argparse.Namespace) -> None:
     if len(words.files) % 2 or not half:
         words.parser.error("as many new names are needed as there are files")
     sources, targets = words.files[:half], words.files[half:]
-    fresh.refuse_present(targets)
-    key = _key(words.key)
+    has_key = bool(words.key) and os.path.exists(words.key)
+    outs = targets + ([words.key] if words.key and not has_key else [])
+    see_apart(outs, sources + ([words.key] if has_key else []))
+    fresh.refuse_present(outs)
+    key = _key(words.key) if has_key else replacing.fresh_key()
     bytes_of = replacing.Bytes(key)
     files = [Opened(path, read_file(path), bytes_of) for path in sources]
     chosen = _chosen(files, words.names, words.identifiers)
@@ -44,17 +48,14 @@ def run(words: argparse.Namespace) -> None:
         for text in chosen:
             if text in opened.texts:
                 opened.put(text, found[text.value])
-    made = [(path, bytes(opened.data)) for path, opened in zip(targets, files)]
-    if words.key and not os.path.exists(words.key):
-        made.append((words.key, key.hex().encode("ascii") + b"\n"))
-    fresh.write_all(made)
+    # The new key comes last among them, where there is one.
+    made = [bytes(opened.data) for opened in files] + [key.hex().encode("ascii") + b"\n"]
+    fresh.write_all(list(zip(outs, made)))
     print(_account(files, chosen))
 
 
 def _key(path: str) -> bytes:
-    """The key in this file; where there is none, a fresh one."""
-    if not path or not os.path.exists(path):
-        return replacing.fresh_key()
+    """The key in this file."""
     told = read_file(path)
     try:
         key = bytes.fromhex(told.decode("ascii"))

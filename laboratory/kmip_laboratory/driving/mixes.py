@@ -45,9 +45,14 @@ def there() -> List[str]:
     return sorted(path.stem for path in FOLDER.glob("*" + SUFFIX))
 
 
+def path_of(words: str) -> Path:
+    """The file of the mix with this name, or that is named."""
+    return Path(words) if words.endswith(SUFFIX) or "/" in words else FOLDER / (words + SUFFIX)
+
+
 def find(words: str) -> Mix:
     """The mix with this name, or in this file."""
-    path = Path(words) if words.endswith(SUFFIX) or "/" in words else FOLDER / (words + SUFFIX)
+    path = path_of(words)
     try:
         return read(path.stem, path.read_text("utf-8"), str(path))
     except OSError as error:

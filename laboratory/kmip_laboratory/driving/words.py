@@ -10,8 +10,9 @@ from typing import List, NoReturn
 from .. import tls
 from ..address import Address, read_address
 from ..auditor import Auditor
+from ..outputs import see_apart
 from ..recording import declaration
-from ..trouble import Trouble, hush
+from ..trouble import Trouble, WrongWords, hush
 from . import audit, calibrate, certificates, drive, mixes, simulate, wire
 from .cuts import HELP, Cut, Cuts
 from .faults import FAULTS, description
@@ -49,6 +50,9 @@ def main(arguments: List[str]) -> int:
     words = parser.parse_args(arguments)
     try:
         return words.run(words)
+    except WrongWords as trouble:
+        tell(str(trouble))
+        return USAGE
     except Trouble as trouble:
         tell(str(trouble))
         return words.trouble
@@ -144,6 +148,12 @@ def job_of(words: argparse.Namespace) -> drive.Job:
                      words.seconds, words.seed, words.patience, words.pause, Cuts(shares))
 
 
+def _see_folder_apart(words: argparse.Namespace, *more: str) -> None:
+    """Refuses a folder for the recording that is one of the files which are read."""
+    if words.out is not None:
+        see_apart([str(words.out)], [words.cert, words.key, words.ca, str(mixes.path_of(words.mix)), *more])
+
+
 def _add_drive(word: argparse.ArgumentParser) -> None:
     add_load(word)
     word.add_argument("--out", type=Path, metavar="FOLDER", help="record into a new folder, as transcript.ttlv")
@@ -151,6 +161,7 @@ def _add_drive(word: argparse.ArgumentParser) -> None:
 
 
 def _drive(words: argparse.Namespace) -> int:
+    _see_folder_apart(words)
     job = job_of(words)
     if words.out is None:
         done = drive.drive(job, progress=True)
@@ -233,7 +244,9 @@ def _add_audit(word: argparse.ArgumentParser) -> None:
 
 
 def _audit(words: argparse.Namespace) -> int:
-    return audit.run(job_of(words), words, Auditor(words.auditor), tell)
+    auditor = Auditor(words.auditor)
+    _see_folder_apart(words, auditor.file)
+    return audit.run(job_of(words), words, auditor, tell)
 
 
 def _faults(_: argparse.Namespace) -> int:

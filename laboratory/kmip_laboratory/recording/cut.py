@@ -3,14 +3,12 @@
 from __future__ import annotations
 
 import os
-import shutil
 from typing import BinaryIO, Dict, FrozenSet, List, Optional, Set
 
 from .. import message
-from ..files import see_that_free
-from ..transcript import Begin, Mark, marks_in, spelled_marks_in
+from ..files import new_folder
+from ..transcript import FILE_HEADER, Begin, Mark, marks_in, spelled_marks_in
 from ..trouble import Trouble, say
-from .rewriting import FILE_HEADER
 from .segments import Due, Segments
 
 
@@ -71,19 +69,11 @@ def run(source: str, folder: str, segments: Segments) -> str:
     """Makes the folder with the files, tells what is in them, and answers the summary."""
     if not segments.are_asked:
         raise Trouble("`cut` needs --segment-calls or --segment-seconds: after how many a new file is to begin")
-    see_that_free(folder)
-    made = f"{folder}.{os.getpid()}.part"
-    cutter = Cutter(made, segments, never_ended(source))
-    try:
-        os.mkdir(made, 0o700)
+    with new_folder(folder) as made:
+        cutter = Cutter(made, segments, never_ended(source))
         for mark, record in spelled_marks_in(source):
             cutter.take(mark, record)
         cutter.close()
-        os.rename(made, folder)
-    except OSError as error:
-        raise Trouble(f"{folder} can't be written: {error.strerror}; give it another name, or make room") from None
-    finally:
-        shutil.rmtree(made, ignore_errors=True)
     for number, count in enumerate(cutter.counts, 1):
         more = ", more than asked for: calls were under way all the time" if segments.calls and (
             count > segments.calls) else ""

@@ -6,6 +6,7 @@ import argparse
 import sys
 from typing import Iterable
 
+from ..outputs import see_apart
 from ..sifting import effects, forgetting
 from ..sifting import run as sifting
 from ..translation import run as translation
@@ -34,14 +35,13 @@ def _add_cut(word: argparse.ArgumentParser) -> None:
     word.add_argument("transcript", metavar="IN")
     word.add_argument("folder", metavar="DIR", help="a new folder for the files")
     add_segment_words(word)
-    word.set_defaults(run=lambda words: print(cut.run(
-        words.transcript, words.folder, Segments(words.segment_calls, words.segment_seconds))))
+    word.set_defaults(run=_cut)
 
 
 def _add_translate(word: argparse.ArgumentParser) -> None:
     word.add_argument("transcript", metavar="IN")
     word.add_argument("out", metavar="OUT", help="a new file for the transcript")
-    word.set_defaults(run=lambda words: print(translation.run(words.transcript, words.out)))
+    word.set_defaults(run=_translate)
 
 
 def _add_sift(word: argparse.ArgumentParser) -> None:
@@ -70,7 +70,19 @@ def _attribute(words: str) -> int:
     return tag
 
 
+def _cut(words: argparse.Namespace) -> None:
+    see_apart([words.folder], [words.transcript])
+    print(cut.run(words.transcript, words.folder, Segments(words.segment_calls, words.segment_seconds)))
+
+
+def _translate(words: argparse.Namespace) -> None:
+    see_apart([words.out], [words.transcript])
+    print(translation.run(words.transcript, words.out))
+
+
 def _sift(words: argparse.Namespace) -> None:
+    if words.out is not None:
+        see_apart([words.out], [words.transcript])
     if words.list:
         _print(sifting.table(words.transcript, frozenset(words.also)))
     elif words.out is None:

@@ -4,11 +4,8 @@ from __future__ import annotations
 
 from typing import Callable, Optional
 
-from .. import ttlv
 from ..files import new_file
-from ..transcript import HEADER, VERSION, Mark, spelled, spelled_marks_in
-
-FILE_HEADER = ttlv.structure(HEADER, ttlv.integer(VERSION, 1))
+from ..transcript import FILE_HEADER, Mark, spelled, spelled_marks_in
 
 
 def rewrite(source: str, target: str, change: Callable[[Mark], Optional[Mark]]) -> None:

@@ -3,8 +3,9 @@
 from __future__ import annotations
 
 import asyncio
+import re
 from pathlib import Path
-from typing import Callable, NamedTuple, Optional
+from typing import Callable, List, NamedTuple, Optional
 
 from ..trouble import say
 
@@ -59,6 +60,15 @@ def segment_path(out: str, number: int) -> str:
     """The name of a file of several: its number stands ahead of the ending."""
     path = Path(out)
     return str(path.with_name(f"{path.stem}-{number:04d}{path.suffix}"))
+
+
+def paths_of(out: str, segments: Segments) -> List[str]:
+    """The file that is written to; of several the first, and those that stand under the names of others already."""
+    if not segments.are_asked:
+        return [out]
+    path = Path(out)
+    name = re.compile(rf"{re.escape(path.stem)}-\d{{4,}}{re.escape(path.suffix)}")
+    return [segment_path(out, 1), *(str(there) for there in path.parent.glob("*") if name.fullmatch(there.name))]
 
 
 class Gate:

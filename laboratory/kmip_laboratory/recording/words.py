@@ -7,20 +7,21 @@ import asyncio
 import socket
 import ssl
 import sys
-from typing import Dict, List, NoReturn
+from typing import Dict, List, NoReturn, Optional
 
 from .. import tls
 from ..address import read_address
 from ..blinding import words as blinding
 from ..files import OUT_HINT, see_that_free
+from ..outputs import see_apart
 from ..shrinking import words as shrinking
-from ..trouble import Trouble, say
+from ..trouble import Trouble, WrongWords, say
 from ..versions import JUDGED, NEARLY_JUDGED
 from . import capture, declaration, identities, inventory, order, passes, proxy
 from .connection import Way
 from .numbers import add_segment_words, read_milliseconds, read_seconds, read_version
 from .recording import Recording, tell_account
-from .segments import Gate, Segments
+from .segments import Gate, Segments, paths_of
 
 DONE = 0
 TROUBLE = 1
@@ -49,6 +50,9 @@ def main(arguments: List[str]) -> int:
     words = parser.parse_args(arguments)
     try:
         words.run(words)
+    except WrongWords as trouble:
+        say(str(trouble))
+        return USAGE
     except Trouble as trouble:
         say(str(trouble))
         return TROUBLE
@@ -133,10 +137,13 @@ def _add_order(word: argparse.ArgumentParser) -> None:
 
 
 def _proxy(words: argparse.Namespace) -> None:
+    shown = identities.read_identities(words.identities)
+    _see_recording_apart(words, words.cert, words.key, words.client_ca, words.server_cert, words.server_key,
+                         words.server_ca, *(path for each in shown for path in (each.certificate, each.key)))
     toward_clients = tls.toward_clients(words.cert, words.key, words.client_ca)
     authority = words.server_ca or words.client_ca
     toward_server = tls.toward_server(words.server_cert or words.cert, words.server_key or words.key, authority)
-    clients = identities.contexts(identities.read_identities(words.identities), authority)
+    clients = identities.contexts(shown, authority)
     if words.minor:
         say(MINOR_NOTE)
     with proxy.listen(words.listen) as listener:
@@ -161,7 +168,14 @@ def _segments(words: argparse.Namespace) -> Segments:
     return Segments(words.segment_calls, words.segment_seconds)
 
 
+def _see_recording_apart(words: argparse.Namespace, *inputs: Optional[str]) -> None:
+    """Refuses a recording one file of which would be one of these."""
+    for path in paths_of(words.out, _segments(words)):
+        see_apart([path], inputs)
+
+
 def _keylog(words: argparse.Namespace) -> None:
+    _see_recording_apart(words, words.capture, words.keylog)
     if words.minor:
         say(MINOR_NOTE)
     capture.run(words.capture, words.keylog, words.server, lambda clock, without_end: Recording(
@@ -169,6 +183,7 @@ def _keylog(words: argparse.Namespace) -> None:
 
 
 def _declare(words: argparse.Namespace) -> None:
+    see_apart([words.out], [words.server_cert, words.server_key, words.server_ca])
     see_that_free(words.out, words.force, OUT_HINT)
     entries: List[bytes] = []
     if words.server:
@@ -183,4 +198,6 @@ def _declare(words: argparse.Namespace) -> None:
 
 
 def _order(words: argparse.Namespace) -> None:
+    see_apart([words.out], [words.transcript])
+    see_that_free(words.out, words.force, OUT_HINT)
     print(order.run(words.transcript, words.out, words.force))

@@ -11,8 +11,11 @@ from functools import partial
 from typing import List, NoReturn, Optional
 
 from .. import fresh
-from ..files import write_file
-from ..trouble import Trouble, hush
+from ..auditor import Auditor
+from ..files import see_that_free, write_file
+from ..outputs import see_apart
+from ..recordings import DECLARATION, TRANSCRIPT, WITNESS
+from ..trouble import Trouble, WrongWords, hush
 from ..verdicts import Outcome
 from . import junit, page, text
 from .judging import Judged, find, judge, moment_of_making
@@ -33,20 +36,34 @@ class Parser(argparse.ArgumentParser):
 def main(arguments: List[str]) -> int:
     """Makes the report, and answers the status."""
     words = _parser().parse_args(arguments)
-    outs = [path for path in (words.out, words.junit) if path and path != "-"]
     try:
-        if not words.force:
-            fresh.refuse_present(outs)
-        recordings = _judged(find(words.recordings), words)
+        folders = find(words.recordings)
+        _see_outputs(words, folders)
+        recordings = _judged(folders, words)
         made = moment_of_making(os.environ.get("SOURCE_DATE_EPOCH"))
         _write(words, recordings, made)
         return _tell(recordings, made if words.text else None)
+    except WrongWords as trouble:
+        print(f"kmip_report: {trouble}", file=sys.stderr)
+        return USAGE
     except Trouble as trouble:
         print(f"kmip_report: {trouble}", file=sys.stderr)
         return TROUBLE
     except KeyboardInterrupt:
         print("kmip_report: ended by Ctrl-C; nothing more was written", file=sys.stderr)
         return TROUBLE
+
+
+def _see_outputs(words: argparse.Namespace, folders: List[str]) -> None:
+    """Refuses files that can't be made as they are named: over what is read, over each other, or over what is there."""
+    outs = [path for path in (None if words.out == "-" else words.out, words.junit) if path]
+    files = [os.path.join(folder, name) for folder in folders for name in (TRANSCRIPT, DECLARATION, WITNESS)]
+    see_apart(outs, [*words.recordings, *folders, *files, Auditor().file])
+    if not words.force:
+        fresh.refuse_present(outs)
+        return
+    for path in outs:
+        see_that_free(path, force=True)
 
 
 def _tell(recordings: List[Judged], made: Optional[datetime]) -> int:

@@ -8,6 +8,7 @@ from typing import List, Tuple
 from .. import fresh
 from ..auditor import Auditor
 from ..calls import Call, read_transcript
+from ..outputs import see_apart
 from ..trouble import Trouble, say
 from .parts import has_effect, is_plain, read_declaration
 from .smallest import shrunk
@@ -44,10 +45,12 @@ def _budget(told: str) -> int:
 def run(words: argparse.Namespace) -> None:
     """Shrinks a recording into new files, and tells what is left."""
     outs = [words.out] + ([words.declaration] if words.declaration else [])
+    auditor = Auditor()
+    see_apart(outs, [words.transcript, words.source, auditor.file])
     fresh.refuse_present(outs)
     transcript = read_transcript(words.transcript)
     declaration = read_declaration(words.source)
-    with Trials(transcript, declaration, not words.declaration, words.budget, Auditor()) as trials:
+    with Trials(transcript, declaration, not words.declaration, words.budget, auditor) as trials:
         answer, verdict = trials.answer(transcript.calls)
         if answer is Answer.EXPLAINED:
             raise Trouble(f"an order explains {words.transcript} as it is (kmip_audit search: {verdict.text}): there "
