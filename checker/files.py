@@ -1,0 +1,177 @@
+"""The three files, and what is wrong with them (docs/FORMATS.md, The three files and Record faults)."""
+from __future__ import annotations
+
+from dataclasses import dataclass, field
+from typing import Callable, Dict, Iterator, List, Optional, Tuple
+
+from attributes import read_attributes
+from objects import (ACTIVATION, ALGORITHM, COMPROMISE, DEACTIVATION, DESTROY, INITIAL, LENGTH, MASK, NAME, SECRET_DATA,
+                     SYMMETRIC_KEY, DATES, Attributes, Inventory, Object, Secret, admits)
+from ttlv import BOOLEAN, BYTES, ENUMERATION, FAULTS, INTEGER, STRUCTURE, TEXT, Item, TtlvFault, decode
+
+KINDS = ("", "Ttlv", "Header", "Number", "EndWithoutBegin", "SecondEnd", "", "Identifier", "Entry", "Calls")
+TTLV, HEADER, NUMBER, END_WITHOUT_BEGIN, SECOND_END, _, IDENTIFIER, ENTRY, CALLS = range(1, 10)
+MOST_CALLS = 100000
+NOT_FOUND, WRONG_STATE, TAKEN_NAME = 1, 2, 3
+LISTED = (NAME, ALGORITHM, LENGTH, MASK, INITIAL, ACTIVATION, DEACTIVATION, DESTROY, COMPROMISE)
+
+
+class Malformed(Exception):
+    """The first record fault: its kind, its offset, and for kind 1 the name of the fault of TTLV."""
+
+    def __init__(self, kind: int, offset: int, ttlv: str = "") -> None:
+        super().__init__(f"offset {offset} kind {kind} {KINDS[kind]}{' ' + ttlv if ttlv else ''}")
+        self.kind, self.offset = kind, offset
+
+
+@dataclass
+class Call:
+    """A call: its number, where its marks stand, and its messages; of an open call the last two are None."""
+
+    number: int
+    begin: int
+    request: bytes
+    end: Optional[int] = None
+    response: Optional[bytes] = None
+
+
+@dataclass
+class Declaration:
+    """What the server held at the start, and its rules: unique names, and rows of a reason and a cause."""
+
+    unique_names: bool
+    rows: List[Tuple[int, int]] = field(default_factory=list)
+    entries: Inventory = field(default_factory=dict)
+
+
+@dataclass
+class Turn:
+    """A turn of a witness: its call, the answer of an open call, the order of its places, and fills by item."""
+
+    call: int
+    answer: Optional[bytes]
+    places: List[int]
+    fills: List[Tuple[int, Item]]
+
+
+def has_form(item: Item, tag: int, *wanted: Tuple[int, int, str]) -> bool:
+    """Whether an item is the Structure of this tag with exactly these children: each a tag, a type, and '' for once, '?' or '*'."""
+    left = list(item.children)
+    for child_tag, kind, how in wanted:
+        many = 0
+        while left and left[0].tag == child_tag and left[0].type == kind and (how == "*" or not many):
+            left.pop(0)
+            many += 1
+        if not many and not how:
+            return False
+    return item.tag == tag and item.type == STRUCTURE and not left
+
+
+def number(item: Item) -> int:
+    """The number of an item that has one."""
+    return int(item.value) if isinstance(item.value, int) else 0
+
+
+def data_of(item: Item) -> bytes:
+    """The bytes of an item that has some."""
+    return item.value if isinstance(item.value, bytes) else b""
+
+
+def records(data: bytes, is_header: Callable[[Item], bool]) -> Iterator[Tuple[int, Item]]:
+    """The records of a file with their offsets, the header first."""
+    at = 0
+    while at < len(data) or at == 0:
+        if not data:
+            raise Malformed(HEADER, 0)
+        try:
+            item, taken = decode(data[at:at + 1048576])
+        except TtlvFault as fault:
+            raise Malformed(TTLV, at + fault.offset, FAULTS[fault.kind]) from None
+        if at == 0 and not is_header(item):
+            raise Malformed(HEADER, 0)
+        yield at, item
+        at += taken
+
+
+def read_transcript(data: bytes) -> List[Call]:
+    """The calls of a transcript, in the order of their begin marks."""
+    calls: Dict[int, Call] = {}
+    header = lambda it: has_form(it, 0x540001, (0x540002, INTEGER, "")) and number(it.children[0]) == 1
+    for place, (at, item) in enumerate(records(data, header)):
+        begins = has_form(item, 0x540010, (0x540011, INTEGER, ""), (0x540012, TEXT, ""), (0x540013, BYTES, ""))
+        if place == 0:
+            continue
+        if not begins and not has_form(item, 0x540020, (0x540011, INTEGER, ""), (0x540013, BYTES, "")):
+            raise Malformed(ENTRY, at)
+        call, message = number(item.children[0]), data_of(item.children[-1])
+        if call < 1 or begins and call in calls:
+            raise Malformed(NUMBER, at)
+        if begins and len(calls) == MOST_CALLS:
+            raise Malformed(CALLS, at)
+        if begins:
+            calls[call] = Call(call, place, message)
+        elif call not in calls or calls[call].end is not None:
+            raise Malformed(END_WITHOUT_BEGIN if call not in calls else SECOND_END, at)
+        else:
+            calls[call].end, calls[call].response = place, message
+    return list(calls.values())
+
+
+def read_entry(item: Item) -> Optional[Tuple[str, Object]]:
+    """The object that an entry declares, or None where it is none."""
+    wanted = ((0x420094, TEXT, ""), (0x420057, ENUMERATION, ""), (0x420125, STRUCTURE, ""), (0x420043, BYTES, "?"))
+    if not has_form(item, 0x540034, *wanted):
+        return None
+    said, faults = read_attributes(item.children[2], False)
+    kind, key = number(item.children[1]), data_of(item.children[3]) if len(item.children) > 3 else None
+    is_destroyed = DESTROY in said.single
+    is_listed = all(it.tag in LISTED for it in item.children[2].children)
+    may_be = key is None if is_destroyed else admits(kind, said, key)
+    if faults or kind not in (SYMMETRIC_KEY, SECRET_DATA) or not is_listed or not may_be:
+        return None
+    dates = {tag: at for tag, at in said.single.items() if tag in DATES}
+    given = Attributes(said.names, {tag: it for tag, it in said.single.items() if tag not in DATES})
+    return str(item.children[0].value), Object(kind, given, dates, Secret(key))
+
+
+def read_declaration(data: bytes) -> Declaration:
+    """What a declaration says."""
+    said = Declaration(False)
+    header = lambda it: has_form(it, 0x540030, (0x540002, INTEGER, ""), (0x540031, BOOLEAN, "")) and number(it.children[0]) == 1
+    for place, (at, item) in enumerate(records(data, header)):
+        if place == 0:
+            said.unique_names = bool(item.children[1].value)
+        elif has_form(item, 0x540032, (0x42007E, ENUMERATION, ""), (0x540033, ENUMERATION, "")):
+            if said.entries or number(item.children[1]) not in (NOT_FOUND, WRONG_STATE, TAKEN_NAME):
+                raise Malformed(ENTRY, at)
+            said.rows.append((number(item.children[0]), number(item.children[1])))
+        else:
+            entry = read_entry(item)
+            if entry is None or entry[0] in said.entries:
+                raise Malformed(ENTRY if entry is None else IDENTIFIER, at)
+            said.entries[entry[0]] = entry[1]
+    said.rows = said.rows or [(1, NOT_FOUND)]
+    return said
+
+
+def read_witness(data: bytes) -> List[Turn]:
+    """The turns of a witness."""
+    turns: List[Turn] = []
+    version = 0
+    header = lambda it: has_form(it, 0x540040, (0x540002, INTEGER, "")) and number(it.children[0]) in (1, 2, 3)
+    for place, (at, item) in enumerate(records(data, header)):
+        if place == 0:
+            version = number(item.children[0])
+            continue
+        wanted = [(0x540011, INTEGER, "")] + [(0x540044, BYTES, "?")] * (version > 1) + [(0x540045, INTEGER, "*")] * (version > 2)
+        fills = item.every(0x540042)
+        are_fills = all(has_form(it, 0x540042, (0x540043, INTEGER, ""), (0x42007C, STRUCTURE, "")) for it in fills)
+        if not has_form(item, 0x540041, *wanted, (0x540042, STRUCTURE, "*")) or not are_fills:
+            raise Malformed(ENTRY, at)
+        if number(item.children[0]) < 1:
+            raise Malformed(NUMBER, at)
+        answer = item.first(0x540044)
+        places = [number(it) for it in item.every(0x540045)]
+        turns.append(Turn(number(item.children[0]), data_of(answer) if answer else None, places,
+                          [(number(it.children[0]), it.children[1]) for it in fills]))
+    return turns
