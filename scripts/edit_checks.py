@@ -19,8 +19,6 @@ from typing import Optional
 from edit_files import BadEdit, Edit, Function, functions_of, module_of, put_in
 
 PARTS = ("src", "specs", "proofs")
-# What an answer by hand is told where it names something that the body no longer has.
-STALE = re.compile(r"has no field|is not in scope|has no `|was not admitted|\(nearest: |this file exports no `")
 # What a function is told whose own goals are all proved.
 PROVED = re.compile(r"proved|(no proof|not proved)[:;] (in `\S+`, of this cycle of calls: )?it (calls|passes|drops) ")
 # What is told ahead of a function's own line of each of its goals that `search` left open.
@@ -29,6 +27,8 @@ OPEN = re.compile(
     r"|what antt said of a `search` in the proof that rattle made: \S+: error: )`([^`]+)`",
     re.M,
 )
+# An answer by hand, from the line of its type to the blank line ahead of the next one.
+ANSWER = re.compile(r"^pub (\S+) : goal\.\S+\n(?:(?!pub ).*\n?)*", re.M)
 # Answers of nothing.
 NO_OFFERS = "no-goal : no-type\nno-goal = no-answer\n"
 TYPE = re.compile(r"^(?:pub(?:\([^)]*\))? )?(?:struct|enum) (\w+)", re.M)
@@ -45,10 +45,12 @@ def kit_folder() -> Path:
 
 @dataclass(frozen=True)
 class Verdict:
-    """What was found of an edit: 'refused', 'let through', 'stale' or 'not judged', and the words for it."""
+    """What was found of an edit: 'refused', 'let through', 'stale', 'not judged', or 'to be reopened', the words for it, and the answers by
+    hand that don't fit its body and are to be reopened: their goals are left to the prover then."""
 
     kind: str
     words: str
+    answers: frozenset[str] = frozenset()
 
 
 @dataclass
@@ -129,6 +131,7 @@ class Crate:
             for path, text in edited(self, edits).items():
                 (room / path).write_text(text, encoding="utf-8")
             copy_proofs(room, edits)
+            reopen_answers(room, edits)
             if not whole:
                 leave_out_others(room, edits)
                 want_no_offers(room, edits)
@@ -204,6 +207,48 @@ def copy_proofs(room: Path, edits: list[Edit]) -> None:
         for file in folder.glob("*.antt"):
             text = own.sub(lambda it: it[1] + edit.ending(), file.read_text(encoding="utf-8"))
             (copy / file.name).write_text(text, encoding="utf-8")
+
+
+def proof_folder(texts: dict[str, str], edit: Edit) -> Optional[str]:
+    """The folder below proofs/ of the proof of the function that an edit changes; None where its type stands in no file. A copy's has its
+    ending behind it."""
+    path = edit.changes[0].path
+    name = next((name for it, name in full_names(texts, path) if it.name == edit.own), None)
+    if name is None or not edit.cycle:
+        return name.replace("::", "/") if name else None
+    return "/".join([*name.split("::")[:-1], f"+{edit.cycle}"])
+
+
+def without_reopened(text: str, edit: Edit) -> str:
+    """The text of a function's answers by hand, but for those that are to be reopened for an edit."""
+    return ANSWER.sub(lambda it: "" if it[1] in edit.reopened else it[0], text)
+
+
+def reopen_answers(room: Path, edits: list[Edit]) -> None:
+    """Takes the answers by hand that are to be reopened out of the proofs of these edits' functions, in a copy of a crate."""
+    texts = texts_in(room)
+    for edit in edits:
+        folder = proof_folder(texts, edit) if edit.reopened else None
+        if folder:
+            file = room / "proofs" / f"{folder}{edit.ending()}" / "Answers.antt"
+            left = without_reopened(file.read_text(encoding="utf-8"), edit)
+            file.unlink()
+            if ANSWER.search(left):
+                file.write_text(left, encoding="utf-8")
+
+
+def unfit_answers(crate: Crate, edit: Edit, errors: list[tuple[str, str, str]]) -> Verdict:
+    """What is found of an edit whose function has answers by hand that don't fit, by their files, lines and errors: those are to be reopened.
+    Of the rest of a proof by hand, as of an invariant, only the error can be told."""
+    folder = proof_folder(texts_in(crate.folder), edit)
+    file = crate.folder / "proofs" / (folder or "") / "Answers.antt"
+    text = without_reopened(file.read_text(encoding="utf-8"), edit) if folder and file.is_file() else ""
+    named = {it[1] for it in ANSWER.finditer(text) for name, line, _ in errors
+             if name == "Answers.antt" and text.count("\n", 0, it.start()) < int(line) <= text.count("\n", 0, it.end())}
+    others = [words for name, _, words in errors if name != "Answers.antt"]
+    if named and not others:
+        return Verdict("to be reopened", errors[0][2], edit.reopened | named)
+    return Verdict("stale", others[0] if others else errors[0][2])
 
 
 def prove_nothing(folder: Path) -> None:
@@ -298,26 +343,26 @@ def unknown_names(edits: list[Edit], said: str) -> list[Edit]:
     return [it for it in edits if re.search(rf"^rattle: error: .*`{re.escape(it.function)}`", said, re.M)]
 
 
-def verdict_of(edit: Edit, said: str) -> Verdict:
+def verdict_of(crate: Crate, edit: Edit, said: str) -> Verdict:
     """What a check that came to its end says of the very function that the edit changes."""
     lines = list(re.finditer(r"^fn (\S+): (.*)", said, re.M))
     ends = [it for it in lines if f"::{it[1]}".endswith(f"::{edit.function}")]
     if len(ends) != 1:
         return Verdict("not judged", f"{len(ends)} functions are called {edit.function}: name one by a line 'fn: NAME'")
     path, told = ends[0][1], ends[0][2]
+    ahead = f", with {len(edit.reopened)} answers by hand reopened" if edit.reopened else ""
     goals = re.search(r"`search` did not prove ((?:`[^`]+`(?:, )?)+)", told)
     if goals:
-        return Verdict("refused", f"not proved: {goals[1]}")
-    ahead = max((it.end() for it in lines if it.end() < ends[0].start()), default=0)
-    left_open = OPEN.findall(said, ahead, ends[0].start())
+        return Verdict("refused", f"not proved{ahead}: {goals[1]}")
+    before = max((it.end() for it in lines if it.end() < ends[0].start()), default=0)
+    left_open = OPEN.findall(said, before, ends[0].start())
     if told.startswith("not proved") and left_open:
-        return Verdict("refused", "not proved: " + ", ".join(f"`{it}`" for it in left_open))
+        return Verdict("refused", f"not proved{ahead}: " + ", ".join(f"`{it}`" for it in left_open))
     modules = path.split("::")[1:]
     own = "/".join([*modules[:-1], f"+{edit.cycle}" if edit.cycle else modules[-1]])
-    errors = re.findall(rf"^(?:\./)?proofs/{re.escape(own)}/\w+\.antt:\d+:\d+: error: (.*)", said, re.M)
+    errors = re.findall(rf"^(?:\./)?proofs/{re.escape(own)}/(\w+\.antt):(\d+):\d+: error: (.*)", said, re.M)
     if told.startswith("not proved") and errors:
-        of_goal = next((it for it in errors if not STALE.search(it)), None)
-        return Verdict("refused", f"its answer by hand: {of_goal}") if of_goal else Verdict("stale", errors[0])
+        return unfit_answers(crate, edit, errors)
     if PROVED.match(told):
-        return Verdict("let through", told)
+        return Verdict("let through", f"{told}{ahead}")
     return Verdict("not judged", told)

@@ -51,7 +51,8 @@ class Function:
 @dataclass(frozen=True)
 class Edit:
     """One edit: its changes, the function to be refused, what is proved with it, whether all is in that body, whether a
-    copy of the function may stand beside it, and where the edit is made in such a copy, that copy's number."""
+    copy of the function may stand beside it, and where the edit is made in such a copy, that copy's number; and which of the function's answers
+    by hand are left out, since they fit the right body alone."""
 
     name: str
     changes: tuple[Change, ...]
@@ -61,6 +62,7 @@ class Edit:
     in_body: bool
     has_copies: bool
     copy: int = 0
+    reopened: frozenset[str] = frozenset()
 
     @property
     def function(self) -> str:
