@@ -74,7 +74,7 @@ def _completions(made: Made, of_debian: bool) -> Iterator[File]:
 
 def _documents(made: Made) -> Iterator[File]:
     yield File(f"{DOCUMENTS}/STATEMENT", made.statement.encode())
-    for path in ("README.md", *repository.files_below("docs")):
+    for path in ("README.md", "SECURITY.md", *repository.files_below("docs")):
         yield File(f"{DOCUMENTS}/{path}", _read(path))
     yield File(f"{DOCUMENTS}/changelog.gz", gzipped(_read("docs/CHANGES.md")))
 
