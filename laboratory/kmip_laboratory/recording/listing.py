@@ -10,6 +10,7 @@ from ..enumerations import REASONS, STATUSES, number_name
 from ..glimpse import Glimpse, Part, identifiers
 from ..message import Side
 from ..operations import Operation, operation_name
+from ..plain import plain
 from ..tag_names import tag_name
 from ..tags import Tag
 from ..transcript import marks_in
@@ -98,11 +99,6 @@ def _value(item: Item) -> str:
         name = number_name(item.tag, item.value)
         return f"{name} ({item.value:X})" if name else f"{item.value:X}"
     return date(item.value) if item.kind is Kind.DATE_TIME else str(item.value)
-
-
-def plain(words: str) -> str:
-    """A text of a message on one line: what no terminal should be sent stands as its number."""
-    return "".join(letter if letter.isprintable() else f"\\u{{{ord(letter):x}}}" for letter in words)
 
 
 def date(seconds: int) -> str:

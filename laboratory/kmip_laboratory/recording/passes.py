@@ -7,6 +7,7 @@ import sys
 from typing import Iterable
 
 from ..outputs import see_apart
+from ..plain import plain
 from ..sifting import effects, forgetting
 from ..sifting import run as sifting
 from ..translation import run as translation
@@ -99,10 +100,10 @@ def _list(words: argparse.Namespace) -> None:
 
 
 def _print(lines: Iterable[str]) -> None:
-    """Prints lines up to the last, or as long as somebody reads them."""
+    """Prints lines up to the last, or as long as somebody reads them. Names and texts from outside stand in them."""
     try:
         for line in lines:
-            print(line)
+            print(plain(line))
         sys.stdout.flush()
     except BrokenPipeError:
         hush()
