@@ -1,4 +1,4 @@
-"""Texts from outside stay on their line, wherever the laboratory prints them: nobody forges a line of the recorder's."""
+"""Texts from outside stay on their line, wherever the laboratory prints them: nobody forges a line of its own."""
 
 from __future__ import annotations
 
@@ -21,7 +21,7 @@ from kmip_laboratory.plain import plain
 from kmip_laboratory.trouble import ConnectionTrouble, Trouble, say
 
 STAMP = 1_700_000_000
-# A line of the recorder's own, and orders to the terminal: ESC and C1 controls, other ways of writing, other ends of line.
+# A line of the recorder's own, and orders to the terminal: ESC, C1 controls, other directions, other ends of lines.
 FORGED = "kmip_record: call 1 stays open"
 EVIL = f"eve\n{FORGED}\r\x1b[2K\x9b31m\x85\u2028\u202e\u2066\u200f\x7f"
 RAW = re.compile("[\x00-\x09\x0b-\x1f\x7f-\x9f\u200e\u200f\u2028-\u202e\u2066-\u2069\ufeff]")

@@ -11,7 +11,7 @@ from typing import Dict, Iterable, List, Set
 KEY_LENGTH = 32
 ROUNDS = 10
 LETTERS = "ABCDEFGHIJKLMNOPQRSTUVWXYZabcdefghijklmnopqrstuvwxyz0123456789-_"
-GUESSED = re.compile("undone-[0-9]+")
+GUESSED = re.compile("undone-[1-9][0-9]{0,8}")
 
 
 def fresh_key() -> bytes:
@@ -29,7 +29,9 @@ class Bytes:
     def _of(self, data: bytes) -> bytes:
         """The bytes that stand in the place of these."""
         half = 4 * len(data)
-        left, right = divmod(int.from_bytes(data, "big"), 1 << half)
+        whole = int.from_bytes(data, "big")
+        # As divmod, which takes seconds for long ones.
+        left, right = whole >> half, whole & ((1 << half) - 1)
         for number in range(ROUNDS):
             left, right = right, left ^ self._drawn(number, len(data), right)
         return (left << half | right).to_bytes(len(data), "big")

@@ -8,17 +8,16 @@ from typing import Iterator, List, Optional
 from .. import ttlv
 from ..enumerations import REASONS, STATUSES, number_name
 from ..glimpse import Glimpse, Part, identifiers
+from ..hiding import CONTAINERS, is_shown
 from ..message import Side
 from ..operations import Operation, operation_name
 from ..plain import plain
 from ..tag_names import tag_name
-from ..tags import Tag
 from ..transcript import marks_in
 from ..trouble import Trouble
 from ..ttlv import Item, Kind
 from .calls import Call, ordered_calls
 
-HIDDEN = frozenset({Tag.KEY_MATERIAL, Tag.KEY_VALUE, 0x4200A1, 0x4200C2})
 MOST_IDENTIFIERS = 3
 BETWEEN = "  "
 
@@ -62,7 +61,7 @@ def _status(part: Part) -> str:
 
 
 def call_lines(path: str, number: int, with_keys: bool) -> Iterator[str]:
-    """Both messages of a call, an item on a line. What is a key is hidden, unless `with_keys` asks for it."""
+    """Both messages of a call, an item on a line. What may be a key is hidden, unless `with_keys` asks for it."""
     found = [mark for mark in marks_in(path) if mark.call == number]
     if not found:
         raise Trouble(f"{path} has no call {number}; `kmip_record list {path}` has the numbers of its calls")
@@ -73,17 +72,17 @@ def call_lines(path: str, number: int, with_keys: bool) -> Iterator[str]:
             yield f"no {side.message_name}: {fault}"
 
 
-def item_lines(item: Item, with_keys: bool, level: int = 0) -> Iterator[str]:
-    """An item and those in it, each on a line."""
+def item_lines(item: Item, with_keys: bool, level: int = 0, contained: bool = False) -> Iterator[str]:
+    """An item and those in it, each on a line; `contained` where it stands in what is hidden whole."""
     front = "  " * level + tag_name(item.tag)
-    if item.tag in HIDDEN and not with_keys and not (item.tag == Tag.KEY_VALUE and item.kind is Kind.STRUCTURE):
-        yield f"{front}: hidden{_length(item)}"
-    elif item.kind is Kind.STRUCTURE:
+    if item.kind is Kind.STRUCTURE:
         yield front
         for child in item.children():
-            yield from item_lines(child, with_keys, level + 1)
-    else:
+            yield from item_lines(child, with_keys, level + 1, contained or item.tag in CONTAINERS)
+    elif with_keys or is_shown(item.tag, item.kind, item.value, contained):
         yield f"{front}: {_value(item)}"
+    else:
+        yield f"{front}: hidden{_length(item)}"
 
 
 def _length(item: Item) -> str:

@@ -28,7 +28,7 @@ def add(words: argparse._SubParsersAction) -> None:
 def _add_list(word: argparse.ArgumentParser) -> None:
     word.add_argument("transcript", metavar="TRANSCRIPT")
     word.add_argument("--call", type=int, metavar="N", help="both messages of this call, in place of a line for each")
-    word.add_argument("--keys", action="store_true", help="show the bytes of keys too, with --call")
+    word.add_argument("--keys", action="store_true", help="show keys, passwords and all other values too, with --call")
     word.set_defaults(run=_list)
 
 
