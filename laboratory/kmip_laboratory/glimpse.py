@@ -9,6 +9,7 @@ from functools import lru_cache
 from typing import Dict, List, NamedTuple, Optional, Tuple
 
 from .message import Side
+from .tag_names import TAGS_BY_NAME
 from .tags import Tag
 from .ttlv import Kind, NotTtlv, front, places_in
 from .versions import Version
@@ -26,7 +27,8 @@ PAYLOADS = {Side.CLIENT: front(Tag.REQUEST_PAYLOAD, Kind.STRUCTURE),
 REASON = front(Tag.RESULT_REASON, Kind.ENUMERATION)
 STATUS = front(Tag.RESULT_STATUS, Kind.ENUMERATION)
 TIME_STAMP = front(Tag.TIME_STAMP, Kind.DATE_TIME)
-UNIQUE_IDENTIFIER = front(Tag.UNIQUE_IDENTIFIER, Kind.TEXT)
+IDENTIFIERS = frozenset(front(TAGS_BY_NAME[name], Kind.TEXT) for name in (
+    "Unique Identifier", "Private Key Unique Identifier", "Public Key Unique Identifier"))
 VERSION = front(Tag.PROTOCOL_VERSION, Kind.STRUCTURE)
 
 
@@ -108,11 +110,11 @@ def _part(message: bytes, payload_front: int, start: int, stop: int) -> Part:
 
 
 def identifiers(message: bytes, part: Part) -> List[str]:
-    """The Unique Identifiers that are texts at the first level of the payload of an item; none of one that is broken
-    within."""
+    """The Unique Identifiers that are texts at the first level of the payload of an item, those of pairs of keys too;
+    none of one that is broken within."""
     try:
         places = places_in(message, *part.payload) if part.payload else []
     except NotTtlv:
         return []
     return [message[place:place + length].decode("utf-8", "replace")
-            for number, place, length in places if number == UNIQUE_IDENTIFIER]
+            for number, place, length in places if number in IDENTIFIERS]

@@ -19,7 +19,8 @@ def table(source: str, also: FrozenSet[int]) -> List[str]:
     calls = Sorted(also)
     for call in calls_in(source):
         calls.take(call, call.asked(), call.answered())
-    return calls.table_lines() + calls.unknown_lines()
+    calls.settle()
+    return calls.table_lines() + calls.impossible_lines() + calls.unknown_lines()
 
 
 class Sifting:
@@ -36,6 +37,7 @@ class Sifting:
             places = [] if call.number in self.calls.dropped else places_of(asked, answered)
             if places:
                 self._places[call.number] = places
+        self.calls.settle()
 
     def mark(self, mark: Mark) -> Optional[Mark]:
         """The mark as it is to stay, if it is. A message that is no TTLV within stays, and the auditor tells it."""
@@ -64,6 +66,6 @@ def run(source: str, target: str, also: FrozenSet[int], forgotten: FrozenSet[int
         say(f"left out: {count} calls, {cause}")
     if sifting.changed:
         say(f"attributes were taken out of {sifting.changed} messages of Get Attributes")
-    for line in sifting.calls.unknown_lines():
+    for line in sifting.calls.impossible_lines() + sifting.calls.unknown_lines():
         say(line)
     return f"{sifting.calls.kept} calls kept, {len(sifting.calls.dropped)} left out"
