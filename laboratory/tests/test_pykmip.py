@@ -56,7 +56,7 @@ class ByProxy(WithPyKmip):
         self.declared_in_1_2()
 
     def declared_in_1_2(self) -> None:
-        """A server can be asked in 1.2 what it holds: of the recorder a key that is Active, and of a client a new one."""
+        """A server can be asked in 1.2 what it holds: of the recorder an Active key, and of a client a new one."""
         certificates = self.certificates
         self.work(self.server_port, 1, 0, version="1.2")
         done = run("declare", "--server", f"127.0.0.1:{self.server_port}", "--version", "1.2", "--out",

@@ -81,11 +81,11 @@ def entries(by_client: Dict[str, Held], with_bytes: bool) -> List[bytes]:
         elif told:
             found.append(next(iter(told.values())))
             if len(told) < len(by_client):
-                say(f"object {identifier}: of those that asked, {' and '.join(told)} alone are told of it; a declaration "
-                    "does not say whose it is")
+                say(f"object {identifier}: of those that asked, {' and '.join(told)} alone are told of it; a "
+                    "declaration does not say whose it is")
     if len(found) < len(seen):
-        say(f"{len(seen) - len(found)} objects are left out: where a recorded call succeeds on one of them, the auditor "
-            "will say that there is no such object")
+        say(f"{len(seen) - len(found)} objects are left out: where a recorded call succeeds on one of them, the "
+            "auditor will say that there is no such object")
     if found and not with_bytes:
         say("the bytes of keys are left undeclared: the first Get of each will show them (--bytes asks for them)")
     return found
@@ -150,7 +150,8 @@ def _conflict(told: Item, now: int) -> Optional[str]:
     if state.value == by_dates:
         return None
     said = STATES[state.value] if state.value < len(STATES) else f"in state {state.value}"
-    return f"the server says that it is {said}, and tells no date that makes it so, but what makes it {STATES[by_dates]}"
+    return (f"the server says that it is {said}, and tells no date that makes it so, but what makes it "
+            f"{STATES[by_dates]}")
 
 
 def _state(told: Item, now: int) -> int:

@@ -42,6 +42,10 @@ def _add_cut(word: argparse.ArgumentParser) -> None:
 def _add_translate(word: argparse.ArgumentParser) -> None:
     word.add_argument("transcript", metavar="IN")
     word.add_argument("out", metavar="OUT", help="a new file for the transcript")
+    order = word.add_mutually_exclusive_group()
+    order.add_argument("--ordered", action="store_true", help="take a batch of 1.0 to 1.2 that does not say whether "
+                       "its order counts as ordered where it uses the placeholder, as servers do (the default)")
+    order.add_argument("--unordered", action="store_true", help="take all of these as unordered, as those versions say")
     word.set_defaults(run=_translate)
 
 
@@ -78,7 +82,7 @@ def _cut(words: argparse.Namespace) -> None:
 
 def _translate(words: argparse.Namespace) -> None:
     see_apart([words.out], [words.transcript])
-    print(translation.run(words.transcript, words.out))
+    print(translation.run(words.transcript, words.out, not words.unordered))
 
 
 def _sift(words: argparse.Namespace) -> None:
