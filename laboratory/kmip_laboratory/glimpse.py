@@ -11,7 +11,7 @@ from typing import Dict, List, NamedTuple, Optional, Tuple
 from .message import Side
 from .tag_names import TAGS_BY_NAME
 from .tags import Tag
-from .ttlv import Kind, NotTtlv, front, places_in
+from .ttlv import HEADER_LENGTH, Kind, NotTtlv, front, places_in
 from .versions import Version
 
 SUCCESS, FAILED, PENDING, UNDONE = range(4)
@@ -30,6 +30,9 @@ TIME_STAMP = front(Tag.TIME_STAMP, Kind.DATE_TIME)
 IDENTIFIERS = frozenset(front(TAGS_BY_NAME[name], Kind.TEXT) for name in (
     "Unique Identifier", "Private Key Unique Identifier", "Public Key Unique Identifier"))
 VERSION = front(Tag.PROTOCOL_VERSION, Kind.STRUCTURE)
+# Nearly all messages begin so: with a header, and in it the version.
+VERSION_LENGTH = 32
+VERSION_FIRST = VERSION.to_bytes(4, "big") + VERSION_LENGTH.to_bytes(4, "big")
 
 
 class Part(NamedTuple):
@@ -83,6 +86,21 @@ def _glimpse(message: bytes, side: Side, start: int, stop: int) -> Glimpse:
         elif number == TIME_STAMP and stamp is None:
             stamp = int.from_bytes(message[place:place + 8], "big", signed=True)
     return Glimpse(version, stamp, parts, found or (0, 0), where or (0, 0))
+
+
+def version_of(message: bytes) -> Optional[Version]:
+    """The version of a message of either side; None where it is none, or names none."""
+    start = 3 * HEADER_LENGTH
+    if message.startswith(VERSION_FIRST, start - HEADER_LENGTH):
+        try:
+            return _version(message[start:start + VERSION_LENGTH])
+        except NotTtlv:
+            return None
+    for side in Side:
+        seen = glimpse(message, side)
+        if seen:
+            return seen.version
+    return None
 
 
 @lru_cache(maxsize=64)

@@ -132,7 +132,7 @@ class Declared(WithPyKmip):
         done = run("declare", "--server", f"127.0.0.1:{self.server_port}", *self.certificate_words(), "--out",
                    self.folder / "declaration.ttlv")
         self.assertEqual(done.returncode, 1)
-        self.assertIn("servers of 2.0 need --minor 1", done.stderr)
+        self.assertIn("servers of older versions need --version, as 2.0 or 1.2", done.stderr)
 
     def record(self, work: object, name: str) -> None:
         recorder = self.start(self.server_port, "--minor", "1")
@@ -147,7 +147,7 @@ class Declared(WithPyKmip):
         client.close()
 
     def declare(self, *words: str) -> subprocess.CompletedProcess:
-        return run("declare", "--server", f"127.0.0.1:{self.server_port}", *self.certificate_words(), "--minor", "1",
+        return run("declare", "--server", f"127.0.0.1:{self.server_port}", *self.certificate_words(), "--version", "2.0",
                    *words, "--out", self.folder / "declaration.ttlv", "--force")
 
     def certificate_words(self) -> list:

@@ -10,6 +10,7 @@ from ..records import records, which
 from ..tags import FileTag, Tag
 from ..trouble import say
 from ..ttlv import BIG_INTEGER, BYTES, STRUCTURE, TEXT, Item, Kind
+from ..untranslated import Untranslated
 from .replacing import Bytes
 
 MESSAGES = (FileTag.MESSAGE, FileTag.ANSWER)
@@ -46,6 +47,7 @@ class Opened:
         self.strings = 0
         self.numbers = 0
         self.texts: Dict[Text, List[int]] = {}
+        self.untranslated = Untranslated(path)
         self._replacing = replacing
         for record in records(path, data):
             call = record.item.first(FileTag.CALL, Kind.INTEGER)
@@ -99,6 +101,7 @@ class Opened:
 
     def _open_message(self, spelled: bytes, where: Where) -> None:
         """Opens the message that these bytes are; what is none can't be read, and becomes zeros."""
+        self.untranslated.take(spelled)
         try:
             message = ttlv.read_item(spelled)
         except ttlv.NotTtlv as fault:

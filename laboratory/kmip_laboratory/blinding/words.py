@@ -63,6 +63,8 @@ def run(words: argparse.Namespace) -> None:
     # The new key comes last among them, where there is one.
     made = [bytes(opened.data) for opened in files] + [key.hex().encode("ascii") + b"\n"]
     fresh.write_all(list(zip(outs, made)))
+    for opened in files:
+        opened.untranslated.tell()
     print(_account(files, chosen))
 
 

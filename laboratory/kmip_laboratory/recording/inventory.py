@@ -95,8 +95,8 @@ async def _identifiers(questions: Questions, version: Version) -> List[str]:
     try:
         payload = await questions.ask(Operation.LOCATE, *([] if version in OF_OLD else [ttlv.structure(ATTRIBUTES)]))
     except Failed as failed:
-        raise Trouble(f"the server refused to list its objects: {failed}; servers of 2.0 need --minor 1, "
-                      "and older ones --version, as 1.2") from None
+        raise Trouble(f"the server refused to list its objects: {failed}; servers of older versions need --version, "
+                      "as 2.0 or 1.2") from None
     listed = [item.value for item in payload.every(UNIQUE_IDENTIFIER, Kind.TEXT)]
     located = payload.first(LOCATED_ITEMS, Kind.INTEGER)
     if located and located.value > len(listed):

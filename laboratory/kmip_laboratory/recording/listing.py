@@ -16,6 +16,7 @@ from ..tag_names import tag_name
 from ..transcript import marks_in
 from ..trouble import Trouble
 from ..ttlv import Item, Kind
+from ..untranslated import Untranslated
 from .calls import Call, ordered_calls
 
 MOST_IDENTIFIERS = 3
@@ -24,11 +25,15 @@ BETWEEN = "  "
 
 def lines(path: str) -> Iterator[str]:
     """A line for each call, in the order of their begins: number, client, marks, moment, and each item."""
+    untranslated = Untranslated(path)
     for call in ordered_calls(path):
+        untranslated.take(call.request)
+        untranslated.take(call.response)
         asked, answered = call.asked(), call.answered()
         marks = f"marks {call.first}-{call.last or ''}"
         moment = date(answered.stamp) if answered and answered.stamp is not None else "-"
         yield BETWEEN.join([f"call {call.number}", plain(call.client), marks, moment, *_items(call, asked, answered)])
+    untranslated.tell()
 
 
 def _items(call: Call, asked: Optional[Glimpse], answered: Optional[Glimpse]) -> List[str]:
@@ -62,7 +67,12 @@ def _status(part: Part) -> str:
 
 def call_lines(path: str, number: int, with_keys: bool) -> Iterator[str]:
     """Both messages of a call, an item on a line. What may be a key is hidden, unless `with_keys` asks for it."""
-    found = [mark for mark in marks_in(path) if mark.call == number]
+    untranslated = Untranslated(path)
+    found = []
+    for mark in marks_in(path):
+        untranslated.take(mark.message)
+        if mark.call == number:
+            found.append(mark)
     if not found:
         raise Trouble(f"{path} has no call {number}; `kmip_record list {path}` has the numbers of its calls")
     for mark, side in zip(found, Side):
@@ -70,6 +80,7 @@ def call_lines(path: str, number: int, with_keys: bool) -> Iterator[str]:
             yield from item_lines(ttlv.read_item(mark.message), with_keys)
         except ttlv.NotTtlv as fault:
             yield f"no {side.message_name}: {fault}"
+    untranslated.tell()
 
 
 def item_lines(item: Item, with_keys: bool, level: int = 0, contained: bool = False) -> Iterator[str]:

@@ -16,7 +16,7 @@ from ..files import OUT_HINT, see_that_free
 from ..outputs import see_apart
 from ..shrinking import words as shrinking
 from ..trouble import Trouble, WrongWords, say
-from ..versions import JUDGED, NEARLY_JUDGED
+from ..versions import JUDGED
 from . import capture, declaration, identities, inventory, order, passes, proxy
 from .connection import Way
 from .numbers import add_segment_words, read_milliseconds, read_seconds, read_version
@@ -124,9 +124,8 @@ def _add_declare(word: argparse.ArgumentParser) -> None:
     word.add_argument("--unique-names", action="store_true", help="declare that live objects never share a name")
     word.add_argument("--reason", type=declaration.read_row, action="append", default=[], metavar="NUMBER=CAUSE",
                       help="a Result Reason that is given only for this cause: NotFound, WrongState or TakenName")
-    asked = word.add_mutually_exclusive_group()
-    asked.add_argument("--minor", choices=["1"], help="ask in version 2.0 in place of 2.1")
-    asked.add_argument("--version", type=read_version, metavar="MAJOR.MINOR", help="ask in this version, from 1.0 on")
+    word.add_argument("--version", type=read_version, metavar="MAJOR.MINOR", default=JUDGED,
+                      help="ask in this version, from 1.0 on (2.1)")
     word.add_argument("--out", required=True, metavar="DECLARATION", help="a new file for it")
     word.add_argument("--force", action="store_true", help=FORCE_HELP)
     word.set_defaults(run=_declare)
@@ -192,10 +191,9 @@ def _declare(words: argparse.Namespace) -> None:
     see_that_free(words.out, words.force, OUT_HINT)
     entries: List[bytes] = []
     if words.server:
-        version = words.version or (NEARLY_JUDGED if words.minor else JUDGED)
-        if version != JUDGED:
-            say(f"the server is asked in version {version}")
-        by_client = {name: asyncio.run(inventory.held(words.server, context, version, words.bytes))
+        if words.version != JUDGED:
+            say(f"the server is asked in version {words.version}")
+        by_client = {name: asyncio.run(inventory.held(words.server, context, words.version, words.bytes))
                      for name, context in _asking(words, shown).items()}
         entries = inventory.entries(by_client, words.bytes)
     print(declaration.run(words.unique_names, words.reason, entries, words.out, words.force))

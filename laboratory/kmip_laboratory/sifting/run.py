@@ -10,16 +10,20 @@ from ..recording.rewriting import rewrite
 from ..transcript import Begin, Mark
 from ..trouble import say
 from ..ttlv import NotTtlv
+from ..untranslated import Untranslated
 from .forgetting import places_of, request_without, response_without
 from .sorting import Sorted
 
 
 def table(source: str, also: FrozenSet[int]) -> List[str]:
     """How many calls of each sort, operation, version and client there are."""
-    calls = Sorted(also)
+    calls, untranslated = Sorted(also), Untranslated(source)
     for call in calls_in(source):
+        untranslated.take(call.request)
+        untranslated.take(call.response)
         calls.take(call, call.asked(), call.answered())
     calls.settle()
+    untranslated.tell()
     return calls.table_lines() + calls.impossible_lines() + calls.unknown_lines()
 
 
@@ -31,7 +35,10 @@ class Sifting:
         self.changed = 0
         self._forgotten = forgotten
         self._places: Dict[int, List[int]] = {}
+        self.untranslated = Untranslated(source)
         for call in calls_in(source):
+            self.untranslated.take(call.request)
+            self.untranslated.take(call.response)
             asked, answered = call.asked(), call.answered()
             self.calls.take(call, asked, answered)
             places = [] if call.number in self.calls.dropped else places_of(asked, answered)
@@ -62,6 +69,7 @@ def run(source: str, target: str, also: FrozenSet[int], forgotten: FrozenSet[int
     see_that_free(target)
     sifting = Sifting(source, also, forgotten)
     rewrite(source, target, sifting.mark)
+    sifting.untranslated.tell()
     for cause, count in sifting.calls.causes.most_common():
         say(f"left out: {count} calls, {cause}")
     if sifting.changed:
