@@ -28,8 +28,6 @@ def _tags(names: str) -> FrozenSet[int]:
     return frozenset(TAGS_BY_NAME[name] for name in " ".join(names.split()).split("; "))
 
 
-# Of these alone a value may be hidden: all other types hold numbers of four bytes, truth, moments and structures.
-HIDING_KINDS = frozenset({Kind.TEXT, Kind.BYTES, Kind.BIG_INTEGER, Kind.LONG_INTEGER})
 NAMES = _tags("Name Value")
 IDENTIFIERS = _tags("Unique Identifier; Private Key Unique Identifier; Public Key Unique Identifier; Linked Object "
                     "Identifier; Replaced Unique Identifier")
@@ -43,29 +41,25 @@ Identification; Build Level; Cluster Info; Server URI
 """.strip())
 # Whatever stands in these is hidden: what would be a name or an identifier elsewhere is none there.
 CONTAINERS = _tags("Key Material; Credential Value; Ticket; Derivation Parameters; Nonce")
+SORT_OF_TEXT = {FileTag.CLIENT.value: Sort.CLIENT, **{tag: Sort.NAME for tag in NAMES},
+                **{tag: Sort.IDENTIFIER for tag in IDENTIFIERS}, **{tag: Sort.TEXT for tag in TEXTS}}
 SHOWN = frozenset({Sort.HARMLESS, Sort.NAME, Sort.IDENTIFIER, Sort.CLIENT, Sort.ITEM_ID})
 
 
 def sort_of(tag: int, kind: Kind, value: object, contained: bool) -> Sort:
     """What the value of an item with this tag and type is; `contained` where it stands in one of the containers."""
-    if kind not in HIDING_KINDS:
-        return Sort.HARMLESS
-    if contained:
-        return Sort.SECRET
+    if kind is Kind.TEXT:
+        return Sort.SECRET if contained else _sort_of_text(tag, value)
     if kind is Kind.BYTES:
-        return Sort.ITEM_ID if tag == Tag.UNIQUE_BATCH_ITEM_ID else Sort.SECRET
-    return _sort_of_text(tag, value) if kind is Kind.TEXT else Sort.SECRET
+        return Sort.ITEM_ID if tag == Tag.UNIQUE_BATCH_ITEM_ID and not contained else Sort.SECRET
+    # All others hold numbers of four bytes, truth, moments and structures.
+    return Sort.SECRET if kind is Kind.BIG_INTEGER or kind is Kind.LONG_INTEGER else Sort.HARMLESS
 
 
 def _sort_of_text(tag: int, value: object) -> Sort:
     if tag == Tag.ATTRIBUTE_NAME and value in TAGS_BY_NAME:
         return Sort.HARMLESS
-    if tag == FileTag.CLIENT:
-        return Sort.CLIENT
-    for tags, sort in ((NAMES, Sort.NAME), (IDENTIFIERS, Sort.IDENTIFIER), (TEXTS, Sort.TEXT)):
-        if tag in tags:
-            return sort
-    return Sort.SECRET
+    return SORT_OF_TEXT.get(tag, Sort.SECRET)
 
 
 def is_shown(tag: int, kind: Kind, value: object, contained: bool) -> bool:

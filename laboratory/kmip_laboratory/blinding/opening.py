@@ -70,8 +70,8 @@ class Opened:
             tag, kind, _, place = item
             place += where.base
             if kind is STRUCTURE:
-                self._open(item.children(), where._replace(
-                    key=where.key or tag in KEYS, contained=where.contained or tag in CONTAINERS))
+                self._open(item.children(), where if tag not in KEYS else where._replace(
+                    key=True, contained=where.contained or tag in CONTAINERS))
             elif kind is TEXT:
                 self._fill(place, int.from_bytes(self.data[place - 4:place], "big"))
                 self._note(item, place, where)

@@ -13,9 +13,9 @@ from ..operations import Operation, operation_name
 from ..slices import Change, changed
 from ..tags import Tag
 from ..trouble import say
-from ..versions import JUDGED, NEARLY_JUDGED, TRANSLATED, Version
+from ..versions import JUDGED, OF_OLD, TRANSLATED, Version
 from .attributes import Guess, Lost
-from .payloads import PLACEHOLDER_AS_NUMBER, REQUESTS, RESPONSES, Payload, names_object, without_placeholder
+from .payloads import REQUESTS, RESPONSES, Payload, names_object, without_placeholder
 
 # Up to this version a batch that does not say whether its order counts was one whose order does not.
 LAST_WITHOUT_ORDER = Version(1, 2)
@@ -75,17 +75,15 @@ class Translator:
             self._tell(f"call {call}, response, {fault}; the message is left as it is")
 
     def _translated(self, message: bytes, side: Side, seen: Glimpse, operations: List[int]) -> bytes:
-        if seen.version == JUDGED:
-            return _with_placeholder(message, side, seen)
         found: Lost = Counter()
-        changes = [_version_change(message, seen)]
+        changes = [] if seen.version == JUDGED else [_version_change(message, seen)]
         if side is Side.CLIENT and self._is_unordered(message, seen, operations):
             changes += _without_order(message, seen)
-        table = {} if seen.version == NEARLY_JUDGED else REQUESTS if side is Side.CLIENT else RESPONSES
-        for place, part in enumerate(seen.parts):
-            changes += _of_payload(message, side, part, operations[place], place, table, found)
+        for place, (part, operation) in enumerate(zip(seen.parts, operations), 1):
+            where = f"item {place}, {operation_name(operation)}"
+            changes += _of_payload(message, part, _steps(side, seen.version, operation), where, found)
         self.lost.update(found)
-        return changed(message, changes)
+        return changed(message, changes) if changes else message
 
     def _is_unordered(self, message: bytes, seen: Glimpse, operations: List[int]) -> bool:
         """Whether a batch that does not say so is one whose order does not count."""
@@ -100,29 +98,26 @@ class Translator:
         return [part.operation or (asked[place] if place < len(asked) else 0) for place, part in enumerate(parts)]
 
 
-def _of_payload(message: bytes, side: Side, part: Part, operation: int, place: int, table: Dict[int, Payload],
-                lost: Lost) -> List[Change]:
+def _steps(side: Side, version: Optional[Version], operation: int) -> List[Payload]:
+    """What is done to a payload, one step after the other. From 2.0 on the placeholder alone has a form that is not
+    judged."""
+    steps = [without_placeholder] if side is Side.CLIENT and operation in ON_OBJECTS else []
+    older = (REQUESTS if side is Side.CLIENT else RESPONSES).get(operation) if version in OF_OLD else None
+    return steps + ([older] if older else [])
+
+
+def _of_payload(message: bytes, part: Part, steps: List[Payload], where: str, lost: Lost) -> List[Change]:
     """What becomes of the payload of an item."""
-    if not part.payload:
+    if not part.payload or not steps:
         return []
     start, stop = part.payload
     payload = made = message[start:stop]
-    if side is Side.CLIENT and operation in ON_OBJECTS and PLACEHOLDER_AS_NUMBER in payload:
-        made = without_placeholder(payload)
-    change = table.get(operation)
     try:
-        made = change(made, "", lost) if change else made
+        for step in steps:
+            made = step(made, "", lost)
     except Guess as fault:
-        raise Guess(f"item {place + 1}, {operation_name(operation)}{fault}") from None
+        raise Guess(f"{where}{fault}") from None
     return [] if made == payload else [Change((ttlv.HEADER_LENGTH, part.place, start), start, stop, made)]
-
-
-def _with_placeholder(message: bytes, side: Side, seen: Glimpse) -> bytes:
-    """A message of 2.1, in which an identifier that only says that the placeholder is meant is left out."""
-    changes: List[Change] = []
-    for place, part in enumerate(seen.parts):
-        changes += _of_payload(message, side, part, part.operation or 0, place, {}, Counter())
-    return changed(message, changes) if changes else message
 
 
 def _uses_placeholder(message: bytes, seen: Glimpse, operations: List[int]) -> bool:

@@ -2,7 +2,7 @@
 
 from __future__ import annotations
 
-from typing import Callable, Dict, List
+from typing import Callable, Dict
 
 from ..operations import Operation
 from ..slices import Slice, changed_at, slices_of, structure
@@ -94,12 +94,12 @@ def names_object(payload: bytes) -> bool:
     return any(child.front >> 8 == Tag.UNIQUE_IDENTIFIER and not _is_placeholder(child) for child in slices_of(payload))
 
 
-def without_placeholder(payload: bytes) -> bytes:
-    """A request's payload without an identifier that says nothing but that the placeholder is meant."""
-    children = slices_of(payload)
-    if not any(map(_is_placeholder, children)):
+def without_placeholder(payload: bytes, where: str, lost: Lost) -> bytes:
+    """The request of an operation on one object: an identifier goes that says nothing but that the placeholder is
+    meant."""
+    if PLACEHOLDER_AS_NUMBER not in payload:
         return payload
-    return b"".join([child.whole for child in children if not _is_placeholder(child)])
+    return b"".join([child.whole for child in slices_of(payload) if not _is_placeholder(child)])
 
 
 def _is_placeholder(item: Slice) -> bool:
