@@ -109,7 +109,7 @@ class Recorder(Laboratory):
                               f"{self.certificates / 'client-1.key'}")
         client = self.client(recorder.port, self.name)
         client.sendall(messages.get("k", (1, 4)))
-        wait_until(lambda: recorder.heard("call 1 stays open"), "a word on the connection")
+        wait_until(lambda: recorder.heard("; call 1 stays open"), "a word on the connection")
         recorder.end()
         self.assertFalse([line for line in recorder.said if line.startswith(FORGED)])
         self.assertTrue(harmless("\n".join(recorder.said)), recorder.said)

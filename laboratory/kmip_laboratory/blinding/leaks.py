@@ -87,6 +87,8 @@ def _in_digits(text: str, alphabet: str) -> Iterator[bytes]:
     """The bytes that the digits of an alphabet in a text say, whatever stands between them, from each of the first
     digits on."""
     width = (len(alphabet) - 1).bit_length()
+    if len(text) * width < 8 * WINDOW:
+        return
     bits: Dict[str, str] = {digit: f"{number:0{width}b}" for number, digit in enumerate(alphabet)}
     told = "".join([bits[digit] for digit in text if digit in bits])
     for start in range(0, 8 * width // gcd(8, width), width):

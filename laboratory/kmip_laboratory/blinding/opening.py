@@ -7,6 +7,7 @@ from typing import Dict, List, NamedTuple, Set, Tuple
 from .. import ttlv
 from ..hiding import CONTAINERS, Sort, sort_of
 from ..records import records, which
+from ..tag_names import TAGS_BY_NAME
 from ..tags import FileTag, Tag
 from ..trouble import say
 from ..ttlv import BIG_INTEGER, BYTES, STRUCTURE, TEXT, Item, Kind
@@ -15,7 +16,7 @@ from .replacing import Bytes
 
 MESSAGES = (FileTag.MESSAGE, FileTag.ANSWER)
 # What stands in these is a key's, or the means of one who proves who he is.
-KEYS = CONTAINERS | {Tag.KEY_BLOCK}
+KEYS = CONTAINERS | {Tag.KEY_BLOCK, TAGS_BY_NAME["Opaque Data Value"], TAGS_BY_NAME["Derivation Data"]}
 
 
 class Text(NamedTuple):
