@@ -3,6 +3,7 @@
 from __future__ import annotations
 
 import base64
+import hashlib
 import time
 import unittest
 import uuid
@@ -53,8 +54,6 @@ SPELLINGS: Dict[str, str] = {
     "reversed digits": KEY.hex()[::-1], "reversed latin-1": KEY[::-1].decode("latin-1"),
     "reversed base64": base64.b64encode(KEY[::-1]).decode()}
 PASSWORD = "correct horse battery staple"
-# What a version before gave with the key of 32 bytes that count from 0 on.
-PERMUTED = "3e3495c29274f10d9e959ea1620fb80c"
 
 
 def secrets() -> List[bytes]:
@@ -181,6 +180,17 @@ class Hidden(InFolder):
         self.assertIn(b"undone-7", left)
 
 
+def permuted(key: bytes, data: bytes) -> bytes:
+    """A Feistel network of ten rounds over halves of bits, whose rounds are drawn by SHAKE-256, in the plainest way."""
+    length, half = len(data), 4 * len(data)
+    left, right = divmod(int.from_bytes(data, "big"), 2 ** half)
+    for number_of_round in range(10):
+        told = key + b"bytes" + bytes([number_of_round]) + length.to_bytes(4, "big")
+        drawn = hashlib.shake_256(told + right.to_bytes((length + 1) // 2, "big")).digest((length + 1) // 2)
+        left, right = right, left ^ int.from_bytes(drawn, "big") % 2 ** half
+    return (left * 2 ** half + right).to_bytes(length, "big")
+
+
 class Pieces(unittest.TestCase):
     """What hiding is made of."""
 
@@ -191,9 +201,12 @@ class Pieces(unittest.TestCase):
         self.assertLess(time.thread_time() - begun, 1)
         self.assertEqual((len(made), made == data), (len(data), False))
 
-    def test_the_permutation_is_the_one_of_ever(self) -> None:
-        """Files that are blinded with a key of before have the same bytes for the same keys."""
-        self.assertEqual(replacing.Bytes(bytes(range(32))).of(bytes(16)).hex(), PERMUTED)
+    def test_the_permutation_is_a_network_of_ten_rounds(self) -> None:
+        """Files that were blinded with a key have the same bytes for the same keys for ever."""
+        key = bytes(range(32))
+        for length in (0, 1, 2, 3, 16, 33, 4096):
+            data = bytes(number % 251 for number in range(length))
+            self.assertEqual(replacing.Bytes(key).of(data), permuted(key, data))
 
     def test_what_shows_no_key(self) -> None:
         leaks = Leaks([KEY])
