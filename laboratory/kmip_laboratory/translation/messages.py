@@ -19,13 +19,14 @@ from .payloads import REQUESTS, RESPONSES, Payload, names_object, without_placeh
 
 # Up to this version a batch that does not say whether its order counts was one whose order does not.
 LAST_WITHOUT_ORDER = Version(1, 2)
-# Operations on one object, which they name or have from the placeholder.
-ON_OBJECTS = frozenset({
-    Operation.GET, Operation.GET_ATTRIBUTES, Operation.GET_ATTRIBUTE_LIST, Operation.ACTIVATE, Operation.REVOKE,
-    Operation.DESTROY, Operation.ADD_ATTRIBUTE, Operation.MODIFY_ATTRIBUTE, Operation.DELETE_ATTRIBUTE,
+# Operations on one object, which they name or have from the placeholder: the judged ones, and all up to this version.
+JUDGED_ON_OBJECTS = frozenset({Operation.GET, Operation.GET_ATTRIBUTES, Operation.ACTIVATE, Operation.REVOKE,
+                               Operation.DESTROY})
+ON_OBJECTS = JUDGED_ON_OBJECTS | {
+    Operation.GET_ATTRIBUTE_LIST, Operation.ADD_ATTRIBUTE, Operation.MODIFY_ATTRIBUTE, Operation.DELETE_ATTRIBUTE,
     Operation.ARCHIVE, Operation.RECOVER, Operation.CHECK, Operation.OBTAIN_LEASE, Operation.GET_USAGE_ALLOCATION,
     Operation.RE_KEY, Operation.RE_KEY_KEY_PAIR, Operation.RE_CERTIFY, Operation.ENCRYPT, Operation.DECRYPT,
-    Operation.SIGN, Operation.SIGNATURE_VERIFY, Operation.MAC, Operation.MAC_VERIFY})
+    Operation.SIGN, Operation.SIGNATURE_VERIFY, Operation.MAC, Operation.MAC_VERIFY}
 
 
 class Translator:
@@ -101,7 +102,7 @@ class Translator:
 def _steps(side: Side, version: Optional[Version], operation: int) -> List[Payload]:
     """What is done to a payload, one step after the other. From 2.0 on the placeholder alone has a form that is not
     judged."""
-    steps = [without_placeholder] if side is Side.CLIENT and operation in ON_OBJECTS else []
+    steps = [without_placeholder] if side is Side.CLIENT and operation in JUDGED_ON_OBJECTS else []
     older = (REQUESTS if side is Side.CLIENT else RESPONSES).get(operation) if version in OF_OLD else None
     return steps + ([older] if older else [])
 
