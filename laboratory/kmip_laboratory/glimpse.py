@@ -9,8 +9,9 @@ from functools import lru_cache
 from typing import Dict, List, NamedTuple, Optional, Tuple
 
 from .message import Side
+from .tag_names import TAGS_BY_NAME
 from .tags import Tag
-from .ttlv import Kind, NotTtlv, front, places_in
+from .ttlv import HEADER_LENGTH, Kind, NotTtlv, front, places_in
 from .versions import Version
 
 SUCCESS, FAILED, PENDING, UNDONE = range(4)
@@ -26,8 +27,12 @@ PAYLOADS = {Side.CLIENT: front(Tag.REQUEST_PAYLOAD, Kind.STRUCTURE),
 REASON = front(Tag.RESULT_REASON, Kind.ENUMERATION)
 STATUS = front(Tag.RESULT_STATUS, Kind.ENUMERATION)
 TIME_STAMP = front(Tag.TIME_STAMP, Kind.DATE_TIME)
-UNIQUE_IDENTIFIER = front(Tag.UNIQUE_IDENTIFIER, Kind.TEXT)
+IDENTIFIERS = frozenset(front(TAGS_BY_NAME[name], Kind.TEXT) for name in (
+    "Unique Identifier", "Private Key Unique Identifier", "Public Key Unique Identifier"))
 VERSION = front(Tag.PROTOCOL_VERSION, Kind.STRUCTURE)
+# Nearly all messages begin so: with a header, and in it the version.
+VERSION_LENGTH = 32
+VERSION_FIRST = VERSION.to_bytes(4, "big") + VERSION_LENGTH.to_bytes(4, "big")
 
 
 class Part(NamedTuple):
@@ -83,6 +88,21 @@ def _glimpse(message: bytes, side: Side, start: int, stop: int) -> Glimpse:
     return Glimpse(version, stamp, parts, found or (0, 0), where or (0, 0))
 
 
+def version_of(message: bytes) -> Optional[Version]:
+    """The version of a message of either side; None where it is none, or names none."""
+    start = 3 * HEADER_LENGTH
+    if message.startswith(VERSION_FIRST, start - HEADER_LENGTH):
+        try:
+            return _version(message[start:start + VERSION_LENGTH])
+        except NotTtlv:
+            return None
+    for side in Side:
+        seen = glimpse(message, side)
+        if seen:
+            return seen.version
+    return None
+
+
 @lru_cache(maxsize=64)
 def _version(spelled: bytes) -> Optional[Version]:
     """The version that the value of a Protocol Version is. There are few, and they come again and again."""
@@ -108,11 +128,11 @@ def _part(message: bytes, payload_front: int, start: int, stop: int) -> Part:
 
 
 def identifiers(message: bytes, part: Part) -> List[str]:
-    """The Unique Identifiers that are texts at the first level of the payload of an item; none of one that is broken
-    within."""
+    """The Unique Identifiers that are texts at the first level of the payload of an item, those of pairs of keys too;
+    none of one that is broken within."""
     try:
         places = places_in(message, *part.payload) if part.payload else []
     except NotTtlv:
         return []
     return [message[place:place + length].decode("utf-8", "replace")
-            for number, place, length in places if number == UNIQUE_IDENTIFIER]
+            for number, place, length in places if number in IDENTIFIERS]

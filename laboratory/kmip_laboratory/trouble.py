@@ -1,11 +1,17 @@
-"""What goes wrong, told to people: what it is, and what to do about it."""
+"""What goes wrong, told to people: what it is, and what to do about it. Nothing of it is raw: names and texts from
+outside stand in it."""
 
 import os
 import sys
 
+from .plain import plain
+
 
 class Trouble(Exception):
     """Ends the whole work. Its text says what is wrong and what to do."""
+
+    def __str__(self) -> str:
+        return plain(super().__str__())
 
 
 class WrongWords(Trouble):
@@ -15,6 +21,9 @@ class WrongWords(Trouble):
 class ConnectionTrouble(Exception):
     """Ends one connection alone. Its text says what went wrong on it."""
 
+    def __str__(self) -> str:
+        return plain(super().__str__())
+
 
 def hush() -> None:
     """What is still printed goes nowhere, since nobody reads it: so nothing is said of the pipe at the end."""
@@ -22,5 +31,6 @@ def hush() -> None:
 
 
 def say(words: str) -> None:
-    """Tells the person at the terminal something; what is meant for other programs goes to standard output."""
-    print(f"kmip_record: {words}", file=sys.stderr, flush=True)
+    """Tells the person at the terminal something, on one line; what is meant for other programs goes to standard
+    output."""
+    print(f"kmip_record: {plain(words)}", file=sys.stderr, flush=True)

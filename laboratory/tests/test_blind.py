@@ -21,6 +21,7 @@ from kmip_laboratory.transcript import TranscriptWriter
 EXAMPLES = FOLDER.parent / "examples"
 NAMES = ["transcript.ttlv", "declaration.ttlv", "witness.ttlv"]
 KEY = bytes(range(100, 116))
+KEEP_ALL = [word for each in ("names", "identifiers", "texts") for word in ("--keep", each)]
 
 
 class Done(NamedTuple):
@@ -84,12 +85,12 @@ class Blind(unittest.TestCase):
         self.assertEqual(done.status, 0, done.err)
         return targets
 
-    def transcript(self, *pairs: tuple[bytes, bytes]) -> Path:
+    def transcript(self, *pairs: tuple[bytes, bytes], client: str = "a") -> Path:
         """A transcript of these requests and responses."""
         path = self.folder / f"made-{len(list(self.folder.iterdir()))}.ttlv"
         with TranscriptWriter(str(path)) as writer:
             for request, response in pairs:
-                writer.end(writer.begin("a", request), response)
+                writer.end(writer.begin(client, request), response)
         return path
 
     def test_the_verdict_of_every_example_and_recording_stays(self) -> None:
@@ -99,7 +100,7 @@ class Blind(unittest.TestCase):
             before = verdict("check", *sources)
             searches = (folder / "search").exists() or folder.parent.name == "recorded"
             searched = verdict("search", *sources[:2], self.folder / "found") if searches else None
-            for more in ([], ["--names", "--identifiers"]):
+            for more in ([], KEEP_ALL):
                 with self.subTest(folder.name, more=more):
                     targets = self.blinded(sources, *more)
                     self.assertEqual(verdict("check", *targets), before)
@@ -113,7 +114,7 @@ class Blind(unittest.TestCase):
             secrets = set().union(*(key_materials(source.read_bytes()) for source in sources))
             wanted = {window for secret in secrets for window in windows(secret)}
             seen += len(wanted)
-            for target in self.blinded(sources, "--identifiers"):
+            for target in self.blinded(sources):
                 with self.subTest(target=str(target)):
                     self.assertEqual(wanted & set(windows(target.read_bytes())), set())
         self.assertGreater(seen, 100)
@@ -149,7 +150,7 @@ class Blind(unittest.TestCase):
         texts = set(re.findall(r'(?:Unique Identifier|Name Value): "([^"]+)"',
                                "".join((folder / name).with_suffix(".txt").read_text() for name in NAMES)))
         self.assertGreater(len(texts), 1)
-        for target in self.blinded(sources, "--names", "--identifiers"):
+        for target in self.blinded(sources):
             for text in texts:
                 spelled = messages.item(0, 7, text.encode())[3:]
                 self.assertNotIn(spelled, target.read_bytes())
@@ -179,11 +180,12 @@ class Blind(unittest.TestCase):
                 self.assertNotIn(told.encode(), target.read_bytes())
 
     def test_a_key_in_an_identifier_asks_for_the_word(self) -> None:
-        source = self.transcript((messages.get(KEY.hex()), shown_key(KEY.hex(), KEY)))
-        done = record("blind", source, self.folder / "out")
-        self.assertEqual((done.status, (self.folder / "out").exists()), (1, False))
-        self.assertRegex(done.err, r"has bytes of a key in the identifier at offset \d+: give --identifiers")
-        (target,) = self.blinded([source], "--identifiers")
+        for word, sort in (("identifiers", "identifier"), ("names", "client")):
+            source = self.transcript((messages.get(KEY.hex()), shown_key(KEY.hex(), KEY)), client=KEY.hex())
+            done = record("blind", source, self.folder / "out", "--keep", word)
+            self.assertEqual((done.status, (self.folder / "out").exists()), (1, False))
+            self.assertRegex(done.err, rf"has bytes of a key in the {sort} at offset \d+: leave --keep {word} away")
+        (target,) = self.blinded([source])
         self.assertNotIn(KEY.hex().encode(), target.read_bytes())
 
     def test_a_message_that_is_none_becomes_zeros(self) -> None:
@@ -211,6 +213,8 @@ class Blind(unittest.TestCase):
 
     def test_wrong_words(self) -> None:
         self.assertEqual(record("blind", "a", "b", "c").status, 64)
+        self.assertEqual(record("blind", "a", "b", "--keep", "keys").status, 64)
+        self.assertEqual(record("blind", "a", "b", "--names", "--keep", "names").status, 64)
         done = record("blind", FOLDER / "test", self.folder / "out")
         self.assertEqual(done.status, 1)
         self.assertIn("is neither a transcript nor a declaration nor a witness", done.err)

@@ -56,14 +56,15 @@ class ByProxy(WithPyKmip):
         self.declared_in_1_2()
 
     def declared_in_1_2(self) -> None:
-        """A server can be asked in 1.2 what it holds."""
+        """A server can be asked in 1.2 what it holds: of the recorder an Active key, and of a client a new one."""
         certificates = self.certificates
+        self.work(self.server_port, 1, 0, version="1.2")
         done = run("declare", "--server", f"127.0.0.1:{self.server_port}", "--version", "1.2", "--out",
                    self.folder / "asked.ttlv", "--server-cert", certificates / "recorder.pem", "--server-key",
-                   certificates / "recorder.key", "--server-ca", certificates / "authority.pem")
+                   certificates / "recorder.key", "--server-ca", certificates / "authority.pem", "--as",
+                   f"client-0={certificates / 'client-0.pem'},{certificates / 'client-0.key'}")
         self.assertEqual((done.returncode, done.stdout), (0, "0 rows, 1 entries\n"), done.stderr)
         self.assertIn("the server is asked in version 1.2", done.stderr)
-        self.assertIn("object 1: the server says that it is Active, but tells no date that makes it so", done.stderr)
         shared = ttlv.read_item((self.folder / "asked.ttlv").read_bytes()[40:])
         told = shared.first(0x420125, ttlv.Kind.STRUCTURE)
         self.assertEqual(told.first(0x420028, ttlv.Kind.ENUMERATION).value, 3)
@@ -124,14 +125,14 @@ class Declared(WithPyKmip):
     def test_what_the_server_does_not_tell_is_said(self) -> None:
         self.record(lambda port: self.work(port, 1, 1), "before.ttlv")
         done = self.declare()
-        self.assertIn("object 1: the server says that it is Active, but tells no date that makes it so", done.stderr)
-        self.assertIn("the bytes of keys are left undeclared", done.stderr)
+        self.assertEqual((done.returncode, done.stdout), (0, "0 rows, 0 entries\n"))
+        self.assertIn("object 1: left out, for the server says that it is Active, and tells no date that", done.stderr)
 
     def test_a_server_of_2_0_is_asked_in_2_0(self) -> None:
         done = run("declare", "--server", f"127.0.0.1:{self.server_port}", *self.certificate_words(), "--out",
                    self.folder / "declaration.ttlv")
         self.assertEqual(done.returncode, 1)
-        self.assertIn("servers of 2.0 need --minor 1", done.stderr)
+        self.assertIn("servers of older versions need --version, as 2.0 or 1.2", done.stderr)
 
     def record(self, work: object, name: str) -> None:
         recorder = self.start(self.server_port, "--minor", "1")
@@ -146,7 +147,7 @@ class Declared(WithPyKmip):
         client.close()
 
     def declare(self, *words: str) -> subprocess.CompletedProcess:
-        return run("declare", "--server", f"127.0.0.1:{self.server_port}", *self.certificate_words(), "--minor", "1",
+        return run("declare", "--server", f"127.0.0.1:{self.server_port}", *self.certificate_words(), "--version", "2.0",
                    *words, "--out", self.folder / "declaration.ttlv", "--force")
 
     def certificate_words(self) -> list:

@@ -144,8 +144,9 @@ class Shrink(unittest.TestCase):
     def test_what_is_outside_or_in_a_wrong_order_is_told(self) -> None:
         folder = EXAMPLES / "outside_version"
         done = record("shrink", folder / "transcript.ttlv", folder / "declaration.ttlv", self.out)
-        self.assertEqual((done.status, len(done.err.splitlines())), (1, 1))
-        self.assertIn((folder / "line").read_text().strip(), done.err)
+        self.assertEqual((done.status, len(done.err.splitlines())), (1, 2))
+        self.assertIn("is not translated", done.err.splitlines()[0])
+        self.assertIn((folder / "line").read_text().strip(), done.err.splitlines()[1])
         done = record("shrink", folder / "declaration.ttlv", folder / "transcript.ttlv", self.out)
         self.assertIn("is no transcript, but a declaration: give the files in their order", done.err)
 

@@ -8,10 +8,15 @@ import unittest
 import messages
 from laboratory import FOLDER, InFolder, audit, read_marks, run
 from messages import asking, begin, end, number, request, response, text
+from test_blind import record
+
+from kmip_laboratory.operations import operation_name
 
 EXAMPLE = FOLDER.parent / "examples/register_then_get"
 REGISTERED, GOT = 1_700_000_000, 1_700_000_001
 GET, ATTRIBUTES, REKEY, QUERY, ENCRYPT, POLL = 0x0A, 0x0B, 0x04, 0x18, 0x1F, 0x1A
+DECRYPT, SIGN, SIGNATURE_VERIFY, MAC, MAC_VERIFY, EXPORT = 0x20, 0x21, 0x22, 0x23, 0x24, 0x2B
+CREATE, MODIFY, ACTIVATE, REVOKE, DESTROY = 0x01, 0x0E, 0x12, 0x13, 0x14
 IDENTIFIER = text(0x420094, "key-1")
 INITIAL_DATE, STATE = 0x420039, 0x42008D
 NAME = messages.structure(0x420053, text(0x420055, "disk key"), number(0x420054, 5, 1))
@@ -52,9 +57,9 @@ class Sifted(InFolder):
         return audit(self.folder, "left"), done.stderr + done.stdout
 
     def test_calls_without_effect_and_refusals_are_left_out(self) -> None:
-        key = asking(ENCRYPT, IDENTIFIER)
+        key = asking(ENCRYPT, text(0x420094, "key-2"))
         self.between(
-            begin(3, request(key)), end(3, response(REGISTERED, messages.answering(ENCRYPT, 0, IDENTIFIER))),
+            begin(3, request(key)), end(3, response(REGISTERED, messages.answering(ENCRYPT, 0))),
             begin(4, request(asking(QUERY), key)),
             end(4, response(REGISTERED, messages.answering(QUERY, 0), messages.answering(ENCRYPT, 0))),
             begin(5, request(asking(REKEY, IDENTIFIER), protocol=(1, 4))), end(5, messages.refusal(GOT, (1, 0))),
@@ -86,6 +91,69 @@ class Sifted(InFolder):
         for line in ("1  judged  Get  1.2  a\n", "1  judged  Re-key  2.1  a\n", "1  unknown effect  Re-key  2.1  a\n",
                      "1  judged  Register  2.1  a\n", "1  unknown effect  Poll  2.1  a\n"):
             self.assertIn(line, listed)
+
+    def test_a_use_of_a_key_that_can_not_be_is_kept_and_told(self) -> None:
+        for uses, before, why in (
+                ((ENCRYPT, DECRYPT, SIGN, MAC, MAC_VERIFY), [], "never active"),
+                ((ENCRYPT, SIGN, MAC), [(ACTIVATE, 0), (REVOKE, 0)], "revoked in call 4"),
+                ((ENCRYPT, DECRYPT, SIGN, SIGNATURE_VERIFY, MAC, EXPORT), [(ACTIVATE, 0), (DESTROY, 0)],
+                 "destroyed in call 4")):
+            for use in uses:
+                with self.subTest(use=use, why=why):
+                    said = self.used(use, before)
+                    self.assertIn(f"that used key-1, which was {why}: a use of a key that can't be\n", said)
+                    self.assertIn(f"{len(before) + 3} calls kept, 0 left out\n", said)
+                    listed = record("sift", self.folder / "transcript.ttlv", "--list").out
+                    self.assertRegex(listed, rf"1  impossible use  {operation_name(use)}  2.1  a\n")
+
+    def test_a_use_that_may_be_is_left_out(self) -> None:
+        for use, before in ((ENCRYPT, [(ACTIVATE, 0)]), (ENCRYPT, [(ACTIVATE, None)]), (SIGN, [(MODIFY, 0)]),
+                            (DECRYPT, [(ACTIVATE, 0), (REVOKE, 0)]), (EXPORT, []), (EXPORT, [(REVOKE, 0)]),
+                            (ENCRYPT, [(ACTIVATE, 0), (DESTROY, 1)]), (ENCRYPT, [(ACTIVATE, 0), (DESTROY, None)])):
+            with self.subTest(use=use, before=before):
+                said = self.used(use, before)
+                self.assertNotIn("can't be", said)
+                self.assertIn(f"{len(before) + 2} calls kept, 1 left out\n", said)
+        self.assertIn("4 calls kept, 1 left out\n", self.used(ENCRYPT, [(ACTIVATE, 0), (DESTROY, 0)], 1),
+                      "a use that failed is no use")
+
+    def used(self, use: int, before: list[tuple[int, int | None]], status: int = 0) -> str:
+        """What is told where key-1, registered and never active, is used behind these calls; None is without an end."""
+        marks, number_of_call = [], 2
+        for operation, ended in [*before, (use, status)]:
+            number_of_call += 1
+            marks.append(begin(number_of_call, request(asking(operation, IDENTIFIER))))
+            if ended is not None:
+                answer = messages.answering(operation, ended, IDENTIFIER)
+                marks.append(end(number_of_call, response(REGISTERED, answer)))
+        self.between(*marks)
+        (self.folder / "left").unlink(missing_ok=True)
+        done = record("sift", self.folder / "transcript.ttlv", self.folder / "left")
+        return done.err + done.out
+
+    def test_a_use_beside_the_call_that_forbids_it_may_be(self) -> None:
+        destroy, encrypt = asking(DESTROY, IDENTIFIER), asking(ENCRYPT, IDENTIFIER)
+        answers = [response(REGISTERED, messages.answering(each, 0, IDENTIFIER))
+                   for each in (ACTIVATE, DESTROY, ENCRYPT)]
+        self.between(begin(3, request(asking(ACTIVATE, IDENTIFIER))), end(3, answers[0]), begin(5, request(encrypt)),
+                     begin(4, request(destroy)), end(4, answers[1]), end(5, answers[2]))
+        self.assertNotIn("can't be", self.sifted()[1])
+        batch = [asking(CREATE, number(0x420057, 5, 2)), asking(ACTIVATE), asking(DESTROY)]
+        made = [messages.answering(each, 0, *more) for each, more in (
+            (CREATE, [text(0x420094, "made")]), (ACTIVATE, []), (DESTROY, []))]
+        use = asking(ENCRYPT, text(0x420094, "made"))
+        self.between(begin(3, request(*batch)), end(3, response(REGISTERED, *made)), begin(4, request(use)),
+                     end(4, response(REGISTERED, messages.answering(ENCRYPT, 0))))
+        self.assertIn("used made, which was destroyed in call 3: a use", self.sifted()[1], "by the placeholder")
+
+    def test_the_account_names_objects_of_answers_too(self) -> None:
+        pair = [text(0x420066, "private-7"), text(0x42006F, "public-7")]
+        self.between(begin(3, request(asking(REKEY, IDENTIFIER))), end(3, response(
+            REGISTERED, messages.answering(REKEY, 0, text(0x420094, "key-9")))), begin(4, request(asking(2))),
+            end(4, response(REGISTERED, messages.answering(2, 0, *pair))))
+        said = self.sifted()[1]
+        self.assertRegex(said, r"stop at Re-key, .* on objects key-1, key-9\n")
+        self.assertRegex(said, r"stop at Create Key Pair, .* on objects private-7, public-7\n")
 
     def asked_for_attributes(self, *payload: bytes, answer: bytes) -> str:
         """The verdict where attributes were asked for between."""

@@ -139,6 +139,49 @@ class Fields(unittest.TestCase):
         self.become([structure(0x420091, attribute("y-color", text(0x42000B, "red")))], [structure(0x420125, structure(
             0x420008, text(0x42009D, "y"), text(0x42000A, "color"), text(0x42000B, "red")))], CREATE)
 
+    def test_names_that_the_standard_has_not_are_those_of_vendors(self) -> None:
+        for name, vendor, own in (("Custom Attribute", "unknown", "Custom Attribute"), ("Colour", "unknown", "Colour"),
+                                  ("Batch Count", "unknown", "Batch Count"), ("x-", "x", ""), ("y-x-a", "y", "x-a")):
+            told = [text(0x42009D, vendor), text(0x42000A, own)]
+            old, new = attribute(name, text(0x42000B, "red")), structure(0x420008, *told, text(0x42000B, "red"))
+            self.become([old], [structure(0x420125, new)], LOCATE)
+            self.become([IDENTIFIER, old], [IDENTIFIER, structure(0x420125, new)], ATTRIBUTES, Side.SERVER)
+            self.become([IDENTIFIER, text(0x42000A, name)], [IDENTIFIER, structure(0x42013B, *told)], ATTRIBUTES)
+
+    def test_the_answer_to_what_can_not_be_translated_stays_with_it(self) -> None:
+        asked = request(asking(LOCATE, structure(0x420008)), protocol=(1, 2))
+        answer = response(STAMP, messages.answering(LOCATE, 0, IDENTIFIER), protocol=(1, 2))
+        told: List[str] = []
+        translator = Translator(told.append)
+        self.assertEqual(translator.message(1, Side.CLIENT, asked), asked)
+        self.assertEqual(translator.message(1, Side.SERVER, answer), answer)
+        self.assertEqual(translator.message(2, Side.SERVER, answer), response(
+            STAMP, messages.answering(LOCATE, 0, IDENTIFIER)), "that of another call")
+        self.assertEqual((translator.left, dict(translator.count)), (2, {"1.2": 1}))
+        self.assertEqual(told, ["call 1, request, item 1, Locate: an Attribute without a name; the message is left as "
+                                "it is, and its answer with it"])
+
+    def test_an_identifier_that_means_the_placeholder_goes(self) -> None:
+        placeholder, certify = number(0x420094, 5, 1), number(0x420094, 5, 2)
+        for protocol in (*OLDER, (2, 0), (2, 1)):
+            for operation in (GET, ATTRIBUTES, 0x12, 0x13, 0x14):
+                old = request(asking(CREATE), asking(operation, placeholder), protocol=protocol)
+                self.assertEqual(translated(old)[0], request(asking(CREATE), asking(operation)))
+                other = request(asking(CREATE, placeholder), asking(operation, certify), protocol=protocol,
+                                more=number(0x420010, 6, 1, 8))
+                self.assertEqual(translated(other)[0], request(
+                    asking(CREATE, placeholder), asking(operation, certify), more=number(0x420010, 6, 1, 8)))
+
+    def test_a_batch_that_uses_the_placeholder_is_ordered(self) -> None:
+        items, unordered = [asking(CREATE), asking(GET)], number(0x420010, 6, 0, 8)
+        for protocol in OLDER:
+            asked = request(*items, protocol=protocol)
+            self.assertEqual(translated(asked)[0], request(*items))
+            made = Translator(self.fail, ordered=False).message(1, Side.CLIENT, asked)
+            self.assertEqual(made, request(*items, more=unordered if protocol <= (1, 2) else b""))
+            said = request(*items, protocol=protocol, more=unordered)
+            self.assertEqual(translated(said)[0], request(*items, more=unordered), "what is said counts")
+
     def test_attributes_beside_a_key(self) -> None:
         def shown(*attributes: bytes) -> bytes:
             value = structure(0x420045, messages.item(0x420043, 8, bytes(16)), *attributes)
@@ -174,12 +217,10 @@ class Fields(unittest.TestCase):
                 (CREATE, [structure(0x420091, NAME)], "Create, Template-Attribute: a Name, which stands for"),
                 (CREATE, [structure(0x420091), structure(0x420091)], "Create: a second Template-Attribute"),
                 (REGISTER, [template], "Register: a template as the object"),
-                (LOCATE, [attribute("Colour", number(0x42000B, 2, 1))], "Locate, Colour: the standard has no"),
                 (LOCATE, [structure(0x420008, text(0x42000A, "State"))], "Locate, State: an Attribute without a value"),
                 (LOCATE, [structure(0x420008)], "Locate: an Attribute without a name"),
                 (LOCATE, [MASK_OF_OLD, structure(0x420125)], "Locate: Attributes of the older form and of the newer"),
-                (ATTRIBUTES, [number(0x42000A, 5, 1)], "Get Attributes: an Attribute Name that is no text"),
-                (ATTRIBUTES, [text(0x42000A, "Batch Count")], "Get Attributes, Batch Count: the standard has no")):
+                (ATTRIBUTES, [number(0x42000A, 5, 1)], "Get Attributes: an Attribute Name that is no text")):
             asked = request(asking(GET, IDENTIFIER), asking(operation, *payload), protocol=(1, 2))
             made, told = translated(asked)
             self.assertEqual(made, asked)
@@ -220,6 +261,16 @@ class Word(InFolder):
         self.assertIn("without a place in 2.1, and left out: Attribute Index, 2 times", done.stderr)
         self.assertEqual((self.folder / "new").read_bytes(), (EXAMPLE / "transcript.ttlv").read_bytes())
         self.assertEqual(audit(self.folder, "new"), "yes\n")
+
+    def test_a_batch_of_1_2_is_ordered_unless_that_is_not_asked_for(self) -> None:
+        items = [asking(CREATE), asking(GET)]
+        (self.folder / "old").write_bytes(messages.transcript(begin(1, request(*items, protocol=(1, 2)))))
+        for words, more in (([], b""), (["--ordered"], b""), (["--unordered"], number(0x420010, 6, 0, 8))):
+            done = run("translate", "old", "new", *words, cwd=self.folder)
+            self.assertEqual(done.returncode, 0, done.stderr)
+            self.assertEqual(read_marks(str(self.folder / "new"))[0].message, request(*items, more=more))
+            (self.folder / "new").unlink()
+        self.assertEqual(run("translate", "old", "new", "--ordered", "--unordered", cwd=self.folder).returncode, 64)
 
     def test_what_can_not_be_translated(self) -> None:
         (self.folder / "torn").write_bytes((EXAMPLE / "transcript.ttlv").read_bytes()[:-8])

@@ -2,38 +2,21 @@
 
 from __future__ import annotations
 
-from enum import Enum
 from typing import Dict, List, NamedTuple, Set, Tuple
 
 from .. import ttlv
+from ..hiding import CONTAINERS, Sort, sort_of
 from ..records import records, which
-from ..transcript import CALL, CLIENT, MESSAGE
+from ..tag_names import TAGS_BY_NAME
+from ..tags import FileTag, Tag
 from ..trouble import say
 from ..ttlv import BIG_INTEGER, BYTES, STRUCTURE, TEXT, Item, Kind
+from ..untranslated import Untranslated
 from .replacing import Bytes
 
-ANSWER = 0x540044
-KEY_BLOCK = 0x420040
-KEY_MATERIAL = 0x420043
-NAME_VALUE = 0x420055
-UNIQUE_IDENTIFIER = 0x420094
-PASSWORD = 0x4200A1
-MESSAGES = (MESSAGE, ANSWER)
-SECRETS = (KEY_BLOCK, KEY_MATERIAL)
-
-
-class Sort(Enum):
-    """What a text is to whoever blinds it."""
-
-    NAME = "name"
-    IDENTIFIER = "identifier"
-    CLIENT = "client"
-    PASSWORD = "password"
-    OTHER = "text"
-
-
-OTHER, PASSWORD_SORT = Sort.OTHER, Sort.PASSWORD
-SORTS = {NAME_VALUE: Sort.NAME, UNIQUE_IDENTIFIER: Sort.IDENTIFIER, CLIENT: Sort.CLIENT, PASSWORD: Sort.PASSWORD}
+MESSAGES = (FileTag.MESSAGE, FileTag.ANSWER)
+# What stands in these is a key's, or the means of one who proves who he is.
+KEYS = CONTAINERS | {Tag.KEY_BLOCK, TAGS_BY_NAME["Opaque Data Value"], TAGS_BY_NAME["Derivation Data"]}
 
 
 class Text(NamedTuple):
@@ -44,11 +27,14 @@ class Text(NamedTuple):
 
 
 class Where(NamedTuple):
-    """What an item stands in: the offset from which its place counts, its call, and whether that is a message."""
+    """What an item stands in: the offset from which its place counts, its call, whether that is a message, whether it
+    is a key's, and whether it is a container whose values are all hidden."""
 
     base: int
     call: int
     message: bool
+    key: bool = False
+    contained: bool = False
 
 
 class Opened:
@@ -59,12 +45,15 @@ class Opened:
         self.file = which(path, data)
         self.data = bytearray(data)
         self.secrets: Set[bytes] = set()
-        self.replaced = 0
+        self.strings = 0
+        self.numbers = 0
         self.texts: Dict[Text, List[int]] = {}
+        self.untranslated = Untranslated(path)
         self._replacing = replacing
         for record in records(path, data):
-            call = record.item.first(CALL, Kind.INTEGER)
-            self._open([record.item], Where(record.place, call.value if call else 0, False), False)
+            call = record.item.first(FileTag.CALL, Kind.INTEGER)
+            number = call.value if call and isinstance(call.value, int) else 0
+            self._open([record.item], Where(record.place, number, False))
 
     def first_place(self, text: Text) -> int:
         """The offset at which a text stands first."""
@@ -76,24 +65,34 @@ class Opened:
         for place in self.texts[text]:
             self.data[place:place + len(spelled)] = spelled
 
-    def _open(self, items: List[Item], where: Where, secret: bool) -> None:
+    def _open(self, items: List[Item], where: Where) -> None:
         """Opens these items, and what stands in them."""
         for item in items:
-            tag, kind, value, place = item
+            tag, kind, _, place = item
             place += where.base
             if kind is STRUCTURE:
-                self._open(value, where, secret or tag in SECRETS)
+                self._open(item.children(), where if tag not in KEYS else where._replace(
+                    key=True, contained=where.contained or tag in CONTAINERS))
             elif kind is TEXT:
                 self._fill(place, int.from_bytes(self.data[place - 4:place], "big"))
-                self._note(item, place)
+                self._note(item, place, where)
             elif kind is BYTES or kind is BIG_INTEGER:
-                self._fill(place, len(value))
-                if tag in MESSAGES and not where.message:
-                    self._open_message(item, Where(place, where.call, True))
-                else:
-                    self._replace(item, place, secret or tag in SECRETS)
+                self._open_bytes(item, place, where)
+            elif kind is Kind.LONG_INTEGER:
+                self.numbers += 1
+                self._replace(place, bytes(self.data[place:place + 8]), where.key or tag in KEYS)
             elif kind in ttlv.SHORT_NUMBERS:
                 self._fill(place, 4)
+
+    def _open_bytes(self, item: Item, place: int, where: Where) -> None:
+        value = item.value if isinstance(item.value, bytes) else b""
+        self._fill(place, len(value))
+        if item.tag in MESSAGES and not where.message:
+            self._open_message(value, Where(place, where.call, True))
+            return
+        self.strings += item.kind is BYTES
+        self.numbers += item.kind is BIG_INTEGER
+        self._replace(place, value, where.key or item.tag in KEYS)
 
     def _fill(self, place: int, length: int) -> None:
         """Makes the padding of a value zeros."""
@@ -101,28 +100,31 @@ class Opened:
         if padding:
             self.data[place + length:place + length + padding] = bytes(padding)
 
-    def _open_message(self, item: Item, where: Where) -> None:
+    def _open_message(self, spelled: bytes, where: Where) -> None:
         """Opens the message that these bytes are; what is none can't be read, and becomes zeros."""
+        self.untranslated.take(spelled)
         try:
-            message = ttlv.read_item(item.value)
+            message = ttlv.read_item(spelled)
         except ttlv.NotTtlv as fault:
             say(f"{self.path}: a message of call {where.call} is no TTLV ({fault}): it becomes zeros, and is still "
                 "none")
-            self.data[where.base:where.base + len(item.value)] = bytes(len(item.value))
+            self.data[where.base:where.base + len(spelled)] = bytes(len(spelled))
             return
-        self._open([message], where, False)
+        self._open([message], where)
 
-    def _replace(self, item: Item, place: int, secret: bool) -> None:
-        if secret:
-            self.secrets.add(item.value)
-        self.replaced += 1
-        self.data[place:place + len(item.value)] = self._replacing.of(item.value)
+    def _replace(self, place: int, value: bytes, key: bool) -> None:
+        if key:
+            self.secrets.add(value)
+        self.data[place:place + len(value)] = self._replacing.of(value)
 
-    def _note(self, item: Item, place: int) -> None:
-        sort = SORTS.get(item.tag, OTHER)
-        self.texts.setdefault(Text(sort, item.value), []).append(place)
-        if sort is PASSWORD_SORT:
-            self.secrets.add(item.value.encode("utf-8"))
+    def _note(self, item: Item, place: int, where: Where) -> None:
+        value = item.value if isinstance(item.value, str) else ""
+        sort = sort_of(item.tag, item.kind, value, where.contained)
+        if sort is Sort.HARMLESS:
+            return
+        self.texts.setdefault(Text(sort, value), []).append(place)
+        if sort is Sort.SECRET:
+            self.secrets.add(value.encode("utf-8"))
 
 
 def all_texts(files: List[Opened]) -> Dict[Text, Tuple[str, int]]:

@@ -9,9 +9,11 @@ from hashlib import shake_256
 from typing import Dict, Iterable, List, Set
 
 KEY_LENGTH = 32
+# Up to this length strings of bytes are mostly keys, which come again; longer ones are not remembered.
+LONGEST_REMEMBERED = 1024
 ROUNDS = 10
 LETTERS = "ABCDEFGHIJKLMNOPQRSTUVWXYZabcdefghijklmnopqrstuvwxyz0123456789-_"
-GUESSED = re.compile("undone-[0-9]+")
+GUESSED = re.compile("undone-[1-9][0-9]{0,8}")
 
 
 def fresh_key() -> bytes:
@@ -24,12 +26,17 @@ class Bytes:
 
     def __init__(self, key: bytes) -> None:
         self._key = key
-        self.of = lru_cache(maxsize=65536)(self._of)
+        self._remembered = lru_cache(maxsize=65536)(self._of)
+
+    def of(self, data: bytes) -> bytes:
+        """The bytes that stand in the place of these."""
+        return self._remembered(data) if len(data) <= LONGEST_REMEMBERED else self._of(data)
 
     def _of(self, data: bytes) -> bytes:
-        """The bytes that stand in the place of these."""
         half = 4 * len(data)
-        left, right = divmod(int.from_bytes(data, "big"), 1 << half)
+        whole = int.from_bytes(data, "big")
+        # As divmod, which takes seconds for long ones.
+        left, right = whole >> half, whole & ((1 << half) - 1)
         for number in range(ROUNDS):
             left, right = right, left ^ self._drawn(number, len(data), right)
         return (left << half | right).to_bytes(len(data), "big")

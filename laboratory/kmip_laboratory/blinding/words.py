@@ -4,27 +4,38 @@ from __future__ import annotations
 
 import argparse
 import os
-from typing import Dict, List
+import re
+from typing import Dict, FrozenSet, List
 
 from .. import fresh
+from ..hiding import Sort
 from ..outputs import see_apart
 from ..records import read_file
 from ..trouble import Trouble
 from . import replacing
 from .leaks import Leaks
-from .opening import Opened, Sort, Text, all_texts
+from .opening import Opened, Text, all_texts
 
-HELP = "put other bytes in the place of every key's, in the files of one recording"
-WORD_FOR = {Sort.NAME: "--names", Sort.IDENTIFIER: "--identifiers"}
+HELP = "put others in the place of every key's bytes and of all texts, in the files of one recording"
+# What each word of `--keep` keeps.
+KEEPING = {"names": frozenset({Sort.NAME, Sort.CLIENT}), "identifiers": frozenset({Sort.IDENTIFIER}),
+           "texts": frozenset({Sort.TEXT})}
+# Up to the first of these a client's text says who it is, and behind it over which connection.
+BEHIND_IDENTITY = re.compile("([ /])")
+COUNTED = (Sort.NAME, Sort.IDENTIFIER, Sort.CLIENT, Sort.TEXT, Sort.SECRET)
 
 
-def add(words: argparse._SubParsersAction) -> None:
+def add(words: argparse._SubParsersAction[argparse.ArgumentParser]) -> None:
     """Adds the word."""
-    word = words.add_parser("blind", help=HELP, usage="kmip_record blind IN.. OUT.. [--names] [--identifiers] "
-                            "[--key FILE]", description="See docs/BLINDING.md.")
+    word = words.add_parser("blind", help=HELP, usage="kmip_record blind IN.. OUT.. [--keep WHAT].. [--key FILE]",
+                            description="See docs/BLINDING.md.")
     word.add_argument("files", nargs="+", metavar="FILE", help="files of one recording, and then a new name for each")
-    word.add_argument("--names", action="store_true", help="replace the names of objects too")
-    word.add_argument("--identifiers", action="store_true", help="replace the identifiers of objects too")
+    word.add_argument("--keep", action="append", choices=list(KEEPING), default=[], metavar="WHAT",
+                      help="leave names (of objects and clients), identifiers or texts for people as they are; may be "
+                      "repeated")
+    # What they once asked for is done unless it is to be kept.
+    word.add_argument("--names", action="store_true", help=argparse.SUPPRESS)
+    word.add_argument("--identifiers", action="store_true", help=argparse.SUPPRESS)
     word.add_argument("--key", metavar="FILE", help="keep the key of the replacing in this file, or take it from there")
     word.set_defaults(run=run, parser=word)
 
@@ -34,6 +45,7 @@ def run(words: argparse.Namespace) -> None:
     half = len(words.files) // 2
     if len(words.files) % 2 or not half:
         words.parser.error("as many new names are needed as there are files")
+    kept = _kept(words)
     sources, targets = words.files[:half], words.files[half:]
     has_key = bool(words.key) and os.path.exists(words.key)
     outs = targets + ([words.key] if words.key and not has_key else [])
@@ -42,15 +54,17 @@ def run(words: argparse.Namespace) -> None:
     key = _key(words.key) if has_key else replacing.fresh_key()
     bytes_of = replacing.Bytes(key)
     files = [Opened(path, read_file(path), bytes_of) for path in sources]
-    chosen = _chosen(files, words.names, words.identifiers)
-    found = replacing.texts(key, (text.value for text in chosen))
+    chosen = _chosen(files, kept)
+    found = replacing.texts(key, (part for text in chosen for part in _parts(text)[::2]))
     for opened in files:
         for text in chosen:
             if text in opened.texts:
-                opened.put(text, found[text.value])
+                opened.put(text, _replaced(text, found))
     # The new key comes last among them, where there is one.
     made = [bytes(opened.data) for opened in files] + [key.hex().encode("ascii") + b"\n"]
     fresh.write_all(list(zip(outs, made)))
+    for opened in files:
+        opened.untranslated.tell()
     print(_account(files, chosen))
 
 
@@ -67,26 +81,43 @@ def _key(path: str) -> bytes:
     return key
 
 
-def _chosen(files: List[Opened], names: bool, identifiers: bool) -> List[Text]:
+def _kept(words: argparse.Namespace) -> FrozenSet[Sort]:
+    """What is to stay."""
+    for name, asked in (("names", words.names), ("identifiers", words.identifiers)):
+        if asked and name in words.keep:
+            words.parser.error(f"--{name} and --keep {name} can't be meant at once")
+    return frozenset(sort for each in words.keep for sort in KEEPING[each])
+
+
+def _chosen(files: List[Opened], kept: FrozenSet[Sort]) -> List[Text]:
     """The texts that are replaced; refused where one that is to stay shows a key."""
-    leaks = Leaks(secret for opened in files for secret in opened.secrets)
-    replaced: Dict[Sort, bool] = {
-        Sort.NAME: names, Sort.IDENTIFIER: identifiers, Sort.PASSWORD: True, Sort.CLIENT: False,
-        Sort.OTHER: names or identifiers}
-    chosen = []
+    leaks = Leaks(secret for opened in files for secret in opened.secrets) if kept else Leaks(())
+    chosen: List[Text] = []
     for text, (path, place) in all_texts(files).items():
-        if replaced[text.sort]:
+        if text.sort not in kept:
             chosen.append(text)
         elif leaks.shows(text.value):
-            if text.sort in WORD_FOR:
-                raise Trouble(f"{path} has bytes of a key in the {text.sort.value} at offset {place}: give "
-                              f"{WORD_FOR[text.sort]}, and nothing of it stays")
+            if text.sort is not Sort.TEXT:
+                word = next(each for each, sorts in KEEPING.items() if text.sort in sorts)
+                raise Trouble(f"{path} has bytes of a key in the {text.sort.value} at offset {place}: leave --keep "
+                              f"{word} away, and nothing of it stays")
             chosen.append(text)
     return chosen
 
 
+def _parts(text: Text) -> List[str]:
+    """Of a client's text who it is, what stands behind that, and the connection; of any other text the whole."""
+    return BEHIND_IDENTITY.split(text.value, maxsplit=1) if text.sort is Sort.CLIENT else [text.value]
+
+
+def _replaced(text: Text, found: Dict[str, str]) -> str:
+    """What stands in the place of a text."""
+    return "".join(part if place % 2 else found[part] for place, part in enumerate(_parts(text)))
+
+
 def _account(files: List[Opened], chosen: List[Text]) -> str:
-    counts = [f"{len(files)} files", f"{sum(opened.replaced for opened in files)} strings of bytes"]
-    for sort in Sort:
+    counts = [f"{len(files)} files", f"{sum(opened.strings for opened in files)} strings of bytes",
+              f"{sum(opened.numbers for opened in files)} numbers"]
+    for sort in COUNTED:
         counts.append(f"{sum(text.sort is sort for text in chosen)} {sort.value}s")
     return ", ".join(counts) + " replaced"

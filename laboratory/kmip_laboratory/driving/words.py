@@ -11,6 +11,7 @@ from .. import tls
 from ..address import Address, read_address
 from ..auditor import Auditor
 from ..outputs import see_apart
+from ..plain import plain
 from ..recording import declaration
 from ..trouble import Trouble, WrongWords, hush
 from . import audit, calibrate, certificates, drive, mixes, simulate, wire
@@ -35,8 +36,8 @@ class Parser(argparse.ArgumentParser):
 
 
 def tell(words: str) -> None:
-    """Tells the person at the terminal something."""
-    print(f"kmip_drive: {words}", file=sys.stderr, flush=True)
+    """Tells the person at the terminal something, on one line."""
+    print(f"kmip_drive: {plain(words)}", file=sys.stderr, flush=True)
 
 
 def main(arguments: List[str]) -> int:

@@ -9,6 +9,7 @@ from .. import message
 from ..files import new_folder
 from ..transcript import FILE_HEADER, Begin, Mark, marks_in, spelled_marks_in
 from ..trouble import Trouble, say
+from ..untranslated import Untranslated
 from .segments import Due, Segments
 
 
@@ -69,11 +70,14 @@ def run(source: str, folder: str, segments: Segments) -> str:
     """Makes the folder with the files, tells what is in them, and answers the summary."""
     if not segments.are_asked:
         raise Trouble("`cut` needs --segment-calls or --segment-seconds: after how many a new file is to begin")
+    untranslated = Untranslated(source)
     with new_folder(folder) as made:
         cutter = Cutter(made, segments, never_ended(source))
         for mark, record in spelled_marks_in(source):
+            untranslated.take(mark.message)
             cutter.take(mark, record)
         cutter.close()
+    untranslated.tell()
     for number, count in enumerate(cutter.counts, 1):
         more = ", more than asked for: calls were under way all the time" if segments.calls and (
             count > segments.calls) else ""

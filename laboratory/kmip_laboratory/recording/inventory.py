@@ -1,10 +1,11 @@
-"""What a live server says that it holds, as entries of a declaration. What it does not tell is left out, and said."""
+"""What a live server says that it holds, as entries of a declaration. Nothing is made up: an attribute that it does not
+tell is left out, and so is an object of which it tells what no entry can say; both are said."""
 
 from __future__ import annotations
 
 import ssl
 import time
-from typing import List, NamedTuple, Optional
+from typing import Dict, List, NamedTuple, Optional
 
 from .. import ttlv
 from ..address import Address
@@ -53,14 +54,38 @@ SINGLE = [*OF_KEYS, INITIAL_DATE, ACTIVATION_DATE, DEACTIVATION_DATE, DESTROY_DA
 STATES = ["no State", "Pre-Active", "Active", "Deactivated", "Compromised", "Destroyed", "Destroyed Compromised"]
 
 
-async def entries(server: Address, context: ssl.SSLContext, version: Version, with_bytes: bool) -> List[bytes]:
-    """An entry for each object that the server lists and tells of."""
+# Of each object by its identifier the entry; None where it is left out.
+Held = Dict[str, Optional[bytes]]
+
+
+async def held(server: Address, context: ssl.SSLContext, version: Version, with_bytes: bool) -> Held:
+    """The objects that the server lists to whom it is shown this certificate."""
     async with Questions(server, context, version) as questions:
-        found = []
-        for identifier in await _identifiers(questions, version):
-            entry = await _entry(questions, identifier, with_bytes)
+        return {identifier: await _entry(questions, identifier, with_bytes)
+                for identifier in await _identifiers(questions, version)}
+
+
+def entries(by_client: Dict[str, Held], with_bytes: bool) -> List[bytes]:
+    """An entry for each object of which the server told somebody all that an entry says, and nobody anything else. Who
+    sees an object is told where several asked."""
+    seen: Dict[str, Dict[str, bytes]] = {}
+    for client, objects in by_client.items():
+        for identifier, entry in objects.items():
+            told = seen.setdefault(identifier, {})
             if entry is not None:
-                found.append(entry)
+                told[client] = entry
+    found = []
+    for identifier, told in seen.items():
+        if len(set(told.values())) > 1:
+            say(f"object {identifier}: left out, for {' and '.join(told)} are told different things of it")
+        elif told:
+            found.append(next(iter(told.values())))
+            if len(told) < len(by_client):
+                say(f"object {identifier}: of those that asked, {' and '.join(told)} alone are told of it; a "
+                    "declaration does not say whose it is")
+    if len(found) < len(seen):
+        say(f"{len(seen) - len(found)} objects are left out: where a recorded call succeeds on one of them, the "
+            "auditor will say that there is no such object")
     if found and not with_bytes:
         say("the bytes of keys are left undeclared: the first Get of each will show them (--bytes asks for them)")
     return found
@@ -70,8 +95,8 @@ async def _identifiers(questions: Questions, version: Version) -> List[str]:
     try:
         payload = await questions.ask(Operation.LOCATE, *([] if version in OF_OLD else [ttlv.structure(ATTRIBUTES)]))
     except Failed as failed:
-        raise Trouble(f"the server refused to list its objects: {failed}; servers of 2.0 need --minor 1, "
-                      "and older ones --version, as 1.2") from None
+        raise Trouble(f"the server refused to list its objects: {failed}; servers of older versions need --version, "
+                      "as 2.0 or 1.2") from None
     listed = [item.value for item in payload.every(UNIQUE_IDENTIFIER, Kind.TEXT)]
     located = payload.first(LOCATED_ITEMS, Kind.INTEGER)
     if located and located.value > len(listed):
@@ -91,6 +116,10 @@ async def _entry(questions: Questions, identifier: str, with_bytes: bool) -> Opt
     if object_type is None or object_type.value not in OBJECT_TAGS:
         say(f"object {identifier}: left out, for it is neither a Symmetric Key nor Secret Data, or is not said to be")
         return None
+    conflict = _conflict(told, int(time.time()) if questions.stamp is None else questions.stamp)
+    if conflict:
+        say(f"object {identifier}: left out, for {conflict}")
+        return None
     _say_what_is_missing(identifier, object_type.value, told)
     parts = [named, ttlv.enumeration(OBJECT_TYPE, object_type.value), ttlv.structure(ATTRIBUTES, *_judged(told))]
     if with_bytes and told.first(DESTROY_DATE.tag, DESTROY_DATE.kind) is None:
@@ -109,11 +138,19 @@ def _say_what_is_missing(identifier: str, object_type: int, told: Item) -> None:
     missing = [attribute.name for attribute in wanted if told.first(attribute.tag, attribute.kind) is None]
     if missing:
         say(f"object {identifier}: the server does not tell its {', '.join(missing)}: left out")
+
+
+def _conflict(told: Item, now: int) -> Optional[str]:
+    """Why no entry says what was told of the object's state; None where one does. An entry has dates alone, and the
+    state follows from them."""
     state = told.first(STATE, Kind.ENUMERATION)
-    by_dates = _state(told, int(time.time()))
-    if state and state.value != by_dates:
-        said = STATES[state.value] if state.value < len(STATES) else f"in state {state.value}"
-        say(f"object {identifier}: the server says that it is {said}, but tells no date that makes it so: declared as "
+    if state is None or not isinstance(state.value, int):
+        return "the server does not say in which state it is"
+    by_dates = _state(told, now)
+    if state.value == by_dates:
+        return None
+    said = STATES[state.value] if state.value < len(STATES) else f"in state {state.value}"
+    return (f"the server says that it is {said}, and tells no date that makes it so, but what makes it "
             f"{STATES[by_dates]}")
 
 
@@ -121,7 +158,7 @@ def _state(told: Item, now: int) -> int:
     """The number of the state that the dates told make at this moment."""
     def date(attribute: Attribute) -> Optional[int]:
         item = told.first(attribute.tag, attribute.kind)
-        return item.value if item else None
+        return item.value if item and isinstance(item.value, int) else None
 
     activation, deactivation = date(ACTIVATION_DATE), date(DEACTIVATION_DATE)
     if date(DESTROY_DATE) is not None:

@@ -8,27 +8,32 @@ from typing import Iterator, List, Optional
 from .. import ttlv
 from ..enumerations import REASONS, STATUSES, number_name
 from ..glimpse import Glimpse, Part, identifiers
+from ..hiding import CONTAINERS, is_shown
 from ..message import Side
 from ..operations import Operation, operation_name
+from ..plain import plain
 from ..tag_names import tag_name
-from ..tags import Tag
 from ..transcript import marks_in
 from ..trouble import Trouble
 from ..ttlv import Item, Kind
+from ..untranslated import Untranslated
 from .calls import Call, ordered_calls
 
-HIDDEN = frozenset({Tag.KEY_MATERIAL, Tag.KEY_VALUE, 0x4200A1, 0x4200C2})
 MOST_IDENTIFIERS = 3
 BETWEEN = "  "
 
 
 def lines(path: str) -> Iterator[str]:
     """A line for each call, in the order of their begins: number, client, marks, moment, and each item."""
+    untranslated = Untranslated(path)
     for call in ordered_calls(path):
+        untranslated.take(call.request)
+        untranslated.take(call.response)
         asked, answered = call.asked(), call.answered()
         marks = f"marks {call.first}-{call.last or ''}"
         moment = date(answered.stamp) if answered and answered.stamp is not None else "-"
         yield BETWEEN.join([f"call {call.number}", plain(call.client), marks, moment, *_items(call, asked, answered)])
+    untranslated.tell()
 
 
 def _items(call: Call, asked: Optional[Glimpse], answered: Optional[Glimpse]) -> List[str]:
@@ -61,8 +66,13 @@ def _status(part: Part) -> str:
 
 
 def call_lines(path: str, number: int, with_keys: bool) -> Iterator[str]:
-    """Both messages of a call, an item on a line. What is a key is hidden, unless `with_keys` asks for it."""
-    found = [mark for mark in marks_in(path) if mark.call == number]
+    """Both messages of a call, an item on a line. What may be a key is hidden, unless `with_keys` asks for it."""
+    untranslated = Untranslated(path)
+    found = []
+    for mark in marks_in(path):
+        untranslated.take(mark.message)
+        if mark.call == number:
+            found.append(mark)
     if not found:
         raise Trouble(f"{path} has no call {number}; `kmip_record list {path}` has the numbers of its calls")
     for mark, side in zip(found, Side):
@@ -70,19 +80,20 @@ def call_lines(path: str, number: int, with_keys: bool) -> Iterator[str]:
             yield from item_lines(ttlv.read_item(mark.message), with_keys)
         except ttlv.NotTtlv as fault:
             yield f"no {side.message_name}: {fault}"
+    untranslated.tell()
 
 
-def item_lines(item: Item, with_keys: bool, level: int = 0) -> Iterator[str]:
-    """An item and those in it, each on a line."""
+def item_lines(item: Item, with_keys: bool, level: int = 0, contained: bool = False) -> Iterator[str]:
+    """An item and those in it, each on a line; `contained` where it stands in what is hidden whole."""
     front = "  " * level + tag_name(item.tag)
-    if item.tag in HIDDEN and not with_keys and not (item.tag == Tag.KEY_VALUE and item.kind is Kind.STRUCTURE):
-        yield f"{front}: hidden{_length(item)}"
-    elif item.kind is Kind.STRUCTURE:
+    if item.kind is Kind.STRUCTURE:
         yield front
         for child in item.children():
-            yield from item_lines(child, with_keys, level + 1)
-    else:
+            yield from item_lines(child, with_keys, level + 1, contained or item.tag in CONTAINERS)
+    elif with_keys or is_shown(item.tag, item.kind, item.value, contained):
         yield f"{front}: {_value(item)}"
+    else:
+        yield f"{front}: hidden{_length(item)}"
 
 
 def _length(item: Item) -> str:
@@ -98,11 +109,6 @@ def _value(item: Item) -> str:
         name = number_name(item.tag, item.value)
         return f"{name} ({item.value:X})" if name else f"{item.value:X}"
     return date(item.value) if item.kind is Kind.DATE_TIME else str(item.value)
-
-
-def plain(words: str) -> str:
-    """A text of a message on one line: what no terminal should be sent stands as its number."""
-    return "".join(letter if letter.isprintable() else f"\\u{{{ord(letter):x}}}" for letter in words)
 
 
 def date(seconds: int) -> str:

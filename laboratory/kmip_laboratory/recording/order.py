@@ -7,9 +7,10 @@ from typing import List
 from .. import message, ttlv
 from ..files import write_file
 from ..records import read_file, records
-from ..transcript import CALL, VERSION, End, read_marks
+from ..transcript import CALL, VERSION, End, marks_in
 from ..trouble import say
 from ..ttlv import Kind
+from ..untranslated import Untranslated
 
 HEADER = 0x540040
 TURN = 0x540041
@@ -18,7 +19,13 @@ TURN = 0x540041
 def guess(path: str) -> List[int]:
     """The answered calls by their Time Stamps, and those of the same second by their end marks. It never sets a call
     ahead of one that ended before it began, unless the stamps do."""
-    ends = [mark for mark in read_marks(path) if isinstance(mark, End)]
+    untranslated = Untranslated(path)
+    ends = []
+    for mark in marks_in(path):
+        untranslated.take(mark.message)
+        if isinstance(mark, End):
+            ends.append(mark)
+    untranslated.tell()
     ends.sort(key=lambda end: message.time_stamp(end.message) or 0)
     return [end.call for end in ends]
 

@@ -7,6 +7,7 @@ import sys
 from typing import Iterable
 
 from ..outputs import see_apart
+from ..plain import plain
 from ..sifting import effects, forgetting
 from ..sifting import run as sifting
 from ..translation import run as translation
@@ -27,7 +28,7 @@ def add(words: argparse._SubParsersAction) -> None:
 def _add_list(word: argparse.ArgumentParser) -> None:
     word.add_argument("transcript", metavar="TRANSCRIPT")
     word.add_argument("--call", type=int, metavar="N", help="both messages of this call, in place of a line for each")
-    word.add_argument("--keys", action="store_true", help="show the bytes of keys too, with --call")
+    word.add_argument("--keys", action="store_true", help="show keys, passwords and all other values too, with --call")
     word.set_defaults(run=_list)
 
 
@@ -41,6 +42,10 @@ def _add_cut(word: argparse.ArgumentParser) -> None:
 def _add_translate(word: argparse.ArgumentParser) -> None:
     word.add_argument("transcript", metavar="IN")
     word.add_argument("out", metavar="OUT", help="a new file for the transcript")
+    order = word.add_mutually_exclusive_group()
+    order.add_argument("--ordered", action="store_true", help="take a batch of 1.0 to 1.2 that does not say whether "
+                       "its order counts as ordered where it uses the placeholder, as servers do (the default)")
+    order.add_argument("--unordered", action="store_true", help="take all of these as unordered, as those versions say")
     word.set_defaults(run=_translate)
 
 
@@ -77,7 +82,7 @@ def _cut(words: argparse.Namespace) -> None:
 
 def _translate(words: argparse.Namespace) -> None:
     see_apart([words.out], [words.transcript])
-    print(translation.run(words.transcript, words.out))
+    print(translation.run(words.transcript, words.out, not words.unordered))
 
 
 def _sift(words: argparse.Namespace) -> None:
@@ -99,10 +104,10 @@ def _list(words: argparse.Namespace) -> None:
 
 
 def _print(lines: Iterable[str]) -> None:
-    """Prints lines up to the last, or as long as somebody reads them."""
+    """Prints lines up to the last, or as long as somebody reads them. Names and texts from outside stand in them."""
     try:
         for line in lines:
-            print(line)
+            print(plain(line))
         sys.stdout.flush()
     except BrokenPipeError:
         hush()

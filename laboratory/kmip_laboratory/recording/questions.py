@@ -41,6 +41,8 @@ class Questions:
         self._translator = Translator()
         self._peer: Optional[Peer] = None
         self._asked = 0
+        # The Time Stamp of the last answer, where it had one: the server's clock.
+        self.stamp: Optional[int] = None
 
     async def __aenter__(self) -> Questions:
         try:
@@ -66,6 +68,7 @@ class Questions:
         if received is None:
             raise Trouble(f"{self._server} closed the connection in place of an answer")
         self._asked += 1
+        self.stamp = message.time_stamp(received)
         return _payload_of(message.read(self._translator.message(self._asked, Side.SERVER, received), Side.SERVER))
 
     def _request(self, operation: Operation, payload: tuple[bytes, ...]) -> bytes:

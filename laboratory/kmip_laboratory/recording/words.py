@@ -16,7 +16,7 @@ from ..files import OUT_HINT, see_that_free
 from ..outputs import see_apart
 from ..shrinking import words as shrinking
 from ..trouble import Trouble, WrongWords, say
-from ..versions import JUDGED, NEARLY_JUDGED
+from ..versions import JUDGED
 from . import capture, declaration, identities, inventory, order, passes, proxy
 from .connection import Way
 from .numbers import add_segment_words, read_milliseconds, read_seconds, read_version
@@ -117,13 +117,15 @@ def _add_declare(word: argparse.ArgumentParser) -> None:
     word.add_argument("--server-cert", metavar="FILE", help="certificate that the server is shown, in PEM")
     word.add_argument("--server-key", metavar="FILE", help="its key, in PEM")
     word.add_argument("--server-ca", metavar="FILE", help="authority of the server's certificate")
+    word.add_argument("--as", dest="identities", action="append", default=[], metavar="NAME=CERT,KEY", help="ask as "
+                      "this client too, and declare what any of them is told of; or a folder of NAME.pem and NAME.key; "
+                      "may be repeated")
     word.add_argument("--bytes", action="store_true", help="ask for the bytes of keys too, and declare them")
     word.add_argument("--unique-names", action="store_true", help="declare that live objects never share a name")
     word.add_argument("--reason", type=declaration.read_row, action="append", default=[], metavar="NUMBER=CAUSE",
                       help="a Result Reason that is given only for this cause: NotFound, WrongState or TakenName")
-    asked = word.add_mutually_exclusive_group()
-    asked.add_argument("--minor", choices=["1"], help="ask in version 2.0 in place of 2.1")
-    asked.add_argument("--version", type=read_version, metavar="MAJOR.MINOR", help="ask in this version, from 1.0 on")
+    word.add_argument("--version", type=read_version, metavar="MAJOR.MINOR", default=JUDGED,
+                      help="ask in this version, from 1.0 on (2.1)")
     word.add_argument("--out", required=True, metavar="DECLARATION", help="a new file for it")
     word.add_argument("--force", action="store_true", help=FORCE_HELP)
     word.set_defaults(run=_declare)
@@ -183,18 +185,29 @@ def _keylog(words: argparse.Namespace) -> None:
 
 
 def _declare(words: argparse.Namespace) -> None:
-    see_apart([words.out], [words.server_cert, words.server_key, words.server_ca])
+    shown = identities.read_identities(words.identities)
+    see_apart([words.out], [words.server_cert, words.server_key, words.server_ca,
+                            *(path for each in shown for path in (each.certificate, each.key))])
     see_that_free(words.out, words.force, OUT_HINT)
     entries: List[bytes] = []
     if words.server:
-        if not (words.server_cert and words.server_key and words.server_ca):
-            raise Trouble("to ask a server, give --server-cert, --server-key and --server-ca")
-        context = tls.toward_server(words.server_cert, words.server_key, words.server_ca)
-        version = words.version or (NEARLY_JUDGED if words.minor else JUDGED)
-        if version != JUDGED:
-            say(f"the server is asked in version {version}")
-        entries = asyncio.run(inventory.entries(words.server, context, version, words.bytes))
+        if words.version != JUDGED:
+            say(f"the server is asked in version {words.version}")
+        by_client = {name: asyncio.run(inventory.held(words.server, context, words.version, words.bytes))
+                     for name, context in _asking(words, shown).items()}
+        entries = inventory.entries(by_client, words.bytes)
     print(declaration.run(words.unique_names, words.reason, entries, words.out, words.force))
+
+
+def _asking(words: argparse.Namespace, shown: List[identities.Identity]) -> Dict[str, ssl.SSLContext]:
+    """TLS toward the server for each as whom it is asked."""
+    pair = (words.server_cert, words.server_key)
+    if not words.server_ca or None in pair and (any(pair) or not shown):
+        raise Trouble("to ask a server, give --server-ca, and --server-cert with --server-key, or --as")
+    asking = identities.contexts(shown, words.server_ca)
+    if all(pair):
+        asking = {"the certificate of --server-cert": tls.toward_server(*pair, words.server_ca), **asking}
+    return asking
 
 
 def _order(words: argparse.Namespace) -> None:

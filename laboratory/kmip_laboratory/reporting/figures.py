@@ -6,6 +6,7 @@ import re
 from typing import Dict, List, Tuple
 
 from ..calls import Call
+from ..plain import plain
 from .judging import Judged, came_to, operations
 
 KINDS = ["success", "failed", "refused", "undone", "open"]
@@ -22,7 +23,8 @@ def figures(judged: Judged, recording: int, lines: Dict[str, int]) -> Dict[str, 
     shown = [judged.messages.of_call.get(call.number, ([], [])) for call in calls]
     return {
         "recording": recording, "fault": judged.verdict.call, "story": judged.named(),
-        "marks": len(marks), "clients": clients, "lanes": [clients.index(client) for client in lanes], "what": does,
+        "marks": len(marks), "clients": list(map(plain, clients)),
+        "lanes": [clients.index(client) for client in lanes], "what": does,
         "number": [call.number for call in calls], "begin": [marks[call.begin] for call in calls],
         "end": [-1 if call.end is None else marks[call.end] for call in calls],
         "lane": [lane_of[call.number] for call in calls], "kind": [KINDS.index(came_to(call)) for call in calls],

@@ -92,9 +92,9 @@ def find(paths: List[str]) -> List[str]:
     return found
 
 
-def judge(folder: str, budget: Optional[int], others: bool = False) -> Judged:
+def judge(folder: str, budget: Optional[int], others: bool = False, with_keys: bool = False) -> Judged:
     """Asks the auditor: a check where there is a witness, else a search; and of a witness that is refused a search
-    too, where other orders are asked for."""
+    too, where other orders are asked for. `with_keys` lets all values of messages be seen."""
     auditor = Auditor()
     transcript, declaration, witness = (os.path.join(folder, name) for name in (TRANSCRIPT, DECLARATION, WITNESS))
     files = [_digest(path) for path in (transcript, declaration, witness) if path != witness or os.path.exists(path)]
@@ -119,7 +119,7 @@ def judge(folder: str, budget: Optional[int], others: bool = False) -> Judged:
     command = " ".join(["kmip_audit", *map(shlex.quote, words)])
     readable = verdict.outcome not in (Outcome.MALFORMED, Outcome.DEVICE, Outcome.MEMORY)
     calls = read_transcript(transcript).calls if readable else []
-    messages = read_messages(auditor, transcript) if readable else Messages([], {})
+    messages = read_messages(auditor, transcript, with_keys) if readable else Messages([], {})
     return Judged(folder, verdict, command, verdict.version or auditor.version(), files, calls, turns, messages, seconds,
                   searched and searched._replace(decided=_decides(searched, budget, calls)))
 

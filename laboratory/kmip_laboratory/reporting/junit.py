@@ -2,15 +2,14 @@
 
 from __future__ import annotations
 
-import re
 from typing import List
 from xml.etree import ElementTree
 
+from ..plain import plain_lines
 from ..verdicts import Outcome
 from .judging import Judged
 from .reasons import in_short, in_words
 
-NO_XML = re.compile("[^\t\n\r\x20-\ud7ff\ue000-\ufffd\U00010000-\U0010ffff]")
 JUDGED = (Outcome.YES, Outcome.NO, Outcome.GAVE_UP)
 
 
@@ -21,17 +20,12 @@ def told(recordings: List[Judged]) -> str:
     suite = ElementTree.Element("testsuite", name="kmip_audit", tests=str(len(recordings)), failures=str(failures),
                                 errors=str(errors), time=f"{sum(judged.seconds for judged in recordings):.3f}")
     for judged in recordings:
-        case = ElementTree.SubElement(suite, "testcase", classname="kmip_audit", name=_text(judged.folder),
+        case = ElementTree.SubElement(suite, "testcase", classname="kmip_audit", name=plain_lines(judged.folder),
                                       time=f"{judged.seconds:.3f}")
         if judged.verdict.outcome is not Outcome.YES:
             kind = "failure" if judged.verdict.outcome in JUDGED else "error"
-            trouble = ElementTree.SubElement(case, kind, message=in_words(judged.verdict),
+            trouble = ElementTree.SubElement(case, kind, message=plain_lines(in_words(judged.verdict)),
                                              type=in_short(judged.verdict))
             lines = [*judged.verdict.lines, *judged.verdict.explanation, f"$ {judged.command}"]
-            trouble.text = _text("\n".join(lines))
+            trouble.text = plain_lines("\n".join(lines))
     return '<?xml version="1.0" encoding="utf-8"?>\n' + ElementTree.tostring(suite, encoding="unicode") + "\n"
-
-
-def _text(words: str) -> str:
-    """The words without what XML can't hold."""
-    return NO_XML.sub("?", words)

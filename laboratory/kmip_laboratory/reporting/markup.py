@@ -8,6 +8,8 @@ import html
 import json
 from typing import List, Union
 
+from ..plain import plain, plain_lines
+
 EMPTY = ("meta", "hr")
 
 
@@ -19,10 +21,12 @@ Part = Union[str, Markup]
 
 
 def element(tag: str, *parts: Part, **attributes: object) -> Markup:
-    """An element with these parts; a part that is no markup is text. `of` stands for `class`, `_` for `-`."""
-    told = "".join(f' {_name(name)}="{html.escape(str(value))}"' for name, value in attributes.items()
+    """An element with these parts; a part that is no markup is text, which has lines in `pre` alone. `of` stands for
+    `class`, `_` for `-`."""
+    shown = plain_lines if tag == "pre" else plain
+    told = "".join(f' {_name(name)}="{html.escape(plain(str(value)))}"' for name, value in attributes.items()
                    if value is not None)
-    inside = "".join(part if isinstance(part, Markup) else html.escape(part) for part in parts)
+    inside = "".join(part if isinstance(part, Markup) else html.escape(shown(part)) for part in parts)
     return Markup(f"<{tag}{told}>" if tag in EMPTY else f"<{tag}{told}>{inside}</{tag}>")
 
 

@@ -1,18 +1,23 @@
-"""The messages of a transcript as `kmip_audit show` prints them, with the bytes of keys hidden."""
+"""The messages of a transcript as `kmip_audit show` prints them, without what may be a key."""
 
 from __future__ import annotations
 
 import re
-from typing import Dict, List, NamedTuple, Tuple
+from typing import Dict, List, NamedTuple, Optional, Tuple
 
 from ..auditor import Auditor
+from ..hiding import CONTAINERS, is_shown
+from ..ttlv import Kind
 
 MARK = re.compile(r"5400(?P<side>[12])0 - Structure")
 CALL = re.compile(r"  540011 - Integer (?P<call>-?\d+)")
 MESSAGE = "    "
-HIDDEN = re.compile(r"(?P<head> *(?P<tag>[0-9A-F]{6}) .* (?:Bytes|BigInteger)) (?P<digits>[0-9a-f]+)")
-BATCH_ITEM_ID = "420093"
-PASSWORD = re.compile(r'(?P<head> *4200A1 .* Text) ".*')
+# An item: how far in it stands, its tag and name, its type, and its value where it has one.
+ITEM = re.compile(r"(?P<head>(?P<level> *)(?P<tag>[0-9A-F]{6}) [^\"]*? ?(?P<kind>Structure|Text|Bytes|BigInteger|"
+                  r"LongInteger))(?: (?P<value>.*))?")
+KINDS = {"Structure": Kind.STRUCTURE, "Text": Kind.TEXT, "Bytes": Kind.BYTES, "BigInteger": Kind.BIG_INTEGER,
+         "LongInteger": Kind.LONG_INTEGER}
+WITH_LENGTH = (Kind.BYTES, Kind.BIG_INTEGER)
 
 
 class Messages(NamedTuple):
@@ -22,8 +27,35 @@ class Messages(NamedTuple):
     of_call: Dict[int, Tuple[List[int], List[int]]]
 
 
-def read_messages(auditor: Auditor, transcript: str) -> Messages:
-    """What the auditor shows of a transcript's messages."""
+class Hiding:
+    """Hides what may be a key, line by line; `with_keys` lets all be seen."""
+
+    def __init__(self, with_keys: bool) -> None:
+        self._with_keys = with_keys
+        self._container: Optional[int] = None
+
+    def line(self, line: str) -> str:
+        """The line, without its value where that is hidden."""
+        found = ITEM.fullmatch(line)
+        level = len(line) - len(line.lstrip(" "))
+        if self._container is not None and level <= self._container:
+            self._container = None
+        if found is None or self._with_keys:
+            return line
+        tag, kind, value = int(found["tag"], 16), KINDS[found["kind"]], found["value"] or ""
+        if kind is Kind.STRUCTURE:
+            if tag in CONTAINERS and self._container is None:
+                self._container = level
+            return line
+        if is_shown(tag, kind, value[1:-1] if kind is Kind.TEXT else value, self._container is not None):
+            return line
+        length = f"{len(value) // 2} bytes, " if kind in WITH_LENGTH else ""
+        return f"{found['head']} ({length}hidden)"
+
+
+def read_messages(auditor: Auditor, transcript: str, with_keys: bool = False) -> Messages:
+    """What the auditor shows of a transcript's messages, without what may be a key unless it is asked for."""
+    hiding = Hiding(with_keys)
     known: Dict[str, int] = {}
     of_call: Dict[int, Tuple[List[int], List[int]]] = {}
     side, into = 0, []
@@ -34,14 +66,5 @@ def read_messages(auditor: Auditor, transcript: str) -> Messages:
         elif call:
             into = of_call.setdefault(int(call["call"]), ([], []))[side]
         elif line.startswith(MESSAGE):
-            into.append(known.setdefault(_hidden(line[len(MESSAGE):]), len(known)))
+            into.append(known.setdefault(hiding.line(line[len(MESSAGE):]), len(known)))
     return Messages(list(known), of_call)
-
-
-def _hidden(line: str) -> str:
-    """The line without the bytes in it, or a password."""
-    found = HIDDEN.fullmatch(line)
-    if found and found["tag"] != BATCH_ITEM_ID:
-        return f"{found['head']} ({len(found['digits']) // 2} bytes, hidden)"
-    found = PASSWORD.fullmatch(line)
-    return f"{found['head']} (hidden)" if found else line

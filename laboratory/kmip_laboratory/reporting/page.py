@@ -6,6 +6,7 @@ from datetime import datetime
 from pathlib import Path
 from typing import Dict, List, Optional, Sequence
 
+from ..plain import plain
 from ..verdicts import Outcome
 from .counts import by_verdict, crosses, period
 from .explanation import Story, split, story
@@ -44,7 +45,7 @@ def page(recordings: List[Judged], made: datetime) -> str:
         parts.append(_overview(recordings))
     parts += [_recording(judged, number, judged.folder if len(recordings) > 1 else "Verdict")
               for number, judged in enumerate(recordings, 1)]
-    parts.append(data({"lines": list(lines), "recordings": told}, "data"))
+    parts.append(data({"lines": list(map(plain, lines)), "recordings": told}, "data"))
     parts += [element("script", Markup(script)) for script in scripts]
     body = element("body", element("main", together(parts)))
     return "<!DOCTYPE html>\n" + element("html", head, body, lang="en") + "\n"

@@ -8,6 +8,7 @@ from datetime import datetime
 from typing import Iterator, List, Sequence
 
 from ..calls import Call
+from ..plain import plain
 from .counts import Cross, by_verdict, crosses, period
 from .judging import Judged, came_to, operations
 from .reasons import PREMISES, in_short, in_words, of_others
@@ -25,7 +26,7 @@ def told(recordings: List[Judged], made: datetime) -> str:
     """The report of these recordings, of many a line for each first, and at the end what a verdict means."""
     parts = [_overview(recordings)] if len(recordings) > 1 else []
     parts += [_recording(judged, made) for judged in recordings] + [_filled(PREMISES)]
-    return "\n\n".join("\n".join(_harmless(line) for line in lines) for lines in parts)
+    return "\n\n".join("\n".join(map(plain, lines)) for lines in parts)
 
 
 def _overview(recordings: List[Judged]) -> List[str]:
@@ -67,7 +68,7 @@ def _timeline(judged: Judged) -> List[str]:
     for call in some:
         sign = ">" if call is refused else "*" if call.number in named else " "
         turn = judged.turns.get(call.number)
-        told = f"{sign}{call.number:>6} {call.client[:12]:<12} |{_bar(call, first, last)}| {operations(call)[:20]:<20}"
+        told = f"{sign}{call.number:>6} {plain(call.client)[:12]:<12} |{_bar(call, first, last)}| {operations(call)[:20]:<20}"
         lines.append((told + (f" turn {turn}" if turn else "")).rstrip())
     return lines
 
@@ -91,13 +92,13 @@ def _cross(cross: Cross) -> Iterator[str]:
 
 
 def _row(name: str, cells: Sequence[object]) -> str:
-    return f"{name[:NAME]:<{NAME}}" + "".join(f"{cell!s:>{CELL}}" for cell in cells)
+    return f"{plain(name)[:NAME]:<{NAME}}" + "".join(f"{cell!s:>{CELL}}" for cell in cells)
 
 
 def _command(command: str) -> Iterator[str]:
     """The command, over as many lines as it needs; a shell takes them as one."""
     line = "  $"
-    for word in map(shlex.quote, shlex.split(command)):
+    for word in map(plain, map(shlex.quote, shlex.split(command))):
         if len(line) + len(word) + 3 > COLUMNS:
             yield f"{line} \\"
             line = DEEPER[:-1]
@@ -106,15 +107,10 @@ def _command(command: str) -> Iterator[str]:
 
 
 def _filled(words: str) -> List[str]:
-    return textwrap.wrap(words, COLUMNS)
+    return textwrap.wrap(plain(words), COLUMNS)
 
 
 def _broken(line: str) -> List[str]:
     """A line as it is, or broken where it is too long for one of the terminal's."""
-    return textwrap.wrap(line, COLUMNS, subsequent_indent=DEEPER, break_on_hyphens=False, replace_whitespace=False,
-                         expand_tabs=False) or [line]
-
-
-def _harmless(line: str) -> str:
-    """The line without letters that a terminal takes for orders."""
-    return "".join(letter if letter.isprintable() else "?" for letter in line)
+    return textwrap.wrap(plain(line), COLUMNS, subsequent_indent=DEEPER, break_on_hyphens=False,
+                         replace_whitespace=False, expand_tabs=False) or [plain(line)]

@@ -91,6 +91,7 @@ def _parser() -> Parser:
     parser.add_argument("--jobs", type=_jobs, default=os.cpu_count() or 1, metavar="N",
                         help="recordings judged at once")
     parser.add_argument("--force", action="store_true", help="write over files that are there")
+    parser.add_argument("--keys", action="store_true", help="show keys, passwords and all other values too")
     parser.add_argument("--others", action="store_true",
                         help="search too where a witness is refused: whether another order explains the calls")
     parser.add_argument("--budget", type=int, metavar="N", help="the most steps of a search")
@@ -105,9 +106,9 @@ def _jobs(told: str) -> int:
 
 def _judged(folders: List[str], words: argparse.Namespace) -> List[Judged]:
     if len(folders) == 1:
-        return [judge(folders[0], words.budget, words.others)]
+        return [judge(folders[0], words.budget, words.others, words.keys)]
     with ProcessPoolExecutor(min(words.jobs, len(folders))) as pool:
-        return list(pool.map(partial(judge, budget=words.budget, others=words.others), folders))
+        return list(pool.map(partial(judge, budget=words.budget, others=words.others, with_keys=words.keys), folders))
 
 
 def _write(words: argparse.Namespace, recordings: List[Judged], made: datetime) -> None:

@@ -10,6 +10,7 @@ from ..auditor import Auditor
 from ..calls import Call, read_transcript
 from ..outputs import see_apart
 from ..trouble import Trouble, say
+from ..untranslated import Untranslated
 from .parts import has_effect, is_plain, read_declaration
 from .smallest import shrunk
 from .trials import Answer, Trials
@@ -49,6 +50,7 @@ def run(words: argparse.Namespace) -> None:
     see_apart(outs, [words.transcript, words.source, auditor.file])
     fresh.refuse_present(outs)
     transcript = read_transcript(words.transcript)
+    _tell_untranslated(words.transcript, transcript.calls)
     declaration = read_declaration(words.source)
     with Trials(transcript, declaration, not words.declaration, words.budget, auditor) as trials:
         answer, verdict = trials.answer(transcript.calls)
@@ -61,6 +63,14 @@ def run(words: argparse.Namespace) -> None:
         fresh.write_all(list(zip(outs, trials.files(found))))
         say(f"{trials.asked} searches were asked for")
         print(_account(found, transcript.calls, trials))
+
+
+def _tell_untranslated(path: str, calls: List[Call]) -> None:
+    untranslated = Untranslated(path)
+    for call in calls:
+        untranslated.take(call.request)
+        untranslated.take(call.response)
+    untranslated.tell()
 
 
 def _account(found: List[Call], calls: List[Call], trials: Trials) -> str:

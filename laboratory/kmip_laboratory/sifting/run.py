@@ -10,16 +10,21 @@ from ..recording.rewriting import rewrite
 from ..transcript import Begin, Mark
 from ..trouble import say
 from ..ttlv import NotTtlv
+from ..untranslated import Untranslated
 from .forgetting import places_of, request_without, response_without
 from .sorting import Sorted
 
 
 def table(source: str, also: FrozenSet[int]) -> List[str]:
     """How many calls of each sort, operation, version and client there are."""
-    calls = Sorted(also)
+    calls, untranslated = Sorted(also), Untranslated(source)
     for call in calls_in(source):
+        untranslated.take(call.request)
+        untranslated.take(call.response)
         calls.take(call, call.asked(), call.answered())
-    return calls.table_lines() + calls.unknown_lines()
+    calls.settle()
+    untranslated.tell()
+    return calls.table_lines() + calls.impossible_lines() + calls.unknown_lines()
 
 
 class Sifting:
@@ -30,12 +35,16 @@ class Sifting:
         self.changed = 0
         self._forgotten = forgotten
         self._places: Dict[int, List[int]] = {}
+        self.untranslated = Untranslated(source)
         for call in calls_in(source):
+            self.untranslated.take(call.request)
+            self.untranslated.take(call.response)
             asked, answered = call.asked(), call.answered()
             self.calls.take(call, asked, answered)
             places = [] if call.number in self.calls.dropped else places_of(asked, answered)
             if places:
                 self._places[call.number] = places
+        self.calls.settle()
 
     def mark(self, mark: Mark) -> Optional[Mark]:
         """The mark as it is to stay, if it is. A message that is no TTLV within stays, and the auditor tells it."""
@@ -60,10 +69,11 @@ def run(source: str, target: str, also: FrozenSet[int], forgotten: FrozenSet[int
     see_that_free(target)
     sifting = Sifting(source, also, forgotten)
     rewrite(source, target, sifting.mark)
+    sifting.untranslated.tell()
     for cause, count in sifting.calls.causes.most_common():
         say(f"left out: {count} calls, {cause}")
     if sifting.changed:
         say(f"attributes were taken out of {sifting.changed} messages of Get Attributes")
-    for line in sifting.calls.unknown_lines():
+    for line in sifting.calls.impossible_lines() + sifting.calls.unknown_lines():
         say(line)
     return f"{sifting.calls.kept} calls kept, {len(sifting.calls.dropped)} left out"

@@ -6,7 +6,7 @@ from typing import Counter, List
 
 from .. import ttlv
 from ..slices import Slice, slices_of, structure, with_tag
-from ..tag_names import tag_of_name
+from ..tag_names import TAGS_BY_NAME
 from ..tags import Tag
 from ..ttlv import Kind, front
 
@@ -21,8 +21,10 @@ X.509 Certificate Issuer; Digital Signature Algorithm; Fresh; Alternative Name; 
 Original Creation Date; Random Number Generator; PKCS#12 Friendly Name; Description; Comment; Sensitive;
 Always Sensitive; Extractable; Never Extractable
 """.replace("\n", " ").strip().split("; "))
-# Who made an attribute of his own, a client or the server, was the beginning of its name.
+# Who made an attribute of his own, a client or the server, was the beginning of its name; now it is its vendor (KMIP
+# 2.1, Vendor Attributes). Of other names it is not known who made them.
 VENDOR_PREFIXES = ("x-", "y-")
+UNKNOWN_VENDOR = "unknown"
 
 ATTRIBUTE = front(Tag.ATTRIBUTE, Kind.STRUCTURE)
 ATTRIBUTE_INDEX = front(Tag.ATTRIBUTE_INDEX, Kind.INTEGER)
@@ -56,9 +58,9 @@ def attribute(item: Slice, where: str, lost: Lost) -> bytes:
         raise Guess(f"{where}: an Attribute without a name")
     if value is None:
         raise Guess(f"{where}, {name}: an Attribute without a value")
-    if name.startswith(VENDOR_PREFIXES):
+    if name not in NAMES:
         return structure(ATTRIBUTE, _vendor(name) + value.whole)
-    return with_tag(_tag(name, where), value)
+    return with_tag(TAGS_BY_NAME[name], value)
 
 
 def reference(item: Slice, where: str) -> bytes:
@@ -66,16 +68,12 @@ def reference(item: Slice, where: str) -> bytes:
     if item.front != ATTRIBUTE_NAME:
         raise Guess(f"{where}: an Attribute Name that is no text")
     name = item.text()
-    if name.startswith(VENDOR_PREFIXES):
+    if name not in NAMES:
         return structure(VENDOR_REFERENCE, _vendor(name))
-    return ttlv.enumeration(Tag.ATTRIBUTE_REFERENCE, _tag(name, where))
+    return ttlv.enumeration(Tag.ATTRIBUTE_REFERENCE, TAGS_BY_NAME[name])
 
 
 def _vendor(name: str) -> bytes:
-    return ttlv.text(Tag.VENDOR_IDENTIFICATION, name[:1]) + ttlv.text(Tag.ATTRIBUTE_NAME, name[2:])
-
-
-def _tag(name: str, where: str) -> int:
-    if name not in NAMES:
-        raise Guess(f"{where}, {name}: the standard has no attribute of this name")
-    return tag_of_name(name)
+    """What names an attribute that the standard does not name."""
+    vendor, own = (name[:1], name[2:]) if name.startswith(VENDOR_PREFIXES) else (UNKNOWN_VENDOR, name)
+    return ttlv.text(Tag.VENDOR_IDENTIFICATION, vendor) + ttlv.text(Tag.ATTRIBUTE_NAME, own)

@@ -4,52 +4,93 @@ from __future__ import annotations
 
 from collections import Counter
 from functools import lru_cache
-from typing import Callable, Dict, List, Optional
+from typing import Callable, Dict, List, Optional, Set
 
 from .. import ttlv
-from ..glimpse import MAJOR, MINOR, Glimpse, glimpse
+from ..glimpse import MAJOR, MINOR, Glimpse, Part, glimpse
 from ..message import Side
-from ..operations import operation_name
+from ..operations import Operation, operation_name
 from ..slices import Change, changed
 from ..tags import Tag
 from ..trouble import say
-from ..versions import JUDGED, NEARLY_JUDGED, TRANSLATED, Version
+from ..versions import JUDGED, OF_OLD, TRANSLATED, Version
 from .attributes import Guess, Lost
-from .payloads import REQUESTS, RESPONSES
+from .payloads import REQUESTS, RESPONSES, Payload, names_object, without_placeholder
 
 # Up to this version a batch that does not say whether its order counts was one whose order does not.
 LAST_WITHOUT_ORDER = Version(1, 2)
+# Operations on one object, which they name or have from the placeholder: the judged ones, and all up to this version.
+JUDGED_ON_OBJECTS = frozenset({Operation.GET, Operation.GET_ATTRIBUTES, Operation.ACTIVATE, Operation.REVOKE,
+                               Operation.DESTROY})
+ON_OBJECTS = JUDGED_ON_OBJECTS | {
+    Operation.GET_ATTRIBUTE_LIST, Operation.ADD_ATTRIBUTE, Operation.MODIFY_ATTRIBUTE, Operation.DELETE_ATTRIBUTE,
+    Operation.ARCHIVE, Operation.RECOVER, Operation.CHECK, Operation.OBTAIN_LEASE, Operation.GET_USAGE_ALLOCATION,
+    Operation.RE_KEY, Operation.RE_KEY_KEY_PAIR, Operation.RE_CERTIFY, Operation.ENCRYPT, Operation.DECRYPT,
+    Operation.SIGN, Operation.SIGNATURE_VERIFY, Operation.MAC, Operation.MAC_VERIFY}
 
 
 class Translator:
     """Translates the messages of calls, requests ahead of their answers. `count` has how many of each version were
-    translated, `left` how many were not, and `lost` which fields have no place in 2.1."""
+    translated, `left` how many were not, and `lost` which fields have no place in 2.1. `ordered` takes a batch that
+    does not say whether its order counts as ordered where it uses the placeholder, as servers of these versions do."""
 
-    def __init__(self, tell: Callable[[str], None] = say) -> None:
+    def __init__(self, tell: Callable[[str], None] = say, ordered: bool = True) -> None:
         self._tell = tell
+        self._ordered = ordered
         self._asked: Dict[int, List[int]] = {}
+        self._unasked: Set[int] = set()
         self.count: Counter[str] = Counter()
         self.lost: Lost = Counter()
         self.left = 0
 
     def message(self, call: int, side: Side, message: bytes) -> bytes:
-        """The message in version 2.1; as it is where it is of no older version, or can't be translated."""
+        """The message in version 2.1; as it is where it is of no older version, or can't be translated. The answer to a
+        request that could not be stays with it."""
         seen = glimpse(message, side)
         if side is Side.CLIENT:
             self._asked[call] = operations = [part.operation or 0 for part in seen.parts] if seen else []
         else:
             operations = self._operations_of(call, seen)
-        if seen is None or seen.version not in TRANSLATED:
+        if seen is None or seen.version not in (*TRANSLATED, JUDGED):
+            return message
+        if side is Side.SERVER and call in self._unasked:
+            self._unasked.remove(call)
+            self.left += seen.version != JUDGED
             return message
         try:
-            made = _translated(message, side, seen, operations, self.lost)
+            made = self._translated(message, side, seen, operations)
         except (Guess, ttlv.NotTtlv) as fault:
-            name = "request" if side is Side.CLIENT else "response"
-            self._tell(f"call {call}, {name}, {fault}; the message is left as it is")
-            self.left += 1
+            self._leave(call, side, fault)
             return message
-        self.count[str(seen.version)] += 1
+        if made != message:
+            self.count[str(seen.version)] += 1
         return made
+
+    def _leave(self, call: int, side: Side, fault: Exception) -> None:
+        """Counts and tells a message that is left as it is."""
+        self.left += 1
+        if side is Side.CLIENT:
+            self._unasked.add(call)
+            self._tell(f"call {call}, request, {fault}; the message is left as it is, and its answer with it")
+        else:
+            self._tell(f"call {call}, response, {fault}; the message is left as it is")
+
+    def _translated(self, message: bytes, side: Side, seen: Glimpse, operations: List[int]) -> bytes:
+        found: Lost = Counter()
+        changes = [] if seen.version == JUDGED else [_version_change(message, seen)]
+        if side is Side.CLIENT and self._is_unordered(message, seen, operations):
+            changes += _without_order(message, seen)
+        for place, (part, operation) in enumerate(zip(seen.parts, operations), 1):
+            where = f"item {place}, {operation_name(operation)}"
+            changes += _of_payload(message, part, _steps(side, seen.version, operation), where, found)
+        self.lost.update(found)
+        return changed(message, changes) if changes else message
+
+    def _is_unordered(self, message: bytes, seen: Glimpse, operations: List[int]) -> bool:
+        """Whether a batch that does not say so is one whose order does not count."""
+        if len(operations) < 2 or seen.version is None or seen.version > LAST_WITHOUT_ORDER:
+            return False
+        return not (self._ordered and _uses_placeholder(message, seen, operations))
 
     def _operations_of(self, call: int, seen: Optional[Glimpse]) -> List[int]:
         """The operations of the items of an answer; where one names none, it is that of its request's item."""
@@ -58,25 +99,37 @@ class Translator:
         return [part.operation or (asked[place] if place < len(asked) else 0) for place, part in enumerate(parts)]
 
 
-def _translated(message: bytes, side: Side, seen: Glimpse, operations: List[int], lost: Lost) -> bytes:
-    table = REQUESTS if side is Side.CLIENT else RESPONSES
+def _steps(side: Side, version: Optional[Version], operation: int) -> List[Payload]:
+    """What is done to a payload, one step after the other. From 2.0 on the placeholder alone has a form that is not
+    judged."""
+    steps = [without_placeholder] if side is Side.CLIENT and operation in JUDGED_ON_OBJECTS else []
+    older = (REQUESTS if side is Side.CLIENT else RESPONSES).get(operation) if version in OF_OLD else None
+    return steps + ([older] if older else [])
+
+
+def _of_payload(message: bytes, part: Part, steps: List[Payload], where: str, lost: Lost) -> List[Change]:
+    """What becomes of the payload of an item."""
+    if not part.payload or not steps:
+        return []
+    start, stop = part.payload
+    payload = made = message[start:stop]
+    try:
+        for step in steps:
+            made = step(made, "", lost)
+    except Guess as fault:
+        raise Guess(f"{where}{fault}") from None
+    return [] if made == payload else [Change((ttlv.HEADER_LENGTH, part.place, start), start, stop, made)]
+
+
+def _uses_placeholder(message: bytes, seen: Glimpse, operations: List[int]) -> bool:
+    """Whether an item is about the object in the placeholder."""
+    return any(operation in ON_OBJECTS and not (part.payload and names_object(message[slice(*part.payload)]))
+               for operation, part in zip(operations, seen.parts))
+
+
+def _version_change(message: bytes, seen: Glimpse) -> Change:
     start, stop = seen.version_place
-    changes = [Change((), start, stop, _judged_version(message[start:stop]))]
-    found: Lost = Counter()
-    if seen.version != NEARLY_JUDGED:
-        if side is Side.CLIENT and len(operations) > 1 and seen.version <= LAST_WITHOUT_ORDER:
-            changes += _without_order(message, seen)
-        for place, part in enumerate(seen.parts):
-            change = table.get(operations[place])
-            if change and part.payload:
-                start, stop = part.payload
-                try:
-                    made = change(message[start:stop], "", found)
-                except Guess as fault:
-                    raise Guess(f"item {place + 1}, {operation_name(operations[place])}{fault}") from None
-                changes.append(Change((ttlv.HEADER_LENGTH, part.place, start), start, stop, made))
-    lost.update(found)
-    return changed(message, changes)
+    return Change((), start, stop, _judged_version(message[start:stop]))
 
 
 @lru_cache(maxsize=64)

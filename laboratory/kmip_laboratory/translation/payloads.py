@@ -2,7 +2,7 @@
 
 from __future__ import annotations
 
-from typing import Callable, Dict, List
+from typing import Callable, Dict
 
 from ..operations import Operation
 from ..slices import Slice, changed_at, slices_of, structure
@@ -15,6 +15,11 @@ from .attributes import ATTRIBUTES, Guess, Lost, attributes, reference
 Payload = Callable[[bytes, str, Lost], bytes]
 
 TEMPLATE_ATTRIBUTE = front(Tag.TEMPLATE_ATTRIBUTE, Kind.STRUCTURE)
+# An identifier that is no text, but one of the standard's numbers for what was done last.
+IDENTIFIER_NUMBER = front(Tag.UNIQUE_IDENTIFIER, Kind.ENUMERATION)
+ID_PLACEHOLDER = 1
+# Without these bytes nothing in a payload is such an identifier.
+PLACEHOLDER_AS_NUMBER = IDENTIFIER_NUMBER.to_bytes(4, "big")
 KEY_VALUE = (front(Tag.KEY_BLOCK, Kind.STRUCTURE), front(Tag.KEY_VALUE, Kind.STRUCTURE))
 
 
@@ -82,6 +87,23 @@ def _object(item: Slice, where: str, lost: Lost) -> bytes:
 def _with_object(payload: bytes, where: str, lost: Lost) -> bytes:
     """The answer to Get."""
     return b"".join([_object(child, where, lost) for child in slices_of(payload)])
+
+
+def names_object(payload: bytes) -> bool:
+    """Whether a request's payload names an object itself; else it is about the one in the placeholder."""
+    return any(child.front >> 8 == Tag.UNIQUE_IDENTIFIER and not _is_placeholder(child) for child in slices_of(payload))
+
+
+def without_placeholder(payload: bytes, where: str, lost: Lost) -> bytes:
+    """The request of an operation on one object: an identifier goes that says nothing but that the placeholder is
+    meant."""
+    if PLACEHOLDER_AS_NUMBER not in payload:
+        return payload
+    return b"".join([child.whole for child in slices_of(payload) if not _is_placeholder(child)])
+
+
+def _is_placeholder(item: Slice) -> bool:
+    return item.front == IDENTIFIER_NUMBER and int.from_bytes(item.value, "big") == ID_PLACEHOLDER
 
 
 REQUESTS: Dict[int, Payload] = {
