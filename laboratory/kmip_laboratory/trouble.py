@@ -3,6 +3,8 @@
 import os
 import sys
 
+from .telling import TELLER
+
 
 class Trouble(Exception):
     """Ends the whole work. Its text says what is wrong and what to do."""
@@ -23,4 +25,4 @@ def hush() -> None:
 
 def say(words: str) -> None:
     """Tells the person at the terminal something; what is meant for other programs goes to standard output."""
-    print(f"kmip_record: {words}", file=sys.stderr, flush=True)
+    TELLER.tell(words)

@@ -7,7 +7,7 @@ import os
 import subprocess
 import sys
 from pathlib import Path
-from typing import Callable, List
+from typing import List
 
 from ..auditor import VARIABLE, Auditor
 from ..recordings import DECLARATION, WITNESS
@@ -23,11 +23,11 @@ REPORT = "report.html"
 STEPS_OF_REPORT = 10_000
 
 
-def run(job: Job, words: argparse.Namespace, auditor: Auditor, tell: Callable[[str], None]) -> int:
+def run(job: Job, words: argparse.Namespace, auditor: Auditor) -> int:
     """Everything; the files are in the folder that --out names. The status is the auditor's: 0 where it found a
     witness, 1 where it decided that there is none, 4 where it decided nothing, else what it ended with."""
     folder: Path = words.out
-    with record.recording(folder, job.version, tell) as transcript:
+    with record.recording(folder, job.version) as transcript:
         if words.empty:
             record.declare(folder, words.unique_names, words.reason)
         else:

@@ -3,22 +3,21 @@
 from __future__ import annotations
 
 import argparse
-import sys
 from pathlib import Path
-from typing import List, NoReturn
+from typing import List
 
 from .. import tls
 from ..address import Address, read_address
 from ..auditor import Auditor
+from ..front import DONE, TROUBLE, Parser, run_or_help
 from ..outputs import see_apart
 from ..recording import declaration
-from ..trouble import Trouble, WrongWords, hush
+from ..trouble import Trouble, say
 from . import audit, calibrate, certificates, drive, mixes, simulate, wire
 from .cuts import HELP, Cut, Cuts
 from .faults import FAULTS, description
 from .record import recording
 
-DONE, TROUBLE, USAGE = 0, 1, 64
 # At `audit` 1 says that no order explains the recording.
 TROUBLE_OF_AUDIT = 3
 USUAL_CALLS = 1000
@@ -26,48 +25,17 @@ OPTIONS = {Cut.BEFORE_SENDING: "--cut-before-sending", Cut.IN_REQUEST: "--cut-in
            Cut.AFTER_SENDING: "--cut-after-sending", Cut.IN_ANSWER: "--cut-in-answer", Cut.SLOW: "--slow"}
 
 
-class Parser(argparse.ArgumentParser):
-    """A parser whose status for wrong words is that of the auditor."""
-
-    def error(self, message: str) -> NoReturn:
-        self.print_usage(sys.stderr)
-        self.exit(USAGE, f"{self.prog}: {message}\n")
-
-
-def tell(words: str) -> None:
-    """Tells the person at the terminal something."""
-    print(f"kmip_drive: {words}", file=sys.stderr, flush=True)
-
-
 def main(arguments: List[str]) -> int:
     """Does what the words say, and answers the status. Options without a word are those of `drive`."""
-    parser = _parser()
-    if not arguments:
-        parser.print_help()
-        return DONE
-    if arguments[0].startswith("--") and arguments[0] != "--help":
+    if arguments and arguments[0].startswith("--") and arguments[0] != "--help":
         arguments = ["drive", *arguments]
-    words = parser.parse_args(arguments)
-    try:
-        return words.run(words)
-    except WrongWords as trouble:
-        tell(str(trouble))
-        return USAGE
-    except Trouble as trouble:
-        tell(str(trouble))
-        return words.trouble
-    except KeyboardInterrupt:
-        tell("ended by Ctrl-C")
-        return words.trouble
-    except BrokenPipeError:
-        hush()
-        return words.trouble
+    return run_or_help(_parser(), arguments)
 
 
 def _parser() -> Parser:
     parser = Parser(prog="kmip_drive", description="Makes a key server work hard, so that its faults show: see "
                     "docs/DRIVING.md. Options without a word are those of drive.")
-    parser.set_defaults(trouble=TROUBLE)
+    parser.set_defaults(unread=TROUBLE)
     words = parser.add_subparsers(required=True, metavar="WORD", parser_class=Parser)
     _add_drive(words.add_parser("drive", help="let clients make calls to a server at once"))
     _add_simulate(words.add_parser("simulate", help="be a key server, with faults that are asked for"))
@@ -166,7 +134,7 @@ def _drive(words: argparse.Namespace) -> int:
     if words.out is None:
         done = drive.drive(job, progress=True)
     else:
-        with recording(words.out, job.version, tell) as transcript:
+        with recording(words.out, job.version) as transcript:
             done = drive.drive(job, transcript, progress=True)
             print(transcript.summary())
     print("\n".join(done.lines()), flush=True)
@@ -193,7 +161,7 @@ def _simulate(words: argparse.Namespace) -> int:
     context = tls.toward_clients(words.cert, words.key, words.ca)
     with simulate.listen(engine, context, words.listen) as server:
         faults = ", ".join(words.fault) or "no fault"
-        tell(f"a key server with {faults} is at {Address(words.listen.host, server.port)}; Ctrl-C ends")
+        say(f"a key server with {faults} is at {Address(words.listen.host, server.port)}; Ctrl-C ends")
         simulate.wait()
     print(f"{engine.struck} times a fault came about")
     return DONE
@@ -240,13 +208,13 @@ def _add_audit(word: argparse.ArgumentParser) -> None:
     word.add_argument("--reason", type=_row, action="append", default=[], metavar="NUMBER=CAUSE",
                       help="a Result Reason that is given only for NotFound, WrongState or TakenName")
     _add_auditor(word, 1_000_000)
-    word.set_defaults(run=_audit, trouble=TROUBLE_OF_AUDIT)
+    word.set_defaults(run=_audit, trouble=TROUBLE_OF_AUDIT, unread=TROUBLE_OF_AUDIT)
 
 
 def _audit(words: argparse.Namespace) -> int:
     auditor = Auditor(words.auditor)
     _see_folder_apart(words, auditor.file)
-    return audit.run(job_of(words), words, auditor, tell)
+    return audit.run(job_of(words), words, auditor)
 
 
 def _faults(_: argparse.Namespace) -> int:

@@ -3,14 +3,13 @@
 from __future__ import annotations
 
 import argparse
-import sys
 from typing import Iterable
 
 from ..outputs import see_apart
 from ..sifting import effects, forgetting
 from ..sifting import run as sifting
 from ..translation import run as translation
-from ..trouble import Trouble, hush
+from ..trouble import Trouble
 from . import cut, listing
 from .numbers import add_segment_words
 from .segments import Segments
@@ -99,10 +98,5 @@ def _list(words: argparse.Namespace) -> None:
 
 
 def _print(lines: Iterable[str]) -> None:
-    """Prints lines up to the last, or as long as somebody reads them."""
-    try:
-        for line in lines:
-            print(line)
-        sys.stdout.flush()
-    except BrokenPipeError:
-        hush()
+    for line in lines:
+        print(line)

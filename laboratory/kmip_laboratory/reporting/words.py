@@ -4,54 +4,37 @@ from __future__ import annotations
 
 import argparse
 import os
-import sys
 from concurrent.futures import ProcessPoolExecutor
 from datetime import datetime
 from functools import partial
-from typing import List, NoReturn, Optional
+from typing import List, Optional
 
 from .. import fresh
 from ..auditor import Auditor
 from ..files import see_that_free, write_file
+from ..front import Parser, run
 from ..outputs import see_apart
 from ..recordings import DECLARATION, TRANSCRIPT, WITNESS
-from ..trouble import Trouble, WrongWords, hush
+from ..trouble import hush
 from ..verdicts import Outcome
 from . import junit, page, text
 from .judging import Judged, find, judge, moment_of_making
 
 ALL_WELL = 0
-TROUBLE = 1
-USAGE = 64
-
-
-class Parser(argparse.ArgumentParser):
-    """A parser whose status for wrong words is that of the auditor."""
-
-    def error(self, message: str) -> NoReturn:
-        self.print_usage(sys.stderr)
-        self.exit(USAGE, f"{self.prog}: {message}\n")
 
 
 def main(arguments: List[str]) -> int:
     """Makes the report, and answers the status."""
-    words = _parser().parse_args(arguments)
-    try:
-        folders = find(words.recordings)
-        _see_outputs(words, folders)
-        recordings = _judged(folders, words)
-        made = moment_of_making(os.environ.get("SOURCE_DATE_EPOCH"))
-        _write(words, recordings, made)
-        return _tell(recordings, made if words.text else None)
-    except WrongWords as trouble:
-        print(f"kmip_report: {trouble}", file=sys.stderr)
-        return USAGE
-    except Trouble as trouble:
-        print(f"kmip_report: {trouble}", file=sys.stderr)
-        return TROUBLE
-    except KeyboardInterrupt:
-        print("kmip_report: ended by Ctrl-C; nothing more was written", file=sys.stderr)
-        return TROUBLE
+    return run(_parser(), arguments)
+
+
+def _report(words: argparse.Namespace) -> int:
+    folders = find(words.recordings)
+    _see_outputs(words, folders)
+    recordings = _judged(folders, words)
+    made = moment_of_making(os.environ.get("SOURCE_DATE_EPOCH"))
+    _write(words, recordings, made)
+    return _tell(recordings, made if words.text else None)
 
 
 def _see_outputs(words: argparse.Namespace, folders: List[str]) -> None:
@@ -82,6 +65,7 @@ def _tell(recordings: List[Judged], made: Optional[datetime]) -> int:
 def _parser() -> Parser:
     parser = Parser(prog="kmip_report",
                     description="What kmip_audit says of recordings, as one page: see docs/REPORT.md.")
+    parser.set_defaults(run=_report)
     parser.add_argument("out", metavar="OUT.html", help="the page; - for none")
     parser.add_argument("recordings", nargs="+", metavar="RECORDING",
                         help="a folder with transcript.ttlv, declaration.ttlv and, unless a search is to find one, "
