@@ -21,6 +21,8 @@ RECORDER, REPORTER = PROGRAMS / "kmip_record", PROGRAMS / "kmip_report"
 REPORT = "report.html"
 # The report of what no search decided asks for so many steps at most, since it searches once more.
 STEPS_OF_REPORT = 10_000
+# The status of a report that was made: explained, convicted or undecided.
+MADE = (0, 1, 4)
 
 
 def run(job: Job, words: argparse.Namespace, auditor: Auditor) -> int:
@@ -46,7 +48,7 @@ def _report(recording: Path, page: Path, auditor: Auditor, budget: int) -> None:
     words = [str(page), str(recording), "--others", "--budget", str(min(budget, STEPS_OF_REPORT))]
     done = subprocess.run([sys.executable, str(REPORTER), *words], stdout=subprocess.PIPE, text=True, check=False,
                           env={**os.environ, VARIABLE: auditor.program})
-    print(f"{page} shows it" if done.returncode == 0 else "no page was made of it")
+    print(f"{page} shows it" if done.returncode in MADE else "no page was made of it")
 
 
 def _ask_the_server(folder: Path, words: argparse.Namespace) -> None:

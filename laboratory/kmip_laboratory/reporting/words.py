@@ -16,11 +16,11 @@ from ..front import Parser, run
 from ..outputs import see_apart
 from ..recordings import DECLARATION, TRANSCRIPT, WITNESS
 from ..trouble import hush
-from ..verdicts import Outcome
 from . import junit, page, text
 from .judging import Judged, find, judge, moment_of_making
 
-ALL_WELL = 0
+ALL_WELL, CONVICTED, TROUBLE_OF_REPORT, UNDECIDED = 0, 1, 3, 4
+USUAL_SECONDS = 300
 
 
 def main(arguments: List[str]) -> int:
@@ -52,20 +52,22 @@ def _see_outputs(words: argparse.Namespace, folders: List[str]) -> None:
 def _tell(recordings: List[Judged], made: Optional[datetime]) -> int:
     """Prints what came out, in full where the moment is told, up to the last line, or as long as somebody reads it;
     answers the status."""
-    yes = sum(judged.verdict.outcome is Outcome.YES for judged in recordings)
+    yes = sum(judged.is_explained for judged in recordings)
     try:
         if made is not None:
             print(text.told(recordings, made))
         print(f"{len(recordings)} recordings: {yes} yes, {len(recordings) - yes} not", flush=True)
     except BrokenPipeError:
         hush()
-    return ALL_WELL
+    if any(judged.is_convicted for judged in recordings):
+        return CONVICTED
+    return ALL_WELL if yes == len(recordings) else UNDECIDED
 
 
 def _parser() -> Parser:
     parser = Parser(prog="kmip_report",
                     description="What kmip_audit says of recordings, as one page: see docs/REPORT.md.")
-    parser.set_defaults(run=_report)
+    parser.set_defaults(run=_report, trouble=TROUBLE_OF_REPORT)
     parser.add_argument("out", metavar="OUT.html", help="the page; - for none")
     parser.add_argument("recordings", nargs="+", metavar="RECORDING",
                         help="a folder with transcript.ttlv, declaration.ttlv and, unless a search is to find one, "
@@ -78,6 +80,8 @@ def _parser() -> Parser:
     parser.add_argument("--others", action="store_true",
                         help="search too where a witness is refused: whether another order explains the calls")
     parser.add_argument("--budget", type=int, metavar="N", help="the most steps of a search")
+    parser.add_argument("--seconds", type=_seconds, default=USUAL_SECONDS, metavar="S",
+                        help=f"how long each run of the auditor may take ({USUAL_SECONDS})")
     return parser
 
 
@@ -87,11 +91,21 @@ def _jobs(told: str) -> int:
     return int(told)
 
 
+def _seconds(told: str) -> float:
+    try:
+        seconds = float(told)
+    except ValueError:
+        seconds = 0.0
+    if not 0 < seconds < 1_000_000:
+        raise argparse.ArgumentTypeError(f"{told!r} is no number of seconds, as {USUAL_SECONDS} is one")
+    return seconds
+
+
 def _judged(folders: List[str], words: argparse.Namespace) -> List[Judged]:
     if len(folders) == 1:
-        return [judge(folders[0], words.budget, words.others)]
+        return [judge(folders[0], words.budget, words.others, words.seconds)]
     with ProcessPoolExecutor(min(words.jobs, len(folders))) as pool:
-        return list(pool.map(partial(judge, budget=words.budget, others=words.others), folders))
+        return list(pool.map(partial(judge, budget=words.budget, others=words.others, seconds=words.seconds), folders))
 
 
 def _write(words: argparse.Namespace, recordings: List[Judged], made: datetime) -> None:
