@@ -36,6 +36,6 @@ def recording(folder: Path, version: Version) -> Iterator[TranscriptWriter]:
             raise
 
 
-def declare(folder: Path, unique_names: bool, rows: List[str]) -> None:
+def declare(folder: Path, unique_names: bool, rows: List[declaration.Row]) -> None:
     """A declaration that the server was empty."""
-    declaration.run(unique_names, [declaration.read_row(row) for row in rows], [], str(folder / DECLARATION), False)
+    declaration.run(unique_names, rows, [], str(folder / DECLARATION), False)

@@ -49,7 +49,7 @@ def _add_sift(word: argparse.ArgumentParser) -> None:
     word.add_argument("--list", action="store_true", help="count the calls by sort, operation, version and client")
     word.add_argument("--also", type=_doubtful, action="append", default=[], metavar="OPERATION",
                       help="leave this doubtful operation out too; may be repeated")
-    word.add_argument("--forget", type=_attribute, action="append", default=[], metavar="NAME",
+    word.add_argument("--forget", type=attribute_of, action="append", default=[], metavar="NAME",
                       help="take this judged attribute out of what Get Attributes tells; may be repeated")
     word.set_defaults(run=_sift)
 
@@ -62,7 +62,8 @@ def _doubtful(words: str) -> int:
     return operation.value
 
 
-def _attribute(words: str) -> int:
+def attribute_of(words: str) -> int:
+    """The judged attribute with this name."""
     tag = forgetting.attribute_named(words)
     if tag is None:
         raise argparse.ArgumentTypeError(f"{words!r} is no judged attribute, as 'Initial Date' is one")

@@ -26,6 +26,8 @@ from .messages import Messages, read_messages
 
 # Of a search where no other is given.
 USUAL_BUDGET = 1_000_000
+# Of each run of the auditor.
+USUAL_SECONDS = 300
 # The calls ahead of the deepest place of a search, which are no more to blame than any others.
 TAKEN = "taken: "
 EPOCH = datetime(1970, 1, 1, tzinfo=timezone.utc)
@@ -117,10 +119,20 @@ def find(paths: List[str]) -> List[str]:
     return found
 
 
-def judge(folder: str, budget: Optional[int], others: bool = False, seconds: Optional[float] = None) -> Judged:
+class Asking(NamedTuple):
+    """How the auditor is asked: its program, the most steps of a search, the seconds that each of its runs is given, and
+    whether other orders are searched where one is refused."""
+
+    budget: Optional[int] = None
+    others: bool = False
+    seconds: Optional[float] = USUAL_SECONDS
+    program: Optional[str] = None
+
+
+def judge(folder: str, asking: Asking) -> Judged:
     """Asks the auditor: a check where there is a witness, else a search; and of a witness that is refused a search
-    too, where other orders are asked for. Each run of the auditor is given so many seconds."""
-    auditor = Auditor(seconds=seconds)
+    too, where other orders are asked for."""
+    auditor, budget = Auditor(asking.program, asking.seconds), asking.budget
     paths = [os.path.join(folder, name) for name in (TRANSCRIPT, DECLARATION, WITNESS)]
     files = [_digest(path) for path in paths if path != paths[2] or os.path.exists(path)]
     started = time.monotonic()
@@ -134,7 +146,7 @@ def judge(folder: str, budget: Optional[int], others: bool = False, seconds: Opt
             verdict = auditor.explained("search", transcript, declaration, witness, *more, "--quiet")
         more += ["--explain"] if verdict.explanation else []
         searched = (auditor.search(transcript, declaration, os.path.join(made, "other"), budget)
-                    if others and verdict.outcome is Outcome.NO else None)
+                    if asking.others and verdict.outcome is Outcome.NO else None)
         taken = time.monotonic() - started
         account = _account(auditor, transcript, declaration, witness)
         _see_that_they_are_the_judged(files, account.files)

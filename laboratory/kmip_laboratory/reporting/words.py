@@ -17,15 +17,20 @@ from ..outputs import see_apart
 from ..recordings import DECLARATION, TRANSCRIPT, WITNESS
 from ..trouble import hush
 from . import junit, page, text
-from .judging import Judged, find, judge, moment_of_making
+from .judging import USUAL_SECONDS, Asking, Judged, find, judge, moment_of_making
 
 ALL_WELL, CONVICTED, TROUBLE_OF_REPORT, UNDECIDED = 0, 1, 3, 4
-USUAL_SECONDS = 300
 
 
 def main(arguments: List[str]) -> int:
     """Makes the report, and answers the status."""
     return run(_parser(), arguments)
+
+
+def make_page(out: str, folder: str, asking: Asking) -> None:
+    """Makes the page of one recording, as a new file."""
+    made = page.page([judge(folder, asking)], moment_of_making(os.environ.get("SOURCE_DATE_EPOCH")))
+    fresh.write_all([(out, made.encode("utf-8"))])
 
 
 def _report(words: argparse.Namespace) -> int:
@@ -102,10 +107,11 @@ def _seconds(told: str) -> float:
 
 
 def _judged(folders: List[str], words: argparse.Namespace) -> List[Judged]:
+    asking = Asking(words.budget, words.others, words.seconds)
     if len(folders) == 1:
-        return [judge(folders[0], words.budget, words.others, words.seconds)]
+        return [judge(folders[0], asking)]
     with ProcessPoolExecutor(min(words.jobs, len(folders))) as pool:
-        return list(pool.map(partial(judge, budget=words.budget, others=words.others, seconds=words.seconds), folders))
+        return list(pool.map(partial(judge, asking=asking), folders))
 
 
 def _write(words: argparse.Namespace, recordings: List[Judged], made: datetime) -> None:
