@@ -16,16 +16,19 @@ from ..transcript import marks_in
 from ..trouble import Trouble
 from ..ttlv import Item, Kind
 from .calls import Call, ordered_calls
+from .selection import ALL, Selection
 
 HIDDEN = frozenset({Tag.KEY_MATERIAL, Tag.KEY_VALUE, 0x4200A1, 0x4200C2})
 MOST_IDENTIFIERS = 3
 BETWEEN = "  "
 
 
-def lines(path: str) -> Iterator[str]:
-    """A line for each call, in the order of their begins: number, client, marks, moment, and each item."""
+def lines(path: str, selection: Selection = ALL) -> Iterator[str]:
+    """A line for each call that is meant, in the order of their begins: number, client, marks, moment, and each item."""
     for call in ordered_calls(path):
         asked, answered = call.asked(), call.answered()
+        if not selection.has(call, asked, answered):
+            continue
         marks = f"marks {call.first}-{call.last or ''}"
         moment = date(answered.stamp) if answered and answered.stamp is not None else "-"
         yield BETWEEN.join([f"call {call.number}", plain(call.client), marks, moment, *_items(call, asked, answered)])

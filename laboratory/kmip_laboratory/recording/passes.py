@@ -9,8 +9,8 @@ from ..outputs import see_apart
 from ..sifting import effects, forgetting
 from ..sifting import run as sifting
 from ..translation import run as translation
-from ..trouble import Trouble
-from . import cut, listing
+from ..trouble import Trouble, WrongWords
+from . import cut, listing, selection
 from .numbers import add_segment_words
 from .segments import Segments
 
@@ -27,13 +27,20 @@ def _add_list(word: argparse.ArgumentParser) -> None:
     word.add_argument("transcript", metavar="TRANSCRIPT")
     word.add_argument("--call", type=int, metavar="N", help="both messages of this call, in place of a line for each")
     word.add_argument("--keys", action="store_true", help="show the bytes of keys too, with --call")
+    word.add_argument("--client", action="append", default=[], metavar="NAME", help="the calls of this client alone; may be "
+                      "repeated, as the next two")
+    word.add_argument("--object", action="append", default=[], metavar="ID", help="the calls that name this object")
+    word.add_argument("--operation", type=selection.read_operation, action="append", default=[], metavar="NAME",
+                      help="the calls that ask for this operation")
     word.set_defaults(run=_list)
 
 
 def _add_cut(word: argparse.ArgumentParser) -> None:
     word.add_argument("transcript", metavar="IN")
-    word.add_argument("folder", metavar="DIR", help="a new folder for the files")
+    word.add_argument("out", metavar="OUT", help="a new folder for the files; with --calls a new file")
     add_segment_words(word)
+    word.add_argument("--calls", type=selection.read_range, metavar="A-B", help="write the calls from A to B, by their "
+                      "numbers, and nothing else")
     word.set_defaults(run=_cut)
 
 
@@ -71,8 +78,14 @@ def attribute_of(words: str) -> int:
 
 
 def _cut(words: argparse.Namespace) -> None:
-    see_apart([words.folder], [words.transcript])
-    print(cut.run(words.transcript, words.folder, Segments(words.segment_calls, words.segment_seconds)))
+    see_apart([words.out], [words.transcript])
+    segments = Segments(words.segment_calls, words.segment_seconds)
+    if words.calls is None:
+        print(cut.run(words.transcript, words.out, segments))
+    elif segments.are_asked:
+        raise WrongWords("--calls writes one file: leave --segment-calls and --segment-seconds away")
+    else:
+        print(cut.run_of(words.transcript, words.out, words.calls))
 
 
 def _translate(words: argparse.Namespace) -> None:
@@ -93,7 +106,9 @@ def _sift(words: argparse.Namespace) -> None:
 
 def _list(words: argparse.Namespace) -> None:
     if words.call is None:
-        _print(listing.lines(words.transcript))
+        _print(listing.lines(words.transcript, selection.Selection(words.client, words.object, words.operation)))
+    elif words.client or words.object or words.operation:
+        raise WrongWords("--call names one call: leave --client, --object and --operation away")
     else:
         _print(listing.call_lines(words.transcript, words.call, words.keys))
 
