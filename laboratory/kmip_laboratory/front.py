@@ -4,7 +4,7 @@ from __future__ import annotations
 
 import argparse
 import sys
-from typing import List, NoReturn
+from typing import List, NoReturn, Optional
 
 from .telling import TELLER, hold_standard_files
 from .trouble import Trouble, WrongWords, hush, say
@@ -20,8 +20,8 @@ class Parser(argparse.ArgumentParser):
         self.exit(USAGE, f"{self.prog}: {message}\n")
 
 
-def run(parser: Parser, arguments: List[str]) -> int:
-    """Does what the words say, and answers the status. The parser has set `run` to what is done at them, which answers
+def run(parser: Parser, arguments: Optional[List[str]] = None) -> int:
+    """Does what the words say, those of the command line where none are given, and answers the status. The parser has set `run` to what is done at them, which answers
     a status or nothing, and may have set `trouble` to the status of trouble. Where nobody reads what is printed any
     more, that is no trouble, unless `unread` has a status for it."""
     hold_standard_files()
@@ -45,9 +45,11 @@ def run(parser: Parser, arguments: List[str]) -> int:
     return trouble
 
 
-def run_or_help(parser: Parser, arguments: List[str]) -> int:
-    """The same, with the help where there are no words."""
-    if arguments:
-        return run(parser, arguments)
-    parser.print_help()
-    return DONE
+def run_or_help(parser: Parser, arguments: Optional[List[str]] = None, usual: str = "") -> int:
+    """The same, with the help where there are no words; options ahead of all words are those of the usual one."""
+    given = sys.argv[1:] if arguments is None else arguments
+    if not given:
+        parser.print_help()
+        return DONE
+    has_word = not usual or not given[0].startswith("--") or given[0] == "--help"
+    return run(parser, given if has_word else [usual, *given])

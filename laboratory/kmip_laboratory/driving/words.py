@@ -6,7 +6,7 @@ import argparse
 import asyncio
 from dataclasses import replace
 from pathlib import Path
-from typing import List
+from typing import List, Optional
 
 from .. import tls
 from ..address import Address, read_address
@@ -29,11 +29,9 @@ OPTIONS = {Cut.BEFORE_SENDING: "--cut-before-sending", Cut.IN_REQUEST: "--cut-in
            Cut.AFTER_SENDING: "--cut-after-sending", Cut.IN_ANSWER: "--cut-in-answer", Cut.SLOW: "--slow"}
 
 
-def main(arguments: List[str]) -> int:
+def main(arguments: Optional[List[str]] = None) -> int:
     """Does what the words say, and answers the status. Options without a word are those of `drive`."""
-    if arguments and arguments[0].startswith("--") and arguments[0] != "--help":
-        arguments = ["drive", *arguments]
-    return run_or_help(_parser(), arguments)
+    return run_or_help(_parser(), arguments, usual="drive")
 
 
 def _parser() -> Parser:

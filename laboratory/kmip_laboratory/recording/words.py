@@ -30,7 +30,7 @@ MINOR_NOTE = ("versions 1.0 to 2.0 are written as 2.1 in the transcript: what is
               "said")
 
 
-def main(arguments: List[str]) -> int:
+def main(arguments: Optional[List[str]] = None) -> int:
     """Does what the words say, and answers the status."""
     return run_or_help(_parser(), arguments)
 

@@ -22,7 +22,7 @@ from .judging import USUAL_SECONDS, Asking, Judged, find, judge, moment_of_makin
 ALL_WELL, CONVICTED, TROUBLE_OF_REPORT, UNDECIDED = 0, 1, 3, 4
 
 
-def main(arguments: List[str]) -> int:
+def main(arguments: Optional[List[str]] = None) -> int:
     """Makes the report, and answers the status."""
     return run(_parser(), arguments)
 
