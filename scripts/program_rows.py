@@ -38,12 +38,14 @@ def wrong_with(program: str, row: Row) -> str:
 
 
 def run_rows(usage: str, rows: Iterable[Row]) -> int:
-    """Runs the program that the command line names on each row, tells those that differ and the counts, and answers the status."""
-    if len(sys.argv) != 2 or not os.access(sys.argv[1], os.X_OK):
+    """Runs the program that the command line names on each row, or behind -k on those whose names have a text in them; tells those that
+    differ and the counts, and answers the status."""
+    wanted = sys.argv[3].lower() if len(sys.argv) == 4 and sys.argv[2] == "-k" else ""
+    if len(sys.argv) != (4 if wanted else 2) or not os.access(sys.argv[1], os.X_OK):
         print(usage, file=sys.stderr)
         return 64
     program = os.path.abspath(sys.argv[1])
-    told = [wrong_with(program, row) for row in rows]
+    told = [wrong_with(program, row) for row in rows if wanted in row.name.lower()]
     wrong = [line for line in told if line]
     print("".join(f"{line}\n" for line in wrong[:TOLD]), end="")
     print(f"{len(told) - len(wrong)} passed, {len(wrong)} failed")

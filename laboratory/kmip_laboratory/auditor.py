@@ -5,22 +5,25 @@ from __future__ import annotations
 import os
 import shutil
 import subprocess
+import threading
 from pathlib import Path
-from typing import Callable, Iterator, Optional, Sequence
+from typing import Callable, Iterator, Optional
 
 from .trouble import Trouble
-from .verdicts import Verdict, read_explained, read_json, read_verdict
+from .verdicts import Account, Outcome, Verdict, read_account, read_explained, read_verdict
 
 BUILT = Path(__file__).resolve().parents[2] / "crates/kmip_audit/out/kmip_audit"
 VARIABLE = "KMIP_AUDIT"
-USAGE = 64
+UNDECIDED, USAGE = 4, 64
 Reader = Callable[[str, int], Optional[Verdict]]
 
 
 class Auditor:
     """The program, wherever it is."""
 
-    def __init__(self, program: Optional[str] = None) -> None:
+    def __init__(self, program: Optional[str] = None, seconds: Optional[float] = None) -> None:
+        """`seconds` is the time that each of its runs is given; there is no limit without."""
+        self._seconds = seconds
         self.program = _abiding(program) if program else _found()
         found = shutil.which(self.program)
         if found is None:
@@ -30,47 +33,58 @@ class Auditor:
 
     def version(self) -> str:
         """What the program calls itself."""
-        return self._run("--version").stdout.strip()
+        try:
+            return self._run("--version").stdout.strip()
+        except subprocess.TimeoutExpired:
+            return "kmip_audit"
 
     def check(self, transcript: str, declaration: str, witness: str) -> Verdict:
         """What a check of these files says."""
         return self._verdict("check", transcript, declaration, witness)
 
-    def explained(self, transcript: str, declaration: str, witness: str) -> Verdict:
-        """What a check of these files says, and why, where the program knows that."""
-        words = ("check", transcript, declaration, witness)
-        return self._or_plain(words, self._run(*words, "--explain"), read_explained)
+    def explained(self, *words: str) -> Verdict:
+        """What these words say, and why, where the program knows that."""
+        try:
+            done = self._run(*words, "--explain")
+        except subprocess.TimeoutExpired:
+            return self._late()
+        if done.returncode == USAGE and not done.stdout:
+            return self._verdict(*words)
+        return self._read(words[0], done, read_explained)
+
+    def account(self, transcript: str, declaration: str, witness: str) -> Optional[Account]:
+        """The program's version and the digests of these files as it read them, where it tells them."""
+        try:
+            return read_account(self._run("check", transcript, declaration, witness, "--json").stdout)
+        except subprocess.TimeoutExpired:
+            return None
 
     def search(self, transcript: str, declaration: str, out: str, budget: Optional[int] = None) -> Verdict:
         """What a search says; the witness that it finds goes into the new file."""
         more = [] if budget is None else ["--budget", str(budget)]
         return self._verdict("search", transcript, declaration, out, "--quiet", *more)
 
-    def told(self, *words: str) -> Verdict:
-        """What these words say, in JSON where the program knows that: then its version and the files' digests are
-        told too."""
-        return self._or_plain(words, self._run(*words, "--json"), read_json)
-
     def show_each(self, path: str, *words: str) -> Iterator[str]:
-        """The lines of a file's items, one after the other."""
+        """The lines of a file's items, one after the other; up to where its time is over."""
         try:
             with subprocess.Popen([self.program, "show", path, *words], stdin=subprocess.DEVNULL,
                                   stdout=subprocess.PIPE, text=True, errors="replace") as running:
-                for line in running.stdout or ():
-                    yield line.rstrip("\n")
+                with _Limit(running, self._seconds) as limit:
+                    for line in running.stdout or ():
+                        yield line.rstrip("\n")
         except OSError as error:
             raise self._not_run(error) from None
-        if running.returncode != 0:
+        if running.returncode != 0 and not limit.is_over:
             raise Trouble(f"kmip_audit show {path} ended with status {running.returncode}; run it to see why")
 
-    def _or_plain(self, words: Sequence[str], done: subprocess.CompletedProcess[str], read: Reader) -> Verdict:
-        """The verdict that was read; of a program that does not know the option, what it says without."""
-        if done.returncode == USAGE and not done.stdout:
-            return self._verdict(*words)
-        return self._read(words[0], done, read)
-
     def _verdict(self, *words: str) -> Verdict:
-        return self._read(words[0], self._run(*words), read_verdict)
+        try:
+            return self._read(words[0], self._run(*words), read_verdict)
+        except subprocess.TimeoutExpired:
+            return self._late()
+
+    def _late(self) -> Verdict:
+        return Verdict(Outcome.LATE, [f"the auditor gave no answer in {self._seconds:g} seconds"], UNDECIDED)
 
     def _read(self, word: str, done: subprocess.CompletedProcess[str], read: Reader) -> Verdict:
         verdict = read(done.stdout, done.returncode)
@@ -83,13 +97,35 @@ class Auditor:
     def _run(self, *words: str) -> subprocess.CompletedProcess[str]:
         try:
             return subprocess.run([self.program, *words], stdin=subprocess.DEVNULL, capture_output=True, text=True,
-                                  check=False, errors="replace")
+                                  check=False, errors="replace", timeout=self._seconds)
         except OSError as error:
             raise self._not_run(error) from None
 
     def _not_run(self, error: OSError) -> Trouble:
         return Trouble(f"the auditor {self.program} can't be run: {error.strerror}; build it, or give its program in "
                        f"{VARIABLE}")
+
+
+class _Limit:
+    """Kills a program that goes on for longer than it may; `is_over` says whether that was so."""
+
+    def __init__(self, running: subprocess.Popen[str], seconds: Optional[float]) -> None:
+        self._running = running
+        self._timer = None if seconds is None else threading.Timer(seconds, self._stop)
+        self.is_over = False
+
+    def _stop(self) -> None:
+        self.is_over = True
+        self._running.kill()
+
+    def __enter__(self) -> _Limit:
+        if self._timer:
+            self._timer.start()
+        return self
+
+    def __exit__(self, *_: object) -> None:
+        if self._timer:
+            self._timer.cancel()
 
 
 def _found() -> str:

@@ -15,6 +15,8 @@ from .trouble import ConnectionTrouble
 from .ttlv import HEADER_LENGTH
 
 SECONDS_TO_CLOSE = 1
+# How long the other side may take to agree on TLS; and the server, to take a connection.
+SECONDS_TO_GREET = 10
 
 
 class Peer:
@@ -27,12 +29,26 @@ class Peer:
         self._who = "the client" if side is Side.CLIENT else "the server"
         self.gone = asyncio.ensure_future(_closed(writer))
         self._is_waited_for = True
+        self._is_idle = False
 
     def common_name(self) -> Optional[str]:
         """The common name in the peer's certificate."""
         subject = self._writer.get_extra_info("peercert").get("subject", ())
         names = [value for part in subject for key, value in part if key == "commonName"]
         return names[0] if names else None
+
+    async def receive_within(self, seconds: float) -> Optional[bytes]:
+        """The next message, as `receive` has it; refused where it is not whole in time."""
+        limit = asyncio.get_running_loop().call_later(seconds, self._end_idleness)
+        received = await self.receive()
+        limit.cancel()
+        if received is None and self._is_idle:
+            raise ConnectionTrouble(f"no whole request came in {seconds:g} s")
+        return received
+
+    def _end_idleness(self) -> None:
+        self._is_idle = True
+        self.stop_waiting()
 
     async def receive(self) -> Optional[bytes]:
         """The next message, once it is whole; None where the peer closed ahead of its first byte, or where it is no
@@ -55,13 +71,22 @@ class Peer:
         self._is_waited_for = False
         self._reader.feed_eof()
 
-    async def send(self, whole: bytes) -> None:
-        """Sends a message to the peer."""
+    async def send(self, whole: bytes, within: float) -> None:
+        """Sends a message to the peer; one that does not take it in time is dropped."""
+        limit = asyncio.get_running_loop().call_later(within, self._drop)
         try:
             self._writer.write(whole)
             await self._writer.drain()
         except OSError as error:
             raise ConnectionTrouble(f"{self._who} broke off: {tls.meaning(error)}") from None
+        finally:
+            limit.cancel()
+        if self._is_idle:
+            raise ConnectionTrouble(f"{self._who} did not take a whole message in {within:g} s")
+
+    def _drop(self) -> None:
+        self._is_idle = True
+        self._writer.transport.abort()
 
     async def close(self) -> None:
         """Closes the connection; one that does not close in time is dropped."""
@@ -77,12 +102,15 @@ async def _closed(writer: asyncio.StreamWriter) -> None:
 
 
 async def accept(connection: socket.socket, context: ssl.SSLContext) -> Peer:
-    """The client at the other end of a connection that was taken."""
+    """The client at the other end of a connection that was taken, once it has shown a certificate."""
     loop = asyncio.get_running_loop()
     reader = asyncio.StreamReader(loop=loop)
     protocol = asyncio.StreamReaderProtocol(reader, loop=loop)
     try:
-        transport, _ = await loop.connect_accepted_socket(lambda: protocol, connection, ssl=context)
+        transport, _ = await loop.connect_accepted_socket(lambda: protocol, connection, ssl=context,
+                                                          ssl_handshake_timeout=SECONDS_TO_GREET)
+    except ConnectionAbortedError:
+        raise ConnectionTrouble(f"no TLS with the client: it was not through in {SECONDS_TO_GREET} s") from None
     except OSError as error:
         raise ConnectionTrouble(f"no TLS with the client: {tls.meaning(error)}") from None
     return Peer(reader, asyncio.StreamWriter(transport, protocol, reader, loop), Side.CLIENT)
@@ -91,7 +119,10 @@ async def accept(connection: socket.socket, context: ssl.SSLContext) -> Peer:
 async def connect(server: Address, context: ssl.SSLContext) -> Peer:
     """The server, over a new connection."""
     try:
-        reader, writer = await asyncio.open_connection(server.host, server.port, ssl=context)
+        reader, writer = await asyncio.wait_for(
+            asyncio.open_connection(server.host, server.port, ssl=context), SECONDS_TO_GREET)
+    except asyncio.TimeoutError:
+        raise ConnectionTrouble(f"no server at {server}: it took no connection in {SECONDS_TO_GREET} s") from None
     except ssl.SSLError as error:
         raise ConnectionTrouble(f"no TLS with the server at {server}: {tls.meaning(error)}") from None
     except OSError as error:

@@ -5,6 +5,7 @@ import os
 import sys
 
 from .plain import plain
+from .telling import TELLER
 
 
 class Trouble(Exception):
@@ -33,4 +34,4 @@ def hush() -> None:
 def say(words: str) -> None:
     """Tells the person at the terminal something, on one line; what is meant for other programs goes to standard
     output."""
-    print(f"kmip_record: {plain(words)}", file=sys.stderr, flush=True)
+    TELLER.tell(plain(words))

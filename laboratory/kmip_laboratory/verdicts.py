@@ -1,12 +1,12 @@
-"""Verdicts of the auditor, read from the lines that it prints (docs/PROFILE.md), or from JSON where it has an option
-for that."""
+"""Verdicts of the auditor, read from the lines that it prints (docs/PROFILE.md, docs/EXPLAINING.md); and what it tells in
+JSON of the files that it read (docs/JSON.md)."""
 
 from __future__ import annotations
 
 import json
 import re
 from enum import Enum
-from typing import Callable, Dict, List, NamedTuple, Optional, Pattern, Tuple
+from typing import Dict, List, NamedTuple, Optional, Pattern, Tuple
 
 
 class Outcome(Enum):
@@ -20,6 +20,7 @@ class Outcome(Enum):
     GAVE_UP = "gave up"
     DEVICE = "device"
     MEMORY = "memory"
+    LATE = "late"
 
 
 PATTERNS: Dict[Outcome, Pattern[str]] = {
@@ -38,6 +39,9 @@ PATTERNS: Dict[Outcome, Pattern[str]] = {
 
 # The others explain it.
 LINES_OF_A_NO = 2
+# Of a giving up: that it has decided, and the first call that may be next at the deepest place, and can't be.
+DECIDED = "decided: "
+NEXT = re.compile(r"next: call (?P<call>\d+) item (?P<item>\d+) why (?P<number>\d+) (?P<name>\w+)")
 
 
 class Digest(NamedTuple):
@@ -51,8 +55,8 @@ class Digest(NamedTuple):
 
 class Verdict(NamedTuple):
     """An answer: the lines as they were printed, the status, and what the lines name. A number that they do not name
-    is None. Of an answer in JSON there are besides the auditor's version, the files that it judged, and of a search that
-    gave up whether that says that no order explains the transcript. A `no` that is explained has the lines of that."""
+    is None. What is explained has the lines of that; and of a search that gave up it is known then whether that says that
+    no order explains the transcript, and `call` to `name` are those of the first call that can't be next."""
 
     outcome: Outcome
     lines: List[str]
@@ -65,8 +69,6 @@ class Verdict(NamedTuple):
     side: str = ""
     date: str = ""
     steps: Optional[int] = None
-    version: str = ""
-    files: Tuple[Digest, ...] = ()
     decided: Optional[bool] = None
     explanation: Tuple[str, ...] = ()
 
@@ -96,41 +98,29 @@ def read_verdict(printed: str, status: int) -> Optional[Verdict]:
 def read_explained(printed: str, status: int) -> Optional[Verdict]:
     """The verdict that the first of these lines are, with the others, which explain it."""
     lines = printed.splitlines()
-    told = LINES_OF_A_NO if printed.startswith("no: ") else len(lines)
+    told = LINES_OF_A_NO if printed.startswith("no: ") else 1
     verdict = read_verdict("\n".join(lines[:told]), status)
-    return verdict and verdict._replace(explanation=tuple(lines[told:]))
+    if verdict is None or verdict.outcome is not Outcome.GAVE_UP or len(lines) == told:
+        return verdict and verdict._replace(explanation=tuple(lines[told:]))
+    following = (NEXT.fullmatch(line) for line in lines)
+    named = next((found for found in following if found), None)
+    verdict = verdict._replace(explanation=tuple(lines[told:]), decided=lines[told].startswith(DECIDED))
+    return verdict if named is None else verdict._replace(
+        call=int(named["call"]), item=int(named["item"]), number=int(named["number"]), name=named["name"])
 
 
-Members = Dict[str, object]
+class Account(NamedTuple):
+    """What a run tells in JSON besides its verdict: the auditor's version, and the files as it read them."""
+
+    version: str
+    files: Tuple[Digest, ...]
 
 
-def _named(of: object) -> str:
-    return f"{of['number']} {of['name']}"
-
-
-# The lines that stand for each verdict in JSON, as the auditor prints them without.
-LINES: Dict[str, Callable[[Members], str]] = {
-    "yes": lambda told: f"yes: {told['steps']} steps" if "steps" in told else "yes",
-    "no": lambda told: f"no: turn {told['turn']} call {told['call']} item {told['item']} why {_named(told['why'])}\n"
-                       f"at {told['date']}",
-    "outside": lambda told: f"outside: call {told['call']} {told['message']} item {told['item']} kind "
-                            f"{_named(told['kind'])}",
-    "witness": lambda told: f"witness: at {told['at']} kind {_named(told['kind'])}",
-    "malformed": lambda told: f"malformed: {told['file']} offset {told['offset']} kind {_named(told['kind'])}"
-                              + (f" {told['flaw']}" if "flaw" in told else ""),
-    "gave up": lambda told: f"gave up: {told['steps']} steps",
-    "device": lambda told: "device",
-    "memory": lambda told: "memory",
-}
-
-
-def read_json(printed: str, status: int) -> Optional[Verdict]:
-    """The verdict that this JSON is; None where it is none."""
+def read_account(printed: str) -> Optional[Account]:
+    """The account in this JSON of a check; None where there is none."""
     try:
         told = json.loads(printed)
-        verdict = read_verdict(LINES[told["verdict"]](told), status)
-        files = tuple(Digest(file["role"], file.get("length"), file.get("sha256")) for file in told.get("files", []))
-        return verdict and verdict._replace(version=f"kmip_audit {told['auditor']}", files=files,
-                                            decided=told.get("decided"))
-    except (ValueError, KeyError, TypeError, AttributeError):
+        files = tuple(Digest(file["role"], file.get("length"), file.get("sha256")) for file in told["files"])
+        return Account(f"kmip_audit {told['auditor']}", files)
+    except (ValueError, KeyError, TypeError):
         return None

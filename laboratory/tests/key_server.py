@@ -14,6 +14,7 @@ import messages
 from laboratory import PYKMIP_PYTHON, SECONDS, Begin, Laboratory, wait_until
 
 HERE = Path(__file__).resolve().parent
+PYKMIP = HERE.parent / "pykmip"
 
 
 def free_port() -> int:
@@ -49,7 +50,7 @@ class WithPyKmip(Laboratory):
         self.server_port = free_port()
         with open(self.folder / "server.said", "w") as said:
             server = subprocess.Popen(
-                [PYKMIP_PYTHON, "-W", "ignore", HERE / "pykmip_server.py", self.folder, str(self.server_port)],
+                [PYKMIP_PYTHON, "-W", "ignore", PYKMIP / "pykmip_server.py", self.folder, str(self.server_port)],
                 stdout=said, stderr=said, start_new_session=True)
         self.addCleanup(_end, server)
         wait_until(self._serves, "the PyKMIP server")

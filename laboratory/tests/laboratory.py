@@ -15,7 +15,7 @@ import threading
 import time
 import unittest
 from pathlib import Path
-from typing import Callable, List, Optional, Sequence
+from typing import Callable, List, NamedTuple, Optional, Sequence
 
 import certificates
 import stub
@@ -93,7 +93,7 @@ class Laboratory(unittest.TestCase):
         self.addCleanup(folder.cleanup)
         self.folder = Path(folder.name)
 
-    def start(self, port: int, *more: str, program: Path = RECORDER, limit: Optional[int] = None) -> Recorder:
+    def start(self, port: int, *more: str, program: Path = RECORDER, limit: Optional[Limit] = None) -> Recorder:
         """A recorder ahead of the server at this port."""
         recorder = Recorder(self.certificates, self.folder / "transcript.ttlv", port, more, program, limit)
         self.addCleanup(recorder.kill)
@@ -113,18 +113,29 @@ class Laboratory(unittest.TestCase):
         return peer
 
 
+class Limit(NamedTuple):
+    """What a process may have at most: a resource's number, and how much of it."""
+
+    resource: int
+    most: int
+
+    def set(self) -> None:
+        """Sets it for this process."""
+        resource.setrlimit(self.resource, (self.most, self.most))
+
+
 class Recorder:
     """A `kmip_record proxy` under way. `port` is where clients come to."""
 
     def __init__(self, folder: Path, transcript: Path, server: int, more: Sequence[str], program: Path,
-                 limit: Optional[int]) -> None:
+                 limit: Optional[Limit]) -> None:
         self.transcript = transcript
         self.said: List[str] = []
         words = ["proxy", "--listen", "127.0.0.1:0", "--server", f"127.0.0.1:{server}", "--cert", "recorder.pem",
                  "--key", "recorder.key", "--client-ca", "authority.pem", "--out", str(transcript), *more]
         self._process = subprocess.Popen(
             [sys.executable, str(program), *words], cwd=folder, stdout=subprocess.PIPE, stderr=subprocess.PIPE,
-            text=True, preexec_fn=lambda: limit and resource.setrlimit(resource.RLIMIT_FSIZE, (limit, limit)))
+            text=True, preexec_fn=limit.set if limit else None)
         self._listening = threading.Thread(target=self._listen, daemon=True)
         self._listening.start()
         wait_until(lambda: self._process.poll() is not None or self.heard("leads to"), "the recorder's first words")

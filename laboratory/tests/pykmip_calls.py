@@ -14,6 +14,8 @@ import warnings
 
 warnings.simplefilter("ignore")
 
+sys.path.insert(0, os.path.join(os.path.dirname(os.path.abspath(__file__)), os.pardir, "pykmip"))
+
 import pykmip_tls  # noqa: E402,F401 (must come before kmip)
 from kmip.core import enums, policy  # noqa: E402
 from kmip.core.attributes import Name  # noqa: E402

@@ -8,7 +8,9 @@ import os
 import sys
 import threading
 
-import pykmip_tls  # noqa: F401 (must come before kmip)
+sys.path.insert(0, os.path.join(os.path.dirname(os.path.abspath(__file__)), os.pardir, "pykmip"))
+
+import pykmip_tls  # noqa: E402,F401 (must come before kmip)
 from kmip import enums
 from kmip.pie import client as pie
 from kmip.pie import objects

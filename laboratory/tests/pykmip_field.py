@@ -6,7 +6,9 @@ It takes a key through its life, with calls in between that are not judged, and 
 import os
 import sys
 
-import pykmip_tls  # noqa: F401 (must come before kmip)
+sys.path.insert(0, os.path.join(os.path.dirname(os.path.abspath(__file__)), os.pardir, "pykmip"))
+
+import pykmip_tls  # noqa: E402,F401 (must come before kmip)
 from kmip import enums
 from kmip.pie import client as pie
 from kmip.pie import objects

@@ -13,7 +13,7 @@ from typing import List
 from laboratory import AUDITOR, FOLDER, SECONDS, Begin, End, Laboratory, read_marks, wait_until
 
 from kmip_laboratory.auditor import Auditor
-from kmip_laboratory.driving import audit, calibrate, mixes, plan
+from kmip_laboratory.driving import audit, calibrate, mixes, plan, wire
 from kmip_laboratory.driving.decide import PART, decide
 from kmip_laboratory.driving.faults import FAULTS, description
 from kmip_laboratory.driving.numbers import Operation
@@ -150,13 +150,39 @@ class OnTheWire(Laboratory):
         out = self.folder / "out"
         done = self.drive(self.simulated("--pace", "10"), "--calls", "60", "--clients", "2", "--pause", "0.005",
                           "--mix", "lifecycle", "--out", out, "--auditor", AUDITOR, word="audit")
-        self.assertEqual((done.returncode, done.stderr), (0, ""), done.stdout)
+        self.assertEqual(done.returncode, 0, done.stdout + done.stderr)
         self.assertRegex(done.stdout, r"declaration: 0 rows, 0 entries\n(.*\n)*yes: \d+ steps\n")
         checked = subprocess.run([AUDITOR, "check", "transcript.ttlv", "declaration.ttlv", "witness.ttlv"], cwd=out,
                                  capture_output=True, text=True, timeout=SECONDS * 3)
         self.assertEqual(checked.stdout, "yes\n")
         self.assertIn(f"{out / 'report.html'} shows it\n", done.stdout)
         self.assertIn("<pre>yes</pre>", (out / "report.html").read_text("utf-8"))
+
+    def test_one_command_says_yes_in_every_version(self) -> None:
+        port = self.simulated("--pace", "10")
+        for version in wire.VERSIONS:
+            done = self.drive(port, "--calls", "60", "--clients", "2", "--pause", "0.005", "--kmip", version, "--out",
+                              self.folder / version, "--auditor", AUDITOR, word="audit")
+            with self.subTest(version=version):
+                self.assertEqual(done.returncode, 0, done.stdout + done.stderr)
+                self.assertRegex(done.stdout, r"\nyes: \d+ steps\n")
+                self.assertIn("report.html shows it\n", done.stdout)
+
+    def test_the_newest_version_is_found_out_where_none_is_given(self) -> None:
+        out = self.folder / "out"
+        done = self.drive(self.simulated(), "--calls", "10", "--empty", "--out", out, "--auditor", AUDITOR, word="audit")
+        self.assertEqual(done.returncode, 0, done.stdout)
+        self.assertEqual(done.stderr, "kmip_drive: the server is spoken to in version 2.1\n")
+
+    def test_what_is_forgotten_is_left_in_the_recording_beside(self) -> None:
+        out = self.folder / "out"
+        done = self.drive(self.simulated("--fault", "initial-date-early", "--rate", "1"), "--calls", "60", "--clients",
+                          "1", "--kmip", "2.1", "--empty", "--out", out, "--forget", "Initial Date", "--auditor", AUDITOR,
+                          word="audit")
+        self.assertEqual(done.returncode, 0, done.stdout + done.stderr)
+        self.assertRegex(done.stderr, r"attributes were taken out of [1-9]\d* messages")
+        self.assertEqual(len(read_marks(str(out / "recorded.ttlv"))), 120)
+        self.assertEqual(driven("audit", "--forget", "Colour").returncode, 64)
 
     def test_one_command_convicts_a_server_that_is_wrong(self) -> None:
         out = self.folder / "out"

@@ -53,6 +53,7 @@ class Identities(Laboratory):
         for name in ("client-1", "client-2"):
             for ending in ("pem", "key"):
                 (folder / f"of-{name}.{ending}").write_bytes((self.certificates / f"{name}.{ending}").read_bytes())
+            (folder / f"of-{name}.key").chmod(0o600)
         (folder / "authority.pem").write_bytes((self.certificates / "authority.pem").read_bytes())
         self.assertEqual(self.shown(["--as", folder], ["client-2", "client-1"]), ["client-2", "client-1"])
 
@@ -68,6 +69,16 @@ class Identities(Laboratory):
             self.assertEqual((done.returncode, done.stdout, done.stderr.count("\n")), (1, "", 1), done.stderr)
             self.assertIn(said, done.stderr)
         self.assertFalse(Path(self.folder / "transcript.ttlv").exists())
+
+    def test_a_key_that_everybody_may_read_is_refused(self) -> None:
+        key = self.folder / "alice.key"
+        key.write_bytes((self.certificates / "client-1.key").read_bytes())
+        for mode, told in ((0o644, "alice.key is a key that everybody on this machine may read: `chmod 600 "),
+                           (0o604, "is a key that everybody"), (0o640, "no server at 127.0.0.1:1: ")):
+            key.chmod(mode)
+            done = self.proxy(f"alice={self.certificates / 'client-1.pem'},{key}")
+            self.assertEqual((done.returncode, done.stderr.count("\n")), (1, 1), done.stderr)
+            self.assertIn(told, done.stderr)
 
     def proxy(self, *identities: str) -> object:
         words = ["--cert", "recorder.pem", "--key", "recorder.key", "--client-ca", "authority.pem", "--out",

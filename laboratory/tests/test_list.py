@@ -62,6 +62,27 @@ class Listed(InFolder):
             "call 2  two  marks 2-  -  version 1.2  Get k: no answer",
             "call 3  three  marks 3-4  2023-11-14T22:13:20Z  Get k: Failed (Item Not Found)"])
 
+    def test_calls_of_a_client_an_object_or_an_operation(self) -> None:
+        path = self.folder / "transcript"
+        located = messages.response(STAMP, messages.answering(0x08, 0, messages.text(0x420094, "k-9")))
+        with TranscriptWriter(str(path)) as transcript:
+            for client, request, response in (
+                    ("alice 127.0.0.1:5", messages.get("k-1"), messages.not_found(STAMP)),
+                    ("alice", messages.get("k-2"), messages.not_found(STAMP)),
+                    ("bob", messages.request(messages.asking(0x08)), located),
+                    ("alicent", messages.request(messages.asking(0x14, messages.text(0x420094, "k-1")), messages.asking(0x18)),
+                     messages.refusal(STAMP))):
+                transcript.end(transcript.begin(client, request), response)
+        for words, calls in ((("--client", "alice"), [1, 2]), (("--client", "bob", "--client", "alicent"), [3, 4]),
+                             (("--object", "k-1"), [1, 4]), (("--object", "k-9"), [3]), (("--operation", "get"), [1, 2]),
+                             (("--operation", "Query", "--operation", "Locate"), [3, 4]),
+                             (("--object", "k-1", "--client", "alice"), [1]), (("--object", "k"), []),
+                             (("--client", "alice", "--operation", "Destroy"), [])):
+            with self.subTest(words=words):
+                self.assertEqual([int(line.split()[1]) for line in self.listed(path, *words)], calls)
+        for words in (("--operation", "Fetch"), ("--call", 1, "--client", "alice")):
+            self.assertEqual(run("list", path, *words).returncode, 64)
+
     def test_both_messages_of_a_call_without_its_key_and_with_it(self) -> None:
         lines = self.listed(EXAMPLE, "--call", 2)
         self.assertIn("            Key Material: hidden, 16 bytes", lines)

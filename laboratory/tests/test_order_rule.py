@@ -2,6 +2,7 @@
 
 from __future__ import annotations
 
+import resource
 import shutil
 import socket
 import threading
@@ -12,7 +13,7 @@ from typing import List
 
 import messages
 import stub
-from laboratory import FOLDER, RECORDER, Laboratory, kinds
+from laboratory import FOLDER, RECORDER, Laboratory, Limit, kinds
 
 STAMP = 1_700_000_000
 HEADER_LENGTH = 24
@@ -24,7 +25,7 @@ ASK_LINE = "        response = await self._answer(client, server, request)\n"
 END_LINES = """        self._way.recording.end(self.open_call, response)
         self.open_call = None
 """
-SEND_LINE = "        await _hand_over(client, response)\n"
+SEND_LINE = "        await self._hand_over(client, response)\n"
 
 
 class OrderRule(Laboratory):
@@ -88,7 +89,7 @@ class OrderRule(Laboratory):
         faults = []
         for room, marks in ((60, []), (BEGIN_BESIDES_MESSAGE + len(request) + 60, [("begin", 1)])):
             server = self.stub(lambda peer, _: peer.sendall(messages.not_found(STAMP)))
-            recorder = self.start(server.port, program=program, limit=HEADER_LENGTH + room)
+            recorder = self.start(server.port, program=program, limit=Limit(resource.RLIMIT_FSIZE, HEADER_LENGTH + room))
             client = self.client(recorder.port)
             client.sendall(request)
             faults += ["the answer went on"] if stub.receive(client) else []

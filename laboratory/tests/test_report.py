@@ -27,7 +27,7 @@ from test_blind import shown_key
 
 from kmip_laboratory.recording.order import witness
 from kmip_laboratory.transcript import TranscriptWriter
-from kmip_laboratory.verdicts import Outcome, read_json, read_verdict
+from kmip_laboratory.verdicts import Outcome, read_account, read_explained, read_verdict
 
 EXAMPLES = FOLDER.parent / "examples"
 CHROMIUM = shutil.which("chromium")
@@ -126,9 +126,10 @@ class Report(unittest.TestCase):
         self.out = self.folder / "out.html"
 
     def page(self, *words: object) -> Page:
-        """The page that is made at these words."""
+        """The page that is made at these words, whatever the verdict."""
         done = report(self.out, *words)
-        self.assertEqual(done.returncode, 0, done.stderr)
+        self.assertIn(done.returncode, (0, 1, 4), done.stderr)
+        self.assertEqual(done.stderr, "")
         return Page(self.out.read_text(encoding="utf-8"))
 
     def strange(self) -> Path:
@@ -207,7 +208,7 @@ class Report(unittest.TestCase):
         program = self.explaining(["overlapping, and later: calls " + " ".join(map(str, range(100, 120)))])
         with unittest.mock.patch.dict(os.environ, {"KMIP_AUDIT": str(program)}):
             done = report("-", self.strange(), EXAMPLES / "destroy_twice", "--text")
-        self.assertEqual(done.returncode, 0, done.stderr)
+        self.assertEqual(done.returncode, 1, done.stderr)
         lines = done.stdout.splitlines()
         self.assertEqual(lines[0], "Calls  Recording: verdict")
         self.assertIn("    1  no: 6 WrongState", lines)
@@ -221,8 +222,8 @@ class Report(unittest.TestCase):
 
     def test_bad_words_and_what_is_there(self) -> None:
         self.out.write_text("mine")
-        for words, status, told in (([self.folder / "new", "nowhere"], 1, "has no transcript.ttlv in it"),
-                                    ([self.out, EXAMPLES / "query"], 1, "is there already"), ([self.out], 64, "RECORDING")):
+        for words, status, told in (([self.folder / "new", "nowhere"], 3, "has no transcript.ttlv in it"),
+                                    ([self.out, EXAMPLES / "query"], 3, "is there already"), ([self.out], 64, "RECORDING")):
             done = report(*words)
             self.assertEqual(done.returncode, status)
             self.assertIn(told, done.stderr)
@@ -279,7 +280,7 @@ class Report(unittest.TestCase):
                 path.write_text("mine")
                 path.chmod(mode)
                 done = report(*words)
-                self.assertEqual((done.returncode, done.stdout), (1, ""))
+                self.assertEqual((done.returncode, done.stdout), (3, ""))
                 self.assertIn(f"{path} is read-only, and is left as it is", done.stderr)
                 self.assertEqual((stat.S_IMODE(path.stat().st_mode), self.out.read_text()), (mode, "mine"))
                 path.chmod(0o600)
@@ -295,28 +296,14 @@ class Report(unittest.TestCase):
             self.assertIsNotNone(read_verdict(path.read_text(), 0), path)
         self.assertIsNone(read_verdict("no: turn 1\n", 1))
 
-    def test_json_says_what_the_lines_say(self) -> None:
-        digests = '"auditor":"9.9","files":[{"length":5,"role":"transcript","sha256":"ab"}]'
-        for members, lines in (
-                ('"verdict":"yes"', "yes"), ('"verdict":"yes","steps":7', "yes: 7 steps"),
-                ('"verdict":"no","turn":2,"call":3,"item":1,"why":{"name":"WrongState","number":6},"stamp":1700000001,'
-                 '"date":"2023-11-14T22:13:21Z"', "no: turn 2 call 3 item 1 why 6 WrongState\nat 2023-11-14T22:13:21Z"),
-                ('"verdict":"outside","call":1,"message":"request","item":0,"kind":{"name":"Version","number":2}',
-                 "outside: call 1 request item 0 kind 2 Version"),
-                ('"verdict":"witness","at":2,"kind":{"name":"LeftOut","number":3}', "witness: at 2 kind 3 LeftOut"),
-                ('"verdict":"malformed","file":"transcript","offset":9,"kind":{"name":"Ttlv","number":1},'
-                 '"flaw":"Truncated"', "malformed: transcript offset 9 kind 1 Ttlv Truncated"),
-                ('"verdict":"gave up","steps":2,"decided":true,"more":[]', "gave up: 2 steps"),
-                ('"verdict":"device"', "device"), ('"verdict":"memory"', "memory")):
-            found, plain = read_json("{" + f"{members},{digests}" + "}\n", 0), read_verdict(lines + "\n", 0)
-            self.assertIsNotNone(found, members)
-            self.assertEqual(found._replace(version="", files=(), decided=None), plain)
-            self.assertEqual((found.version, found.files[0]), ("kmip_audit 9.9", ("transcript", 5, "ab")))
-        torn = read_json('{"verdict":"malformed","file":"transcript","offset":9,"kind":{"name":"Torn","number":2},'
-                         '"auditor":"9.9","files":[{"role":"transcript"},{"role":"declaration"}]}', 2)
+    def test_what_json_tells_of_the_files(self) -> None:
+        account = read_account('{"auditor":"9.9","files":[{"length":5,"role":"transcript","sha256":"ab"}],"verdict":"yes"}\n')
+        self.assertEqual((account.version, account.files), ("kmip_audit 9.9", (("transcript", 5, "ab"),)))
+        torn = read_account('{"verdict":"malformed","file":"transcript","offset":9,"kind":{"name":"Torn","number":2},'
+                            '"auditor":"9.9","files":[{"role":"transcript"},{"role":"declaration"}]}')
         self.assertEqual([file.sha256 for file in torn.files], [None, None], "files that were not read to their ends")
-        self.assertIsNone(read_json('{"verdict":"perhaps","auditor":"1"}', 0))
-        self.assertIsNone(read_json("yes\n", 0))
+        for printed in ('{"verdict":"yes","auditor":"1"}', "yes\n", "[]", '{"auditor":"1","files":3}'):
+            self.assertIsNone(read_account(printed), printed)
 
     def test_digests_and_version_are_the_auditors_where_it_tells_them(self) -> None:
         folder = self.folder / "recording"
@@ -339,13 +326,92 @@ class Report(unittest.TestCase):
             with open(folder / "witness.ttlv", "ab") as file:
                 file.write(bytes(8))
             done = report(self.folder / "other.html", folder)
-            self.assertEqual((done.returncode, done.stdout), (1, ""))
+            self.assertEqual((done.returncode, done.stdout), (3, ""))
             self.assertIn("witness.ttlv is not what was judged", done.stderr)
             told.update(verdict="malformed", file="witness", offset=0, files=[{"role": name} for name in names])
-            program.write_text(f"#!{sys.executable}\nprint({json.dumps(told)!r})\nraise SystemExit(2)\n")
+            program.write_text(f"#!{sys.executable}\nimport sys\nprint({json.dumps(told)!r} if '--json' in sys.argv else "
+                               "'malformed: witness offset 0 kind 6 Torn')\nraise SystemExit(2)\n")
             text = "".join(self.page(folder, "--force").texts)
-            self.assertIn("malformed: witness offset 0 kind 6 WrongState", text)
+            self.assertIn("malformed: witness offset 0 kind 6 Torn", text)
             self.assertIn("SHA-256, as the report read it", text)
+
+    def test_what_a_search_explains_names_a_call_and_whether_it_decided(self) -> None:
+        told = "gave up: 3 steps\ndecided: no order explains every answer\ndeepest: 1 calls taken\ntaken: calls 2\n"
+        found = read_explained(told + "next: call 4 possible\nnext: call 1 item 1 why 11 AttributeDiffers\n", 4)
+        self.assertEqual((found.decided, found.call, found.item, found.number, found.name, len(found.explanation)),
+                         (True, 1, 1, 11, "AttributeDiffers", 5))
+        found = read_explained("gave up: 1 steps\nnot decided: the budget of 1 steps is used up\n", 4)
+        self.assertEqual((found.decided, found.call), (False, None))
+
+    def whole(self, name: str) -> Path:
+        """This example without its witness, so that an order is searched."""
+        folder = self.folder / "whole" / name
+        shutil.copytree(EXAMPLES / name, folder)
+        (folder / "witness.ttlv").unlink()
+        return folder
+
+    def test_the_page_of_a_search_tells_the_call_and_the_reason(self) -> None:
+        page = self.page(self.whole("destroy_twice"))
+        text = "".join(page.texts)
+        for words in ("decided: no order explains every answer", "next: call 2 item 1 why 6 WrongState",
+                      "Where it got furthest, call 2 can't be next: it succeeded though the object's state excludes it",
+                      "The verdict names call 2, Destroy"):
+            self.assertIn(words, text)
+        self.assertEqual(page.data["recordings"][0]["fault"], 2)
+
+    def test_the_page_of_what_is_outside_tells_its_field(self) -> None:
+        for folder in (EXAMPLES / "outside_version", self.whole("outside_version")):
+            text = "".join(self.page(folder, "--force").texts)
+            self.assertIn("field: Request Header, Protocol Version, Protocol Version Minor\nstands: 0\nwanted: 1", text)
+
+    def test_the_status_says_what_came_out(self) -> None:
+        for names, status in ((["query"], 0), (["query", "destroy_twice"], 1), (["query", "outside_version"], 4),
+                              (["outside_version", "destroy_twice"], 1), (["torn_transcript"], 4)):
+            self.assertEqual(report("-", *(EXAMPLES / name for name in names)).returncode, status, names)
+        self.assertEqual(report("-", self.whole("destroy_twice")).returncode, 1, "a search that decided")
+        self.assertEqual(report("-", self.whole("register_then_get"), "--budget", "1").returncode, 4)
+        self.assertEqual(report("-", EXAMPLES / "witness_against_order").returncode, 1)
+        self.assertEqual(report("-", EXAMPLES / "witness_against_order", "--others").returncode, 4, "another order does")
+        self.assertEqual(report("-", "nowhere").returncode, 3)
+
+    def test_the_auditor_is_given_a_time(self) -> None:
+        program = self.folder / "slow"
+        program.write_text(f"#!/bin/sh\ncase \"$*\" in *slow/*) exec sleep 60;; esac\nexec {AUDITOR} \"$@\"\n")
+        program.chmod(0o700)
+        for name in ("slow", "quick"):
+            shutil.copytree(EXAMPLES / "query", self.folder / "all" / name)
+        with unittest.mock.patch.dict(os.environ, {"KMIP_AUDIT": str(program)}):
+            done = report("-", self.folder / "all", "--seconds", "0.3", "--text", "--junit", self.folder / "junit.xml")
+        self.assertEqual((done.returncode, done.stderr), (4, ""))
+        self.assertIn("the auditor gave no answer in 0.3 seconds", done.stdout)
+        self.assertIn("2 recordings: 1 yes, 1 not\n", done.stdout)
+        self.assertEqual(ElementTree.parse(self.folder / "junit.xml").getroot().get("errors"), "1")
+        self.assertEqual(report("-", EXAMPLES / "query", "--seconds", "0").returncode, 64)
+
+    def test_a_folder_that_is_no_utf_8(self) -> None:
+        strange = os.fsencode(self.folder) + b"/all/caf\xe9 'x'"
+        shutil.copytree(os.fsencode(EXAMPLES / "destroy_twice"), strange)
+        shutil.copytree(EXAMPLES / "query", self.folder / "all" / "query")
+        done = report(self.out, self.folder / "all", "--text", "--junit", self.folder / "junit.xml")
+        self.assertEqual((done.returncode, done.stderr), (1, ""))
+        self.assertIn("caf\\xe9 'x'", done.stdout)
+        written = self.out.read_text("utf-8")
+        self.assertIn("caf\\xe9", written)
+        ElementTree.parse(self.folder / "junit.xml")
+        (command,) = [found for found in re.findall(r"^  \$ ((?:.*\\\n)*.*)", done.stdout, re.MULTILINE) if "caf" in found]
+        again = subprocess.run(["bash", "-c", command.replace("&& kmip_audit", f"&& {AUDITOR}").replace("&& \\\n    kmip_audit", f"&& {AUDITOR}")], capture_output=True, check=False)
+        self.assertEqual(again.stdout.split()[:1], [b"no:"], again.stderr)
+
+    def test_pipes_in_the_place_of_files_are_refused(self) -> None:
+        folder = self.folder / "recording"
+        for name in ("transcript.ttlv", "declaration.ttlv", "witness.ttlv"):
+            shutil.copytree(EXAMPLES / "query", folder)
+            (folder / name).unlink()
+            os.mkfifo(folder / name)
+            done = report("-", folder)
+            self.assertEqual((done.returncode, done.stdout), (3, ""))
+            self.assertIn(f"{name} is no plain file: put the file itself there", done.stderr)
+            shutil.rmtree(folder)
 
     def explaining(self, lines: List[str]) -> Path:
         """An auditor that explains each no by these lines, and is else the one that is there."""

@@ -2,6 +2,7 @@
 
 from __future__ import annotations
 
+import os
 import threading
 import time
 import unittest
@@ -66,6 +67,27 @@ class Cut(InFolder):
     def test_seconds_are_those_of_the_answers(self) -> None:
         marks = self.call(1, STAMP) + self.call(2, STAMP + 9) + self.call(3, STAMP + 11) + self.call(4, STAMP + 12)
         self.assertEqual(self.cut(marks, "--segment-seconds", 11), [whole(1, 2, 3), whole(4)])
+
+    def test_calls_by_their_numbers(self) -> None:
+        marks = [*whole(1, 2), ("begin", 3), ("begin", 4), ("end", 4), ("end", 3), ("begin", 5), *whole(6)]
+        records = [messages.begin(call, messages.get("k")) if kind == "begin" else
+                   messages.end(call, messages.not_found(STAMP)) for kind, call in marks]
+        (self.folder / "long").write_bytes(messages.transcript(*records))
+        for words, first, last, left in (("2-4", 2, 4, 3), ("5", 5, 5, 5), ("4-900", 4, 6, 3), ("1-6", 1, 6, 0)):
+            done = run("cut", "long", f"of-{words}", "--calls", words, cwd=self.folder)
+            self.assertEqual((done.returncode, done.stdout), (0, f"{last - first + 1} calls\n"), done.stderr)
+            self.assertEqual(done.stderr, f"kmip_record: {left} calls are left out: what they did is not known to a search "
+                             "of the others\n" if left else "")
+            self.assertEqual(kinds(read_marks(str(self.folder / f"of-{words}"))),
+                             [mark for mark in marks if first <= mark[1] <= last])
+        self.assertIn("long has no call from 7 to 9", self.refused("cut", "long", "short", "--calls", "7-9"))
+        for words in (("--calls", "3-2"), ("--calls", "-3"), ("--calls", "1-2", "--segment-calls", "1")):
+            self.assertEqual(run("cut", "long", "short", *words, cwd=self.folder).returncode, 64)
+
+    def test_a_pipe_is_not_cut(self) -> None:
+        os.mkfifo(self.folder / "pipe")
+        for words in (("--segment-calls", 1), ("--calls", "1-2")):
+            self.assertIn("pipe is no plain file", self.refused("cut", "pipe", "short", *words))
 
     def test_what_can_not_be_cut(self) -> None:
         (self.folder / "long").write_bytes(messages.transcript(*self.call(1), *self.call(2))[:-8])

@@ -14,6 +14,7 @@ from .trouble import Trouble
 LIBRARY, SHARED, DOCUMENTS = "lib/kmip-audit", "share/kmip-audit", "share/doc/kmip-audit"
 LABORATORY = ("kmip_record", "kmip_drive", "kmip_report")
 COMMANDS = ("kmip_audit", *LABORATORY)
+MIXES = "laboratory/kmip_laboratory/mixes"
 # The word that is meant where none is given.
 USUAL_WORDS = {"kmip_drive": "drive"}
 # Where zsh looks for the completions of packages on Debian, and for those of the machine elsewhere.
@@ -42,7 +43,7 @@ class Made(NamedTuple):
 def files(made: Made, of_debian: bool) -> List[File]:
     """All files of a package."""
     return [*_programs(made, of_debian), *_manuals(made), *_completions(made, of_debian), *_documents(made),
-            *_examples()]
+            *_examples(), *_pykmip()]
 
 
 def _read(path: str) -> bytes:
@@ -55,7 +56,7 @@ def _programs(made: Made, of_debian: bool) -> Iterator[File]:
         yield File(f"bin/{name}", link=f"../{LIBRARY}/{name}")
         text = _read(f"laboratory/{name}")
         yield File(f"{LIBRARY}/{name}", text.replace(ON_PATH, OF_SYSTEM, 1) if of_debian else text, PROGRAM)
-    for path in repository.files_below("laboratory/kmip_laboratory", "laboratory/mixes"):
+    for path in repository.files_below("laboratory/kmip_laboratory"):
         yield File(f"{LIBRARY}/{PurePosixPath(path).relative_to('laboratory')}", _read(path))
 
 
@@ -86,11 +87,18 @@ def _examples() -> Iterator[File]:
         yield File(f"{SHARED}/{path}", _read(path))
 
 
+def _pykmip() -> Iterator[File]:
+    """What PyKMIP lacks, and a server of it to try things on, which the documents name."""
+    yield File(f"{DOCUMENTS}/pykmip", link=f"../../{SHARED.rpartition('/')[2]}/pykmip")
+    for path in repository.files_below("laboratory/pykmip"):
+        yield File(f"{SHARED}/{PurePosixPath(path).relative_to('laboratory')}", _read(path))
+
+
 def completions_of(program: Path) -> Iterator[Completion]:
     """Those of this auditor, and of the laboratory's programs."""
     with completions.Asked() as asked:
         faults = asked.printed(TOP / "laboratory/kmip_drive", "faults").splitlines()
-        mixes = [PurePosixPath(path).stem for path in repository.files_below("laboratory/mixes")]
+        mixes = [PurePosixPath(path).stem for path in repository.files_below(MIXES)]
         known: Dict[str, Sequence[str]] = {"--fault": [line.partition(":")[0] for line in faults], "--mix": mixes}
         for name in COMMANDS:
             said = asked.said(TOP / "laboratory" / name if name in LABORATORY else program)

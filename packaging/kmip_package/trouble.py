@@ -1,5 +1,3 @@
-"""What ends the making of a package."""
+"""What ends the making of a package: the laboratory's, whose front tells it."""
 
-
-class Trouble(Exception):
-    """The text says what is wrong, and what to do."""
+from kmip_laboratory.trouble import Trouble as Trouble

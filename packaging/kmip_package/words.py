@@ -4,32 +4,25 @@ from __future__ import annotations
 
 import argparse
 import subprocess
-import sys
 import time
 from pathlib import Path
-from typing import Dict, List, NoReturn, Optional
+from typing import Dict, List, Optional
+
+from kmip_laboratory.front import Parser, run
+from kmip_laboratory.trouble import WrongWords
 
 from . import contents, debian, proof, repository, statement
 from .archives import deb, gzipped, sums, tar
 from .contents import Made
 from .trouble import Trouble
 
-DONE, TROUBLE, USAGE = 0, 1, 64
 ABOUT = """\
 Makes packages of the program that is built, where the check passed it: a Debian package, a tar archive, what was
 proved, and the SHA-256 of each. The same commit gives the same bytes.
 """
 
 
-class Parser(argparse.ArgumentParser):
-    """A parser whose status for wrong words is that of the other programs."""
-
-    def error(self, message: str) -> NoReturn:
-        self.print_usage(sys.stderr)
-        self.exit(USAGE, f"{self.prog}: {message}\n")
-
-
-def main(words: List[str]) -> int:
+def main(arguments: Optional[List[str]] = None) -> int:
     """Does what the words say, and answers the status."""
     parser = Parser(prog="scripts/package", description=ABOUT)
     parser.add_argument("folder", nargs="?", type=Path, metavar="OUT", help="a new folder for the packages")
@@ -37,19 +30,18 @@ def main(words: List[str]) -> int:
                         "which printed LOG, has just passed it, for a later run")
     parser.add_argument("--unproved", type=Path, metavar="PROGRAM", help="for tests alone: packages this program, and "
                         "says that it is NOT PROVED")
-    said = parser.parse_args(words)
+    parser.set_defaults(run=_package)
+    return run(parser, arguments)
+
+
+def _package(said: argparse.Namespace) -> None:
     if (said.folder is None) == (said.passed is None) or (said.passed and said.unproved):
-        parser.error("give a folder, or --passed and what `rt ci` printed")
-    try:
-        if said.passed:
-            proof.note(said.passed)
-        else:
-            for line in make(said.folder, said.unproved):
-                print(line)
-    except Trouble as trouble:
-        print(f"scripts/package: {trouble}", file=sys.stderr)
-        return TROUBLE
-    return DONE
+        raise WrongWords("give a folder, or --passed and what `rt ci` printed")
+    if said.passed:
+        proof.note(said.passed)
+        return
+    for line in make(said.folder, said.unproved):
+        print(line)
 
 
 def make(folder: Path, unproved: Optional[Path]) -> List[str]:

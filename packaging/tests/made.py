@@ -18,7 +18,8 @@ IS_BUILT = PROGRAM.resolve() == BUILT.resolve()
 COMMANDS = ("kmip_audit", "kmip_record", "kmip_drive", "kmip_report")
 SECONDS = 900
 
-sys.path.insert(0, str(TOP / "packaging"))
+for _folder in ("laboratory", "packaging"):
+    sys.path.insert(0, str(TOP / _folder))
 
 
 def run(*words: object, **more: object) -> subprocess.CompletedProcess[str]:

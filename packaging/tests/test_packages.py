@@ -20,6 +20,9 @@ from kmip_package import completions, contents, repository, statement
 C_LIBRARY = {"linux-vdso.so.1", "libc.so.6", "libm.so.6", "ld-linux-x86-64.so.2"}
 MOST_MILLISECONDS = 5
 STARTS = 50
+# Documents that speak of the repository itself.
+OF_DEVELOPERS = ("ADDING", "CHANGES", "CONTRIBUTING", "DECISIONS", "MAP", "PROOFS", "SPEED", "TESTS")
+OF_LABORATORY = re.compile(r"`laboratory/([\w./-]*)")
 OPTION_IN_MANUAL = re.compile(r"--[a-z][a-z-]*")
 ASK_BASH = """\
 source "$1"; shift
@@ -126,6 +129,19 @@ class InTheArchive(unittest.TestCase):
     def test_the_program_tells_its_commit(self) -> None:
         commit = run("git", "rev-parse", "HEAD", cwd=TOP).stdout.strip()
         self.assertIn(f"\ncommit {commit}\n", run(self.top / "bin/kmip_audit", "--version").stdout)
+
+    def test_the_documents_name_what_is_there_of_the_laboratory(self) -> None:
+        documents = [path for path in (self.top / "share/doc/kmip-audit/docs").glob("*.md") if path.stem not in OF_DEVELOPERS]
+        self.assertGreater(len(documents), 10)
+        for document in documents:
+            for name in OF_LABORATORY.findall(document.read_text("utf-8")):
+                places = [self.top / folder / name for folder in ("lib/kmip-audit", "share/kmip-audit")]
+                self.assertTrue(any(place.exists() for place in places), f"{document.name} names laboratory/{name}")
+
+    def test_a_server_of_pykmip_runs_from_there(self) -> None:
+        for name in ("pykmip_tls.py", "pykmip_server.py"):
+            path = self.top / "share/doc/kmip-audit/pykmip" / name
+            self.assertEqual(path.read_bytes(), (TOP / "laboratory/pykmip" / name).read_bytes())
 
     def test_the_manuals_have_each_word_and_option(self) -> None:
         asking = completions.Asked()

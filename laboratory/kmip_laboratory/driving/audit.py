@@ -2,65 +2,87 @@
 
 from __future__ import annotations
 
-import argparse
-import os
-import subprocess
-import sys
+import asyncio
 from pathlib import Path
-from typing import Callable, List
+from typing import FrozenSet, List, NamedTuple
 
-from ..auditor import VARIABLE, Auditor
-from ..recordings import DECLARATION, WITNESS
-from ..trouble import Trouble
+from ..auditor import Auditor
+from ..recording import declaration, inventory
+from ..recordings import DECLARATION, TRANSCRIPT, WITNESS
+from ..reporting.judging import Asking
+from ..reporting.words import make_page
+from ..sifting import run as sifting
+from ..trouble import Trouble, say
+from ..versions import Version
 from . import record
 from .decide import PART, Decision, decide
 from .drive import Job, drive
 
-PROGRAMS = Path(__file__).resolve().parents[2]
-RECORDER, REPORTER = PROGRAMS / "kmip_record", PROGRAMS / "kmip_report"
 REPORT = "report.html"
+# What was recorded, where something of it is forgotten.
+RECORDED = "recorded.ttlv"
 # The report of what no search decided asks for so many steps at most, since it searches once more.
 STEPS_OF_REPORT = 10_000
 
 
-def run(job: Job, words: argparse.Namespace, auditor: Auditor, tell: Callable[[str], None]) -> int:
-    """Everything; the files are in the folder that --out names. The status is the auditor's: 0 where it found a
-    witness, 1 where it decided that there is none, 4 where it decided nothing, else what it ended with."""
-    folder: Path = words.out
-    with record.recording(folder, job.version, tell) as transcript:
-        if words.empty:
-            record.declare(folder, words.unique_names, words.reason)
-        else:
-            _ask_the_server(folder, words)
+class Wanted(NamedTuple):
+    """What is asked for besides the driving: the folder, what is declared of the server, the attributes that are forgotten,
+    and the steps of each search."""
+
+    folder: Path
+    is_empty: bool
+    unique_names: bool
+    rows: List[declaration.Row]
+    forgotten: FrozenSet[int]
+    budget: int
+
+
+def run(job: Job, wanted: Wanted, auditor: Auditor) -> int:
+    """Everything. The status is the auditor's: 0 where it found a witness, 1 where it decided that there is none, 4 where
+    it decided nothing, else what it ended with."""
+    folder = wanted.folder
+    with record.recording(folder, job.version) as transcript:
+        _declare(job, wanted)
         done = drive(job, transcript, progress=True)
         print(transcript.summary())
     print("\n".join(done.lines()), flush=True)
-    decision = decide(folder, auditor, words.budget)
+    _forget(wanted)
+    decision = decide(folder, auditor, wanted.budget)
     print("\n".join(explained(folder, decision)), flush=True)
-    _report(folder / PART if decision.convicted else folder, folder / REPORT, auditor, words.budget)
+    asking = Asking(min(wanted.budget, STEPS_OF_REPORT), others=True, program=auditor.program)
+    _report(folder / PART if decision.convicted else folder, folder / REPORT, asking)
     return decision.status
 
 
-def _report(recording: Path, page: Path, auditor: Auditor, budget: int) -> None:
-    """The page of what was decided, by `kmip_report`: of the calls that convict, where there are such."""
-    words = [str(page), str(recording), "--others", "--budget", str(min(budget, STEPS_OF_REPORT))]
-    done = subprocess.run([sys.executable, str(REPORTER), *words], stdout=subprocess.PIPE, text=True, check=False,
-                          env={**os.environ, VARIABLE: auditor.program})
-    print(f"{page} shows it" if done.returncode == 0 else "no page was made of it")
+def _report(recording: Path, page: Path, asking: Asking) -> None:
+    """The page of what was decided: of the calls that convict, where there are such."""
+    try:
+        make_page(str(page), str(recording), asking)
+        print(f"{page} shows it")
+    except Trouble as trouble:
+        say(f"no page was made of it: {trouble}")
 
 
-def _ask_the_server(folder: Path, words: argparse.Namespace) -> None:
-    """What the server holds, by `kmip_record declare`."""
-    asked = ["declare", "--server", str(words.server), "--server-cert", words.cert, "--server-key", words.key,
-             "--server-ca", words.ca, "--out", str(folder / DECLARATION)]
-    asked += ["--unique-names"] if words.unique_names else []
-    asked += ["--version", words.kmip] if words.kmip != "2.1" else []
-    for reason in words.reason:
-        asked += ["--reason", reason]
-    done = subprocess.run([sys.executable, str(RECORDER), *asked], stdout=subprocess.PIPE, text=True, check=False)
-    if done.returncode != 0:
-        raise Trouble("the server could not be asked what it holds; on one that holds nothing, give --empty")
-    print(f"declaration: {done.stdout.strip()}")
+def _declare(job: Job, wanted: Wanted) -> None:
+    """What the server holds, as it says itself; or nothing."""
+    entries: List[bytes] = []
+    if not wanted.is_empty:
+        try:
+            held = asyncio.run(inventory.held(job.server, job.context, Version(*job.version), False))
+            entries = inventory.entries({"client": held}, False)
+        except Trouble as trouble:
+            raise Trouble(f"the server could not be asked what it holds ({trouble}); on one that holds nothing, give "
+                          "--empty") from None
+    told = declaration.run(wanted.unique_names, wanted.rows, entries, str(wanted.folder / DECLARATION), False)
+    print(f"declaration: {told}", flush=True)
+
+
+def _forget(wanted: Wanted) -> None:
+    """Takes attributes out of what was recorded, which stays beside it."""
+    if wanted.forgotten:
+        source, target = wanted.folder / RECORDED, wanted.folder / TRANSCRIPT
+        target.rename(source)
+        print(sifting.run(str(source), str(target), frozenset(), wanted.forgotten), flush=True)
 
 
 def explained(folder: Path, decision: Decision) -> List[str]:

@@ -27,6 +27,8 @@ from .requests import write_request
 
 NAMES = {operation.value: operation.name for operation in Operation}
 CAME_TO = {SUCCESS: "done", UNDONE: "undone"}
+# The last version in which the items of a batch have no order unless that is asked for.
+LAST_WITHOUT_ORDER = (1, 2)
 MOST_BREAKS_IN_A_ROW = 5
 SECONDS_AFTER_A_BREAK = 0.1
 SLOW_PIECE = 16
@@ -138,7 +140,7 @@ class Client(threading.Thread):
 
     def _call(self, planned: PlannedCall, cut: Optional[Cut]) -> None:
         asks = [self._known.ask(item) for item in planned.items]
-        request = write_request(Request(self._version, tuple(asks), planned.option, planned.ordered))
+        request = write_request(Request(self._version, tuple(asks), planned.option, self._order_of(planned)))
         server = self._reach()
         if cut is Cut.BEFORE_SENDING:
             raise CutOff
@@ -155,6 +157,13 @@ class Client(threading.Thread):
         response = self._answer(cut, planned.where)
         self._marks.end(call, response)
         self._learn(asks, response)
+
+    def _order_of(self, planned: PlannedCall) -> Optional[bool]:
+        """What the request says of the order of its items. Up to 1.2 a batch that says nothing has none, so that the ID
+        Placeholder would mean nothing in it."""
+        if planned.ordered is None and len(planned.items) > 1 and self._version <= LAST_WITHOUT_ORDER:
+            return True
+        return planned.ordered
 
     def _answer(self, cut: Optional[Cut], where: float) -> bytes:
         """The whole response."""

@@ -62,7 +62,7 @@ def decide(folder: Path, auditor: Auditor, budget: int) -> Decision:
             return Decision(found.text, found.status, [])
         _write(folder / PART, trials, left)
     numbers = [call.number for call in left]
-    return Decision(found.text, 1, numbers, auditor.explained(*_files(folder / PART)))
+    return Decision(found.text, 1, numbers, auditor.explained("check", *_files(folder / PART)))
 
 
 def _is_decided(found: Verdict, budget: int, calls: List[Call]) -> bool:

@@ -113,7 +113,7 @@ class Engine:
         return getattr(self, way)(ask, call)
 
     def idle(self, ask: Ask, _: Call) -> Answer:
-        """Query and Discover Versions tell nothing here."""
+        """Query tells nothing here, and Discover Versions what stands in every answer to it."""
         return Answer(ask.operation)
 
     # New objects

@@ -1,4 +1,4 @@
-"""Mixes: small text files that say how often each thing is asked. laboratory/mixes has five."""
+"""Mixes: small text files that say how often each thing is asked. the folder mixes has five."""
 
 from __future__ import annotations
 
@@ -8,7 +8,7 @@ from typing import Dict, List, Tuple
 
 from ..trouble import Trouble
 
-FOLDER = Path(__file__).resolve().parents[2] / "mixes"
+FOLDER = Path(__file__).resolve().parents[1] / "mixes"
 SUFFIX = ".mix"
 
 KINDS = ("create", "register-key", "register-secret", "locate", "get", "get-attributes", "activate", "revoke",

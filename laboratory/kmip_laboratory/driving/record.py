@@ -5,19 +5,18 @@ from __future__ import annotations
 import shutil
 from contextlib import contextmanager
 from pathlib import Path
-from typing import Callable, Iterator, List
+from typing import Iterator, List
 
 from ..recording import declaration
 from ..recordings import DECLARATION, TRANSCRIPT
 from ..transcript import TranscriptWriter
-from ..trouble import Trouble
+from ..trouble import Trouble, say
 from .drive import JUDGED
 from .messages import Version
 
 
-
 @contextmanager
-def recording(folder: Path, version: Version, tell: Callable[[str], None]) -> Iterator[TranscriptWriter]:
+def recording(folder: Path, version: Version) -> Iterator[TranscriptWriter]:
     """A transcript in a new folder, which is not left there where no call was recorded."""
     try:
         folder.mkdir(parents=True)
@@ -26,8 +25,8 @@ def recording(folder: Path, version: Version, tell: Callable[[str], None]) -> It
     except OSError as error:
         raise Trouble(f"{folder} can't be made: {error.strerror}; name another folder") from None
     if version != JUDGED:
-        tell(f"version {version[0]}.{version[1]} is written as 2.1 in the transcript: what is judged then is not quite "
-             "what was said")
+        say(f"version {version[0]}.{version[1]} is written as 2.1 in the transcript: what is judged then is not quite "
+            "what was said")
     with TranscriptWriter(str(folder / TRANSCRIPT)) as transcript:
         try:
             yield transcript
@@ -37,6 +36,6 @@ def recording(folder: Path, version: Version, tell: Callable[[str], None]) -> It
             raise
 
 
-def declare(folder: Path, unique_names: bool, rows: List[str]) -> None:
+def declare(folder: Path, unique_names: bool, rows: List[declaration.Row]) -> None:
     """A declaration that the server was empty."""
-    declaration.run(unique_names, [declaration.read_row(row) for row in rows], [], str(folder / DECLARATION), False)
+    declaration.run(unique_names, rows, [], str(folder / DECLARATION), False)

@@ -40,6 +40,8 @@ def _payload(version: Version, answer: Answer) -> List[bytes]:
         made.insert(0, ttlv.integer(Tag.LOCATED_ITEMS, len(answer.identifiers)))
     if answer.operation == Operation.GET_ATTRIBUTES:
         made += wire.attributes(version, answer.attributes, always=True)
+    if answer.operation == Operation.DISCOVER_VERSIONS:
+        made += [wire.version_item(wire.read_version(words)) for words in reversed(wire.VERSIONS)]
     if answer.material is not None:
         made.append(wire.material(answer.material))
     return made

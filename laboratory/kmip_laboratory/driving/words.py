@@ -3,72 +3,41 @@
 from __future__ import annotations
 
 import argparse
-import sys
+import asyncio
+from dataclasses import replace
 from pathlib import Path
-from typing import List, NoReturn
+from typing import List, Optional
 
 from .. import tls
 from ..address import Address, read_address
 from ..auditor import Auditor
+from ..front import DONE, TROUBLE, Parser, run_or_help
 from ..outputs import see_apart
-from ..plain import plain
-from ..recording import declaration
-from ..trouble import Trouble, WrongWords, hush
+from ..recording import declaration, discovery
+from ..recording.passes import attribute_of
+from ..trouble import Trouble, say
 from . import audit, calibrate, certificates, drive, mixes, simulate, wire
 from .cuts import HELP, Cut, Cuts
 from .faults import FAULTS, description
 from .record import recording
 
-DONE, TROUBLE, USAGE = 0, 1, 64
 # At `audit` 1 says that no order explains the recording.
 TROUBLE_OF_AUDIT = 3
 USUAL_CALLS = 1000
+USUAL_VERSION = "2.1"
 OPTIONS = {Cut.BEFORE_SENDING: "--cut-before-sending", Cut.IN_REQUEST: "--cut-in-request", Cut.END: "--end",
            Cut.AFTER_SENDING: "--cut-after-sending", Cut.IN_ANSWER: "--cut-in-answer", Cut.SLOW: "--slow"}
 
 
-class Parser(argparse.ArgumentParser):
-    """A parser whose status for wrong words is that of the auditor."""
-
-    def error(self, message: str) -> NoReturn:
-        self.print_usage(sys.stderr)
-        self.exit(USAGE, f"{self.prog}: {message}\n")
-
-
-def tell(words: str) -> None:
-    """Tells the person at the terminal something, on one line."""
-    print(f"kmip_drive: {plain(words)}", file=sys.stderr, flush=True)
-
-
-def main(arguments: List[str]) -> int:
+def main(arguments: Optional[List[str]] = None) -> int:
     """Does what the words say, and answers the status. Options without a word are those of `drive`."""
-    parser = _parser()
-    if not arguments:
-        parser.print_help()
-        return DONE
-    if arguments[0].startswith("--") and arguments[0] != "--help":
-        arguments = ["drive", *arguments]
-    words = parser.parse_args(arguments)
-    try:
-        return words.run(words)
-    except WrongWords as trouble:
-        tell(str(trouble))
-        return USAGE
-    except Trouble as trouble:
-        tell(str(trouble))
-        return words.trouble
-    except KeyboardInterrupt:
-        tell("ended by Ctrl-C")
-        return words.trouble
-    except BrokenPipeError:
-        hush()
-        return words.trouble
+    return run_or_help(_parser(), arguments, usual="drive")
 
 
 def _parser() -> Parser:
     parser = Parser(prog="kmip_drive", description="Makes a key server work hard, so that its faults show: see "
                     "docs/DRIVING.md. Options without a word are those of drive.")
-    parser.set_defaults(trouble=TROUBLE)
+    parser.set_defaults(unread=TROUBLE)
     words = parser.add_subparsers(required=True, metavar="WORD", parser_class=Parser)
     _add_drive(words.add_parser("drive", help="let clients make calls to a server at once"))
     _add_simulate(words.add_parser("simulate", help="be a key server, with faults that are asked for"))
@@ -112,11 +81,6 @@ def _pause(words: str) -> float:
     return 0.0 if words == "0" else _seconds(words)
 
 
-def _row(words: str) -> str:
-    declaration.read_row(words)
-    return words
-
-
 def add_load(word: argparse.ArgumentParser) -> None:
     """The options that say what is driven."""
     add = word.add_argument
@@ -124,7 +88,7 @@ def add_load(word: argparse.ArgumentParser) -> None:
     add("--cert", required=True, metavar="FILE", help="certificate of the clients, in PEM")
     add("--key", required=True, metavar="FILE", help="its key, in PEM")
     add("--ca", required=True, metavar="FILE", help="authority of the server's certificate")
-    add("--kmip", choices=wire.VERSIONS, default="2.1", help="the version that is spoken (2.1)")
+    add("--kmip", choices=wire.VERSIONS, help="the version that is spoken (2.1; at audit the newest that the server has)")
     add("--clients", type=_count, default=4, metavar="N", help="clients at once (4)")
     add("--calls", type=_count, metavar="N", help=f"calls of all clients together ({USUAL_CALLS})")
     add("--seconds", type=_seconds, metavar="S", help="how long, in place of --calls")
@@ -145,8 +109,9 @@ def job_of(words: argparse.Namespace) -> drive.Job:
         raise Trouble("the shares of calls that something befalls are above 1 together: give smaller ones")
     calls = USUAL_CALLS if words.calls is None and words.seconds is None else words.calls
     context = tls.toward_server(words.cert, words.key, words.ca)
-    return drive.Job(words.server, context, mixes.find(words.mix), wire.read_version(words.kmip), words.clients, calls,
-                     words.seconds, words.seed, words.patience, words.pause, Cuts(shares))
+    version = wire.read_version(words.kmip or USUAL_VERSION)
+    return drive.Job(words.server, context, mixes.find(words.mix), version, words.clients, calls, words.seconds,
+                     words.seed, words.patience, words.pause, Cuts(shares))
 
 
 def _see_folder_apart(words: argparse.Namespace, *more: str) -> None:
@@ -167,7 +132,7 @@ def _drive(words: argparse.Namespace) -> int:
     if words.out is None:
         done = drive.drive(job, progress=True)
     else:
-        with recording(words.out, job.version, tell) as transcript:
+        with recording(words.out, job.version) as transcript:
             done = drive.drive(job, transcript, progress=True)
             print(transcript.summary())
     print("\n".join(done.lines()), flush=True)
@@ -194,7 +159,7 @@ def _simulate(words: argparse.Namespace) -> int:
     context = tls.toward_clients(words.cert, words.key, words.ca)
     with simulate.listen(engine, context, words.listen) as server:
         faults = ", ".join(words.fault) or "no fault"
-        tell(f"a key server with {faults} is at {Address(words.listen.host, server.port)}; Ctrl-C ends")
+        say(f"a key server with {faults} is at {Address(words.listen.host, server.port)}; Ctrl-C ends")
         simulate.wait()
     print(f"{engine.struck} times a fault came about")
     return DONE
@@ -238,16 +203,23 @@ def _add_audit(word: argparse.ArgumentParser) -> None:
     word.add_argument("--out", type=Path, required=True, metavar="FOLDER", help="a new folder for all files")
     word.add_argument("--empty", action="store_true", help="the server holds nothing, and need not be asked")
     word.add_argument("--unique-names", action="store_true", help="declare that live objects never share a name")
-    word.add_argument("--reason", type=_row, action="append", default=[], metavar="NUMBER=CAUSE",
+    word.add_argument("--reason", type=declaration.read_row, action="append", default=[], metavar="NUMBER=CAUSE",
                       help="a Result Reason that is given only for NotFound, WrongState or TakenName")
+    word.add_argument("--forget", type=attribute_of, action="append", default=[], metavar="NAME",
+                      help="take this judged attribute out of what Get Attributes tells; may be repeated")
     _add_auditor(word, 1_000_000)
-    word.set_defaults(run=_audit, trouble=TROUBLE_OF_AUDIT)
+    word.set_defaults(run=_audit, trouble=TROUBLE_OF_AUDIT, unread=TROUBLE_OF_AUDIT)
 
 
 def _audit(words: argparse.Namespace) -> int:
     auditor = Auditor(words.auditor)
     _see_folder_apart(words, auditor.file)
-    return audit.run(job_of(words), words, auditor, tell)
+    job = job_of(words)
+    if words.kmip is None:
+        job = replace(job, version=asyncio.run(discovery.newest(job.server, job.context)))
+        say(f"the server is spoken to in version {job.version[0]}.{job.version[1]}")
+    wanted = audit.Wanted(words.out, words.empty, words.unique_names, words.reason, frozenset(words.forget), words.budget)
+    return audit.run(job, wanted, auditor)
 
 
 def _faults(_: argparse.Namespace) -> int:

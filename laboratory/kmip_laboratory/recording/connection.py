@@ -17,6 +17,7 @@ from .. import peer
 from ..address import Address
 from ..peer import Peer
 from ..trouble import ConnectionTrouble, say
+from .admission import Admission
 from .recording import Recording
 from .segments import Gate
 
@@ -29,6 +30,8 @@ class Way(NamedTuple):
     toward_server: ssl.SSLContext
     recording: Recording
     answer_within: float
+    idle: float
+    admission: Admission
     gate: Gate
     identities: Dict[str, ssl.SSLContext]
 
@@ -44,6 +47,7 @@ class Connection:
 
     def __init__(self, client: socket.socket, address: Address, way: Way) -> None:
         self._socket = client
+        self._host = address.host
         self._way = way
         self._ending = False
         self._busy = False
@@ -58,19 +62,28 @@ class Connection:
 
     async def serve(self) -> None:
         """Takes calls from the client until one of the sides closes."""
-        client = await peer.accept(self._socket, self._way.toward_clients)
+        client = await self._greet()
         try:
             name = client.common_name()
-            self.name = f"{name} {self.name}" if name and self._way.identities else name or self.name
-            server = await peer.connect(self._way.server, self._way.toward_server_as(name))
-            server.gone.add_done_callback(lambda _: client.stop_waiting())
-            client.gone.add_done_callback(lambda _: self._wait_no_longer(server))
-            try:
-                await self._take_calls(client, server)
-            finally:
-                await server.close()
+            with self._way.admission.one_of(name or self._host):
+                self.name = f"{name} {self.name}" if name and self._way.identities else name or self.name
+                await self._serve(client, name)
         finally:
             await client.close()
+
+    async def _greet(self) -> Peer:
+        """The client, which is unknown up to its certificate."""
+        with self._way.admission.unknown():
+            return await peer.accept(self._socket, self._way.toward_clients)
+
+    async def _serve(self, client: Peer, name: Optional[str]) -> None:
+        server = await peer.connect(self._way.server, self._way.toward_server_as(name))
+        server.gone.add_done_callback(lambda _: client.stop_waiting())
+        client.gone.add_done_callback(lambda _: self._wait_no_longer(server))
+        try:
+            await self._take_calls(client, server)
+        finally:
+            await server.close()
 
     def _wait_no_longer(self, server: Peer) -> None:
         """The client broke off. The server does not see that until it has answered, or until the time for that is over:
@@ -80,7 +93,7 @@ class Connection:
 
     async def _take_calls(self, client: Peer, server: Peer) -> None:
         while not self._ending:
-            request = await client.receive()
+            request = await client.receive_within(self._way.idle)
             if request is None or server.gone.done():
                 return
             self._busy = True
@@ -93,20 +106,19 @@ class Connection:
         response = await self._answer(client, server, request)
         self._way.recording.end(self.open_call, response)
         self.open_call = None
-        await _hand_over(client, response)
+        await self._hand_over(client, response)
 
     async def _answer(self, client: Peer, server: Peer, request: bytes) -> bytes:
         if client.gone.done():
             self._wait_no_longer(server)
-        await server.send(request)
+        await server.send(request, self._way.idle)
         response = await server.receive()
         if response is None:
             raise ConnectionTrouble("the server gave no answer" if server.gone.done() or not client.gone.done() else
                                     f"the client broke off, and no answer came in {self._way.answer_within:g} s")
         return response
 
-
-async def _hand_over(client: Peer, response: bytes) -> None:
-    if client.gone.done():
-        raise ConnectionTrouble("the client broke off; the server's answer is marked all the same")
-    await client.send(response)
+    async def _hand_over(self, client: Peer, response: bytes) -> None:
+        if client.gone.done():
+            raise ConnectionTrouble("the client broke off; the server's answer is marked all the same")
+        await client.send(response, self._way.idle)

@@ -7,10 +7,13 @@ from typing import BinaryIO, Dict, FrozenSet, List, Optional, Set
 
 from .. import message
 from ..files import new_folder
+from ..paths import see_plain
 from ..transcript import FILE_HEADER, Begin, Mark, marks_in, spelled_marks_in
 from ..trouble import Trouble, say
 from ..untranslated import Untranslated
+from .rewriting import rewrite
 from .segments import Due, Segments
+from .selection import Range
 
 
 def never_ended(source: str) -> FrozenSet[int]:
@@ -69,7 +72,9 @@ def segment_name(number: int) -> str:
 def run(source: str, folder: str, segments: Segments) -> str:
     """Makes the folder with the files, tells what is in them, and answers the summary."""
     if not segments.are_asked:
-        raise Trouble("`cut` needs --segment-calls or --segment-seconds: after how many a new file is to begin")
+        raise Trouble("`cut` needs --segment-calls or --segment-seconds, after how many a new file is to begin; or --calls, "
+                      "which are to be left")
+    see_plain(source)
     untranslated = Untranslated(source)
     with new_folder(folder) as made:
         cutter = Cutter(made, segments, never_ended(source))
@@ -83,3 +88,17 @@ def run(source: str, folder: str, segments: Segments) -> str:
             count > segments.calls) else ""
         say(f"{segment_name(number)}: {count} calls{more}")
     return f"{len(cutter.counts)} files, {sum(cutter.counts)} calls"
+
+
+def run_of(source: str, target: str, wanted: Range) -> str:
+    """Writes a transcript of these calls alone, tells what it lacks, and answers the summary."""
+    see_plain(source)
+    begun = [mark.call for mark in marks_in(source) if isinstance(mark, Begin)]
+    kept = [call for call in begun if wanted.first <= call <= wanted.last]
+    if not kept:
+        raise Trouble(f"{source} has no call from {wanted.first} to {wanted.last}; `kmip_record list {source}` has the "
+                      "numbers of its calls")
+    rewrite(source, target, lambda mark: mark if wanted.first <= mark.call <= wanted.last else None)
+    if len(kept) < len(begun):
+        say(f"{len(begun) - len(kept)} calls are left out: what they did is not known to a search of the others")
+    return f"{len(kept)} calls"

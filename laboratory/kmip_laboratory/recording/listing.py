@@ -18,18 +18,21 @@ from ..trouble import Trouble
 from ..ttlv import Item, Kind
 from ..untranslated import Untranslated
 from .calls import Call, ordered_calls
+from .selection import ALL, Selection
 
 MOST_IDENTIFIERS = 3
 BETWEEN = "  "
 
 
-def lines(path: str) -> Iterator[str]:
-    """A line for each call, in the order of their begins: number, client, marks, moment, and each item."""
+def lines(path: str, selection: Selection = ALL) -> Iterator[str]:
+    """A line for each call that is meant, in the order of their begins: number, client, marks, moment, and each item."""
     untranslated = Untranslated(path)
     for call in ordered_calls(path):
         untranslated.take(call.request)
         untranslated.take(call.response)
         asked, answered = call.asked(), call.answered()
+        if not selection.has(call, asked, answered):
+            continue
         marks = f"marks {call.first}-{call.last or ''}"
         moment = date(answered.stamp) if answered and answered.stamp is not None else "-"
         yield BETWEEN.join([f"call {call.number}", plain(call.client), marks, moment, *_items(call, asked, answered)])

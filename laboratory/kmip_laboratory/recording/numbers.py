@@ -27,9 +27,9 @@ def read_milliseconds(words: str) -> int:
 
 
 def read_count(words: str) -> int:
-    """The number of calls that these words are."""
+    """The number that these words are, of calls or of connections."""
     if not (words.isascii() and words.isdigit() and 0 < int(words) <= MOST_CALLS):
-        raise argparse.ArgumentTypeError(f"{words!r} is no number of calls from 1 to {MOST_CALLS}")
+        raise argparse.ArgumentTypeError(f"{words!r} is no number from 1 to {MOST_CALLS}")
     return int(words)
 
 

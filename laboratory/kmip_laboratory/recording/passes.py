@@ -3,7 +3,6 @@
 from __future__ import annotations
 
 import argparse
-import sys
 from typing import Iterable
 
 from ..outputs import see_apart
@@ -11,8 +10,8 @@ from ..plain import plain
 from ..sifting import effects, forgetting
 from ..sifting import run as sifting
 from ..translation import run as translation
-from ..trouble import Trouble, hush
-from . import cut, listing
+from ..trouble import Trouble, WrongWords
+from . import cut, listing, selection
 from .numbers import add_segment_words
 from .segments import Segments
 
@@ -29,13 +28,20 @@ def _add_list(word: argparse.ArgumentParser) -> None:
     word.add_argument("transcript", metavar="TRANSCRIPT")
     word.add_argument("--call", type=int, metavar="N", help="both messages of this call, in place of a line for each")
     word.add_argument("--keys", action="store_true", help="show keys, passwords and all other values too, with --call")
+    word.add_argument("--client", action="append", default=[], metavar="NAME", help="the calls of this client alone; may be "
+                      "repeated, as the next two")
+    word.add_argument("--object", action="append", default=[], metavar="ID", help="the calls that name this object")
+    word.add_argument("--operation", type=selection.read_operation, action="append", default=[], metavar="NAME",
+                      help="the calls that ask for this operation")
     word.set_defaults(run=_list)
 
 
 def _add_cut(word: argparse.ArgumentParser) -> None:
     word.add_argument("transcript", metavar="IN")
-    word.add_argument("folder", metavar="DIR", help="a new folder for the files")
+    word.add_argument("out", metavar="OUT", help="a new folder for the files; with --calls a new file")
     add_segment_words(word)
+    word.add_argument("--calls", type=selection.read_range, metavar="A-B", help="write the calls from A to B, by their "
+                      "numbers, and nothing else")
     word.set_defaults(run=_cut)
 
 
@@ -55,7 +61,7 @@ def _add_sift(word: argparse.ArgumentParser) -> None:
     word.add_argument("--list", action="store_true", help="count the calls by sort, operation, version and client")
     word.add_argument("--also", type=_doubtful, action="append", default=[], metavar="OPERATION",
                       help="leave this doubtful operation out too; may be repeated")
-    word.add_argument("--forget", type=_attribute, action="append", default=[], metavar="NAME",
+    word.add_argument("--forget", type=attribute_of, action="append", default=[], metavar="NAME",
                       help="take this judged attribute out of what Get Attributes tells; may be repeated")
     word.set_defaults(run=_sift)
 
@@ -68,7 +74,8 @@ def _doubtful(words: str) -> int:
     return operation.value
 
 
-def _attribute(words: str) -> int:
+def attribute_of(words: str) -> int:
+    """The judged attribute with this name."""
     tag = forgetting.attribute_named(words)
     if tag is None:
         raise argparse.ArgumentTypeError(f"{words!r} is no judged attribute, as 'Initial Date' is one")
@@ -76,8 +83,14 @@ def _attribute(words: str) -> int:
 
 
 def _cut(words: argparse.Namespace) -> None:
-    see_apart([words.folder], [words.transcript])
-    print(cut.run(words.transcript, words.folder, Segments(words.segment_calls, words.segment_seconds)))
+    see_apart([words.out], [words.transcript])
+    segments = Segments(words.segment_calls, words.segment_seconds)
+    if words.calls is None:
+        print(cut.run(words.transcript, words.out, segments))
+    elif segments.are_asked:
+        raise WrongWords("--calls writes one file: leave --segment-calls and --segment-seconds away")
+    else:
+        print(cut.run_of(words.transcript, words.out, words.calls))
 
 
 def _translate(words: argparse.Namespace) -> None:
@@ -98,16 +111,14 @@ def _sift(words: argparse.Namespace) -> None:
 
 def _list(words: argparse.Namespace) -> None:
     if words.call is None:
-        _print(listing.lines(words.transcript))
+        _print(listing.lines(words.transcript, selection.Selection(words.client, words.object, words.operation)))
+    elif words.client or words.object or words.operation:
+        raise WrongWords("--call names one call: leave --client, --object and --operation away")
     else:
         _print(listing.call_lines(words.transcript, words.call, words.keys))
 
 
 def _print(lines: Iterable[str]) -> None:
-    """Prints lines up to the last, or as long as somebody reads them. Names and texts from outside stand in them."""
-    try:
-        for line in lines:
-            print(plain(line))
-        sys.stdout.flush()
-    except BrokenPipeError:
-        hush()
+    """Prints lines. Names and texts from outside stand in them."""
+    for line in lines:
+        print(plain(line))

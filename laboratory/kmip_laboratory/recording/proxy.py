@@ -3,7 +3,9 @@
 from __future__ import annotations
 
 import asyncio
+import contextlib
 import errno
+import resource
 import signal
 import socket
 import ssl
@@ -11,6 +13,7 @@ from typing import Dict, Optional
 
 from .. import peer, tls
 from ..address import Address
+from ..telling import TELLER
 from ..trouble import ConnectionTrouble, Trouble, say
 from .connection import Connection, Way
 
@@ -50,6 +53,7 @@ class Proxy:
                 client, where = await loop.sock_accept(listener)
             except OSError as error:
                 say(f"a client could not be taken: {error.strerror}")
+                self._way.admission.drop_oldest()
                 await asyncio.sleep(SECONDS_WITHOUT_ROOM)
                 continue
             connection = Connection(client, Address(where[0], where[1]), self._way)
@@ -92,7 +96,8 @@ async def reach(server: Address, context: ssl.SSLContext) -> None:
 
 
 async def run(way: Way, listener: socket.socket) -> None:
-    """Records until Ctrl-C."""
+    """Records until Ctrl-C. Clients do not wait for whoever reads what is told."""
+    TELLER.waits = False
     proxy = Proxy(way)
     loop = asyncio.get_running_loop()
     for number in (signal.SIGINT, signal.SIGTERM):
@@ -100,6 +105,13 @@ async def run(way: Way, listener: socket.socket) -> None:
     say(f"{Address(*listener.getsockname()[:2])} leads to {way.server}; marks go into {way.recording.path}; "
         "Ctrl-C ends")
     await proxy.serve(listener)
+
+
+def take_all_room() -> None:
+    """Lets the process have as many connections at once as it may."""
+    with contextlib.suppress(OSError, ValueError):
+        _, most = resource.getrlimit(resource.RLIMIT_NOFILE)
+        resource.setrlimit(resource.RLIMIT_NOFILE, (most, most))
 
 
 def listen(address: Address) -> socket.socket:

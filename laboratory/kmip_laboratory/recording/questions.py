@@ -25,6 +25,7 @@ RESULT_MESSAGE = 0x42007D
 RESULT_REASON = 0x42007E
 RESULT_STATUS = 0x42007F
 SUCCESS = 0
+SECONDS_TO_ASK = 60
 
 
 class Failed(Exception):
@@ -61,7 +62,7 @@ class Questions:
         request = self._request(operation, payload)
         self._translator.message(self._asked + 1, Side.CLIENT, request)
         try:
-            await self._peer.send(request)
+            await self._peer.send(request, SECONDS_TO_ASK)
             received = await self._peer.receive()
         except ConnectionTrouble as trouble:
             raise Trouble(f"{self._server} could not be asked: {trouble}") from None

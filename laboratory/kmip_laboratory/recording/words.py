@@ -6,26 +6,23 @@ import argparse
 import asyncio
 import socket
 import ssl
-import sys
-from typing import Dict, List, NoReturn, Optional
+from typing import Dict, List, Optional
 
 from .. import tls
 from ..address import read_address
 from ..blinding import words as blinding
 from ..files import OUT_HINT, see_that_free
+from ..front import Parser, run_or_help
 from ..outputs import see_apart
 from ..shrinking import words as shrinking
-from ..trouble import Trouble, WrongWords, say
+from ..trouble import Trouble, say
 from ..versions import JUDGED
 from . import capture, declaration, identities, inventory, order, passes, proxy
+from .admission import Admission
 from .connection import Way
-from .numbers import add_segment_words, read_milliseconds, read_seconds, read_version
+from .numbers import add_segment_words, read_count, read_milliseconds, read_seconds, read_version
 from .recording import Recording, tell_account
 from .segments import Gate, Segments, paths_of
-
-DONE = 0
-TROUBLE = 1
-USAGE = 64
 
 MINOR_HELP = "write messages of versions 1.0 to 2.0 as 2.1, as `translate` does"
 FORCE_HELP = "write over the file where it is there already"
@@ -33,33 +30,9 @@ MINOR_NOTE = ("versions 1.0 to 2.0 are written as 2.1 in the transcript: what is
               "said")
 
 
-class Parser(argparse.ArgumentParser):
-    """A parser whose status for wrong words is that of the auditor."""
-
-    def error(self, message: str) -> NoReturn:
-        self.print_usage(sys.stderr)
-        self.exit(USAGE, f"{self.prog}: {message}\n")
-
-
-def main(arguments: List[str]) -> int:
+def main(arguments: Optional[List[str]] = None) -> int:
     """Does what the words say, and answers the status."""
-    parser = _parser()
-    if not arguments:
-        parser.print_help()
-        return DONE
-    words = parser.parse_args(arguments)
-    try:
-        words.run(words)
-    except WrongWords as trouble:
-        say(str(trouble))
-        return USAGE
-    except Trouble as trouble:
-        say(str(trouble))
-        return TROUBLE
-    except KeyboardInterrupt:
-        say("ended by Ctrl-C; nothing more was written")
-        return TROUBLE
-    return DONE
+    return run_or_help(_parser(), arguments)
 
 
 def _parser() -> Parser:
@@ -89,6 +62,10 @@ def _add_proxy(word: argparse.ArgumentParser) -> None:
                       "NAME.key; may be repeated")
     word.add_argument("--answer-within", type=read_seconds, default=10, metavar="SECONDS", help="how long the server's "
                       "answer is waited for when the client broke off (10)")
+    word.add_argument("--idle", type=read_seconds, default=3600, metavar="SECONDS", help="end the connection of a client "
+                      "that sends no request for so long, or does not take its answer (3600)")
+    word.add_argument("--connections", type=read_count, default=100, metavar="N", help="how many connections a client "
+                      "may have at once (100)")
     word.add_argument("--hold", type=read_milliseconds, default=50, metavar="MS", help="how long new requests may be "
                       "held where a new file is due, until no call is under way (50)")
     _add_transcript_words(word)
@@ -148,6 +125,7 @@ def _proxy(words: argparse.Namespace) -> None:
     clients = identities.contexts(shown, authority)
     if words.minor:
         say(MINOR_NOTE)
+    proxy.take_all_room()
     with proxy.listen(words.listen) as listener:
         for context in [toward_server, *clients.values()]:
             asyncio.run(proxy.reach(words.server, context))
@@ -162,8 +140,8 @@ async def _record(words: argparse.Namespace, recording: Recording, toward_client
                   toward_server: ssl.SSLContext, clients: Dict[str, ssl.SSLContext], listener: socket.socket) -> None:
     gate = Gate(recording.wants_quiet, words.hold / 1000)
     recording.when_quiet = gate.look
-    await proxy.run(Way(words.server, toward_clients, toward_server, recording, words.answer_within, gate, clients),
-                    listener)
+    await proxy.run(Way(words.server, toward_clients, toward_server, recording, words.answer_within, words.idle,
+                        Admission(words.connections), gate, clients), listener)
 
 
 def _segments(words: argparse.Namespace) -> Segments:

@@ -4,7 +4,6 @@ from __future__ import annotations
 
 import hashlib
 import os
-import shlex
 import tempfile
 import time
 from datetime import datetime, timedelta, timezone
@@ -13,30 +12,37 @@ from typing import Dict, List, NamedTuple, Optional, Tuple
 
 from ..auditor import Auditor
 from ..calls import Call, Status, read_transcript
+from ..files import write_file
 from ..operations import operation_name as standard_name
+from ..paths import quoted, see_plain, shown
 from ..recording.order import turns
 from ..recordings import DECLARATION, TRANSCRIPT, WITNESS
 from ..records import read_file
 from ..shrinking.parts import is_plain
 from ..trouble import Trouble
-from ..verdicts import Outcome, Verdict
+from ..verdicts import Account, Digest, Outcome, Verdict
 from .explanation import Mention, mentions
 from .messages import Messages, read_messages
 
 # Of a search where no other is given.
 USUAL_BUDGET = 1_000_000
+# Of each run of the auditor.
+USUAL_SECONDS = 300
+# The calls ahead of the deepest place of a search, which are no more to blame than any others.
+TAKEN = "taken: "
 EPOCH = datetime(1970, 1, 1, tzinfo=timezone.utc)
 
 
 class Judged(NamedTuple):
-    """A recording: its folder, the verdict with the command that repeats it, its files with their digests, its calls,
-    and the turn of each call in the order that was judged or found; and of an order that is refused what a search for
-    others says, where that was asked."""
+    """A recording: its folder, the verdict with the words of the command that repeats it, the auditor's version and what
+    it told of the files, its files with their digests, its calls, and the turn of each call in the order that was judged
+    or found; and of an order that is refused what a search for others says, where that was asked."""
 
     folder: str
     verdict: Verdict
-    command: str
+    words: List[str]
     version: str
+    told: Tuple[Digest, ...]
     files: List[Tuple[str, int, str]]
     calls: List[Call]
     turns: Dict[int, int]
@@ -46,8 +52,25 @@ class Judged(NamedTuple):
 
     def has_the_auditors_digests(self) -> bool:
         """Whether the auditor told the digest of each file."""
-        told = [judged for judged in self.verdict.files if judged.sha256 is not None]
+        told = [judged for judged in self.told if judged.sha256 is not None]
         return len(told) >= len(self.files)
+
+    @property
+    def command(self) -> str:
+        """The command that repeats the verdict, as bash takes it."""
+        return " ".join(self.words)
+
+    @property
+    def is_convicted(self) -> bool:
+        """Whether the auditor says no: to the order that is given, where no search finds another, or to all of them."""
+        if self.verdict.outcome is Outcome.NO:
+            return self.searched is None or self.searched.outcome is not Outcome.YES
+        return bool(self.verdict.decided)
+
+    @property
+    def is_explained(self) -> bool:
+        """Whether an order explains every answer."""
+        return self.verdict.outcome is Outcome.YES
 
     def refused(self) -> Optional[Call]:
         """The call that the verdict names."""
@@ -60,7 +83,8 @@ class Judged(NamedTuple):
     def named(self) -> List[int]:
         """The calls that stand out beside the refused one: those that the explanation names, or else the story's."""
         if self.verdict.explanation:
-            return sorted({place.call for place in self.mentions("\n".join(self.verdict.explanation))})
+            lines = [line for line in self.verdict.explanation if not line.startswith(TAKEN)]
+            return sorted({place.call for place in self.mentions("\n".join(lines))})
         return [call.number for call in self.story()]
 
     def naming(self) -> str:
@@ -87,41 +111,81 @@ def find(paths: List[str]) -> List[str]:
     for path in paths:
         below = sorted(str(file.parent) for file in Path(path).rglob(TRANSCRIPT))
         if not below:
-            raise Trouble(f"{path} has no {TRANSCRIPT} in it or below it: give the folder of a recording")
+            raise Trouble(f"{shown(path)} has no {TRANSCRIPT} in it or below it: give the folder of a recording")
         found += [folder for folder in below if folder not in found]
+    for folder in found:
+        for name in (TRANSCRIPT, DECLARATION, WITNESS):
+            see_plain(os.path.join(folder, name))
     return found
 
 
-def judge(folder: str, budget: Optional[int], others: bool = False, with_keys: bool = False) -> Judged:
+class Asking(NamedTuple):
+    """How the auditor is asked: its program, the most steps of a search, the seconds that each of its runs is given,
+    whether other orders are searched where one is refused, and whether all values of messages may be seen."""
+
+    budget: Optional[int] = None
+    others: bool = False
+    seconds: Optional[float] = USUAL_SECONDS
+    program: Optional[str] = None
+    with_keys: bool = False
+
+
+def judge(folder: str, asking: Asking) -> Judged:
     """Asks the auditor: a check where there is a witness, else a search; and of a witness that is refused a search
-    too, where other orders are asked for. `with_keys` lets all values of messages be seen."""
-    auditor = Auditor()
-    transcript, declaration, witness = (os.path.join(folder, name) for name in (TRANSCRIPT, DECLARATION, WITNESS))
-    files = [_digest(path) for path in (transcript, declaration, witness) if path != witness or os.path.exists(path)]
+    too, where other orders are asked for."""
+    auditor, budget = Auditor(asking.program, asking.seconds), asking.budget
+    paths = [os.path.join(folder, name) for name in (TRANSCRIPT, DECLARATION, WITNESS)]
+    files = [_digest(path) for path in paths if path != paths[2] or os.path.exists(path)]
     started = time.monotonic()
     with tempfile.TemporaryDirectory(prefix="kmip_report-") as made:
+        transcript, declaration, witness = _readable_names(folder, made)
+        more = ["--budget", str(budget)] if len(files) < 3 and budget is not None else []
         if len(files) == 3:
-            words = ["check", transcript, declaration, witness]
-            verdict = auditor.told(*words)
+            verdict = auditor.explained("check", transcript, declaration, witness)
         else:
             witness = os.path.join(made, WITNESS)
-            more = [] if budget is None else ["--budget", str(budget)]
-            verdict = auditor.told("search", transcript, declaration, witness, *more, "--quiet")
-            words = ["search", transcript, declaration, WITNESS, *more]
+            verdict = auditor.explained("search", transcript, declaration, witness, *more, "--quiet")
+        more += ["--explain"] if verdict.explanation else []
         searched = (auditor.search(transcript, declaration, os.path.join(made, "other"), budget)
-                    if others and verdict.outcome is Outcome.NO else None)
-        seconds = time.monotonic() - started
-        _see_that_they_are_the_judged(files, verdict)
-        if verdict.outcome is Outcome.NO:
-            verdict = _explained(auditor, words[1:], verdict)
-            words += ["--explain"] if verdict.explanation else []
+                    if asking.others and verdict.outcome is Outcome.NO else None)
+        taken = time.monotonic() - started
+        account = _account(auditor, transcript, declaration, witness)
+        _see_that_they_are_the_judged(files, account.files)
         turns = _turns(witness) if os.path.exists(witness) and verdict.outcome is not Outcome.MALFORMED else {}
-    command = " ".join(["kmip_audit", *map(shlex.quote, words)])
-    readable = verdict.outcome not in (Outcome.MALFORMED, Outcome.DEVICE, Outcome.MEMORY)
-    calls = read_transcript(transcript).calls if readable else []
-    messages = read_messages(auditor, transcript, with_keys) if readable else Messages([], {})
-    return Judged(folder, verdict, command, verdict.version or auditor.version(), files, calls, turns, messages, seconds,
-                  searched and searched._replace(decided=_decides(searched, budget, calls)))
+        readable = verdict.outcome not in (Outcome.MALFORMED, Outcome.DEVICE, Outcome.MEMORY)
+        calls = read_transcript(transcript).calls if readable else []
+        messages = read_messages(auditor, transcript, asking.with_keys) if readable else Messages([], {})
+    return Judged(folder, verdict, _words(folder, len(files) == 3, more), account.version, account.files, files, calls,
+                  turns, messages, taken, searched and searched._replace(decided=_decides(searched, budget, calls)))
+
+
+def _readable_names(folder: str, made: str) -> List[str]:
+    """The three files by names that the auditor takes: where that of the folder is no UTF-8, behind a link."""
+    if shown(folder) != folder:
+        link = os.path.join(made, "recording")
+        os.symlink(os.path.abspath(folder), link)
+        folder = link
+    return [os.path.join(folder, name) for name in (TRANSCRIPT, DECLARATION, WITNESS)]
+
+
+def _words(folder: str, is_checked: bool, more: List[str]) -> List[str]:
+    """The words of the command that repeats the verdict, as bash takes them."""
+    ahead, within = ([], folder) if shown(folder) == folder else (["cd", quoted(folder), "&&"], "")
+    names = [os.path.join(within, name) for name in (TRANSCRIPT, DECLARATION)]
+    names.append(os.path.join(within, WITNESS) if is_checked else WITNESS)
+    return [*ahead, "kmip_audit", "check" if is_checked else "search", *map(quoted, names), *more]
+
+
+def _account(auditor: Auditor, transcript: str, declaration: str, witness: str) -> Account:
+    """What the auditor tells of the files that it reads: of all three, or of the first two where no witness was found,
+    since an empty one says nothing of them."""
+    if not os.path.exists(witness):
+        write_file(witness, b"")
+        try:
+            return auditor.account(transcript, declaration, witness) or Account(auditor.version(), ())
+        finally:
+            os.remove(witness)
+    return auditor.account(transcript, declaration, witness) or Account(auditor.version(), ())
 
 
 def _decides(searched: Verdict, budget: Optional[int], calls: List[Call]) -> bool:
@@ -130,20 +194,12 @@ def _decides(searched: Verdict, budget: Optional[int], calls: List[Call]) -> boo
     return searched.outcome is Outcome.YES or (searched.decides(usual) and all(map(is_plain, calls)))
 
 
-def _explained(auditor: Auditor, files: List[str], verdict: Verdict) -> Verdict:
-    """The verdict with the auditor's explanation of it."""
-    again = auditor.explained(*files)
-    if again.lines != verdict.lines:
-        raise Trouble(f"{files[0]} or a file beside it has changed while it was judged; make the report again")
-    return verdict._replace(explanation=again.explanation)
-
-
-def _see_that_they_are_the_judged(files: List[Tuple[str, int, str]], verdict: Verdict) -> None:
+def _see_that_they_are_the_judged(files: List[Tuple[str, int, str]], told: Tuple[Digest, ...]) -> None:
     """Holds the digests that the auditor told against those of the files."""
-    for (path, length, sha256), judged in zip(files, verdict.files):
+    for (path, length, sha256), judged in zip(files, told):
         if judged.sha256 is not None and (length, sha256) != (judged.length, judged.sha256):
-            raise Trouble(f"{path} is not what was judged: it has changed since, or the auditor is not one; make the "
-                          "report again")
+            raise Trouble(f"{shown(path)} is not what was judged: it has changed since, or the auditor is not one; make "
+                          "the report again")
 
 
 def _digest(path: str) -> Tuple[str, int, str]:

@@ -6,6 +6,7 @@ from datetime import datetime
 from pathlib import Path
 from typing import Dict, List, Optional, Sequence
 
+from ..paths import shown
 from ..plain import plain
 from ..verdicts import Outcome
 from .counts import by_verdict, crosses, period
@@ -24,6 +25,7 @@ KEYS = ("Keys, once the timeline has the focus: left and right for the call befo
         "above and below, Home and End, + and - to zoom, Page Up and Page Down to move, 0 for the whole recording, f "
         "for the verdict's call. Drag to move; Ctrl and the wheel zoom.")
 MOST_OF_STORY = 20
+HOLDS = {Outcome.NO: "Each line is a claim of the auditor's, and holds in this order of the calls."}
 # As in timeline.js, in a bar of the legend.
 STRIPES = {"failed": [10], "refused": [2, 10], "undone": [2]}
 
@@ -43,7 +45,7 @@ def page(recordings: List[Judged], made: datetime) -> str:
     parts = [element("h1", _title(recordings)), _made(recordings, made)]
     if len(recordings) > 1:
         parts.append(_overview(recordings))
-    parts += [_recording(judged, number, judged.folder if len(recordings) > 1 else "Verdict")
+    parts += [_recording(judged, number, shown(judged.folder) if len(recordings) > 1 else "Verdict")
               for number, judged in enumerate(recordings, 1)]
     parts.append(data({"lines": list(map(plain, lines)), "recordings": told}, "data"))
     parts += [element("script", Markup(script)) for script in scripts]
@@ -57,7 +59,7 @@ def _source(name: str) -> str:
 
 def _title(recordings: List[Judged]) -> str:
     if len(recordings) == 1:
-        return f"Audit of {recordings[0].folder}"
+        return f"Audit of {shown(recordings[0].folder)}"
     return f"Audit of {len(recordings)} recordings"
 
 
@@ -70,7 +72,7 @@ def _made(recordings: List[Judged], made: datetime) -> Markup:
 def _overview(recordings: List[Judged]) -> Markup:
     """A line for each recording, and what they have in common."""
     rows: List[List[Part]] = [
-        [element("a", judged.folder, href=f"#recording-{number}"), in_short(judged.verdict), str(len(judged.calls)),
+        [element("a", shown(judged.folder), href=f"#recording-{number}"), in_short(judged.verdict), str(len(judged.calls)),
          f"{judged.seconds:.1f}"] for number, judged in enumerate(recordings, 1)]
     reasons: List[List[Part]] = [[reason, str(count)] for reason, count in by_verdict(recordings)]
     return together([
@@ -90,7 +92,7 @@ def _recording(judged: Judged, number: int, heading: str) -> Markup:
                              f"{refused.client}."))
     if judged.searched is not None:
         parts.append(element("p", of_others(judged.searched)))
-    if judged.verdict.outcome is Outcome.NO:
+    if judged.verdict.outcome is Outcome.NO or judged.verdict.explanation:
         parts.append(_explanation(judged))
     if judged.calls:
         told = story(judged.verdict.explanation)
@@ -108,12 +110,12 @@ def _linked(judged: Judged, lines: Sequence[str]) -> List[Part]:
 
 
 def _explanation(judged: Judged) -> Markup:
-    """What the auditor says of a no besides."""
+    """What the auditor says of its verdict besides."""
     if not judged.verdict.explanation:
         return element("p", "This auditor does not explain it: it has no --explain.", of="soft")
     return together([
         element("h3", "Explanation"),
-        element("p", "Each line is a claim of the auditor's, and holds in this order of the calls.", of="soft"),
+        element("p", HOLDS.get(judged.verdict.outcome, "Each line is a claim of the auditor's."), of="soft"),
         element("pre", *_linked(judged, judged.verdict.explanation), of="explanation")])
 
 
@@ -202,7 +204,7 @@ def _counts(judged: Judged) -> Markup:
 
 
 def _evidence(judged: Judged) -> Markup:
-    rows: List[List[Part]] = [[path, element("code", sha256), f"{length:,}"] for path, length, sha256 in judged.files]
+    rows: List[List[Part]] = [[shown(path), element("code", sha256), f"{length:,}"] for path, length, sha256 in judged.files]
     read = "as the auditor judged it" if judged.has_the_auditors_digests() else "as the report read it"
     return together([
         table(["File", f"SHA-256, {read}", "Bytes"], rows, 1),

@@ -33,6 +33,7 @@ MEANING: Dict[Outcome, str] = {
     Outcome.GAVE_UP: "No order was found that explains the answers.",
     Outcome.DEVICE: "Not judged: a file could not be read.",
     Outcome.MEMORY: "Not judged: memory ran out.",
+    Outcome.LATE: "Not judged: the auditor was given no more time (--seconds).",
 }
 PREMISES = (
     "A yes says that some inventory fits the declaration, and that doing one call after the other from there, by the "
@@ -53,6 +54,9 @@ def in_words(verdict: Verdict) -> str:
         told += f" Call {verdict.call}, {verdict.side}, item {verdict.item}: kind {verdict.number}, {verdict.name}."
     if verdict.decided is not None:
         told += " The auditor has decided: no order does." if verdict.decided else " The auditor has not decided it."
+    if verdict.outcome is Outcome.GAVE_UP and verdict.call is not None:
+        told += (f" Where it got furthest, call {verdict.call} can't be next: "
+                 f"{WHY.get(verdict.number or 0, verdict.name)} (reason {verdict.number}, {verdict.name}).")
     return told
 
 
@@ -68,6 +72,6 @@ def of_others(searched: Verdict) -> str:
 
 def in_short(verdict: Verdict) -> str:
     """The reason alone, by which recordings are counted."""
-    if verdict.number is None:
+    if verdict.number is None or verdict.outcome is Outcome.GAVE_UP:
         return f"{verdict.outcome.value}, decided" if verdict.decided else verdict.outcome.value
     return f"{verdict.outcome.value}: {verdict.number} {verdict.name}"

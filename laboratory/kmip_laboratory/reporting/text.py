@@ -2,12 +2,12 @@
 
 from __future__ import annotations
 
-import shlex
 import textwrap
 from datetime import datetime
 from typing import Iterator, List, Sequence
 
 from ..calls import Call
+from ..paths import shown
 from ..plain import plain
 from .counts import Cross, by_verdict, crosses, period
 from .judging import Judged, came_to, operations
@@ -32,14 +32,14 @@ def told(recordings: List[Judged], made: datetime) -> str:
 def _overview(recordings: List[Judged]) -> List[str]:
     lines = ["Calls  Recording: verdict"]
     for judged in recordings:
-        lines += _broken(f"{len(judged.calls):>5}  {judged.folder}: {in_short(judged.verdict)}")
+        lines += _broken(f"{len(judged.calls):>5}  {shown(judged.folder)}: {in_short(judged.verdict)}")
     counts = [f"{count:>5}  {verdict}" for verdict, count in by_verdict(recordings)]
     return [*lines, "", "By verdict", *counts]
 
 
 def _recording(judged: Judged, made: datetime) -> List[str]:
     """The report of one recording."""
-    lines = [*_broken(judged.folder),
+    lines = [*_broken(shown(judged.folder)),
              *_filled(f"Made {made:%Y-%m-%dT%H:%M:%SZ} by kmip_report, from what {judged.version} printed."), ""]
     for line in (*judged.verdict.lines, *judged.verdict.explanation):
         lines += _broken(line)
@@ -47,8 +47,8 @@ def _recording(judged: Judged, made: datetime) -> List[str]:
     lines += _filled(of_others(judged.searched)) if judged.searched is not None else []
     lines += [""]
     for path, length, sha256 in judged.files:
-        lines += [*_broken(f"{path}, {length:,} bytes"), f"  SHA-256 {sha256}"]
-    lines += [f"Judged in {judged.seconds:.1f} seconds. Anybody can repeat the verdict:", *_command(judged.command)]
+        lines += [*_broken(f"{shown(path)}, {length:,} bytes"), f"  SHA-256 {sha256}"]
+    lines += [f"Judged in {judged.seconds:.1f} seconds. Anybody can repeat the verdict:", *_command(judged.words)]
     if judged.calls:
         lines += ["", *_timeline(judged), "", *_counts(judged)]
     return lines
@@ -95,10 +95,10 @@ def _row(name: str, cells: Sequence[object]) -> str:
     return f"{plain(name)[:NAME]:<{NAME}}" + "".join(f"{cell!s:>{CELL}}" for cell in cells)
 
 
-def _command(command: str) -> Iterator[str]:
+def _command(words: Sequence[str]) -> Iterator[str]:
     """The command, over as many lines as it needs; a shell takes them as one."""
     line = "  $"
-    for word in map(plain, map(shlex.quote, shlex.split(command))):
+    for word in map(plain, words):
         if len(line) + len(word) + 3 > COLUMNS:
             yield f"{line} \\"
             line = DEEPER[:-1]

@@ -4,54 +4,42 @@ from __future__ import annotations
 
 import argparse
 import os
-import sys
 from concurrent.futures import ProcessPoolExecutor
 from datetime import datetime
 from functools import partial
-from typing import List, NoReturn, Optional
+from typing import List, Optional
 
 from .. import fresh
 from ..auditor import Auditor
 from ..files import see_that_free, write_file
+from ..front import Parser, run
 from ..outputs import see_apart
 from ..recordings import DECLARATION, TRANSCRIPT, WITNESS
-from ..trouble import Trouble, WrongWords, hush
-from ..verdicts import Outcome
+from ..trouble import hush
 from . import junit, page, text
-from .judging import Judged, find, judge, moment_of_making
+from .judging import USUAL_SECONDS, Asking, Judged, find, judge, moment_of_making
 
-ALL_WELL = 0
-TROUBLE = 1
-USAGE = 64
+ALL_WELL, CONVICTED, TROUBLE_OF_REPORT, UNDECIDED = 0, 1, 3, 4
 
 
-class Parser(argparse.ArgumentParser):
-    """A parser whose status for wrong words is that of the auditor."""
-
-    def error(self, message: str) -> NoReturn:
-        self.print_usage(sys.stderr)
-        self.exit(USAGE, f"{self.prog}: {message}\n")
-
-
-def main(arguments: List[str]) -> int:
+def main(arguments: Optional[List[str]] = None) -> int:
     """Makes the report, and answers the status."""
-    words = _parser().parse_args(arguments)
-    try:
-        folders = find(words.recordings)
-        _see_outputs(words, folders)
-        recordings = _judged(folders, words)
-        made = moment_of_making(os.environ.get("SOURCE_DATE_EPOCH"))
-        _write(words, recordings, made)
-        return _tell(recordings, made if words.text else None)
-    except WrongWords as trouble:
-        print(f"kmip_report: {trouble}", file=sys.stderr)
-        return USAGE
-    except Trouble as trouble:
-        print(f"kmip_report: {trouble}", file=sys.stderr)
-        return TROUBLE
-    except KeyboardInterrupt:
-        print("kmip_report: ended by Ctrl-C; nothing more was written", file=sys.stderr)
-        return TROUBLE
+    return run(_parser(), arguments)
+
+
+def make_page(out: str, folder: str, asking: Asking) -> None:
+    """Makes the page of one recording, as a new file."""
+    made = page.page([judge(folder, asking)], moment_of_making(os.environ.get("SOURCE_DATE_EPOCH")))
+    fresh.write_all([(out, made.encode("utf-8"))])
+
+
+def _report(words: argparse.Namespace) -> int:
+    folders = find(words.recordings)
+    _see_outputs(words, folders)
+    recordings = _judged(folders, words)
+    made = moment_of_making(os.environ.get("SOURCE_DATE_EPOCH"))
+    _write(words, recordings, made)
+    return _tell(recordings, made if words.text else None)
 
 
 def _see_outputs(words: argparse.Namespace, folders: List[str]) -> None:
@@ -69,19 +57,22 @@ def _see_outputs(words: argparse.Namespace, folders: List[str]) -> None:
 def _tell(recordings: List[Judged], made: Optional[datetime]) -> int:
     """Prints what came out, in full where the moment is told, up to the last line, or as long as somebody reads it;
     answers the status."""
-    yes = sum(judged.verdict.outcome is Outcome.YES for judged in recordings)
+    yes = sum(judged.is_explained for judged in recordings)
     try:
         if made is not None:
             print(text.told(recordings, made))
         print(f"{len(recordings)} recordings: {yes} yes, {len(recordings) - yes} not", flush=True)
     except BrokenPipeError:
         hush()
-    return ALL_WELL
+    if any(judged.is_convicted for judged in recordings):
+        return CONVICTED
+    return ALL_WELL if yes == len(recordings) else UNDECIDED
 
 
 def _parser() -> Parser:
     parser = Parser(prog="kmip_report",
                     description="What kmip_audit says of recordings, as one page: see docs/REPORT.md.")
+    parser.set_defaults(run=_report, trouble=TROUBLE_OF_REPORT)
     parser.add_argument("out", metavar="OUT.html", help="the page; - for none")
     parser.add_argument("recordings", nargs="+", metavar="RECORDING",
                         help="a folder with transcript.ttlv, declaration.ttlv and, unless a search is to find one, "
@@ -95,6 +86,8 @@ def _parser() -> Parser:
     parser.add_argument("--others", action="store_true",
                         help="search too where a witness is refused: whether another order explains the calls")
     parser.add_argument("--budget", type=int, metavar="N", help="the most steps of a search")
+    parser.add_argument("--seconds", type=_seconds, default=USUAL_SECONDS, metavar="S",
+                        help=f"how long each run of the auditor may take ({USUAL_SECONDS})")
     return parser
 
 
@@ -104,11 +97,22 @@ def _jobs(told: str) -> int:
     return int(told)
 
 
+def _seconds(told: str) -> float:
+    try:
+        seconds = float(told)
+    except ValueError:
+        seconds = 0.0
+    if not 0 < seconds < 1_000_000:
+        raise argparse.ArgumentTypeError(f"{told!r} is no number of seconds, as {USUAL_SECONDS} is one")
+    return seconds
+
+
 def _judged(folders: List[str], words: argparse.Namespace) -> List[Judged]:
+    asking = Asking(words.budget, words.others, words.seconds, with_keys=words.keys)
     if len(folders) == 1:
-        return [judge(folders[0], words.budget, words.others, words.keys)]
+        return [judge(folders[0], asking)]
     with ProcessPoolExecutor(min(words.jobs, len(folders))) as pool:
-        return list(pool.map(partial(judge, budget=words.budget, others=words.others, with_keys=words.keys), folders))
+        return list(pool.map(partial(judge, asking=asking), folders))
 
 
 def _write(words: argparse.Namespace, recordings: List[Judged], made: datetime) -> None:

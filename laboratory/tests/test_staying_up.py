@@ -1,0 +1,191 @@
+"""What must not end the recorder, nor keep it from its clients: strangers, idlers, and nobody who reads what it says."""
+
+from __future__ import annotations
+
+import asyncio
+import os
+import resource
+import socket
+import subprocess
+import sys
+import time
+import unittest
+from typing import List
+from unittest import mock
+
+import messages
+import stub
+from laboratory import RECORDER, SECONDS, Laboratory, Limit, wait_until
+from test_proxy import STAMP, at_once, never
+
+from kmip_laboratory import peer, tls
+from kmip_laboratory.trouble import ConnectionTrouble
+
+STRANGERS = 1_100
+FILES = Limit(resource.RLIMIT_NOFILE, 1_024)
+BAD = b"GET / HTTP/1.1\r\n\r\n"
+
+
+class Strangers(Laboratory):
+    """Clients that show no certificate."""
+
+    def strangers(self, port: int, count: int) -> List[socket.socket]:
+        """So many connections that say nothing."""
+        _, most = resource.getrlimit(resource.RLIMIT_NOFILE)
+        resource.setrlimit(resource.RLIMIT_NOFILE, (most, most))
+        made = []
+        for _ in range(count):
+            made.append(socket.create_connection(("127.0.0.1", port), timeout=SECONDS))
+            self.addCleanup(made[-1].close)
+        return made
+
+    def test_many_without_a_certificate_refuse_nobody(self) -> None:
+        recorder = self.start(self.stub(at_once).port, limit=FILES)
+        self.strangers(recorder.port, STRANGERS)
+        begun = time.monotonic()
+        for name in ("client-1", "client-2"):
+            client = self.client(recorder.port, name)
+            client.sendall(messages.get("key-1"))
+            self.assertEqual(stub.receive(client), messages.not_found(STAMP))
+        self.assertLess(time.monotonic() - begun, 5)
+        self.assertTrue(recorder.heard("connections that showed no certificate had to go for others"))
+        self.assertTrue(recorder.end().startswith("2 calls, 0 open calls, "))
+
+    def test_a_handshake_has_a_limit(self) -> None:
+        context = tls.toward_clients(*(str(self.certificates / name) for name in (
+            "recorder.pem", "recorder.key", "authority.pem")))
+        self.assertEqual(peer.SECONDS_TO_GREET, 10)
+
+        async def accept(server: socket.socket) -> None:
+            await peer.accept(server, context)
+
+        ours, theirs = socket.socketpair()
+        self.addCleanup(theirs.close)
+        ours.setblocking(False)
+        with mock.patch("kmip_laboratory.peer.SECONDS_TO_GREET", 0.2), self.assertRaisesRegex(
+                ConnectionTrouble, "no TLS with the client: it was not through in 0.2 s"):
+            asyncio.run(accept(ours))
+
+
+class Known(Laboratory):
+    """Clients that have shown one."""
+
+    def answered(self, port: int, name: str) -> bytes:
+        client = self.client(port, name)
+        client.sendall(messages.get("key-1"))
+        return stub.receive(client)
+
+    def test_a_client_has_so_many_connections_and_no_more(self) -> None:
+        recorder = self.start(self.stub(at_once).port, "--connections", "2")
+        held = [self.client(recorder.port) for _ in range(2)]
+        for client in held:
+            client.sendall(messages.get("key-1"))
+            stub.receive(client)
+        self.assertEqual(self.answered(recorder.port, "client-1"), b"")
+        wait_until(lambda: recorder.heard("client-1 has 2 connections already, and gets no more (--connections)"), "a word")
+        self.assertEqual(self.answered(recorder.port, "client-2"), messages.not_found(STAMP), "others are not meant")
+        held[0].close()
+        wait_until(lambda: self.answered(recorder.port, "client-1"), "room for one more")
+
+    def test_a_client_that_asks_nothing_has_to_go(self) -> None:
+        server = self.stub(at_once)
+        recorder = self.start(server.port, "--idle", "0.4")
+        for sent in (b"", messages.get("key-1")[:-1]):
+            client = self.client(recorder.port)
+            client.sendall(messages.get("key-1") + sent)
+            self.assertEqual(stub.receive(client), messages.not_found(STAMP))
+            self.assertEqual(stub.receive(client), b"")
+        wait_until(lambda: sum("client-1: no whole request came in 0.4 s" in line for line in recorder.said) == 2, "words")
+        self.assertTrue(recorder.end().startswith("2 calls, 0 open calls, "))
+
+    def test_a_call_under_way_is_not_idle(self) -> None:
+        def answering(client: stub.ssl.SSLSocket, request: bytes) -> None:
+            time.sleep(0.8)
+            at_once(client, request)
+
+        recorder = self.start(self.stub(answering).port, "--idle", "0.4")
+        self.assertEqual(self.answered(recorder.port, "client-1"), messages.not_found(STAMP))
+
+    def test_a_client_that_does_not_take_its_answer_has_to_go(self) -> None:
+        long = messages.not_found(STAMP, text="x" * 1_000_000)
+        recorder = self.start(self.stub(lambda client, _: client.sendall(long)).port, "--idle", "0.4")
+        client = self.client(recorder.port)
+        client.setsockopt(socket.SOL_SOCKET, socket.SO_RCVBUF, 4096)
+        for turn in range(20):
+            client.sendall(messages.get(f"key-{turn}"))
+        wait_until(lambda: recorder.heard("client-1: the client did not take a whole message in 0.4 s"), "a word")
+
+    def test_a_server_that_answers_nothing_is_waited_for(self) -> None:
+        recorder = self.start(self.stub(never).port, "--idle", "0.2")
+        client = self.client(recorder.port)
+        client.sendall(messages.get("key-1"))
+        time.sleep(0.8)
+        self.assertFalse(recorder.heard("client-1"), "the call is the server's, and not idle")
+
+
+class StandardError(Laboratory):
+    """Nobody reads what is told."""
+
+    def recorder(self, error: object) -> subprocess.Popen[str]:
+        """A recorder that tells things there; its port is found by its listening."""
+        with socket.create_server(("127.0.0.1", 0)) as free:
+            self.port = free.getsockname()[1]
+        words = ["proxy", "--listen", f"127.0.0.1:{self.port}", "--server", f"127.0.0.1:{self.stub(at_once).port}",
+                 "--cert", "recorder.pem", "--key", "recorder.key", "--client-ca", "authority.pem", "--out",
+                 str(self.folder / "transcript.ttlv")]
+        closed = (lambda: os.close(2)) if error is None else None
+        recorder = subprocess.Popen([sys.executable, str(RECORDER), *words], cwd=self.certificates, text=True,
+                                    stdout=subprocess.PIPE, stderr=error, preexec_fn=closed)
+        self.addCleanup(recorder.stdout.close)
+        self.addCleanup(recorder.wait, SECONDS)
+        self.addCleanup(recorder.kill)
+        wait_until(self.is_there, "the recorder")
+        return recorder
+
+    def is_there(self) -> bool:
+        with socket.socket() as tried:
+            return tried.connect_ex(("127.0.0.1", self.port)) == 0
+
+    def see_that_it_goes_on(self, recorder: subprocess.Popen[str]) -> None:
+        """Has it tell things, makes a call in 1.2, and sees the transcript whole."""
+        for _ in range(4):
+            client = self.client(self.port)
+            client.sendall(BAD)
+            self.assertEqual(stub.receive(client), b"")
+        client = self.client(self.port)
+        client.sendall(messages.get("key-1", (1, 2)))
+        self.assertEqual(stub.receive(client), messages.not_found(STAMP))
+        recorder.send_signal(2)
+        self.assertTrue(recorder.stdout.read().startswith("1 calls, 0 open calls, "))
+        self.assertEqual(recorder.wait(SECONDS), 0)
+        self.assertTrue((self.folder / "transcript.ttlv").read_bytes().startswith(bytes.fromhex("54000101")))
+
+    def test_a_pipe_that_nobody_reads_any_more(self) -> None:
+        reader, writer = os.pipe()
+        recorder = self.recorder(writer)
+        os.close(writer)
+        os.close(reader)
+        self.see_that_it_goes_on(recorder)
+
+    def test_a_pipe_that_is_full(self) -> None:
+        reader, writer = os.pipe()
+        self.addCleanup(os.close, reader)
+        recorder = self.recorder(writer)
+        os.set_blocking(writer, False)
+        with self.assertRaises(BlockingIOError):
+            while True:
+                os.write(writer, b"x")
+        os.set_blocking(writer, True)
+        os.close(writer)
+        self.see_that_it_goes_on(recorder)
+
+    def test_a_device_that_is_full(self) -> None:
+        with open("/dev/full", "w") as full:
+            self.see_that_it_goes_on(self.recorder(full))
+
+    def test_none_at_all(self) -> None:
+        self.see_that_it_goes_on(self.recorder(None))
+
+
+if __name__ == "__main__":
+    unittest.main()
