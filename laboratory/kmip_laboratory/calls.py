@@ -105,7 +105,7 @@ def _call(number: int, begin: Tuple[int, bytes, Item], end: Optional[Tuple[int, 
 
 def _message(mark: Item) -> bytes:
     told = mark.first(MESSAGE, Kind.BYTES)
-    return told.value if told else b""
+    return bytes(told.value) if told else b""
 
 
 def _item(spelled: Optional[bytes]) -> Optional[Item]:

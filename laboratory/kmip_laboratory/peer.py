@@ -104,6 +104,7 @@ async def _closed(writer: asyncio.StreamWriter) -> None:
 async def accept(connection: socket.socket, context: ssl.SSLContext) -> Peer:
     """The client at the other end of a connection that was taken, once it has shown a certificate."""
     loop = asyncio.get_running_loop()
+    assert isinstance(loop, asyncio.BaseEventLoop), "any that asyncio makes by itself"
     reader = asyncio.StreamReader(loop=loop)
     protocol = asyncio.StreamReaderProtocol(reader, loop=loop)
     try:

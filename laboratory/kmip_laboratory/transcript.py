@@ -59,7 +59,7 @@ class TranscriptWriter:
         """`before` is the file that this one goes on behind: numbers and sums go on from it."""
         self.path = path
         self.calls = 0
-        self.next_call = before.next_call if before else 1
+        self.next_call: int = before.next_call if before else 1
         self._open: Set[int] = set()
         self._length = 0
         self._ahead: Tuple[int, int] = before.sums() if before else (0, 0)

@@ -4,7 +4,7 @@ from __future__ import annotations
 
 import struct
 from enum import IntEnum
-from typing import Dict, List, NamedTuple, Optional, Tuple, Union
+from typing import Any, Dict, List, NamedTuple, Optional, Tuple
 
 LONGEST_ITEM = 1_048_576
 DEEPEST_LEVEL = 16
@@ -51,11 +51,12 @@ class NotTtlv(ValueError):
 
 
 class Item(NamedTuple):
-    """An item that was read. `place` is the offset of its value in the bytes that it was read from."""
+    """An item that was read. Its kind says of which type `value` is: items of a structure, a number, whether something
+    is so, a text, or bytes. `place` is the offset of its value in the bytes that it was read from."""
 
     tag: int
     kind: Kind
-    value: Union[List["Item"], int, bool, str, bytes]
+    value: Any
     place: int
 
     def children(self) -> List["Item"]:
@@ -234,7 +235,7 @@ def _checked_kind(number: int, length: int, start: int) -> Kind:
     return kind
 
 
-def _value(kind: Kind, data: bytes, place: int, length: int) -> Union[int, bool, str, bytes]:
+def _value(kind: Kind, data: bytes, place: int, length: int) -> Any:
     """The value that stands there, of an item that is no structure."""
     if kind is TEXT:
         try:

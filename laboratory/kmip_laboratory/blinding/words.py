@@ -4,7 +4,7 @@ from __future__ import annotations
 
 import argparse
 import os
-from typing import Dict, List
+from typing import TYPE_CHECKING, Dict, List
 
 from .. import fresh
 from ..outputs import see_apart
@@ -14,11 +14,14 @@ from . import replacing
 from .leaks import Leaks
 from .opening import Opened, Sort, Text, all_texts
 
+if TYPE_CHECKING:
+    from ..front import Words
+
 HELP = "put other bytes in the place of every key's, in the files of one recording"
 WORD_FOR = {Sort.NAME: "--names", Sort.IDENTIFIER: "--identifiers"}
 
 
-def add(words: argparse._SubParsersAction) -> None:
+def add(words: Words) -> None:
     """Adds the word."""
     word = words.add_parser("blind", help=HELP, usage="kmip_record blind IN.. OUT.. [--names] [--identifiers] "
                             "[--key FILE]", description="See docs/BLINDING.md.")

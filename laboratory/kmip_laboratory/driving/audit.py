@@ -26,8 +26,8 @@ STEPS_OF_REPORT = 10_000
 
 
 class Wanted(NamedTuple):
-    """What is asked for besides the driving: the folder, what is declared of the server, the attributes that are forgotten,
-    and the steps of each search."""
+    """What is asked for besides the driving: the folder, what is declared of the server, the attributes that are
+    forgotten, and the steps of each search."""
 
     folder: Path
     is_empty: bool
@@ -38,8 +38,8 @@ class Wanted(NamedTuple):
 
 
 def run(job: Job, wanted: Wanted, auditor: Auditor) -> int:
-    """Everything. The status is the auditor's: 0 where it found a witness, 1 where it decided that there is none, 4 where
-    it decided nothing, else what it ended with."""
+    """Everything. The status is the auditor's: 0 where it found a witness, 1 where it decided that there is none, 4
+    where it decided nothing, else what it ended with."""
     folder = wanted.folder
     with record.recording(folder, job.version) as transcript:
         _declare(job, wanted)

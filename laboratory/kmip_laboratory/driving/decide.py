@@ -3,7 +3,7 @@
 from __future__ import annotations
 
 from pathlib import Path
-from typing import List, NamedTuple, Optional
+from typing import List, NamedTuple, Optional, Tuple
 
 from ..auditor import Auditor
 from ..calls import Call, read_transcript
@@ -70,8 +70,8 @@ def _is_decided(found: Verdict, budget: int, calls: List[Call]) -> bool:
     return found.outcome is Outcome.GAVE_UP and found.decides(budget) and all(map(is_plain, calls))
 
 
-def _files(folder: Path) -> List[str]:
-    return [str(folder / name) for name in (TRANSCRIPT, DECLARATION, WITNESS)]
+def _files(folder: Path) -> Tuple[str, str, str]:
+    return str(folder / TRANSCRIPT), str(folder / DECLARATION), str(folder / WITNESS)
 
 
 def _write(folder: Path, trials: Trials, calls: List[Call]) -> None:

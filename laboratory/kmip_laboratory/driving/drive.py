@@ -14,7 +14,7 @@ from .. import tls
 from ..address import Address
 from ..transcript import TranscriptWriter
 from ..trouble import Trouble
-from .client import Budget, Client
+from .client import Budget, Client, Way
 from .cuts import Cut, Cuts
 from .known import Known
 from .marks import Marks
@@ -74,8 +74,9 @@ def drive(job: Job, transcript: Optional[TranscriptWriter] = None, progress: boo
     """Lets all clients make their calls, marking them where a transcript is given."""
     budget = Budget(job.calls, job.seconds, job.clients)
     known, marks = Known(job.mix.counts["hot"]), Marks(transcript, job.version != JUDGED)
-    clients = [Client(number, job.server, job.context, job.version, Plan(job.seed, number, job.mix), job.cuts, known,
-                      marks, budget, job.patience, job.pause) for number in range(1, job.clients + 1)]
+    way = Way(job.server, job.context, job.version, job.cuts, job.patience, job.pause)
+    clients = [Client(number, way, Plan(job.seed, number, job.mix), known, marks, budget)
+               for number in range(1, job.clients + 1)]
     _reach(job)
     begun = time.monotonic()
     for client in clients:

@@ -110,7 +110,8 @@ class Engine:
         way = WAYS.get(ask.operation)
         if way is None:
             raise Refused(Reason.OPERATION_NOT_SUPPORTED)
-        return getattr(self, way)(ask, call)
+        done: Answer = getattr(self, way)(ask, call)
+        return done
 
     def idle(self, ask: Ask, _: Call) -> Answer:
         """Query tells nothing here, and Discover Versions what stands in every answer to it."""
@@ -188,8 +189,8 @@ class Engine:
             return value in thing.names
         if tag is STATE:
             return self.state(thing, call.now) == value
-        field = FIELDS.get(tag)
-        return field is not None and getattr(thing, field) == value
+        kept = FIELDS.get(tag)
+        return kept is not None and getattr(thing, kept) == value
 
     def get(self, ask: Ask, call: Call) -> Answer:
         """The bytes of a live object."""
@@ -270,11 +271,11 @@ def first_of(one: Optional[int], other: Optional[int]) -> Optional[int]:
 def value_of(ask: Ask, tag: Tag) -> Optional[int]:
     """The number of an attribute that the client gives."""
     for each in ask.attributes:
-        if each[0] == tag:
-            return each[1]
+        if each.tag == tag and isinstance(each.value, int):
+            return each.value
     return None
 
 
 def names_in(ask: Ask) -> Tuple[Name, ...]:
     """The names that the client gives, each once."""
-    return tuple(dict.fromkeys(each.value for each in ask.attributes if each.tag is Tag.NAME))
+    return tuple(dict.fromkeys(each.value for each in ask.attributes if isinstance(each.value, Name)))

@@ -5,8 +5,11 @@ from __future__ import annotations
 from enum import IntEnum
 from typing import Dict
 
-from ..operations import Operation as Operation
-from ..tags import Tag as Tag
+from ..operations import Operation
+from ..tags import Tag
+
+__all__ = ["AES", "ATTRIBUTE_NAMES", "ATTRIBUTE_TAGS", "COMPROMISES", "OPAQUE", "PASSWORD", "RAW", "ObjectType",
+           "Operation", "Option", "Reason", "State", "Status", "Tag"]
 
 
 class Status(IntEnum):

@@ -41,7 +41,7 @@ def _write_item(version: Version, ask: Ask) -> bytes:
 
 def _payload(version: Version, ask: Ask) -> List[bytes]:
     if ask.operation in (Operation.CREATE, Operation.REGISTER):
-        made = [ttlv.enumeration(Tag.OBJECT_TYPE, ask.object_type), wire.template(version, ask.attributes)]
+        made = [ttlv.enumeration(Tag.OBJECT_TYPE, ask.object_type or 0), wire.template(version, ask.attributes)]
         return made + ([wire.material(ask.material)] if ask.material else [])
     if ask.operation == Operation.LOCATE:
         made = [ttlv.integer(Tag.MAXIMUM_ITEMS, ask.maximum)] if ask.maximum is not None else []
@@ -135,4 +135,4 @@ def _read_references(version: Version, payload: Item) -> List[Tag]:
 def _read_code(payload: Item) -> int:
     reason: Optional[Item] = payload.first(Tag.REVOCATION_REASON, Kind.STRUCTURE)
     code = reason.first(Tag.REVOCATION_REASON_CODE, Kind.ENUMERATION) if reason else None
-    return code.value if code else 1
+    return int(code.value) if code else 1

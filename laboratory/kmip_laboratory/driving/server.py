@@ -82,7 +82,8 @@ class Server:
 
     def _end(self) -> None:
         for key in list(self._selector.get_map().values()):
-            key.fileobj.close()
+            if isinstance(key.fileobj, socket.socket):
+                key.fileobj.close()
         self._selector.close()
 
     def _accept(self) -> None:
@@ -104,7 +105,7 @@ class Server:
             self._answer(connection)
         except (OSError, ConnectionTrouble):
             connection.is_there = False
-        except Exception:
+        except Exception:  # pylint: disable=broad-exception-caught
             traceback.print_exc()
             connection.is_there = False
         if not connection.is_there and was_there:

@@ -111,7 +111,7 @@ def _named(item: Item) -> List[tuple[int, Item]]:
 
 def _read_value(item: Item) -> int | Name:
     if item.kind != Kind.STRUCTURE:
-        return item.value
+        return int(item.value)
     kind = item.first(Tag.NAME_TYPE, Kind.ENUMERATION)
     return Name(need(item.first(Tag.NAME_VALUE, Kind.TEXT)).value, kind.value if kind else 1)
 

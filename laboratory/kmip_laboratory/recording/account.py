@@ -38,7 +38,7 @@ def _outside_part(asked: Part, answered: Part) -> Optional[str]:
 class Stop(NamedTuple):
     """Calls that the auditor will stop at for one cause: how many, and the first of them."""
 
-    count: int
+    calls: int
     first: int
 
 
@@ -71,7 +71,7 @@ class Account:
         cause = outside_of(asked, answered)
         if cause:
             stop = self.stops.get(cause, Stop(0, call))
-            self.stops[cause] = Stop(stop.count + 1, min(stop.first, call))
+            self.stops[cause] = Stop(stop.calls + 1, min(stop.first, call))
 
     def lines(self) -> List[str]:
         """The account, as lines for a person."""
@@ -82,7 +82,7 @@ class Account:
         lines = [f"by version: {versions}; by operation: {operations}; {self.failed} items failed, {len(self._open)} "
                  "calls are open"] if self.calls else []
         for cause, stop in sorted(self.stops.items(), key=lambda entry: entry[1].first):
-            lines.append(f"the auditor will stop at call {stop.first}, for {cause}: {stop.count} calls are so; "
+            lines.append(f"the auditor will stop at call {stop.first}, for {cause}: {stop.calls} calls are so; "
                          f"{advice(cause)}")
         return lines
 

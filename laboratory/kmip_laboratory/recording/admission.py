@@ -24,7 +24,7 @@ class Admission:
 
     @contextmanager
     def unknown(self) -> Iterator[None]:
-        """While the client of this task has shown no certificate. Where too many are so, the oldest task is cancelled."""
+        """While the client of this task has shown no certificate. Where too many are so, the oldest one has to go."""
         task = asyncio.current_task()
         assert task is not None
         if len(self._unknown) >= MOST_UNKNOWN:

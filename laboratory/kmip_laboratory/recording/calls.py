@@ -2,6 +2,7 @@
 
 from __future__ import annotations
 
+import itertools
 from typing import Dict, Iterator, NamedTuple, Optional
 
 from ..glimpse import Glimpse, glimpse
@@ -50,8 +51,7 @@ def ordered_calls(path: str) -> Iterator[Call]:
             open_places[mark.call] = place
             continue
         ready[mark.call] = waiting[mark.call]._replace(last=place, response=mark.message)
-        while waiting and next(iter(waiting)) in ready:
-            number = next(iter(waiting))
+        for number in list(itertools.takewhile(ready.__contains__, waiting)):
             del waiting[number]
             yield ready.pop(number)
     for number, call in waiting.items():

@@ -116,6 +116,7 @@ class _Timed:
         self.begin = recording.begin
 
     def end(self, call: int, response: bytes) -> None:
+        """The answer to a call, at its moment."""
         self._clock.now = max(self._clock.now, message.time_stamp(response) or 0)
         self._recording.end(call, response)
 

@@ -54,7 +54,7 @@ class Connection:
         self.name = str(address)
         self.open_call: Optional[int] = None
 
-    def end_soon(self, task: asyncio.Task) -> None:
+    def end_soon(self, task: asyncio.Task[None]) -> None:
         """Ends the connection, whose work is this task: now where no call is under way, else after the call."""
         self._ending = True
         if not self._busy:

@@ -34,7 +34,7 @@ def read_identities(words: List[str]) -> List[Identity]:
 
 
 def contexts(identities: List[Identity], authority: str) -> Dict[str, ssl.SSLContext]:
-    """TLS toward the server for each of them. A key that everybody may read is refused: who has it is that client."""
+    """TLS toward the server for each of them. A key that everybody may read is refused: who has it is the client."""
     for identity in identities:
         _see_that_secret(identity.key)
     return {identity.name: tls.toward_server(identity.certificate, identity.key, authority) for identity in identities}
@@ -43,8 +43,8 @@ def contexts(identities: List[Identity], authority: str) -> Dict[str, ssl.SSLCon
 def _see_that_secret(key: str) -> None:
     with contextlib.suppress(OSError):
         if os.stat(key).st_mode & stat.S_IROTH:
-            raise Trouble(f"{key} is a key that everybody on this machine may read: `chmod 600 {shlex.quote(key)}`, and "
-                          "think of whoever has read it")
+            raise Trouble(f"{key} is a key that everybody on this machine may read: `chmod 600 {shlex.quote(key)}`, "
+                          "and think of whoever has read it")
 
 
 def _identities(word: str) -> Iterator[Identity]:

@@ -24,7 +24,7 @@ BETWEEN = "  "
 
 
 def lines(path: str, selection: Selection = ALL) -> Iterator[str]:
-    """A line for each call that is meant, in the order of their begins: number, client, marks, moment, and each item."""
+    """A line for each call that is meant, in the order of their begins: number, client, marks, moment, each item."""
     for call in ordered_calls(path):
         asked, answered = call.asked(), call.answered()
         if not selection.has(call, asked, answered):

@@ -25,8 +25,8 @@ def guess(path: str) -> List[int]:
 
 def witness(calls: List[int]) -> bytes:
     """The witness with these calls as turns."""
-    turns = [ttlv.structure(TURN, ttlv.integer(CALL, call)) for call in calls]
-    return ttlv.structure(HEADER, ttlv.integer(VERSION, 1)) + b"".join(turns)
+    records_of_turns = [ttlv.structure(TURN, ttlv.integer(CALL, call)) for call in calls]
+    return ttlv.structure(HEADER, ttlv.integer(VERSION, 1)) + b"".join(records_of_turns)
 
 
 def turns(path: str) -> List[int]:

@@ -3,7 +3,7 @@
 from __future__ import annotations
 
 import argparse
-from typing import Iterable
+from typing import TYPE_CHECKING, Iterable
 
 from ..outputs import see_apart
 from ..sifting import effects, forgetting
@@ -14,8 +14,11 @@ from . import cut, listing, selection
 from .numbers import add_segment_words
 from .segments import Segments
 
+if TYPE_CHECKING:
+    from ..front import Words
 
-def add(words: argparse._SubParsersAction) -> None:
+
+def add(words: Words) -> None:
     """Adds these words to those of the program."""
     _add_list(words.add_parser("list", help="tell what is in a transcript, call by call"))
     _add_translate(words.add_parser("translate", help="write a transcript of versions 1.0 to 2.0 as one of 2.1"))
@@ -27,8 +30,8 @@ def _add_list(word: argparse.ArgumentParser) -> None:
     word.add_argument("transcript", metavar="TRANSCRIPT")
     word.add_argument("--call", type=int, metavar="N", help="both messages of this call, in place of a line for each")
     word.add_argument("--keys", action="store_true", help="show the bytes of keys too, with --call")
-    word.add_argument("--client", action="append", default=[], metavar="NAME", help="the calls of this client alone; may be "
-                      "repeated, as the next two")
+    word.add_argument("--client", action="append", default=[], metavar="NAME", help="the calls of this client alone; "
+                      "may be repeated, as the next two")
     word.add_argument("--object", action="append", default=[], metavar="ID", help="the calls that name this object")
     word.add_argument("--operation", type=selection.read_operation, action="append", default=[], metavar="NAME",
                       help="the calls that ask for this operation")

@@ -25,8 +25,8 @@ class Range(NamedTuple):
 
 
 class Selection(NamedTuple):
-    """The calls of one of these clients, that name one of these objects, and have one of these operations; no names mean
-    all."""
+    """The calls of one of these clients, that name one of these objects, and have one of these operations; no names
+    mean all."""
 
     clients: List[str]
     objects: List[str]

@@ -62,8 +62,8 @@ def _add_proxy(word: argparse.ArgumentParser) -> None:
                       "NAME.key; may be repeated")
     word.add_argument("--answer-within", type=read_seconds, default=10, metavar="SECONDS", help="how long the server's "
                       "answer is waited for when the client broke off (10)")
-    word.add_argument("--idle", type=read_seconds, default=3600, metavar="SECONDS", help="end the connection of a client "
-                      "that sends no request for so long, or does not take its answer (3600)")
+    word.add_argument("--idle", type=read_seconds, default=3600, metavar="SECONDS", help="end the connection of a "
+                      "client that sends no request for so long, or does not take its answer (3600)")
     word.add_argument("--connections", type=read_count, default=100, metavar="N", help="how many connections a client "
                       "may have at once (100)")
     word.add_argument("--hold", type=read_milliseconds, default=50, metavar="MS", help="how long new requests may be "

@@ -18,8 +18,8 @@ def figures(judged: Judged, recording: int, lines: Dict[str, int]) -> Dict[str, 
     lanes, lane_of = _lanes(calls)
     clients = sorted({call.client for call in calls}, key=_natural)
     does = sorted(set(map(operations, calls)))
-    numbers = [lines.setdefault(line, len(lines)) for line in judged.messages.lines]
-    shown = [judged.messages.of_call.get(call.number, ([], [])) for call in calls]
+    numbers = [lines.setdefault(line, len(lines)) for line in judged.read.messages.lines]
+    shown = [judged.read.messages.of_call.get(call.number, ([], [])) for call in calls]
     return {
         "recording": recording, "fault": judged.verdict.call, "story": judged.named(),
         "marks": len(marks), "clients": clients, "lanes": [clients.index(client) for client in lanes], "what": does,

@@ -33,26 +33,41 @@ TAKEN = "taken: "
 EPOCH = datetime(1970, 1, 1, tzinfo=timezone.utc)
 
 
+class Read(NamedTuple):
+    """The calls of a recording, the turn of each in the order that was judged or found, and their messages."""
+
+    calls: List[Call]
+    turns: Dict[int, int]
+    messages: Messages
+
+
 class Judged(NamedTuple):
-    """A recording: its folder, the verdict with the words of the command that repeats it, the auditor's version and what
-    it told of the files, its files with their digests, its calls, and the turn of each call in the order that was judged
-    or found; and of an order that is refused what a search for others says, where that was asked."""
+    """A recording: its folder, the verdict with the words of the command that repeats it, what the auditor told of the
+    files, its files with their digests, and what was read of it; and of an order that is refused what a search for
+    others says, where that was asked."""
 
     folder: str
     verdict: Verdict
     words: List[str]
-    version: str
-    told: Tuple[Digest, ...]
+    account: Account
     files: List[Tuple[str, int, str]]
-    calls: List[Call]
-    turns: Dict[int, int]
-    messages: Messages
+    read: Read
     seconds: float
     searched: Optional[Verdict] = None
 
+    @property
+    def calls(self) -> List[Call]:
+        """The calls, by their begin marks."""
+        return self.read.calls
+
+    @property
+    def turns(self) -> Dict[int, int]:
+        """The turn of each call in the order that was judged or found."""
+        return self.read.turns
+
     def has_the_auditors_digests(self) -> bool:
         """Whether the auditor told the digest of each file."""
-        told = [judged for judged in self.told if judged.sha256 is not None]
+        told = [judged for judged in self.account.files if judged.sha256 is not None]
         return len(told) >= len(self.files)
 
     @property
@@ -120,8 +135,8 @@ def find(paths: List[str]) -> List[str]:
 
 
 class Asking(NamedTuple):
-    """How the auditor is asked: its program, the most steps of a search, the seconds that each of its runs is given, and
-    whether other orders are searched where one is refused."""
+    """How the auditor is asked: the most steps of a search, whether other orders are searched where one is refused, the
+    seconds that each run is given, and the program."""
 
     budget: Optional[int] = None
     others: bool = False
@@ -132,30 +147,35 @@ class Asking(NamedTuple):
 def judge(folder: str, asking: Asking) -> Judged:
     """Asks the auditor: a check where there is a witness, else a search; and of a witness that is refused a search
     too, where other orders are asked for."""
-    auditor, budget = Auditor(asking.program, asking.seconds), asking.budget
+    auditor = Auditor(asking.program, asking.seconds)
     paths = [os.path.join(folder, name) for name in (TRANSCRIPT, DECLARATION, WITNESS)]
     files = [_digest(path) for path in paths if path != paths[2] or os.path.exists(path)]
     started = time.monotonic()
     with tempfile.TemporaryDirectory(prefix="kmip_report-") as made:
         transcript, declaration, witness = _readable_names(folder, made)
-        more = ["--budget", str(budget)] if len(files) < 3 and budget is not None else []
-        if len(files) == 3:
-            verdict = auditor.explained("check", transcript, declaration, witness)
-        else:
-            witness = os.path.join(made, WITNESS)
-            verdict = auditor.explained("search", transcript, declaration, witness, *more, "--quiet")
+        is_checked = len(files) == len(paths)
+        witness = witness if is_checked else os.path.join(made, WITNESS)
+        more = ["--budget", str(asking.budget)] if not is_checked and asking.budget is not None else []
+        verdict = auditor.explained("check" if is_checked else "search", transcript, declaration, witness, *more,
+                                    *([] if is_checked else ["--quiet"]))
         more += ["--explain"] if verdict.explanation else []
-        searched = (auditor.search(transcript, declaration, os.path.join(made, "other"), budget)
+        searched = (auditor.search(transcript, declaration, os.path.join(made, "other"), asking.budget)
                     if asking.others and verdict.outcome is Outcome.NO else None)
-        taken = time.monotonic() - started
+        seconds = time.monotonic() - started
         account = _account(auditor, transcript, declaration, witness)
         _see_that_they_are_the_judged(files, account.files)
-        turns = _turns(witness) if os.path.exists(witness) and verdict.outcome is not Outcome.MALFORMED else {}
-        readable = verdict.outcome not in (Outcome.MALFORMED, Outcome.DEVICE, Outcome.MEMORY)
-        calls = read_transcript(transcript).calls if readable else []
-        messages = read_messages(auditor, transcript) if readable else Messages([], {})
-    return Judged(folder, verdict, _words(folder, len(files) == 3, more), account.version, account.files, files, calls,
-                  turns, messages, taken, searched and searched._replace(decided=_decides(searched, budget, calls)))
+        read = _read(auditor, verdict, transcript, witness)
+    if searched:
+        searched = searched._replace(decided=_decides(searched, asking.budget, read.calls))
+    return Judged(folder, verdict, _words(folder, is_checked, more), account, files, read, seconds, searched)
+
+
+def _read(auditor: Auditor, verdict: Verdict, transcript: str, witness: str) -> Read:
+    """What can be read of a recording that has this verdict."""
+    order = _turns(witness) if os.path.exists(witness) and verdict.outcome is not Outcome.MALFORMED else {}
+    if verdict.outcome in (Outcome.MALFORMED, Outcome.DEVICE, Outcome.MEMORY):
+        return Read([], order, Messages([], {}))
+    return Read(read_transcript(transcript).calls, order, read_messages(auditor, transcript))
 
 
 def _readable_names(folder: str, made: str) -> List[str]:
@@ -197,8 +217,8 @@ def _see_that_they_are_the_judged(files: List[Tuple[str, int, str]], told: Tuple
     """Holds the digests that the auditor told against those of the files."""
     for (path, length, sha256), judged in zip(files, told):
         if judged.sha256 is not None and (length, sha256) != (judged.length, judged.sha256):
-            raise Trouble(f"{shown(path)} is not what was judged: it has changed since, or the auditor is not one; make "
-                          "the report again")
+            raise Trouble(f"{shown(path)} is not what was judged: it has changed since, or the auditor is not one; "
+                          "make the report again")
 
 
 def _digest(path: str) -> Tuple[str, int, str]:

@@ -63,7 +63,7 @@ def _title(recordings: List[Judged]) -> str:
 
 
 def _made(recordings: List[Judged], made: datetime) -> Markup:
-    versions = ", ".join(sorted({judged.version for judged in recordings}))
+    versions = ", ".join(sorted({judged.account.version for judged in recordings}))
     when = made.strftime("%Y-%m-%dT%H:%M:%SZ")
     return element("p", f"Made {when} by kmip_report, from what {versions} printed.", of="soft")
 
@@ -71,8 +71,8 @@ def _made(recordings: List[Judged], made: datetime) -> Markup:
 def _overview(recordings: List[Judged]) -> Markup:
     """A line for each recording, and what they have in common."""
     rows: List[List[Part]] = [
-        [element("a", shown(judged.folder), href=f"#recording-{number}"), in_short(judged.verdict), str(len(judged.calls)),
-         f"{judged.seconds:.1f}"] for number, judged in enumerate(recordings, 1)]
+        [element("a", shown(judged.folder), href=f"#recording-{number}"), in_short(judged.verdict),
+         str(len(judged.calls)), f"{judged.seconds:.1f}"] for number, judged in enumerate(recordings, 1)]
     reasons: List[List[Part]] = [[reason, str(count)] for reason, count in by_verdict(recordings)]
     return together([
         element("h2", "Verdicts"), table(["Recording", "Verdict", "Calls", "Seconds to judge"], rows, 2),
@@ -179,14 +179,14 @@ def _told_story(judged: Judged, told: Story) -> Markup:
 
 def _story(judged: Judged) -> Markup:
     """The newest calls that name an object of the refused call."""
-    story = judged.story()
-    if len(story) < 2:
+    named = judged.story()
+    if len(named) < 2:
         return Markup("")
     rows: List[List[Part]] = [
         [_link(call.number), call.client, operations(call), came_to(call),
          "" if call.stamp is None else moment(call.stamp), str(judged.turns.get(call.number, ""))]
-        for call in story[-MOST_OF_STORY:]]
-    left_out = len(story) - len(rows)
+        for call in named[-MOST_OF_STORY:]]
+    left_out = len(named) - len(rows)
     told = f" The {left_out} before these are left out." if left_out else ""
     return together([
         element("h3", "The object's story"),
@@ -203,7 +203,8 @@ def _counts(judged: Judged) -> Markup:
 
 
 def _evidence(judged: Judged) -> Markup:
-    rows: List[List[Part]] = [[shown(path), element("code", sha256), f"{length:,}"] for path, length, sha256 in judged.files]
+    rows: List[List[Part]] = [[shown(path), element("code", sha256), f"{length:,}"]
+                              for path, length, sha256 in judged.files]
     read = "as the auditor judged it" if judged.has_the_auditors_digests() else "as the report read it"
     return together([
         table(["File", f"SHA-256, {read}", "Bytes"], rows, 1),

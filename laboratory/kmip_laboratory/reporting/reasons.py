@@ -39,8 +39,8 @@ PREMISES = (
     "A yes says that some inventory fits the declaration, and that doing one call after the other from there, by the "
     "rules of the profile and in this order, gives every recorded answer. It does not say that the server really took "
     "this order, that it held what is declared, or that the recorder's marks are right. A no speaks of this order "
-    "alone; where a search gives up, it has decided that there is no order only if it had steps left, and every call has "
-    "ended, has its items in order and waits for no payload.")
+    "alone; where a search gives up, it has decided that there is no order only if it had steps left, and every call "
+    "has ended, has its items in order and waits for no payload.")
 
 
 def in_words(verdict: Verdict) -> str:

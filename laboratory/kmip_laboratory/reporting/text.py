@@ -38,8 +38,8 @@ def _overview(recordings: List[Judged]) -> List[str]:
 
 def _recording(judged: Judged, made: datetime) -> List[str]:
     """The report of one recording."""
-    lines = [*_broken(shown(judged.folder)),
-             *_filled(f"Made {made:%Y-%m-%dT%H:%M:%SZ} by kmip_report, from what {judged.version} printed."), ""]
+    by_whom = f"Made {made:%Y-%m-%dT%H:%M:%SZ} by kmip_report, from what {judged.account.version} printed."
+    lines = [*_broken(shown(judged.folder)), *_filled(by_whom), ""]
     for line in (*judged.verdict.lines, *judged.verdict.explanation):
         lines += _broken(line)
     lines += ["", *_filled(in_words(judged.verdict))]
@@ -67,8 +67,8 @@ def _timeline(judged: Judged) -> List[str]:
     for call in some:
         sign = ">" if call is refused else "*" if call.number in named else " "
         turn = judged.turns.get(call.number)
-        told = f"{sign}{call.number:>6} {call.client[:12]:<12} |{_bar(call, first, last)}| {operations(call)[:20]:<20}"
-        lines.append((told + (f" turn {turn}" if turn else "")).rstrip())
+        line = f"{sign}{call.number:>6} {call.client[:12]:<12} |{_bar(call, first, last)}| {operations(call)[:20]:<20}"
+        lines.append((line + (f" turn {turn}" if turn else "")).rstrip())
     return lines
 
 

@@ -46,7 +46,7 @@ def _start(trials: Trials, calls: List[Call]) -> Optional[List[Call]]:
     """Calls of which a search decides that no order explains them."""
     if trials.impossible(calls):
         return calls
-    calls = _first(trials, _ends_by_stamp(calls), lambda cut: trials.answer(cut)[0] is not Answer.EXPLAINED)
+    calls = _first(_ends_by_stamp(calls), lambda cut: trials.answer(cut)[0] is not Answer.EXPLAINED)
     if trials.impossible(calls):
         return calls
     for part in sorted({part for call in calls for part in trials.parts.of(call)}):
@@ -59,11 +59,11 @@ def _start(trials: Trials, calls: List[Call]) -> Optional[List[Call]]:
 def _without_ends(trials: Trials, calls: List[Call]) -> List[Call]:
     """Leaves out the calls that all come behind those that stay, in any order."""
     for cuts in (_ends_by_stamp, _ends_by_mark):
-        calls = _first(trials, cuts(calls), trials.impossible)
+        calls = _first(cuts(calls), trials.impossible)
     return calls
 
 
-def _first(trials: Trials, cuts: Sequence[List[Call]], holds: Callable[[List[Call]], bool]) -> List[Call]:
+def _first(cuts: Sequence[List[Call]], holds: Callable[[List[Call]], bool]) -> List[Call]:
     """The first of growing lists of calls for which it holds; it holds for the last, and for all behind the first."""
     low, high = 0, len(cuts) - 1
     while low < high:

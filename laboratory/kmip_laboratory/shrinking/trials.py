@@ -2,6 +2,7 @@
 
 from __future__ import annotations
 
+import contextlib
 import os
 import tempfile
 from enum import Enum
@@ -42,16 +43,18 @@ class Trials:
         self._whole = whole
         self._budget = budget
         self._auditor = auditor
+        self._made = contextlib.ExitStack()
+        self._folder = ""
         self._answers: Dict[FrozenSet[int], Tuple[Answer, Verdict]] = {}
         self.parts = Parts(transcript.calls, declaration, whole)
 
     def __enter__(self) -> Trials:
-        self._folder = tempfile.TemporaryDirectory(prefix="kmip_record-shrink-")
+        self._folder = self._made.enter_context(tempfile.TemporaryDirectory(prefix="kmip_record-shrink-"))
         return self
 
     def __exit__(self, kind: Optional[Type[BaseException]], error: Optional[BaseException],
                  trace: Optional[TracebackType]) -> None:
-        self._folder.cleanup()
+        self._made.close()
 
     @property
     def asked(self) -> int:
@@ -82,14 +85,15 @@ class Trials:
     def order(self, calls: List[Call]) -> Optional[List[int]]:
         """An order that explains these calls, where a search finds one."""
         found = self._searched(calls).outcome is Outcome.YES
-        return turns(os.path.join(self._folder.name, WITNESS)) if found else None
+        return turns(os.path.join(self._folder, WITNESS)) if found else None
 
     def _searched(self, calls: List[Call]) -> Verdict:
-        names = [os.path.join(self._folder.name, name) for name in (TRANSCRIPT, DECLARATION, WITNESS)]
-        for name, data in zip(names, self.files(calls)):
+        transcript, declaration, out = (os.path.join(self._folder, name)
+                                        for name in (TRANSCRIPT, DECLARATION, WITNESS))
+        for name, data in zip((transcript, declaration), self.files(calls)):
             with open(name, "wb") as file:
                 file.write(data)
-        return self._auditor.search(*names, self._budget)
+        return self._auditor.search(transcript, declaration, out, self._budget)
 
     def _asked(self, calls: List[Call]) -> Tuple[Answer, Verdict]:
         verdict = self._searched(calls)

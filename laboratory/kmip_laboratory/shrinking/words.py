@@ -3,7 +3,7 @@
 from __future__ import annotations
 
 import argparse
-from typing import List, Tuple
+from typing import TYPE_CHECKING, List, Tuple
 
 from .. import fresh
 from ..auditor import Auditor
@@ -14,12 +14,15 @@ from .parts import has_effect, is_plain, read_declaration
 from .smallest import shrunk
 from .trials import Answer, Trials
 
+if TYPE_CHECKING:
+    from ..front import Words
+
 HELP = "find the smallest part of a transcript that no order of its calls explains"
 BUDGET = 20_000
 MOST_TOLD = 20
 
 
-def add(words: argparse._SubParsersAction) -> None:
+def add(words: Words) -> None:
     """Adds the word."""
     word = words.add_parser("shrink", help=HELP, description="See docs/SHRINKING.md.")
     word.add_argument("transcript", metavar="TRANSCRIPT")

@@ -56,10 +56,10 @@ def _changed(message: bytes, side: Side, places: List[int], change: Callable[[by
     """The message, with the values of the payloads of these items changed."""
     seen = glimpse(message, side)
     changes = []
-    for place in places:
-        item, payload = seen.parts[place].place, seen.parts[place].payload
-        if payload:
-            changes.append(Change((HEADER_LENGTH, item, payload[0]), *payload, change(message[slice(*payload)])))
+    for part in [seen.parts[place] for place in places] if seen else []:
+        if part.payload:
+            start, stop = part.payload
+            changes.append(Change((HEADER_LENGTH, part.place, start), start, stop, change(message[start:stop])))
     return changed(message, changes)
 
 

@@ -20,7 +20,7 @@ REFUSED_OTHERWISE = "refused in another version"
 class Unknown(NamedTuple):
     """Calls of an operation whose effect is not known: how many, which objects they name, and the first of them."""
 
-    count: int
+    calls: int
     objects: FrozenSet[str]
     first: int
 
@@ -71,11 +71,11 @@ class Sorted:
         name = operation_name(part.operation or 0)
         seen = self.unknown.get(name, Unknown(0, frozenset(), call.number))
         objects = seen.objects | frozenset(identifiers(call.request, part))
-        self.unknown[name] = Unknown(seen.count + 1, objects, min(seen.first, call.number))
+        self.unknown[name] = Unknown(seen.calls + 1, objects, min(seen.first, call.number))
 
     def unknown_lines(self) -> List[str]:
         """What the auditor will stop at, a line for each operation."""
-        return [f"the auditor will stop at {name}, whose effect on what is judged is not known: {seen.count} of them, "
+        return [f"the auditor will stop at {name}, whose effect on what is judged is not known: {seen.calls} of them, "
                 f"the first in call {seen.first}, on {_listed(seen.objects)}"
                 for name, seen in sorted(self.unknown.items())]
 
@@ -95,4 +95,3 @@ def _listed(objects: FrozenSet[str]) -> str:
     names = sorted(objects)
     more = f" and {len(names) - 5} more" if len(names) > 5 else ""
     return f"objects {', '.join(names[:5])}{more}" if names else "no object that it names"
-

@@ -76,6 +76,7 @@ def _vendor(name: str) -> bytes:
 
 
 def _tag(name: str, where: str) -> int:
-    if name not in NAMES:
+    tag = tag_of_name(name) if name in NAMES else None
+    if tag is None:
         raise Guess(f"{where}, {name}: the standard has no attribute of this name")
-    return tag_of_name(name)
+    return tag

@@ -64,7 +64,7 @@ def _translated(message: bytes, side: Side, seen: Glimpse, operations: List[int]
     changes = [Change((), start, stop, _judged_version(message[start:stop]))]
     found: Lost = Counter()
     if seen.version != NEARLY_JUDGED:
-        if side is Side.CLIENT and len(operations) > 1 and seen.version <= LAST_WITHOUT_ORDER:
+        if side is Side.CLIENT and len(operations) > 1 and seen.version and seen.version <= LAST_WITHOUT_ORDER:
             changes += _without_order(message, seen)
         for place, part in enumerate(seen.parts):
             change = table.get(operations[place])

@@ -2,7 +2,7 @@
 
 from __future__ import annotations
 
-from typing import Callable, Dict, List
+from typing import Callable, Dict
 
 from ..operations import Operation
 from ..slices import Slice, changed_at, slices_of, structure

@@ -3,7 +3,7 @@
 from __future__ import annotations
 
 from dataclasses import replace
-from typing import Dict, List, Optional
+from typing import Any, Dict, List, Optional
 
 from ..engine import Call
 from ..messages import Answer, Ask, Request, Response
@@ -126,7 +126,7 @@ class ItemNumbersSwapped(Fault):
 class AnswerOfAnother(Fault):
     """A client gets the answer that the connection's call before got, where the operation is the same."""
 
-    def __init__(self, *words: object, **more: object) -> None:
+    def __init__(self, *words: Any, **more: Any) -> None:
         super().__init__(*words, **more)
         self._last: Dict[int, Answer] = {}
 

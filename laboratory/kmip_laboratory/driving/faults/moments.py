@@ -3,7 +3,7 @@
 from __future__ import annotations
 
 from dataclasses import replace
-from typing import Dict, List, Tuple
+from typing import Any, Dict, List, Tuple
 
 from ..engine import Call
 from ..messages import Answer, Ask, Refused, Request
@@ -18,7 +18,7 @@ class RevokeASecondLater(Fault):
     mix = "hot-keys"
     rate_usual = 0.5
 
-    def __init__(self, *words: object, **more: object) -> None:
+    def __init__(self, *words: Any, **more: Any) -> None:
         super().__init__(*words, **more)
         self._late: Dict[str, int] = {}
 
@@ -94,7 +94,7 @@ class LateDestroy(Fault):
     mix = "hot-keys"
     rate_usual = 1.0
 
-    def __init__(self, *words: object, **more: object) -> None:
+    def __init__(self, *words: Any, **more: Any) -> None:
         super().__init__(*words, **more)
         self._waiting: List[Tuple[int, Ask, Call]] = []
 

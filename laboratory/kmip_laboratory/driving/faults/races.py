@@ -4,7 +4,7 @@ from __future__ import annotations
 
 import time
 from dataclasses import replace
-from typing import Dict, List, Optional, Tuple
+from typing import Any, Dict, List, Optional, Tuple
 
 from ..engine import Call, Steps
 from ..messages import Answer, Name, Request, Response
@@ -59,7 +59,7 @@ class AnswerAheadOfEffect(Fault):
     mix = "hot-keys"
     rate_usual = 0.5
 
-    def __init__(self, *words: object, **more: object) -> None:
+    def __init__(self, *words: Any, **more: Any) -> None:
         super().__init__(*words, **more)
         self._late: List[Tuple[float, Thing, Thing]] = []
 
@@ -68,8 +68,8 @@ class AnswerAheadOfEffect(Fault):
         asked = request.asks[0]
         before = self.store.find(asked.identifier)
         response = super().take(request, session)
-        alone = len(request.asks) == 1 and asked.operation in CHANGES and before is not None
-        if alone and response.answers[0].status is Status.SUCCESS and self.strikes():
+        alone = len(request.asks) == 1 and asked.operation in CHANGES
+        if before is not None and alone and response.answers[0].status is Status.SUCCESS and self.strikes():
             after = self.store.find(asked.identifier)
             if after is not None:
                 self.store.put(before)
@@ -114,7 +114,7 @@ class HalfARevoke(Fault):
         ask = request.asks[0]
         if len(request.asks) == 1 and ask.operation == Operation.REVOKE and ask.code in COMPROMISES:
             thing = self.store.find(ask.identifier)
-            if self._is_sound(thing) and self.strikes():
+            if thing is not None and self._is_sound(thing) and self.strikes():
                 now = self.clock.now()
                 self.store.put(replace(thing, activation=now, deactivation=now))
                 yield SECONDS_OF_RACE

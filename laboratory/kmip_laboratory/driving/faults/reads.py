@@ -3,7 +3,7 @@
 from __future__ import annotations
 
 from dataclasses import replace
-from typing import Dict, List
+from typing import Any, Dict, List
 
 from ..engine import Call
 from ..messages import Answer, Ask, Attribute, Material, Refused
@@ -18,7 +18,7 @@ class StaleReadAfterDestroy(Fault):
     mix = "hot-keys"
     rate_usual = 0.5
 
-    def __init__(self, *words: object, **more: object) -> None:
+    def __init__(self, *words: Any, **more: Any) -> None:
         super().__init__(*words, **more)
         self._cache: Dict[str, bytes] = {}
 
@@ -98,7 +98,7 @@ class StateOfACache(Fault):
     mix = "hot-keys"
     rate_usual = 0.5
 
-    def __init__(self, *words: object, **more: object) -> None:
+    def __init__(self, *words: Any, **more: Any) -> None:
         super().__init__(*words, **more)
         self._shown: Dict[str, int] = {}
 
@@ -108,7 +108,7 @@ class StateOfACache(Fault):
         for each in answer.attributes:
             if each.tag is Tag.STATE and identifier in self._shown and self.strikes():
                 each = Attribute(Tag.STATE, self._shown[identifier])
-            elif each.tag is Tag.STATE:
+            elif each.tag is Tag.STATE and isinstance(each.value, int):
                 self._shown[identifier] = each.value
             shown.append(each)
         return replace(answer, attributes=tuple(shown))
@@ -133,8 +133,8 @@ class LengthInBytes(Fault):
         told = super().all_of(thing, now)
         if not self.strikes():
             return told
-        return [Attribute(each.tag, each.value // 8) if each.tag is Tag.CRYPTOGRAPHIC_LENGTH else each
-                for each in told]
+        return [Attribute(each.tag, each.value // 8) if each.tag is Tag.CRYPTOGRAPHIC_LENGTH
+                and isinstance(each.value, int) else each for each in told]
 
 
 class ReasonThatIsNotSo(Fault):
