@@ -40,8 +40,10 @@ class Peer:
     async def receive_within(self, seconds: float) -> Optional[bytes]:
         """The next message, as `receive` has it; refused where it is not whole in time."""
         limit = asyncio.get_running_loop().call_later(seconds, self._end_idleness)
-        received = await self.receive()
-        limit.cancel()
+        try:
+            received = await self.receive()
+        finally:
+            limit.cancel()
         if received is None and self._is_idle:
             raise ConnectionTrouble(f"no whole request came in {seconds:g} s")
         return received
