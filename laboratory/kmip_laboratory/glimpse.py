@@ -6,7 +6,7 @@ A glimpse reads no more than it tells, so that passes over long transcripts take
 from __future__ import annotations
 
 from functools import lru_cache
-from typing import Dict, List, NamedTuple, Optional, Tuple
+from typing import NamedTuple, Optional
 
 from .message import Side
 from .tags import Tag
@@ -37,7 +37,7 @@ class Part(NamedTuple):
     operation: Optional[int]
     status: Optional[int]
     reason: Optional[int]
-    payload: Optional[Tuple[int, int]]
+    payload: Optional[tuple[int, int]]
     place: int
 
 
@@ -47,9 +47,9 @@ class Glimpse(NamedTuple):
 
     version: Optional[Version]
     stamp: Optional[int]
-    parts: List[Part]
-    header: Tuple[int, int]
-    version_place: Tuple[int, int]
+    parts: list[Part]
+    header: tuple[int, int]
+    version_place: tuple[int, int]
 
     @property
     def is_refusal(self) -> bool:
@@ -86,7 +86,7 @@ def _glimpse(message: bytes, side: Side, start: int, stop: int) -> Glimpse:
 @lru_cache(maxsize=64)
 def _version(spelled: bytes) -> Optional[Version]:
     """The version that the value of a Protocol Version is. There are few, and they come again and again."""
-    found: Dict[int, int] = {}
+    found: dict[int, int] = {}
     for number, place, _ in places_in(spelled, 0, len(spelled)):
         found.setdefault(number, int.from_bytes(spelled[place:place + 4], "big", signed=True))
     major, minor = found.get(MAJOR), found.get(MINOR)
@@ -107,7 +107,7 @@ def _part(message: bytes, payload_front: int, start: int, stop: int) -> Part:
     return Part(operation, status, reason, payload, start)
 
 
-def identifiers(message: bytes, part: Part) -> List[str]:
+def identifiers(message: bytes, part: Part) -> list[str]:
     """The Unique Identifiers that are texts at the first level of the payload of an item; none of one that is broken
     within."""
     try:

@@ -6,7 +6,7 @@ from __future__ import annotations
 import json
 import re
 from enum import Enum
-from typing import Any, Dict, List, NamedTuple, Optional, Pattern, Tuple
+from typing import Any, NamedTuple, Optional, Pattern
 
 
 class Outcome(Enum):
@@ -23,7 +23,7 @@ class Outcome(Enum):
     LATE = "late"
 
 
-PATTERNS: Dict[Outcome, Pattern[str]] = {
+PATTERNS: dict[Outcome, Pattern[str]] = {
     Outcome.YES: re.compile(r"yes(?:: (?P<steps>\d+) steps)?"),
     Outcome.NO: re.compile(r"no: turn (?P<turn>\d+) call (?P<call>\d+) item (?P<item>\d+) why (?P<number>\d+) "
                            r"(?P<name>\w+)\nat (?P<date>\S+)"),
@@ -60,7 +60,7 @@ class Verdict(NamedTuple):
     that no order explains the transcript, and `call` to `name` are those of the first call that can't be next."""
 
     outcome: Outcome
-    lines: List[str]
+    lines: list[str]
     status: int
     turn: Optional[int] = None
     call: Optional[int] = None
@@ -71,7 +71,7 @@ class Verdict(NamedTuple):
     date: str = ""
     steps: Optional[int] = None
     decided: Optional[bool] = None
-    explanation: Tuple[str, ...] = ()
+    explanation: tuple[str, ...] = ()
 
     def decides(self, budget: int) -> bool:
         """Whether a search with this budget has decided. Giving up with steps left is a decision, where no call is
@@ -89,7 +89,7 @@ def read_verdict(printed: str, status: int) -> Optional[Verdict]:
     for outcome, pattern in PATTERNS.items():
         found = pattern.fullmatch(printed.rstrip("\n"))
         if found:
-            told: Dict[str, Any] = {name: int(value) if name in NUMBERS else value
+            told: dict[str, Any] = {name: int(value) if name in NUMBERS else value
                                     for name, value in found.groupdict().items() if name in Verdict._fields and value}
             return Verdict(outcome, printed.splitlines(), status, **told)
     return None
@@ -113,7 +113,7 @@ class Account(NamedTuple):
     """What a run tells in JSON besides its verdict: the auditor's version, and the files as it read them."""
 
     version: str
-    files: Tuple[Digest, ...]
+    files: tuple[Digest, ...]
 
 
 def read_account(printed: str) -> Optional[Account]:

@@ -17,7 +17,6 @@ import unittest
 from contextlib import redirect_stdout
 from pathlib import Path
 from types import ModuleType
-from typing import List
 from unittest import mock
 
 from laboratory import FOLDER
@@ -111,9 +110,13 @@ class Runner(unittest.TestCase):
 class Written(unittest.TestCase):
     """What stands in every file."""
 
-    def files(self) -> List[Path]:
+    def files(self) -> list[Path]:
         """All of the package."""
         return sorted((FOLDER / PACKAGE).rglob("*.py"))
+
+    def test_types_are_the_built_in_ones(self) -> None:
+        for path in self.files():
+            self.assertNotRegex(path.read_text("utf-8"), r"\b(List|Dict|Set|FrozenSet|Tuple|Type)\[", path)
 
     def test_there_is_one_front(self) -> None:
         for path in self.files():

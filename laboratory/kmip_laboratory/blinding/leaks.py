@@ -4,7 +4,7 @@ from __future__ import annotations
 
 import base64
 import re
-from typing import Iterable, Iterator, Set
+from typing import Iterable, Iterator
 
 WINDOW = 8
 DIGITS = re.compile(rb"[0-9A-Fa-f]{%d,}" % (2 * WINDOW))
@@ -16,7 +16,7 @@ class Leaks:
     """All windows of so many bytes in secrets."""
 
     def __init__(self, secrets: Iterable[bytes]) -> None:
-        self._windows: Set[bytes] = set()
+        self._windows: set[bytes] = set()
         for secret in secrets:
             self._windows.update(_windows(secret))
 

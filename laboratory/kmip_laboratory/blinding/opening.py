@@ -3,7 +3,7 @@
 from __future__ import annotations
 
 from enum import Enum
-from typing import Dict, List, NamedTuple, Set, Tuple
+from typing import NamedTuple
 
 from .. import ttlv
 from ..records import records, which
@@ -58,9 +58,9 @@ class Opened:
         self.path = path
         self.file = which(path, data)
         self.data = bytearray(data)
-        self.secrets: Set[bytes] = set()
+        self.secrets: set[bytes] = set()
         self.replaced = 0
-        self.texts: Dict[Text, List[int]] = {}
+        self.texts: dict[Text, list[int]] = {}
         self._replacing = replacing
         for record in records(path, data):
             call = record.item.first(CALL, Kind.INTEGER)
@@ -76,7 +76,7 @@ class Opened:
         for place in self.texts[text]:
             self.data[place:place + len(spelled)] = spelled
 
-    def _open(self, items: List[Item], where: Where, secret: bool) -> None:
+    def _open(self, items: list[Item], where: Where, secret: bool) -> None:
         """Opens these items, and what stands in them."""
         for item in items:
             tag, kind, value, place = item
@@ -125,9 +125,9 @@ class Opened:
             self.secrets.add(item.value.encode("utf-8"))
 
 
-def all_texts(files: List[Opened]) -> Dict[Text, Tuple[str, int]]:
+def all_texts(files: list[Opened]) -> dict[Text, tuple[str, int]]:
     """Every text of these files, with the path and the offset at which it stands first."""
-    found: Dict[Text, Tuple[str, int]] = {}
+    found: dict[Text, tuple[str, int]] = {}
     for opened in files:
         for text in opened.texts:
             found.setdefault(text, (opened.path, opened.first_place(text)))

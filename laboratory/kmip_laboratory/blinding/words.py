@@ -4,7 +4,7 @@ from __future__ import annotations
 
 import argparse
 import os
-from typing import TYPE_CHECKING, Dict, List
+from typing import TYPE_CHECKING
 
 from .. import fresh
 from ..outputs import see_apart
@@ -70,10 +70,10 @@ def _key(path: str) -> bytes:
     return key
 
 
-def _chosen(files: List[Opened], names: bool, identifiers: bool) -> List[Text]:
+def _chosen(files: list[Opened], names: bool, identifiers: bool) -> list[Text]:
     """The texts that are replaced; refused where one that is to stay shows a key."""
     leaks = Leaks(secret for opened in files for secret in opened.secrets)
-    replaced: Dict[Sort, bool] = {
+    replaced: dict[Sort, bool] = {
         Sort.NAME: names, Sort.IDENTIFIER: identifiers, Sort.PASSWORD: True, Sort.CLIENT: False,
         Sort.OTHER: names or identifiers}
     chosen = []
@@ -88,7 +88,7 @@ def _chosen(files: List[Opened], names: bool, identifiers: bool) -> List[Text]:
     return chosen
 
 
-def _account(files: List[Opened], chosen: List[Text]) -> str:
+def _account(files: list[Opened], chosen: list[Text]) -> str:
     counts = [f"{len(files)} files", f"{sum(opened.replaced for opened in files)} strings of bytes"]
     for sort in Sort:
         counts.append(f"{sum(text.sort is sort for text in chosen)} {sort.value}s")

@@ -4,7 +4,7 @@ from __future__ import annotations
 
 import asyncio
 from pathlib import Path
-from typing import FrozenSet, List, NamedTuple
+from typing import NamedTuple
 
 from ..auditor import Auditor
 from ..recording import declaration, inventory
@@ -32,8 +32,8 @@ class Wanted(NamedTuple):
     folder: Path
     is_empty: bool
     unique_names: bool
-    rows: List[declaration.Row]
-    forgotten: FrozenSet[int]
+    rows: list[declaration.Row]
+    forgotten: frozenset[int]
     budget: int
 
 
@@ -65,7 +65,7 @@ def _report(recording: Path, page: Path, asking: Asking) -> None:
 
 def _declare(job: Job, wanted: Wanted) -> None:
     """What the server holds, as it says itself; or nothing."""
-    entries: List[bytes] = []
+    entries: list[bytes] = []
     if not wanted.is_empty:
         try:
             entries = asyncio.run(inventory.entries(job.server, job.context, Version(*job.version), False))
@@ -84,7 +84,7 @@ def _forget(wanted: Wanted) -> None:
         print(sifting.run(str(source), str(target), frozenset(), wanted.forgotten), flush=True)
 
 
-def explained(folder: Path, decision: Decision) -> List[str]:
+def explained(folder: Path, decision: Decision) -> list[str]:
     """The lines that tell what came out, and where to look."""
     if decision.explained:
         return [decision.line, f"{folder / WITNESS} is an order that explains every answer"]

@@ -9,7 +9,7 @@ import struct
 import threading
 import time
 from collections import Counter
-from typing import Counter as Counted, Dict, List, NamedTuple, Optional
+from typing import Counter as Counted, NamedTuple, Optional
 
 from .. import message, tls, ttlv
 from ..address import Address
@@ -26,7 +26,7 @@ from .plan import Plan, PlannedCall
 from .requests import write_request
 
 NAMES = {operation.value: operation.name for operation in Operation}
-CAME_TO: Dict[Optional[int], str] = {SUCCESS: "done", UNDONE: "undone"}
+CAME_TO: dict[Optional[int], str] = {SUCCESS: "done", UNDONE: "undone"}
 # The last version in which the items of a batch have no order unless that is asked for.
 LAST_WITHOUT_ORDER = (1, 2)
 MOST_BREAKS_IN_A_ROW = 5
@@ -208,7 +208,7 @@ class Client(threading.Thread):
                 time.sleep(SECONDS_OF_SLOWNESS)
         return received
 
-    def _learn(self, asks: List[Ask], response: bytes) -> None:
+    def _learn(self, asks: list[Ask], response: bytes) -> None:
         seen = glimpse(response, Side.SERVER)
         if seen is None or seen.stamp is None or not seen.parts:
             self.counts["answers that were not understood"] += 1

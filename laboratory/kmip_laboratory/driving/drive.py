@@ -8,7 +8,7 @@ import sys
 import time
 from collections import Counter
 from dataclasses import dataclass, field
-from typing import Counter as Counted, List, Optional
+from typing import Counter as Counted, Optional
 
 from .. import tls
 from ..address import Address
@@ -53,7 +53,7 @@ class Done:
     seconds: float
     counts: Counted[str]
 
-    def lines(self) -> List[str]:
+    def lines(self) -> list[str]:
         """The account, for people."""
         pace = self.calls / self.seconds if self.seconds else 0
         made = [f"{self.calls} calls by {self.job.clients} clients in {self.seconds:.1f} s, {pace:.0f} a second; seed "
@@ -102,7 +102,7 @@ def _reach(job: Job) -> None:
                       "that the server runs") from None
 
 
-def _wait(clients: List[Client], budget: Budget, begun: float, shown: bool) -> None:
+def _wait(clients: list[Client], budget: Budget, begun: float, shown: bool) -> None:
     """Waits for the clients' end; on a terminal a line tells how far they are."""
     told = begun
     for client in clients:

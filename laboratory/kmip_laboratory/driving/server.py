@@ -14,7 +14,7 @@ import ssl
 import threading
 import time
 import traceback
-from typing import List, Optional, Tuple
+from typing import Optional
 
 from .. import ttlv
 from ..trouble import ConnectionTrouble
@@ -45,7 +45,7 @@ class Server:
         self._selector = selectors.DefaultSelector()
         for each in (self._listener, self._woken):
             self._selector.register(each, READ)
-        self._waiting: List[Tuple[float, int, Steps, Connection]] = []
+        self._waiting: list[tuple[float, int, Steps, Connection]] = []
         self._numbers = itertools.count()
         self._thread = threading.Thread(target=self._run, daemon=True)
         self._thread.start()

@@ -6,7 +6,7 @@ import argparse
 import asyncio
 from dataclasses import replace
 from pathlib import Path
-from typing import List, Optional
+from typing import Optional
 
 from .. import tls
 from ..address import Address, read_address
@@ -29,7 +29,7 @@ OPTIONS = {Cut.BEFORE_SENDING: "--cut-before-sending", Cut.IN_REQUEST: "--cut-in
            Cut.AFTER_SENDING: "--cut-after-sending", Cut.IN_ANSWER: "--cut-in-answer", Cut.SLOW: "--slow"}
 
 
-def main(arguments: Optional[List[str]] = None) -> int:
+def main(arguments: Optional[list[str]] = None) -> int:
     """Does what the words say, and answers the status. Options without a word are those of `drive`."""
     return run_or_help(_parser(), arguments, usual="drive")
 

@@ -5,7 +5,7 @@ from __future__ import annotations
 import asyncio
 from collections import Counter
 from contextlib import contextmanager
-from typing import Counter as Counted, Dict, Iterator
+from typing import Counter as Counted, Iterator
 
 from ..trouble import ConnectionTrouble, say
 
@@ -18,7 +18,7 @@ class Admission:
 
     def __init__(self, most_of_a_client: int) -> None:
         self._most = most_of_a_client
-        self._unknown: Dict[asyncio.Task[None], None] = {}
+        self._unknown: dict[asyncio.Task[None], None] = {}
         self._of_client: Counted[str] = Counter()
         self._dropped = 0
 

@@ -11,7 +11,7 @@ from __future__ import annotations
 import asyncio
 import socket
 import ssl
-from typing import Dict, NamedTuple, Optional
+from typing import NamedTuple, Optional
 
 from .. import peer
 from ..address import Address
@@ -33,7 +33,7 @@ class Way(NamedTuple):
     idle: float
     admission: Admission
     gate: Gate
-    identities: Dict[str, ssl.SSLContext]
+    identities: dict[str, ssl.SSLContext]
 
     def toward_server_as(self, name: Optional[str]) -> ssl.SSLContext:
         """TLS toward the server for the client with this common name: as itself, or else as the recorder."""

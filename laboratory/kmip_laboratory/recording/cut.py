@@ -3,7 +3,7 @@
 from __future__ import annotations
 
 import os
-from typing import BinaryIO, Dict, FrozenSet, List, Set
+from typing import BinaryIO
 
 from .. import message
 from ..files import new_folder
@@ -15,9 +15,9 @@ from .segments import Due, Segments
 from .selection import Range
 
 
-def never_ended(source: str) -> FrozenSet[int]:
+def never_ended(source: str) -> frozenset[int]:
     """The calls without an end mark. They are no longer under way than up to their begin, as far as cuts go."""
-    begun: Dict[int, bool] = {}
+    begun: dict[int, bool] = {}
     for mark in marks_in(source):
         begun[mark.call] = not isinstance(mark, Begin)
     return frozenset(call for call, has_ended in begun.items() if not has_ended)
@@ -26,13 +26,13 @@ def never_ended(source: str) -> FrozenSet[int]:
 class Cutter:
     """Writes marks into the files of a folder, and begins a new one where one is due."""
 
-    def __init__(self, folder: str, segments: Segments, without_end: FrozenSet[int]) -> None:
+    def __init__(self, folder: str, segments: Segments, without_end: frozenset[int]) -> None:
         self._folder = folder
         self._without_end = without_end
         self._stamp = 0
         self._due = Due(segments, lambda: self._stamp)
-        self._under_way: Set[int] = set()
-        self.counts: List[int] = []
+        self._under_way: set[int] = set()
+        self.counts: list[int] = []
         self._next_file()
 
     def take(self, mark: Mark, record: bytes) -> None:

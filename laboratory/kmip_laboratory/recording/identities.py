@@ -8,7 +8,7 @@ import shlex
 import ssl
 import stat
 from pathlib import Path
-from typing import Dict, Iterator, List, NamedTuple
+from typing import Iterator, NamedTuple
 
 from .. import certificate, tls
 from ..trouble import Trouble
@@ -22,9 +22,9 @@ class Identity(NamedTuple):
     key: str
 
 
-def read_identities(words: List[str]) -> List[Identity]:
+def read_identities(words: list[str]) -> list[Identity]:
     """The identities that these words name, each as NAME=CERT,KEY or as a folder of certificates and keys."""
-    found: Dict[str, Identity] = {}
+    found: dict[str, Identity] = {}
     for word in words:
         for identity in _identities(word):
             if identity.name in found:
@@ -33,7 +33,7 @@ def read_identities(words: List[str]) -> List[Identity]:
     return list(found.values())
 
 
-def contexts(identities: List[Identity], authority: str) -> Dict[str, ssl.SSLContext]:
+def contexts(identities: list[Identity], authority: str) -> dict[str, ssl.SSLContext]:
     """TLS toward the server for each of them. A key that everybody may read is refused: who has it is the client."""
     for identity in identities:
         _see_that_secret(identity.key)

@@ -4,7 +4,7 @@ from __future__ import annotations
 
 import ssl
 import time
-from typing import List, NamedTuple, Optional
+from typing import NamedTuple, Optional
 
 from .. import ttlv
 from ..address import Address
@@ -53,7 +53,7 @@ SINGLE = [*OF_KEYS, INITIAL_DATE, ACTIVATION_DATE, DEACTIVATION_DATE, DESTROY_DA
 STATES = ["no State", "Pre-Active", "Active", "Deactivated", "Compromised", "Destroyed", "Destroyed Compromised"]
 
 
-async def entries(server: Address, context: ssl.SSLContext, version: Version, with_bytes: bool) -> List[bytes]:
+async def entries(server: Address, context: ssl.SSLContext, version: Version, with_bytes: bool) -> list[bytes]:
     """An entry for each object that the server lists and tells of."""
     async with Questions(server, context, version) as questions:
         found = []
@@ -66,7 +66,7 @@ async def entries(server: Address, context: ssl.SSLContext, version: Version, wi
     return found
 
 
-async def _identifiers(questions: Questions, version: Version) -> List[str]:
+async def _identifiers(questions: Questions, version: Version) -> list[str]:
     try:
         payload = await questions.ask(Operation.LOCATE, *([] if version in OF_OLD else [ttlv.structure(ATTRIBUTES)]))
     except Failed as failed:
@@ -98,7 +98,7 @@ async def _entry(questions: Questions, identifier: str, with_bytes: bool) -> Opt
     return ttlv.structure(ENTRY, *parts)
 
 
-def _judged(told: Item) -> List[bytes]:
+def _judged(told: Item) -> list[bytes]:
     """What an entry may have of the attributes that were told."""
     single = [told.first(attribute.tag, attribute.kind) for attribute in SINGLE]
     return [ttlv.spell(item) for item in told.every(NAME.tag, NAME.kind) + [item for item in single if item]]
@@ -133,7 +133,7 @@ def _state(told: Item, now: int) -> int:
     return 3 if deactivation is not None and deactivation <= now else 2
 
 
-async def _key_material(questions: Questions, identifier: str, object_type: int) -> List[bytes]:
+async def _key_material(questions: Questions, identifier: str, object_type: int) -> list[bytes]:
     """The item of the object's bytes; nothing where the server does not show them plainly."""
     try:
         payload = await questions.ask(Operation.GET, ttlv.text(UNIQUE_IDENTIFIER, identifier))

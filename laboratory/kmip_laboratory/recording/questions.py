@@ -4,7 +4,7 @@ from __future__ import annotations
 
 import ssl
 from types import TracebackType
-from typing import Optional, Type
+from typing import Optional
 
 from .. import message, peer, ttlv
 from ..address import Address
@@ -51,7 +51,7 @@ class Questions:
                           "and --server-key") from None
         return self
 
-    async def __aexit__(self, kind: Optional[Type[BaseException]], error: Optional[BaseException],
+    async def __aexit__(self, kind: Optional[type[BaseException]], error: Optional[BaseException],
                         trace: Optional[TracebackType]) -> None:
         await self._connected.close()
 

@@ -6,7 +6,7 @@ import argparse
 import asyncio
 import socket
 import ssl
-from typing import Dict, List, Optional
+from typing import Optional
 
 from .. import tls
 from ..address import read_address
@@ -30,7 +30,7 @@ MINOR_NOTE = ("versions 1.0 to 2.0 are written as 2.1 in the transcript: what is
               "said")
 
 
-def main(arguments: Optional[List[str]] = None) -> int:
+def main(arguments: Optional[list[str]] = None) -> int:
     """Does what the words say, and answers the status."""
     return run_or_help(_parser(), arguments)
 
@@ -135,7 +135,7 @@ def _proxy(words: argparse.Namespace) -> None:
 
 
 async def _record(words: argparse.Namespace, recording: Recording, toward_clients: ssl.SSLContext,
-                  toward_server: ssl.SSLContext, clients: Dict[str, ssl.SSLContext], listener: socket.socket) -> None:
+                  toward_server: ssl.SSLContext, clients: dict[str, ssl.SSLContext], listener: socket.socket) -> None:
     gate = Gate(recording.wants_quiet, words.hold / 1000)
     recording.when_quiet = gate.look
     await proxy.run(Way(words.server, toward_clients, toward_server, recording, words.answer_within, words.idle,
@@ -163,7 +163,7 @@ def _keylog(words: argparse.Namespace) -> None:
 def _declare(words: argparse.Namespace) -> None:
     see_apart([words.out], [words.server_cert, words.server_key, words.server_ca])
     see_that_free(words.out, words.force, OUT_HINT)
-    entries: List[bytes] = []
+    entries: list[bytes] = []
     if words.server:
         if not (words.server_cert and words.server_key and words.server_ca):
             raise Trouble("to ask a server, give --server-cert, --server-key and --server-ca")

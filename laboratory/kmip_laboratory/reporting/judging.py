@@ -8,7 +8,7 @@ import tempfile
 import time
 from datetime import datetime, timedelta, timezone
 from pathlib import Path
-from typing import Dict, List, NamedTuple, Optional, Tuple
+from typing import NamedTuple, Optional
 
 from ..auditor import Auditor
 from ..calls import Call, Status, read_transcript
@@ -36,8 +36,8 @@ EPOCH = datetime(1970, 1, 1, tzinfo=timezone.utc)
 class Read(NamedTuple):
     """The calls of a recording, the turn of each in the order that was judged or found, and their messages."""
 
-    calls: List[Call]
-    turns: Dict[int, int]
+    calls: list[Call]
+    turns: dict[int, int]
     messages: Messages
 
 
@@ -48,20 +48,20 @@ class Judged(NamedTuple):
 
     folder: str
     verdict: Verdict
-    words: List[str]
+    words: list[str]
     account: Account
-    files: List[Tuple[str, int, str]]
+    files: list[tuple[str, int, str]]
     read: Read
     seconds: float
     searched: Optional[Verdict] = None
 
     @property
-    def calls(self) -> List[Call]:
+    def calls(self) -> list[Call]:
         """The calls, by their begin marks."""
         return self.read.calls
 
     @property
-    def turns(self) -> Dict[int, int]:
+    def turns(self) -> dict[int, int]:
         """The turn of each call in the order that was judged or found."""
         return self.read.turns
 
@@ -91,11 +91,11 @@ class Judged(NamedTuple):
         """The call that the verdict names."""
         return next((call for call in self.calls if call.number == self.verdict.call), None)
 
-    def mentions(self, text: str) -> List[Mention]:
+    def mentions(self, text: str) -> list[Mention]:
         """The places in a text of the auditor's that lead to calls."""
         return list(mentions(text, {call.number for call in self.calls}, self.turns))
 
-    def named(self) -> List[int]:
+    def named(self) -> list[int]:
         """The calls that stand out beside the refused one: those that the explanation names, or else the story's."""
         if self.verdict.explanation:
             lines = [line for line in self.verdict.explanation if not line.startswith(TAKEN)]
@@ -106,7 +106,7 @@ class Judged(NamedTuple):
         """What those have in common, for a legend."""
         return "named by the explanation" if self.verdict.explanation else "names the same object"
 
-    def story(self) -> List[Call]:
+    def story(self) -> list[Call]:
         """The calls that name an object of the refused call, up to it: by turns, or else by begin marks."""
         refused = self.refused()
         if refused is None:
@@ -116,13 +116,13 @@ class Judged(NamedTuple):
         return sorted((call for call in self.calls if identifiers(call) & objects and self._rank(call) <= last),
                       key=self._rank)
 
-    def _rank(self, call: Call) -> Tuple[int, int]:
+    def _rank(self, call: Call) -> tuple[int, int]:
         return (self.turns.get(call.number, len(self.turns) + 1), call.begin)
 
 
-def find(paths: List[str]) -> List[str]:
+def find(paths: list[str]) -> list[str]:
     """The folders with a transcript at or below these, in order."""
-    found: List[str] = []
+    found: list[str] = []
     for path in paths:
         below = sorted(str(file.parent) for file in Path(path).rglob(TRANSCRIPT))
         if not below:
@@ -178,7 +178,7 @@ def _read(auditor: Auditor, verdict: Verdict, transcript: str, witness: str) -> 
     return Read(read_transcript(transcript).calls, order, read_messages(auditor, transcript))
 
 
-def _readable_names(folder: str, made: str) -> List[str]:
+def _readable_names(folder: str, made: str) -> list[str]:
     """The three files by names that the auditor takes: where that of the folder is no UTF-8, behind a link."""
     if shown(folder) != folder:
         link = os.path.join(made, "recording")
@@ -187,7 +187,7 @@ def _readable_names(folder: str, made: str) -> List[str]:
     return [os.path.join(folder, name) for name in (TRANSCRIPT, DECLARATION, WITNESS)]
 
 
-def _words(folder: str, is_checked: bool, more: List[str]) -> List[str]:
+def _words(folder: str, is_checked: bool, more: list[str]) -> list[str]:
     """The words of the command that repeats the verdict, as bash takes them."""
     ahead, within = ([], folder) if shown(folder) == folder else (["cd", quoted(folder), "&&"], "")
     names = [os.path.join(within, name) for name in (TRANSCRIPT, DECLARATION)]
@@ -207,13 +207,13 @@ def _account(auditor: Auditor, transcript: str, declaration: str, witness: str) 
     return auditor.account(transcript, declaration, witness) or Account(auditor.version(), ())
 
 
-def _decides(searched: Verdict, budget: Optional[int], calls: List[Call]) -> bool:
+def _decides(searched: Verdict, budget: Optional[int], calls: list[Call]) -> bool:
     """Whether this search tells whether an order explains the calls."""
     usual = USUAL_BUDGET if budget is None else budget
     return searched.outcome is Outcome.YES or (searched.decides(usual) and all(map(is_plain, calls)))
 
 
-def _see_that_they_are_the_judged(files: List[Tuple[str, int, str]], told: Tuple[Digest, ...]) -> None:
+def _see_that_they_are_the_judged(files: list[tuple[str, int, str]], told: tuple[Digest, ...]) -> None:
     """Holds the digests that the auditor told against those of the files."""
     for (path, length, sha256), judged in zip(files, told):
         if judged.sha256 is not None and (length, sha256) != (judged.length, judged.sha256):
@@ -221,12 +221,12 @@ def _see_that_they_are_the_judged(files: List[Tuple[str, int, str]], told: Tuple
                           "make the report again")
 
 
-def _digest(path: str) -> Tuple[str, int, str]:
+def _digest(path: str) -> tuple[str, int, str]:
     data = read_file(path)
     return path, len(data), hashlib.sha256(data).hexdigest()
 
 
-def _turns(path: str) -> Dict[int, int]:
+def _turns(path: str) -> dict[int, int]:
     """The turn of each call in a witness."""
     return {call: turn for turn, call in enumerate(turns(path), 1)}
 
@@ -238,7 +238,7 @@ def identifiers(call: Call) -> frozenset[str]:
 
 def operations(call: Call) -> str:
     """What a call asks, in words."""
-    told: Dict[str, int] = {}
+    told: dict[str, int] = {}
     for piece in call.pieces:
         name = operation_name(piece.operation)
         told[name] = told.get(name, 0) + 1
@@ -279,6 +279,6 @@ def moment_of_making(told: Optional[str]) -> datetime:
     return EPOCH + timedelta(seconds=int(told)) if told and told.isdecimal() else datetime.now(timezone.utc)
 
 
-def stamps(calls: List[Call]) -> List[int]:
+def stamps(calls: list[Call]) -> list[int]:
     """The Time Stamps that are there."""
     return [call.stamp for call in calls if call.stamp is not None]

@@ -3,7 +3,6 @@
 from __future__ import annotations
 
 import re
-from typing import List
 from xml.etree import ElementTree
 
 from ..verdicts import Outcome
@@ -14,7 +13,7 @@ NO_XML = re.compile("[^\t\n\r\x20-\ud7ff\ue000-\ufffd\U00010000-\U0010ffff]")
 JUDGED = (Outcome.YES, Outcome.NO, Outcome.GAVE_UP)
 
 
-def told(recordings: List[Judged]) -> str:
+def told(recordings: list[Judged]) -> str:
     """The XML: a yes passes, a no or a giving up fails, and what can't be judged is an error."""
     failures = sum(judged.verdict.outcome in JUDGED[1:] for judged in recordings)
     errors = sum(judged.verdict.outcome not in JUDGED for judged in recordings)

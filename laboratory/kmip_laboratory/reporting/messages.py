@@ -3,7 +3,7 @@
 from __future__ import annotations
 
 import re
-from typing import Dict, List, NamedTuple, Tuple
+from typing import NamedTuple
 
 from ..auditor import Auditor
 
@@ -18,14 +18,14 @@ PASSWORD = re.compile(r'(?P<head> *4200A1 .* Text) ".*')
 class Messages(NamedTuple):
     """Each line once, and of each call the numbers of the lines of its request and of its response."""
 
-    lines: List[str]
-    of_call: Dict[int, Tuple[List[int], List[int]]]
+    lines: list[str]
+    of_call: dict[int, tuple[list[int], list[int]]]
 
 
 def read_messages(auditor: Auditor, transcript: str) -> Messages:
     """What the auditor shows of a transcript's messages."""
-    known: Dict[str, int] = {}
-    of_call: Dict[int, Tuple[List[int], List[int]]] = {}
+    known: dict[str, int] = {}
+    of_call: dict[int, tuple[list[int], list[int]]] = {}
     side, into = 0, []
     for line in auditor.show_each(transcript, "--messages", "--notes"):
         mark, call = MARK.fullmatch(line), CALL.fullmatch(line)

@@ -2,11 +2,9 @@
 
 from __future__ import annotations
 
-from typing import Dict
-
 from ..verdicts import Outcome, Verdict
 
-WHY: Dict[int, str] = {
+WHY: dict[int, str] = {
     1: "a call that ended before this one began has not been done yet in this order",
     2: "its Time Stamp is less than that of the call before it",
     3: "an answer of the batch is missing, is one too many, or has a status that the batch excludes there",
@@ -24,7 +22,7 @@ WHY: Dict[int, str] = {
     15: "the reason of the refusal has no cause",
     16: "the answer repeats another identifier, type or batch item ID than it should",
 }
-MEANING: Dict[Outcome, str] = {
+MEANING: dict[Outcome, str] = {
     Outcome.YES: "Explained: the answers can all be explained by the calls having been done one at a time.",
     Outcome.NO: "Not possible in this order: an answer can't be explained where the witness puts it.",
     Outcome.OUTSIDE: "Not judged: a message is outside of what the auditor judges.",

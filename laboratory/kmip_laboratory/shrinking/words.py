@@ -3,7 +3,7 @@
 from __future__ import annotations
 
 import argparse
-from typing import TYPE_CHECKING, List, Tuple
+from typing import TYPE_CHECKING
 
 from .. import fresh
 from ..auditor import Auditor
@@ -66,13 +66,13 @@ def run(words: argparse.Namespace) -> None:
         print(_account(found, transcript.calls, trials))
 
 
-def _account(found: List[Call], calls: List[Call], trials: Trials) -> str:
+def _account(found: list[Call], calls: list[Call], trials: Trials) -> str:
     numbers = ", ".join(str(call.number) for call in found[:MOST_TOLD]) + (", .." if len(found) > MOST_TOLD else "")
     return (f"{len(found)} of {len(calls)} calls are left: {numbers}\n"
             f"no order explains them; kmip_audit search: {trials.answer(found)[1].text}")
 
 
-def _undecided(calls: List[Call], budget: int) -> str:
+def _undecided(calls: list[Call], budget: int) -> str:
     open_calls = [call.number for call in calls if has_effect(call) and not is_plain(call)]
     found, why = _first_of(open_calls)
     if open_calls:
@@ -81,6 +81,6 @@ def _undecided(calls: List[Call], budget: int) -> str:
     return f"the search decides nothing of these calls within {budget} steps; give more by --budget"
 
 
-def _first_of(numbers: List[int]) -> Tuple[str, str]:
+def _first_of(numbers: list[int]) -> tuple[str, str]:
     told = ", ".join(map(str, numbers[:MOST_TOLD])) + (", .." if len(numbers) > MOST_TOLD else "")
     return told, "call" if len(numbers) == 1 else "calls"

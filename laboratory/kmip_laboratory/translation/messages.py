@@ -4,7 +4,7 @@ from __future__ import annotations
 
 from collections import Counter
 from functools import lru_cache
-from typing import Callable, Dict, List, Optional
+from typing import Callable, Optional
 
 from .. import ttlv
 from ..glimpse import MAJOR, MINOR, Glimpse, glimpse
@@ -27,7 +27,7 @@ class Translator:
 
     def __init__(self, tell: Callable[[str], None] = say) -> None:
         self._tell = tell
-        self._asked: Dict[int, List[int]] = {}
+        self._asked: dict[int, list[int]] = {}
         self.count: Counter[str] = Counter()
         self.lost: Lost = Counter()
         self.left = 0
@@ -51,14 +51,14 @@ class Translator:
         self.count[str(seen.version)] += 1
         return made
 
-    def _operations_of(self, call: int, seen: Optional[Glimpse]) -> List[int]:
+    def _operations_of(self, call: int, seen: Optional[Glimpse]) -> list[int]:
         """The operations of the items of an answer; where one names none, it is that of its request's item."""
         asked = self._asked.pop(call, [])
         parts = seen.parts if seen else []
         return [part.operation or (asked[place] if place < len(asked) else 0) for place, part in enumerate(parts)]
 
 
-def _translated(message: bytes, side: Side, seen: Glimpse, operations: List[int], lost: Lost) -> bytes:
+def _translated(message: bytes, side: Side, seen: Glimpse, operations: list[int], lost: Lost) -> bytes:
     table = REQUESTS if side is Side.CLIENT else RESPONSES
     start, stop = seen.version_place
     changes = [Change((), start, stop, _judged_version(message[start:stop]))]
@@ -90,7 +90,7 @@ def _judged_version(spelled: bytes) -> bytes:
     return bytes(made)
 
 
-def _without_order(message: bytes, seen: Glimpse) -> List[Change]:
+def _without_order(message: bytes, seen: Glimpse) -> list[Change]:
     """What the header of a batch has to say where it says nothing of its order, in a version in which that meant that
     there is none. It stands ahead of the Batch Count."""
     start, stop = seen.header

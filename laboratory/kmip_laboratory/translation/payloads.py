@@ -2,7 +2,7 @@
 
 from __future__ import annotations
 
-from typing import Callable, Dict
+from typing import Callable
 
 from ..operations import Operation
 from ..slices import Slice, changed_at, slices_of, structure
@@ -84,13 +84,13 @@ def _with_object(payload: bytes, where: str, lost: Lost) -> bytes:
     return b"".join([_object(child, where, lost) for child in slices_of(payload)])
 
 
-REQUESTS: Dict[int, Payload] = {
+REQUESTS: dict[int, Payload] = {
     Operation.CREATE.value: _with_attributes,
     Operation.REGISTER.value: _with_attributes,
     Operation.LOCATE.value: _gathered,
     Operation.GET_ATTRIBUTES.value: _referring,
 }
-RESPONSES: Dict[int, Payload] = {
+RESPONSES: dict[int, Payload] = {
     Operation.CREATE.value: _without_attributes,
     Operation.REGISTER.value: _without_attributes,
     Operation.GET.value: _with_object,

@@ -3,7 +3,7 @@
 from __future__ import annotations
 
 from dataclasses import replace
-from typing import Any, Dict, List
+from typing import Any
 
 from ..engine import Call
 from ..messages import Answer, Ask, Attribute, Material, Refused
@@ -20,7 +20,7 @@ class StaleReadAfterDestroy(Fault):
 
     def __init__(self, *words: Any, **more: Any) -> None:
         super().__init__(*words, **more)
-        self._cache: Dict[str, bytes] = {}
+        self._cache: dict[str, bytes] = {}
 
     def destroy(self, ask: Ask, call: Call) -> Answer:
         thing = self.meant(ask, call)
@@ -100,7 +100,7 @@ class StateOfACache(Fault):
 
     def __init__(self, *words: Any, **more: Any) -> None:
         super().__init__(*words, **more)
-        self._shown: Dict[str, int] = {}
+        self._shown: dict[str, int] = {}
 
     def get_attributes(self, ask: Ask, call: Call) -> Answer:
         answer = super().get_attributes(ask, call)
@@ -129,7 +129,7 @@ class NameLeftOut(Fault):
 class LengthInBytes(Fault):
     """Get Attributes shows the Cryptographic Length in bytes and not in bits."""
 
-    def all_of(self, thing: Thing, now: int) -> List[Attribute]:
+    def all_of(self, thing: Thing, now: int) -> list[Attribute]:
         told = super().all_of(thing, now)
         if not self.strikes():
             return told
