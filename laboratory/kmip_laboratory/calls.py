@@ -6,7 +6,7 @@ This is a reading for people and for the choice of calls; whether an answer is p
 from __future__ import annotations
 
 from enum import IntEnum
-from typing import Dict, FrozenSet, Iterator, List, NamedTuple, Optional, Set, Tuple
+from typing import Iterator, NamedTuple, Optional
 
 from . import message, ttlv
 from .records import File, read_file, records, which
@@ -15,7 +15,7 @@ from .transcript import BEGIN_MARK, CALL, CLIENT, END_MARK, MESSAGE
 from .trouble import Trouble
 from .ttlv import Item, Kind
 
-Name = Tuple[str, int]
+Name = tuple[str, int]
 
 
 class Status(IntEnum):
@@ -33,9 +33,9 @@ class Piece(NamedTuple):
     operation: Optional[int]
     status: Optional[int]
     reason: Optional[int]
-    identifiers: FrozenSet[str]
-    answered: FrozenSet[str]
-    names: FrozenSet[Name]
+    identifiers: frozenset[str]
+    answered: frozenset[str]
+    names: frozenset[Name]
     told: bool
 
 
@@ -47,11 +47,11 @@ class Call(NamedTuple):
     client: str
     begin: int
     end: Optional[int]
-    marks: Tuple[bytes, bytes]
+    marks: tuple[bytes, bytes]
     request: bytes
     response: Optional[bytes]
     stamp: Optional[int]
-    pieces: List[Piece]
+    pieces: list[Piece]
     ordered: bool
     refused: bool
 
@@ -60,7 +60,7 @@ class Transcript(NamedTuple):
     """A transcript: its header, and its calls in the order of their begin marks."""
 
     header: bytes
-    calls: List[Call]
+    calls: list[Call]
 
 
 def read_transcript(path: str) -> Transcript:
@@ -69,8 +69,8 @@ def read_transcript(path: str) -> Transcript:
     if which(path, data) is not File.TRANSCRIPT:
         raise Trouble(f"{path} is no transcript, but a {which(path, data).name.lower()}: give the files in their order")
     header = b""
-    begins: Dict[int, Tuple[int, bytes, Item]] = {}
-    ends: Dict[int, Tuple[int, bytes, Item]] = {}
+    begins: dict[int, tuple[int, bytes, Item]] = {}
+    ends: dict[int, tuple[int, bytes, Item]] = {}
     for record in records(path, data):
         call = record.item.first(CALL, Kind.INTEGER)
         if record.item.tag == File.TRANSCRIPT:
@@ -84,7 +84,7 @@ def read_transcript(path: str) -> Transcript:
     return Transcript(header, [_call(number, begin, ends.get(number)) for number, begin in begins.items()])
 
 
-def _call(number: int, begin: Tuple[int, bytes, Item], end: Optional[Tuple[int, bytes, Item]]) -> Call:
+def _call(number: int, begin: tuple[int, bytes, Item], end: Optional[tuple[int, bytes, Item]]) -> Call:
     client = begin[2].first(CLIENT, Kind.TEXT)
     request = _message(begin[2])
     response = _message(end[2]) if end else None
@@ -105,7 +105,7 @@ def _call(number: int, begin: Tuple[int, bytes, Item], end: Optional[Tuple[int, 
 
 def _message(mark: Item) -> bytes:
     told = mark.first(MESSAGE, Kind.BYTES)
-    return told.value if told else b""
+    return bytes(told.value) if told else b""
 
 
 def _item(spelled: Optional[bytes]) -> Optional[Item]:
@@ -141,10 +141,10 @@ def _texts(item: Optional[Item], tag: int) -> Iterator[str]:
         yield from _texts(child, tag)
 
 
-def names(item: Optional[Item]) -> Set[Name]:
+def names(item: Optional[Item]) -> set[Name]:
     """The names in the Attributes of a payload or of an entry."""
     attributes = item.first(Tag.ATTRIBUTES, Kind.STRUCTURE) if item else None
-    found: Set[Name] = set()
+    found: set[Name] = set()
     for name in attributes.every(Tag.NAME, Kind.STRUCTURE) if attributes else []:
         value, kind = name.first(Tag.NAME_VALUE, Kind.TEXT), name.first(Tag.NAME_TYPE, Kind.ENUMERATION)
         if value:

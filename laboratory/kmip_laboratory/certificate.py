@@ -2,7 +2,7 @@
 
 from __future__ import annotations
 
-from typing import Iterator, Optional, Tuple
+from typing import Iterator, Optional
 
 VERSION = 0xA0
 COMMON_NAME = bytes.fromhex("550403")
@@ -29,7 +29,7 @@ def _name_in(subject: bytes) -> Optional[str]:
     return None
 
 
-def _elements(data: bytes) -> Iterator[Tuple[int, bytes]]:
+def _elements(data: bytes) -> Iterator[tuple[int, bytes]]:
     """The elements that stand one behind the other, each as its type and its value."""
     place = 0
     while place < len(data):

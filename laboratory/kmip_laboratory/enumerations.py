@@ -2,14 +2,12 @@
 
 from __future__ import annotations
 
-from typing import Dict
-
 from .operations import Operation, operation_name
 from .tag_names import TAG_NAMES
 from .tags import Tag
 
 
-def _numbered(names: str, first: int = 1) -> Dict[int, str]:
+def _numbered(names: str, first: int = 1) -> dict[int, str]:
     return dict(enumerate(names.split("; "), first))
 
 
@@ -21,7 +19,7 @@ REASONS = {**_numbered(
     "Key Format Type Not Supported; Key Compression Type Not Supported; Encoding Option Error; Key Value Not Present; "
     "Attestation Required; Attestation Failed; Sensitive; Not Extractable; Object Already Exists"),
     0x100: "General Failure"}
-OF_TAGS: Dict[int, Dict[int, str]] = {
+OF_TAGS: dict[int, dict[int, str]] = {
     Tag.OPERATION: {operation.value: operation_name(operation) for operation in Operation},
     Tag.RESULT_STATUS: STATUSES,
     Tag.RESULT_REASON: REASONS,

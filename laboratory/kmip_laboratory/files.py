@@ -11,7 +11,7 @@ import shutil
 import stat
 import tempfile
 from contextlib import contextmanager
-from typing import BinaryIO, Iterator, Tuple
+from typing import BinaryIO, Iterator
 
 from .trouble import Trouble
 
@@ -121,7 +121,7 @@ def _part_of(path: str) -> Iterator[str]:
             os.remove(part)
 
 
-def _affixes(path: str) -> Tuple[str, str, str]:
+def _affixes(path: str) -> tuple[str, str, str]:
     """How the new name beside this one ends and begins, and its folder."""
     folder, name = os.path.split(path)
     return ".part", f"{name}.", folder or os.curdir

@@ -4,12 +4,15 @@ from __future__ import annotations
 
 import argparse
 import sys
-from typing import List, NoReturn, Optional
+from typing import TYPE_CHECKING, NoReturn, Optional
 
 from .telling import TELLER, hold_standard_files
 from .trouble import Trouble, WrongWords, hush, say
 
 DONE, TROUBLE, USAGE = 0, 1, 64
+if TYPE_CHECKING:
+    # Where the words of a program are added.
+    Words = argparse._SubParsersAction["Parser"]  # pylint: disable=protected-access
 
 
 class Parser(argparse.ArgumentParser):
@@ -20,10 +23,10 @@ class Parser(argparse.ArgumentParser):
         self.exit(USAGE, f"{self.prog}: {message}\n")
 
 
-def run(parser: Parser, arguments: Optional[List[str]] = None) -> int:
-    """Does what the words say, those of the command line where none are given, and answers the status. The parser has set `run` to what is done at them, which answers
-    a status or nothing, and may have set `trouble` to the status of trouble. Where nobody reads what is printed any
-    more, that is no trouble, unless `unread` has a status for it."""
+def run(parser: Parser, arguments: Optional[list[str]] = None) -> int:
+    """Does what the words say, those of the command line where none are given, and answers the status. The parser has
+    set `run` to what is done at them, which answers a status or nothing, and may have set `trouble` to the status of
+    trouble. Where nobody reads what is printed any more, that is no trouble, unless `unread` has a status for it."""
     hold_standard_files()
     TELLER.name = parser.prog
     words = parser.parse_args(arguments)
@@ -45,7 +48,7 @@ def run(parser: Parser, arguments: Optional[List[str]] = None) -> int:
     return trouble
 
 
-def run_or_help(parser: Parser, arguments: Optional[List[str]] = None, usual: str = "") -> int:
+def run_or_help(parser: Parser, arguments: Optional[list[str]] = None, usual: str = "") -> int:
     """The same, with the help where there are no words; options ahead of all words are those of the usual one."""
     given = sys.argv[1:] if arguments is None else arguments
     if not given:

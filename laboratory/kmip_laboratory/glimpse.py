@@ -6,7 +6,7 @@ A glimpse reads no more than it tells, so that passes over long transcripts take
 from __future__ import annotations
 
 from functools import lru_cache
-from typing import Dict, List, NamedTuple, Optional, Tuple
+from typing import NamedTuple, Optional
 
 from .message import Side
 from .tag_names import TAGS_BY_NAME
@@ -42,7 +42,7 @@ class Part(NamedTuple):
     operation: Optional[int]
     status: Optional[int]
     reason: Optional[int]
-    payload: Optional[Tuple[int, int]]
+    payload: Optional[tuple[int, int]]
     place: int
 
 
@@ -52,9 +52,9 @@ class Glimpse(NamedTuple):
 
     version: Optional[Version]
     stamp: Optional[int]
-    parts: List[Part]
-    header: Tuple[int, int]
-    version_place: Tuple[int, int]
+    parts: list[Part]
+    header: tuple[int, int]
+    version_place: tuple[int, int]
 
     @property
     def is_refusal(self) -> bool:
@@ -106,7 +106,7 @@ def version_of(message: bytes) -> Optional[Version]:
 @lru_cache(maxsize=64)
 def _version(spelled: bytes) -> Optional[Version]:
     """The version that the value of a Protocol Version is. There are few, and they come again and again."""
-    found: Dict[int, int] = {}
+    found: dict[int, int] = {}
     for number, place, _ in places_in(spelled, 0, len(spelled)):
         found.setdefault(number, int.from_bytes(spelled[place:place + 4], "big", signed=True))
     major, minor = found.get(MAJOR), found.get(MINOR)

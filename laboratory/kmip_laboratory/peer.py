@@ -40,8 +40,10 @@ class Peer:
     async def receive_within(self, seconds: float) -> Optional[bytes]:
         """The next message, as `receive` has it; refused where it is not whole in time."""
         limit = asyncio.get_running_loop().call_later(seconds, self._end_idleness)
-        received = await self.receive()
-        limit.cancel()
+        try:
+            received = await self.receive()
+        finally:
+            limit.cancel()
         if received is None and self._is_idle:
             raise ConnectionTrouble(f"no whole request came in {seconds:g} s")
         return received
@@ -104,6 +106,7 @@ async def _closed(writer: asyncio.StreamWriter) -> None:
 async def accept(connection: socket.socket, context: ssl.SSLContext) -> Peer:
     """The client at the other end of a connection that was taken, once it has shown a certificate."""
     loop = asyncio.get_running_loop()
+    assert isinstance(loop, asyncio.BaseEventLoop), "any that asyncio makes by itself"
     reader = asyncio.StreamReader(loop=loop)
     protocol = asyncio.StreamReaderProtocol(reader, loop=loop)
     try:

@@ -4,7 +4,7 @@ few of them, and hands on the others as they came."""
 from __future__ import annotations
 
 import struct
-from typing import Callable, List, NamedTuple, Tuple
+from typing import Callable, NamedTuple
 
 from . import ttlv
 from .ttlv import HEADER, HEADER_LENGTH, Kind, NotTtlv
@@ -29,7 +29,7 @@ class Slice(NamedTuple):
             raise NotTtlv("a text that is not UTF-8") from None
 
 
-def slices_of(data: bytes) -> List[Slice]:
+def slices_of(data: bytes) -> list[Slice]:
     """The items that stand one after the other in these bytes."""
     return [Slice(number, data[place:place + length], data[place - HEADER_LENGTH:place + length + -length % 8])
             for number, place, length in ttlv.places_in(data, 0, len(data))]
@@ -49,13 +49,13 @@ class Change(NamedTuple):
     """Other bytes in the place of those from `start` up to `stop`. `within` are the offsets of the values of all
     structures that they stand in; their lengths change with them."""
 
-    within: Tuple[int, ...]
+    within: tuple[int, ...]
     start: int
     stop: int
     made: bytes
 
 
-def changed(message: bytes, changes: List[Change]) -> bytes:
+def changed(message: bytes, changes: list[Change]) -> bytes:
     """The message with these changes, which are given in the order of their places."""
     made = bytearray(message)
     for within, start, stop, new in reversed(changes):
@@ -66,7 +66,7 @@ def changed(message: bytes, changes: List[Change]) -> bytes:
     return bytes(made)
 
 
-def changed_at(data: bytes, path: Tuple[int, ...], change: Callable[[bytes], bytes]) -> bytes:
+def changed_at(data: bytes, path: tuple[int, ...], change: Callable[[bytes], bytes]) -> bytes:
     """These items, with `change` made in the values of the structures to which this path of fronts leads."""
     if not path:
         return change(data)

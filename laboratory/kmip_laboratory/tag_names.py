@@ -2,7 +2,7 @@
 
 from __future__ import annotations
 
-from typing import Dict, Optional
+from typing import Optional
 
 FIRST = 0x420001
 NAMES = """
@@ -68,9 +68,9 @@ Storage Mask; Protection Storage Masks; Interop Function; Interop Identifier; Ad
 Storage Masks; Private Protection Storage Masks; Public Protection Storage Masks
 """
 
-TAG_NAMES: Dict[int, str] = {
+TAG_NAMES: dict[int, str] = {
     number: name for number, name in enumerate(" ".join(NAMES.split()).split("; "), FIRST) if name != "-"}
-TAGS_BY_NAME: Dict[str, int] = {name: number for number, name in TAG_NAMES.items()}
+TAGS_BY_NAME: dict[str, int] = {name: number for number, name in TAG_NAMES.items()}
 
 
 def tag_name(number: int) -> str:

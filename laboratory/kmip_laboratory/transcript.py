@@ -7,7 +7,7 @@ the marks before it.
 from __future__ import annotations
 
 import os
-from typing import BinaryIO, Dict, Iterator, List, NamedTuple, Optional, Set, Tuple, Union
+from typing import BinaryIO, Iterator, NamedTuple, Optional, Union
 
 from . import ttlv
 from .trouble import ConnectionTrouble, Trouble
@@ -59,10 +59,10 @@ class TranscriptWriter:
         """`before` is the file that this one goes on behind: numbers and sums go on from it."""
         self.path = path
         self.calls = 0
-        self.next_call = before.next_call if before else 1
-        self._open: Set[int] = set()
+        self.next_call: int = before.next_call if before else 1
+        self._open: set[int] = set()
         self._length = 0
-        self._ahead: Tuple[int, int] = before.sums() if before else (0, 0)
+        self._ahead: tuple[int, int] = before.sums() if before else (0, 0)
         try:
             self._file = os.open(path, os.O_WRONLY | os.O_CREAT | os.O_EXCL, 0o600)
         except FileExistsError:
@@ -94,7 +94,7 @@ class TranscriptWriter:
         open_calls, length = self.sums()
         return f"{self.next_call - 1} calls, {open_calls} open calls, {length} bytes"
 
-    def sums(self) -> Tuple[int, int]:
+    def sums(self) -> tuple[int, int]:
         """How many calls are open, and how many bytes were written, in this file and those ahead of it."""
         return self._ahead[0] + len(self._open), self._ahead[1] + self._length
 
@@ -136,7 +136,7 @@ def spelled(mark: Mark) -> bytes:
     return ttlv.structure(END_MARK, ttlv.integer(CALL, mark.call), ttlv.byte_string(MESSAGE, mark.message))
 
 
-def read_marks(path: str) -> List[Mark]:
+def read_marks(path: str) -> list[Mark]:
     """The marks of a transcript, in their order."""
     return list(marks_in(path))
 
@@ -146,7 +146,7 @@ def marks_in(path: str) -> Iterator[Mark]:
     return (mark for mark, _ in spelled_marks_in(path))
 
 
-def spelled_marks_in(path: str) -> Iterator[Tuple[Mark, bytes]]:
+def spelled_marks_in(path: str) -> Iterator[tuple[Mark, bytes]]:
     """The same, each with its record."""
     try:
         with open(path, "rb") as file:
@@ -155,13 +155,13 @@ def spelled_marks_in(path: str) -> Iterator[Tuple[Mark, bytes]]:
         raise Trouble(f"{path} can't be read: {error.strerror}") from None
 
 
-def _marks_of(file: BinaryIO, path: str) -> Iterator[Tuple[Mark, bytes]]:
+def _marks_of(file: BinaryIO, path: str) -> Iterator[tuple[Mark, bytes]]:
     """Tells where the file is not what it should be: header, then marks; an end for a call that began, and once."""
     fault = _fault_of_header(file.read(len(FILE_HEADER)))
     if fault:
         raise Trouble(f"{path} is no transcript: {fault}; give one that `kmip_record proxy` or `keylog` made")
     place = len(FILE_HEADER)
-    begun: Dict[int, bool] = {}
+    begun: dict[int, bool] = {}
     while front := file.read(ttlv.HEADER_LENGTH):
         record = _record(file, front, path, place)
         yield _mark_of(record, begun, path, place), record
@@ -196,7 +196,7 @@ def _record(file: BinaryIO, front: bytes, path: str, place: int) -> bytes:
         raise Trouble(f"{path} has no record at offset {place}: {fault}; it is no transcript, or was damaged") from None
 
 
-def _mark_of(record: bytes, begun: Dict[int, bool], path: str, place: int) -> Mark:
+def _mark_of(record: bytes, begun: dict[int, bool], path: str, place: int) -> Mark:
     """The mark that a record is. `begun` has the calls that began, and whether they ended."""
     try:
         mark = _read_mark(record)

@@ -4,7 +4,7 @@ from __future__ import annotations
 
 import struct
 from enum import IntEnum
-from typing import Dict, List, NamedTuple, Optional, Tuple, Union
+from typing import Any, NamedTuple, Optional
 
 LONGEST_ITEM = 1_048_576
 DEEPEST_LEVEL = 16
@@ -39,9 +39,9 @@ STRUCTURE, INTEGER, BIG_INTEGER, ENUMERATION, BOOLEAN, TEXT, BYTES, DATE_TIME = 
     Kind.STRUCTURE, Kind.INTEGER, Kind.BIG_INTEGER, Kind.ENUMERATION, Kind.BOOLEAN, Kind.TEXT, Kind.BYTES,
     Kind.DATE_TIME)
 # By the plain numbers of types, for the same reason.
-KINDS: Dict[int, Kind] = {kind.value: kind for kind in Kind}
-LENGTHS: Dict[int, int] = {kind.value: 4 if kind in SHORT_NUMBERS else 8 for kind in SHORT_NUMBERS + LONG_NUMBERS}
-NUMBERS: Dict[int, struct.Struct] = {kind.value: struct.Struct(form) for kind, form in {
+KINDS: dict[int, Kind] = {kind.value: kind for kind in Kind}
+LENGTHS: dict[int, int] = {kind.value: 4 if kind in SHORT_NUMBERS else 8 for kind in SHORT_NUMBERS + LONG_NUMBERS}
+NUMBERS: dict[int, struct.Struct] = {kind.value: struct.Struct(form) for kind, form in {
     Kind.INTEGER: ">i", Kind.LONG_INTEGER: ">q", Kind.ENUMERATION: ">I", Kind.BOOLEAN: ">Q", Kind.DATE_TIME: ">q",
     Kind.INTERVAL: ">I", Kind.DATE_TIME_EXTENDED: ">q"}.items()}
 
@@ -51,14 +51,15 @@ class NotTtlv(ValueError):
 
 
 class Item(NamedTuple):
-    """An item that was read. `place` is the offset of its value in the bytes that it was read from."""
+    """An item that was read. Its kind says of which type `value` is: items of a structure, a number, whether something
+    is so, a text, or bytes. `place` is the offset of its value in the bytes that it was read from."""
 
     tag: int
     kind: Kind
-    value: Union[List["Item"], int, bool, str, bytes]
+    value: Any
     place: int
 
-    def children(self) -> List["Item"]:
+    def children(self) -> list["Item"]:
         """The items of a structure; of any other item none."""
         return self.value if isinstance(self.value, list) else []
 
@@ -70,7 +71,7 @@ class Item(NamedTuple):
                 return child if child[1] == kind else None
         return None
 
-    def every(self, tag: int, kind: Kind) -> List["Item"]:
+    def every(self, tag: int, kind: Kind) -> list["Item"]:
         """All children with this tag and kind."""
         return [child for child in self.children() if child[0] == tag and child[1] == kind]
 
@@ -167,10 +168,10 @@ def front(tag: int, kind: Kind) -> int:
     return tag << 8 | kind.value
 
 
-Place = Tuple[int, int, int]
+Place = tuple[int, int, int]
 
 
-def places_in(data: bytes, start: int, stop: int) -> List[Place]:
+def places_in(data: bytes, start: int, stop: int) -> list[Place]:
     """Front, offset of the value and its length, of each item that stands from `start` up to `stop`, one after the
     other; what is in them is not looked at."""
     found = []
@@ -188,7 +189,7 @@ def places_in(data: bytes, start: int, stop: int) -> List[Place]:
     return found
 
 
-def _read_items(data: bytes, start: int, stop: int, level: int) -> List[Item]:
+def _read_items(data: bytes, start: int, stop: int, level: int) -> list[Item]:
     """The items on this level that stand from `start` up to `stop`, where their structure's value ends."""
     _see_level(level, start, stop)
     items = []
@@ -234,7 +235,7 @@ def _checked_kind(number: int, length: int, start: int) -> Kind:
     return kind
 
 
-def _value(kind: Kind, data: bytes, place: int, length: int) -> Union[int, bool, str, bytes]:
+def _value(kind: Kind, data: bytes, place: int, length: int) -> Any:
     """The value that stands there, of an item that is no structure."""
     if kind is TEXT:
         try:

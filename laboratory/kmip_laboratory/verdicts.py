@@ -1,12 +1,12 @@
-"""Verdicts of the auditor, read from the lines that it prints (docs/PROFILE.md, docs/EXPLAINING.md); and what it tells in
-JSON of the files that it read (docs/JSON.md)."""
+"""Verdicts of the auditor, read from the lines that it prints (docs/PROFILE.md, docs/EXPLAINING.md); and what it tells
+in JSON of the files that it read (docs/JSON.md)."""
 
 from __future__ import annotations
 
 import json
 import re
 from enum import Enum
-from typing import Dict, List, NamedTuple, Optional, Pattern, Tuple
+from typing import Any, NamedTuple, Optional, Pattern
 
 
 class Outcome(Enum):
@@ -23,7 +23,7 @@ class Outcome(Enum):
     LATE = "late"
 
 
-PATTERNS: Dict[Outcome, Pattern[str]] = {
+PATTERNS: dict[Outcome, Pattern[str]] = {
     Outcome.YES: re.compile(r"yes(?:: (?P<steps>\d+) steps)?"),
     Outcome.NO: re.compile(r"no: turn (?P<turn>\d+) call (?P<call>\d+) item (?P<item>\d+) why (?P<number>\d+) "
                            r"(?P<name>\w+)\nat (?P<date>\S+)"),
@@ -37,6 +37,7 @@ PATTERNS: Dict[Outcome, Pattern[str]] = {
 }
 
 
+NUMBERS = ("turn", "call", "item", "number", "steps")
 # The others explain it.
 LINES_OF_A_NO = 2
 # Of a giving up: that it has decided, and the first call that may be next at the deepest place, and can't be.
@@ -55,11 +56,11 @@ class Digest(NamedTuple):
 
 class Verdict(NamedTuple):
     """An answer: the lines as they were printed, the status, and what the lines name. A number that they do not name
-    is None. What is explained has the lines of that; and of a search that gave up it is known then whether that says that
-    no order explains the transcript, and `call` to `name` are those of the first call that can't be next."""
+    is None. What is explained has the lines of that; and of a search that gave up it is known then whether that says
+    that no order explains the transcript, and `call` to `name` are those of the first call that can't be next."""
 
     outcome: Outcome
-    lines: List[str]
+    lines: list[str]
     status: int
     turn: Optional[int] = None
     call: Optional[int] = None
@@ -70,7 +71,7 @@ class Verdict(NamedTuple):
     date: str = ""
     steps: Optional[int] = None
     decided: Optional[bool] = None
-    explanation: Tuple[str, ...] = ()
+    explanation: tuple[str, ...] = ()
 
     def decides(self, budget: int) -> bool:
         """Whether a search with this budget has decided. Giving up with steps left is a decision, where no call is
@@ -88,10 +89,9 @@ def read_verdict(printed: str, status: int) -> Optional[Verdict]:
     for outcome, pattern in PATTERNS.items():
         found = pattern.fullmatch(printed.rstrip("\n"))
         if found:
-            told = {name: value for name, value in found.groupdict().items() if value is not None}
-            numbers = {name: int(told[name]) for name in ("turn", "call", "item", "number", "steps") if name in told}
-            texts = {name: told[name] for name in ("name", "side", "date") if name in told}
-            return Verdict(outcome, printed.splitlines(), status, **numbers, **texts)
+            told: dict[str, Any] = {name: int(value) if name in NUMBERS else value
+                                    for name, value in found.groupdict().items() if name in Verdict._fields and value}
+            return Verdict(outcome, printed.splitlines(), status, **told)
     return None
 
 
@@ -113,7 +113,7 @@ class Account(NamedTuple):
     """What a run tells in JSON besides its verdict: the auditor's version, and the files as it read them."""
 
     version: str
-    files: Tuple[Digest, ...]
+    files: tuple[Digest, ...]
 
 
 def read_account(printed: str) -> Optional[Account]:

@@ -8,7 +8,7 @@ import socket
 import subprocess
 from collections import defaultdict
 from pathlib import Path
-from typing import Dict, Iterator, List, Optional, Tuple
+from typing import Iterator, Optional
 
 import messages
 from laboratory import PYKMIP_PYTHON, SECONDS, Begin, Laboratory, wait_until
@@ -33,7 +33,7 @@ def _end(server: subprocess.Popen) -> None:
         server.wait(SECONDS)
 
 
-def _environment(keylog: Optional[Path]) -> Dict[str, str]:
+def _environment(keylog: Optional[Path]) -> dict[str, str]:
     return {**os.environ, **({"SSLKEYLOGFILE": str(keylog)} if keylog else {})}
 
 
@@ -75,7 +75,7 @@ class WithPyKmip(Laboratory):
 
     def _served(self, marks: list) -> Iterator[int]:
         """The numbers of the calls in the order of the server. Its sessions are told apart by what they were asked."""
-        calls: Dict[str, List[Tuple[int, bytes]]] = defaultdict(list)
+        calls: dict[str, list[tuple[int, bytes]]] = defaultdict(list)
         for mark in marks:
             if isinstance(mark, Begin):
                 calls[mark.client].append((mark.call, mark.message))
@@ -85,9 +85,9 @@ class WithPyKmip(Laboratory):
         for session in (self.folder / "served").read_text().split():
             yield left[session].pop(0)
 
-    def _asked(self) -> Dict[str, List[bytes]]:
+    def _asked(self) -> dict[str, list[bytes]]:
         """The requests of each session, which the server notes as a header and a rest, as version 2.1."""
-        pieces: Dict[str, List[bytes]] = defaultdict(list)
+        pieces: dict[str, list[bytes]] = defaultdict(list)
         for line in (self.folder / "asked").read_text().splitlines():
             session, piece = line.split()
             pieces[session].append(bytes.fromhex(piece))

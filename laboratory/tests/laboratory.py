@@ -15,7 +15,7 @@ import threading
 import time
 import unittest
 from pathlib import Path
-from typing import Callable, List, NamedTuple, Optional, Sequence
+from typing import Callable, NamedTuple, Optional, Sequence
 
 import certificates
 import stub
@@ -130,7 +130,7 @@ class Recorder:
     def __init__(self, folder: Path, transcript: Path, server: int, more: Sequence[str], program: Path,
                  limit: Optional[Limit]) -> None:
         self.transcript = transcript
-        self.said: List[str] = []
+        self.said: list[str] = []
         words = ["proxy", "--listen", "127.0.0.1:0", "--server", f"127.0.0.1:{server}", "--cert", "recorder.pem",
                  "--key", "recorder.key", "--client-ca", "authority.pem", "--out", str(transcript), *more]
         self._process = subprocess.Popen(
@@ -150,7 +150,7 @@ class Recorder:
         """Whether it said this on standard error."""
         return any(words in line for line in self.said)
 
-    def marks(self) -> List[Begin | End]:
+    def marks(self) -> list[Begin | End]:
         """The marks that are in the file now."""
         return read_marks(str(self.transcript))
 
@@ -179,6 +179,6 @@ class Recorder:
         self._process.stderr.close()
 
 
-def kinds(marks: Sequence[Begin | End]) -> List[tuple[str, int]]:
+def kinds(marks: Sequence[Begin | End]) -> list[tuple[str, int]]:
     """The marks without their messages."""
     return [("begin" if isinstance(mark, Begin) else "end", mark.call) for mark in marks]

@@ -6,7 +6,7 @@ The fields are as docs/FORMATS.md has them, and what the server answers is as do
 from __future__ import annotations
 
 import random
-from typing import Dict, List, Optional, Tuple
+from typing import Optional
 
 from messages import item, number, version
 
@@ -67,8 +67,8 @@ class Server:
     def __init__(self, seed: int) -> None:
         self.random = random.Random(seed)
         self.stamp = 1_700_000_000
-        self.keys: Dict[str, Tuple[bytes, str, int]] = {}
-        self.entries: List[bytes] = []
+        self.keys: dict[str, tuple[bytes, str, int]] = {}
+        self.entries: list[bytes] = []
         self._born = 0
 
     def declare(self) -> None:
@@ -76,24 +76,24 @@ class Server:
         text, data = self._new()
         self.entries.append(entry(text, data, f"name of {text}"))
 
-    def call(self) -> Tuple[bytes, bytes]:
+    def call(self) -> tuple[bytes, bytes]:
         """Some call, and its answer."""
         self.stamp += self.random.choice((0, 0, 1))
         does = self.random.choice((self.register, self.activate, self.get, self.get, self.locate, self.state,
                                    self.destroy))
         return does()
 
-    def register(self) -> Tuple[bytes, bytes]:
+    def register(self) -> tuple[bytes, bytes]:
         """A key is brought."""
         text, data = self._new()
         asked = number(0x420057, 5, 2) + attributes(name(f"name of {text}"), number(0x42002C, 2, 12)) + key(data)
         return request(REGISTER, asked), response(REGISTER, self.stamp, identifier(text))
 
-    def get(self) -> Tuple[bytes, bytes]:
+    def get(self) -> tuple[bytes, bytes]:
         """A key is shown."""
         return self.shown(self._some())
 
-    def shown(self, text: str, data: Optional[bytes] = None) -> Tuple[bytes, bytes]:
+    def shown(self, text: str, data: Optional[bytes] = None) -> tuple[bytes, bytes]:
         """A key is shown, with its bytes or with others."""
         asked = request(GET, identifier(text))
         if text not in self.keys:
@@ -101,7 +101,7 @@ class Server:
         told = number(0x420057, 5, 2) + identifier(text) + key(data or self.keys[text][0])
         return asked, response(GET, self.stamp, told)
 
-    def state(self) -> Tuple[bytes, bytes]:
+    def state(self) -> tuple[bytes, bytes]:
         """A key's State is told."""
         text = self._some()
         asked = request(GET_ATTRIBUTES, identifier(text) + number(0x42013B, 5, 0x42008D))
@@ -110,7 +110,7 @@ class Server:
         told = attributes(number(0x42008D, 5, self.keys[text][2]))
         return asked, response(GET_ATTRIBUTES, self.stamp, identifier(text) + told)
 
-    def activate(self) -> Tuple[bytes, bytes]:
+    def activate(self) -> tuple[bytes, bytes]:
         """A key is activated, where that may be."""
         text = self._some()
         asked = request(ACTIVATE, identifier(text))
@@ -119,7 +119,7 @@ class Server:
         self.keys[text] = (*self.keys[text][:2], ACTIVE)
         return asked, response(ACTIVATE, self.stamp, identifier(text))
 
-    def destroy(self) -> Tuple[bytes, bytes]:
+    def destroy(self) -> tuple[bytes, bytes]:
         """A key is destroyed."""
         text = self._some()
         asked = request(DESTROY, identifier(text))
@@ -128,14 +128,14 @@ class Server:
         del self.keys[text]
         return asked, response(DESTROY, self.stamp, identifier(text))
 
-    def locate(self) -> Tuple[bytes, bytes]:
+    def locate(self) -> tuple[bytes, bytes]:
         """The keys of a State, or with a name, are listed."""
         state = self.random.choice((PRE_ACTIVE, ACTIVE))
         asked = request(LOCATE, attributes(number(0x42008D, 5, state)))
         listed = [identifier(text) for text, (_, _, now) in self.keys.items() if now == state]
         return asked, response(LOCATE, self.stamp, b"".join(listed))
 
-    def _new(self) -> Tuple[str, bytes]:
+    def _new(self) -> tuple[str, bytes]:
         self._born += 1
         text, data = f"k{self._born}", bytes(self.random.randrange(256) for _ in range(16))
         self.keys[text] = (data, f"name of {text}", PRE_ACTIVE)

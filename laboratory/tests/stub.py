@@ -6,7 +6,7 @@ import socket
 import ssl
 import threading
 from pathlib import Path
-from typing import Callable, Dict, Optional
+from typing import Callable, Optional
 
 Answering = Callable[[ssl.SSLSocket, bytes], None]
 
@@ -62,8 +62,8 @@ class Stub:
     def __init__(self, folder: Path, answering: Answering, first: Optional[Callable[[], None]] = None,
                  newest: bool = True, keylog: Optional[Path] = None) -> None:
         self.clock = Clock()
-        self.got: Dict[bytes, int] = {}
-        self.gave: Dict[bytes, int] = {}
+        self.got: dict[bytes, int] = {}
+        self.gave: dict[bytes, int] = {}
         self.ended = threading.Event()
         self._answering = answering
         self._first = first

@@ -9,7 +9,7 @@ import subprocess
 import tempfile
 import unittest
 from pathlib import Path
-from typing import Iterator, List, NamedTuple, Set
+from typing import Iterator, NamedTuple
 
 import messages
 from laboratory import AUDITOR, FOLDER
@@ -49,7 +49,7 @@ def verdict(word: str, *files: object) -> tuple[int, str]:
     return done.returncode, done.stdout
 
 
-def key_materials(data: bytes) -> Set[bytes]:
+def key_materials(data: bytes) -> set[bytes]:
     """The value of each Key Material that is a Byte String, by the bytes of its header alone."""
     found = set()
     for match in re.finditer(b"\x42\x00\x43\x08", data):
@@ -63,7 +63,7 @@ def windows(data: bytes, length: int = 8) -> Iterator[bytes]:
     return (data[place:place + length] for place in range(len(data) - length + 1))
 
 
-def folders() -> List[Path]:
+def folders() -> list[Path]:
     """Every example and every recording, but the one that is torn."""
     found = sorted(path.parent for path in EXAMPLES.glob("**/transcript.ttlv"))
     return [folder for folder in found if folder.name != "torn_transcript"]
@@ -77,7 +77,7 @@ class Blind(unittest.TestCase):
         self.addCleanup(made.cleanup)
         self.folder = Path(made.name)
 
-    def blinded(self, sources: List[Path], *more: object) -> List[Path]:
+    def blinded(self, sources: list[Path], *more: object) -> list[Path]:
         """Blinds these files into a new folder."""
         target = Path(tempfile.mkdtemp(dir=self.folder))
         targets = [target / source.name for source in sources]

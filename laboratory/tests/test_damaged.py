@@ -7,7 +7,6 @@ import io
 import random
 import shutil
 import unittest
-from typing import List
 
 import messages
 import sessions
@@ -33,7 +32,7 @@ class Damaged(InFolder):
                 with self.subTest(number=number, word=words[:3]):
                     self.done(words)
 
-    def done(self, words: List[str]) -> None:
+    def done(self, words: list[str]) -> None:
         """Does what the words say; what it prints is one line at least, and no exception comes of it."""
         for name in ("o", "c"):
             path = self.folder / name

@@ -4,7 +4,6 @@ from __future__ import annotations
 
 import asyncio
 import unittest
-from typing import Dict, List, Tuple
 
 import messages
 import stub
@@ -23,14 +22,14 @@ DISCOVER_VERSIONS = 0x1E
 OF_PYKMIP = ("1.0", "1.1", "1.2", "1.3", "1.4", "2.0")
 
 
-def version_in(header: bytes) -> Tuple[int, int]:
+def version_in(header: bytes) -> tuple[int, int]:
     """The version of a request."""
     item = ttlv.read_item(header).children()[0].children()[0]
     major, minor = (child.value for child in item.children())
     return major, minor
 
 
-def listing(version: Tuple[int, int], listed: List[Tuple[int, int]]) -> bytes:
+def listing(version: tuple[int, int], listed: list[tuple[int, int]]) -> bytes:
     """A response to Discover Versions."""
     told = messages.answering(DISCOVER_VERSIONS, 0, *(messages.version(*each) for each in listed))
     return messages.response(STAMP, told, protocol=version)
@@ -39,7 +38,7 @@ def listing(version: Tuple[int, int], listed: List[Tuple[int, int]]) -> bytes:
 class Discovery(Laboratory):
     """Servers that tell it in their ways."""
 
-    def newest(self, answers: Dict[Tuple[int, int], bytes]) -> Version:
+    def newest(self, answers: dict[tuple[int, int], bytes]) -> Version:
         """What is found out of a server that answers so in these versions, and closes the connection in all others."""
         def answering(peer: stub.ssl.SSLSocket, request: bytes) -> None:
             answer = answers.get(version_in(request))

@@ -8,7 +8,6 @@ import subprocess
 import sys
 import unittest
 from itertools import islice
-from typing import List
 
 from laboratory import AUDITOR, FOLDER, SECONDS, Begin, End, Laboratory, read_marks, wait_until
 
@@ -35,7 +34,7 @@ def driven(*words: object, **more: object) -> subprocess.CompletedProcess:
 class Plans(unittest.TestCase):
     """What is asked is drawn from the seed alone."""
 
-    def calls(self, seed: int, client: int = 1, mix: str = "everything") -> List[plan.PlannedCall]:
+    def calls(self, seed: int, client: int = 1, mix: str = "everything") -> list[plan.PlannedCall]:
         return list(islice(plan.Plan(seed, client, mixes.find(mix)).calls(), 300))
 
     def test_the_same_seed_gives_the_same_plan(self) -> None:

@@ -4,7 +4,6 @@ from __future__ import annotations
 
 import unittest
 from pathlib import Path
-from typing import List
 
 import messages
 import stub
@@ -16,9 +15,9 @@ STAMP = 1_700_000_000
 class Identities(Laboratory):
     """The proxy's word `--as`."""
 
-    def shown(self, words: List[object], clients: List[str]) -> List[str]:
+    def shown(self, words: list[object], clients: list[str]) -> list[str]:
         """The names that the server sees where these clients make a call each."""
-        seen: List[str] = []
+        seen: list[str] = []
 
         def answering(peer: stub.ssl.SSLSocket, _: bytes) -> None:
             subject = dict(pair for part in peer.getpeercert()["subject"] for pair in part)

@@ -6,7 +6,7 @@ import subprocess
 import threading
 import unittest
 from pathlib import Path
-from typing import Dict, List, Optional
+from typing import Optional
 
 import messages
 import stub
@@ -45,7 +45,7 @@ class Gaps(unittest.TestCase):
 class Streams(Laboratory):
     """Packets of one connection, as tshark reads them."""
 
-    def take(self, sent: List[tuple[bool, bytes]], shown: Optional[bytes] = None) -> List[tuple[str, int]]:
+    def take(self, sent: list[tuple[bool, bytes]], shown: Optional[bytes] = None) -> list[tuple[str, int]]:
         path = self.folder / "transcript.ttlv"
         stream = Stream(CLIENT)
         with Recording(str(path)) as recording:
@@ -142,7 +142,7 @@ class Segments(Laboratory):
         self.server = f"127.0.0.1:{server.port}"
         return capture, keylog
 
-    def files(self, *words: object) -> List[List[tuple[str, int]]]:
+    def files(self, *words: object) -> list[list[tuple[str, int]]]:
         """The marks of each file that is made."""
         done = run("keylog", *words, "--server", self.server, "--out", self.folder / "made.ttlv")
         self.assertEqual(done.returncode, 0, done.stderr)
@@ -168,7 +168,7 @@ class Segments(Laboratory):
 class Needs(Laboratory):
     """What is not there is named."""
 
-    def keylog(self, environment: Optional[Dict[str, str]] = None) -> str:
+    def keylog(self, environment: Optional[dict[str, str]] = None) -> str:
         (self.folder / "keylog").touch()
         done = run("keylog", "capture", "keylog", "--server", "127.0.0.1:5696", "--out", "transcript.ttlv",
                    cwd=self.folder, env=environment)

@@ -9,7 +9,6 @@ import threading
 import time
 import unittest
 from pathlib import Path
-from typing import List
 
 import messages
 import stub
@@ -32,7 +31,7 @@ class OrderRule(Laboratory):
     """The rule, seen from both sides of the recorder."""
 
     def test_marks_stand_between_the_halves_and_the_next_side(self) -> None:
-        seen: List[object] = []
+        seen: list[object] = []
         half, rest = threading.Event(), threading.Event()
 
         def answering(peer: stub.ssl.SSLSocket, request: bytes) -> None:
@@ -83,7 +82,7 @@ class OrderRule(Laboratory):
         (copy / "kmip_laboratory/recording/connection.py").write_text(source.replace(lines, others))
         return copy / "kmip_record"
 
-    def unmarked(self, program: Path) -> List[str]:
+    def unmarked(self, program: Path) -> list[str]:
         """What went on though the file had no room for its mark: first none for the begin mark, then for the end."""
         request = messages.get("key-1")
         faults = []

@@ -8,7 +8,6 @@ import socket
 import ssl
 import threading
 import unittest
-from typing import Dict, List
 
 import certificates
 import messages
@@ -67,9 +66,9 @@ class ManyConnections(Laboratory):
             stub.receive(client)
         client.close()
 
-    def see_order(self, marks: List, server: stub.Stub) -> None:
+    def see_order(self, marks: list, server: stub.Stub) -> None:
         """A call that ended before another began in the file was answered before the other came to the server."""
-        requests: Dict[int, bytes] = {}
+        requests: dict[int, bytes] = {}
         last_given = 0
         for mark in marks:
             if isinstance(mark, Begin):
@@ -258,7 +257,7 @@ class Ends(Laboratory):
     def test_a_kill_in_the_midst_of_calls_loses_nothing_that_was_marked(self) -> None:
         server = self.stub(lambda peer, request: peer.sendall(messages.not_found(STAMP, text=request[-32:].hex())))
         recorder = self.start(server.port)
-        answers: List[bytes] = []
+        answers: list[bytes] = []
         clients = [threading.Thread(target=self.ask_on, args=(recorder.port, n, answers)) for n in range(8)]
         for client in clients:
             client.start()
@@ -273,7 +272,7 @@ class Ends(Laboratory):
         self.assertLessEqual(set(answers), ended)
         self.assertGreater(len(ended), 300)
 
-    def ask_on(self, port: int, number: int, answers: List[bytes]) -> None:
+    def ask_on(self, port: int, number: int, answers: list[bytes]) -> None:
         """Makes calls until the connection breaks."""
         client = self.client(port)
         for turn in itertools.count():

@@ -17,7 +17,7 @@ import tempfile
 import unittest
 import unittest.mock
 from pathlib import Path
-from typing import Callable, Dict, List, Optional, Tuple
+from typing import Callable, Optional
 from xml.etree import ElementTree
 
 import messages
@@ -73,14 +73,14 @@ class Page(html.parser.HTMLParser):
 
     def __init__(self, text: str) -> None:
         super().__init__()
-        self.tags: List[str] = []
-        self.attributes: Dict[str, List[Dict[str, Optional[str]]]] = {}
-        self.texts: List[str] = []
+        self.tags: list[str] = []
+        self.attributes: dict[str, list[dict[str, Optional[str]]]] = {}
+        self.texts: list[str] = []
         self.feed(text)
         found = re.search(r'<script type="application/json" id="data">(.*?)</script>', text, re.DOTALL)
         self.data = json.loads(found.group(1)) if found else {}
 
-    def handle_starttag(self, tag: str, attrs: List[Tuple[str, Optional[str]]]) -> None:
+    def handle_starttag(self, tag: str, attrs: list[tuple[str, Optional[str]]]) -> None:
         self.tags.append(tag)
         self.attributes.setdefault(tag, []).append(dict(attrs))
 
@@ -413,7 +413,7 @@ class Report(unittest.TestCase):
             self.assertIn(f"{name} is no plain file: put the file itself there", done.stderr)
             shutil.rmtree(folder)
 
-    def explaining(self, lines: List[str]) -> Path:
+    def explaining(self, lines: list[str]) -> Path:
         """An auditor that explains each no by these lines, and is else the one that is there."""
         program = self.folder / "explaining"
         told = "".join(f"{line}\n" for line in lines)
@@ -527,7 +527,7 @@ class Report(unittest.TestCase):
             self.assertTrue(all(named == shown for named, shown in links), seen)
             self.assertTrue(seen[-1], "it is no wider than the window")
 
-    def browse(self, page: Path, *more: str, until: str = "") -> Tuple[str, str]:
+    def browse(self, page: Path, *more: str, until: str = "") -> tuple[str, str]:
         """What a browser makes of a page, and what it says: with more time for the page until this stands in it. A browser that draws
         nothing of a page, and says of no script that it broke off, shows nothing of it."""
         dom, said = "", ""
@@ -539,7 +539,7 @@ class Report(unittest.TestCase):
             self.skipTest(f"the browser drew nothing of the page in {BUDGETS[-1]} ms")
         return dom, said
 
-    def browse_once(self, page: Path, budget: int, *more: str) -> Tuple[str, str]:
+    def browse_once(self, page: Path, budget: int, *more: str) -> tuple[str, str]:
         """The same within so many milliseconds of the page. A browser that doesn't come to its end shows nothing of it."""
         words = [CHROMIUM, "--headless=new", "--no-sandbox", "--disable-gpu", "--enable-logging=stderr", "--v=0",
                  f"--virtual-time-budget={budget}", f"--user-data-dir={self.folder / 'browser'}", *more, "--dump-dom", page.as_uri()]

@@ -7,7 +7,6 @@ import threading
 import time
 import unittest
 from pathlib import Path
-from typing import List
 
 import messages
 import stub
@@ -17,12 +16,12 @@ from messages import begin, end
 STAMP = 1_700_000_000
 
 
-def calls_of(folder: Path) -> List[List[tuple[str, int]]]:
+def calls_of(folder: Path) -> list[list[tuple[str, int]]]:
     """The marks of each file of a folder, in the order of the files' names."""
     return [kinds(read_marks(str(path))) for path in sorted(folder.glob("*-0*.ttlv"))]
 
 
-def whole(*numbers: int) -> List[tuple[str, int]]:
+def whole(*numbers: int) -> list[tuple[str, int]]:
     """The marks of these calls, one after the other."""
     return [mark for number in numbers for mark in (("begin", number), ("end", number))]
 
@@ -30,7 +29,7 @@ def whole(*numbers: int) -> List[tuple[str, int]]:
 class Cut(InFolder):
     """The word `cut`."""
 
-    def cut(self, marks: List[bytes], *words: object) -> List[List[tuple[str, int]]]:
+    def cut(self, marks: list[bytes], *words: object) -> list[list[tuple[str, int]]]:
         """The files that become of these marks."""
         data = messages.transcript(*marks)
         (self.folder / "long").write_bytes(data)
@@ -45,7 +44,7 @@ class Cut(InFolder):
         (self.folder / "short").rmdir()
         return found
 
-    def call(self, number: int, stamp: int = STAMP) -> List[bytes]:
+    def call(self, number: int, stamp: int = STAMP) -> list[bytes]:
         return [begin(number, messages.get("k")), end(number, messages.not_found(stamp))]
 
     def test_numbers_go_on_from_file_to_file(self) -> None:
@@ -115,7 +114,7 @@ class Segments(Laboratory):
         self.assertFalse(recorder.transcript.exists(), "the files have numbers")
         self.assertEqual(sum(path.stat().st_size for path in self.folder.glob("*-0*.ttlv")), int(last.split()[-2]))
 
-    def overlapping(self, hold: str) -> tuple[float, List[List[tuple[str, int]]], List[str]]:
+    def overlapping(self, hold: str) -> tuple[float, list[list[tuple[str, int]]], list[str]]:
         """How long a request was held while another call is under way for half a second, and what was recorded."""
         def answering(peer: stub.ssl.SSLSocket, request: bytes) -> None:
             if b"slow" in request:

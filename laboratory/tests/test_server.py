@@ -8,7 +8,7 @@ import socket
 import ssl
 import time
 import unittest
-from typing import Dict, List, Optional
+from typing import Optional
 
 import messages
 import stub
@@ -28,13 +28,13 @@ ASKED_MORE_THAN_FITS = 12
 class Waiting(Engine):
     """A Get of `late` waits ahead of its effect, and one of `fault` is more than the engine can bear."""
 
-    done: List[str]
+    done: list[str]
 
     def __init__(self) -> None:
         super().__init__(Clock())
         self.done = []
 
-    def answer(self, request: Request, session: Dict[str, Optional[str]]) -> Steps:
+    def answer(self, request: Request, session: dict[str, Optional[str]]) -> Steps:
         asked = request.asks[0].identifier or ""
         if asked == "late":
             yield SECONDS_OF_A_WAIT

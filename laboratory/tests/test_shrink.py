@@ -6,7 +6,7 @@ import random
 import tempfile
 import unittest
 from pathlib import Path
-from typing import List, Optional, Tuple
+from typing import Optional
 
 import messages
 import sessions
@@ -22,7 +22,7 @@ from kmip_laboratory.shrinking.trials import Answer, Trials
 from kmip_laboratory.transcript import TranscriptWriter, read_marks
 
 EXAMPLES = FOLDER.parent / "examples"
-Said = Tuple[bytes, Optional[bytes]]
+Said = tuple[bytes, Optional[bytes]]
 
 
 class Shrink(unittest.TestCase):
@@ -35,7 +35,7 @@ class Shrink(unittest.TestCase):
         self.transcript, self.declaration = self.folder / "t", self.folder / "d"
         self.out, self.less = self.folder / "out", self.folder / "less"
 
-    def write(self, said: List[Said], entries: List[bytes], overlapping: int = 1) -> None:
+    def write(self, said: list[Said], entries: list[bytes], overlapping: int = 1) -> None:
         """A transcript of these calls, as many of them at once as are said, and its declaration."""
         self.transcript.unlink(missing_ok=True)
         with TranscriptWriter(str(self.transcript)) as writer:
@@ -47,7 +47,7 @@ class Shrink(unittest.TestCase):
                         writer.end(number, response)
         self.declaration.write_bytes(sessions.declaration(*entries))
 
-    def shrink(self, *more: object) -> List[int]:
+    def shrink(self, *more: object) -> list[int]:
         """The numbers of the calls that are left of what was written."""
         done = record("shrink", self.transcript, self.declaration, self.out, *more)
         self.assertEqual(done.status, 0, done.err)
@@ -131,7 +131,7 @@ class Shrink(unittest.TestCase):
 
     def test_an_open_call_without_effect_goes(self) -> None:
         server = Server(1)
-        said: List[Said] = [server.register(), (server.shown("k1")[0], None), server.shown("k1", bytes(16))]
+        said: list[Said] = [server.register(), (server.shown("k1")[0], None), server.shown("k1", bytes(16))]
         self.write(said, [])
         self.assertEqual(self.shrink(), [1, 3])
 
@@ -157,7 +157,7 @@ class Shrink(unittest.TestCase):
         self.assertEqual((done.status, self.out.read_text()), (1, "mine"))
 
 
-def some_parts(trials: Trials, calls: List[Call], chance: random.Random) -> List[List[Call]]:
+def some_parts(trials: Trials, calls: list[Call], chance: random.Random) -> list[list[Call]]:
     """What each step may leave of these calls, some of all choices."""
     found = smallest._ends_by_stamp(calls) + smallest._ends_by_mark(calls)
     parts = sorted({part for call in calls for part in trials.parts.of(call)})

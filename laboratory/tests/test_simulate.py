@@ -4,7 +4,7 @@ from __future__ import annotations
 
 import time
 import unittest
-from typing import Dict, List, Optional
+from typing import Optional
 
 import messages
 from laboratory import FOLDER  # noqa: F401 (puts the laboratory on the path)
@@ -22,7 +22,7 @@ SIZES = (Attribute(Tag.CRYPTOGRAPHIC_ALGORITHM, 3), Attribute(Tag.CRYPTOGRAPHIC_
 CREATE = Ask(Operation.CREATE, attributes=SIZES, object_type=2)
 
 # The table of operations: what is possible in which state, in the order of State.
-TABLE: Dict[str, List[str]] = {
+TABLE: dict[str, list[str]] = {
     "get": ["must", "must", "must", "must", "not", "not"],
     "get attributes": ["must", "must", "must", "must", "may", "may"],
     "activate": ["must", "not", "not", "not", "not", "not"],
@@ -64,7 +64,7 @@ def begun(server: Engine, *asks: Ask, option: Optional[Option] = None) -> Steps:
     return steps
 
 
-def ended(steps: Steps) -> List[Answer]:
+def ended(steps: Steps) -> list[Answer]:
     """The answers to a call, once it is done."""
     try:
         while True:
@@ -73,7 +73,7 @@ def ended(steps: Steps) -> List[Answer]:
         return list(end.value.answers)
 
 
-def answers(server: Engine, *asks: Ask, option: Optional[Option] = None) -> List[Answer]:
+def answers(server: Engine, *asks: Ask, option: Optional[Option] = None) -> list[Answer]:
     """The answers to one call."""
     return ended(server.answer(Request((2, 1), asks, option), {}))
 

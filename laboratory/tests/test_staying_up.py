@@ -10,7 +10,6 @@ import subprocess
 import sys
 import time
 import unittest
-from typing import List
 from unittest import mock
 
 import messages
@@ -29,7 +28,7 @@ BAD = b"GET / HTTP/1.1\r\n\r\n"
 class Strangers(Laboratory):
     """Clients that show no certificate."""
 
-    def strangers(self, port: int, count: int) -> List[socket.socket]:
+    def strangers(self, port: int, count: int) -> list[socket.socket]:
         """So many connections that say nothing."""
         _, most = resource.getrlimit(resource.RLIMIT_NOFILE)
         resource.setrlimit(resource.RLIMIT_NOFILE, (most, most))

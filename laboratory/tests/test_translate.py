@@ -7,7 +7,6 @@ import subprocess
 import unittest
 from collections import Counter
 from pathlib import Path
-from typing import Dict, List
 
 import messages
 from laboratory import FOLDER, PYKMIP_PYTHON, SECONDS, InFolder, audit, read_marks, run
@@ -28,9 +27,9 @@ OTHERS = {"get-attribute-list", "query", "discover-versions", "check", "rekey", 
           "signature-verify", "derive-key", "delete-attribute"}
 
 
-def translated(message: bytes, side: Side = Side.CLIENT, asked: bytes = b"") -> tuple[bytes, List[str]]:
+def translated(message: bytes, side: Side = Side.CLIENT, asked: bytes = b"") -> tuple[bytes, list[str]]:
     """What becomes of a message, and what is told."""
-    told: List[str] = []
+    told: list[str] = []
     translator = Translator(told.append)
     if side is Side.SERVER:
         translator.message(1, Side.CLIENT, asked)
@@ -62,17 +61,17 @@ class AgainstPyKmip(InFolder):
                         compared[version] += 1
         self.assertEqual(set(compared.values()), {2 * JUDGED_CALLS - 1}, "all but the answer above")
 
-    def calls(self) -> Dict[str, List[tuple[str, str, bytes]]]:
+    def calls(self) -> dict[str, list[tuple[str, str, bytes]]]:
         """The messages of each version, in their order."""
         subprocess.run([PYKMIP_PYTHON, "-W", "ignore", Path(__file__).with_name("pykmip_calls.py"), self.folder],
                        capture_output=True, check=True, timeout=SECONDS * 6)
-        said: Dict[str, List[tuple[str, str, bytes]]] = {}
+        said: dict[str, list[tuple[str, str, bytes]]] = {}
         for line in (self.folder / "calls").read_text().splitlines():
             version, call, side, message = line.split()
             said.setdefault(version, []).append((call, side, bytes.fromhex(message)))
         return said
 
-    def all_translated(self, said: List[tuple[str, str, bytes]], version: str) -> List[tuple[str, str, bytes]]:
+    def all_translated(self, said: list[tuple[str, str, bytes]], version: str) -> list[tuple[str, str, bytes]]:
         """The messages of a version, translated; nothing of them may be left."""
         translator, number, made = Translator(self.fail), 0, []
         for call, side, message in said:
@@ -105,7 +104,7 @@ KIND, IDENTIFIER = number(0x420057, 5, 2), text(0x420094, "1")
 class Fields(unittest.TestCase):
     """What becomes of each field, as docs/TRANSLATION.md has it."""
 
-    def become(self, old: List[bytes], new: List[bytes], operation: int, side: Side = Side.CLIENT) -> None:
+    def become(self, old: list[bytes], new: list[bytes], operation: int, side: Side = Side.CLIENT) -> None:
         """A payload of these fields becomes one of those, in every older version."""
         for protocol in OLDER:
             if side is Side.CLIENT:

@@ -8,7 +8,6 @@ import stat
 import threading
 import unittest
 from pathlib import Path
-from typing import Dict, List
 
 import certificates
 from laboratory import InFolder, Laboratory, run
@@ -137,10 +136,10 @@ class Outputs(InFolder):
         self.assertEqual(self.all_there(), before, words)
         return done.stderr
 
-    def all_there(self) -> Dict[str, bytes]:
+    def all_there(self) -> dict[str, bytes]:
         return {path.name: path.read_bytes() if path.is_file() else b"" for path in self.folder.iterdir()}
 
-    def each_name_of(self, name: str) -> List[str]:
+    def each_name_of(self, name: str) -> list[str]:
         """A file by its name, by its name in another spelling, behind a link, and by a second name."""
         link, hard = self.folder / f"{name}.link", self.folder / f"{name}.hard"
         if not link.exists():

@@ -8,7 +8,7 @@ import struct
 import tarfile
 import zlib
 from pathlib import PurePosixPath
-from typing import List, NamedTuple, Set, Tuple
+from typing import NamedTuple
 
 FOLDER, PROGRAM, TEXT = 0o755, 0o755, 0o644
 # Deflated, no flags, no moment; by no system.
@@ -32,7 +32,7 @@ def gzipped(data: bytes) -> bytes:
     return GZIP_HEAD + made.compress(data) + made.flush() + GZIP_TAIL.pack(zlib.crc32(data), len(data) & 0xFFFFFFFF)
 
 
-def tar(files: List[File], moment: int, top: str) -> bytes:
+def tar(files: list[File], moment: int, top: str) -> bytes:
     """A tar archive of these files and the folders that they need, below the folder `top`."""
     made = io.BytesIO()
     with tarfile.open(fileobj=made, mode="w", format=tarfile.GNU_FORMAT) as archive:
@@ -43,7 +43,7 @@ def tar(files: List[File], moment: int, top: str) -> bytes:
     return made.getvalue()
 
 
-def _folders(files: List[File]) -> Set[str]:
+def _folders(files: list[File]) -> set[str]:
     """All folders above the files; the topmost is the empty path."""
     return {"" if str(each) == "." else str(each) for file in files for each in PurePosixPath(file.path).parents}
 
@@ -58,7 +58,7 @@ def _add(archive: tarfile.TarFile, file: File, kind: bytes, moment: int, top: st
     archive.addfile(entry, io.BytesIO(file.data))
 
 
-def deb(control: List[File], files: List[File], moment: int) -> bytes:
+def deb(control: list[File], files: list[File], moment: int) -> bytes:
     """A Debian package of these files: its form, what tells dpkg of it, and the files."""
     members = [("debian-binary", b"2.0\n"), ("control.tar.gz", gzipped(tar(control, moment, "."))),
                ("data.tar.gz", gzipped(tar(files, moment, ".")))]
@@ -70,6 +70,6 @@ def _member(name: str, data: bytes, moment: int) -> bytes:
     return head + data + b"\n" * (len(data) % 2)
 
 
-def sums(files: List[Tuple[str, bytes]], by: str) -> bytes:
+def sums(files: list[tuple[str, bytes]], by: str) -> bytes:
     """A line for each file, as `sha256sum` and `md5sum` write and read them."""
     return "".join(f"{hashlib.new(by, data).hexdigest()}  {name}\n" for name, data in sorted(files)).encode()

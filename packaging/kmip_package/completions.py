@@ -8,7 +8,7 @@ import subprocess
 import sys
 import tempfile
 from pathlib import Path
-from typing import Dict, List, NamedTuple, Sequence
+from typing import NamedTuple, Sequence
 
 from .trouble import Trouble
 
@@ -31,8 +31,8 @@ class Option(NamedTuple):
 class Said(NamedTuple):
     """What a program says of itself: the options at each word, and what each word does. The word '' stands for none."""
 
-    options: Dict[str, List[Option]]
-    words: Dict[str, str]
+    options: dict[str, list[Option]]
+    words: dict[str, str]
 
 
 class Asked:
@@ -66,7 +66,7 @@ class Asked:
         return done.stdout
 
 
-def _options(told: str) -> List[Option]:
+def _options(told: str) -> list[Option]:
     return [Option(name, _short(about), value.strip("<>")) for name, value, about in OPTION.findall(told)]
 
 
@@ -76,12 +76,12 @@ def _short(about: str) -> str:
     return found[0].strip(" ,.") if found else ""
 
 
-def _values(option: Option, known: Dict[str, Sequence[str]]) -> Sequence[str]:
+def _values(option: Option, known: dict[str, Sequence[str]]) -> Sequence[str]:
     """The values that an option may have, where there are few."""
     return option.value.strip("{}").split(",") if option.value.startswith("{") else known.get(option.name, ())
 
 
-def bash(name: str, said: Said, known: Dict[str, Sequence[str]], usual: str) -> str:
+def bash(name: str, said: Said, known: dict[str, Sequence[str]], usual: str) -> str:
     """A function for bash. `usual` is the word that is meant where none is given."""
     rows = [f"    {word}) options=\"{' '.join(each.name for each in options)}\" ;;"
             for word, options in said.options.items() if word]
@@ -105,7 +105,7 @@ def bash(name: str, said: Said, known: Dict[str, Sequence[str]], usual: str) -> 
         "    fi", "}", f"complete -o bashdefault -o default -F _{name} {name}", ""])
 
 
-def zsh(name: str, said: Said, known: Dict[str, Sequence[str]], usual: str) -> str:
+def zsh(name: str, said: Said, known: dict[str, Sequence[str]], usual: str) -> str:
     """The same for zsh."""
     lines = [f"#compdef {name}", f"# Completions of {name} for zsh."]
     if said.words:
@@ -123,7 +123,7 @@ def zsh(name: str, said: Said, known: Dict[str, Sequence[str]], usual: str) -> s
     return "\n".join([*lines, "esac", ""])
 
 
-def _zsh(option: Option, known: Dict[str, Sequence[str]]) -> str:
+def _zsh(option: Option, known: dict[str, Sequence[str]]) -> str:
     """What zsh is told of an option, which may be repeated."""
     about = f"[{option.about}]" if option.about else ""
     if not option.value:

@@ -4,7 +4,7 @@ from __future__ import annotations
 
 import re
 from pathlib import Path, PurePosixPath
-from typing import Dict, Iterator, List, NamedTuple, Sequence
+from typing import Iterator, NamedTuple, Sequence
 
 from . import completions, repository
 from .archives import PROGRAM, File, gzipped
@@ -37,10 +37,10 @@ class Made(NamedTuple):
     day: str
     program: bytes
     statement: str
-    completions: List[Completion]
+    completions: list[Completion]
 
 
-def files(made: Made, of_debian: bool) -> List[File]:
+def files(made: Made, of_debian: bool) -> list[File]:
     """All files of a package."""
     return [*_programs(made, of_debian), *_manuals(made), *_completions(made, of_debian), *_documents(made),
             *_examples(), *_pykmip()]
@@ -99,7 +99,7 @@ def completions_of(program: Path) -> Iterator[Completion]:
     with completions.Asked() as asked:
         faults = asked.printed(TOP / "laboratory/kmip_drive", "faults").splitlines()
         mixes = [PurePosixPath(path).stem for path in repository.files_below(MIXES)]
-        known: Dict[str, Sequence[str]] = {"--fault": [line.partition(":")[0] for line in faults], "--mix": mixes}
+        known: dict[str, Sequence[str]] = {"--fault": [line.partition(":")[0] for line in faults], "--mix": mixes}
         for name in COMMANDS:
             said = asked.said(TOP / "laboratory" / name if name in LABORATORY else program)
             words = name, said, known, USUAL_WORDS.get(name, "")

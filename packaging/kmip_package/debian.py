@@ -3,7 +3,6 @@
 from __future__ import annotations
 
 import re
-from typing import List
 
 from .archives import PROGRAM, File, sums
 
@@ -40,7 +39,7 @@ find /usr/lib/kmip-audit -depth -type d -name __pycache__ -exec rm -r {} +
 """
 
 
-def control(version: str, files: List[File], program: bytes, proved: bool) -> List[File]:
+def control(version: str, files: list[File], program: bytes, proved: bool) -> list[File]:
     """The files that dpkg reads."""
     told = {"Package": "kmip-audit", "Version": version, "Section": "utils", "Priority": "optional",
             "Architecture": ARCHITECTURE, "Maintainer": MAINTAINER, "Installed-Size": str(_kilobytes(files)),
@@ -52,7 +51,7 @@ def control(version: str, files: List[File], program: bytes, proved: bool) -> Li
             File("prerm", REMOVE.encode(), PROGRAM)]
 
 
-def _kilobytes(files: List[File]) -> int:
+def _kilobytes(files: list[File]) -> int:
     """What the files take on a disk, as Debian's policy counts it: whole kilobytes of each, and one of each link."""
     return sum(1 if file.link else -(-len(file.data) // 1024) for file in files)
 

@@ -17,7 +17,6 @@ import re
 import subprocess
 import sys
 from pathlib import Path
-from typing import Dict, List
 
 from . import repository
 from .repository import TOP
@@ -74,13 +73,13 @@ def see_that_passed() -> None:
 
 
 def _see_that_nothing_changed() -> None:
-    changed: List[str] = repository.changed()
+    changed: list[str] = repository.changed()
     if changed:
         raise Trouble(f"the working tree is not as the commit has it ({changed[0].strip()}): commit first, since a "
                       "package is of a commit")
 
 
-def _standing() -> Dict[str, object]:
+def _standing() -> dict[str, object]:
     """What a note has: what the proofs are of, by which kit, and the program."""
     return {"sources": repository.proved_sources(), "kit": kit(), "program": digest(PROGRAM.read_bytes())}
 

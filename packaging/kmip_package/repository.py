@@ -4,7 +4,7 @@ from __future__ import annotations
 
 import subprocess
 from pathlib import Path
-from typing import List, NamedTuple
+from typing import NamedTuple
 
 from .trouble import Trouble
 
@@ -37,16 +37,16 @@ def commit() -> Commit:
     return Commit(name, int(moment))
 
 
-def changed() -> List[str]:
+def changed() -> list[str]:
     """What is not as the commit has it, and what is no part of it; what git is told to pass over counts as nothing."""
     return git("status", "--porcelain").splitlines()
 
 
-def proved_sources() -> List[str]:
+def proved_sources() -> list[str]:
     """Names of all that the proofs are of, by what it is: two commits with the same have the same proofs."""
     return [git("rev-parse", f"HEAD:{path}").strip() for path in PROVED]
 
 
-def files_below(*paths: str) -> List[str]:
+def files_below(*paths: str) -> list[str]:
     """The files of the commit below these paths."""
     return git("ls-files", "-z", "--", *paths).rstrip("\0").split("\0")

@@ -4,7 +4,7 @@ from __future__ import annotations
 
 import re
 import time
-from typing import Dict, Iterator, List, NamedTuple, Set
+from typing import Iterator, NamedTuple
 
 from . import repository
 from .proof import CRATE, digest
@@ -73,7 +73,7 @@ def text(version: str, commit: Commit, kit: str, program: Program, proved: bool)
 def crates_of_program() -> Iterator[Crate]:
     """The program's crate, and all below it, in the order of crates.txt."""
     named = _dependencies()
-    needed: Set[str] = set()
+    needed: set[str] = set()
     waiting = [CRATE]
     while waiting:
         name = waiting.pop()
@@ -85,7 +85,7 @@ def crates_of_program() -> Iterator[Crate]:
             yield Crate(name, _functions(name))
 
 
-def _dependencies() -> Dict[str, List[str]]:
+def _dependencies() -> dict[str, list[str]]:
     """Of each crate those that its line in crates.txt names."""
     lines = (TOP / "crates.txt").read_text("utf-8").splitlines()
     pairs = (line.partition("#")[0].partition(":") for line in lines)

@@ -6,7 +6,7 @@ import argparse
 import subprocess
 import time
 from pathlib import Path
-from typing import Dict, List, Optional
+from typing import Optional
 
 from kmip_laboratory.front import Parser, run
 from kmip_laboratory.trouble import WrongWords
@@ -22,7 +22,7 @@ proved, and the SHA-256 of each. The same commit gives the same bytes.
 """
 
 
-def main(arguments: Optional[List[str]] = None) -> int:
+def main(arguments: Optional[list[str]] = None) -> int:
     """Does what the words say, and answers the status."""
     parser = Parser(prog="scripts/package", description=ABOUT)
     parser.add_argument("folder", nargs="?", type=Path, metavar="OUT", help="a new folder for the packages")
@@ -44,7 +44,7 @@ def _package(said: argparse.Namespace) -> None:
         print(line)
 
 
-def make(folder: Path, unproved: Optional[Path]) -> List[str]:
+def make(folder: Path, unproved: Optional[Path]) -> list[str]:
     """Makes the packages, and answers the lines that tell of them."""
     if unproved is None:
         proof.see_that_passed()
@@ -72,7 +72,7 @@ def _see_that_version(program: Path, version: str) -> None:
         raise Trouble(f"{program} calls itself {told.strip()[:80]!r}, and docs/CHANGES.md begins with {version}")
 
 
-def _packages(program: Path, version: str, proved: bool) -> Dict[str, bytes]:
+def _packages(program: Path, version: str, proved: bool) -> dict[str, bytes]:
     """All files that are made, by their names."""
     commit, built = repository.commit(), program.read_bytes()
     binary = statement.with_commit(built, commit.name)

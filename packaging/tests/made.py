@@ -7,7 +7,6 @@ import subprocess
 import sys
 import tempfile
 from pathlib import Path
-from typing import List, Tuple
 
 TOP = Path(__file__).resolve().parents[2]
 PACKAGE = TOP / "scripts/package"
@@ -34,14 +33,14 @@ class Packages:
     def __init__(self) -> None:
         self._folder = tempfile.TemporaryDirectory(prefix="packages-")
         self.folders = [Path(self._folder.name, name) for name in ("one", "two")]
-        how: List[object] = [] if IS_BUILT else ["--unproved", PROGRAM]
+        how: list[object] = [] if IS_BUILT else ["--unproved", PROGRAM]
         self.said = [run(PACKAGE, folder, *how) for folder in self.folders]
 
     def close(self) -> None:
         """Removes them."""
         self._folder.cleanup()
 
-    def files(self) -> List[str]:
+    def files(self) -> list[str]:
         """The names of what was made."""
         return sorted(path.name for path in self.folders[0].iterdir())
 
@@ -51,7 +50,7 @@ class Packages:
         return found
 
 
-_made: List[Packages] = []
+_made: list[Packages] = []
 
 
 def packages() -> Packages:
@@ -61,6 +60,6 @@ def packages() -> Packages:
     return _made[0]
 
 
-def shown(path: Path, *places: Tuple[str, ...]) -> str:
+def shown(path: Path, *places: tuple[str, ...]) -> str:
     """The text of a file."""
     return path.joinpath(*places).read_text("utf-8")

@@ -8,7 +8,6 @@ import shutil
 import stat
 import subprocess
 from pathlib import Path
-from typing import Dict, List, Set
 
 # What a Debian has in any case, and what the package depends on and recommends.
 WANTED = ("base-files", "base-passwd", "bash", "coreutils", "dash", "diffutils", "dpkg", "findutils", "grep",
@@ -76,7 +75,7 @@ def _by_debootstrap(folder: Path, suite: str) -> bool:
 def _by_copies(folder: Path) -> None:
     """The files of the wanted packages, of all that they depend on, and what dpkg knows of them."""
     known = _known()
-    needed: Set[str] = set()
+    needed: set[str] = set()
     waiting = list(WANTED)
     while waiting:
         name = waiting.pop()
@@ -102,13 +101,13 @@ def _by_copies(folder: Path) -> None:
     shutil.copytree("/etc/alternatives", folder / "etc/alternatives", symlinks=True, dirs_exist_ok=True)
 
 
-def _known() -> Dict[str, str]:
+def _known() -> dict[str, str]:
     """What dpkg knows of each package that is installed."""
     stanzas = (f"{text}\n" for text in STATUS.read_text("utf-8").strip().split("\n\n"))
     return {text.split("\n", 1)[0].partition(": ")[2]: text for text in stanzas if INSTALLED in text}
 
 
-def _needs(stanza: str) -> List[str]:
+def _needs(stanza: str) -> list[str]:
     """The packages that one depends on; of several that would do all, since one of them is there."""
     lines = [line.partition(": ")[2] for line in stanza.splitlines() if line.startswith(("Depends: ", "Pre-Depends: "))]
     return [found[0] for line in lines for part in re.split(r"[,|]", line) if (found := NAME.match(part.strip()))]

@@ -7,7 +7,6 @@ import shutil
 import tempfile
 import unittest
 from pathlib import Path
-from typing import Set
 
 import root
 from made import COMMANDS, TOP, packages, run
@@ -48,7 +47,7 @@ class InAFreshRoot(unittest.TestCase):
         self.assertEqual(done.returncode, 0, done.stdout)
         return done.stdout
 
-    def paths(self) -> Set[str]:
+    def paths(self) -> set[str]:
         """All that is there, but for what dpkg and Python keep of their own."""
         found = run("find", self.root, "-xdev", "-printf", "/%P\\n").stdout.splitlines()
         return {path for path in found if not path.startswith(OF_DPKG) and (COMPILED not in path or OWN in path)}

@@ -11,7 +11,6 @@ import tempfile
 import time
 import unittest
 from pathlib import Path
-from typing import Set
 
 from made import COMMANDS, IS_BUILT, PROGRAM, TOP, packages, run
 
@@ -76,7 +75,7 @@ class Bytes(unittest.TestCase):
         self.assertEqual(sum(counts[:-1]), counts[-1])
         lines = [line.split(":") for line in (TOP / "crates.txt").read_text("utf-8").splitlines() if ":" in line]
         needs = {name: rest.split() for name, rest in lines}
-        named: Set[str] = {name for name, _ in rows} - {"together"}
+        named: set[str] = {name for name, _ in rows} - {"together"}
         self.assertIn("kmip_audit", named)
         for each in named:
             self.assertLessEqual(set(needs[each]) & set(needs), named)

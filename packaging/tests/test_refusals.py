@@ -50,8 +50,9 @@ class Refusals(unittest.TestCase):
     def asked(self, *words: str) -> subprocess.CompletedProcess[str]:
         """Runs these words of Python in the clone."""
         path = f"{self.place}:/usr/bin:/bin"
+        modules = ":".join(str(self.repository / folder) for folder in ("packaging", "laboratory"))
         return subprocess.run([sys.executable, "-B", *words], cwd=self.repository, capture_output=True, text=True,
-                              env={"PATH": path, "PYTHONPATH": str(self.repository / "packaging")}, check=False)
+                              env={"PATH": path, "PYTHONPATH": modules}, check=False)
 
     def noted(self, said: str) -> int:
         """The status of noting what `rt ci` said."""

@@ -27,7 +27,7 @@ class Leaks:
     """All windows of so many bytes in secrets."""
 
     def __init__(self, secrets: Iterable[bytes]) -> None:
-        self._windows: Set[bytes] = set()
+        self._windows: set[bytes] = set()
         for secret in secrets:
             self._windows.update(_windows(secret))
 

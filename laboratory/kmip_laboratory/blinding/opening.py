@@ -127,9 +127,9 @@ class Opened:
             self.secrets.add(value.encode("utf-8"))
 
 
-def all_texts(files: List[Opened]) -> Dict[Text, Tuple[str, int]]:
+def all_texts(files: list[Opened]) -> dict[Text, tuple[str, int]]:
     """Every text of these files, with the path and the offset at which it stands first."""
-    found: Dict[Text, Tuple[str, int]] = {}
+    found: dict[Text, tuple[str, int]] = {}
     for opened in files:
         for text in opened.texts:
             found.setdefault(text, (opened.path, opened.first_place(text)))

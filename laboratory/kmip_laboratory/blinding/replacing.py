@@ -6,7 +6,7 @@ import re
 import secrets
 from functools import lru_cache
 from hashlib import shake_256
-from typing import Dict, Iterable, List, Set
+from typing import Iterable
 
 KEY_LENGTH = 32
 # Up to this length strings of bytes are mostly keys, which come again; longer ones are not remembered.
@@ -48,13 +48,13 @@ class Bytes:
         return int.from_bytes(shake_256(told).digest(width), "big") & ((1 << 4 * length) - 1)
 
 
-def texts(key: bytes, values: Iterable[str]) -> Dict[str, str]:
+def texts(key: bytes, values: Iterable[str]) -> dict[str, str]:
     """Another text for each of these, of as many bytes. One that a search gives to what was undone stays as it is, and
     no other becomes one."""
-    by_length: Dict[int, List[str]] = {}
+    by_length: dict[int, list[str]] = {}
     for value in sorted(set(values)):
         by_length.setdefault(len(value.encode("utf-8")), []).append(value)
-    found: Dict[str, str] = {}
+    found: dict[str, str] = {}
     for length, alike in by_length.items():
         found.update(_of_one_length(key, length, alike))
     return found
@@ -65,13 +65,13 @@ def is_guessed(text: str) -> bool:
     return GUESSED.fullmatch(text) is not None
 
 
-def _of_one_length(key: bytes, length: int, values: List[str]) -> Dict[str, str]:
+def _of_one_length(key: bytes, length: int, values: list[str]) -> dict[str, str]:
     """Where there are letters enough, letters; else the texts themselves, each in the place of another."""
     kept = {value: value for value in values if is_guessed(value)}
     others = [value for value in values if value not in kept]
     if 2 * len(others) > len(LETTERS) ** length:
         return {**kept, **dict(zip(others, sorted(others, key=lambda value: _drawn(key, value, 0, 32))))}
-    taken: Set[str] = set(kept)
+    taken: set[str] = set(kept)
     found = dict(kept)
     for value in others:
         tries = 0

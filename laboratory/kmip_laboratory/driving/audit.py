@@ -4,7 +4,7 @@ from __future__ import annotations
 
 import asyncio
 from pathlib import Path
-from typing import FrozenSet, List, NamedTuple
+from typing import NamedTuple
 
 from ..auditor import Auditor
 from ..recording import declaration, inventory
@@ -26,20 +26,20 @@ STEPS_OF_REPORT = 10_000
 
 
 class Wanted(NamedTuple):
-    """What is asked for besides the driving: the folder, what is declared of the server, the attributes that are forgotten,
-    and the steps of each search."""
+    """What is asked for besides the driving: the folder, what is declared of the server, the attributes that are
+    forgotten, and the steps of each search."""
 
     folder: Path
     is_empty: bool
     unique_names: bool
-    rows: List[declaration.Row]
-    forgotten: FrozenSet[int]
+    rows: list[declaration.Row]
+    forgotten: frozenset[int]
     budget: int
 
 
 def run(job: Job, wanted: Wanted, auditor: Auditor) -> int:
-    """Everything. The status is the auditor's: 0 where it found a witness, 1 where it decided that there is none, 4 where
-    it decided nothing, else what it ended with."""
+    """Everything. The status is the auditor's: 0 where it found a witness, 1 where it decided that there is none, 4
+    where it decided nothing, else what it ended with."""
     folder = wanted.folder
     with record.recording(folder, job.version) as transcript:
         _declare(job, wanted)
@@ -65,7 +65,7 @@ def _report(recording: Path, page: Path, asking: Asking) -> None:
 
 def _declare(job: Job, wanted: Wanted) -> None:
     """What the server holds, as it says itself; or nothing."""
-    entries: List[bytes] = []
+    entries: list[bytes] = []
     if not wanted.is_empty:
         try:
             held = asyncio.run(inventory.held(job.server, job.context, Version(*job.version), False))
@@ -85,7 +85,7 @@ def _forget(wanted: Wanted) -> None:
         print(sifting.run(str(source), str(target), frozenset(), wanted.forgotten), flush=True)
 
 
-def explained(folder: Path, decision: Decision) -> List[str]:
+def explained(folder: Path, decision: Decision) -> list[str]:
     """The lines that tell what came out, and where to look."""
     if decision.explained:
         return [decision.line, f"{folder / WITNESS} is an order that explains every answer"]

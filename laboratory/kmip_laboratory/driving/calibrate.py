@@ -7,7 +7,7 @@ import tempfile
 import time
 from dataclasses import dataclass
 from pathlib import Path
-from typing import Iterator, List, NamedTuple, Optional, Type
+from typing import Iterator, NamedTuple, Optional
 
 from .. import tls
 from ..address import Address
@@ -96,7 +96,7 @@ class Calibration:
 
     def with_fault(self, name: str, seed: int, mix: Optional[str] = None) -> Row:
         """The server with this fault, until it is convicted, or until the calls or seconds are spent."""
-        fault: Type[Fault] = FAULTS[name]
+        fault: type[Fault] = FAULTS[name]
         begun, calls, left = time.monotonic(), 0, "no recording in which it came about"
         mix = mix or fault.mix
         while calls < self._scale.most_calls and time.monotonic() - begun < self._scale.seconds:
@@ -119,7 +119,7 @@ def told(verdict: Verdict) -> str:
     return f"{verdict.number} {verdict.name}"
 
 
-def run(names: List[str], mixes_without: List[str], seed: int, auditor: Auditor, scale: Scale) -> Iterator[Row]:
+def run(names: list[str], mixes_without: list[str], seed: int, auditor: Auditor, scale: Scale) -> Iterator[Row]:
     """The table, line by line."""
     with tempfile.TemporaryDirectory(prefix="kmip-drive-") as folder:
         calibration = Calibration(auditor, scale, Path(folder))

@@ -5,7 +5,6 @@ from __future__ import annotations
 import os
 import subprocess
 from pathlib import Path
-from typing import List
 
 from ..trouble import Trouble
 
@@ -36,7 +35,7 @@ def make(folder: Path) -> None:
     (folder / "uses").unlink()
 
 
-def _openssl(folder: Path, words: List[str]) -> None:
+def _openssl(folder: Path, words: list[str]) -> None:
     try:
         subprocess.run(["openssl", *words], cwd=folder, check=True, capture_output=True, text=True)
     except FileNotFoundError:

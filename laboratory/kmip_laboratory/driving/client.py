@@ -9,7 +9,7 @@ import struct
 import threading
 import time
 from collections import Counter
-from typing import Counter as Counted, List, Optional
+from typing import Counter as Counted, NamedTuple, Optional
 
 from .. import message, tls, ttlv
 from ..address import Address
@@ -26,7 +26,7 @@ from .plan import Plan, PlannedCall
 from .requests import write_request
 
 NAMES = {operation.value: operation.name for operation in Operation}
-CAME_TO = {SUCCESS: "done", UNDONE: "undone"}
+CAME_TO: dict[Optional[int], str] = {SUCCESS: "done", UNDONE: "undone"}
 # The last version in which the items of a batch have no order unless that is asked for.
 LAST_WITHOUT_ORDER = (1, 2)
 MOST_BREAKS_IN_A_ROW = 5
@@ -37,7 +37,11 @@ LINGER_AND_RESET = struct.pack("ii", 1, 0)
 
 
 class CutOff(Exception):
-    """The client itself broke the connection."""
+    """The client itself broke the connection, in this way."""
+
+    def __init__(self, cut: Cut) -> None:
+        super().__init__(cut.value)
+        self.cut = cut
 
 
 class Budget:
@@ -69,15 +73,24 @@ class Budget:
             return True
 
 
+class Way(NamedTuple):
+    """How all clients go about it: to which server, in which version, what befalls their calls, the seconds that an
+    answer is waited for, and the mean seconds between two calls."""
+
+    server: Address
+    context: ssl.SSLContext
+    version: Version
+    cuts: Cuts
+    patience: float
+    pause: float
+
+
 class Client(threading.Thread):
     """Makes calls until the budget is spent, or until the server is no longer there."""
 
-    def __init__(self, number: int, server: Address, context: ssl.SSLContext, version: Version, plan: Plan, cuts: Cuts,
-                 known: Known, marks: Marks, budget: Budget, patience: float, pause: float) -> None:
+    def __init__(self, number: int, way: Way, plan: Plan, known: Known, marks: Marks, budget: Budget) -> None:
         super().__init__(daemon=True, name=f"client-{number}")
-        self._server, self._context, self._version = server, context, version
-        self._plan, self._cuts, self._known, self._marks, self._budget = plan, cuts, known, marks, budget
-        self._patience, self._pause = patience, pause
+        self._way, self._plan, self._known, self._marks, self._budget = way, plan, known, marks, budget
         self._socket: Optional[ssl.SSLSocket] = None
         self._incoming: Optional[Incoming] = None
         self._slow = False
@@ -88,7 +101,7 @@ class Client(threading.Thread):
         """All calls."""
         try:
             self._make_calls()
-        except BaseException as failure:
+        except BaseException as failure:  # pylint: disable=broad-exception-caught
             self.failure = failure
             self._budget.stopped = True
         finally:
@@ -99,14 +112,14 @@ class Client(threading.Thread):
         for planned in self._plan.calls():
             if not self._budget.take():
                 return
-            cut = self._cuts.of(planned.luck)
-            if self._pause:
-                time.sleep(2 * planned.pause * self._pause)
+            cut = self._way.cuts.of(planned.luck)
+            if self._way.pause:
+                time.sleep(2 * planned.pause * self._way.pause)
             try:
                 self._call(planned, cut)
                 breaks = 0
-            except CutOff:
-                self.counts[cut.value] += 1
+            except CutOff as broken:
+                self.counts[broken.cut.value] += 1
                 self._drop(reset=planned.where < 0.5)
             except (OSError, EOFError, ConnectionTrouble) as trouble:
                 self.counts["broken by the server"] += 1
@@ -114,7 +127,7 @@ class Client(threading.Thread):
                 breaks += 1
                 if breaks == MOST_BREAKS_IN_A_ROW:
                     told = tls.meaning(trouble) if isinstance(trouble, OSError) else trouble
-                    raise Trouble(f"{self.name} can't go on with the server at {self._server}: {told}") from None
+                    raise Trouble(f"{self.name} can't go on with the server at {self._way.server}: {told}") from None
                 time.sleep(SECONDS_AFTER_A_BREAK)
             if cut is Cut.END and self._budget.may_end():
                 self.counts[cut.value] += 1
@@ -122,9 +135,9 @@ class Client(threading.Thread):
 
     def _reach(self) -> ssl.SSLSocket:
         if self._socket is None:
-            plain = socket.create_connection(self._server, timeout=self._patience)
+            plain = socket.create_connection(self._way.server, timeout=self._way.patience)
             plain.setsockopt(socket.IPPROTO_TCP, socket.TCP_NODELAY, 1)
-            self._socket = self._context.wrap_socket(plain)
+            self._socket = self._way.context.wrap_socket(plain)
             self._incoming = Incoming(self._socket)
             self.counts["connections"] += 1
         return self._socket
@@ -140,20 +153,20 @@ class Client(threading.Thread):
 
     def _call(self, planned: PlannedCall, cut: Optional[Cut]) -> None:
         asks = [self._known.ask(item) for item in planned.items]
-        request = write_request(Request(self._version, tuple(asks), planned.option, self._order_of(planned)))
+        request = write_request(Request(self._way.version, tuple(asks), planned.option, self._order_of(planned)))
         server = self._reach()
         if cut is Cut.BEFORE_SENDING:
-            raise CutOff
+            raise CutOff(cut)
         if cut is Cut.IN_REQUEST:
             server.sendall(request[:1 + int(planned.where * (len(request) - 1))])
-            raise CutOff
+            raise CutOff(cut)
         call = self._marks.begin(self.name, request)
         server.sendall(request)
         for ask in asks:
             self.counts[f"{NAMES[ask.operation]} asked"] += 1
         if cut is Cut.AFTER_SENDING:
             self.counts["open calls"] += 1
-            raise CutOff
+            raise CutOff(cut)
         response = self._answer(cut, planned.where)
         self._marks.end(call, response)
         self._learn(asks, response)
@@ -161,7 +174,7 @@ class Client(threading.Thread):
     def _order_of(self, planned: PlannedCall) -> Optional[bool]:
         """What the request says of the order of its items. Up to 1.2 a batch that says nothing has none, so that the ID
         Placeholder would mean nothing in it."""
-        if planned.ordered is None and len(planned.items) > 1 and self._version <= LAST_WITHOUT_ORDER:
+        if planned.ordered is None and len(planned.items) > 1 and self._way.version <= LAST_WITHOUT_ORDER:
             return True
         return planned.ordered
 
@@ -174,7 +187,7 @@ class Client(threading.Thread):
             if cut is Cut.IN_ANSWER:
                 self._receive(int(where * length))
                 self.counts["open calls"] += 1
-                raise CutOff
+                raise CutOff(cut)
             if self._slow:
                 self.counts[Cut.SLOW.value] += 1
             return header + self._receive(length)
@@ -183,11 +196,11 @@ class Client(threading.Thread):
             raise
 
     def _receive(self, length: int) -> bytes:
-        received = b""
+        received, incoming = b"", self._incoming
         while len(received) < length:
             left = length - len(received)
-            piece = self._incoming.receive(min(left, SLOW_PIECE), SLOW_PIECE) if self._slow else (
-                self._incoming.receive(left))
+            size = (min(left, SLOW_PIECE), SLOW_PIECE) if self._slow else (left,)
+            piece = incoming.receive(*size) if incoming else None
             if piece is None:
                 raise EOFError("it closed the connection in place of an answer")
             received += piece
@@ -195,7 +208,7 @@ class Client(threading.Thread):
                 time.sleep(SECONDS_OF_SLOWNESS)
         return received
 
-    def _learn(self, asks: List[Ask], response: bytes) -> None:
+    def _learn(self, asks: list[Ask], response: bytes) -> None:
         seen = glimpse(response, Side.SERVER)
         if seen is None or seen.stamp is None or not seen.parts:
             self.counts["answers that were not understood"] += 1
@@ -206,5 +219,3 @@ class Client(threading.Thread):
         for ask, part in zip(asks, seen.parts):
             self.counts[f"{NAMES[ask.operation]} {CAME_TO.get(part.status, 'failed')}"] += 1
         self._known.learn(asks, seen.stamp, [(part, identifiers(response, part)) for part in seen.parts])
-
-

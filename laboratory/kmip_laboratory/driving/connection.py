@@ -5,7 +5,7 @@ from __future__ import annotations
 import selectors
 import socket
 import ssl
-from typing import Dict, Optional
+from typing import Optional
 
 from .. import message, ttlv
 from ..message import Side
@@ -23,7 +23,7 @@ class Connection:
         plain.setsockopt(socket.IPPROTO_TCP, socket.TCP_NODELAY, 1)
         plain.setblocking(False)
         self.socket = context.wrap_socket(plain, server_side=True, do_handshake_on_connect=False)
-        self.session: Dict[str, Optional[str]] = {}
+        self.session: dict[str, Optional[str]] = {}
         self.wants = READ
         self.is_there = True
         self.is_busy = False

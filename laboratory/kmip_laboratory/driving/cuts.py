@@ -3,7 +3,7 @@
 from __future__ import annotations
 
 from enum import Enum
-from typing import Dict, Optional
+from typing import Optional
 
 
 class Cut(Enum):
@@ -17,7 +17,7 @@ class Cut(Enum):
     END = "clients that ended"
 
 
-HELP: Dict[Cut, str] = {
+HELP: dict[Cut, str] = {
     Cut.BEFORE_SENDING: "share of calls whose connection is cut ahead of the first byte",
     Cut.IN_REQUEST: "share of calls cut in the middle of the request",
     Cut.AFTER_SENDING: "share of calls cut when the request is sent: the call stays open",
@@ -30,7 +30,7 @@ HELP: Dict[Cut, str] = {
 class Cuts:
     """The shares of calls that each befalls."""
 
-    def __init__(self, shares: Dict[Cut, float]) -> None:
+    def __init__(self, shares: dict[Cut, float]) -> None:
         self._shares = shares
 
     def of(self, luck: float) -> Optional[Cut]:

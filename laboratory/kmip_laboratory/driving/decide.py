@@ -3,7 +3,7 @@
 from __future__ import annotations
 
 from pathlib import Path
-from typing import List, NamedTuple, Optional
+from typing import NamedTuple, Optional
 
 from ..auditor import Auditor
 from ..calls import Call, read_transcript
@@ -28,7 +28,7 @@ class Decision(NamedTuple):
 
     line: str
     status: int
-    part: List[int]
+    part: list[int]
     why: Optional[Verdict] = None
 
     @property
@@ -65,23 +65,23 @@ def decide(folder: Path, auditor: Auditor, budget: int) -> Decision:
     return Decision(found.text, 1, numbers, auditor.explained("check", *_files(folder / PART)))
 
 
-def _is_decided(found: Verdict, budget: int, calls: List[Call]) -> bool:
+def _is_decided(found: Verdict, budget: int, calls: list[Call]) -> bool:
     """Whether the search says that no order explains these calls."""
     return found.outcome is Outcome.GAVE_UP and found.decides(budget) and all(map(is_plain, calls))
 
 
-def _files(folder: Path) -> List[str]:
-    return [str(folder / name) for name in (TRANSCRIPT, DECLARATION, WITNESS)]
+def _files(folder: Path) -> tuple[str, str, str]:
+    return str(folder / TRANSCRIPT), str(folder / DECLARATION), str(folder / WITNESS)
 
 
-def _write(folder: Path, trials: Trials, calls: List[Call]) -> None:
+def _write(folder: Path, trials: Trials, calls: list[Call]) -> None:
     """The recording of these calls alone, in a new folder."""
     folder.mkdir()
     for path, data in zip(_files(folder), (*trials.files(calls), order.witness(_order(trials, calls)))):
         write_file(path, data)
 
 
-def _order(trials: Trials, calls: List[Call]) -> List[int]:
+def _order(trials: Trials, calls: list[Call]) -> list[int]:
     """An order of calls that goes as far as may be: one that explains the first that ended, as many as it can, and
     behind it the others as they ended."""
     ended = sorted((call for call in calls if call.end is not None), key=lambda call: call.end or 0)

@@ -8,13 +8,13 @@ import sys
 import time
 from collections import Counter
 from dataclasses import dataclass, field
-from typing import Counter as Counted, List, Optional
+from typing import Counter as Counted, Optional
 
 from .. import tls
 from ..address import Address
 from ..transcript import TranscriptWriter
 from ..trouble import Trouble
-from .client import Budget, Client
+from .client import Budget, Client, Way
 from .cuts import Cut, Cuts
 from .known import Known
 from .marks import Marks
@@ -53,7 +53,7 @@ class Done:
     seconds: float
     counts: Counted[str]
 
-    def lines(self) -> List[str]:
+    def lines(self) -> list[str]:
         """The account, for people."""
         pace = self.calls / self.seconds if self.seconds else 0
         made = [f"{self.calls} calls by {self.job.clients} clients in {self.seconds:.1f} s, {pace:.0f} a second; seed "
@@ -74,8 +74,9 @@ def drive(job: Job, transcript: Optional[TranscriptWriter] = None, progress: boo
     """Lets all clients make their calls, marking them where a transcript is given."""
     budget = Budget(job.calls, job.seconds, job.clients)
     known, marks = Known(job.mix.counts["hot"]), Marks(transcript, job.version != JUDGED)
-    clients = [Client(number, job.server, job.context, job.version, Plan(job.seed, number, job.mix), job.cuts, known,
-                      marks, budget, job.patience, job.pause) for number in range(1, job.clients + 1)]
+    way = Way(job.server, job.context, job.version, job.cuts, job.patience, job.pause)
+    clients = [Client(number, way, Plan(job.seed, number, job.mix), known, marks, budget)
+               for number in range(1, job.clients + 1)]
     _reach(job)
     begun = time.monotonic()
     for client in clients:
@@ -101,7 +102,7 @@ def _reach(job: Job) -> None:
                       "that the server runs") from None
 
 
-def _wait(clients: List[Client], budget: Budget, begun: float, shown: bool) -> None:
+def _wait(clients: list[Client], budget: Budget, begun: float, shown: bool) -> None:
     """Waits for the clients' end; on a terminal a line tells how far they are."""
     told = begun
     for client in clients:

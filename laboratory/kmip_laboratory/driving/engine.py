@@ -9,7 +9,7 @@ from __future__ import annotations
 import itertools
 import random
 from dataclasses import dataclass, field, replace
-from typing import Dict, Generator, List, Optional, Tuple
+from typing import Generator, Optional
 
 from .messages import Answer, Ask, Attribute, Material, Name, Refused, Request, Response
 from .numbers import AES, COMPROMISES, ObjectType, Operation, Option, Reason, State, Status, Tag
@@ -21,7 +21,7 @@ FIRST_WITH_REASONS = (2, 0)
 Steps = Generator[float, None, Response]
 
 # Which method does an operation.
-WAYS: Dict[int, str] = {
+WAYS: dict[int, str] = {
     Operation.CREATE: "create", Operation.REGISTER: "register", Operation.LOCATE: "locate", Operation.GET: "get",
     Operation.GET_ATTRIBUTES: "get_attributes", Operation.ACTIVATE: "activate", Operation.REVOKE: "revoke",
     Operation.DESTROY: "destroy", Operation.QUERY: "idle", Operation.DISCOVER_VERSIONS: "idle",
@@ -39,7 +39,7 @@ class Call:
     now: int
     request: Request
     placeholder: Optional[str] = None
-    session: Dict[str, Optional[str]] = field(default_factory=dict)
+    session: dict[str, Optional[str]] = field(default_factory=dict)
 
 
 class Engine:
@@ -60,13 +60,13 @@ class Engine:
         self.struck += strikes
         return strikes
 
-    def answer(self, request: Request, session: Dict[str, Optional[str]]) -> Steps:
+    def answer(self, request: Request, session: dict[str, Optional[str]]) -> Steps:
         """The response to a request, whose effects are there when it is. It yields the seconds for which it lets
         other calls go ahead: none, but for faults."""
         yield from ()
         return self.take(request, session)
 
-    def take(self, request: Request, session: Dict[str, Optional[str]]) -> Response:
+    def take(self, request: Request, session: dict[str, Optional[str]]) -> Response:
         """The call, done at the moment of its Time Stamp."""
         call = Call(self.clock.now(), request, session=session)
         return Response(request.version, self.stamp(call), tuple(self.batch(request, call)))
@@ -75,10 +75,10 @@ class Engine:
         """The Time Stamp of the response."""
         return call.now
 
-    def batch(self, request: Request, call: Call) -> List[Answer]:
+    def batch(self, request: Request, call: Call) -> list[Answer]:
         """The answers to the items, in their order, up to the first that fails unless it is to go on."""
         before = self.store.snapshot() if request.option is Option.UNDO else None
-        answers: List[Answer] = []
+        answers: list[Answer] = []
         for ask in request.asks:
             answers.append(self.item(ask, call))
             if answers[-1].status is Status.FAILED and request.option is not Option.CONTINUE:
@@ -110,7 +110,8 @@ class Engine:
         way = WAYS.get(ask.operation)
         if way is None:
             raise Refused(Reason.OPERATION_NOT_SUPPORTED)
-        return getattr(self, way)(ask, call)
+        done: Answer = getattr(self, way)(ask, call)
+        return done
 
     def idle(self, ask: Ask, _: Call) -> Answer:
         """Query tells nothing here, and Discover Versions what stands in every answer to it."""
@@ -148,7 +149,7 @@ class Engine:
         call.placeholder = thing.identifier
         return Answer(ask.operation, identifiers=(thing.identifier,), object_type=object_type)
 
-    def is_taken(self, names: Tuple[Name, ...], _: Call) -> bool:
+    def is_taken(self, names: tuple[Name, ...], _: Call) -> bool:
         """Whether a live object has one of these names."""
         return any(name in thing.names for thing in self.store.live() for name in names)
 
@@ -170,7 +171,7 @@ class Engine:
         call.placeholder = found[0] if len(found) == 1 else None
         return Answer(ask.operation, identifiers=tuple(found))
 
-    def candidates(self, _: Call) -> List[Thing]:
+    def candidates(self, _: Call) -> list[Thing]:
         """The objects among which a Locate looks."""
         return self.store.live()
 
@@ -188,8 +189,8 @@ class Engine:
             return value in thing.names
         if tag is STATE:
             return self.state(thing, call.now) == value
-        field = FIELDS.get(tag)
-        return field is not None and getattr(thing, field) == value
+        kept = FIELDS.get(tag)
+        return kept is not None and getattr(thing, kept) == value
 
     def get(self, ask: Ask, call: Call) -> Answer:
         """The bytes of a live object."""
@@ -207,7 +208,7 @@ class Engine:
         told = [each for each in self.all_of(thing, call.now) if not ask.references or each.tag in ask.references]
         return Answer(ask.operation, identifiers=(thing.identifier,), attributes=tuple(told))
 
-    def all_of(self, thing: Thing, now: int) -> List[Attribute]:
+    def all_of(self, thing: Thing, now: int) -> list[Attribute]:
         """All attributes of an object."""
         told = [Attribute(Tag.NAME, name) for name in thing.names]
         pairs = [(Tag.OBJECT_TYPE, thing.object_type), (Tag.CRYPTOGRAPHIC_ALGORITHM, thing.algorithm),
@@ -270,11 +271,11 @@ def first_of(one: Optional[int], other: Optional[int]) -> Optional[int]:
 def value_of(ask: Ask, tag: Tag) -> Optional[int]:
     """The number of an attribute that the client gives."""
     for each in ask.attributes:
-        if each[0] == tag:
-            return each[1]
+        if each.tag == tag and isinstance(each.value, int):
+            return each.value
     return None
 
 
-def names_in(ask: Ask) -> Tuple[Name, ...]:
+def names_in(ask: Ask) -> tuple[Name, ...]:
     """The names that the client gives, each once."""
-    return tuple(dict.fromkeys(each.value for each in ask.attributes if each.tag is Tag.NAME))
+    return tuple(dict.fromkeys(each.value for each in ask.attributes if isinstance(each.value, Name)))

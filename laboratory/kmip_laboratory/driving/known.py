@@ -5,7 +5,7 @@ from __future__ import annotations
 import threading
 import time
 from dataclasses import replace
-from typing import List, Optional, Tuple
+from typing import Optional
 
 from ..glimpse import SUCCESS, Part
 from .messages import Ask, Attribute
@@ -25,8 +25,8 @@ class Known:
     def __init__(self, hot: int) -> None:
         self._hot = hot
         self._lock = threading.Lock()
-        self._live: List[str] = []
-        self._gone: List[str] = []
+        self._live: list[str] = []
+        self._gone: list[str] = []
         self._stamp: Optional[int] = None
 
     def ask(self, planned: Planned) -> Ask:
@@ -44,7 +44,7 @@ class Known:
         pool = pools.get(pick.kind) or (pools["hot"] if pick.kind != "unknown" else []) or list(UNKNOWN)
         return pool[int(pick.draw * len(pool))]
 
-    def learn(self, asks: List[Ask], stamp: int, answers: List[Tuple[Part, List[str]]]) -> None:
+    def learn(self, asks: list[Ask], stamp: int, answers: list[tuple[Part, list[str]]]) -> None:
         """Takes note of what an answer told: its Time Stamp, and each item with the identifiers that it names."""
         with self._lock:
             self._stamp = stamp

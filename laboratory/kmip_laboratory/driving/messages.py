@@ -3,11 +3,11 @@
 from __future__ import annotations
 
 from dataclasses import dataclass
-from typing import NamedTuple, Optional, Tuple, Union
+from typing import NamedTuple, Optional, Union
 
 from .numbers import Option, Reason, Status, Tag
 
-Version = Tuple[int, int]
+Version = tuple[int, int]
 
 
 class Name(NamedTuple):
@@ -40,8 +40,8 @@ class Ask:
 
     operation: int
     identifier: Optional[str] = None
-    attributes: Tuple[Attribute, ...] = ()
-    references: Tuple[Tag, ...] = ()
+    attributes: tuple[Attribute, ...] = ()
+    references: tuple[Tag, ...] = ()
     maximum: Optional[int] = None
     code: int = 1
     object_type: Optional[int] = None
@@ -54,7 +54,7 @@ class Request:
     """A request: its version, its items, and what it says of batches."""
 
     version: Version
-    asks: Tuple[Ask, ...]
+    asks: tuple[Ask, ...]
     option: Optional[Option] = None
     ordered: Optional[bool] = None
 
@@ -66,8 +66,8 @@ class Answer:
     operation: Optional[int]
     status: Status = Status.SUCCESS
     reason: Optional[int] = None
-    identifiers: Tuple[str, ...] = ()
-    attributes: Tuple[Attribute, ...] = ()
+    identifiers: tuple[str, ...] = ()
+    attributes: tuple[Attribute, ...] = ()
     object_type: Optional[int] = None
     material: Optional[Material] = None
     batch_id: Optional[bytes] = None
@@ -79,7 +79,7 @@ class Response:
 
     version: Version
     stamp: int
-    answers: Tuple[Answer, ...]
+    answers: tuple[Answer, ...]
 
 
 class Refused(Exception):

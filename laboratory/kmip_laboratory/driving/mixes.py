@@ -4,7 +4,6 @@ from __future__ import annotations
 
 from dataclasses import dataclass
 from pathlib import Path
-from typing import Dict, List, Tuple
 
 from ..trouble import Trouble
 
@@ -13,8 +12,8 @@ SUFFIX = ".mix"
 
 KINDS = ("create", "register-key", "register-secret", "locate", "get", "get-attributes", "activate", "revoke",
          "destroy")
-COUNTS: Dict[str, int] = {"hot": 4, "names": 4}
-SHARES: Dict[str, float] = {
+COUNTS: dict[str, int] = {"hot": 4, "names": 4}
+SHARES: dict[str, float] = {
     "batch": 0.1,       # of the calls: with several items
     "story": 0.4,       # of the batches: one object from its birth, or one object's life
     "undo": 0.0,        # of the batches: under Undo
@@ -35,12 +34,12 @@ class Mix:
     """The weights of what is asked, and the shares and counts beside them."""
 
     name: str
-    weights: Tuple[Tuple[str, float], ...]
-    shares: Dict[str, float]
-    counts: Dict[str, int]
+    weights: tuple[tuple[str, float], ...]
+    shares: dict[str, float]
+    counts: dict[str, int]
 
 
-def there() -> List[str]:
+def there() -> list[str]:
     """The names of the mixes that are there."""
     return sorted(path.stem for path in FOLDER.glob("*" + SUFFIX))
 
@@ -64,7 +63,7 @@ def find(words: str) -> Mix:
 
 def read(name: str, text: str, place: str) -> Mix:
     """The mix that a text says: a word and a number on each line."""
-    weights: Dict[str, float] = {}
+    weights: dict[str, float] = {}
     shares, counts = dict(SHARES), dict(COUNTS)
     for number, line in enumerate(text.splitlines(), 1):
         words = line.partition("#")[0].split()
@@ -75,8 +74,8 @@ def read(name: str, text: str, place: str) -> Mix:
     return Mix(name, tuple(weights.items()), shares, counts)
 
 
-def _take(words: List[str], where: str, weights: Dict[str, float], shares: Dict[str, float],
-          counts: Dict[str, int]) -> None:
+def _take(words: list[str], where: str, weights: dict[str, float], shares: dict[str, float],
+          counts: dict[str, int]) -> None:
     """Takes one line."""
     try:
         word, said = words

@@ -3,10 +3,12 @@
 from __future__ import annotations
 
 from enum import IntEnum
-from typing import Dict
 
-from ..operations import Operation as Operation
-from ..tags import Tag as Tag
+from ..operations import Operation
+from ..tags import Tag
+
+__all__ = ["AES", "ATTRIBUTE_NAMES", "ATTRIBUTE_TAGS", "COMPROMISES", "OPAQUE", "PASSWORD", "RAW", "ObjectType",
+           "Operation", "Option", "Reason", "State", "Status", "Tag"]
 
 
 class Status(IntEnum):
@@ -63,10 +65,10 @@ PASSWORD = 1
 COMPROMISES = (2, 3)
 
 # Names of attributes, as versions below 2.0 spell them.
-ATTRIBUTE_NAMES: Dict[Tag, str] = {
+ATTRIBUTE_NAMES: dict[Tag, str] = {
     tag: tag.name.replace("_", " ").title()
     for tag in (Tag.NAME, Tag.OBJECT_TYPE, Tag.CRYPTOGRAPHIC_ALGORITHM, Tag.CRYPTOGRAPHIC_LENGTH,
                 Tag.CRYPTOGRAPHIC_USAGE_MASK, Tag.STATE, Tag.INITIAL_DATE, Tag.ACTIVATION_DATE,
                 Tag.DEACTIVATION_DATE, Tag.DESTROY_DATE, Tag.COMPROMISE_DATE, Tag.LAST_CHANGE_DATE)
 }
-ATTRIBUTE_TAGS: Dict[str, Tag] = {name: tag for tag, name in ATTRIBUTE_NAMES.items()}
+ATTRIBUTE_TAGS: dict[str, Tag] = {name: tag for tag, name in ATTRIBUTE_NAMES.items()}

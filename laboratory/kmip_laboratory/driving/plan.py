@@ -8,7 +8,7 @@ from __future__ import annotations
 
 import random
 from dataclasses import dataclass, replace
-from typing import Iterator, List, Optional, Tuple
+from typing import Iterator, Optional
 
 from .messages import Ask, Attribute, Material, Name
 from .mixes import Mix
@@ -40,7 +40,7 @@ class Planned:
 
     ask: Ask
     pick: Optional[Pick] = None
-    dates: Tuple[Tuple[Tag, int], ...] = ()
+    dates: tuple[tuple[Tag, int], ...] = ()
 
 
 @dataclass(frozen=True)
@@ -48,7 +48,7 @@ class PlannedCall:
     """A call of the plan; `luck` decides what befalls it (cuts.py), `where` at which byte, and `pause` how long the
     client waits ahead of it; all from 0 to 1."""
 
-    items: Tuple[Planned, ...]
+    items: tuple[Planned, ...]
     option: Optional[Option]
     ordered: Optional[bool]
     luck: float
@@ -94,7 +94,7 @@ class Plan:
             return Option.UNDO
         return Option.CONTINUE if draw < undo + going_on else self._dice.choice([None, Option.STOP])
 
-    def _story(self) -> List[Planned]:
+    def _story(self) -> list[Planned]:
         """Items that belong together: an object from its birth on by the placeholder, a placeholder that
         nothing has set, what a Locate lists, or an object's life."""
         dice = self._dice
@@ -135,7 +135,7 @@ class Plan:
     def _on_object(self, kind: str, gone: bool) -> Ask:
         """What is asked of an object; of a destroyed one mostly its dates, which is what is left of its life."""
         dice = self._dice
-        references: List[Tag] = []
+        references: list[Tag] = []
         if kind == "get-attributes" and not self._happens("all"):
             dated = self._happens("referenced")
             asked = DATES if dated and gone else OTHERS + DATES if dated else OTHERS

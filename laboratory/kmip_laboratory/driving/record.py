@@ -5,7 +5,7 @@ from __future__ import annotations
 import shutil
 from contextlib import contextmanager
 from pathlib import Path
-from typing import Iterator, List
+from typing import Iterator
 
 from ..recording import declaration
 from ..recordings import DECLARATION, TRANSCRIPT
@@ -36,6 +36,6 @@ def recording(folder: Path, version: Version) -> Iterator[TranscriptWriter]:
             raise
 
 
-def declare(folder: Path, unique_names: bool, rows: List[declaration.Row]) -> None:
+def declare(folder: Path, unique_names: bool, rows: list[declaration.Row]) -> None:
     """A declaration that the server was empty."""
     declaration.run(unique_names, rows, [], str(folder / DECLARATION), False)

@@ -3,7 +3,7 @@
 from __future__ import annotations
 
 from functools import lru_cache
-from typing import Dict, List, Optional, Tuple
+from typing import Optional
 
 from .. import ttlv
 from ..ttlv import Item, Kind
@@ -39,9 +39,9 @@ def _write_item(version: Version, ask: Ask) -> bytes:
     return ttlv.structure(Tag.BATCH_ITEM, *parts, ttlv.structure(Tag.REQUEST_PAYLOAD, *_payload(version, ask)))
 
 
-def _payload(version: Version, ask: Ask) -> List[bytes]:
+def _payload(version: Version, ask: Ask) -> list[bytes]:
     if ask.operation in (Operation.CREATE, Operation.REGISTER):
-        made = [ttlv.enumeration(Tag.OBJECT_TYPE, ask.object_type), wire.template(version, ask.attributes)]
+        made = [ttlv.enumeration(Tag.OBJECT_TYPE, ask.object_type or 0), wire.template(version, ask.attributes)]
         return made + ([wire.material(ask.material)] if ask.material else [])
     if ask.operation == Operation.LOCATE:
         made = [ttlv.integer(Tag.MAXIMUM_ITEMS, ask.maximum)] if ask.maximum is not None else []
@@ -70,9 +70,9 @@ def read_request(message: bytes) -> Request:
     return Request(version, tuple(_item(version, each) for each in items), option, ordered)
 
 
-def _frame(message: bytes) -> Tuple[bytes, List[bytes]]:
+def _frame(message: bytes) -> tuple[bytes, list[bytes]]:
     """The bytes of the header, and of each Batch Item."""
-    found: Dict[int, List[bytes]] = {HEADER: [], BATCH_ITEM: []}
+    found: dict[int, list[bytes]] = {HEADER: [], BATCH_ITEM: []}
     for _, start, length in ttlv.places_in(message, 0, len(message)):
         for number, place, size in ttlv.places_in(message, start, start + length):
             if number in found:
@@ -84,7 +84,7 @@ def _frame(message: bytes) -> Tuple[bytes, List[bytes]]:
 
 # The same headers and items come again and again: there are few versions, and the hot objects are asked for often.
 @lru_cache(maxsize=64)
-def _read_header(spelled: bytes) -> Tuple[Version, Optional[Option], Optional[bool], int]:
+def _read_header(spelled: bytes) -> tuple[Version, Optional[Option], Optional[bool], int]:
     """The version, what is said of batches, and the Batch Count."""
     header = ttlv.read_item(spelled, LEVEL)
     version = wire.version_of(header)
@@ -123,7 +123,7 @@ def _read_item(version: Version, spelled: bytes) -> Ask:
         object_type.value if object_type else None, wire.read_material(payload), batch_id.value if batch_id else None)
 
 
-def _read_references(version: Version, payload: Item) -> List[Tag]:
+def _read_references(version: Version, payload: Item) -> list[Tag]:
     """The attributes that are asked for; such that are not spoken here are read over."""
     if version >= FIRST_WITH_ATTRIBUTES:
         asked = [item.value for item in payload.every(Tag.ATTRIBUTE_REFERENCE, Kind.ENUMERATION)]
@@ -135,4 +135,4 @@ def _read_references(version: Version, payload: Item) -> List[Tag]:
 def _read_code(payload: Item) -> int:
     reason: Optional[Item] = payload.first(Tag.REVOCATION_REASON, Kind.STRUCTURE)
     code = reason.first(Tag.REVOCATION_REASON_CODE, Kind.ENUMERATION) if reason else None
-    return code.value if code else 1
+    return int(code.value) if code else 1

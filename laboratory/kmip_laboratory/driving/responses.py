@@ -2,8 +2,6 @@
 
 from __future__ import annotations
 
-from typing import List
-
 from .. import ttlv
 from . import wire
 from .messages import Answer, Response, Version
@@ -33,7 +31,7 @@ def _write_item(version: Version, answer: Answer) -> bytes:
     return ttlv.structure(Tag.BATCH_ITEM, *parts)
 
 
-def _payload(version: Version, answer: Answer) -> List[bytes]:
+def _payload(version: Version, answer: Answer) -> list[bytes]:
     made = [] if answer.object_type is None else [ttlv.enumeration(Tag.OBJECT_TYPE, answer.object_type)]
     made += [ttlv.text(Tag.UNIQUE_IDENTIFIER, identifier) for identifier in answer.identifiers]
     if answer.operation == Operation.LOCATE and version >= FIRST_WITH_LOCATED_ITEMS:

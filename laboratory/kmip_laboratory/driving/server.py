@@ -14,7 +14,7 @@ import ssl
 import threading
 import time
 import traceback
-from typing import List, Optional, Tuple
+from typing import Optional
 
 from .. import ttlv
 from ..trouble import ConnectionTrouble
@@ -45,7 +45,7 @@ class Server:
         self._selector = selectors.DefaultSelector()
         for each in (self._listener, self._woken):
             self._selector.register(each, READ)
-        self._waiting: List[Tuple[float, int, Steps, Connection]] = []
+        self._waiting: list[tuple[float, int, Steps, Connection]] = []
         self._numbers = itertools.count()
         self._thread = threading.Thread(target=self._run, daemon=True)
         self._thread.start()
@@ -82,7 +82,8 @@ class Server:
 
     def _end(self) -> None:
         for key in list(self._selector.get_map().values()):
-            key.fileobj.close()
+            if isinstance(key.fileobj, socket.socket):
+                key.fileobj.close()
         self._selector.close()
 
     def _accept(self) -> None:
@@ -104,7 +105,7 @@ class Server:
             self._answer(connection)
         except (OSError, ConnectionTrouble):
             connection.is_there = False
-        except Exception:
+        except Exception:  # pylint: disable=broad-exception-caught
             traceback.print_exc()
             connection.is_there = False
         if not connection.is_there and was_there:

@@ -6,7 +6,7 @@ import errno
 import signal
 import ssl
 import threading
-from typing import List, Optional, Type
+from typing import Optional
 
 from ..address import Address
 from ..trouble import Trouble
@@ -17,7 +17,7 @@ from .server import Server
 from .store import Clock
 
 
-def find(names: List[str]) -> List[Type[Fault]]:
+def find(names: list[str]) -> list[type[Fault]]:
     """The faults with these names."""
     for name in names:
         if name not in FAULTS:
@@ -25,9 +25,9 @@ def find(names: List[str]) -> List[Type[Fault]]:
     return [FAULTS[name] for name in names]
 
 
-def make(faults: List[Type[Fault]], pace: float, seed: int, rate: Optional[float], unique_names: bool) -> Engine:
+def make(faults: list[type[Fault]], pace: float, seed: int, rate: Optional[float], unique_names: bool) -> Engine:
     """An engine with these faults."""
-    kind: Type[Engine] = type("Faulty", tuple(faults), {}) if faults else Engine
+    kind: type[Engine] = type("Faulty", tuple(faults), {}) if faults else Engine
     usual = max((fault.rate_usual for fault in faults), default=0.0)
     return kind(Clock(pace), unique_names or any(fault.unique_names_usual for fault in faults), seed,
                 usual if rate is None else rate)

@@ -4,7 +4,7 @@ from __future__ import annotations
 
 import time
 from dataclasses import dataclass
-from typing import Dict, List, NamedTuple, Optional, Tuple
+from typing import NamedTuple, Optional
 
 from .messages import Name
 from .numbers import State
@@ -17,7 +17,7 @@ class Thing:
     identifier: str
     object_type: int
     value: Optional[bytes]
-    names: Tuple[Name, ...] = ()
+    names: tuple[Name, ...] = ()
     algorithm: Optional[int] = None
     length: Optional[int] = None
     mask: Optional[int] = None
@@ -43,16 +43,16 @@ class Thing:
 class Snapshot(NamedTuple):
     """What a store held."""
 
-    live: Dict[str, Thing]
-    gone: Dict[str, Thing]
+    live: dict[str, Thing]
+    gone: dict[str, Thing]
 
 
 class Store:
     """Objects that are live, and such that are destroyed; each identifier stands in one of the two."""
 
     def __init__(self) -> None:
-        self._live: Dict[str, Thing] = {}
-        self._gone: Dict[str, Thing] = {}
+        self._live: dict[str, Thing] = {}
+        self._gone: dict[str, Thing] = {}
 
     def find(self, identifier: Optional[str]) -> Optional[Thing]:
         """The object with this identifier, live or destroyed."""
@@ -60,11 +60,11 @@ class Store:
             return None
         return self._live.get(identifier) or self._gone.get(identifier)
 
-    def live(self) -> List[Thing]:
+    def live(self) -> list[Thing]:
         """The live objects, the newest first."""
         return list(reversed(self._live.values()))
 
-    def gone(self) -> List[Thing]:
+    def gone(self) -> list[Thing]:
         """The destroyed objects, the newest first."""
         return list(reversed(self._gone.values()))
 

@@ -3,7 +3,7 @@
 from __future__ import annotations
 
 from functools import lru_cache
-from typing import Callable, Dict, Iterable, List, Optional
+from typing import Callable, Iterable, Optional
 
 from .. import ttlv
 from ..ttlv import Item, Kind
@@ -14,7 +14,7 @@ VERSIONS = ("1.0", "1.1", "1.2", "1.3", "1.4", "2.0", "2.1")
 FIRST_WITH_ATTRIBUTES = (2, 0)
 
 # How the number of each attribute is spelled.
-SPELLED: Dict[int, Callable[[int, int], bytes]] = {
+SPELLED: dict[int, Callable[[int, int], bytes]] = {
     Tag.OBJECT_TYPE: ttlv.enumeration, Tag.CRYPTOGRAPHIC_ALGORITHM: ttlv.enumeration, Tag.STATE: ttlv.enumeration,
     Tag.CRYPTOGRAPHIC_LENGTH: ttlv.integer, Tag.CRYPTOGRAPHIC_USAGE_MASK: ttlv.integer,
     Tag.INITIAL_DATE: ttlv.date_time, Tag.ACTIVATION_DATE: ttlv.date_time, Tag.DEACTIVATION_DATE: ttlv.date_time,
@@ -56,7 +56,7 @@ def need(item: Optional[Item]) -> Item:
     return item
 
 
-def identifiers_of(payload: Item) -> List[str]:
+def identifiers_of(payload: Item) -> list[str]:
     """The Unique Identifiers in a payload."""
     return [item.value for item in payload.every(Tag.UNIQUE_IDENTIFIER, Kind.TEXT)]
 
@@ -76,7 +76,7 @@ def _value(tag: int, given: Attribute) -> bytes:
     return SPELLED[given.tag](tag, given.value)
 
 
-def attributes(version: Version, given: Iterable[Attribute], always: bool = False) -> List[bytes]:
+def attributes(version: Version, given: Iterable[Attribute], always: bool = False) -> list[bytes]:
     """The item, or items, that hold these attributes in a payload; none for none, unless `always`."""
     made = [attribute(version, each) for each in given]
     if version >= FIRST_WITH_ATTRIBUTES:
@@ -91,7 +91,7 @@ def template(version: Version, given: Iterable[Attribute]) -> bytes:
     return ttlv.structure(tag, *made)
 
 
-def read_attributes(version: Version, payload: Item) -> List[Attribute]:
+def read_attributes(version: Version, payload: Item) -> list[Attribute]:
     """The attributes that a payload holds; such that are not spoken here are read over."""
     if version >= FIRST_WITH_ATTRIBUTES:
         holder = payload.first(Tag.ATTRIBUTES, Kind.STRUCTURE)
@@ -102,7 +102,7 @@ def read_attributes(version: Version, payload: Item) -> List[Attribute]:
     return [Attribute(Tag(tag), _read_value(item)) for tag, item in pairs if tag == Tag.NAME or tag in SPELLED]
 
 
-def _named(item: Item) -> List[tuple[int, Item]]:
+def _named(item: Item) -> list[tuple[int, Item]]:
     """Of an Attribute of 1.x the tag that its name stands for, and its value."""
     name = need(item.first(Tag.ATTRIBUTE_NAME, Kind.TEXT)).value
     values = [child for child in item.children() if child.tag == Tag.ATTRIBUTE_VALUE]
@@ -111,7 +111,7 @@ def _named(item: Item) -> List[tuple[int, Item]]:
 
 def _read_value(item: Item) -> int | Name:
     if item.kind != Kind.STRUCTURE:
-        return item.value
+        return int(item.value)
     kind = item.first(Tag.NAME_TYPE, Kind.ENUMERATION)
     return Name(need(item.first(Tag.NAME_VALUE, Kind.TEXT)).value, kind.value if kind else 1)
 

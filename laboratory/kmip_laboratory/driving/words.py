@@ -6,7 +6,7 @@ import argparse
 import asyncio
 from dataclasses import replace
 from pathlib import Path
-from typing import List, Optional
+from typing import Optional
 
 from .. import tls
 from ..address import Address, read_address
@@ -29,7 +29,7 @@ OPTIONS = {Cut.BEFORE_SENDING: "--cut-before-sending", Cut.IN_REQUEST: "--cut-in
            Cut.AFTER_SENDING: "--cut-after-sending", Cut.IN_ANSWER: "--cut-in-answer", Cut.SLOW: "--slow"}
 
 
-def main(arguments: Optional[List[str]] = None) -> int:
+def main(arguments: Optional[list[str]] = None) -> int:
     """Does what the words say, and answers the status. Options without a word are those of `drive`."""
     return run_or_help(_parser(), arguments, usual="drive")
 
@@ -88,7 +88,8 @@ def add_load(word: argparse.ArgumentParser) -> None:
     add("--cert", required=True, metavar="FILE", help="certificate of the clients, in PEM")
     add("--key", required=True, metavar="FILE", help="its key, in PEM")
     add("--ca", required=True, metavar="FILE", help="authority of the server's certificate")
-    add("--kmip", choices=wire.VERSIONS, help="the version that is spoken (2.1; at audit the newest that the server has)")
+    add("--kmip", choices=wire.VERSIONS, help="the version that is spoken (2.1; at audit the newest that the server "
+        "has)")
     add("--clients", type=_count, default=4, metavar="N", help="clients at once (4)")
     add("--calls", type=_count, metavar="N", help=f"calls of all clients together ({USUAL_CALLS})")
     add("--seconds", type=_seconds, metavar="S", help="how long, in place of --calls")
@@ -218,7 +219,8 @@ def _audit(words: argparse.Namespace) -> int:
     if words.kmip is None:
         job = replace(job, version=asyncio.run(discovery.newest(job.server, job.context)))
         say(f"the server is spoken to in version {job.version[0]}.{job.version[1]}")
-    wanted = audit.Wanted(words.out, words.empty, words.unique_names, words.reason, frozenset(words.forget), words.budget)
+    wanted = audit.Wanted(words.out, words.empty, words.unique_names, words.reason, frozenset(words.forget),
+                          words.budget)
     return audit.run(job, wanted, auditor)
 
 

@@ -4,7 +4,7 @@ stop. It says what stands in the messages, and no verdict."""
 from __future__ import annotations
 
 from collections import Counter
-from typing import Counter as Counts, Dict, List, NamedTuple, Optional
+from typing import Counter as Counts, NamedTuple, Optional
 
 from ..glimpse import FAILED, PENDING, SUCCESS, UNDONE, Glimpse, Part
 from ..operations import JUDGED, READ_OVER, operation_name
@@ -38,7 +38,7 @@ def _outside_part(asked: Part, answered: Part) -> Optional[str]:
 class Stop(NamedTuple):
     """Calls that the auditor will stop at for one cause: how many, and the first of them."""
 
-    count: int
+    calls: int
     first: int
 
 
@@ -50,8 +50,8 @@ class Account:
         self.versions: Counts[Optional[Version]] = Counter()
         self.operations: Counts[int] = Counter()
         self.failed = 0
-        self.stops: Dict[str, Stop] = {}
-        self._open: Dict[int, Optional[Glimpse]] = {}
+        self.stops: dict[str, Stop] = {}
+        self._open: dict[int, Optional[Glimpse]] = {}
 
     def begin(self, call: int, asked: Optional[Glimpse]) -> None:
         """Counts a request."""
@@ -71,9 +71,9 @@ class Account:
         cause = outside_of(asked, answered)
         if cause:
             stop = self.stops.get(cause, Stop(0, call))
-            self.stops[cause] = Stop(stop.count + 1, min(stop.first, call))
+            self.stops[cause] = Stop(stop.calls + 1, min(stop.first, call))
 
-    def lines(self) -> List[str]:
+    def lines(self) -> list[str]:
         """The account, as lines for a person."""
         for call, asked in list(self._open.items()):
             self._stop_at(call, asked, None)
@@ -82,12 +82,12 @@ class Account:
         lines = [f"by version: {versions}; by operation: {operations}; {self.failed} items failed, {len(self._open)} "
                  "calls are open"] if self.calls else []
         for cause, stop in sorted(self.stops.items(), key=lambda entry: entry[1].first):
-            lines.append(f"the auditor will stop at call {stop.first}, for {cause}: {stop.count} calls are so; "
+            lines.append(f"the auditor will stop at call {stop.first}, for {cause}: {stop.calls} calls are so; "
                          f"{advice(cause)}")
         return lines
 
 
-def listed(counts: Dict[str, int]) -> str:
+def listed(counts: dict[str, int]) -> str:
     """Counts by their names, in their order."""
     return ", ".join(f"{name} {count}" for name, count in counts.items()) or "none"
 

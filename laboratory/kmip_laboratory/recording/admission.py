@@ -5,7 +5,7 @@ from __future__ import annotations
 import asyncio
 from collections import Counter
 from contextlib import contextmanager
-from typing import Counter as Counted, Dict, Iterator
+from typing import Counter as Counted, Iterator
 
 from ..trouble import ConnectionTrouble, say
 
@@ -18,13 +18,13 @@ class Admission:
 
     def __init__(self, most_of_a_client: int) -> None:
         self._most = most_of_a_client
-        self._unknown: Dict[asyncio.Task[None], None] = {}
+        self._unknown: dict[asyncio.Task[None], None] = {}
         self._of_client: Counted[str] = Counter()
         self._dropped = 0
 
     @contextmanager
     def unknown(self) -> Iterator[None]:
-        """While the client of this task has shown no certificate. Where too many are so, the oldest task is cancelled."""
+        """While the client of this task has shown no certificate. Where too many are so, the oldest one has to go."""
         task = asyncio.current_task()
         assert task is not None
         if len(self._unknown) >= MOST_UNKNOWN:

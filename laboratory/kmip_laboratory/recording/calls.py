@@ -2,7 +2,8 @@
 
 from __future__ import annotations
 
-from typing import Dict, Iterator, NamedTuple, Optional
+import itertools
+from typing import Iterator, NamedTuple, Optional
 
 from ..glimpse import Glimpse, glimpse
 from ..message import Side
@@ -30,7 +31,7 @@ class Call(NamedTuple):
 
 def calls_in(path: str) -> Iterator[Call]:
     """The calls in the order of their ends, and then the open ones in the order of their begins."""
-    under_way: Dict[int, Call] = {}
+    under_way: dict[int, Call] = {}
     for place, mark in enumerate(marks_in(path), 1):
         if isinstance(mark, Begin):
             under_way[mark.call] = Call(mark.call, mark.client, place, None, mark.message, None)
@@ -41,17 +42,16 @@ def calls_in(path: str) -> Iterator[Call]:
 
 def ordered_calls(path: str) -> Iterator[Call]:
     """The calls in the order of their begins. Those that ended early wait for those that began ahead of them."""
-    waiting: Dict[int, Call] = {}
-    open_places: Dict[int, int] = {}
-    ready: Dict[int, Call] = {}
+    waiting: dict[int, Call] = {}
+    open_places: dict[int, int] = {}
+    ready: dict[int, Call] = {}
     for place, mark in enumerate(marks_in(path), 1):
         if isinstance(mark, Begin):
             waiting[mark.call] = Call(mark.call, mark.client, place, None, mark.message, None)
             open_places[mark.call] = place
             continue
         ready[mark.call] = waiting[mark.call]._replace(last=place, response=mark.message)
-        while waiting and next(iter(waiting)) in ready:
-            number = next(iter(waiting))
+        for number in list(itertools.takewhile(ready.__contains__, waiting)):
             del waiting[number]
             yield ready.pop(number)
     for number, call in waiting.items():

@@ -8,7 +8,7 @@ capture.
 from __future__ import annotations
 
 from collections import deque
-from typing import Callable, Deque, Dict, FrozenSet, List, Optional, Protocol, Set
+from typing import Callable, Deque, Optional, Protocol
 
 from .. import certificate, message
 from ..address import Address
@@ -37,7 +37,7 @@ class Stream:
         self.name = str(client)
         self.broken = False
         self._open: Deque[int] = deque()
-        self._torn: Dict[Side, bytes] = {Side.CLIENT: b"", Side.SERVER: b""}
+        self._torn: dict[Side, bytes] = {Side.CLIENT: b"", Side.SERVER: b""}
 
     def take(self, packet: Packet, recording: Marks) -> None:
         """Marks the messages that this packet completes."""
@@ -70,7 +70,7 @@ class Rehearsal:
 
     def __init__(self) -> None:
         self._calls = 0
-        self.unanswered: Set[int] = set()
+        self.unanswered: set[int] = set()
 
     def begin(self, client: str, request: bytes) -> int:
         """A request."""
@@ -93,7 +93,7 @@ class Moment:
         return self.now
 
 
-Record = Callable[[Callable[[], float], FrozenSet[int]], Recording]
+Record = Callable[[Callable[[], float], frozenset[int]], Recording]
 
 
 def run(capture: str, keylog: str, server: Address, record: Record) -> None:
@@ -116,12 +116,13 @@ class _Timed:
         self.begin = recording.begin
 
     def end(self, call: int, response: bytes) -> None:
+        """The answer to a call, at its moment."""
         self._clock.now = max(self._clock.now, message.time_stamp(response) or 0)
         self._recording.end(call, response)
 
 
-def _take_all(packets: List[Packet], marks: Marks, tell: Callable[[str], None]) -> None:
-    streams: Dict[int, Stream] = {}
+def _take_all(packets: list[Packet], marks: Marks, tell: Callable[[str], None]) -> None:
+    streams: dict[int, Stream] = {}
     for packet in packets:
         stream = streams.setdefault(packet.stream, Stream(packet.client))
         if stream.broken:
@@ -133,7 +134,7 @@ def _take_all(packets: List[Packet], marks: Marks, tell: Callable[[str], None]) 
             tell(f"{stream.name}, stream {packet.stream} of the capture: {trouble}; the rest of it is left out")
 
 
-def _see_that_all_is_there(packets: List[Packet], capture: str, keylog: str) -> None:
+def _see_that_all_is_there(packets: list[Packet], capture: str, keylog: str) -> None:
     """A transcript without some of the calls would be judged wrongly, so none is made."""
     if have_gap((packet.stream, packet.by_client, packet.span) for packet in packets if packet.span):
         raise Trouble(f"packets to or from the server are missing in {capture}: capture again, with a larger buffer "

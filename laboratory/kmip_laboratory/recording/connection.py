@@ -11,7 +11,7 @@ from __future__ import annotations
 import asyncio
 import socket
 import ssl
-from typing import Dict, NamedTuple, Optional
+from typing import NamedTuple, Optional
 
 from .. import peer
 from ..address import Address
@@ -33,7 +33,7 @@ class Way(NamedTuple):
     idle: float
     admission: Admission
     gate: Gate
-    identities: Dict[str, ssl.SSLContext]
+    identities: dict[str, ssl.SSLContext]
 
     def toward_server_as(self, name: Optional[str]) -> ssl.SSLContext:
         """TLS toward the server for the client with this common name: as itself, or else as the recorder."""
@@ -54,7 +54,7 @@ class Connection:
         self.name = str(address)
         self.open_call: Optional[int] = None
 
-    def end_soon(self, task: asyncio.Task) -> None:
+    def end_soon(self, task: asyncio.Task[None]) -> None:
         """Ends the connection, whose work is this task: now where no call is under way, else after the call."""
         self._ending = True
         if not self._busy:

@@ -3,7 +3,7 @@
 from __future__ import annotations
 
 import os
-from typing import BinaryIO, Dict, FrozenSet, List, Optional, Set
+from typing import BinaryIO
 
 from .. import message
 from ..files import new_folder
@@ -16,9 +16,9 @@ from .segments import Due, Segments
 from .selection import Range
 
 
-def never_ended(source: str) -> FrozenSet[int]:
+def never_ended(source: str) -> frozenset[int]:
     """The calls without an end mark. They are no longer under way than up to their begin, as far as cuts go."""
-    begun: Dict[int, bool] = {}
+    begun: dict[int, bool] = {}
     for mark in marks_in(source):
         begun[mark.call] = not isinstance(mark, Begin)
     return frozenset(call for call, has_ended in begun.items() if not has_ended)
@@ -27,19 +27,19 @@ def never_ended(source: str) -> FrozenSet[int]:
 class Cutter:
     """Writes marks into the files of a folder, and begins a new one where one is due."""
 
-    def __init__(self, folder: str, segments: Segments, without_end: FrozenSet[int]) -> None:
+    def __init__(self, folder: str, segments: Segments, without_end: frozenset[int]) -> None:
         self._folder = folder
         self._without_end = without_end
         self._stamp = 0
         self._due = Due(segments, lambda: self._stamp)
-        self._under_way: Set[int] = set()
-        self._file: Optional[BinaryIO] = None
-        self.counts: List[int] = []
+        self._under_way: set[int] = set()
+        self.counts: list[int] = []
+        self._next_file()
 
     def take(self, mark: Mark, record: bytes) -> None:
         """Writes a mark, as its record has it."""
         if isinstance(mark, Begin):
-            if self._file is None or (self._due.is_due() and not self._under_way):
+            if self._due.is_due() and not self._under_way:
                 self._next_file()
             self._due.begin()
             self.counts[-1] += 1
@@ -52,15 +52,15 @@ class Cutter:
 
     def close(self) -> None:
         """Closes the last file."""
-        if self._file is not None:
-            self._file.close()
+        self._file.close()
 
     def _next_file(self) -> None:
-        self.close()
+        if self.counts:
+            self.close()
         self.counts.append(0)
         self._due.restart()
-        self._file = open(os.path.join(self._folder, segment_name(len(self.counts))), "xb")
-        os.chmod(self._file.fileno(), 0o600)
+        path = os.path.join(self._folder, segment_name(len(self.counts)))
+        self._file: BinaryIO = os.fdopen(os.open(path, os.O_WRONLY | os.O_CREAT | os.O_EXCL, 0o600), "wb")
         self._file.write(FILE_HEADER)
 
 
@@ -72,8 +72,8 @@ def segment_name(number: int) -> str:
 def run(source: str, folder: str, segments: Segments) -> str:
     """Makes the folder with the files, tells what is in them, and answers the summary."""
     if not segments.are_asked:
-        raise Trouble("`cut` needs --segment-calls or --segment-seconds, after how many a new file is to begin; or --calls, "
-                      "which are to be left")
+        raise Trouble("`cut` needs --segment-calls or --segment-seconds, after how many a new file is to begin; or "
+                      "--calls, which are to be left")
     see_plain(source)
     untranslated = Untranslated(source)
     with new_folder(folder) as made:

@@ -5,7 +5,7 @@ from __future__ import annotations
 
 import argparse
 from enum import IntEnum
-from typing import List, NamedTuple
+from typing import NamedTuple
 
 from .. import ttlv
 from ..files import write_file
@@ -46,7 +46,7 @@ def read_row(words: str) -> Row:
     return row
 
 
-def run(unique_names: bool, rows: List[Row], entries: List[bytes], out: str, force: bool) -> str:
+def run(unique_names: bool, rows: list[Row], entries: list[bytes], out: str, force: bool) -> str:
     """Writes the declaration, and answers the line that tells of it."""
     header = ttlv.structure(HEADER, ttlv.integer(VERSION, 1), ttlv.boolean(UNIQUE_NAMES, unique_names))
     records = [

@@ -4,7 +4,7 @@ from __future__ import annotations
 
 import asyncio
 import ssl
-from typing import Iterable, List, Optional
+from typing import Iterable, Optional
 
 from .. import peer, ttlv
 from ..address import Address
@@ -33,7 +33,7 @@ async def newest(server: Address, context: ssl.SSLContext) -> Version:
     raise Trouble(f"the server at {server} does not say which versions it speaks: give one by --kmip, as 1.2")
 
 
-async def _listed(server: Address, context: ssl.SSLContext, asked: Version) -> Optional[List[Version]]:
+async def _listed(server: Address, context: ssl.SSLContext, asked: Version) -> Optional[list[Version]]:
     """The versions that a server lists where it is asked in this one; None where it does not take it."""
     try:
         connection = await peer.connect(server, context)
@@ -58,7 +58,7 @@ def _request(asked: Version) -> bytes:
     return ttlv.structure(Side.CLIENT.message_tag, header, item)
 
 
-def _read(response: bytes, asked: Version) -> Optional[List[Version]]:
+def _read(response: bytes, asked: Version) -> Optional[list[Version]]:
     """The versions in an answer. A server of 1.0 refuses the operation, in its own version."""
     seen = glimpse(response, Side.SERVER)
     if seen is None or seen.version != asked or len(seen.parts) != 1:

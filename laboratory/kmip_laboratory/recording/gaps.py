@@ -3,7 +3,7 @@
 from __future__ import annotations
 
 from collections import defaultdict
-from typing import DefaultDict, Iterable, List, NamedTuple, Tuple
+from typing import DefaultDict, Iterable, NamedTuple
 
 
 class Span(NamedTuple):
@@ -15,10 +15,10 @@ class Span(NamedTuple):
     acknowledged: int
 
 
-def have_gap(spans: Iterable[Tuple[int, bool, Span]]) -> bool:
+def have_gap(spans: Iterable[tuple[int, bool, Span]]) -> bool:
     """Whether bytes are missing in some direction of some stream; each packet comes as its stream, whether a client
     sent it, and its span. Packets that came twice or late are no gap."""
-    sent: DefaultDict[Tuple[int, bool], List[Tuple[int, int]]] = defaultdict(list)
+    sent: DefaultDict[tuple[int, bool], list[tuple[int, int]]] = defaultdict(list)
     for stream, by_client, span in spans:
         sent[stream, by_client].append((span.first, span.behind))
         # What was acknowledged was sent, so it is a gap where it is not in the capture.
@@ -26,7 +26,7 @@ def have_gap(spans: Iterable[Tuple[int, bool, Span]]) -> bool:
     return any(_is_torn(pieces) for pieces in sent.values())
 
 
-def _is_torn(pieces: List[Tuple[int, int]]) -> bool:
+def _is_torn(pieces: list[tuple[int, int]]) -> bool:
     reached = 0
     for first, behind in sorted(pieces):
         if first > reached:

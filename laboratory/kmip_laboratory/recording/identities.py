@@ -8,7 +8,7 @@ import shlex
 import ssl
 import stat
 from pathlib import Path
-from typing import Dict, Iterator, List, NamedTuple
+from typing import Iterator, NamedTuple
 
 from .. import certificate, tls
 from ..trouble import Trouble
@@ -22,9 +22,9 @@ class Identity(NamedTuple):
     key: str
 
 
-def read_identities(words: List[str]) -> List[Identity]:
+def read_identities(words: list[str]) -> list[Identity]:
     """The identities that these words name, each as NAME=CERT,KEY or as a folder of certificates and keys."""
-    found: Dict[str, Identity] = {}
+    found: dict[str, Identity] = {}
     for word in words:
         for identity in _identities(word):
             if identity.name in found:
@@ -33,8 +33,8 @@ def read_identities(words: List[str]) -> List[Identity]:
     return list(found.values())
 
 
-def contexts(identities: List[Identity], authority: str) -> Dict[str, ssl.SSLContext]:
-    """TLS toward the server for each of them. A key that everybody may read is refused: who has it is that client."""
+def contexts(identities: list[Identity], authority: str) -> dict[str, ssl.SSLContext]:
+    """TLS toward the server for each of them. A key that everybody may read is refused: who has it is the client."""
     for identity in identities:
         _see_that_secret(identity.key)
     return {identity.name: tls.toward_server(identity.certificate, identity.key, authority) for identity in identities}
@@ -43,8 +43,8 @@ def contexts(identities: List[Identity], authority: str) -> Dict[str, ssl.SSLCon
 def _see_that_secret(key: str) -> None:
     with contextlib.suppress(OSError):
         if os.stat(key).st_mode & stat.S_IROTH:
-            raise Trouble(f"{key} is a key that everybody on this machine may read: `chmod 600 {shlex.quote(key)}`, and "
-                          "think of whoever has read it")
+            raise Trouble(f"{key} is a key that everybody on this machine may read: `chmod 600 {shlex.quote(key)}`, "
+                          "and think of whoever has read it")
 
 
 def _identities(word: str) -> Iterator[Identity]:

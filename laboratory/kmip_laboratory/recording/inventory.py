@@ -91,7 +91,7 @@ def entries(by_client: Dict[str, Held], with_bytes: bool) -> List[bytes]:
     return found
 
 
-async def _identifiers(questions: Questions, version: Version) -> List[str]:
+async def _identifiers(questions: Questions, version: Version) -> list[str]:
     try:
         payload = await questions.ask(Operation.LOCATE, *([] if version in OF_OLD else [ttlv.structure(ATTRIBUTES)]))
     except Failed as failed:
@@ -127,7 +127,7 @@ async def _entry(questions: Questions, identifier: str, with_bytes: bool) -> Opt
     return ttlv.structure(ENTRY, *parts)
 
 
-def _judged(told: Item) -> List[bytes]:
+def _judged(told: Item) -> list[bytes]:
     """What an entry may have of the attributes that were told."""
     single = [told.first(attribute.tag, attribute.kind) for attribute in SINGLE]
     return [ttlv.spell(item) for item in told.every(NAME.tag, NAME.kind) + [item for item in single if item]]
@@ -170,7 +170,7 @@ def _state(told: Item, now: int) -> int:
     return 3 if deactivation is not None and deactivation <= now else 2
 
 
-async def _key_material(questions: Questions, identifier: str, object_type: int) -> List[bytes]:
+async def _key_material(questions: Questions, identifier: str, object_type: int) -> list[bytes]:
     """The item of the object's bytes; nothing where the server does not show them plainly."""
     try:
         payload = await questions.ask(Operation.GET, ttlv.text(UNIQUE_IDENTIFIER, identifier))

@@ -3,7 +3,7 @@
 from __future__ import annotations
 
 from datetime import datetime, timedelta, timezone
-from typing import Iterator, List, Optional
+from typing import Iterator, Optional
 
 from .. import ttlv
 from ..enumerations import REASONS, STATUSES, number_name
@@ -39,14 +39,14 @@ def lines(path: str, selection: Selection = ALL) -> Iterator[str]:
     untranslated.tell()
 
 
-def _items(call: Call, asked: Optional[Glimpse], answered: Optional[Glimpse]) -> List[str]:
+def _items(call: Call, asked: Optional[Glimpse], answered: Optional[Glimpse]) -> list[str]:
     if asked is None:
         return ["no Request Message"]
     front = [] if str(asked.version) == "2.1" else [f"version {asked.version or 'none'}"]
     if answered and answered.is_refusal:
         operations = ", ".join(operation_name(part.operation or 0) for part in asked.parts)
         return [*front, f"{operations}: refused as a whole {_status(answered.parts[0])}"]
-    answers: List[Optional[Part]] = [*answered.parts] if answered else []
+    answers: list[Optional[Part]] = [*answered.parts] if answered else []
     answers += [None] * (len(asked.parts) - len(answers))
     return front + [_item(call, part, answer) for part, answer in zip(asked.parts, answers)]
 

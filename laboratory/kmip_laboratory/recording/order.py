@@ -2,8 +2,6 @@
 
 from __future__ import annotations
 
-from typing import List
-
 from .. import message, ttlv
 from ..files import write_file
 from ..records import read_file, records
@@ -16,7 +14,7 @@ HEADER = 0x540040
 TURN = 0x540041
 
 
-def guess(path: str) -> List[int]:
+def guess(path: str) -> list[int]:
     """The answered calls by their Time Stamps, and those of the same second by their end marks. It never sets a call
     ahead of one that ended before it began, unless the stamps do."""
     untranslated = Untranslated(path)
@@ -30,13 +28,13 @@ def guess(path: str) -> List[int]:
     return [end.call for end in ends]
 
 
-def witness(calls: List[int]) -> bytes:
+def witness(calls: list[int]) -> bytes:
     """The witness with these calls as turns."""
-    turns = [ttlv.structure(TURN, ttlv.integer(CALL, call)) for call in calls]
-    return ttlv.structure(HEADER, ttlv.integer(VERSION, 1)) + b"".join(turns)
+    records_of_turns = [ttlv.structure(TURN, ttlv.integer(CALL, call)) for call in calls]
+    return ttlv.structure(HEADER, ttlv.integer(VERSION, 1)) + b"".join(records_of_turns)
 
 
-def turns(path: str) -> List[int]:
+def turns(path: str) -> list[int]:
     """The calls of a witness, in the order of its turns."""
     numbers = [record.item.first(CALL, Kind.INTEGER) for record in records(path, read_file(path))
                if record.item.tag == TURN]

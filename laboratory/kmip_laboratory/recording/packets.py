@@ -6,7 +6,7 @@ import os
 import shutil
 import socket
 import subprocess
-from typing import Dict, Iterator, List, NamedTuple, Optional, Set
+from typing import Iterator, NamedTuple, Optional
 
 from ..address import Address
 from ..trouble import Trouble
@@ -34,7 +34,7 @@ class Packet(NamedTuple):
     span: Optional[Span]
 
 
-def read_packets(capture: str, keylog: str, server: Address) -> List[Packet]:
+def read_packets(capture: str, keylog: str, server: Address) -> list[Packet]:
     """The packets of a capture that went to the server or came from it, in their order."""
     for path in (capture, keylog):
         if not os.access(path, os.R_OK):
@@ -47,7 +47,7 @@ def read_packets(capture: str, keylog: str, server: Address) -> List[Packet]:
     return packets
 
 
-def _numbers_of(server: Address) -> Set[str]:
+def _numbers_of(server: Address) -> set[str]:
     try:
         return {str(found[4][0]) for found in socket.getaddrinfo(server.host, server.port, type=socket.SOCK_STREAM)}
     except OSError as error:
@@ -55,7 +55,7 @@ def _numbers_of(server: Address) -> Set[str]:
                       "the packets") from None
 
 
-def _lines(capture: str, keylog: str, server: Address) -> List[str]:
+def _lines(capture: str, keylog: str, server: Address) -> list[str]:
     """A line for each packet of the server's port, its fields between tabs."""
     program = shutil.which("tshark")
     if program is None:
@@ -66,16 +66,16 @@ def _lines(capture: str, keylog: str, server: Address) -> List[str]:
              "-E", "aggregator=,"]
     for field in FIELDS:
         words += ["-e", field]
-    done = subprocess.run(words, capture_output=True, text=True)
+    done = subprocess.run(words, capture_output=True, text=True, check=False)
     if done.returncode != 0:
         said = done.stderr.strip().splitlines() or ["it said nothing"]
         raise Trouble(f"tshark can't read {capture}: {said[-1]}")
     return done.stdout.splitlines()
 
 
-def _packets_of(line: str, server: Address, hosts: Set[str]) -> Iterator[Packet]:
+def _packets_of(line: str, server: Address, hosts: set[str]) -> Iterator[Packet]:
     """The packet of a line, where it is one between a client and the server."""
-    field: Dict[str, str] = dict(zip(FIELDS, line.split("\t")))
+    field: dict[str, str] = dict(zip(FIELDS, line.split("\t")))
     source = _address(field["ip.src"] or field["ipv6.src"], field["tcp.srcport"])
     target = _address(field["ip.dst"] or field["ipv6.dst"], field["tcp.dstport"])
     by_client = target.port == server.port and target.host in hosts
@@ -90,7 +90,7 @@ def _packets_of(line: str, server: Address, hosts: Set[str]) -> Iterator[Packet]
         span=_span(field))
 
 
-def _span(field: Dict[str, str]) -> Optional[Span]:
+def _span(field: dict[str, str]) -> Optional[Span]:
     """The numbers of the packet's bytes, of which the begin and the end of a connection each take one; a packet that
     resets the connection has none that are to be trusted."""
     flags = int(field["tcp.flags"], 0)

@@ -3,7 +3,7 @@
 from __future__ import annotations
 
 import argparse
-from typing import Iterable
+from typing import TYPE_CHECKING, Iterable
 
 from ..outputs import see_apart
 from ..plain import plain
@@ -15,8 +15,11 @@ from . import cut, listing, selection
 from .numbers import add_segment_words
 from .segments import Segments
 
+if TYPE_CHECKING:
+    from ..front import Words
 
-def add(words: argparse._SubParsersAction) -> None:
+
+def add(words: Words) -> None:
     """Adds these words to those of the program."""
     _add_list(words.add_parser("list", help="tell what is in a transcript, call by call"))
     _add_translate(words.add_parser("translate", help="write a transcript of versions 1.0 to 2.0 as one of 2.1"))

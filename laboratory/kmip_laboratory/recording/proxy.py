@@ -9,7 +9,7 @@ import resource
 import signal
 import socket
 import ssl
-from typing import Dict, Optional
+from typing import Optional
 
 from .. import peer, tls
 from ..address import Address
@@ -27,7 +27,7 @@ class Proxy:
 
     def __init__(self, way: Way) -> None:
         self._way = way
-        self._connections: Dict[asyncio.Task, Connection] = {}
+        self._connections: dict[asyncio.Task[None], Connection] = {}
         self._stop = asyncio.Event()
         self._failure: Optional[BaseException] = None
 
@@ -71,7 +71,7 @@ class Proxy:
                 left = f"; call {connection.open_call} stays open"
                 self._way.recording.give_up(connection.open_call)
             say(f"{connection.name}: {trouble}{left}")
-        except Exception as failure:
+        except Exception as failure:  # pylint: disable=broad-exception-caught
             self._failure = self._failure or failure
             self.stop()
 

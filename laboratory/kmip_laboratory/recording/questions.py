@@ -4,7 +4,7 @@ from __future__ import annotations
 
 import ssl
 from types import TracebackType
-from typing import Optional, Type
+from typing import Optional
 
 from .. import message, peer, ttlv
 from ..address import Address
@@ -53,17 +53,24 @@ class Questions:
                           "and --server-key") from None
         return self
 
-    async def __aexit__(self, kind: Optional[Type[BaseException]], error: Optional[BaseException],
+    async def __aexit__(self, kind: Optional[type[BaseException]], error: Optional[BaseException],
                         trace: Optional[TracebackType]) -> None:
-        await self._peer.close()
+        await self._connected.close()
+
+    @property
+    def _connected(self) -> Peer:
+        """The server, which is there within the `async with`."""
+        if self._peer is None:
+            raise ValueError("a question ahead of the connection")
+        return self._peer
 
     async def ask(self, operation: Operation, *payload: bytes) -> Item:
         """The Response Payload of a successful answer."""
         request = self._request(operation, payload)
         self._translator.message(self._asked + 1, Side.CLIENT, request)
         try:
-            await self._peer.send(request, SECONDS_TO_ASK)
-            received = await self._peer.receive()
+            await self._connected.send(request, SECONDS_TO_ASK)
+            received = await self._connected.receive()
         except ConnectionTrouble as trouble:
             raise Trouble(f"{self._server} could not be asked: {trouble}") from None
         if received is None:
@@ -84,7 +91,7 @@ class Questions:
 def _payload_of(response: Item) -> Item:
     item = response.first(BATCH_ITEM, Kind.STRUCTURE)
     status = item.first(RESULT_STATUS, Kind.ENUMERATION) if item else None
-    if status is None:
+    if item is None or status is None:
         raise Failed("the answer has no Result Status")
     if status.value != SUCCESS:
         reason = item.first(RESULT_REASON, Kind.ENUMERATION)

@@ -3,7 +3,7 @@
 from __future__ import annotations
 
 import time
-from typing import Callable, FrozenSet, List, Optional, Set
+from typing import Callable, Optional
 
 from ..glimpse import Glimpse, glimpse
 from ..message import Side
@@ -19,7 +19,7 @@ class Recording:
     """Marks calls, counts them, and begins a new file where one is due and no call is under way."""
 
     def __init__(self, out: str, minor_1: bool = False, segments: Segments = ONE_FILE,
-                 clock: Callable[[], float] = time.monotonic, without_end: FrozenSet[int] = frozenset()) -> None:
+                 clock: Callable[[], float] = time.monotonic, without_end: frozenset[int] = frozenset()) -> None:
         """`without_end` has the calls of which it is known that they will not end."""
         self._out = out
         self._minor_1 = minor_1
@@ -28,8 +28,8 @@ class Recording:
         self._without_end = without_end
         self.when_quiet: Callable[[], None] = lambda: None
         self._number = 1
-        self._open: Set[int] = set()
-        self._versions: Set[Version] = set()
+        self._open: set[int] = set()
+        self._versions: set[Version] = set()
         self._translator = translation.Translator()
         self.account = Account()
         self._writer = TranscriptWriter(self.path)
@@ -75,7 +75,7 @@ class Recording:
         """The line that tells what was recorded, of all files together."""
         return self._writer.summary()
 
-    def account_lines(self) -> List[str]:
+    def account_lines(self) -> list[str]:
         """The account of it, as lines for a person."""
         return self.account.lines()
 

@@ -5,7 +5,7 @@ from __future__ import annotations
 import asyncio
 import re
 from pathlib import Path
-from typing import Callable, List, NamedTuple, Optional
+from typing import Callable, NamedTuple, Optional
 
 from ..trouble import say
 
@@ -62,7 +62,7 @@ def segment_path(out: str, number: int) -> str:
     return str(path.with_name(f"{path.stem}-{number:04d}{path.suffix}"))
 
 
-def paths_of(out: str, segments: Segments) -> List[str]:
+def paths_of(out: str, segments: Segments) -> list[str]:
     """The file that is written to; of several the first, and those that stand under the names of others already."""
     if not segments.are_asked:
         return [out]

@@ -4,7 +4,7 @@ from __future__ import annotations
 
 import argparse
 import re
-from typing import List, NamedTuple, Optional
+from typing import NamedTuple, Optional
 
 from ..glimpse import Glimpse, Part, identifiers
 from ..operations import Operation, operation_name
@@ -25,12 +25,12 @@ class Range(NamedTuple):
 
 
 class Selection(NamedTuple):
-    """The calls of one of these clients, that name one of these objects, and have one of these operations; no names mean
-    all."""
+    """The calls of one of these clients, that name one of these objects, and have one of these operations; no names
+    mean all."""
 
-    clients: List[str]
-    objects: List[str]
-    operations: List[int]
+    clients: list[str]
+    objects: list[str]
+    operations: list[int]
 
     def has(self, call: Call, asked: Optional[Glimpse], answered: Optional[Glimpse]) -> bool:
         """Whether a call is meant. With `--as` the client's name stands ahead of its connection."""
@@ -42,7 +42,7 @@ class Selection(NamedTuple):
 ALL = Selection([], [], [])
 
 
-def _parts(seen: Optional[Glimpse]) -> List[Part]:
+def _parts(seen: Optional[Glimpse]) -> list[Part]:
     return seen.parts if seen else []
 
 

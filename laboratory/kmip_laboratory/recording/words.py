@@ -6,7 +6,7 @@ import argparse
 import asyncio
 import socket
 import ssl
-from typing import Dict, List, Optional
+from typing import Optional
 
 from .. import tls
 from ..address import read_address
@@ -30,7 +30,7 @@ MINOR_NOTE = ("versions 1.0 to 2.0 are written as 2.1 in the transcript: what is
               "said")
 
 
-def main(arguments: Optional[List[str]] = None) -> int:
+def main(arguments: Optional[list[str]] = None) -> int:
     """Does what the words say, and answers the status."""
     return run_or_help(_parser(), arguments)
 
@@ -62,8 +62,8 @@ def _add_proxy(word: argparse.ArgumentParser) -> None:
                       "NAME.key; may be repeated")
     word.add_argument("--answer-within", type=read_seconds, default=10, metavar="SECONDS", help="how long the server's "
                       "answer is waited for when the client broke off (10)")
-    word.add_argument("--idle", type=read_seconds, default=3600, metavar="SECONDS", help="end the connection of a client "
-                      "that sends no request for so long, or does not take its answer (3600)")
+    word.add_argument("--idle", type=read_seconds, default=3600, metavar="SECONDS", help="end the connection of a "
+                      "client that sends no request for so long, or does not take its answer (3600)")
     word.add_argument("--connections", type=read_count, default=100, metavar="N", help="how many connections a client "
                       "may have at once (100)")
     word.add_argument("--hold", type=read_milliseconds, default=50, metavar="MS", help="how long new requests may be "
@@ -137,7 +137,7 @@ def _proxy(words: argparse.Namespace) -> None:
 
 
 async def _record(words: argparse.Namespace, recording: Recording, toward_clients: ssl.SSLContext,
-                  toward_server: ssl.SSLContext, clients: Dict[str, ssl.SSLContext], listener: socket.socket) -> None:
+                  toward_server: ssl.SSLContext, clients: dict[str, ssl.SSLContext], listener: socket.socket) -> None:
     gate = Gate(recording.wants_quiet, words.hold / 1000)
     recording.when_quiet = gate.look
     await proxy.run(Way(words.server, toward_clients, toward_server, recording, words.answer_within, words.idle,
@@ -167,7 +167,7 @@ def _declare(words: argparse.Namespace) -> None:
     see_apart([words.out], [words.server_cert, words.server_key, words.server_ca,
                             *(path for each in shown for path in (each.certificate, each.key))])
     see_that_free(words.out, words.force, OUT_HINT)
-    entries: List[bytes] = []
+    entries: list[bytes] = []
     if words.server:
         if words.version != JUDGED:
             say(f"the server is asked in version {words.version}")

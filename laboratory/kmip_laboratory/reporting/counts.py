@@ -3,7 +3,7 @@
 from __future__ import annotations
 
 from collections import Counter
-from typing import List, NamedTuple, Tuple
+from typing import NamedTuple
 
 from .figures import KINDS
 from .judging import Judged, came_to, moment, operation_name, stamps
@@ -14,18 +14,18 @@ class Cross(NamedTuple):
     """A table of counts: what it is of, the outcomes that there are, and for each name how many had each."""
 
     of: str
-    ends: List[str]
-    rows: List[Tuple[str, List[int]]]
+    ends: list[str]
+    rows: list[tuple[str, list[int]]]
 
 
-def crosses(judged: Judged) -> List[Cross]:
+def crosses(judged: Judged) -> list[Cross]:
     """Items by operation, and calls by client; each by what the call came to."""
     items = Counter((operation_name(piece.operation), came_to(call)) for call in judged.calls for piece in call.pieces)
     calls = Counter((call.client, came_to(call)) for call in judged.calls)
     return [_cross("Operation", items), _cross("Client", calls)]
 
 
-def _cross(of: str, counts: Counter[Tuple[str, str]]) -> Cross:
+def _cross(of: str, counts: Counter[tuple[str, str]]) -> Cross:
     ends = [word for word in KINDS if any(end == word for _, end in counts)]
     names = sorted({name for name, _ in counts})
     return Cross(of, ends, [(name, [counts[(name, end)] for end in ends]) for name in names])
@@ -45,6 +45,6 @@ def _many(count: int, what: str) -> str:
     return f"{count:,} {what}" if count == 1 else f"{count:,} {what}s"
 
 
-def by_verdict(recordings: List[Judged]) -> List[Tuple[str, int]]:
+def by_verdict(recordings: list[Judged]) -> list[tuple[str, int]]:
     """The verdicts in short, and how many recordings have each; the most frequent first."""
     return Counter(in_short(judged.verdict) for judged in recordings).most_common()

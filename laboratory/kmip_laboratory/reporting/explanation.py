@@ -3,7 +3,7 @@
 from __future__ import annotations
 
 import re
-from typing import Dict, Iterator, List, NamedTuple, Optional, Sequence, Set, Tuple
+from typing import Iterator, NamedTuple, Optional, Sequence
 
 # What is quoted is the text of a client or of a server, and names nothing.
 NAMED = re.compile(r'"[^\n]*"|\bcalls(?P<calls>(?: \d+)+)|\b(?P<what>call|turn) (?P<number>\d+)\b')
@@ -39,10 +39,10 @@ class Story(NamedTuple):
     identifier: str
     is_declared: bool
     left_out: int
-    events: List[Event]
+    events: list[Event]
 
 
-def mentions(text: str, calls: Set[int], turns: Dict[int, int]) -> Iterator[Mention]:
+def mentions(text: str, calls: set[int], turns: dict[int, int]) -> Iterator[Mention]:
     """The calls and turns that a text of the auditor's names, of those that are there."""
     of_turn = {turn: call for call, turn in turns.items()}
     for found in NAMED.finditer(text):
@@ -67,7 +67,7 @@ def story(lines: Sequence[str]) -> Optional[Story]:
     return Story(told["identifier"], told["declared"] == "declared", left_out, events)
 
 
-def split(text: str, places: Sequence[Mention]) -> Iterator[Tuple[str, Optional[int]]]:
+def split(text: str, places: Sequence[Mention]) -> Iterator[tuple[str, Optional[int]]]:
     """The pieces of a text, each with the call to which it leads."""
     told = 0
     for place in places:

@@ -3,7 +3,6 @@
 from __future__ import annotations
 
 import re
-from typing import Dict, List, Tuple
 
 from ..calls import Call
 from ..plain import plain
@@ -12,15 +11,15 @@ from .judging import Judged, came_to, operations
 KINDS = ["success", "failed", "refused", "undone", "open"]
 
 
-def figures(judged: Judged, recording: int, lines: Dict[str, int]) -> Dict[str, object]:
+def figures(judged: Judged, recording: int, lines: dict[str, int]) -> dict[str, object]:
     """The calls by their begin marks; the lines of messages as numbers in a table that all recordings share."""
     calls = judged.calls
     marks = {place: rank for rank, place in enumerate(sorted(_places(calls)))}
     lanes, lane_of = _lanes(calls)
     clients = sorted({call.client for call in calls}, key=_natural)
     does = sorted(set(map(operations, calls)))
-    numbers = [lines.setdefault(line, len(lines)) for line in judged.messages.lines]
-    shown = [judged.messages.of_call.get(call.number, ([], [])) for call in calls]
+    numbers = [lines.setdefault(line, len(lines)) for line in judged.read.messages.lines]
+    shown = [judged.read.messages.of_call.get(call.number, ([], [])) for call in calls]
     return {
         "recording": recording, "fault": judged.verdict.call, "story": judged.named(),
         "marks": len(marks), "clients": list(map(plain, clients)),
@@ -35,27 +34,27 @@ def figures(judged: Judged, recording: int, lines: Dict[str, int]) -> Dict[str, 
     }
 
 
-def _natural(name: str) -> List[Tuple[str, int]]:
+def _natural(name: str) -> list[tuple[str, int]]:
     """By which names are sorted: their numbers by what they count."""
     return [(words, int(digits) if digits.isdecimal() else 0) for words, digits in re.findall(r"(\D*)(\d*)", name)]
 
 
-def _places(calls: List[Call]) -> List[int]:
+def _places(calls: list[Call]) -> list[int]:
     return [call.begin for call in calls] + [call.end for call in calls if call.end is not None]
 
 
-def _lanes(calls: List[Call]) -> Tuple[List[str], Dict[int, int]]:
+def _lanes(calls: list[Call]) -> tuple[list[str], dict[int, int]]:
     """Rows for each client, as many as it had calls at once, and the row of each call."""
-    free: Dict[str, List[int]] = {}
-    within: Dict[int, int] = {}
+    free: dict[str, list[int]] = {}
+    within: dict[int, int] = {}
     for call in calls:
         rows = free.setdefault(call.client, [])
         row = next((row for row, until in enumerate(rows) if until < call.begin), len(rows))
         until = 1 << 62 if call.end is None else call.end
         rows[row:row + 1] = [until]
         within[call.number] = row
-    lanes: List[str] = []
-    first: Dict[str, int] = {}
+    lanes: list[str] = []
+    first: dict[str, int] = {}
     for client in sorted(free, key=_natural):
         first[client] = len(lanes)
         lanes += [client] * len(free[client])

@@ -8,7 +8,7 @@ import tempfile
 import time
 from datetime import datetime, timedelta, timezone
 from pathlib import Path
-from typing import Dict, List, NamedTuple, Optional, Tuple
+from typing import NamedTuple, Optional
 
 from ..auditor import Auditor
 from ..calls import Call, Status, read_transcript
@@ -33,26 +33,41 @@ TAKEN = "taken: "
 EPOCH = datetime(1970, 1, 1, tzinfo=timezone.utc)
 
 
+class Read(NamedTuple):
+    """The calls of a recording, the turn of each in the order that was judged or found, and their messages."""
+
+    calls: list[Call]
+    turns: dict[int, int]
+    messages: Messages
+
+
 class Judged(NamedTuple):
-    """A recording: its folder, the verdict with the words of the command that repeats it, the auditor's version and what
-    it told of the files, its files with their digests, its calls, and the turn of each call in the order that was judged
-    or found; and of an order that is refused what a search for others says, where that was asked."""
+    """A recording: its folder, the verdict with the words of the command that repeats it, what the auditor told of the
+    files, its files with their digests, and what was read of it; and of an order that is refused what a search for
+    others says, where that was asked."""
 
     folder: str
     verdict: Verdict
-    words: List[str]
-    version: str
-    told: Tuple[Digest, ...]
-    files: List[Tuple[str, int, str]]
-    calls: List[Call]
-    turns: Dict[int, int]
-    messages: Messages
+    words: list[str]
+    account: Account
+    files: list[tuple[str, int, str]]
+    read: Read
     seconds: float
     searched: Optional[Verdict] = None
 
+    @property
+    def calls(self) -> list[Call]:
+        """The calls, by their begin marks."""
+        return self.read.calls
+
+    @property
+    def turns(self) -> dict[int, int]:
+        """The turn of each call in the order that was judged or found."""
+        return self.read.turns
+
     def has_the_auditors_digests(self) -> bool:
         """Whether the auditor told the digest of each file."""
-        told = [judged for judged in self.told if judged.sha256 is not None]
+        told = [judged for judged in self.account.files if judged.sha256 is not None]
         return len(told) >= len(self.files)
 
     @property
@@ -76,11 +91,11 @@ class Judged(NamedTuple):
         """The call that the verdict names."""
         return next((call for call in self.calls if call.number == self.verdict.call), None)
 
-    def mentions(self, text: str) -> List[Mention]:
+    def mentions(self, text: str) -> list[Mention]:
         """The places in a text of the auditor's that lead to calls."""
         return list(mentions(text, {call.number for call in self.calls}, self.turns))
 
-    def named(self) -> List[int]:
+    def named(self) -> list[int]:
         """The calls that stand out beside the refused one: those that the explanation names, or else the story's."""
         if self.verdict.explanation:
             lines = [line for line in self.verdict.explanation if not line.startswith(TAKEN)]
@@ -91,7 +106,7 @@ class Judged(NamedTuple):
         """What those have in common, for a legend."""
         return "named by the explanation" if self.verdict.explanation else "names the same object"
 
-    def story(self) -> List[Call]:
+    def story(self) -> list[Call]:
         """The calls that name an object of the refused call, up to it: by turns, or else by begin marks."""
         refused = self.refused()
         if refused is None:
@@ -101,13 +116,13 @@ class Judged(NamedTuple):
         return sorted((call for call in self.calls if identifiers(call) & objects and self._rank(call) <= last),
                       key=self._rank)
 
-    def _rank(self, call: Call) -> Tuple[int, int]:
+    def _rank(self, call: Call) -> tuple[int, int]:
         return (self.turns.get(call.number, len(self.turns) + 1), call.begin)
 
 
-def find(paths: List[str]) -> List[str]:
+def find(paths: list[str]) -> list[str]:
     """The folders with a transcript at or below these, in order."""
-    found: List[str] = []
+    found: list[str] = []
     for path in paths:
         below = sorted(str(file.parent) for file in Path(path).rglob(TRANSCRIPT))
         if not below:
@@ -133,22 +148,21 @@ class Asking(NamedTuple):
 def judge(folder: str, asking: Asking) -> Judged:
     """Asks the auditor: a check where there is a witness, else a search; and of a witness that is refused a search
     too, where other orders are asked for."""
-    auditor, budget = Auditor(asking.program, asking.seconds), asking.budget
+    auditor = Auditor(asking.program, asking.seconds)
     paths = [os.path.join(folder, name) for name in (TRANSCRIPT, DECLARATION, WITNESS)]
     files = [_digest(path) for path in paths if path != paths[2] or os.path.exists(path)]
     started = time.monotonic()
     with tempfile.TemporaryDirectory(prefix="kmip_report-") as made:
         transcript, declaration, witness = _readable_names(folder, made)
-        more = ["--budget", str(budget)] if len(files) < 3 and budget is not None else []
-        if len(files) == 3:
-            verdict = auditor.explained("check", transcript, declaration, witness)
-        else:
-            witness = os.path.join(made, WITNESS)
-            verdict = auditor.explained("search", transcript, declaration, witness, *more, "--quiet")
+        is_checked = len(files) == len(paths)
+        witness = witness if is_checked else os.path.join(made, WITNESS)
+        more = ["--budget", str(asking.budget)] if not is_checked and asking.budget is not None else []
+        verdict = auditor.explained("check" if is_checked else "search", transcript, declaration, witness, *more,
+                                    *([] if is_checked else ["--quiet"]))
         more += ["--explain"] if verdict.explanation else []
-        searched = (auditor.search(transcript, declaration, os.path.join(made, "other"), budget)
+        searched = (auditor.search(transcript, declaration, os.path.join(made, "other"), asking.budget)
                     if asking.others and verdict.outcome is Outcome.NO else None)
-        taken = time.monotonic() - started
+        seconds = time.monotonic() - started
         account = _account(auditor, transcript, declaration, witness)
         _see_that_they_are_the_judged(files, account.files)
         turns = _turns(witness) if os.path.exists(witness) and verdict.outcome is not Outcome.MALFORMED else {}
@@ -159,7 +173,15 @@ def judge(folder: str, asking: Asking) -> Judged:
                   turns, messages, taken, searched and searched._replace(decided=_decides(searched, budget, calls)))
 
 
-def _readable_names(folder: str, made: str) -> List[str]:
+def _read(auditor: Auditor, verdict: Verdict, transcript: str, witness: str) -> Read:
+    """What can be read of a recording that has this verdict."""
+    order = _turns(witness) if os.path.exists(witness) and verdict.outcome is not Outcome.MALFORMED else {}
+    if verdict.outcome in (Outcome.MALFORMED, Outcome.DEVICE, Outcome.MEMORY):
+        return Read([], order, Messages([], {}))
+    return Read(read_transcript(transcript).calls, order, read_messages(auditor, transcript))
+
+
+def _readable_names(folder: str, made: str) -> list[str]:
     """The three files by names that the auditor takes: where that of the folder is no UTF-8, behind a link."""
     if shown(folder) != folder:
         link = os.path.join(made, "recording")
@@ -168,7 +190,7 @@ def _readable_names(folder: str, made: str) -> List[str]:
     return [os.path.join(folder, name) for name in (TRANSCRIPT, DECLARATION, WITNESS)]
 
 
-def _words(folder: str, is_checked: bool, more: List[str]) -> List[str]:
+def _words(folder: str, is_checked: bool, more: list[str]) -> list[str]:
     """The words of the command that repeats the verdict, as bash takes them."""
     ahead, within = ([], folder) if shown(folder) == folder else (["cd", quoted(folder), "&&"], "")
     names = [os.path.join(within, name) for name in (TRANSCRIPT, DECLARATION)]
@@ -188,26 +210,26 @@ def _account(auditor: Auditor, transcript: str, declaration: str, witness: str) 
     return auditor.account(transcript, declaration, witness) or Account(auditor.version(), ())
 
 
-def _decides(searched: Verdict, budget: Optional[int], calls: List[Call]) -> bool:
+def _decides(searched: Verdict, budget: Optional[int], calls: list[Call]) -> bool:
     """Whether this search tells whether an order explains the calls."""
     usual = USUAL_BUDGET if budget is None else budget
     return searched.outcome is Outcome.YES or (searched.decides(usual) and all(map(is_plain, calls)))
 
 
-def _see_that_they_are_the_judged(files: List[Tuple[str, int, str]], told: Tuple[Digest, ...]) -> None:
+def _see_that_they_are_the_judged(files: list[tuple[str, int, str]], told: tuple[Digest, ...]) -> None:
     """Holds the digests that the auditor told against those of the files."""
     for (path, length, sha256), judged in zip(files, told):
         if judged.sha256 is not None and (length, sha256) != (judged.length, judged.sha256):
-            raise Trouble(f"{shown(path)} is not what was judged: it has changed since, or the auditor is not one; make "
-                          "the report again")
+            raise Trouble(f"{shown(path)} is not what was judged: it has changed since, or the auditor is not one; "
+                          "make the report again")
 
 
-def _digest(path: str) -> Tuple[str, int, str]:
+def _digest(path: str) -> tuple[str, int, str]:
     data = read_file(path)
     return path, len(data), hashlib.sha256(data).hexdigest()
 
 
-def _turns(path: str) -> Dict[int, int]:
+def _turns(path: str) -> dict[int, int]:
     """The turn of each call in a witness."""
     return {call: turn for turn, call in enumerate(turns(path), 1)}
 
@@ -219,7 +241,7 @@ def identifiers(call: Call) -> frozenset[str]:
 
 def operations(call: Call) -> str:
     """What a call asks, in words."""
-    told: Dict[str, int] = {}
+    told: dict[str, int] = {}
     for piece in call.pieces:
         name = operation_name(piece.operation)
         told[name] = told.get(name, 0) + 1
@@ -260,6 +282,6 @@ def moment_of_making(told: Optional[str]) -> datetime:
     return EPOCH + timedelta(seconds=int(told)) if told and told.isdecimal() else datetime.now(timezone.utc)
 
 
-def stamps(calls: List[Call]) -> List[int]:
+def stamps(calls: list[Call]) -> list[int]:
     """The Time Stamps that are there."""
     return [call.stamp for call in calls if call.stamp is not None]

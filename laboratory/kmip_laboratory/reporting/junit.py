@@ -13,7 +13,7 @@ from .reasons import in_short, in_words
 JUDGED = (Outcome.YES, Outcome.NO, Outcome.GAVE_UP)
 
 
-def told(recordings: List[Judged]) -> str:
+def told(recordings: list[Judged]) -> str:
     """The XML: a yes passes, a no or a giving up fails, and what can't be judged is an error."""
     failures = sum(judged.verdict.outcome in JUDGED[1:] for judged in recordings)
     errors = sum(judged.verdict.outcome not in JUDGED for judged in recordings)

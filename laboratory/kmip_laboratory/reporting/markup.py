@@ -6,7 +6,7 @@ import base64
 import hashlib
 import html
 import json
-from typing import List, Union
+from typing import Union
 
 from ..plain import plain, plain_lines
 
@@ -34,14 +34,14 @@ def _name(name: str) -> str:
     return "class" if name == "of" else name.replace("_", "-")
 
 
-def together(parts: List[Markup]) -> Markup:
+def together(parts: list[Markup]) -> Markup:
     """Elements one behind the other."""
     return Markup("\n".join(parts))
 
 
-def table(heads: List[str], rows: List[List[Part]], numbers: int = 0) -> Markup:
+def table(heads: list[str], rows: list[list[Part]], numbers: int = 0) -> Markup:
     """A table, of which the last columns, as many as are said, hold numbers."""
-    def cells(tag: str, row: List[Part]) -> List[Markup]:
+    def cells(tag: str, row: list[Part]) -> list[Markup]:
         first = len(row) - numbers
         return [element(tag, part, of="number" if place >= first else None, scope="col" if tag == "th" else None)
                 for place, part in enumerate(row)]

@@ -23,8 +23,8 @@ WITH_LENGTH = (Kind.BYTES, Kind.BIG_INTEGER)
 class Messages(NamedTuple):
     """Each line once, and of each call the numbers of the lines of its request and of its response."""
 
-    lines: List[str]
-    of_call: Dict[int, Tuple[List[int], List[int]]]
+    lines: list[str]
+    of_call: dict[int, tuple[list[int], list[int]]]
 
 
 class Hiding:

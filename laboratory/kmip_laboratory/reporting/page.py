@@ -4,7 +4,7 @@ from __future__ import annotations
 
 from datetime import datetime
 from pathlib import Path
-from typing import Dict, List, Optional, Sequence
+from typing import Optional, Sequence
 
 from ..paths import shown
 from ..plain import plain
@@ -30,11 +30,11 @@ HOLDS = {Outcome.NO: "Each line is a claim of the auditor's, and holds in this o
 STRIPES = {"failed": [10], "refused": [2, 10], "undone": [2]}
 
 
-def page(recordings: List[Judged], made: datetime) -> str:
+def page(recordings: list[Judged], made: datetime) -> str:
     """The page of these recordings."""
     style = _source("style.css")
     scripts = [_source("timeline.js"), _source("page.js")]
-    lines: Dict[str, int] = {}
+    lines: dict[str, int] = {}
     told = [figures(judged, number, lines) for number, judged in enumerate(recordings, 1)]
     policy = (f"default-src 'none'; style-src {digest(style)}; script-src " + " ".join(map(digest, scripts))
               + "; base-uri 'none'; form-action 'none'")
@@ -57,24 +57,24 @@ def _source(name: str) -> str:
     return (SOURCES / name).read_text(encoding="utf-8")
 
 
-def _title(recordings: List[Judged]) -> str:
+def _title(recordings: list[Judged]) -> str:
     if len(recordings) == 1:
         return f"Audit of {shown(recordings[0].folder)}"
     return f"Audit of {len(recordings)} recordings"
 
 
-def _made(recordings: List[Judged], made: datetime) -> Markup:
-    versions = ", ".join(sorted({judged.version for judged in recordings}))
+def _made(recordings: list[Judged], made: datetime) -> Markup:
+    versions = ", ".join(sorted({judged.account.version for judged in recordings}))
     when = made.strftime("%Y-%m-%dT%H:%M:%SZ")
     return element("p", f"Made {when} by kmip_report, from what {versions} printed.", of="soft")
 
 
-def _overview(recordings: List[Judged]) -> Markup:
+def _overview(recordings: list[Judged]) -> Markup:
     """A line for each recording, and what they have in common."""
-    rows: List[List[Part]] = [
-        [element("a", shown(judged.folder), href=f"#recording-{number}"), in_short(judged.verdict), str(len(judged.calls)),
-         f"{judged.seconds:.1f}"] for number, judged in enumerate(recordings, 1)]
-    reasons: List[List[Part]] = [[reason, str(count)] for reason, count in by_verdict(recordings)]
+    rows: list[list[Part]] = [
+        [element("a", shown(judged.folder), href=f"#recording-{number}"), in_short(judged.verdict),
+         str(len(judged.calls)), f"{judged.seconds:.1f}"] for number, judged in enumerate(recordings, 1)]
+    reasons: list[list[Part]] = [[reason, str(count)] for reason, count in by_verdict(recordings)]
     return together([
         element("h2", "Verdicts"), table(["Recording", "Verdict", "Calls", "Seconds to judge"], rows, 2),
         element("h2", "By verdict"), table(["Verdict", "Recordings"], reasons, 1)])
@@ -103,7 +103,7 @@ def _recording(judged: Judged, number: int, heading: str) -> Markup:
     return element("section", *parts, of="recording", id=f"recording-{number}")
 
 
-def _linked(judged: Judged, lines: Sequence[str]) -> List[Part]:
+def _linked(judged: Judged, lines: Sequence[str]) -> list[Part]:
     """Lines of the auditor's, in which each call and each turn of the recording leads to its bar."""
     text = "\n".join(lines)
     return [words if call is None else _link(call, words) for words, call in split(text, judged.mentions(text))]
@@ -155,7 +155,7 @@ def _message(name: str) -> Markup:
     return element("div", element("h4", name), element("pre", "", tabindex=0, role="region", aria_label=name))
 
 
-def _sample(kind: str) -> List[Markup]:
+def _sample(kind: str) -> list[Markup]:
     """A bar of this kind, for the legend."""
     stripes = [element("path", of="stripe", d=f"M0 {height}h26") for height in STRIPES.get(kind, [])]
     return [element("rect", of=kind, width=26, height=12), *stripes]
@@ -164,7 +164,7 @@ def _sample(kind: str) -> List[Markup]:
 def _told_story(judged: Judged, told: Story) -> Markup:
     """The story of the refused item's object, as the auditor tells it."""
     clients = {call.number: call.client for call in judged.calls}
-    rows: List[List[Part]] = [
+    rows: list[list[Part]] = [
         [_link(event.call), clients.get(event.call, ""), event.operation + (", behind the refused item" if event.later
                                                                             else ""),
          event.date, event.item, event.turn] for event in told.events]
@@ -180,14 +180,14 @@ def _told_story(judged: Judged, told: Story) -> Markup:
 
 def _story(judged: Judged) -> Markup:
     """The newest calls that name an object of the refused call."""
-    story = judged.story()
-    if len(story) < 2:
+    named = judged.story()
+    if len(named) < 2:
         return Markup("")
-    rows: List[List[Part]] = [
+    rows: list[list[Part]] = [
         [_link(call.number), call.client, operations(call), came_to(call),
          "" if call.stamp is None else moment(call.stamp), str(judged.turns.get(call.number, ""))]
-        for call in story[-MOST_OF_STORY:]]
-    left_out = len(story) - len(rows)
+        for call in named[-MOST_OF_STORY:]]
+    left_out = len(named) - len(rows)
     told = f" The {left_out} before these are left out." if left_out else ""
     return together([
         element("h3", "The object's story"),
@@ -204,7 +204,8 @@ def _counts(judged: Judged) -> Markup:
 
 
 def _evidence(judged: Judged) -> Markup:
-    rows: List[List[Part]] = [[shown(path), element("code", sha256), f"{length:,}"] for path, length, sha256 in judged.files]
+    rows: list[list[Part]] = [[shown(path), element("code", sha256), f"{length:,}"]
+                              for path, length, sha256 in judged.files]
     read = "as the auditor judged it" if judged.has_the_auditors_digests() else "as the report read it"
     return together([
         table(["File", f"SHA-256, {read}", "Bytes"], rows, 1),

@@ -2,11 +2,9 @@
 
 from __future__ import annotations
 
-from typing import Dict
-
 from ..verdicts import Outcome, Verdict
 
-WHY: Dict[int, str] = {
+WHY: dict[int, str] = {
     1: "a call that ended before this one began has not been done yet in this order",
     2: "its Time Stamp is less than that of the call before it",
     3: "an answer of the batch is missing, is one too many, or has a status that the batch excludes there",
@@ -24,7 +22,7 @@ WHY: Dict[int, str] = {
     15: "the reason of the refusal has no cause",
     16: "the answer repeats another identifier, type or batch item ID than it should",
 }
-MEANING: Dict[Outcome, str] = {
+MEANING: dict[Outcome, str] = {
     Outcome.YES: "Explained: the answers can all be explained by the calls having been done one at a time.",
     Outcome.NO: "Not possible in this order: an answer can't be explained where the witness puts it.",
     Outcome.OUTSIDE: "Not judged: a message is outside of what the auditor judges.",
@@ -39,8 +37,8 @@ PREMISES = (
     "A yes says that some inventory fits the declaration, and that doing one call after the other from there, by the "
     "rules of the profile and in this order, gives every recorded answer. It does not say that the server really took "
     "this order, that it held what is declared, or that the recorder's marks are right. A no speaks of this order "
-    "alone; where a search gives up, it has decided that there is no order only if it had steps left, and every call has "
-    "ended, has its items in order and waits for no payload.")
+    "alone; where a search gives up, it has decided that there is no order only if it had steps left, and every call "
+    "has ended, has its items in order and waits for no payload.")
 
 
 def in_words(verdict: Verdict) -> str:

@@ -4,7 +4,7 @@ from __future__ import annotations
 
 import textwrap
 from datetime import datetime
-from typing import Iterator, List, Sequence
+from typing import Iterator, Sequence
 
 from ..calls import Call
 from ..paths import shown
@@ -22,14 +22,14 @@ SIGNS = {"success": "=", "failed": "x", "refused": "r", "undone": "u", "open": "
 DEEPER = "    "
 
 
-def told(recordings: List[Judged], made: datetime) -> str:
+def told(recordings: list[Judged], made: datetime) -> str:
     """The report of these recordings, of many a line for each first, and at the end what a verdict means."""
     parts = [_overview(recordings)] if len(recordings) > 1 else []
     parts += [_recording(judged, made) for judged in recordings] + [_filled(PREMISES)]
     return "\n\n".join("\n".join(map(plain, lines)) for lines in parts)
 
 
-def _overview(recordings: List[Judged]) -> List[str]:
+def _overview(recordings: list[Judged]) -> list[str]:
     lines = ["Calls  Recording: verdict"]
     for judged in recordings:
         lines += _broken(f"{len(judged.calls):>5}  {shown(judged.folder)}: {in_short(judged.verdict)}")
@@ -37,10 +37,10 @@ def _overview(recordings: List[Judged]) -> List[str]:
     return [*lines, "", "By verdict", *counts]
 
 
-def _recording(judged: Judged, made: datetime) -> List[str]:
+def _recording(judged: Judged, made: datetime) -> list[str]:
     """The report of one recording."""
-    lines = [*_broken(shown(judged.folder)),
-             *_filled(f"Made {made:%Y-%m-%dT%H:%M:%SZ} by kmip_report, from what {judged.version} printed."), ""]
+    by_whom = f"Made {made:%Y-%m-%dT%H:%M:%SZ} by kmip_report, from what {judged.account.version} printed."
+    lines = [*_broken(shown(judged.folder)), *_filled(by_whom), ""]
     for line in (*judged.verdict.lines, *judged.verdict.explanation):
         lines += _broken(line)
     lines += ["", *_filled(in_words(judged.verdict))]
@@ -54,7 +54,7 @@ def _recording(judged: Judged, made: datetime) -> List[str]:
     return lines
 
 
-def _timeline(judged: Judged) -> List[str]:
+def _timeline(judged: Judged) -> list[str]:
     """A line for each of some calls, drawn from begin to end mark."""
     calls = judged.calls
     refused, named = judged.refused(), set(judged.named())
@@ -80,7 +80,7 @@ def _bar(call: Call, first: int, last: int) -> str:
     return " " * begin + SIGNS[came_to(call)] * (end - begin + 1) + " " * (WIDTH - 1 - end)
 
 
-def _counts(judged: Judged) -> List[str]:
+def _counts(judged: Judged) -> list[str]:
     """Calls by operation, client and outcome, and from when to when."""
     return _filled(period(judged)) + [line for cross in crosses(judged) for line in ("", *_cross(cross))]
 
@@ -110,7 +110,7 @@ def _filled(words: str) -> List[str]:
     return textwrap.wrap(plain(words), COLUMNS)
 
 
-def _broken(line: str) -> List[str]:
+def _broken(line: str) -> list[str]:
     """A line as it is, or broken where it is too long for one of the terminal's."""
     return textwrap.wrap(plain(line), COLUMNS, subsequent_indent=DEEPER, break_on_hyphens=False,
                          replace_whitespace=False, expand_tabs=False) or [plain(line)]

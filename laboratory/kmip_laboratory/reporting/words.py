@@ -7,7 +7,7 @@ import os
 from concurrent.futures import ProcessPoolExecutor
 from datetime import datetime
 from functools import partial
-from typing import List, Optional
+from typing import Optional
 
 from .. import fresh
 from ..auditor import Auditor
@@ -22,7 +22,7 @@ from .judging import USUAL_SECONDS, Asking, Judged, find, judge, moment_of_makin
 ALL_WELL, CONVICTED, TROUBLE_OF_REPORT, UNDECIDED = 0, 1, 3, 4
 
 
-def main(arguments: Optional[List[str]] = None) -> int:
+def main(arguments: Optional[list[str]] = None) -> int:
     """Makes the report, and answers the status."""
     return run(_parser(), arguments)
 
@@ -42,7 +42,7 @@ def _report(words: argparse.Namespace) -> int:
     return _tell(recordings, made if words.text else None)
 
 
-def _see_outputs(words: argparse.Namespace, folders: List[str]) -> None:
+def _see_outputs(words: argparse.Namespace, folders: list[str]) -> None:
     """Refuses files that can't be made as they are named: over what is read, over each other, or over what is there."""
     outs = [path for path in (None if words.out == "-" else words.out, words.junit) if path]
     files = [os.path.join(folder, name) for folder in folders for name in (TRANSCRIPT, DECLARATION, WITNESS)]
@@ -54,7 +54,7 @@ def _see_outputs(words: argparse.Namespace, folders: List[str]) -> None:
         see_that_free(path, force=True)
 
 
-def _tell(recordings: List[Judged], made: Optional[datetime]) -> int:
+def _tell(recordings: list[Judged], made: Optional[datetime]) -> int:
     """Prints what came out, in full where the moment is told, up to the last line, or as long as somebody reads it;
     answers the status."""
     yes = sum(judged.is_explained for judged in recordings)
@@ -115,7 +115,7 @@ def _judged(folders: List[str], words: argparse.Namespace) -> List[Judged]:
         return list(pool.map(partial(judge, asking=asking), folders))
 
 
-def _write(words: argparse.Namespace, recordings: List[Judged], made: datetime) -> None:
+def _write(words: argparse.Namespace, recordings: list[Judged], made: datetime) -> None:
     """Writes the files that are asked for: all or, where nothing may be written over, none."""
     files = []
     if words.out != "-":

@@ -5,7 +5,7 @@ docs/SHRINKING.md says why each of these is so.
 
 from __future__ import annotations
 
-from typing import Dict, FrozenSet, Iterable, List, NamedTuple, Set
+from typing import Iterable, NamedTuple
 
 from ..calls import Call, Name, Piece, Status, names
 from ..operations import Operation
@@ -25,8 +25,8 @@ class Declaration(NamedTuple):
     """A declaration: its header and rows, and its entries with their names by their identifiers."""
 
     head: bytes
-    entries: Dict[str, bytes]
-    names: Dict[str, Set[Name]]
+    entries: dict[str, bytes]
+    names: dict[str, set[Name]]
 
     def spelled(self, identifiers: Iterable[str]) -> bytes:
         """The declaration of these objects alone."""
@@ -70,13 +70,13 @@ def is_plain(call: Call) -> bool:
 class Parts:
     """The calls of a transcript in parts: those of one part name objects together, and no other part names these."""
 
-    def __init__(self, calls: List[Call], declaration: Declaration, whole_declaration: bool) -> None:
-        self._above: Dict[str, str] = {}
+    def __init__(self, calls: list[Call], declaration: Declaration, whole_declaration: bool) -> None:
+        self._above: dict[str, str] = {}
         self._bearers = _bearers(calls, declaration)
         self._declared = set(declaration.entries)
         self._changed = self._changed_of(calls)
         self._whole_declaration = whole_declaration
-        self.named: Dict[int, FrozenSet[str]] = {call.number: self._named(call) for call in calls}
+        self.named: dict[int, frozenset[str]] = {call.number: self._named(call) for call in calls}
         every = frozenset(self._declared).union(*self.named.values())
         self.named.update({call.number: every for call in calls if _is_anything(call)})
         for call in calls:
@@ -85,7 +85,7 @@ class Parts:
                 for identifier in together[1:]:
                     self._above[self._top(identifier)] = self._top(together[0])
 
-    def of(self, call: Call) -> FrozenSet[str]:
+    def of(self, call: Call) -> frozenset[str]:
         """The parts that a call names, each by one of its identifiers. It can stay only where all of them stay."""
         return frozenset(map(self._top, self.named[call.number]))
 
@@ -94,15 +94,15 @@ class Parts:
             identifier = self._above[identifier]
         return identifier
 
-    def _changed_of(self, calls: List[Call]) -> Set[str]:
+    def _changed_of(self, calls: list[Call]) -> set[str]:
         """The declared objects that calls may have changed."""
         touched = [identifier for call in calls if has_effect(call)
                    for piece in call.pieces for identifier in piece.identifiers | piece.answered]
         return self._declared.intersection(touched)
 
-    def _named(self, call: Call) -> FrozenSet[str]:
+    def _named(self, call: Call) -> frozenset[str]:
         """The objects on which it may hang whether this call is possible."""
-        found: Set[str] = set()
+        found: set[str] = set()
         for piece in call.pieces:
             found |= piece.identifiers | piece.answered
             if piece.operation in BIRTHS:
@@ -121,9 +121,9 @@ def _is_anything(call: Call) -> bool:
         for piece in call.pieces)
 
 
-def _bearers(calls: List[Call], declaration: Declaration) -> Dict[Name, Set[str]]:
+def _bearers(calls: list[Call], declaration: Declaration) -> dict[Name, set[str]]:
     """The identifiers of the objects that ever had a name."""
-    found: Dict[Name, Set[str]] = {}
+    found: dict[Name, set[str]] = {}
     for identifier, had in declaration.names.items():
         for name in had:
             found.setdefault(name, set()).add(identifier)

@@ -2,7 +2,7 @@
 
 from __future__ import annotations
 
-from typing import Callable, List, Optional, Sequence, TypeVar
+from typing import Callable, Optional, Sequence, TypeVar
 
 from ..calls import Call
 from .parts import has_effect, is_plain
@@ -11,13 +11,13 @@ from .trials import Answer, Trials
 T = TypeVar("T")
 
 
-def smallest(units: List[T], holds: Callable[[List[T]], bool]) -> List[T]:
+def smallest(units: list[T], holds: Callable[[list[T]], bool]) -> list[T]:
     """Some of these units with which it holds, and of which none can go. It holds with all of them, and with more units
     wherever it holds with fewer."""
     return [] if holds([]) else _smallest([], False, units, holds)
 
 
-def _smallest(kept: List[T], grown: bool, units: List[T], holds: Callable[[List[T]], bool]) -> List[T]:
+def _smallest(kept: list[T], grown: bool, units: list[T], holds: Callable[[list[T]], bool]) -> list[T]:
     """What is needed of these units beside those that are kept."""
     if grown and holds(kept):
         return []
@@ -29,7 +29,7 @@ def _smallest(kept: List[T], grown: bool, units: List[T], holds: Callable[[List[
     return of_left + of_right
 
 
-def shrunk(trials: Trials, calls: List[Call]) -> Optional[List[Call]]:
+def shrunk(trials: Trials, calls: list[Call]) -> Optional[list[Call]]:
     """The smallest part that was found of calls that no order explains; None where a search decides of none."""
     calls = [call for call in calls if is_plain(call) or has_effect(call)]
     found = _start(trials, calls)
@@ -42,11 +42,11 @@ def shrunk(trials: Trials, calls: List[Call]) -> Optional[List[Call]]:
     return None
 
 
-def _start(trials: Trials, calls: List[Call]) -> Optional[List[Call]]:
+def _start(trials: Trials, calls: list[Call]) -> Optional[list[Call]]:
     """Calls of which a search decides that no order explains them."""
     if trials.impossible(calls):
         return calls
-    calls = _first(trials, _ends_by_stamp(calls), lambda cut: trials.answer(cut)[0] is not Answer.EXPLAINED)
+    calls = _first(_ends_by_stamp(calls), lambda cut: trials.answer(cut)[0] is not Answer.EXPLAINED)
     if trials.impossible(calls):
         return calls
     for part in sorted({part for call in calls for part in trials.parts.of(call)}):
@@ -56,14 +56,14 @@ def _start(trials: Trials, calls: List[Call]) -> Optional[List[Call]]:
     return None
 
 
-def _without_ends(trials: Trials, calls: List[Call]) -> List[Call]:
+def _without_ends(trials: Trials, calls: list[Call]) -> list[Call]:
     """Leaves out the calls that all come behind those that stay, in any order."""
     for cuts in (_ends_by_stamp, _ends_by_mark):
-        calls = _first(trials, cuts(calls), trials.impossible)
+        calls = _first(cuts(calls), trials.impossible)
     return calls
 
 
-def _first(trials: Trials, cuts: Sequence[List[Call]], holds: Callable[[List[Call]], bool]) -> List[Call]:
+def _first(cuts: Sequence[list[Call]], holds: Callable[[list[Call]], bool]) -> list[Call]:
     """The first of growing lists of calls for which it holds; it holds for the last, and for all behind the first."""
     low, high = 0, len(cuts) - 1
     while low < high:
@@ -75,7 +75,7 @@ def _first(trials: Trials, cuts: Sequence[List[Call]], holds: Callable[[List[Cal
     return cuts[high]
 
 
-def _ends_by_stamp(calls: List[Call]) -> List[List[Call]]:
+def _ends_by_stamp(calls: list[Call]) -> list[list[Call]]:
     """The calls up to each Time Stamp. An open call is among them where it began before all of them had ended."""
     cuts = []
     for stamp in sorted({call.stamp for call in calls if call.stamp is not None}):
@@ -89,9 +89,9 @@ def _is_up_to(call: Call, stamp: int) -> bool:
     return call.stamp is not None and call.stamp <= stamp
 
 
-def _ends_by_mark(calls: List[Call]) -> List[List[Call]]:
+def _ends_by_mark(calls: list[Call]) -> list[list[Call]]:
     """The calls up to each moment at which all that began had ended."""
-    cuts: List[List[Call]] = []
+    cuts: list[list[Call]] = []
     last = 0
     for place, call in enumerate(calls):
         if call.end is None:
@@ -102,20 +102,20 @@ def _ends_by_mark(calls: List[Call]) -> List[List[Call]]:
     return cuts + [calls]
 
 
-def _without_parts(trials: Trials, calls: List[Call]) -> List[Call]:
+def _without_parts(trials: Trials, calls: list[Call]) -> list[Call]:
     """Leaves out all calls of objects together."""
     parts = sorted({part for call in calls for part in trials.parts.of(call)})
 
-    def of(kept: List[str]) -> List[Call]:
+    def of(kept: list[str]) -> list[Call]:
         staying = set(kept)
         return [call for call in calls if trials.parts.of(call) <= staying]
 
     return of(smallest(parts, lambda kept: trials.impossible(of(kept))))
 
 
-def _without_calls(trials: Trials, calls: List[Call]) -> List[Call]:
+def _without_calls(trials: Trials, calls: list[Call]) -> list[Call]:
     """Leaves out calls without an effect."""
-    def of(kept: List[int]) -> List[Call]:
+    def of(kept: list[int]) -> list[Call]:
         staying = set(kept)
         return [call for call in calls if has_effect(call) or call.number in staying]
 

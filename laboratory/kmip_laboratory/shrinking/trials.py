@@ -2,11 +2,12 @@
 
 from __future__ import annotations
 
+import contextlib
 import os
 import tempfile
 from enum import Enum
 from types import TracebackType
-from typing import Dict, FrozenSet, Iterable, List, NamedTuple, Optional, Set, Tuple, Type
+from typing import Iterable, NamedTuple, Optional
 
 from ..auditor import Auditor
 from ..calls import Call, Transcript
@@ -42,16 +43,18 @@ class Trials:
         self._whole = whole
         self._budget = budget
         self._auditor = auditor
-        self._answers: Dict[FrozenSet[int], Tuple[Answer, Verdict]] = {}
+        self._made = contextlib.ExitStack()
+        self._folder = ""
+        self._answers: dict[frozenset[int], tuple[Answer, Verdict]] = {}
         self.parts = Parts(transcript.calls, declaration, whole)
 
     def __enter__(self) -> Trials:
-        self._folder = tempfile.TemporaryDirectory(prefix="kmip_record-shrink-")
+        self._folder = self._made.enter_context(tempfile.TemporaryDirectory(prefix="kmip_record-shrink-"))
         return self
 
-    def __exit__(self, kind: Optional[Type[BaseException]], error: Optional[BaseException],
+    def __exit__(self, kind: Optional[type[BaseException]], error: Optional[BaseException],
                  trace: Optional[TracebackType]) -> None:
-        self._folder.cleanup()
+        self._made.close()
 
     @property
     def asked(self) -> int:
@@ -62,36 +65,37 @@ class Trials:
         """Whether the search decides that no order explains these calls."""
         return self.answer(list(calls))[0] is Answer.IMPOSSIBLE
 
-    def answer(self, calls: List[Call]) -> Tuple[Answer, Verdict]:
+    def answer(self, calls: list[Call]) -> tuple[Answer, Verdict]:
         """What a search says of these calls, and its line."""
         chosen = frozenset(call.number for call in calls)
         if chosen not in self._answers:
             self._answers[chosen] = self._asked(calls)
         return self._answers[chosen]
 
-    def files(self, calls: List[Call]) -> Files:
+    def files(self, calls: list[Call]) -> Files:
         """The files of these calls alone."""
         marks = [(call.begin, call.marks[0]) for call in calls]
         marks += [(call.end, call.marks[1]) for call in calls if call.end is not None]
-        named: Set[str] = set(self._declaration.entries)
+        named: set[str] = set(self._declaration.entries)
         if not self._whole:
             named = set().union(*(self.parts.named[call.number] for call in calls))
         return Files(self._transcript.header + b"".join(mark for _, mark in sorted(marks)),
                      self._declaration.spelled(named))
 
-    def order(self, calls: List[Call]) -> Optional[List[int]]:
+    def order(self, calls: list[Call]) -> Optional[list[int]]:
         """An order that explains these calls, where a search finds one."""
         found = self._searched(calls).outcome is Outcome.YES
-        return turns(os.path.join(self._folder.name, WITNESS)) if found else None
+        return turns(os.path.join(self._folder, WITNESS)) if found else None
 
-    def _searched(self, calls: List[Call]) -> Verdict:
-        names = [os.path.join(self._folder.name, name) for name in (TRANSCRIPT, DECLARATION, WITNESS)]
-        for name, data in zip(names, self.files(calls)):
+    def _searched(self, calls: list[Call]) -> Verdict:
+        transcript, declaration, out = (os.path.join(self._folder, name)
+                                        for name in (TRANSCRIPT, DECLARATION, WITNESS))
+        for name, data in zip((transcript, declaration), self.files(calls)):
             with open(name, "wb") as file:
                 file.write(data)
-        return self._auditor.search(*names, self._budget)
+        return self._auditor.search(transcript, declaration, out, self._budget)
 
-    def _asked(self, calls: List[Call]) -> Tuple[Answer, Verdict]:
+    def _asked(self, calls: list[Call]) -> tuple[Answer, Verdict]:
         verdict = self._searched(calls)
         if verdict.outcome is Outcome.YES:
             return Answer.EXPLAINED, verdict

@@ -3,7 +3,7 @@
 from __future__ import annotations
 
 import argparse
-from typing import List, Tuple
+from typing import TYPE_CHECKING
 
 from .. import fresh
 from ..auditor import Auditor
@@ -15,12 +15,15 @@ from .parts import has_effect, is_plain, read_declaration
 from .smallest import shrunk
 from .trials import Answer, Trials
 
+if TYPE_CHECKING:
+    from ..front import Words
+
 HELP = "find the smallest part of a transcript that no order of its calls explains"
 BUDGET = 20_000
 MOST_TOLD = 20
 
 
-def add(words: argparse._SubParsersAction) -> None:
+def add(words: Words) -> None:
     """Adds the word."""
     word = words.add_parser("shrink", help=HELP, description="See docs/SHRINKING.md.")
     word.add_argument("transcript", metavar="TRANSCRIPT")
@@ -79,7 +82,7 @@ def _account(found: List[Call], calls: List[Call], trials: Trials) -> str:
             f"no order explains them; kmip_audit search: {trials.answer(found)[1].text}")
 
 
-def _undecided(calls: List[Call], budget: int) -> str:
+def _undecided(calls: list[Call], budget: int) -> str:
     open_calls = [call.number for call in calls if has_effect(call) and not is_plain(call)]
     found, why = _first_of(open_calls)
     if open_calls:
@@ -88,6 +91,6 @@ def _undecided(calls: List[Call], budget: int) -> str:
     return f"the search decides nothing of these calls within {budget} steps; give more by --budget"
 
 
-def _first_of(numbers: List[int]) -> Tuple[str, str]:
+def _first_of(numbers: list[int]) -> tuple[str, str]:
     told = ", ".join(map(str, numbers[:MOST_TOLD])) + (", .." if len(numbers) > MOST_TOLD else "")
     return told, "call" if len(numbers) == 1 else "calls"

@@ -2,12 +2,12 @@
 
 from __future__ import annotations
 
-from typing import Dict, Optional
+from typing import Optional
 
 from ..operations import Operation
 
 # Nothing that is judged depends on whether such a call was done.
-HARMLESS: Dict[Operation, str] = {
+HARMLESS: dict[Operation, str] = {
     Operation.QUERY: "tells what the server can do",
     Operation.DISCOVER_VERSIONS: "tells which versions the server speaks",
     Operation.CHECK: "tells whether a use would be allowed",
@@ -34,7 +34,7 @@ HARMLESS: Dict[Operation, str] = {
     Operation.PING: "asks whether the server is there",
 }
 # Whether there is an effect depends on the server, or on another call; left out only where that is asked for.
-DOUBTFUL: Dict[Operation, str] = {
+DOUBTFUL: dict[Operation, str] = {
     Operation.CANCEL: "a pending call that it cancels may have had an effect, or have it in part",
     Operation.POLL: "tells how a pending call ended, which may have had an effect",
     Operation.PROCESS: "has a pending call done",

@@ -6,7 +6,7 @@ for the attribute any more. So the request must name what it still wants: one th
 
 from __future__ import annotations
 
-from typing import Callable, FrozenSet, List, Optional
+from typing import Callable, Optional
 
 from .. import ttlv
 from ..glimpse import SUCCESS, UNDONE, Glimpse, glimpse
@@ -32,7 +32,7 @@ def attribute_named(words: str) -> Optional[int]:
     return next((tag for tag in JUDGED_ATTRIBUTES if tag in wanted), None)
 
 
-def places_of(asked: Optional[Glimpse], answered: Optional[Glimpse]) -> List[int]:
+def places_of(asked: Optional[Glimpse], answered: Optional[Glimpse]) -> list[int]:
     """The items of a call that asked for attributes and were told some."""
     if asked is None or answered is None or not {asked.version, answered.version} <= WITH_REFERENCES:
         return []
@@ -41,29 +41,29 @@ def places_of(asked: Optional[Glimpse], answered: Optional[Glimpse]) -> List[int
             if part.operation == Operation.GET_ATTRIBUTES and answer.status in (SUCCESS, UNDONE)]
 
 
-def request_without(message: bytes, places: List[int], forgotten: FrozenSet[int]) -> bytes:
+def request_without(message: bytes, places: list[int], forgotten: frozenset[int]) -> bytes:
     """The request, at these items without references to what is forgotten."""
     return _changed(message, Side.CLIENT, places, lambda payload: _asking(payload, forgotten))
 
 
-def response_without(message: bytes, places: List[int], forgotten: FrozenSet[int]) -> bytes:
+def response_without(message: bytes, places: list[int], forgotten: frozenset[int]) -> bytes:
     """The response, at these items without the attributes that are forgotten, and with each value told once."""
     return _changed(message, Side.SERVER, places, lambda payload: changed_at(payload, (ATTRIBUTES,), lambda told: (
         _telling(told, forgotten))))
 
 
-def _changed(message: bytes, side: Side, places: List[int], change: Callable[[bytes], bytes]) -> bytes:
+def _changed(message: bytes, side: Side, places: list[int], change: Callable[[bytes], bytes]) -> bytes:
     """The message, with the values of the payloads of these items changed."""
     seen = glimpse(message, side)
     changes = []
-    for place in places:
-        item, payload = seen.parts[place].place, seen.parts[place].payload
-        if payload:
-            changes.append(Change((HEADER_LENGTH, item, payload[0]), *payload, change(message[slice(*payload)])))
+    for part in [seen.parts[place] for place in places] if seen else []:
+        if part.payload:
+            start, stop = part.payload
+            changes.append(Change((HEADER_LENGTH, part.place, start), start, stop, change(message[start:stop])))
     return changed(message, changes)
 
 
-def _asking(payload: bytes, forgotten: FrozenSet[int]) -> bytes:
+def _asking(payload: bytes, forgotten: frozenset[int]) -> bytes:
     children = slices_of(payload)
     rest = [child for child in children if not _is_reference_to(child, forgotten)]
     kept = b"".join([child.whole for child in rest])
@@ -74,10 +74,10 @@ def _asking(payload: bytes, forgotten: FrozenSet[int]) -> bytes:
     return kept + b"".join([ttlv.enumeration(Tag.ATTRIBUTE_REFERENCE, tag) for tag in wanted or [UNJUDGED]])
 
 
-def _is_reference_to(item: Slice, forgotten: FrozenSet[int]) -> bool:
+def _is_reference_to(item: Slice, forgotten: frozenset[int]) -> bool:
     return item.front == REFERENCE and int.from_bytes(item.value, "big") in forgotten
 
 
-def _telling(attributes: bytes, forgotten: FrozenSet[int]) -> bytes:
+def _telling(attributes: bytes, forgotten: frozenset[int]) -> bytes:
     told = [child.whole for child in slices_of(attributes) if child.front >> 8 not in forgotten]
     return b"".join(dict.fromkeys(told))

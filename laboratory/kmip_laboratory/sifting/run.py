@@ -2,7 +2,7 @@
 
 from __future__ import annotations
 
-from typing import Dict, FrozenSet, List, Optional
+from typing import Optional
 
 from ..files import see_that_free
 from ..recording.calls import calls_in
@@ -15,7 +15,7 @@ from .forgetting import places_of, request_without, response_without
 from .sorting import Sorted
 
 
-def table(source: str, also: FrozenSet[int]) -> List[str]:
+def table(source: str, also: frozenset[int]) -> list[str]:
     """How many calls of each sort, operation, version and client there are."""
     calls, untranslated = Sorted(also), Untranslated(source)
     for call in calls_in(source):
@@ -30,7 +30,7 @@ def table(source: str, also: FrozenSet[int]) -> List[str]:
 class Sifting:
     """What is left out of a transcript, and what of an answer."""
 
-    def __init__(self, source: str, also: FrozenSet[int], forgotten: FrozenSet[int]) -> None:
+    def __init__(self, source: str, also: frozenset[int], forgotten: frozenset[int]) -> None:
         self.calls = Sorted(also)
         self.changed = 0
         self._forgotten = forgotten
@@ -64,7 +64,7 @@ class Sifting:
         return mark._replace(message=made)
 
 
-def run(source: str, target: str, also: FrozenSet[int], forgotten: FrozenSet[int]) -> str:
+def run(source: str, target: str, also: frozenset[int], forgotten: frozenset[int]) -> str:
     """Writes the transcript of what is left, tells the account of it, and answers its summary."""
     see_that_free(target)
     sifting = Sifting(source, also, forgotten)

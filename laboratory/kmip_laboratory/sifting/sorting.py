@@ -38,13 +38,13 @@ class Waiting(NamedTuple):
 class Unknown(NamedTuple):
     """Calls of an operation whose effect is not known: how many, which objects they name, and the first of them."""
 
-    count: int
-    objects: FrozenSet[str]
+    calls: int
+    objects: frozenset[str]
     first: int
 
 
 def cause_to_leave_out(asked: Optional[Glimpse], answered: Optional[Glimpse],
-                       harmless: FrozenSet[int]) -> Optional[str]:
+                       harmless: frozenset[int]) -> Optional[str]:
     """Why a call can have had no effect on what is judged; None where it may have had one, or is judged."""
     if asked is None or not asked.parts:
         return None
@@ -63,9 +63,9 @@ class Sorted:
     """Sorts calls, one after the other. Once all were taken and `settle` was called, `dropped` has the numbers of those
     to leave out."""
 
-    def __init__(self, also: FrozenSet[int] = frozenset()) -> None:
+    def __init__(self, also: frozenset[int] = frozenset()) -> None:
         self._harmless = HARMLESS_NUMBERS | also
-        self.dropped: Set[int] = set()
+        self.dropped: set[int] = set()
         self.causes: Counts[str] = Counter()
         self.kept = 0
         self.unknown: Dict[str, Unknown] = {}
@@ -123,11 +123,11 @@ class Sorted:
 
     def unknown_lines(self) -> List[str]:
         """What the auditor will stop at, a line for each operation."""
-        return [f"the auditor will stop at {name}, whose effect on what is judged is not known: {seen.count} of them, "
+        return [f"the auditor will stop at {name}, whose effect on what is judged is not known: {seen.calls} of them, "
                 f"the first in call {seen.first}, on {_listed(seen.objects)}"
                 for name, seen in sorted(self.unknown.items())]
 
-    def table_lines(self) -> List[str]:
+    def table_lines(self) -> list[str]:
         """How many calls there are of which sort, operation, version and client."""
         return [f"{count}  {kind}  {names}  {version}  {client}"
                 for (kind, names, version, client), count in sorted(self.table.items())]
@@ -139,8 +139,7 @@ def _stopping(asked: Optional[Glimpse], answered: Optional[Glimpse]) -> List[Tup
     return [(part, answer) for part, answer in parts if part.operation not in KNOWN and answer.status != FAILED]
 
 
-def _listed(objects: FrozenSet[str]) -> str:
+def _listed(objects: frozenset[str]) -> str:
     names = sorted(objects)
     more = f" and {len(names) - 5} more" if len(names) > 5 else ""
     return f"objects {', '.join(names[:5])}{more}" if names else "no object that it names"
-

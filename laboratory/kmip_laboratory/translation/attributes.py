@@ -2,7 +2,7 @@
 
 from __future__ import annotations
 
-from typing import Counter, List
+from typing import Counter
 
 from .. import ttlv
 from ..slices import Slice, slices_of, structure, with_tag
@@ -39,7 +39,7 @@ class Guess(Exception):
     """What can't be translated without one. The text says which field, and why."""
 
 
-def attributes(of: List[Slice], where: str, lost: Lost) -> bytes:
+def attributes(of: list[Slice], where: str, lost: Lost) -> bytes:
     """The Attributes that these items, each an Attribute of the older form, say."""
     return structure(ATTRIBUTES, b"".join([attribute(item, where, lost) for item in of]))
 

@@ -143,7 +143,7 @@ def _judged_version(spelled: bytes) -> bytes:
     return bytes(made)
 
 
-def _without_order(message: bytes, seen: Glimpse) -> List[Change]:
+def _without_order(message: bytes, seen: Glimpse) -> list[Change]:
     """What the header of a batch has to say where it says nothing of its order, in a version in which that meant that
     there is none. It stands ahead of the Batch Count."""
     start, stop = seen.header

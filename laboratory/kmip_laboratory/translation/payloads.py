@@ -112,7 +112,7 @@ REQUESTS: Dict[int, Payload] = {
     Operation.LOCATE.value: _gathered,
     Operation.GET_ATTRIBUTES.value: _referring,
 }
-RESPONSES: Dict[int, Payload] = {
+RESPONSES: dict[int, Payload] = {
     Operation.CREATE.value: _without_attributes,
     Operation.REGISTER.value: _without_attributes,
     Operation.GET.value: _with_object,

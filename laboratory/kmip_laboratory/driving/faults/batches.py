@@ -3,7 +3,7 @@
 from __future__ import annotations
 
 from dataclasses import replace
-from typing import Dict, List, Optional
+from typing import Any, Optional
 
 from ..engine import Call
 from ..messages import Answer, Ask, Request, Response
@@ -17,7 +17,7 @@ class UndoLeavesAnObject(Fault):
     mix = "batches"
     rate_usual = 1.0
 
-    def batch(self, request: Request, call: Call) -> List[Answer]:
+    def batch(self, request: Request, call: Call) -> list[Answer]:
         before = {thing.identifier for thing in self.store.live()}
         made = []
         answers = super().batch(request, call)
@@ -43,7 +43,7 @@ class UndoForgotten(Fault):
     mix = "batches"
     rate_usual = 1.0
 
-    def batch(self, request: Request, call: Call) -> List[Answer]:
+    def batch(self, request: Request, call: Call) -> list[Answer]:
         if request.option is not Option.UNDO or not self.strikes():
             return super().batch(request, call)
         answers = super().batch(replace(request, option=Option.STOP), call)
@@ -66,7 +66,7 @@ class GoesOnAfterAFailure(Fault):
 
     mix = "batches"
 
-    def batch(self, request: Request, call: Call) -> List[Answer]:
+    def batch(self, request: Request, call: Call) -> list[Answer]:
         if request.option in (None, Option.STOP) and self.strikes():
             request = replace(request, option=Option.CONTINUE)
         return super().batch(request, call)
@@ -77,7 +77,7 @@ class StopsInsteadOfGoingOn(Fault):
 
     mix = "batches"
 
-    def batch(self, request: Request, call: Call) -> List[Answer]:
+    def batch(self, request: Request, call: Call) -> list[Answer]:
         if request.option is Option.CONTINUE and self.strikes():
             request = replace(request, option=Option.STOP)
         return super().batch(request, call)
@@ -89,7 +89,7 @@ class BackwardBatch(Fault):
     mix = "batches"
     rate_usual = 1.0
 
-    def batch(self, request: Request, call: Call) -> List[Answer]:
+    def batch(self, request: Request, call: Call) -> list[Answer]:
         if len(request.asks) < 2 or request.option is not Option.CONTINUE or not self.strikes():
             return super().batch(request, call)
         turned = replace(request, asks=request.asks[::-1])
@@ -102,7 +102,7 @@ class PlaceholderOutlivesTheCall(Fault):
     mix = "batches"
     rate_usual = 1.0
 
-    def batch(self, request: Request, call: Call) -> List[Answer]:
+    def batch(self, request: Request, call: Call) -> list[Answer]:
         if len(request.asks) > 1 and self.strikes():
             call.placeholder = call.session.get("placeholder")
         answers = super().batch(request, call)
@@ -115,7 +115,7 @@ class ItemNumbersSwapped(Fault):
 
     mix = "batches"
 
-    def batch(self, request: Request, call: Call) -> List[Answer]:
+    def batch(self, request: Request, call: Call) -> list[Answer]:
         answers = super().batch(request, call)
         if len(answers) < 2 or not self.strikes():
             return answers
@@ -126,11 +126,11 @@ class ItemNumbersSwapped(Fault):
 class AnswerOfAnother(Fault):
     """A client gets the answer that the connection's call before got, where the operation is the same."""
 
-    def __init__(self, *words: object, **more: object) -> None:
+    def __init__(self, *words: Any, **more: Any) -> None:
         super().__init__(*words, **more)
-        self._last: Dict[int, Answer] = {}
+        self._last: dict[int, Answer] = {}
 
-    def take(self, request: Request, session: Dict[str, Optional[str]]) -> Response:
+    def take(self, request: Request, session: dict[str, Optional[str]]) -> Response:
         response = super().take(request, session)
         if len(response.answers) != 1:
             return response

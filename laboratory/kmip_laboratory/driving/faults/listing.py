@@ -3,7 +3,6 @@
 from __future__ import annotations
 
 from dataclasses import replace
-from typing import List
 
 from ..engine import Call
 from ..messages import Answer, Ask, Attribute
@@ -19,7 +18,7 @@ class LaggingIndex(Fault):
 
     mix = "locate"
 
-    def candidates(self, call: Call) -> List[Thing]:
+    def candidates(self, call: Call) -> list[Thing]:
         found = super().candidates(call)
         return found[LAG:] if found and self.strikes() else found
 

@@ -3,7 +3,7 @@
 from __future__ import annotations
 
 from dataclasses import replace
-from typing import Dict, List, Tuple
+from typing import Any
 
 from ..engine import Call
 from ..messages import Answer, Ask, Refused, Request
@@ -18,9 +18,9 @@ class RevokeASecondLater(Fault):
     mix = "hot-keys"
     rate_usual = 0.5
 
-    def __init__(self, *words: object, **more: object) -> None:
+    def __init__(self, *words: Any, **more: Any) -> None:
         super().__init__(*words, **more)
-        self._late: Dict[str, int] = {}
+        self._late: dict[str, int] = {}
 
     def revoke(self, ask: Ask, call: Call) -> Answer:
         answer = super().revoke(ask, call)
@@ -94,11 +94,11 @@ class LateDestroy(Fault):
     mix = "hot-keys"
     rate_usual = 1.0
 
-    def __init__(self, *words: object, **more: object) -> None:
+    def __init__(self, *words: Any, **more: Any) -> None:
         super().__init__(*words, **more)
-        self._waiting: List[Tuple[int, Ask, Call]] = []
+        self._waiting: list[tuple[int, Ask, Call]] = []
 
-    def batch(self, request: Request, call: Call) -> List[Answer]:
+    def batch(self, request: Request, call: Call) -> list[Answer]:
         due = [each for each in self._waiting if each[0] <= 0]
         self._waiting = [(left - 1, ask, when) for left, ask, when in self._waiting if left > 0]
         for _, ask, when in due:

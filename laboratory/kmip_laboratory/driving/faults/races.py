@@ -4,7 +4,7 @@ from __future__ import annotations
 
 import time
 from dataclasses import replace
-from typing import Dict, List, Optional, Tuple
+from typing import Any, Optional
 
 from ..engine import Call, Steps
 from ..messages import Answer, Name, Request, Response
@@ -22,7 +22,7 @@ class LostUpdate(Fault):
     mix = "hot-keys"
     rate_usual = 0.8
 
-    def answer(self, request: Request, session: Dict[str, Optional[str]]) -> Steps:
+    def answer(self, request: Request, session: dict[str, Optional[str]]) -> Steps:
         if len(request.asks) == 1 and request.asks[0].operation in CHANGES:
             seen = self.store.find(request.asks[0].identifier)
             if seen is not None and seen.destroyed is None and self.strikes():
@@ -38,7 +38,7 @@ class RacingNames(Fault):
     unique_names_usual = True
     rate_usual = 1.0
 
-    def answer(self, request: Request, session: Dict[str, Optional[str]]) -> Steps:
+    def answer(self, request: Request, session: dict[str, Optional[str]]) -> Steps:
         names = tuple(each.value for ask in request.asks for each in ask.attributes
                       if isinstance(each.value, Name) and ask.operation in (Operation.CREATE, Operation.REGISTER))
         if len(request.asks) == 1 and names and not super().is_taken(names, Call(0, request)) and self.strikes():
@@ -49,7 +49,7 @@ class RacingNames(Fault):
         finally:
             session.pop("free", None)
 
-    def is_taken(self, names: Tuple[Name, ...], call: Call) -> bool:
+    def is_taken(self, names: tuple[Name, ...], call: Call) -> bool:
         return call.session.get("free") is None and super().is_taken(names, call)
 
 
@@ -59,17 +59,17 @@ class AnswerAheadOfEffect(Fault):
     mix = "hot-keys"
     rate_usual = 0.5
 
-    def __init__(self, *words: object, **more: object) -> None:
+    def __init__(self, *words: Any, **more: Any) -> None:
         super().__init__(*words, **more)
-        self._late: List[Tuple[float, Thing, Thing]] = []
+        self._late: list[tuple[float, Thing, Thing]] = []
 
-    def take(self, request: Request, session: Dict[str, Optional[str]]) -> Response:
+    def take(self, request: Request, session: dict[str, Optional[str]]) -> Response:
         self._catch_up()
         asked = request.asks[0]
         before = self.store.find(asked.identifier)
         response = super().take(request, session)
-        alone = len(request.asks) == 1 and asked.operation in CHANGES and before is not None
-        if alone and response.answers[0].status is Status.SUCCESS and self.strikes():
+        alone = len(request.asks) == 1 and asked.operation in CHANGES
+        if before is not None and alone and response.answers[0].status is Status.SUCCESS and self.strikes():
             after = self.store.find(asked.identifier)
             if after is not None:
                 self.store.put(before)
@@ -90,11 +90,11 @@ class MixedBatches(Fault):
     mix = "batches"
     rate_usual = 0.8
 
-    def answer(self, request: Request, session: Dict[str, Optional[str]]) -> Steps:
+    def answer(self, request: Request, session: dict[str, Optional[str]]) -> Steps:
         if len(request.asks) == 1 or request.option is Option.UNDO or not self.strikes():
             return (yield from super().answer(request, session))
         call = Call(0, request, session=session)
-        answers: List[Answer] = []
+        answers: list[Answer] = []
         for ask in request.asks:
             call.now = self.clock.now()
             answers.append(self.item(ask, call))
@@ -110,11 +110,11 @@ class HalfARevoke(Fault):
     mix = "hot-keys"
     rate_usual = 1.0
 
-    def answer(self, request: Request, session: Dict[str, Optional[str]]) -> Steps:
+    def answer(self, request: Request, session: dict[str, Optional[str]]) -> Steps:
         ask = request.asks[0]
         if len(request.asks) == 1 and ask.operation == Operation.REVOKE and ask.code in COMPROMISES:
             thing = self.store.find(ask.identifier)
-            if self._is_sound(thing) and self.strikes():
+            if thing is not None and self._is_sound(thing) and self.strikes():
                 now = self.clock.now()
                 self.store.put(replace(thing, activation=now, deactivation=now))
                 yield SECONDS_OF_RACE

@@ -3,7 +3,7 @@
 from __future__ import annotations
 
 from dataclasses import replace
-from typing import Dict, List
+from typing import Any
 
 from ..engine import Call
 from ..messages import Answer, Ask, Attribute, Material, Refused
@@ -18,9 +18,9 @@ class StaleReadAfterDestroy(Fault):
     mix = "hot-keys"
     rate_usual = 0.5
 
-    def __init__(self, *words: object, **more: object) -> None:
+    def __init__(self, *words: Any, **more: Any) -> None:
         super().__init__(*words, **more)
-        self._cache: Dict[str, bytes] = {}
+        self._cache: dict[str, bytes] = {}
 
     def destroy(self, ask: Ask, call: Call) -> Answer:
         thing = self.meant(ask, call)
@@ -98,9 +98,9 @@ class StateOfACache(Fault):
     mix = "hot-keys"
     rate_usual = 0.5
 
-    def __init__(self, *words: object, **more: object) -> None:
+    def __init__(self, *words: Any, **more: Any) -> None:
         super().__init__(*words, **more)
-        self._shown: Dict[str, int] = {}
+        self._shown: dict[str, int] = {}
 
     def get_attributes(self, ask: Ask, call: Call) -> Answer:
         answer = super().get_attributes(ask, call)
@@ -108,7 +108,7 @@ class StateOfACache(Fault):
         for each in answer.attributes:
             if each.tag is Tag.STATE and identifier in self._shown and self.strikes():
                 each = Attribute(Tag.STATE, self._shown[identifier])
-            elif each.tag is Tag.STATE:
+            elif each.tag is Tag.STATE and isinstance(each.value, int):
                 self._shown[identifier] = each.value
             shown.append(each)
         return replace(answer, attributes=tuple(shown))
@@ -129,12 +129,12 @@ class NameLeftOut(Fault):
 class LengthInBytes(Fault):
     """Get Attributes shows the Cryptographic Length in bytes and not in bits."""
 
-    def all_of(self, thing: Thing, now: int) -> List[Attribute]:
+    def all_of(self, thing: Thing, now: int) -> list[Attribute]:
         told = super().all_of(thing, now)
         if not self.strikes():
             return told
-        return [Attribute(each.tag, each.value // 8) if each.tag is Tag.CRYPTOGRAPHIC_LENGTH else each
-                for each in told]
+        return [Attribute(each.tag, each.value // 8) if each.tag is Tag.CRYPTOGRAPHIC_LENGTH
+                and isinstance(each.value, int) else each for each in told]
 
 
 class ReasonThatIsNotSo(Fault):

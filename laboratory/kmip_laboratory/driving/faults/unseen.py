@@ -2,8 +2,6 @@
 
 from __future__ import annotations
 
-from typing import List
-
 from ..engine import Call
 from ..messages import Ask, Answer, Attribute, Refused
 from ..numbers import Reason, Tag
@@ -28,7 +26,7 @@ class ListsTheDestroyed(Fault):
     mix = "locate"
     unseen = "a destroyed object may be listed where it fits the filters"
 
-    def candidates(self, call: Call) -> List[Thing]:
+    def candidates(self, call: Call) -> list[Thing]:
         return super().candidates(call) + (self.store.gone() if self.strikes() else [])
 
 
@@ -37,5 +35,5 @@ class LastChangeDateWrong(Fault):
 
     unseen = "Last Change Date is not one of the judged attributes"
 
-    def all_of(self, thing: Thing, now: int) -> List[Attribute]:
+    def all_of(self, thing: Thing, now: int) -> list[Attribute]:
         return super().all_of(thing, now) + [Attribute(Tag.LAST_CHANGE_DATE, 1_000_000_000)] * self.strikes()

@@ -3,7 +3,6 @@
 from __future__ import annotations
 
 from dataclasses import replace
-from typing import List, Tuple
 
 from ..engine import Call
 from ..messages import Answer, Ask, Material, Name, Refused
@@ -160,7 +159,7 @@ class NamesTwice(Fault):
     unique_names_usual = True
     rate_usual = 1.0
 
-    def is_taken(self, names: Tuple[Name, ...], call: Call) -> bool:
-        newest: List[Thing] = self.store.live()[:3]
+    def is_taken(self, names: tuple[Name, ...], call: Call) -> bool:
+        newest: list[Thing] = self.store.live()[:3]
         taken = any(name in thing.names for thing in newest for name in names)
         return taken or (super().is_taken(names, call) and not self.strikes())
