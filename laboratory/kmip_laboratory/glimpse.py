@@ -127,7 +127,7 @@ def _part(message: bytes, payload_front: int, start: int, stop: int) -> Part:
     return Part(operation, status, reason, payload, start)
 
 
-def identifiers(message: bytes, part: Part) -> List[str]:
+def identifiers(message: bytes, part: Part) -> list[str]:
     """The Unique Identifiers that are texts at the first level of the payload of an item, those of pairs of keys too;
     none of one that is broken within."""
     try:

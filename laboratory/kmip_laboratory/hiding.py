@@ -5,7 +5,6 @@ fields that nobody knows too. `blind` replaces what is hidden, and `list` and th
 from __future__ import annotations
 
 from enum import Enum
-from typing import FrozenSet
 
 from .tag_names import TAGS_BY_NAME
 from .tags import FileTag, Tag
@@ -24,7 +23,7 @@ class Sort(Enum):
     SECRET = "secret"
 
 
-def _tags(names: str) -> FrozenSet[int]:
+def _tags(names: str) -> frozenset[int]:
     return frozenset(TAGS_BY_NAME[name] for name in " ".join(names.split()).split("; "))
 
 

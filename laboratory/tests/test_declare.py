@@ -5,7 +5,7 @@ from __future__ import annotations
 import subprocess
 import unittest
 from pathlib import Path
-from typing import Dict, List
+
 
 import messages
 import stub
@@ -36,7 +36,7 @@ def told(state: int, *dates: bytes, object_type: int = SYMMETRIC_KEY) -> bytes:
 class Declared(Laboratory):
     """A server that holds what a test says; each client sees its own objects."""
 
-    def declared(self, objects: Dict[str, Dict[str, bytes]], *words: object) -> tuple[List[str], str]:
+    def declared(self, objects: dict[str, dict[str, bytes]], *words: object) -> tuple[list[str], str]:
         """The identifiers that are declared, where the server tells each client, by its name, of these objects; and
         what is said."""
         def answering_as(peer: stub.ssl.SSLSocket, request: bytes) -> None:
@@ -61,7 +61,7 @@ class Declared(Laboratory):
         self.assertEqual(done.stdout, f"0 rows, {len(entries)} entries\n")
         return [entry.first(0x420094, ttlv.Kind.TEXT).value for entry in entries], done.stderr
 
-    def as_recorder(self, **objects: bytes) -> tuple[List[str], str]:
+    def as_recorder(self, **objects: bytes) -> tuple[list[str], str]:
         """The same where the recorder asks alone."""
         return self.declared({"recorder": objects}, "--server-cert", "recorder.pem", "--server-key", "recorder.key")
 

@@ -8,7 +8,7 @@ import time
 import unittest
 import uuid
 from pathlib import Path
-from typing import Dict, Iterable, List
+from typing import Iterable
 
 import messages
 import sessions
@@ -32,7 +32,7 @@ def groups(size: int, turned: bool = False) -> str:
     return " ".join((part[::-1] if turned else part).hex() for part in parts)
 
 
-SPELLINGS: Dict[str, str] = {
+SPELLINGS: dict[str, str] = {
     "hex": KEY.hex(), "HEX": KEY.hex().upper(), "0x before all": "0x" + KEY.hex(),
     "0x before each": ", ".join(f"0x{byte}" for byte in HEX), "C": "{" + ",".join(f"0X{byte}" for byte in HEX) + "}",
     "colons": ":".join(HEX), "hyphens": "-".join(HEX).upper(), "blanks": " ".join(HEX), "dots": ".".join(HEX),
@@ -56,12 +56,12 @@ SPELLINGS: Dict[str, str] = {
 PASSWORD = "correct horse battery staple"
 
 
-def secrets() -> List[bytes]:
+def secrets() -> list[bytes]:
     """Fields in which a secret stands: of a key, of who asks, of other operations, of vendors and of nobody."""
-    def told(*tags: int) -> List[bytes]:
+    def told(*tags: int) -> list[bytes]:
         return [text(tag, PASSWORD) for tag in tags]
 
-    def data(*tags: int) -> List[bytes]:
+    def data(*tags: int) -> list[bytes]:
         return [item(tag, 8, PASSWORD.encode()) for tag in tags]
 
     key = structure(0x420040, number(0x420042, 5, 2), structure(0x420045, *told(0x420043)))
@@ -103,7 +103,7 @@ class Hidden(InFolder):
         self.write(*((request(asking(0x1F, each)), response(STAMP, messages.answering(0x1F, 0, each)))
                      for each in secrets()))
 
-    def windows_left(self, data: bytes) -> List[bytes]:
+    def windows_left(self, data: bytes) -> list[bytes]:
         """The windows of the secret that are in these bytes."""
         spelled = PASSWORD.encode()
         return [spelled[place:place + 8] for place in range(len(spelled) - 7) if spelled[place:place + 8] in data]
@@ -128,7 +128,7 @@ class Hidden(InFolder):
             self.assertEqual(bool(self.seen(lines)), is_seen)
             self.assertEqual(self.seen("".join(page.texts[:-1]) + done.stdout) if not is_seen else [], [])
 
-    def seen(self, shown: str) -> List[str]:
+    def seen(self, shown: str) -> list[str]:
         """The spellings of the secret in which a part of it is shown."""
         numbers = [str(int.from_bytes(PASSWORD.encode()[place:place + 8], "big")) for place in (0, 8, 16)]
         wanted = [PASSWORD, PASSWORD.encode()[:24].hex(), PASSWORD.encode()[:24].hex().upper(), *numbers]

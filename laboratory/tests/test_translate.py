@@ -150,7 +150,7 @@ class Fields(unittest.TestCase):
     def test_the_answer_to_what_can_not_be_translated_stays_with_it(self) -> None:
         asked = request(asking(LOCATE, structure(0x420008)), protocol=(1, 2))
         answer = response(STAMP, messages.answering(LOCATE, 0, IDENTIFIER), protocol=(1, 2))
-        told: List[str] = []
+        told: list[str] = []
         translator = Translator(told.append)
         self.assertEqual(translator.message(1, Side.CLIENT, asked), asked)
         self.assertEqual(translator.message(1, Side.SERVER, answer), answer)

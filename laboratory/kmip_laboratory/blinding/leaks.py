@@ -5,7 +5,7 @@ from __future__ import annotations
 
 import re
 from math import gcd
-from typing import Dict, Iterable, Iterator, List, Set
+from typing import Iterable, Iterator
 
 WINDOW = 8
 GROUPS = (2, 4, 8)
@@ -89,7 +89,7 @@ def _in_digits(text: str, alphabet: str) -> Iterator[bytes]:
     width = (len(alphabet) - 1).bit_length()
     if len(text) * width < 8 * WINDOW:
         return
-    bits: Dict[str, str] = {digit: f"{number:0{width}b}" for number, digit in enumerate(alphabet)}
+    bits: dict[str, str] = {digit: f"{number:0{width}b}" for number, digit in enumerate(alphabet)}
     told = "".join([bits[digit] for digit in text if digit in bits])
     for start in range(0, 8 * width // gcd(8, width), width):
         length = (len(told) - start) // 8
@@ -111,7 +111,7 @@ def _in_decimals(text: str) -> Iterator[bytes]:
             yield number.to_bytes(number.bit_length() // 8 + 1, "big")
 
 
-def _of_bytes(numbers: List[int]) -> Iterator[bytes]:
+def _of_bytes(numbers: list[int]) -> Iterator[bytes]:
     """The runs of numbers that are bytes, with or without a sign."""
     run = bytearray()
     for number in [*numbers, 256]:

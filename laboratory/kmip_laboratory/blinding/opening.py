@@ -2,7 +2,7 @@
 
 from __future__ import annotations
 
-from typing import Dict, List, NamedTuple, Set, Tuple
+from typing import NamedTuple
 
 from .. import ttlv
 from ..hiding import CONTAINERS, Sort, sort_of
@@ -44,10 +44,10 @@ class Opened:
         self.path = path
         self.file = which(path, data)
         self.data = bytearray(data)
-        self.secrets: Set[bytes] = set()
+        self.secrets: set[bytes] = set()
         self.strings = 0
         self.numbers = 0
-        self.texts: Dict[Text, List[int]] = {}
+        self.texts: dict[Text, list[int]] = {}
         self.untranslated = Untranslated(path)
         self._replacing = replacing
         for record in records(path, data):
@@ -65,7 +65,7 @@ class Opened:
         for place in self.texts[text]:
             self.data[place:place + len(spelled)] = spelled
 
-    def _open(self, items: List[Item], where: Where) -> None:
+    def _open(self, items: list[Item], where: Where) -> None:
         """Opens these items, and what stands in them."""
         for item in items:
             tag, kind, _, place = item

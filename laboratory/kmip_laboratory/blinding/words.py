@@ -5,7 +5,7 @@ from __future__ import annotations
 import argparse
 import os
 import re
-from typing import Dict, FrozenSet, List
+from typing import TYPE_CHECKING
 
 from .. import fresh
 from ..hiding import Sort
@@ -16,6 +16,9 @@ from . import replacing
 from .leaks import Leaks
 from .opening import Opened, Text, all_texts
 
+if TYPE_CHECKING:
+    from ..front import Words
+
 HELP = "put others in the place of every key's bytes and of all texts, in the files of one recording"
 # What each word of `--keep` keeps.
 KEEPING = {"names": frozenset({Sort.NAME, Sort.CLIENT}), "identifiers": frozenset({Sort.IDENTIFIER}),
@@ -25,7 +28,7 @@ BEHIND_IDENTITY = re.compile("([ /])")
 COUNTED = (Sort.NAME, Sort.IDENTIFIER, Sort.CLIENT, Sort.TEXT, Sort.SECRET)
 
 
-def add(words: argparse._SubParsersAction[argparse.ArgumentParser]) -> None:
+def add(words: Words) -> None:
     """Adds the word."""
     word = words.add_parser("blind", help=HELP, usage="kmip_record blind IN.. OUT.. [--keep WHAT].. [--key FILE]",
                             description="See docs/BLINDING.md.")
@@ -81,7 +84,7 @@ def _key(path: str) -> bytes:
     return key
 
 
-def _kept(words: argparse.Namespace) -> FrozenSet[Sort]:
+def _kept(words: argparse.Namespace) -> frozenset[Sort]:
     """What is to stay."""
     for name, asked in (("names", words.names), ("identifiers", words.identifiers)):
         if asked and name in words.keep:
@@ -89,10 +92,10 @@ def _kept(words: argparse.Namespace) -> FrozenSet[Sort]:
     return frozenset(sort for each in words.keep for sort in KEEPING[each])
 
 
-def _chosen(files: List[Opened], kept: FrozenSet[Sort]) -> List[Text]:
+def _chosen(files: list[Opened], kept: frozenset[Sort]) -> list[Text]:
     """The texts that are replaced; refused where one that is to stay shows a key."""
     leaks = Leaks(secret for opened in files for secret in opened.secrets) if kept else Leaks(())
-    chosen: List[Text] = []
+    chosen: list[Text] = []
     for text, (path, place) in all_texts(files).items():
         if text.sort not in kept:
             chosen.append(text)
@@ -105,17 +108,17 @@ def _chosen(files: List[Opened], kept: FrozenSet[Sort]) -> List[Text]:
     return chosen
 
 
-def _parts(text: Text) -> List[str]:
+def _parts(text: Text) -> list[str]:
     """Of a client's text who it is, what stands behind that, and the connection; of any other text the whole."""
     return BEHIND_IDENTITY.split(text.value, maxsplit=1) if text.sort is Sort.CLIENT else [text.value]
 
 
-def _replaced(text: Text, found: Dict[str, str]) -> str:
+def _replaced(text: Text, found: dict[str, str]) -> str:
     """What stands in the place of a text."""
     return "".join(part if place % 2 else found[part] for place, part in enumerate(_parts(text)))
 
 
-def _account(files: List[Opened], chosen: List[Text]) -> str:
+def _account(files: list[Opened], chosen: list[Text]) -> str:
     counts = [f"{len(files)} files", f"{sum(opened.strings for opened in files)} strings of bytes",
               f"{sum(opened.numbers for opened in files)} numbers"]
     for sort in COUNTED:

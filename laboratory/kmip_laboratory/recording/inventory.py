@@ -5,7 +5,7 @@ from __future__ import annotations
 
 import ssl
 import time
-from typing import Dict, List, NamedTuple, Optional
+from typing import NamedTuple, Optional
 
 from .. import ttlv
 from ..address import Address
@@ -55,7 +55,7 @@ STATES = ["no State", "Pre-Active", "Active", "Deactivated", "Compromised", "Des
 
 
 # Of each object by its identifier the entry; None where it is left out.
-Held = Dict[str, Optional[bytes]]
+Held = dict[str, Optional[bytes]]
 
 
 async def held(server: Address, context: ssl.SSLContext, version: Version, with_bytes: bool) -> Held:
@@ -65,10 +65,10 @@ async def held(server: Address, context: ssl.SSLContext, version: Version, with_
                 for identifier in await _identifiers(questions, version)}
 
 
-def entries(by_client: Dict[str, Held], with_bytes: bool) -> List[bytes]:
+def entries(by_client: dict[str, Held], with_bytes: bool) -> list[bytes]:
     """An entry for each object of which the server told somebody all that an entry says, and nobody anything else. Who
     sees an object is told where several asked."""
-    seen: Dict[str, Dict[str, bytes]] = {}
+    seen: dict[str, dict[str, bytes]] = {}
     for client, objects in by_client.items():
         for identifier, entry in objects.items():
             told = seen.setdefault(identifier, {})

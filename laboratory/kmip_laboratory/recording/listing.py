@@ -25,7 +25,7 @@ BETWEEN = "  "
 
 
 def lines(path: str, selection: Selection = ALL) -> Iterator[str]:
-    """A line for each call that is meant, in the order of their begins: number, client, marks, moment, and each item."""
+    """A line for each call that is meant, in the order of their begins: number, client, marks, moment, each item."""
     untranslated = Untranslated(path)
     for call in ordered_calls(path):
         untranslated.take(call.request)

@@ -177,7 +177,7 @@ def _declare(words: argparse.Namespace) -> None:
     print(declaration.run(words.unique_names, words.reason, entries, words.out, words.force))
 
 
-def _asking(words: argparse.Namespace, shown: List[identities.Identity]) -> Dict[str, ssl.SSLContext]:
+def _asking(words: argparse.Namespace, shown: list[identities.Identity]) -> dict[str, ssl.SSLContext]:
     """TLS toward the server for each as whom it is asked."""
     pair = (words.server_cert, words.server_key)
     if not words.server_ca or None in pair and (any(pair) or not shown):

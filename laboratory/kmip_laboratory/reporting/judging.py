@@ -165,20 +165,19 @@ def judge(folder: str, asking: Asking) -> Judged:
         seconds = time.monotonic() - started
         account = _account(auditor, transcript, declaration, witness)
         _see_that_they_are_the_judged(files, account.files)
-        turns = _turns(witness) if os.path.exists(witness) and verdict.outcome is not Outcome.MALFORMED else {}
-        readable = verdict.outcome not in (Outcome.MALFORMED, Outcome.DEVICE, Outcome.MEMORY)
-        calls = read_transcript(transcript).calls if readable else []
-        messages = read_messages(auditor, transcript, asking.with_keys) if readable else Messages([], {})
-    return Judged(folder, verdict, _words(folder, len(files) == 3, more), account.version, account.files, files, calls,
-                  turns, messages, taken, searched and searched._replace(decided=_decides(searched, budget, calls)))
+        read = _read(auditor, verdict, (transcript, witness), asking.with_keys)
+    if searched:
+        searched = searched._replace(decided=_decides(searched, asking.budget, read.calls))
+    return Judged(folder, verdict, _words(folder, is_checked, more), account, files, read, seconds, searched)
 
 
-def _read(auditor: Auditor, verdict: Verdict, transcript: str, witness: str) -> Read:
-    """What can be read of a recording that has this verdict."""
+def _read(auditor: Auditor, verdict: Verdict, files: tuple[str, str], with_keys: bool) -> Read:
+    """What can be read of a recording's transcript and witness, where it has this verdict."""
+    transcript, witness = files
     order = _turns(witness) if os.path.exists(witness) and verdict.outcome is not Outcome.MALFORMED else {}
     if verdict.outcome in (Outcome.MALFORMED, Outcome.DEVICE, Outcome.MEMORY):
         return Read([], order, Messages([], {}))
-    return Read(read_transcript(transcript).calls, order, read_messages(auditor, transcript))
+    return Read(read_transcript(transcript).calls, order, read_messages(auditor, transcript, with_keys))
 
 
 def _readable_names(folder: str, made: str) -> list[str]:

@@ -2,7 +2,7 @@
 
 from __future__ import annotations
 
-from typing import List
+
 from xml.etree import ElementTree
 
 from ..plain import plain_lines

@@ -3,7 +3,7 @@
 from __future__ import annotations
 
 import re
-from typing import Dict, List, NamedTuple, Optional, Tuple
+from typing import NamedTuple, Optional
 
 from ..auditor import Auditor
 from ..hiding import CONTAINERS, is_shown
@@ -56,8 +56,8 @@ class Hiding:
 def read_messages(auditor: Auditor, transcript: str, with_keys: bool = False) -> Messages:
     """What the auditor shows of a transcript's messages, without what may be a key unless it is asked for."""
     hiding = Hiding(with_keys)
-    known: Dict[str, int] = {}
-    of_call: Dict[int, Tuple[List[int], List[int]]] = {}
+    known: dict[str, int] = {}
+    of_call: dict[int, tuple[list[int], list[int]]] = {}
     side, into = 0, []
     for line in auditor.show_each(transcript, "--messages", "--notes"):
         mark, call = MARK.fullmatch(line), CALL.fullmatch(line)

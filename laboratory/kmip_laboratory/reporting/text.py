@@ -68,8 +68,8 @@ def _timeline(judged: Judged) -> list[str]:
     for call in some:
         sign = ">" if call is refused else "*" if call.number in named else " "
         turn = judged.turns.get(call.number)
-        told = f"{sign}{call.number:>6} {plain(call.client)[:12]:<12} |{_bar(call, first, last)}| {operations(call)[:20]:<20}"
-        lines.append((told + (f" turn {turn}" if turn else "")).rstrip())
+        ahead = f"{sign}{call.number:>6} {plain(call.client)[:12]:<12} |{_bar(call, first, last)}|"
+        lines.append((f"{ahead} {operations(call)[:20]:<20}" + (f" turn {turn}" if turn else "")).rstrip())
     return lines
 
 
@@ -106,7 +106,7 @@ def _command(words: Sequence[str]) -> Iterator[str]:
     yield line
 
 
-def _filled(words: str) -> List[str]:
+def _filled(words: str) -> list[str]:
     return textwrap.wrap(plain(words), COLUMNS)
 
 

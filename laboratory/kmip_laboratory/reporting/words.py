@@ -107,7 +107,7 @@ def _seconds(told: str) -> float:
     return seconds
 
 
-def _judged(folders: List[str], words: argparse.Namespace) -> List[Judged]:
+def _judged(folders: list[str], words: argparse.Namespace) -> list[Judged]:
     asking = Asking(words.budget, words.others, words.seconds, with_keys=words.keys)
     if len(folders) == 1:
         return [judge(folders[0], asking)]

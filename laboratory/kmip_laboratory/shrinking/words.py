@@ -68,7 +68,7 @@ def run(words: argparse.Namespace) -> None:
         print(_account(found, transcript.calls, trials))
 
 
-def _tell_untranslated(path: str, calls: List[Call]) -> None:
+def _tell_untranslated(path: str, calls: list[Call]) -> None:
     untranslated = Untranslated(path)
     for call in calls:
         untranslated.take(call.request)
@@ -76,7 +76,7 @@ def _tell_untranslated(path: str, calls: List[Call]) -> None:
     untranslated.tell()
 
 
-def _account(found: List[Call], calls: List[Call], trials: Trials) -> str:
+def _account(found: list[Call], calls: list[Call], trials: Trials) -> str:
     numbers = ", ".join(str(call.number) for call in found[:MOST_TOLD]) + (", .." if len(found) > MOST_TOLD else "")
     return (f"{len(found)} of {len(calls)} calls are left: {numbers}\n"
             f"no order explains them; kmip_audit search: {trials.answer(found)[1].text}")

@@ -34,7 +34,7 @@ class Sifting:
         self.calls = Sorted(also)
         self.changed = 0
         self._forgotten = forgotten
-        self._places: Dict[int, List[int]] = {}
+        self._places: dict[int, list[int]] = {}
         self.untranslated = Untranslated(source)
         for call in calls_in(source):
             self.untranslated.take(call.request)

@@ -4,7 +4,7 @@ stop."""
 from __future__ import annotations
 
 from collections import Counter
-from typing import Counter as Counts, Dict, FrozenSet, List, NamedTuple, Optional, Set, Tuple
+from typing import Counter as Counts, NamedTuple, Optional
 
 from ..glimpse import FAILED, Glimpse, Part, identifiers
 from ..operations import JUDGED, READ_OVER, operation_name
@@ -68,11 +68,11 @@ class Sorted:
         self.dropped: set[int] = set()
         self.causes: Counts[str] = Counter()
         self.kept = 0
-        self.unknown: Dict[str, Unknown] = {}
+        self.unknown: dict[str, Unknown] = {}
         self.table: Counts[Kept] = Counter()
         self._lives = Lives()
-        self._waiting: Dict[int, Waiting] = {}
-        self._impossible: List[Impossible] = []
+        self._waiting: dict[int, Waiting] = {}
+        self._impossible: list[Impossible] = []
 
     def take(self, call: Call, asked: Optional[Glimpse], answered: Optional[Glimpse]) -> None:
         """Sorts a call in, of which this was asked and answered."""
@@ -115,13 +115,13 @@ class Sorted:
         name = operation_name(part.operation or 0)
         seen = self.unknown.get(name, Unknown(0, frozenset(), call.number))
         objects = seen.objects.union(identifiers(call.request, part), identifiers(call.response or b"", answer))
-        self.unknown[name] = Unknown(seen.count + 1, objects, min(seen.first, call.number))
+        self.unknown[name] = Unknown(seen.calls + 1, objects, min(seen.first, call.number))
 
-    def impossible_lines(self) -> List[str]:
+    def impossible_lines(self) -> list[str]:
         """The uses of keys that can't be."""
         return list(lines(self._impossible))
 
-    def unknown_lines(self) -> List[str]:
+    def unknown_lines(self) -> list[str]:
         """What the auditor will stop at, a line for each operation."""
         return [f"the auditor will stop at {name}, whose effect on what is judged is not known: {seen.calls} of them, "
                 f"the first in call {seen.first}, on {_listed(seen.objects)}"
@@ -133,7 +133,7 @@ class Sorted:
                 for (kind, names, version, client), count in sorted(self.table.items())]
 
 
-def _stopping(asked: Optional[Glimpse], answered: Optional[Glimpse]) -> List[Tuple[Part, Part]]:
+def _stopping(asked: Optional[Glimpse], answered: Optional[Glimpse]) -> list[tuple[Part, Part]]:
     """The items of another operation than the judged ones that did not fail, with their answers."""
     parts = zip(asked.parts, answered.parts) if asked and answered else ()
     return [(part, answer) for part, answer in parts if part.operation not in KNOWN and answer.status != FAILED]

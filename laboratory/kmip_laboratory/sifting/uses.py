@@ -8,7 +8,7 @@ it began behind the other's end.
 from __future__ import annotations
 
 from collections import Counter
-from typing import Counter as Counts, Dict, FrozenSet, Iterator, List, NamedTuple, Optional, Set, Tuple
+from typing import Counter as Counts, Iterator, NamedTuple, Optional
 
 from ..glimpse import FAILED, SUCCESS, UNDONE, Glimpse, Part, identifiers
 from ..operations import JUDGED, Operation, operation_name
@@ -21,13 +21,13 @@ from .effects import HARMLESS
 PROTECTING = frozenset({Operation.ENCRYPT, Operation.SIGN, Operation.MAC})
 PROCESSING = frozenset({Operation.DECRYPT, Operation.SIGNATURE_VERIFY, Operation.MAC_VERIFY})
 SHOWING = frozenset({Operation.EXPORT})
-USES: FrozenSet[int] = PROTECTING | PROCESSING | SHOWING
-BIRTHS: FrozenSet[int] = frozenset({Operation.CREATE, Operation.REGISTER})
+USES: frozenset[int] = PROTECTING | PROCESSING | SHOWING
+BIRTHS = frozenset({Operation.CREATE, Operation.REGISTER})
 # All others may activate an object, as far as is known here.
-ACTIVATES_NOTHING: FrozenSet[int] = BIRTHS | frozenset(HARMLESS) | frozenset({
+ACTIVATES_NOTHING: frozenset[int] = BIRTHS | frozenset(HARMLESS) | frozenset({
     Operation.LOCATE, Operation.GET, Operation.GET_ATTRIBUTES, Operation.DESTROY})
 # The others put what they make or find into the placeholder.
-KEEPS_PLACEHOLDER: FrozenSet[int] = (JUDGED - BIRTHS - {Operation.LOCATE}) | frozenset(HARMLESS)
+KEEPS_PLACEHOLDER: frozenset[int] = (JUDGED - BIRTHS - {Operation.LOCATE}) | frozenset(HARMLESS)
 # An Activation Date in its newer form and in its older.
 ACTIVATION_DATE = (Tag.ACTIVATION_DATE.to_bytes(3, "big"), b"Activation Date")
 
@@ -62,12 +62,12 @@ class Lives:
     """What the recorded calls did to objects, and the uses that were made of these."""
 
     def __init__(self) -> None:
-        self._born: Set[str] = set()
-        self._destroyed: Dict[str, Event] = {}
-        self._revoked: Dict[str, Event] = {}
+        self._born: set[str] = set()
+        self._destroyed: dict[str, Event] = {}
+        self._revoked: dict[str, Event] = {}
         # The first place at which a call began that may have activated the object.
-        self._stirred: Dict[str, int] = {}
-        self._uses: List[Use] = []
+        self._stirred: dict[str, int] = {}
+        self._uses: list[Use] = []
 
     def take(self, call: Call, asked: Optional[Glimpse], answered: Optional[Glimpse]) -> bool:
         """Notes what a call did. Whether it used an object."""
@@ -112,10 +112,10 @@ class Lives:
         return "never active" if use.object in self._born and not was_stirred and use.operation not in SHOWING else None
 
 
-def lines(uses: List[Impossible]) -> Iterator[str]:
+def lines(uses: list[Impossible]) -> Iterator[str]:
     """The uses that can't be, a line for each object, operation and cause."""
-    counts: Counts[Tuple[int, str, str]] = Counter()
-    first: Dict[Tuple[int, str, str], int] = {}
+    counts: Counts[tuple[int, str, str]] = Counter()
+    first: dict[tuple[int, str, str], int] = {}
     for use in uses:
         key = (use.operation, use.object, use.why)
         counts[key] += 1
@@ -127,12 +127,12 @@ def lines(uses: List[Impossible]) -> Iterator[str]:
 
 
 def _items(call: Call, asked: Optional[Glimpse],
-           answered: Optional[Glimpse]) -> Iterator[Tuple[Part, Optional[Part], List[str]]]:
+           answered: Optional[Glimpse]) -> Iterator[tuple[Part, Optional[Part], list[str]]]:
     """The items of a call, each with its answer and the objects that it is about: those that it names or is answered,
     or else the one of the item before, which stands in the placeholder."""
     parts = asked.parts if asked else []
-    answers: List[Optional[Part]] = [*answered.parts] if answered and not answered.is_refusal else []
-    held: List[str] = []
+    answers: list[Optional[Part]] = [*answered.parts] if answered and not answered.is_refusal else []
+    held: list[str] = []
     for place, part in enumerate(parts):
         answer = answers[place] if place < len(answers) else None
         told = identifiers(call.response, answer) if answer and call.response else []

@@ -4,7 +4,7 @@ from __future__ import annotations
 
 from collections import Counter
 from functools import lru_cache
-from typing import Callable, Dict, List, Optional, Set
+from typing import Callable, Optional
 
 from .. import ttlv
 from ..glimpse import MAJOR, MINOR, Glimpse, Part, glimpse
@@ -37,8 +37,8 @@ class Translator:
     def __init__(self, tell: Callable[[str], None] = say, ordered: bool = True) -> None:
         self._tell = tell
         self._ordered = ordered
-        self._asked: Dict[int, List[int]] = {}
-        self._unasked: Set[int] = set()
+        self._asked: dict[int, list[int]] = {}
+        self._unasked: set[int] = set()
         self.count: Counter[str] = Counter()
         self.lost: Lost = Counter()
         self.left = 0
@@ -75,7 +75,7 @@ class Translator:
         else:
             self._tell(f"call {call}, response, {fault}; the message is left as it is")
 
-    def _translated(self, message: bytes, side: Side, seen: Glimpse, operations: List[int]) -> bytes:
+    def _translated(self, message: bytes, side: Side, seen: Glimpse, operations: list[int]) -> bytes:
         found: Lost = Counter()
         changes = [] if seen.version == JUDGED else [_version_change(message, seen)]
         if side is Side.CLIENT and self._is_unordered(message, seen, operations):
@@ -86,20 +86,20 @@ class Translator:
         self.lost.update(found)
         return changed(message, changes) if changes else message
 
-    def _is_unordered(self, message: bytes, seen: Glimpse, operations: List[int]) -> bool:
+    def _is_unordered(self, message: bytes, seen: Glimpse, operations: list[int]) -> bool:
         """Whether a batch that does not say so is one whose order does not count."""
         if len(operations) < 2 or seen.version is None or seen.version > LAST_WITHOUT_ORDER:
             return False
         return not (self._ordered and _uses_placeholder(message, seen, operations))
 
-    def _operations_of(self, call: int, seen: Optional[Glimpse]) -> List[int]:
+    def _operations_of(self, call: int, seen: Optional[Glimpse]) -> list[int]:
         """The operations of the items of an answer; where one names none, it is that of its request's item."""
         asked = self._asked.pop(call, [])
         parts = seen.parts if seen else []
         return [part.operation or (asked[place] if place < len(asked) else 0) for place, part in enumerate(parts)]
 
 
-def _steps(side: Side, version: Optional[Version], operation: int) -> List[Payload]:
+def _steps(side: Side, version: Optional[Version], operation: int) -> list[Payload]:
     """What is done to a payload, one step after the other. From 2.0 on the placeholder alone has a form that is not
     judged."""
     steps = [without_placeholder] if side is Side.CLIENT and operation in JUDGED_ON_OBJECTS else []
@@ -107,7 +107,7 @@ def _steps(side: Side, version: Optional[Version], operation: int) -> List[Paylo
     return steps + ([older] if older else [])
 
 
-def _of_payload(message: bytes, part: Part, steps: List[Payload], where: str, lost: Lost) -> List[Change]:
+def _of_payload(message: bytes, part: Part, steps: list[Payload], where: str, lost: Lost) -> list[Change]:
     """What becomes of the payload of an item."""
     if not part.payload or not steps:
         return []
@@ -121,7 +121,7 @@ def _of_payload(message: bytes, part: Part, steps: List[Payload], where: str, lo
     return [] if made == payload else [Change((ttlv.HEADER_LENGTH, part.place, start), start, stop, made)]
 
 
-def _uses_placeholder(message: bytes, seen: Glimpse, operations: List[int]) -> bool:
+def _uses_placeholder(message: bytes, seen: Glimpse, operations: list[int]) -> bool:
     """Whether an item is about the object in the placeholder."""
     return any(operation in ON_OBJECTS and not (part.payload and names_object(message[slice(*part.payload)]))
                for operation, part in zip(operations, seen.parts))

@@ -2,7 +2,7 @@
 
 from __future__ import annotations
 
-from typing import Callable, Dict
+from typing import Callable
 
 from ..operations import Operation
 from ..slices import Slice, changed_at, slices_of, structure
@@ -106,7 +106,7 @@ def _is_placeholder(item: Slice) -> bool:
     return item.front == IDENTIFIER_NUMBER and int.from_bytes(item.value, "big") == ID_PLACEHOLDER
 
 
-REQUESTS: Dict[int, Payload] = {
+REQUESTS: dict[int, Payload] = {
     Operation.CREATE.value: _with_attributes,
     Operation.REGISTER.value: _with_attributes,
     Operation.LOCATE.value: _gathered,
