@@ -31,8 +31,8 @@ def _add_list(word: argparse.ArgumentParser) -> None:
     word.add_argument("transcript", metavar="TRANSCRIPT")
     word.add_argument("--call", type=int, metavar="N", help="both messages of this call, in place of a line for each")
     word.add_argument("--keys", action="store_true", help="show keys, passwords and all other values too, with --call")
-    word.add_argument("--client", action="append", default=[], metavar="NAME", help="the calls of this client alone; may "
-                      "be repeated, as the next two")
+    word.add_argument("--client", action="append", default=[], metavar="NAME",
+                      help="the calls of this client alone; may be repeated, as the next two")
     word.add_argument("--object", action="append", default=[], metavar="ID", help="the calls that name this object")
     word.add_argument("--operation", type=selection.read_operation, action="append", default=[], metavar="NAME",
                       help="the calls that ask for this operation")
