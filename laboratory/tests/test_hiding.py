@@ -172,6 +172,13 @@ class Hidden(InFolder):
             left = self.blinded("--keep", kept)
             self.assertEqual([name for name, spelled in told.items() if spelled in left], [kept])
 
+    def test_a_long_text_is_not_kept(self) -> None:
+        words = [("no such object " * count)[:-1] for count in (68, 69, 60_000)]
+        self.write((messages.get("k"), shown_key("k", KEY)), *(
+            (messages.get("k"), messages.not_found(STAMP, text=each)) for each in words))
+        left = self.blinded("--keep", "texts")
+        self.assertEqual([each.encode() in left for each in words], [True, False, False])
+
     def test_an_identifier_that_a_search_gives_holds_no_key(self) -> None:
         told = "undone-" + str(int.from_bytes(KEY, "big"))
         self.write(*((messages.get(each), messages.not_found(STAMP)) for each in (told, "undone-7")))

@@ -23,6 +23,8 @@ HELP = "put others in the place of every key's bytes and of all texts, in the fi
 # What each word of `--keep` keeps.
 KEEPING = {"names": frozenset({Sort.NAME, Sort.CLIENT}), "identifiers": frozenset({Sort.IDENTIFIER}),
            "texts": frozenset({Sort.TEXT})}
+# A longer text is not kept: to look for keys in it would take too long.
+LONGEST_KEPT = 1024
 # Up to the first of these a client's text says who it is, and behind it over which connection.
 BEHIND_IDENTITY = re.compile("([ /])")
 COUNTED = (Sort.NAME, Sort.IDENTIFIER, Sort.CLIENT, Sort.TEXT, Sort.SECRET)
@@ -97,7 +99,7 @@ def _chosen(files: list[Opened], kept: frozenset[Sort]) -> list[Text]:
     leaks = Leaks(secret for opened in files for secret in opened.secrets) if kept else Leaks(())
     chosen: list[Text] = []
     for text, (path, place) in all_texts(files).items():
-        if text.sort not in kept:
+        if text.sort not in kept or len(text.value) > LONGEST_KEPT:
             chosen.append(text)
         elif leaks.shows(text.value):
             if text.sort is not Sort.TEXT:

@@ -66,16 +66,10 @@ async def held(server: Address, context: ssl.SSLContext, version: Version, with_
 
 
 def entries(by_client: dict[str, Held], with_bytes: bool) -> list[bytes]:
-    """An entry for each object of which the server told somebody all that an entry says, and nobody anything else. Who
-    sees an object is told where several asked."""
-    seen: dict[str, dict[str, bytes]] = {}
-    for client, objects in by_client.items():
-        for identifier, entry in objects.items():
-            told = seen.setdefault(identifier, {})
-            if entry is not None:
-                told[client] = entry
-    found = []
-    for identifier, told in seen.items():
+    """The entry of each object that has one by what somebody was told, and no other by what another was told. Who sees
+    an object is said where several asked."""
+    found, by_object = [], _by_object(by_client)
+    for identifier, told in by_object.items():
         if len(set(told.values())) > 1:
             say(f"object {identifier}: left out, for {' and '.join(told)} are told different things of it")
         elif told:
@@ -83,11 +77,22 @@ def entries(by_client: dict[str, Held], with_bytes: bool) -> list[bytes]:
             if len(told) < len(by_client):
                 say(f"object {identifier}: of those that asked, {' and '.join(told)} alone are told of it; a "
                     "declaration does not say whose it is")
-    if len(found) < len(seen):
-        say(f"{len(seen) - len(found)} objects are left out: where a recorded call succeeds on one of them, the "
+    if len(found) < len(by_object):
+        say(f"{len(by_object) - len(found)} objects are left out: where a recorded call succeeds on one of them, the "
             "auditor will say that there is no such object")
     if found and not with_bytes:
         say("the bytes of keys are left undeclared: the first Get of each will show them (--bytes asks for them)")
+    return found
+
+
+def _by_object(by_client: dict[str, Held]) -> dict[str, dict[str, bytes]]:
+    """Of each object the entries, by the client that was told so."""
+    found: dict[str, dict[str, bytes]] = {}
+    for client, objects in by_client.items():
+        for identifier, entry in objects.items():
+            told = found.setdefault(identifier, {})
+            if entry is not None:
+                told[client] = entry
     return found
 
 
