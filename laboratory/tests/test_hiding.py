@@ -122,7 +122,7 @@ class Hidden(InFolder):
             self.assertNotEqual(self.seen(record("list", self.source, "--call", number_of_call, "--keys").out), [])
         for words, is_seen in (([], False), (["--keys"], True)):
             done = report(self.folder / "page.html", self.folder, "--text", "--force", *words)
-            self.assertEqual(done.returncode, 0, done.stderr)
+            self.assertEqual(done.returncode, 4, done.stderr)
             page = Page((self.folder / "page.html").read_text(encoding="utf-8"))
             lines = "\n".join(page.data["lines"])
             self.assertEqual(bool(self.seen(lines)), is_seen)

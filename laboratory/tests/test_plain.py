@@ -74,7 +74,7 @@ class Words(InFolder):
     def test_the_page_the_text_and_junit(self) -> None:
         page, junit = self.folder / "page.html", self.folder / "junit.xml"
         done = report(page, self.folder, "--text", "--junit", junit)
-        self.assertEqual(done.returncode, 0, done.stderr)
+        self.assertEqual(done.returncode, 4, done.stderr)
         seen = Page(page.read_text(encoding="utf-8"))
         told = ["".join(seen.texts), *map(str, seen.data["lines"]), *seen.data["recordings"][0]["clients"],
                 junit.read_text(encoding="utf-8"), done.stdout]
