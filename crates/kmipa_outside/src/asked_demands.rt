@@ -3,8 +3,8 @@
 ghost use Rattle.std.specs.Prelude.{◌≡◌};
 ghost use Rattle.kmipa_outside.specs.AskedDemands.{create_demands, register_demands, locate_demands, get_demands, revoke_demands, identifier_demands};
 
-use crate::demand::{Demand, Inside, Numbers, Step, Wanted, wants};
-use crate::types::ItemType;
+use crate::demand::Demand;
+use crate::demands::demands;
 use kmipa_attrs::tags::{
     ATTRIBUTES, CRYPTOGRAPHIC_ALGORITHM, CRYPTOGRAPHIC_LENGTH, CRYPTOGRAPHIC_USAGE_MASK,
     KEY_WRAPPING_SPECIFICATION, MAXIMUM_ITEMS, OBJECT_TYPE, REVOCATION_REASON_CODE,
@@ -16,49 +16,14 @@ use kmipa_msgs::OutsideKind;
 pub(crate) fn create_demands() -> [Demand; 7]
     ensures { result ≡ create_demands }
 {
-    [
-        wants(
-            Inside::Here,
-            Step::Tag(OBJECT_TYPE),
-            Wanted::Typed(ItemType::Enumeration),
-            OutsideKind::Missing,
-        ),
-        wants(
-            Inside::Here,
-            Step::Tag(OBJECT_TYPE),
-            Wanted::OneOf(Numbers::CreatedType),
-            OutsideKind::ObjectType,
-        ),
-        wants(
-            Inside::Here,
-            Step::Tag(ATTRIBUTES),
-            Wanted::MaybeTyped(ItemType::Structure),
-            OutsideKind::Missing,
-        ),
-        wants(
-            Inside::Attributes,
-            Step::Tag(OBJECT_TYPE),
-            Wanted::OneOf(Numbers::ObjectTypes),
-            OutsideKind::ObjectType,
-        ),
-        wants(
-            Inside::Attributes,
-            Step::Tag(CRYPTOGRAPHIC_ALGORITHM),
-            Wanted::There,
-            OutsideKind::Missing,
-        ),
-        wants(
-            Inside::Attributes,
-            Step::Tag(CRYPTOGRAPHIC_LENGTH),
-            Wanted::There,
-            OutsideKind::Missing,
-        ),
-        wants(
-            Inside::Attributes,
-            Step::Tag(CRYPTOGRAPHIC_USAGE_MASK),
-            Wanted::There,
-            OutsideKind::Missing,
-        ),
+    demands![
+        Here OBJECT_TYPE (Typed Enumeration) Missing;
+        Here OBJECT_TYPE (OneOf CreatedType) ObjectType;
+        Here ATTRIBUTES (MaybeTyped Structure) Missing;
+        Attributes OBJECT_TYPE (OneOf ObjectTypes) ObjectType;
+        Attributes CRYPTOGRAPHIC_ALGORITHM (There) Missing;
+        Attributes CRYPTOGRAPHIC_LENGTH (There) Missing;
+        Attributes CRYPTOGRAPHIC_USAGE_MASK (There) Missing;
     ]
 }
 
@@ -66,37 +31,12 @@ pub(crate) fn create_demands() -> [Demand; 7]
 pub(crate) fn register_demands() -> [Demand; 5]
     ensures { result ≡ register_demands }
 {
-    [
-        wants(
-            Inside::Here,
-            Step::Tag(OBJECT_TYPE),
-            Wanted::Typed(ItemType::Enumeration),
-            OutsideKind::Missing,
-        ),
-        wants(
-            Inside::Here,
-            Step::Tag(OBJECT_TYPE),
-            Wanted::OneOf(Numbers::ObjectTypes),
-            OutsideKind::ObjectType,
-        ),
-        wants(
-            Inside::Here,
-            Step::Tag(ATTRIBUTES),
-            Wanted::MaybeTyped(ItemType::Structure),
-            OutsideKind::Missing,
-        ),
-        wants(
-            Inside::Attributes,
-            Step::Tag(OBJECT_TYPE),
-            Wanted::OneOf(Numbers::ObjectTypes),
-            OutsideKind::ObjectType,
-        ),
-        wants(
-            Inside::Here,
-            Step::Object,
-            Wanted::There,
-            OutsideKind::Missing,
-        ),
+    demands![
+        Here OBJECT_TYPE (Typed Enumeration) Missing;
+        Here OBJECT_TYPE (OneOf ObjectTypes) ObjectType;
+        Here ATTRIBUTES (MaybeTyped Structure) Missing;
+        Attributes OBJECT_TYPE (OneOf ObjectTypes) ObjectType;
+        Here Object (There) Missing;
     ]
 }
 
@@ -104,25 +44,10 @@ pub(crate) fn register_demands() -> [Demand; 5]
 pub(crate) fn locate_demands() -> [Demand; 3]
     ensures { result ≡ locate_demands }
 {
-    [
-        wants(
-            Inside::Here,
-            Step::Tag(MAXIMUM_ITEMS),
-            Wanted::MaybeTyped(ItemType::Integer),
-            OutsideKind::Missing,
-        ),
-        wants(
-            Inside::Here,
-            Step::Tag(ATTRIBUTES),
-            Wanted::MaybeTyped(ItemType::Structure),
-            OutsideKind::Missing,
-        ),
-        wants(
-            Inside::Attributes,
-            Step::Tag(OBJECT_TYPE),
-            Wanted::OneOf(Numbers::ObjectTypes),
-            OutsideKind::ObjectType,
-        ),
+    demands![
+        Here MAXIMUM_ITEMS (MaybeTyped Integer) Missing;
+        Here ATTRIBUTES (MaybeTyped Structure) Missing;
+        Attributes OBJECT_TYPE (OneOf ObjectTypes) ObjectType;
     ]
 }
 
@@ -130,19 +55,9 @@ pub(crate) fn locate_demands() -> [Demand; 3]
 pub(crate) fn get_demands() -> [Demand; 2]
     ensures { result ≡ get_demands }
 {
-    [
-        wants(
-            Inside::Here,
-            Step::Tag(UNIQUE_IDENTIFIER),
-            Wanted::MaybeTyped(ItemType::Text),
-            OutsideKind::IdentifierForm,
-        ),
-        wants(
-            Inside::Here,
-            Step::Tag(KEY_WRAPPING_SPECIFICATION),
-            Wanted::Nothing,
-            OutsideKind::Wrapped,
-        ),
+    demands![
+        Here UNIQUE_IDENTIFIER (MaybeTyped Text) IdentifierForm;
+        Here KEY_WRAPPING_SPECIFICATION (Nothing) Wrapped;
     ]
 }
 
@@ -150,19 +65,9 @@ pub(crate) fn get_demands() -> [Demand; 2]
 pub(crate) fn revoke_demands() -> [Demand; 2]
     ensures { result ≡ revoke_demands }
 {
-    [
-        wants(
-            Inside::Here,
-            Step::Tag(UNIQUE_IDENTIFIER),
-            Wanted::MaybeTyped(ItemType::Text),
-            OutsideKind::IdentifierForm,
-        ),
-        wants(
-            Inside::Revocation,
-            Step::Tag(REVOCATION_REASON_CODE),
-            Wanted::Typed(ItemType::Enumeration),
-            OutsideKind::Missing,
-        ),
+    demands![
+        Here UNIQUE_IDENTIFIER (MaybeTyped Text) IdentifierForm;
+        Revocation REVOCATION_REASON_CODE (Typed Enumeration) Missing;
     ]
 }
 
@@ -170,10 +75,7 @@ pub(crate) fn revoke_demands() -> [Demand; 2]
 pub(crate) fn identifier_demands() -> [Demand; 1]
     ensures { result ≡ identifier_demands }
 {
-    [wants(
-        Inside::Here,
-        Step::Tag(UNIQUE_IDENTIFIER),
-        Wanted::MaybeTyped(ItemType::Text),
-        OutsideKind::IdentifierForm,
-    )]
+    demands![
+        Here UNIQUE_IDENTIFIER (MaybeTyped Text) IdentifierForm;
+    ]
 }

@@ -3,8 +3,8 @@
 ghost use Rattle.std.specs.Prelude.{◌≡◌};
 ghost use Rattle.kmipa_outside.specs.DoneDemands.{answer_demands, registered_demands, located_demands, got_demands, got_attributes_demands};
 
-use crate::demand::{Demand, Inside, Numbers, Step, Wanted, wants};
-use crate::types::ItemType;
+use crate::demand::Demand;
+use crate::demands::demands;
 use kmipa_attrs::tags::{
     ATTRIBUTES, OBJECT_TYPE, OPERATION, RESULT_REASON, RESULT_STATUS, UNIQUE_IDENTIFIER,
 };
@@ -14,37 +14,12 @@ use kmipa_msgs::OutsideKind;
 pub(crate) fn answer_demands() -> [Demand; 5]
     ensures { result ≡ answer_demands }
 {
-    [
-        wants(
-            Inside::Here,
-            Step::Tag(OPERATION),
-            Wanted::MaybeTyped(ItemType::Enumeration),
-            OutsideKind::Missing,
-        ),
-        wants(
-            Inside::Here,
-            Step::Tag(RESULT_STATUS),
-            Wanted::Typed(ItemType::Enumeration),
-            OutsideKind::Missing,
-        ),
-        wants(
-            Inside::Here,
-            Step::Tag(RESULT_STATUS),
-            Wanted::Other(2),
-            OutsideKind::Pending,
-        ),
-        wants(
-            Inside::Here,
-            Step::Tag(RESULT_STATUS),
-            Wanted::OneOf(Numbers::Statuses),
-            OutsideKind::Missing,
-        ),
-        wants(
-            Inside::Here,
-            Step::Tag(RESULT_REASON),
-            Wanted::MaybeTyped(ItemType::Enumeration),
-            OutsideKind::Missing,
-        ),
+    demands![
+        Here OPERATION (MaybeTyped Enumeration) Missing;
+        Here RESULT_STATUS (Typed Enumeration) Missing;
+        Here RESULT_STATUS (Other 2) Pending;
+        Here RESULT_STATUS (OneOf Statuses) Missing;
+        Here RESULT_REASON (MaybeTyped Enumeration) Missing;
     ]
 }
 
@@ -52,25 +27,10 @@ pub(crate) fn answer_demands() -> [Demand; 5]
 pub(crate) fn registered_demands() -> [Demand; 3]
     ensures { result ≡ registered_demands }
 {
-    [
-        wants(
-            Inside::Here,
-            Step::Tag(OBJECT_TYPE),
-            Wanted::MaybeTyped(ItemType::Enumeration),
-            OutsideKind::Missing,
-        ),
-        wants(
-            Inside::Here,
-            Step::Tag(UNIQUE_IDENTIFIER),
-            Wanted::There,
-            OutsideKind::Missing,
-        ),
-        wants(
-            Inside::Here,
-            Step::Tag(UNIQUE_IDENTIFIER),
-            Wanted::MaybeTyped(ItemType::Text),
-            OutsideKind::IdentifierForm,
-        ),
+    demands![
+        Here OBJECT_TYPE (MaybeTyped Enumeration) Missing;
+        Here UNIQUE_IDENTIFIER (There) Missing;
+        Here UNIQUE_IDENTIFIER (MaybeTyped Text) IdentifierForm;
     ]
 }
 
@@ -78,43 +38,20 @@ pub(crate) fn registered_demands() -> [Demand; 3]
 pub(crate) fn located_demands() -> [Demand; 1]
     ensures { result ≡ located_demands }
 {
-    [wants(
-        Inside::Here,
-        Step::Tag(UNIQUE_IDENTIFIER),
-        Wanted::EachTyped(ItemType::Text),
-        OutsideKind::IdentifierForm,
-    )]
+    demands![
+        Here UNIQUE_IDENTIFIER (EachTyped Text) IdentifierForm;
+    ]
 }
 
 /// An object that is shown.
 pub(crate) fn got_demands() -> [Demand; 4]
     ensures { result ≡ got_demands }
 {
-    [
-        wants(
-            Inside::Here,
-            Step::Tag(OBJECT_TYPE),
-            Wanted::MaybeTyped(ItemType::Enumeration),
-            OutsideKind::Missing,
-        ),
-        wants(
-            Inside::Here,
-            Step::Tag(OBJECT_TYPE),
-            Wanted::OneOf(Numbers::ObjectTypes),
-            OutsideKind::ObjectType,
-        ),
-        wants(
-            Inside::Here,
-            Step::Tag(UNIQUE_IDENTIFIER),
-            Wanted::MaybeTyped(ItemType::Text),
-            OutsideKind::IdentifierForm,
-        ),
-        wants(
-            Inside::Here,
-            Step::Object,
-            Wanted::There,
-            OutsideKind::Missing,
-        ),
+    demands![
+        Here OBJECT_TYPE (MaybeTyped Enumeration) Missing;
+        Here OBJECT_TYPE (OneOf ObjectTypes) ObjectType;
+        Here UNIQUE_IDENTIFIER (MaybeTyped Text) IdentifierForm;
+        Here Object (There) Missing;
     ]
 }
 
@@ -122,24 +59,9 @@ pub(crate) fn got_demands() -> [Demand; 4]
 pub(crate) fn got_attributes_demands() -> [Demand; 3]
     ensures { result ≡ got_attributes_demands }
 {
-    [
-        wants(
-            Inside::Here,
-            Step::Tag(UNIQUE_IDENTIFIER),
-            Wanted::MaybeTyped(ItemType::Text),
-            OutsideKind::IdentifierForm,
-        ),
-        wants(
-            Inside::Here,
-            Step::Tag(ATTRIBUTES),
-            Wanted::MaybeTyped(ItemType::Structure),
-            OutsideKind::Missing,
-        ),
-        wants(
-            Inside::Attributes,
-            Step::Tag(OBJECT_TYPE),
-            Wanted::OneOf(Numbers::ObjectTypes),
-            OutsideKind::ObjectType,
-        ),
+    demands![
+        Here UNIQUE_IDENTIFIER (MaybeTyped Text) IdentifierForm;
+        Here ATTRIBUTES (MaybeTyped Structure) Missing;
+        Attributes OBJECT_TYPE (OneOf ObjectTypes) ObjectType;
     ]
 }

@@ -3,8 +3,8 @@
 ghost use Rattle.std.specs.Prelude.{◌≡◌};
 ghost use Rattle.kmipa_outside.specs.HeaderDemands.{request_header_demands, response_header_demands};
 
-use crate::demand::{Demand, Inside, Numbers, Step, Wanted, wants};
-use crate::types::ItemType;
+use crate::demand::Demand;
+use crate::demands::demands;
 use kmipa_attrs::tags::{
     BATCH_COUNT, BATCH_ERROR_CONTINUATION_OPTION, BATCH_ORDER_OPTION, PROTOCOL_VERSION_MAJOR,
     PROTOCOL_VERSION_MINOR, TIME_STAMP,
@@ -15,43 +15,13 @@ use kmipa_msgs::OutsideKind;
 pub(crate) fn request_header_demands(count: usize) -> [Demand; 6]
     ensures { result ≡ request_header_demands count }
 {
-    [
-        wants(
-            Inside::Version,
-            Step::Tag(PROTOCOL_VERSION_MAJOR),
-            Wanted::Integer(2),
-            OutsideKind::Version,
-        ),
-        wants(
-            Inside::Version,
-            Step::Tag(PROTOCOL_VERSION_MINOR),
-            Wanted::Integer(1),
-            OutsideKind::Version,
-        ),
-        wants(
-            Inside::Here,
-            Step::Tag(BATCH_COUNT),
-            Wanted::Count(count),
-            OutsideKind::Count,
-        ),
-        wants(
-            Inside::Here,
-            Step::Tag(BATCH_ERROR_CONTINUATION_OPTION),
-            Wanted::MaybeTyped(ItemType::Enumeration),
-            OutsideKind::Missing,
-        ),
-        wants(
-            Inside::Here,
-            Step::Tag(BATCH_ERROR_CONTINUATION_OPTION),
-            Wanted::OneOf(Numbers::BatchOptions),
-            OutsideKind::Missing,
-        ),
-        wants(
-            Inside::Here,
-            Step::Tag(BATCH_ORDER_OPTION),
-            Wanted::MaybeTyped(ItemType::Boolean),
-            OutsideKind::Missing,
-        ),
+    demands![
+        Version PROTOCOL_VERSION_MAJOR (Integer 2) Version;
+        Version PROTOCOL_VERSION_MINOR (Integer 1) Version;
+        Here BATCH_COUNT (Count count) Count;
+        Here BATCH_ERROR_CONTINUATION_OPTION (MaybeTyped Enumeration) Missing;
+        Here BATCH_ERROR_CONTINUATION_OPTION (OneOf BatchOptions) Missing;
+        Here BATCH_ORDER_OPTION (MaybeTyped Boolean) Missing;
     ]
 }
 
@@ -59,30 +29,10 @@ pub(crate) fn request_header_demands(count: usize) -> [Demand; 6]
 pub(crate) fn response_header_demands(count: usize) -> [Demand; 4]
     ensures { result ≡ response_header_demands count }
 {
-    [
-        wants(
-            Inside::Version,
-            Step::Tag(PROTOCOL_VERSION_MAJOR),
-            Wanted::Integer(2),
-            OutsideKind::Version,
-        ),
-        wants(
-            Inside::Version,
-            Step::Tag(PROTOCOL_VERSION_MINOR),
-            Wanted::Integer(1),
-            OutsideKind::Version,
-        ),
-        wants(
-            Inside::Here,
-            Step::Tag(BATCH_COUNT),
-            Wanted::Count(count),
-            OutsideKind::Count,
-        ),
-        wants(
-            Inside::Here,
-            Step::Tag(TIME_STAMP),
-            Wanted::Typed(ItemType::DateTime),
-            OutsideKind::Missing,
-        ),
+    demands![
+        Version PROTOCOL_VERSION_MAJOR (Integer 2) Version;
+        Version PROTOCOL_VERSION_MINOR (Integer 1) Version;
+        Here BATCH_COUNT (Count count) Count;
+        Here TIME_STAMP (Typed DateTime) Missing;
     ]
 }

@@ -8,6 +8,7 @@ mod agreement_demands;
 mod asked_demands;
 mod counting;
 mod demand;
+mod demands;
 mod done_demands;
 mod explaining;
 mod failing;

@@ -3,8 +3,8 @@
 ghost use Rattle.std.specs.Prelude.{◌≡◌};
 ghost use Rattle.kmipa_outside.specs.SharedDemands.{block_demands, attribute_demands, client_demands, filter_demands};
 
-use crate::demand::{Demand, Inside, Numbers, Step, Wanted, wants};
-use crate::types::ItemType;
+use crate::demand::Demand;
+use crate::demands::demands;
 use kmipa_attrs::tags::{
     ACTIVATION_DATE, COMPROMISE_DATE, CRYPTOGRAPHIC_ALGORITHM, CRYPTOGRAPHIC_LENGTH,
     CRYPTOGRAPHIC_USAGE_MASK, DEACTIVATION_DATE, DESTROY_DATE, INITIAL_DATE, KEY_FORMAT_TYPE,
@@ -16,233 +16,77 @@ use kmipa_msgs::OutsideKind;
 pub(crate) fn block_demands() -> [Demand; 9]
     ensures { result ≡ block_demands }
 {
-    [
-        wants(
-            Inside::Block,
-            Step::Tag(KEY_WRAPPING_DATA),
-            Wanted::Nothing,
-            OutsideKind::Wrapped,
-        ),
-        wants(
-            Inside::Block,
-            Step::Tag(KEY_FORMAT_TYPE),
-            Wanted::Typed(ItemType::Enumeration),
-            OutsideKind::Missing,
-        ),
-        wants(
-            Inside::Block,
-            Step::Tag(KEY_FORMAT_TYPE),
-            Wanted::OneOf(Numbers::KeyFormats),
-            OutsideKind::Format,
-        ),
-        wants(
-            Inside::Block,
-            Step::Tag(KEY_VALUE),
-            Wanted::There,
-            OutsideKind::Missing,
-        ),
-        wants(
-            Inside::Block,
-            Step::Tag(KEY_VALUE),
-            Wanted::MaybeTyped(ItemType::Structure),
-            OutsideKind::Format,
-        ),
-        wants(
-            Inside::Value,
-            Step::Tag(KEY_MATERIAL),
-            Wanted::There,
-            OutsideKind::Missing,
-        ),
-        wants(
-            Inside::Value,
-            Step::Tag(KEY_MATERIAL),
-            Wanted::MaybeTyped(ItemType::Bytes),
-            OutsideKind::Format,
-        ),
-        wants(
-            Inside::Block,
-            Step::Tag(CRYPTOGRAPHIC_ALGORITHM),
-            Wanted::MaybeTyped(ItemType::Enumeration),
-            OutsideKind::Missing,
-        ),
-        wants(
-            Inside::Block,
-            Step::Tag(CRYPTOGRAPHIC_LENGTH),
-            Wanted::MaybeTyped(ItemType::Integer),
-            OutsideKind::Missing,
-        ),
+    demands![
+        Block KEY_WRAPPING_DATA (Nothing) Wrapped;
+        Block KEY_FORMAT_TYPE (Typed Enumeration) Missing;
+        Block KEY_FORMAT_TYPE (OneOf KeyFormats) Format;
+        Block KEY_VALUE (There) Missing;
+        Block KEY_VALUE (MaybeTyped Structure) Format;
+        Value KEY_MATERIAL (There) Missing;
+        Value KEY_MATERIAL (MaybeTyped Bytes) Format;
+        Block CRYPTOGRAPHIC_ALGORITHM (MaybeTyped Enumeration) Missing;
+        Block CRYPTOGRAPHIC_LENGTH (MaybeTyped Integer) Missing;
     ]
+}
+
+/// The attributes that have one value, and their types.
+macro_rules! single_attributes {
+    ($rows:ident) => {
+        $rows![
+            OBJECT_TYPE Enumeration,
+            CRYPTOGRAPHIC_ALGORITHM Enumeration,
+            CRYPTOGRAPHIC_LENGTH Integer,
+            CRYPTOGRAPHIC_USAGE_MASK Integer,
+            STATE Enumeration,
+            INITIAL_DATE DateTime,
+            ACTIVATION_DATE DateTime,
+            DEACTIVATION_DATE DateTime,
+            DESTROY_DATE DateTime,
+            COMPROMISE_DATE DateTime,
+        ]
+    };
+}
+
+/// Names, and that each of these attributes has its type.
+macro_rules! typed {
+    ($($tag:ident $of:ident,)+) => {
+        demands![
+            Attributes NAME (EachName) Attribute;
+            $(Attributes $tag (EachTyped $of) Attribute;)+
+        ]
+    };
+}
+
+/// The same, and that each is there once at most.
+macro_rules! typed_once {
+    ($($tag:ident $of:ident,)+) => {
+        demands![
+            Attributes NAME (EachName) Attribute;
+            $(
+                Attributes $tag (EachTyped $of) Attribute;
+                Attributes $tag (Once) Attribute;
+            )+
+        ]
+    };
 }
 
 /// Attributes, by whomever they are given.
 pub(crate) fn attribute_demands() -> [Demand; 21]
     ensures { result ≡ attribute_demands }
 {
-    [
-        wants(
-            Inside::Attributes,
-            Step::Tag(NAME),
-            Wanted::EachName,
-            OutsideKind::Attribute,
-        ),
-        wants(
-            Inside::Attributes,
-            Step::Tag(OBJECT_TYPE),
-            Wanted::EachTyped(ItemType::Enumeration),
-            OutsideKind::Attribute,
-        ),
-        wants(
-            Inside::Attributes,
-            Step::Tag(OBJECT_TYPE),
-            Wanted::Once,
-            OutsideKind::Attribute,
-        ),
-        wants(
-            Inside::Attributes,
-            Step::Tag(CRYPTOGRAPHIC_ALGORITHM),
-            Wanted::EachTyped(ItemType::Enumeration),
-            OutsideKind::Attribute,
-        ),
-        wants(
-            Inside::Attributes,
-            Step::Tag(CRYPTOGRAPHIC_ALGORITHM),
-            Wanted::Once,
-            OutsideKind::Attribute,
-        ),
-        wants(
-            Inside::Attributes,
-            Step::Tag(CRYPTOGRAPHIC_LENGTH),
-            Wanted::EachTyped(ItemType::Integer),
-            OutsideKind::Attribute,
-        ),
-        wants(
-            Inside::Attributes,
-            Step::Tag(CRYPTOGRAPHIC_LENGTH),
-            Wanted::Once,
-            OutsideKind::Attribute,
-        ),
-        wants(
-            Inside::Attributes,
-            Step::Tag(CRYPTOGRAPHIC_USAGE_MASK),
-            Wanted::EachTyped(ItemType::Integer),
-            OutsideKind::Attribute,
-        ),
-        wants(
-            Inside::Attributes,
-            Step::Tag(CRYPTOGRAPHIC_USAGE_MASK),
-            Wanted::Once,
-            OutsideKind::Attribute,
-        ),
-        wants(
-            Inside::Attributes,
-            Step::Tag(STATE),
-            Wanted::EachTyped(ItemType::Enumeration),
-            OutsideKind::Attribute,
-        ),
-        wants(
-            Inside::Attributes,
-            Step::Tag(STATE),
-            Wanted::Once,
-            OutsideKind::Attribute,
-        ),
-        wants(
-            Inside::Attributes,
-            Step::Tag(INITIAL_DATE),
-            Wanted::EachTyped(ItemType::DateTime),
-            OutsideKind::Attribute,
-        ),
-        wants(
-            Inside::Attributes,
-            Step::Tag(INITIAL_DATE),
-            Wanted::Once,
-            OutsideKind::Attribute,
-        ),
-        wants(
-            Inside::Attributes,
-            Step::Tag(ACTIVATION_DATE),
-            Wanted::EachTyped(ItemType::DateTime),
-            OutsideKind::Attribute,
-        ),
-        wants(
-            Inside::Attributes,
-            Step::Tag(ACTIVATION_DATE),
-            Wanted::Once,
-            OutsideKind::Attribute,
-        ),
-        wants(
-            Inside::Attributes,
-            Step::Tag(DEACTIVATION_DATE),
-            Wanted::EachTyped(ItemType::DateTime),
-            OutsideKind::Attribute,
-        ),
-        wants(
-            Inside::Attributes,
-            Step::Tag(DEACTIVATION_DATE),
-            Wanted::Once,
-            OutsideKind::Attribute,
-        ),
-        wants(
-            Inside::Attributes,
-            Step::Tag(DESTROY_DATE),
-            Wanted::EachTyped(ItemType::DateTime),
-            OutsideKind::Attribute,
-        ),
-        wants(
-            Inside::Attributes,
-            Step::Tag(DESTROY_DATE),
-            Wanted::Once,
-            OutsideKind::Attribute,
-        ),
-        wants(
-            Inside::Attributes,
-            Step::Tag(COMPROMISE_DATE),
-            Wanted::EachTyped(ItemType::DateTime),
-            OutsideKind::Attribute,
-        ),
-        wants(
-            Inside::Attributes,
-            Step::Tag(COMPROMISE_DATE),
-            Wanted::Once,
-            OutsideKind::Attribute,
-        ),
-    ]
+    single_attributes!(typed_once)
 }
 
 /// Attributes that no client may give.
 pub(crate) fn client_demands() -> [Demand; 5]
     ensures { result ≡ client_demands }
 {
-    [
-        wants(
-            Inside::Attributes,
-            Step::Tag(STATE),
-            Wanted::Nothing,
-            OutsideKind::Attribute,
-        ),
-        wants(
-            Inside::Attributes,
-            Step::Tag(INITIAL_DATE),
-            Wanted::Nothing,
-            OutsideKind::Attribute,
-        ),
-        wants(
-            Inside::Attributes,
-            Step::Tag(DESTROY_DATE),
-            Wanted::Nothing,
-            OutsideKind::Attribute,
-        ),
-        wants(
-            Inside::Attributes,
-            Step::Tag(COMPROMISE_DATE),
-            Wanted::Nothing,
-            OutsideKind::Attribute,
-        ),
-        wants(
-            Inside::Attributes,
-            Step::Tag(UNIQUE_IDENTIFIER),
-            Wanted::Nothing,
-            OutsideKind::Attribute,
-        ),
+    demands![
+        Attributes STATE (Nothing) Attribute;
+        Attributes INITIAL_DATE (Nothing) Attribute;
+        Attributes DESTROY_DATE (Nothing) Attribute;
+        Attributes COMPROMISE_DATE (Nothing) Attribute;
+        Attributes UNIQUE_IDENTIFIER (Nothing) Attribute;
     ]
 }
 
@@ -250,72 +94,5 @@ pub(crate) fn client_demands() -> [Demand; 5]
 pub(crate) fn filter_demands() -> [Demand; 11]
     ensures { result ≡ filter_demands }
 {
-    [
-        wants(
-            Inside::Attributes,
-            Step::Tag(NAME),
-            Wanted::EachName,
-            OutsideKind::Attribute,
-        ),
-        wants(
-            Inside::Attributes,
-            Step::Tag(OBJECT_TYPE),
-            Wanted::EachTyped(ItemType::Enumeration),
-            OutsideKind::Attribute,
-        ),
-        wants(
-            Inside::Attributes,
-            Step::Tag(CRYPTOGRAPHIC_ALGORITHM),
-            Wanted::EachTyped(ItemType::Enumeration),
-            OutsideKind::Attribute,
-        ),
-        wants(
-            Inside::Attributes,
-            Step::Tag(CRYPTOGRAPHIC_LENGTH),
-            Wanted::EachTyped(ItemType::Integer),
-            OutsideKind::Attribute,
-        ),
-        wants(
-            Inside::Attributes,
-            Step::Tag(CRYPTOGRAPHIC_USAGE_MASK),
-            Wanted::EachTyped(ItemType::Integer),
-            OutsideKind::Attribute,
-        ),
-        wants(
-            Inside::Attributes,
-            Step::Tag(STATE),
-            Wanted::EachTyped(ItemType::Enumeration),
-            OutsideKind::Attribute,
-        ),
-        wants(
-            Inside::Attributes,
-            Step::Tag(INITIAL_DATE),
-            Wanted::EachTyped(ItemType::DateTime),
-            OutsideKind::Attribute,
-        ),
-        wants(
-            Inside::Attributes,
-            Step::Tag(ACTIVATION_DATE),
-            Wanted::EachTyped(ItemType::DateTime),
-            OutsideKind::Attribute,
-        ),
-        wants(
-            Inside::Attributes,
-            Step::Tag(DEACTIVATION_DATE),
-            Wanted::EachTyped(ItemType::DateTime),
-            OutsideKind::Attribute,
-        ),
-        wants(
-            Inside::Attributes,
-            Step::Tag(DESTROY_DATE),
-            Wanted::EachTyped(ItemType::DateTime),
-            OutsideKind::Attribute,
-        ),
-        wants(
-            Inside::Attributes,
-            Step::Tag(COMPROMISE_DATE),
-            Wanted::EachTyped(ItemType::DateTime),
-            OutsideKind::Attribute,
-        ),
-    ]
+    single_attributes!(typed)
 }
