@@ -69,7 +69,7 @@ def _declare(job: Job, wanted: Wanted) -> None:
     if not wanted.is_empty:
         try:
             held = asyncio.run(inventory.held(job.server, job.context, Version(*job.version), False))
-            entries = inventory.entries({"client": held}, False)
+            entries = inventory.entries({"the driver": held}, False)
         except Trouble as trouble:
             raise Trouble(f"the server could not be asked what it holds ({trouble}); on one that holds nothing, give "
                           "--empty") from None
