@@ -78,6 +78,9 @@ pub fn read_folder<R: Files + AllocGlobal + Eprint + Clone + Drop>(
 ) -> io::Result<Folder> {
     let mut names = reported(rt, folder, names_of(rt, folder))?;
     test_names(rt, folder, &names)?;
+    test_kinds(rt, folder, &names.transcripts)?;
+    test_kinds(rt, folder, &names.declarations)?;
+    test_kinds(rt, folder, &names.witnesses)?;
     names.transcripts.sort_unstable();
     names.declarations.sort_unstable();
     Ok(folder_of(rt.alloc(), folder, &names)?)
@@ -123,6 +126,25 @@ fn test_names<R: Eprint>(rt: &R, folder: &str, names: &Names) -> io::Result<()> 
     };
     told.ok();
     Err(io::Error::from(io::ErrorKind::NotFound))
+}
+
+/// Refuses a pipe or a device in the place of a file: it would be waited for, and nothing says that it ever ends.
+fn test_kinds<R: Files + AllocGlobal + Eprint>(
+    rt: &R,
+    folder: &str,
+    names: &[String],
+) -> io::Result<()> {
+    for name in names {
+        let path = path_of(rt.alloc(), folder, name.as_str())?;
+        let there = reported(rt, path.as_str(), fs::metadata(rt, path.as_str()))?;
+        if !there.is_file() && !there.is_dir() {
+            rt.eprintln(format_args!(
+                "kmip_audit: {path}: is no plain file; put the file itself there"
+            )).ok();
+            return Err(io::Error::from(io::ErrorKind::InvalidInput));
+        }
+    }
+    Ok(())
 }
 
 fn folder_of(alloc: Global, folder: &str, names: &Names) -> Result<Folder, AllocError> {
