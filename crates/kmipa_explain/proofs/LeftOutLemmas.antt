@@ -55,7 +55,7 @@ module _ (rules : RulesOf) (m : Meaning) (p : Option (List ℕ)) (t : ℤ) where
   -- it speaks against a Locate that lists something
   abbrev LeavesOver : AskedOf → Option PayloadOf → Type 0
   LeavesOver asked payload =
-      (q : FilterOf) × (listed : List (List ℕ)) × (asked ≡ locates q) × (option_and_then seen_located payload ≡ Some listed) × LeavesOut (cards_of m.objects) t q listed
+      (q : FilterOf) × (listed : List (List ℕ)) × (filter_in asked ≡ Some q) × (option_and_then seen_located payload ≡ Some listed) × LeavesOut (cards_of m.objects) t q listed
 
   located : (q : FilterOf) (payload : Option PayloadOf) (x : Option (List (List ℕ))) → option_and_then seen_located payload ≡ x → LocateReason (cards_of m.objects) t q x ListedTooFew
       → LeavesOver (locates q) payload
@@ -107,7 +107,7 @@ module _ (t : ℤ) (q : FilterOf) (listed : List (List ℕ)) (set : IdSet) (e : 
 
 -- the filter of a Locate is the one that is asked for
 pub the_filter : (ask : AskOf) (answer : AnswerOf) (p q : FilterOf) (ids : List (List ℕ)) → IsLocate ask answer p ids → filter_in ask.asked ≡ Some q → p ≡ q
-the_filter ask answer p q ids is asks = let a : filter_in (locates p) ≡ Some q = ap filter_in (sym is.asks) ∙ asks in cc
+the_filter ask answer p q ids is asks = let a : Some p ≡ Some q = sym is.asks ∙ asks in cc
 
 -- where an object is left out some are told
 some_told : (t : ℤ) (q : FilterOf) (listed : List (List ℕ)) (entries : List EntryOf) (told : List LeftOutHeld) → LeavesOut (map card_declared entries) t q listed
@@ -131,7 +131,7 @@ are_left_out held t ask answer told q listed some asks lists tells =
     record {
       filter = q;
       listed = listed;
-      locate = record { asks = some.locate.asks ∙ ap locates same_filter; lists = lists };
+      locate = record { asks = asks; lists = lists };
       exactly = tells;
       some = some_told t q listed held.entries told (subst L same_list (subst F same_filter some.leaves)) tells;
     }

@@ -9,7 +9,7 @@ use Rattle.kmipa_object.specs.declared.life.Material.TheVariants.{Gone, Secret}
 use Rattle.kmipa_object.specs.declared.rule.Rule.{Rule}
 use Rattle.kmipa_store.specs.Choices.{IsSound}
 use Rattle.kmipa_store.specs.Ledger.{Held, Known, Meaning, cards_of}
-use Rattle.kmipa_msgs.specs.Messages.{RulesOf, AskedOf, PayloadOf, RegisterOf, RegisteredOf, GotAttributesOf, creates, registers, locates, gets, gets_attributes, activates, revokes, destroys, idles, does_other, created, registered, located, got, got_attributes, changed}
+use Rattle.kmipa_msgs.specs.Messages.{RulesOf, AskedOf, BlockOf, PayloadOf, RegisterOf, RegisteredOf, GotAttributesOf, creates, registers, locates, gets, gets_attributes, activates, revokes, destroys, idles, does_other, created, registered, located, got, got_attributes, changed}
 use Rattle.kmipa_msgs.specs.declared.response.Status.{Status}
 use Rattle.kmipa_msgs.specs.declared.response.Status.TheVariants.{Success, Failed, Undone}
 use Rattle.kmipa_record.specs.Declarations.{DeclarationOf}
@@ -26,7 +26,8 @@ use Rattle.kmipa_ops.specs.declared.why.Why.TheVariants.{LengthImpossible}
 use Rattle.kmipa_check.specs.Left.{declaration_left, entry_left}
 use Rattle.kmipa_explain.specs.Holding.{object_held}
 use Rattle.kmipa_explain.specs.Items.{about}
-use Rattle.kmipa_explain.specs.Lengths.{IsImpossible}
+use Rattle.kmipa_ops.specs.Effects.{NewOf, makes}
+use Rattle.kmipa_explain.specs.Lengths.{IsImpossible, IsImpossibleBy, new_length}
 use Rattle.kmipa_explain.specs.declared.held.LengthHeld.{LengthHeld}
 
 placed : (objects : List Held) (place : Option ℕ) (h : Held) → option_and_then (slice_get objects) place ≡ Some h → (n : ℕ) × (slice_get objects n ≡ Some h)
@@ -127,3 +128,14 @@ module _ (m : Meaning) (sound : IsSound m) where
     length_impossible declared there status asked reason payload r =
         let P : Option EntryOf → Type 0 = λ o. (l : LengthHeld) × IsImpossible o asked payload l in
         subst P (sym (there (about p asked payload))) (outcome_length status asked reason payload r)
+
+-- what is told of a new object is of that object, where it can have no key
+pub new_no_key : (new : NewOf) (l : LengthHeld) (object : Option EntryOf) (payload : Option PayloadOf) → l ≡ new_length new
+    → ((k : LengthHeld) × IsImpossibleBy (makes new) object payload k) → IsImpossibleBy (makes new) object payload l
+new_no_key new l object payload is ruled =
+    let P : LengthHeld → Type 0 = λ k. IsImpossibleBy (makes new) object payload k in
+    subst P (sym is) (record { object_type = refl; algorithm = refl; bits = refl; count = counted new.block; ruled_out = ruled.1.ruled_out })
+  where
+    counted : (block : Option BlockOf) → option_map (λ (b : BlockOf). length b.material) block ≡ option_map length (option_map (λ (b : BlockOf). b.material) block)
+    counted None = refl
+    counted (Some b) = refl

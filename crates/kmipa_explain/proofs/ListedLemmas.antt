@@ -65,7 +65,7 @@ module _ (rules : RulesOf) (m : Meaning) (p : Option (List ℕ)) (t : ℤ) where
   -- it speaks against a Locate that lists something
   abbrev Lists : AskedOf → Option PayloadOf → Type 0
   Lists asked payload =
-      (q : FilterOf) × (listed : List (List ℕ)) × (asked ≡ locates q) × (option_and_then seen_located payload ≡ Some listed) × (ListsRightly (cards_of m.objects) t q listed → ⊥)
+      (q : FilterOf) × (listed : List (List ℕ)) × (filter_in asked ≡ Some q) × (option_and_then seen_located payload ≡ Some listed) × (ListsRightly (cards_of m.objects) t q listed → ⊥)
 
   located : (q : FilterOf) (payload : Option PayloadOf) (x : Option (List (List ℕ))) → option_and_then seen_located payload ≡ x → LocateReason (cards_of m.objects) t q x ListedWrongly
       → Lists (locates q) payload

@@ -9,11 +9,14 @@ use Rattle.kmipa_ops.specs.Blame.{done_speaks, outcome_speaks, speaks, lowest}
 use Rattle.kmipa_ops.specs.Whys.{whys}
 use Rattle.kmipa_ops.specs.declared.why.Why.{Why}
 use Rattle.kmipa_ops.specs.declared.why.Why.TheVariants.{StampRunsBack}
-use Rattle.kmipa_ops.specs.Create.{create_deed}
-use Rattle.kmipa_ops.specs.Register.{register_deed}
-use Rattle.kmipa_ops.specs.Locate.{locate_deed}
-use Rattle.kmipa_ops.specs.Get.{get_deed}
-use Rattle.kmipa_ops.specs.GetAttributes.{get_attributes_deed}
+use Rattle.kmipa_ops.specs.Create.{create_deed, create_judging}
+use Rattle.kmipa_ops.specs.Register.{register_deed, register_judging}
+use Rattle.kmipa_ops.specs.Locate.{locate_deed, locate_judging}
+use Rattle.kmipa_ops.specs.Get.{get_deed, get_judging}
+use Rattle.kmipa_ops.specs.GetAttributes.{get_attributes_deed, get_attributes_judging}
+use Rattle.kmipa_ops.specs.Changes.{change_judging}
+use Rattle.kmipa_ops.specs.Judging.{Judging}
+use Rattle.kmipa_ops.specs.declared.change.Change.TheVariants.{Activate, Revoke, Destroy}
 use Rattle.kmipa_ops.specs.Activate.{activate_deed}
 use Rattle.kmipa_ops.specs.Revoke.{revoke_deed}
 use Rattle.kmipa_ops.specs.Destroy.{destroy_deed}
@@ -27,36 +30,36 @@ found_passes {X} p (y ∷ xs) x e = by (p y) refl (λ (rest : find p xs ≡ Some
     by true is further = let same : y ≡ x = (let here : find p (y ∷ xs) ≡ Some y = rw is refl in cc) in ap p (sym same) ∙ is
     by false is further = further (let here : find p (y ∷ xs) ≡ find p xs = rw is refl in sym here ∙ e)
 
-abbrev IsQuiet : Deed → Type 0
-IsQuiet d = (rules : RulesOf) (m : Meaning) (before : Option (List ℕ)) (t : ℤ) (shown : Option d.Shown) → d.speaks rules m before t shown StampRunsBack ≡ false
+abbrev IsQuiet : (d : Deed) → Judging d → Type 0
+IsQuiet d j = (rules : RulesOf) (m : Meaning) (before : Option (List ℕ)) (t : ℤ) (shown : Option d.Shown) → j.speaks rules m before t shown StampRunsBack ≡ false
 
-quiet_create : (a : _) → IsQuiet (create_deed a)
+quiet_create : (a : _) → IsQuiet (create_deed a) (create_judging a)
 quiet_create a rules m before t None = refl
 quiet_create a rules m before t (Some x) = refl
 
-quiet_register : (r : _) → IsQuiet (register_deed r)
+quiet_register : (r : _) → IsQuiet (register_deed r) (register_judging r)
 quiet_register r rules m before t None = refl
 quiet_register r rules m before t (Some x) = refl
 
-quiet_locate : (q : _) → IsQuiet (locate_deed q)
+quiet_locate : (q : _) → IsQuiet (locate_deed q) (locate_judging q)
 quiet_locate q rules m before t None = refl
 quiet_locate q rules m before t (Some x) = refl
 
-quiet_get : (id : Option (List ℕ)) → IsQuiet (get_deed id)
+quiet_get : (id : Option (List ℕ)) → IsQuiet (get_deed id) (get_judging id)
 quiet_get id rules m before t None = refl
 quiet_get id rules m before t (Some x) = refl
 
-quiet_get_attributes : (g : _) → IsQuiet (get_attributes_deed g)
+quiet_get_attributes : (g : _) → IsQuiet (get_attributes_deed g) (get_attributes_judging g)
 quiet_get_attributes g rules m before t None = refl
 quiet_get_attributes g rules m before t (Some x) = refl
 
-quiet_activate : (id : Option (List ℕ)) → IsQuiet (activate_deed id)
+quiet_activate : (id : Option (List ℕ)) → IsQuiet (activate_deed id) (change_judging id Activate)
 quiet_activate id rules m before t shown = refl
 
-quiet_revoke : (r : _) → IsQuiet (revoke_deed r)
+quiet_revoke : (r : _) → IsQuiet (revoke_deed r) (change_judging r.id (Revoke r.code))
 quiet_revoke r rules m before t shown = refl
 
-quiet_destroy : (id : Option (List ℕ)) → IsQuiet (destroy_deed id)
+quiet_destroy : (id : Option (List ℕ)) → IsQuiet (destroy_deed id) (change_judging id Destroy)
 quiet_destroy id rules m before t shown = refl
 
 quiet_done : (rules : RulesOf) (m : Meaning) (before : Option (List ℕ)) (t : ℤ) (asked : AskedOf) (payload : Option PayloadOf) → done_speaks rules m before t asked payload StampRunsBack ≡ false

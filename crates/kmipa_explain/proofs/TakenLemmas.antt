@@ -14,6 +14,7 @@ use Rattle.kmipa_msgs.specs.declared.response.Status.{Status}
 use Rattle.kmipa_msgs.specs.declared.response.Status.TheVariants.{Success, Failed, Undone}
 use Rattle.kmipa_record.specs.Declarations.{DeclarationOf}
 use Rattle.kmipa_record.specs.Entries.{EntryOf}
+use Rattle.kmipa_ops.specs.Adding.{names_new}
 use Rattle.kmipa_ops.specs.Create.{seen_created, CreateReason}
 use Rattle.kmipa_ops.specs.Get.{seen_got, GetReason}
 use Rattle.kmipa_ops.specs.GetAttributes.{seen_attributes, GetAttributesReason}
@@ -26,7 +27,7 @@ use Rattle.kmipa_check.specs.Described.{card_declared}
 use Rattle.kmipa_check.specs.Left.{declaration_left, entry_left}
 use Rattle.kmipa_check.specs.Runs.{rules_declared}
 use Rattle.kmipa_check.proofs.PlaceLemmas.{at_contains, contains_at, get_at, mapped_from}
-use Rattle.kmipa_explain.specs.Items.{about, id_made, makes_object}
+use Rattle.kmipa_explain.specs.Items.{about, makes_object}
 use Rattle.kmipa_explain.specs.Taken.{IsBorne, IsTaken, bears, names_asked, shared}
 use Rattle.kmipa_explain.proofs.QuietLemmas.{found_passes}
 
@@ -56,12 +57,12 @@ module _ (declared : DeclarationOf) (m : Meaning) where
 
   module _ (p : Option (List ℕ)) (t : ℤ) where
     created_taken : (a : Attributes) (x : Option RegisteredOf) → CreateReason (rules_declared declared) (cards_of m.objects) a x IdentifierTaken
-        → (id : List ℕ) × IsTaken made (id_made x) (creates a) id
+        → (id : List ℕ) × IsTaken made (names_new None x) (creates a) id
     created_taken a None r = absurd r
     created_taken a (Some x) r = taken_there (creates a) x refl r
 
     registered_taken : (a : RegisterOf) (x : Option RegisteredOf) → RegisterReason (rules_declared declared) (cards_of m.objects) a x IdentifierTaken
-        → (id : List ℕ) × IsTaken made (id_made x) (registers a) id
+        → (id : List ℕ) × IsTaken made (names_new None x) (registers a) id
     registered_taken a None r = absurd r
     registered_taken a (Some x) r = taken_there (registers a) x refl r
 

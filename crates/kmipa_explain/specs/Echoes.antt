@@ -3,8 +3,9 @@ use Rattle.std.specs.Prelude.{◌≡◌, ◌≢◌, ◌⊎◌, ℕ, List, Option
 use Rattle.std.specs.String.{string_bytes}
 use Rattle.kmipa_attrs.specs.ObjectTypes.{type_number}
 use Rattle.kmipa_attrs.specs.declared.object_type.ObjectType.{ObjectType}
-use Rattle.kmipa_attrs.specs.declared.object_type.ObjectType.TheVariants.{SymmetricKey}
-use Rattle.kmipa_msgs.specs.Messages.{AskedOf, AskOf, PayloadOf, AnswerOf, creates, registers, created, registered, got, got_attributes, changed}
+use Rattle.kmipa_msgs.specs.Messages.{AskedOf, AskOf, PayloadOf, AnswerOf, created, registered, got, got_attributes, changed}
+use Rattle.kmipa_ops.specs.Effects.{EffectOf, makes}
+use Rattle.kmipa_ops.specs.Rows.{effect_asked}
 use Rattle.kmipa_explain.specs.declared.explanation.Cause.{Cause}
 use Rattle.kmipa_explain.specs.declared.explanation.Cause.TheVariants as told
 use Rattle.kmipa_explain.specs.declared.held.EchoHeld.{EchoHeld}
@@ -18,10 +19,12 @@ id_repeated (Some (changed id)) = id
 id_repeated payload = None
 
 -- the object type of a new object, as it is asked for, and the number of the one that its answer repeats, where it does
+abbrev pub type_by : EffectOf → Option ObjectType
+type_by (makes new) = Some new.kind
+type_by effect = None
+
 abbrev pub type_asked : AskedOf → Option ObjectType
-type_asked (creates a) = Some SymmetricKey
-type_asked (registers r) = Some r.object_type
-type_asked asked = None
+type_asked asked = type_by (effect_asked asked)
 
 abbrev pub type_repeated : Option PayloadOf → Option ℕ
 type_repeated (Some (created x)) = x.object_type

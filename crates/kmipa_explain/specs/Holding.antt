@@ -9,7 +9,6 @@ use Rattle.kmipa_record.specs.Declarations.{DeclarationOf}
 use Rattle.kmipa_ops.specs.Explains.{shows}
 use Rattle.kmipa_ops.specs.declared.why.Why.{Why}
 use Rattle.kmipa_ops.specs.declared.why.Why.TheVariants.{NoSuchObject, WrongState, IdentifierTaken, NameTaken, BytesDiffer, LengthImpossible, AttributeDiffers, AttributeMissing, ListedWrongly, ListedTooFew, ReasonUnfounded, EchoDiffers}
-use Rattle.kmipa_check.specs.Described.{dates_in}
 use Rattle.kmipa_explain.specs.Echoes.{TellsEcho}
 use Rattle.kmipa_explain.specs.Items.{about}
 use Rattle.kmipa_explain.specs.Lengths.{TellsLength}

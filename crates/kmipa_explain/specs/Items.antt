@@ -1,13 +1,13 @@
 -- The items of an order, one after the other as they are taken, and which identifier each is about.
-use Rattle.std.specs.Prelude.{ℕ, ◌+◌, ℤ, Bool, true, false, List, [], ◌∷◌, ◌++◌, length, Option, Some, None, option_map, option_and_then, slice_get}
+use Rattle.std.specs.Prelude.{ℕ, ◌+◌, ℤ, Bool, true, false, List, [], ◌∷◌, ◌++◌, length, Option, Some, None, slice_get}
 use Rattle.kmipa_object.specs.Life.{Dates}
-use Rattle.kmipa_msgs.specs.Messages.{AskedOf, AskOf, PayloadOf, RegisteredOf, AnswerOf, operation_asked, creates, registers, locates, gets, gets_attributes, activates, revokes, destroys, idles, does_other}
+use Rattle.kmipa_msgs.specs.Messages.{AskedOf, AskOf, PayloadOf, AnswerOf, operation_asked}
 use Rattle.kmipa_msgs.specs.Operations.{operation_number}
 use Rattle.kmipa_msgs.specs.declared.response.Status.{Status}
 use Rattle.kmipa_ops.specs.After.{placeholder_after}
-use Rattle.kmipa_ops.specs.Create.{seen_created}
-use Rattle.kmipa_ops.specs.Objects.{meant}
-use Rattle.kmipa_ops.specs.Register.{seen_registered}
+use Rattle.kmipa_ops.specs.Effects.{EffectOf}
+use Rattle.kmipa_ops.specs.Effects as op
+use Rattle.kmipa_ops.specs.Rows.{about_asked, effect_asked}
 use Rattle.kmipa_batch.specs.Calls.{pairs_of}
 use Rattle.kmipa_batch.specs.Orders.{places_from}
 use Rattle.kmipa_check.specs.Steps.{StepOf, order_of}
@@ -31,29 +31,18 @@ pub record ItemOf : Type 0 where
 abbrev pub number_asked : AskOf → ℕ
 number_asked ask = operation_number (operation_asked ask.asked)
 
--- a Create or a Register makes an object
-abbrev pub makes_object : AskedOf → Bool
-makes_object (creates a) = true
-makes_object (registers r) = true
-makes_object asked = false
+-- an operation makes an object: a Create or a Register
+abbrev pub makes_by : EffectOf → Bool
+makes_by (op.makes new) = true
+makes_by effect = false
 
--- the identifier of the new object, where it is answered
-abbrev pub id_made : Option RegisteredOf → Option (List ℕ)
-id_made = option_map (λ (x : RegisteredOf). x.id)
+abbrev pub makes_object : AskedOf → Bool
+makes_object asked = makes_by (effect_asked asked)
 
 -- The identifier that an item is about, where the ID Placeholder holds `before`: of a Create and a Register the one that is answered; of the
 -- others on an object the one that they name, or else the placeholder's. A Locate and an operation that isn't read are about none.
 abbrev pub about : Option (List ℕ) → AskedOf → Option PayloadOf → Option (List ℕ)
-about before (creates a) payload = id_made (option_and_then seen_created payload)
-about before (registers r) payload = id_made (option_and_then seen_registered payload)
-about before (locates q) payload = None
-about before (gets id) payload = meant id before
-about before (gets_attributes g) payload = meant g.id before
-about before (activates id) payload = meant id before
-about before (revokes r) payload = meant r.id before
-about before (destroys id) payload = meant id before
-about before (idles number) payload = None
-about before (does_other number) payload = None
+about before asked payload = about_asked before asked payload
 
 -- the item of a call at a place, counted from 0, where the placeholder holds `before`
 abbrev pub item_of : ℕ → StepOf → ℕ → Option (List ℕ) → AskOf → AnswerOf → ItemOf

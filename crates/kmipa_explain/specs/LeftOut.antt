@@ -4,9 +4,12 @@ use Rattle.std.specs.List.{Contains}
 use Rattle.std.specs.String.{string_bytes}
 use Rattle.kmipa_attrs.specs.Filters.{FilterOf}
 use Rattle.kmipa_object.specs.Life.{state}
-use Rattle.kmipa_msgs.specs.Messages.{AskedOf, AskOf, AnswerOf, locates}
+use Rattle.kmipa_msgs.specs.Messages.{AskedOf, AskOf, AnswerOf}
 use Rattle.kmipa_record.specs.Declarations.{DeclarationOf}
 use Rattle.kmipa_record.specs.Entries.{EntryOf}
+use Rattle.kmipa_ops.specs.Effects.{EffectOf}
+use Rattle.kmipa_ops.specs.Effects as op
+use Rattle.kmipa_ops.specs.Rows.{effect_asked}
 use Rattle.kmipa_ops.specs.Locate.{Must, must_fit, seen_located, LeavesOut}
 use Rattle.kmipa_check.specs.Described.{card_declared, dates_in}
 use Rattle.kmipa_explain.specs.Ids.{has_id}
@@ -16,9 +19,17 @@ use Rattle.kmipa_explain.specs.declared.explanation.Cause.TheVariants as told
 use Rattle.kmipa_explain.specs.declared.held.LeftOutHeld.{LeftOutHeld}
 use Rattle.kmipa_explain.specs.declared.id_set.IdSet.{IdSet}
 
+-- the filter that is asked for
+abbrev pub filter_by : EffectOf → Option FilterOf
+filter_by (op.lists filter) = Some filter
+filter_by effect = None
+
+abbrev pub filter_in : AskedOf → Option FilterOf
+filter_in asked = filter_by (effect_asked asked)
+
 -- the item is a Locate with this filter, and its answer lists these identifiers
 pub record IsLocate (ask : AskOf) (answer : AnswerOf) (q : FilterOf) (ids : List (List ℕ)) : Type 0 where
-  pub asks : ask.asked ≡ locates q
+  pub asks : filter_in ask.asked ≡ Some q
   pub lists : option_and_then seen_located answer.payload ≡ Some ids
 
 -- the object of an entry must be listed at the moment, and isn't
@@ -56,11 +67,6 @@ pub record LeavesSomeOut (held : DeclarationOf) (t : ℤ) (ask : AskOf) (answer 
   pub listed : List (List ℕ)
   pub locate : IsLocate ask answer filter listed
   pub leaves : LeavesOut (map card_declared held.entries) t filter listed
-
--- the filter that is asked for
-abbrev pub filter_in : AskedOf → Option FilterOf
-filter_in (locates q) = Some q
-filter_in other = None
 
 -- whether the object of an entry must be listed, and isn't in the set
 abbrev pub is_left_out : ℤ → FilterOf → IdSet → EntryOf → Bool

@@ -1,10 +1,10 @@
 -- The object that is meant, of what was held.
 use Rattle.std.specs.Prelude.{ℕ, List, find, bytes_eq, Option, Some, None, option_and_then, option_map, String}
 use Rattle.kmipa_object.specs.Life.{Dates}
-use Rattle.kmipa_object.specs.Table.{revoke_act}
 use Rattle.kmipa_object.specs.declared.allow.Act.{Act}
-use Rattle.kmipa_object.specs.declared.allow.Act.TheVariants as act
-use Rattle.kmipa_msgs.specs.Messages.{AskedOf, creates, registers, locates, gets, gets_attributes, activates, revokes, destroys, idles, does_other}
+use Rattle.kmipa_msgs.specs.Messages.{AskedOf}
+use Rattle.kmipa_ops.specs.Row.{act_by}
+use Rattle.kmipa_ops.specs.Rows.{subject_asked}
 use Rattle.kmipa_record.specs.Declarations.{DeclarationOf}
 use Rattle.kmipa_record.specs.Entries.{EntryOf}
 use Rattle.kmipa_check.specs.Described.{dates_in}
@@ -26,16 +26,7 @@ bytes_held held id = option_and_then (λ (e : EntryOf). e.bytes) (object_held he
 
 -- the row of the table of states by which an operation on an object is judged
 abbrev pub act_asked : AskedOf → Option Act
-act_asked (creates a) = None
-act_asked (registers r) = None
-act_asked (locates q) = None
-act_asked (gets id) = Some act.Get
-act_asked (gets_attributes g) = Some act.GetAttributes
-act_asked (activates id) = Some act.Activate
-act_asked (revokes r) = Some (revoke_act r.code)
-act_asked (destroys id) = Some act.Destroy
-act_asked (idles number) = None
-act_asked (does_other number) = None
+act_asked asked = act_by (subject_asked asked)
 
 abbrev pub dates_told : DatesHeld → Dates
 dates_told d = record { initial = d.initial; activation = d.activation; deactivation = d.deactivation; destroy = d.destroy; compromise = d.compromise }

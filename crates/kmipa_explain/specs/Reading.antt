@@ -2,12 +2,10 @@
 use Rattle.std.specs.Prelude.{◌≡◌, ℕ, ◌+◌, ◌==◌, ◌&&◌, Bool, List, map, take, drop, filter, find, Option, is_some, option_map, option_and_then}
 use Rattle.std.specs.String.{string_bytes}
 use Rattle.kmipa_msgs.specs.Messages.{PayloadOf}
-use Rattle.kmipa_ops.specs.Create.{seen_created}
 use Rattle.kmipa_ops.specs.Locate.{seen_located}
-use Rattle.kmipa_ops.specs.Register.{seen_registered}
 use Rattle.kmipa_record.specs.Declarations.{DeclarationOf}
 use Rattle.kmipa_check.specs.declared.verdict.Refused.{Refused}
-use Rattle.kmipa_explain.specs.Items.{ItemOf, id_made}
+use Rattle.kmipa_explain.specs.Items.{ItemOf}
 use Rattle.kmipa_explain.specs.Meant.{dates_told, text_of}
 use Rattle.kmipa_explain.specs.Sources.{StartOf, SubjectOf, is_either, made, set_date, taught}
 use Rattle.kmipa_explain.specs.Stories.{event_of, happens_to, is_declared, makes_it}
@@ -37,13 +35,7 @@ test_of now id (Date date second) = set_date now id date second
 test_of now id (Bytes first) = taught first id
 test_of now id (Either e f) = is_either e f
 
--- the identifier that a payload names as the answer of a Create, of a Register, and those that it lists as that of a Locate
-abbrev pub id_created : Option PayloadOf → Option (List ℕ)
-id_created payload = id_made (option_and_then seen_created payload)
-
-abbrev pub id_registered : Option PayloadOf → Option (List ℕ)
-id_registered payload = id_made (option_and_then seen_registered payload)
-
+-- the identifiers that a payload lists as the answer of a Locate
 abbrev pub listed_in : Option PayloadOf → Option (List (List ℕ))
 listed_in payload = option_and_then seen_located payload
 

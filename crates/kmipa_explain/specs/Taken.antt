@@ -4,7 +4,10 @@ use Rattle.std.specs.List.{list_any}
 use Rattle.std.specs.String.{string_bytes}
 use Rattle.kmipa_attrs.specs.Names.{same_name}
 use Rattle.kmipa_attrs.specs.Sets.{NameOf, name_of}
-use Rattle.kmipa_msgs.specs.Messages.{AskedOf, creates, registers}
+use Rattle.kmipa_msgs.specs.Messages.{AskedOf}
+use Rattle.kmipa_ops.specs.Effects.{EffectOf}
+use Rattle.kmipa_ops.specs.Effects as op
+use Rattle.kmipa_ops.specs.Rows.{effect_asked}
 use Rattle.kmipa_record.specs.Declarations.{DeclarationOf}
 use Rattle.kmipa_record.specs.Entries.{EntryOf}
 use Rattle.kmipa_explain.specs.Items.{makes_object}
@@ -28,10 +31,12 @@ TellsIdentifier held meant asked other = ⊥
 -- ---- NameTaken
 
 -- the names that are asked for, of a new object
+abbrev pub names_by : EffectOf → List NameOf
+names_by (op.makes new) = new.attributes.names
+names_by effect = []
+
 abbrev pub names_asked : AskedOf → List NameOf
-names_asked (creates a) = a.names
-names_asked (registers r) = r.attributes.names
-names_asked asked = []
+names_asked asked = names_by (effect_asked asked)
 
 -- names are unique, this one is asked for, and a live object, which has this identifier, has it
 pub record IsBorne (held : DeclarationOf) (asked : AskedOf) (name : NameOf) (bearer : List ℕ) : Type 0 where

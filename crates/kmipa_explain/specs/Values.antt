@@ -6,8 +6,10 @@ use Rattle.std.specs.Ordering.{int_eq}
 use Rattle.kmipa_attrs.specs.ObjectTypes.{type_number}
 use Rattle.kmipa_attrs.specs.Sets.{Attributes, NameOf, name_of, no_attributes}
 use Rattle.kmipa_object.specs.Life.{state, state_number}
-use Rattle.kmipa_msgs.specs.Messages.{AskedOf, GetAttributesOf, GotOf, GotAttributesOf, PayloadOf, gets_attributes, got, got_attributes}
+use Rattle.kmipa_msgs.specs.Messages.{AskedOf, GetAttributesOf, GotOf, GotAttributesOf, PayloadOf, got, got_attributes}
 use Rattle.kmipa_record.specs.Entries.{EntryOf}
+use Rattle.kmipa_ops.specs.Effects.{EffectOf, shows_attributes}
+use Rattle.kmipa_ops.specs.Rows.{effect_asked}
 use Rattle.kmipa_ops.specs.GetAttributes.{asks_for, seen_attributes}
 use Rattle.kmipa_ops.specs.Objects.{same_name}
 use Rattle.kmipa_ops.specs.declared.judged.Judged.{Judged}
@@ -72,9 +74,12 @@ TellsSome a = 1 ≤ length a.names.items + length a.values.items
 -- ---- AttributeMissing
 
 -- what a Get Attributes asks for
+abbrev pub attributes_by : EffectOf → Option GetAttributesOf
+attributes_by (shows_attributes asked) = Some asked
+attributes_by effect = None
+
 abbrev pub attributes_asked : AskedOf → Option GetAttributesOf
-attributes_asked (gets_attributes g) = Some g
-attributes_asked asked = None
+attributes_asked asked = attributes_by (effect_asked asked)
 
 -- the attribute is asked for, the object has it, and it isn't shown
 abbrev pub is_missing : GetAttributesOf → Attributes → Attributes → Judged → Bool

@@ -9,7 +9,8 @@ ghost use Rattle.kmipa_explain.specs.Meant.{text_of};
 use crate::explanation::Cause;
 use crate::held::EchoHeld;
 use kmipa_attrs::ObjectType;
-use kmipa_msgs::{Answer, Ask, Asked, Payload};
+use kmipa_msgs::{Answer, Ask, Payload};
+use kmipa_ops::{Effect, row_of};
 use std::alloc::{AllocError, Global};
 
 /// What the answer repeats otherwise: the Unique Batch Item ID, or else the Unique Identifier, or else the Object Type.
@@ -116,9 +117,8 @@ fn type_echo(ask: &Ask, answer: &Answer) -> Option<EchoHeld>
 fn type_asked(ask: &Ask) -> Option<ObjectType>
     ensures { result ≡ type_asked (ask_of ask.now).asked }
 {
-    match &ask.asked {
-        Asked::Create(_) => Some(ObjectType::SymmetricKey),
-        Asked::Register(register) => Some(register.object_type),
+    match row_of(&ask.asked).effect {
+        Effect::Makes(new) => Some(new.kind),
         _ => None,
     }
 }

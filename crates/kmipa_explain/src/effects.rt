@@ -4,14 +4,14 @@ ghost use Rattle.std.specs.Prelude.{◌≡◌, option_map};
 ghost use Rattle.kmipa_attrs.specs.Sets.{attributes_of};
 ghost use Rattle.kmipa_object.specs.Life.{compromises};
 ghost use Rattle.kmipa_msgs.specs.Messages.{answer_of, ask_of};
-ghost use Rattle.kmipa_explain.specs.Effects.{dates_born, dates_revoked, dates_set, tells_bytes};
+ghost use Rattle.kmipa_explain.specs.Effects.{dates_born, dates_changed, dates_revoked, dates_set, tells_bytes};
 ghost use Rattle.kmipa_explain.specs.Meant.{dates_told};
 
 use crate::held::DatesHeld;
 use crate::holding::shown_bytes;
 use kmipa_attrs::AttrSet;
-use kmipa_msgs::{Answer, Ask, Asked};
-use kmipa_object::Act;
+use kmipa_msgs::{Answer, Ask};
+use kmipa_ops::{Change, Effect, row_of};
 
 /// No date.
 pub(crate) const NO_DATES: DatesHeld = DatesHeld {
@@ -26,20 +26,28 @@ pub(crate) const NO_DATES: DatesHeld = DatesHeld {
 pub(crate) fn dates_set(ask: &Ask, t: i64) -> DatesHeld
     ensures { dates_told result ≡ dates_set t (ask_of ask.now).asked }
 {
-    match &ask.asked {
-        Asked::Create(create) => dates_born(&create.attributes, t),
-        Asked::Register(register) => dates_born(&register.attributes, t),
-        Asked::Activate(_) => DatesHeld {
+    match row_of(&ask.asked).effect {
+        Effect::Makes(new) => dates_born(new.attributes, t),
+        Effect::Changes(change) => dates_changed(change, t),
+        _ => NO_DATES,
+    }
+}
+
+/// Those of a change.
+fn dates_changed(change: Change, t: i64) -> DatesHeld
+    ensures { dates_told result ≡ dates_changed t change }
+{
+    match change {
+        Change::Activate => DatesHeld {
             activation: Some(t),
             ..NO_DATES
         },
-        Asked::Revoke(revoke) => dates_revoked(revoke.code, t),
-        Asked::Destroy(_) => DatesHeld {
+        Change::Revoke(code) => dates_revoked(code, t),
+        Change::Destroy => DatesHeld {
             deactivation: Some(t),
             destroy: Some(t),
             ..NO_DATES
         },
-        _ => NO_DATES,
     }
 }
 
@@ -75,9 +83,9 @@ fn dates_revoked(code: u32, t: i64) -> DatesHeld
 pub(crate) fn tells_bytes(ask: &Ask, answer: &Answer) -> bool
     ensures { result ≡ tells_bytes (ask_of ask.now).asked (answer_of answer.now).payload }
 {
-    match &ask.asked {
-        Asked::Register(_) => true,
-        Asked::Get(_) => shown_bytes(&answer.payload).is_some(),
+    match row_of(&ask.asked).effect {
+        Effect::Makes(new) => new.block.is_some(),
+        Effect::ShowsBytes => shown_bytes(&answer.payload).is_some(),
         _ => false,
     }
 }

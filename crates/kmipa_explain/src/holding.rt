@@ -37,9 +37,9 @@ use crate::taken::{identifier_cause, name_cause};
 use crate::unfounded::reason_cause;
 use kmipa_attrs::AttrSet;
 use kmipa_check::{CheckFault, Step};
-use kmipa_msgs::{Answer, Ask, Asked, Payload};
+use kmipa_msgs::{Answer, Ask, Payload};
 use kmipa_object::{Act, Life, Material, state_at};
-use kmipa_ops::{Why, reasons_are_decided};
+use kmipa_ops::{Why, reasons_are_decided, row_of};
 use kmipa_record::{Declaration, Entry};
 use std::alloc::{AllocError, Global};
 
@@ -195,18 +195,7 @@ pub(crate) fn life_with(dates: DatesHeld) -> Life
 pub fn act_asked(ask: &Ask) -> Option<Act>
     ensures { result ≡ act_asked (ask_of ask.now).asked }
 {
-    match &ask.asked {
-        Asked::Get(_) => Some(Act::Get),
-        Asked::GetAttributes(_) => Some(Act::GetAttributes),
-        Asked::Activate(_) => Some(Act::Activate),
-        Asked::Revoke(revoke) => Some(Act::of_revoke(revoke.code)),
-        Asked::Destroy(_) => Some(Act::Destroy),
-        Asked::Create(_) => None,
-        Asked::Register(_) => None,
-        Asked::Locate(_) => None,
-        Asked::Idle(_) => None,
-        Asked::Other(_) => None,
-    }
+    row_of(&ask.asked).subject.act()
 }
 
 /// Where the bytes that are shown differ from those that are known of the object that is meant.

@@ -2,20 +2,19 @@
 
 ghost use Rattle.std.specs.Prelude.{◌≡◌, ◌<◌, ◌++◌, IfOk, List, Option, OnOk, length, map, option_map, slice_get, ℕ};
 ghost use Rattle.std.specs.String.{string_bytes};
-ghost use Rattle.kmipa_msgs.specs.Messages.{answer_of, ask_of, asked_of, lent, maybe_lent, payload_of};
+ghost use Rattle.kmipa_msgs.specs.Messages.{answer_of, ask_of, maybe_lent};
 ghost use Rattle.kmipa_ops.specs.After.{placeholder_after, placeholder_done};
-ghost use Rattle.kmipa_ops.specs.Locate.{names_only, only};
-ghost use Rattle.kmipa_ops.specs.Objects.{meant};
 ghost use Rattle.kmipa_batch.specs.Calls.{pairs_of};
 ghost use Rattle.kmipa_check.specs.Steps.{order_of, step_of};
 ghost use Rattle.kmipa_explain.specs.Items.{ItemOf, about, item_then, items_of, items_of_call, makes_object, places_taken};
-ghost use Rattle.kmipa_explain.specs.Reading.{id_created, id_registered, listed_in, seen_item};
+ghost use Rattle.kmipa_explain.specs.Reading.{seen_item};
 ghost use Rattle.kmipa_explain.specs.Meant.{text_of};
 
 use crate::effects::{dates_set, tells_bytes};
 use crate::item::Item;
 use kmipa_check::Step;
-use kmipa_msgs::{Answer, Ask, Asked, Payload, Status};
+use kmipa_msgs::{Answer, Ask, Status};
+use kmipa_ops::{Effect, about, held_after as held_after_done, row_of};
 use std::alloc::{AllocError, Global};
 
 /// The items of these steps, one after the other as they are taken.
@@ -116,8 +115,8 @@ fn add_item(
 fn makes_object(ask: &Ask) -> bool
     ensures { result ≡ makes_object (ask_of ask.now).asked }
 {
-    match &ask.asked {
-        Asked::Create(_) | Asked::Register(_) => true,
+    match row_of(&ask.asked).effect {
+        Effect::Makes(_) => true,
         _ => false,
     }
 }
@@ -132,18 +131,7 @@ pub fn about_in(
     ensures { IfOk result
         (λ id. text_of id ≡ about (text_of held.now) (ask_of ask.now).asked (answer_of answer.now).payload) }
 {
-    match &ask.asked {
-        Asked::Create(_) => copied(alloc, id_created(answer)),
-        Asked::Register(_) => copied(alloc, id_registered(answer)),
-        Asked::Locate(_) => Ok(None),
-        Asked::Get(get) => meant(alloc, get.id, held),
-        Asked::GetAttributes(get) => meant(alloc, get.id, held),
-        Asked::Activate(activate) => meant(alloc, activate.id, held),
-        Asked::Revoke(revoke) => meant(alloc, revoke.id, held),
-        Asked::Destroy(destroy) => meant(alloc, destroy.id, held),
-        Asked::Idle(_) => Ok(None),
-        Asked::Other(_) => Ok(None),
-    }
+    copied(alloc, about(&ask.asked, named(held), &answer.payload))
 }
 
 /// What the ID Placeholder holds after an item, where it held this.
@@ -165,7 +153,7 @@ fn held_after(
     }
 }
 
-/// What it holds after an item that was done: the identifier of a new object, or the only one that is listed.
+/// What it holds after an item that was done.
 fn held_done(
     alloc: Global,
     ask: &Ask,
@@ -176,102 +164,19 @@ fn held_done(
         (λ after. text_of after
         ≡ placeholder_done (text_of held) (ask_of ask.now).asked (answer_of answer.now).payload) }
 {
-    match &ask.asked {
-        Asked::Create(_) => newest(alloc, id_created(answer), held),
-        Asked::Register(_) => newest(alloc, id_registered(answer), held),
-        Asked::Locate(_) => only_listed(alloc, answer, held),
-        Asked::Get(_) => Ok(held),
-        Asked::GetAttributes(_) => Ok(held),
-        Asked::Activate(_) => Ok(held),
-        Asked::Revoke(_) => Ok(held),
-        Asked::Destroy(_) => Ok(held),
-        Asked::Idle(_) => Ok(held),
-        Asked::Other(_) => Ok(held),
-    }
+    copied(
+        alloc,
+        held_after_done(&ask.asked, named(&held), &answer.payload),
+    )
 }
 
-/// The identifier that the answer of a Create names.
-fn id_created<'c>(answer: &'c Answer) -> Option<&'c str>
-    ensures { maybe_lent result ≡ id_created (answer_of answer.now).payload }
+/// The identifier that is held, if one is.
+fn named<'h>(held: &'h Option<String>) -> Option<&'h str>
+    ensures { maybe_lent result ≡ text_of held.now }
 {
-    let Some(payload) = &answer.payload else {
-        return None;
-    };
-    match payload {
-        Payload::Create(made) => Some(made.id),
-        _ => None,
-    }
-}
-
-/// The identifier that the answer of a Register names.
-fn id_registered<'c>(answer: &'c Answer) -> Option<&'c str>
-    ensures { maybe_lent result ≡ id_registered (answer_of answer.now).payload }
-{
-    let Some(payload) = &answer.payload else {
-        return None;
-    };
-    match payload {
-        Payload::Register(made) => Some(made.id),
-        _ => None,
-    }
-}
-
-/// What the ID Placeholder holds after a Locate: the identifier that is listed, if exactly one is.
-fn only_listed(
-    alloc: Global,
-    answer: &Answer,
-    held: Option<String>,
-) -> Result<Option<String>, AllocError>
-    ensures { IfOk result
-        (λ after. text_of after ≡ names_only (text_of held) (listed_in (answer_of answer.now).payload)) }
-{
-    let Some(payload) = &answer.payload else {
-        return Ok(held);
-    };
-    match payload {
-        Payload::Locate(located) => only(alloc, located.ids.as_slice()),
-        _ => Ok(held),
-    }
-}
-
-/// The identifier that is listed, if exactly one is.
-fn only(alloc: Global, listed: &[&str]) -> Result<Option<String>, AllocError>
-    ensures { IfOk result (λ id. text_of id ≡ only (map lent listed.now)) }
-{
-    match listed {
-        [id] => Ok(Some(String::from_str(alloc, id)?)),
-        _ => Ok(None),
-    }
-}
-
-/// The identifier of a new object where there is one, or else the one that is held.
-fn newest(
-    alloc: Global,
-    id: Option<&str>,
-    held: Option<String>,
-) -> Result<Option<String>, AllocError>
-    ensures { IfOk result (λ after. text_of after ≡ meant (maybe_lent id.entry) (text_of held)) }
-{
-    match id {
-        Some(id) => Ok(Some(String::from_str(alloc, id)?)),
-        None => Ok(held),
-    }
-}
-
-/// The identifier that is named, or else the one that is held.
-fn meant(
-    alloc: Global,
-    named: Option<&str>,
-    held: &Option<String>,
-) -> Result<Option<String>, AllocError>
-    ensures { IfOk result (λ id. text_of id ≡ meant (maybe_lent named.entry) (text_of held.now)) }
-{
-    match named {
-        Some(id) => Ok(Some(String::from_str(alloc, id)?)),
-        None => match held {
-            Some(id) => Ok(Some(String::from_str(alloc, id.as_str())?)),
-            None => Ok(None),
-        },
+    match held {
+        Some(id) => Some(id.as_str()),
+        None => None,
     }
 }
 

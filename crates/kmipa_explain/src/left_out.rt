@@ -15,7 +15,8 @@ use crate::filters::must_fit;
 use crate::held::LeftOutHeld;
 use crate::id_set::IdSet;
 use kmipa_attrs::Filter;
-use kmipa_msgs::{Answer, Ask, Asked, Located, Payload};
+use kmipa_msgs::{Answer, Ask, Located, Payload};
+use kmipa_ops::{Effect, row_of};
 use kmipa_record::{Declaration, Entry};
 use std::alloc::{AllocError, Global};
 
@@ -41,11 +42,11 @@ pub fn left_out_cause(
 }
 
 /// The filter of a Locate.
-pub fn filter_in<'b>(ask: &'b Ask) -> Option<&'b Filter>
+pub fn filter_in<'b>(ask: &'b Ask<'b>) -> Option<&'b Filter>
     ensures { option_map (λ filter. filter_of filter.now) result ≡ filter_in (ask_of ask.now).asked }
 {
-    match &ask.asked {
-        Asked::Locate(locate) => Some(&locate.filter),
+    match row_of(&ask.asked).effect {
+        Effect::Lists(filter) => Some(filter),
         _ => None,
     }
 }

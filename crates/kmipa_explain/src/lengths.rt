@@ -1,15 +1,16 @@
 //! Bytes that can't be the key of what is asked for, registered or meant.
 
-ghost use Rattle.std.specs.Prelude.{List, Option, option_map, ℕ};
-ghost use Rattle.kmipa_msgs.specs.Messages.{answer_of, ask_of, gets};
+ghost use Rattle.std.specs.Prelude.{◌≡◌, option_map};
+ghost use Rattle.kmipa_msgs.specs.Messages.{answer_of, ask_of};
 ghost use Rattle.kmipa_record.specs.Entries.{entry_of};
-ghost use Rattle.kmipa_explain.specs.Lengths.{IsImpossible, ShowsNoKey, TellsLength};
+ghost use Rattle.kmipa_ops.specs.Subjects.{new_of};
+ghost use Rattle.kmipa_explain.specs.Lengths.{IsImpossible, ShowsNoKey, TellsLength, TellsShown, new_length};
 ghost use Rattle.kmipa_explain.specs.declared.held.LengthHeld.{LengthHeld};
 
 use crate::explanation::Cause;
 use crate::held::LengthHeld;
-use kmipa_attrs::ObjectType;
-use kmipa_msgs::{Answer, Ask, Asked, Payload};
+use kmipa_msgs::{Answer, Ask, Payload};
+use kmipa_ops::{Effect, New, row_of};
 use kmipa_record::Entry;
 
 /// What these bytes, or any, can't be the key of: the new object, or the one that is meant.
@@ -20,21 +21,30 @@ pub(crate) fn length_cause(object: Option<&Entry>, ask: &Ask, answer: &Answer) -
     ensures { TellsLength (option_map (λ entry. entry_of entry.now) object.entry) (ask_of ask.now).asked
         (answer_of answer.now).payload result }
 {
-    match &ask.asked {
-        Asked::Create(create) => Cause::Length(LengthHeld {
-            object_type: ObjectType::SymmetricKey,
-            algorithm: create.attributes.algorithm,
-            length: create.attributes.length,
-            bytes: None,
-        }),
-        Asked::Register(register) => Cause::Length(LengthHeld {
-            object_type: register.object_type,
-            algorithm: register.attributes.algorithm.or(register.block.algorithm),
-            length: register.attributes.length.or(register.block.length),
-            bytes: Some(register.block.material.len()),
-        }),
-        Asked::Get(_) => shown_cause(object, answer),
+    match row_of(&ask.asked).effect {
+        Effect::Makes(new) => Cause::Length(new_length(new)),
+        Effect::ShowsBytes => shown_cause(object, answer),
         _ => Cause::Object,
+    }
+}
+
+/// What is told of a new object.
+fn new_length(new: New) -> LengthHeld
+    ensures { result ≡ new_length (new_of new.entry) }
+{
+    match new.block {
+        Some(block) => LengthHeld {
+            object_type: new.kind,
+            algorithm: new.attributes.algorithm.or(block.algorithm),
+            length: new.attributes.length.or(block.length),
+            bytes: Some(block.material.len()),
+        },
+        None => LengthHeld {
+            object_type: new.kind,
+            algorithm: new.attributes.algorithm,
+            length: new.attributes.length,
+            bytes: None,
+        },
     }
 }
 
@@ -42,8 +52,7 @@ pub(crate) fn length_cause(object: Option<&Entry>, ask: &Ask, answer: &Answer) -
 fn shown_cause(object: Option<&Entry>, answer: &Answer) -> Cause
     requires { (l : LengthHeld)
         × ShowsNoKey (option_map (λ entry. entry_of entry.now) object) (answer_of answer.now).payload l }
-    ensures { (id : Option (List ℕ)) → TellsLength (option_map (λ entry. entry_of entry.now) object.entry) (gets id)
-        (answer_of answer.now).payload result }
+    ensures { TellsShown (option_map (λ entry. entry_of entry.now) object.entry) (answer_of answer.now).payload result }
 {
     let Some(entry) = object else {
         return Cause::Object;

@@ -17,8 +17,8 @@ use crate::holding::object_held;
 use crate::strangers::strangers;
 use crate::values::{SINGLE, attributes_at, value_in, value_told};
 use kmipa_attrs::{AttrSet, Name};
-use kmipa_msgs::{Answer, Ask, Asked, GetAttributes, GotAttributes, Payload};
-use kmipa_ops::{Judged, attributes_are_decided};
+use kmipa_msgs::{Answer, Ask, GetAttributes, GotAttributes, Payload};
+use kmipa_ops::{Effect, Judged, attributes_are_decided, row_of};
 use kmipa_record::Declaration;
 use std::alloc::{AllocError, Global};
 
@@ -51,11 +51,11 @@ pub(crate) fn missing_cause(
 }
 
 /// What a Get Attributes asks for.
-fn attributes_asked<'b, 'a>(ask: &'b Ask<'a>) -> Option<&'b GetAttributes<'a>>
+fn attributes_asked<'b>(ask: &'b Ask<'b>) -> Option<&'b GetAttributes<'b>>
     ensures { option_map (λ asked. get_attributes_of asked.now) result ≡ attributes_asked (ask_of ask.now).asked }
 {
-    match &ask.asked {
-        Asked::GetAttributes(asked) => Some(asked),
+    match row_of(&ask.asked).effect {
+        Effect::ShowsAttributes(asked) => Some(asked),
         _ => None,
     }
 }

@@ -11,7 +11,8 @@ ghost use Rattle.kmipa_explain.specs.Taken.{IsBorne, IsTaken, TellsIdentifier, T
 use crate::explanation::Cause;
 use crate::held::NameHeld;
 use kmipa_attrs::Name;
-use kmipa_msgs::{Ask, Asked};
+use kmipa_msgs::Ask;
+use kmipa_ops::{Effect, row_of};
 use kmipa_record::{Declaration, Entry};
 use std::alloc::{AllocError, Global};
 
@@ -49,9 +50,8 @@ pub(crate) fn name_cause(alloc: Global, held: &Declaration, ask: &Ask) -> Result
 fn names_asked<'b>(ask: &'b Ask) -> &'b [Name]
     ensures { map name_of result.now ≡ names_asked (ask_of ask.now).asked }
 {
-    match &ask.asked {
-        Asked::Create(create) => create.attributes.names.as_slice(),
-        Asked::Register(register) => register.attributes.names.as_slice(),
+    match row_of(&ask.asked).effect {
+        Effect::Makes(new) => new.attributes.names.as_slice(),
         _ => &[],
     }
 }

@@ -26,8 +26,9 @@ use Rattle.kmipa_ops.specs.Chains.{ChainSome}
 use Rattle.kmipa_ops.specs.Founded.{founded}
 use Rattle.kmipa_ops.specs.Meant.{place_meant, secret_at, secret_meant}
 use Rattle.kmipa_ops.specs.OneInventory.{StandsFor}
-use Rattle.kmipa_ops.specs.Row.{Row, deed, idle, unknown, seen_in, row_speaks}
-use Rattle.kmipa_ops.specs.Rows.{asked_row}
+use Rattle.kmipa_ops.specs.Judging.{RowJudging, row_speaks}
+use Rattle.kmipa_ops.specs.Row.{Row, deed, idle, unknown, seen_in}
+use Rattle.kmipa_ops.specs.Rows.{asked_judging, asked_row}
 use Rattle.kmipa_ops.specs.Whys.{whys}
 use Rattle.kmipa_ops.proofs.DeedLaws.{IsRow}
 use Rattle.kmipa_ops.proofs.RowLemmas.{is_row}
@@ -168,11 +169,11 @@ module _ (m n : Meaning) (sound : IsSound m) (sound_too : IsSound n) (alike : St
 
   -- ANY OPERATION
 
-  row_same : (operation : Operation) (row : Row) → IsRow operation row → (rules : RulesOf) (before : Option (List ℕ)) (t : ℤ) (payload : Option PayloadOf) (why : Why)
-      → row_speaks row rules m before t payload why ≡ row_speaks row rules n before t payload why
-  row_same operation (deed d) is rules before t payload why = is.same rules m n (cards_same, secret_same) before t (seen_in d payload) why
-  row_same operation idle is rules before t payload why = refl
-  row_same operation unknown is rules before t payload why = refl
+  row_same : (operation : Operation) (row : Row) (j : RowJudging row) → IsRow operation row j → (rules : RulesOf) (before : Option (List ℕ)) (t : ℤ) (payload : Option PayloadOf) (why : Why)
+      → row_speaks row j rules m before t payload why ≡ row_speaks row j rules n before t payload why
+  row_same operation (deed d) j is rules before t payload why = is.same rules m n (cards_same, secret_same) before t (seen_in d payload) why
+  row_same operation idle j is rules before t payload why = refl
+  row_same operation unknown j is rules before t payload why = refl
 
   failure_same : (rules : RulesOf) (before : Option (List ℕ)) (t : ℤ) (asked : AskedOf) (reason : Option ℕ) (why : Why)
       → failure_speaks rules m before t asked reason why ≡ failure_speaks rules n before t asked reason why
@@ -181,8 +182,8 @@ module _ (m n : Meaning) (sound : IsSound m) (sound_too : IsSound n) (alike : St
 
   outcome_same : (status : Status) (rules : RulesOf) (before : Option (List ℕ)) (t : ℤ) (asked : AskedOf) (reason : Option ℕ) (payload : Option PayloadOf) (why : Why)
       → outcome_speaks status rules m before t asked reason payload why ≡ outcome_speaks status rules n before t asked reason payload why
-  outcome_same Success rules before t asked reason payload why = row_same (operation_asked asked) (asked_row asked) (is_row asked) rules before t payload why
-  outcome_same Undone rules before t asked reason payload why = row_same (operation_asked asked) (asked_row asked) (is_row asked) rules before t payload why
+  outcome_same Success rules before t asked reason payload why = row_same (operation_asked asked) (asked_row asked) (asked_judging asked) (is_row asked) rules before t payload why
+  outcome_same Undone rules before t asked reason payload why = row_same (operation_asked asked) (asked_row asked) (asked_judging asked) (is_row asked) rules before t payload why
   outcome_same Failed rules before t asked reason payload why = failure_same rules before t asked reason why
 
   speaks_same : (rules : RulesOf) (before : Option (List ℕ)) (t : ℤ) (ask : AskOf) (answer : AnswerOf) (why : Why)

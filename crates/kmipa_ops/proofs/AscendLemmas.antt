@@ -1,5 +1,5 @@
 -- Whatever an item leaves, later objects have later secrets.
-use Rattle.std.proofs.Common.{◌≡◌, ◌<◌, ◌⊎◌, inl, inr, ℕ, zero, suc, ℤ, Bool, true, false, List, [], ◌∷◌, ◌++◌, length, Option, Some, None, if◌then◌else◌, slice_get, refl, sym, ap, ◌∙◌, subst, arith}
+use Rattle.std.proofs.Common.{◌≡◌, ◌<◌, ◌⊎◌, inl, inr, ℕ, zero, suc, ℤ, Bool, true, false, List, [], ◌∷◌, ◌++◌, length, Option, Some, None, if◌then◌else◌, slice_get, refl, sym, ap, ◌∙◌, arith}
 use Rattle.std.proofs.lemmas.Option.{slice_get_within}
 use Rattle.kmipa_object.specs.Inventory.{Card}
 use Rattle.kmipa_object.specs.Lists.{updated}
@@ -14,7 +14,7 @@ use Rattle.kmipa_msgs.specs.declared.response.Status.{Status}
 use Rattle.kmipa_msgs.specs.declared.response.Status.TheVariants.{Success, Failed, Undone}
 use Rattle.kmipa_ops.specs.Adding.{with_own}
 use Rattle.kmipa_ops.specs.After.{after, after_done}
-use Rattle.kmipa_ops.specs.Changes.{changed_at, held_left, material_after, with_changed}
+use Rattle.kmipa_ops.specs.Changes.{changed_at, held_left, material_after}
 use Rattle.kmipa_ops.specs.Create.{create_leaves}
 use Rattle.kmipa_ops.specs.Register.{register_leaves}
 use Rattle.kmipa_ops.specs.Get.{get_leaves, taught, taught_at}

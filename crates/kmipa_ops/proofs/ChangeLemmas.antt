@@ -23,7 +23,7 @@ use Rattle.kmipa_ops.specs.declared.change.Change.TheVariants.{Activate, Revoke,
 use Rattle.kmipa_ops.specs.declared.why.Why.{Why}
 use Rattle.kmipa_ops.specs.declared.why.Why.TheVariants.{NoSuchObject, WrongState, EchoDiffers}
 use Rattle.kmipa_ops.specs.Objects.{meant, is_other_id}
-use Rattle.kmipa_ops.specs.Changes.{act_of, dates_after, bytes_after, thing_after, ChangesObject, change_speaks, material_after, dates_left, material_left, held_left, changed_at, with_changed, change_deed, id_in, ChangeReason}
+use Rattle.kmipa_ops.specs.Changes.{act_of, dates_after, bytes_after, thing_after, ChangesObject, change_speaks, material_after, dates_left, material_left, held_left, changed_at, with_changed, change_deed, change_judging, id_in, ChangeReason}
 use Rattle.kmipa_ops.specs.Meant.{place_meant, object_meant, is_not, is_excluded}
 use Rattle.kmipa_ops.proofs.TestLemmas.{not_none, echoes_if, echoes_not}
 use Rattle.kmipa_ops.proofs.StepLemmas.{Step, step_as}
@@ -286,7 +286,7 @@ change_same hs gs same meant_id t change shown NoSuchObject = none_same hs gs sa
 change_same hs gs same meant_id t change shown WrongState = excluded_same hs gs same (act_of change) t meant_id
 change_same hs gs same meant_id t change shown why = refl
 
-pub is_change : (id : Option (List ℕ)) (change : Change) → IsDeed (change_deed id change) SaysChanged IsSayableId
+pub is_change : (id : Option (List ℕ)) (change : Change) → IsDeed (change_deed id change) (change_judging id change) SaysChanged IsSayableId
 is_change id change = record {
   back = λ shown. refl;
   each = elim [ changed x ↦ inl (x, refl) | _ ↦ inr (refl, λ ts s. s) ];

@@ -18,7 +18,7 @@ use Rattle.kmipa_ops.specs.declared.judged.Judged.TheVariants.{Name, ObjectType,
 use Rattle.kmipa_ops.specs.declared.why.Why.{Why}
 use Rattle.kmipa_ops.specs.declared.why.Why.TheVariants.{NoSuchObject, AttributeDiffers, AttributeMissing, EchoDiffers}
 use Rattle.kmipa_ops.specs.Objects.{meant, HasObject, card_meant, Agree, is_other_id, clash}
-use Rattle.kmipa_ops.specs.GetAttributes.{AttributesAreDecided, IsHad, IsOwnAt, ShowsAsked, HasRequired, GetsAttributes, has_stranger, is_foreign_date, asks_for, leaves_out, shows_other_value, shows_other_date, shows_foreign, shows_foreign_of, lacks_name, lacks_value, lacks_date, lacks_asked, lacks_required, lacks_required_of, get_attributes_speaks, SaysAttributes, get_attributes_deed, attributes_speak, GetAttributesReason}
+use Rattle.kmipa_ops.specs.GetAttributes.{AttributesAreDecided, IsHad, IsOwnAt, ShowsAsked, HasRequired, GetsAttributes, has_stranger, is_foreign_date, asks_for, leaves_out, shows_other_value, shows_other_date, shows_foreign, shows_foreign_of, lacks_name, lacks_value, lacks_date, lacks_asked, lacks_required, lacks_required_of, get_attributes_speaks, SaysAttributes, get_attributes_deed, get_attributes_judging, attributes_speak, GetAttributesReason}
 use Rattle.kmipa_ops.proofs.NameLemmas.{strangers_if, strangers_not}
 use Rattle.kmipa_ops.proofs.TestLemmas.{false_if, five_parts, five_cases, three_cases, not_false, not_none, echoes_if, echoes_not, agree_if, agree_not, true_not, refuted}
 use Rattle.kmipa_ops.proofs.StepLemmas.{Step, still_step}
@@ -400,7 +400,7 @@ get_attributes_decides cs meant_id t g (Some a) AttributeMissing =
 get_attributes_decides cs meant_id t g (Some a) EchoDiffers = id_decides a.id meant_id
 get_attributes_decides cs meant_id t g (Some a) why = never_decides
 
-pub is_get_attributes : (g : GetAttributesOf) → IsDeed (get_attributes_deed g) AnswersGetAttributes SaysOwn
+pub is_get_attributes : (g : GetAttributesOf) → IsDeed (get_attributes_deed g) (get_attributes_judging g) AnswersGetAttributes SaysOwn
 is_get_attributes g = record {
   back = λ a. refl;
   each = elim [ got_attributes x ↦ inl (x, refl) | _ ↦ inr (refl, λ ts s. s) ];

@@ -27,7 +27,7 @@ use Rattle.kmipa_ops.specs.declared.why.Why.{Why}
 use Rattle.kmipa_ops.specs.declared.why.Why.TheVariants.{NoSuchObject, WrongState, BytesDiffer, LengthImpossible, AttributeDiffers, EchoDiffers}
 use Rattle.kmipa_ops.specs.Objects.{meant, Echoes, Agree, is_other, clash, same_type, is_other_id, Differs}
 use Rattle.kmipa_msgs.specs.Sayable.{SaysKey}
-use Rattle.kmipa_ops.specs.Get.{Gets, shows_other, get_speaks, taught, taught_at, get_leaves, get_deed, IsOther, GetReason}
+use Rattle.kmipa_ops.specs.Get.{Gets, shows_other, get_speaks, taught, taught_at, get_leaves, get_deed, get_judging, IsOther, GetReason}
 use Rattle.kmipa_ops.specs.Meant.{object_meant, secret_at, secret_meant, is_not, is_excluded}
 use Rattle.kmipa_ops.proofs.TestLemmas.{not_false, not_none, echoes_if, echoes_not, agree_if, agree_not, or_cases, false_if, not_true, true_not, not_decides}
 use Rattle.kmipa_ops.proofs.StepLemmas.{Step, chose_before, still_step}
@@ -405,7 +405,7 @@ get_same m n same meant_id t (Some a) AttributeDiffers =
 get_same m n same meant_id t (Some a) why = refl
 get_same m n same meant_id t None why = refl
 
-pub is_get : (id : Option (List ℕ)) → IsDeed (get_deed id) AnswersGet SaysKey
+pub is_get : (id : Option (List ℕ)) → IsDeed (get_deed id) (get_judging id) AnswersGet SaysKey
 is_get id = record {
   back = λ a. refl;
   each = elim [ got x ↦ inl (x, refl) | _ ↦ inr (refl, λ ts s. s) ];

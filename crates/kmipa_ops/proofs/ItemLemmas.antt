@@ -14,8 +14,10 @@ use Rattle.kmipa_msgs.specs.Messages.{RulesOf, AskedOf, AskOf, operation_asked, 
 use Rattle.kmipa_ops.specs.declared.why.Why.{Why}
 use Rattle.kmipa_ops.specs.declared.why.Why.TheVariants.{OperationDiffers, ReasonUnfounded, EchoDiffers}
 use Rattle.kmipa_ops.specs.Objects.{Echoes, Agree, is_other}
-use Rattle.kmipa_ops.specs.Row.{Deed, Row, deed, idle, unknown, seen_in, row_does, row_is_of, row_may_lack, row_is_idle, row_brings, row_speaks, row_leaves, row_holds}
-use Rattle.kmipa_ops.specs.Rows.{asked_row}
+use Rattle.kmipa_ops.specs.Effects.{brought_by}
+use Rattle.kmipa_ops.specs.Judging.{Judging, RowJudging, row_brings, row_speaks, row_leaves, row_holds}
+use Rattle.kmipa_ops.specs.Row.{Deed, Row, deed, idle, unknown, seen_in, row_does, row_is_of, row_may_lack, row_is_idle}
+use Rattle.kmipa_ops.specs.Rows.{asked_judging, asked_row}
 use Rattle.kmipa_ops.specs.Founded.{founded}
 use Rattle.kmipa_ops.specs.Does.{Fails, Outcome}
 use Rattle.kmipa_ops.specs.Completes.{IsFill, FillsRow, Fills, DoesSome, can_judge}
@@ -33,18 +35,18 @@ use Rattle.kmipa_msgs.specs.declared.operation.Operation.{Operation}
 module _ (rules : RulesOf) (m : Meaning) (before : Option (List ℕ)) (t : ℤ) where
   -- AN OPERATION WHOSE PAYLOADS ARE READ
 
-  module _ (d : Deed) {Says : Trees → PayloadOf → Type 0} {Sayable : d.Shown → Type 0} (is : IsDeed d Says Sayable) where
+  module _ (d : Deed) (j : Judging d) {Says : Trees → PayloadOf → Type 0} {Sayable : d.Shown → Type 0} (is : IsDeed d j Says Sayable) where
     -- done with a payload
     abbrev DoesSeen : Option d.Shown → List Thing → List Thing → Option (List ℕ) → Type 0
     DoesSeen o V V' p = MatchOption o ⊥ (λ shown. d.does rules V before t shown V' p)
 
-    seen_step : (payload : PayloadOf) (o : Option d.Shown) → d.seen payload ≡ o → is_some o ≡ true → IsSound m → AreBytes d.brings → AreBytes (shows (Some payload))
-        → ((w : Why) → d.speaks rules m before t o w ≡ false) → Step (λ V V' p. DoesSeen o V V' p) m (d.leaves m before t o) (d.holds before o)
+    seen_step : (payload : PayloadOf) (o : Option d.Shown) → d.seen payload ≡ o → is_some o ≡ true → IsSound m → AreBytes (brought_by j.effect) → AreBytes (shows (Some payload))
+        → ((w : Why) → j.speaks rules m before t o w ≡ false) → Step (λ V V' p. DoesSeen o V V' p) m (j.leaves m before t o) (j.holds before o)
     seen_step payload None e of sound brought shown silent = let bad : ⊥ = cc in absurd bad
     seen_step payload (Some x) e of sound brought shown silent =
         is.step rules m before t x sound brought (subst (λ (p : PayloadOf). AreBytes (shows (Some p))) (one_shows d is payload x e) shown) silent
 
-    seen_never : (o : Option d.Shown) (w : Why) → d.speaks rules m before t o w ≡ true → (c : Choice) → Chooses m.secrets c → (V : List Thing) (p : Option (List ℕ))
+    seen_never : (o : Option d.Shown) (w : Why) → j.speaks rules m before t o w ≡ true → (c : Choice) → Chooses m.secrets c → (V : List Thing) (p : Option (List ℕ))
         → DoesSeen o (inv c m.objects) V p → ⊥
     seen_never None w h c ch V p x = x
     seen_never (Some x) w h c ch V p y = is.never rules m before t x w h c ch V p y
@@ -67,10 +69,10 @@ module _ (rules : RulesOf) (m : Meaning) (before : Option (List ℕ)) (t : ℤ) 
         let Q : Option d.Shown → Type 0 = λ o. DoesSeen o V V' p in
         (Some (d.payload x.0), record { shown = x.0; is = refl; sayable = x.1 }, subst Q (sym (is.back x.0)) x.2)
 
-    filled_step : d.may_lack ≡ true → IsSound m → ((w : Why) → d.speaks rules m before t None w ≡ false) → Step Filled m (d.leaves m before t None) (d.holds before None)
-    filled_step may sound silent = step_as Hides Filled m (d.leaves m before t None) (d.holds before None) fills hides (is.hidden rules m before t may sound silent)
+    filled_step : d.may_lack ≡ true → IsSound m → ((w : Why) → j.speaks rules m before t None w ≡ false) → Step Filled m (j.leaves m before t None) (j.holds before None)
+    filled_step may sound silent = step_as Hides Filled m (j.leaves m before t None) (j.holds before None) fills hides (is.hidden rules m before t may sound silent)
 
-    filled_never : (w : Why) → d.speaks rules m before t None w ≡ true → (c : Choice) → Chooses m.secrets c → (V : List Thing) (p : Option (List ℕ)) → Filled (inv c m.objects) V p → ⊥
+    filled_never : (w : Why) → j.speaks rules m before t None w ≡ true → (c : Choice) → Chooses m.secrets c → (V : List Thing) (p : Option (List ℕ)) → Filled (inv c m.objects) V p → ⊥
     filled_never w h c ch V p x = let y = hides (inv c m.objects) V p x in is.never rules m before t y.0 w (is.covers rules m before t y.0 w h) c ch V p y.2
 
   -- ANY OPERATION
@@ -86,42 +88,42 @@ module _ (rules : RulesOf) (m : Meaning) (before : Option (List ℕ)) (t : ℤ) 
       (λ V V' p x. let P : Option PayloadOf → Type 0 = λ f. row_does row rules V before t f V' p in subst P x.1 x.2)
       s
 
-  done_step : (operation : Operation) (row : Row) (payload : PayloadOf) → IsRow operation row → IsSound m → row_is_of row payload ≡ true → AreBytes (row_brings row) → AreBytes (shows (Some payload))
-      → ((w : Why) → row_speaks row rules m before t (Some payload) w ≡ false)
-      → Step (λ V V' p. row_does row rules V before t (Some payload) V' p) m (row_leaves row m before t (Some payload)) (row_holds row before (Some payload))
-  done_step operation (deed d) payload is sound of brought shown silent = seen_step d is payload (d.seen payload) refl of sound brought shown silent
-  done_step operation idle payload is sound of brought shown silent = let bad : ⊥ = cc in absurd bad
-  done_step operation unknown payload is sound of brought shown silent = let bad : ⊥ = cc in absurd bad
+  done_step : (operation : Operation) (row : Row) (j : RowJudging row) (payload : PayloadOf) → IsRow operation row j → IsSound m → row_is_of row payload ≡ true → AreBytes (row_brings row j) → AreBytes (shows (Some payload))
+      → ((w : Why) → row_speaks row j rules m before t (Some payload) w ≡ false)
+      → Step (λ V V' p. row_does row rules V before t (Some payload) V' p) m (row_leaves row j m before t (Some payload)) (row_holds row j before (Some payload))
+  done_step operation (deed d) j payload is sound of brought shown silent = seen_step d j is payload (d.seen payload) refl of sound brought shown silent
+  done_step operation idle j payload is sound of brought shown silent = let bad : ⊥ = cc in absurd bad
+  done_step operation unknown j payload is sound of brought shown silent = let bad : ⊥ = cc in absurd bad
 
   idle_step : IsSound m → Step (λ V V' p. row_does idle rules V before t None V' p) m m before
   idle_step sound = still_step (λ V V' p. row_does idle rules V before t None V' p) m before sound (λ c ch. (refl, refl)) (λ V V' p x. x)
 
   -- or without one
-  idle_done : (row : Row) → IsSound m → row_is_idle row ≡ true → Step (DoesWith row None) m (row_leaves row m before t None) (row_holds row before None)
-  idle_done (deed d) sound is = let bad : ⊥ = cc in absurd bad
-  idle_done idle sound is = with_step idle None m before (idle_step sound)
-  idle_done unknown sound is = let bad : ⊥ = cc in absurd bad
+  idle_done : (row : Row) (j : RowJudging row) → IsSound m → row_is_idle row ≡ true → Step (DoesWith row None) m (row_leaves row j m before t None) (row_holds row j before None)
+  idle_done (deed d) j sound is = let bad : ⊥ = cc in absurd bad
+  idle_done idle j sound is = with_step idle None m before (idle_step sound)
+  idle_done unknown j sound is = let bad : ⊥ = cc in absurd bad
 
   abbrev Lacks : Row → List Thing → List Thing → Option (List ℕ) → Type 0
   Lacks row V V' p = (filled : Option PayloadOf) × FillsRow row filled × row_does row rules V before t filled V' p
 
-  lacks_step : (operation : Operation) (row : Row) → IsRow operation row → IsSound m → row_may_lack row ≡ true → ((w : Why) → row_speaks row rules m before t None w ≡ false)
-      → Step (Lacks row) m (row_leaves row m before t None) (row_holds row before None)
-  lacks_step operation (deed d) is sound may silent = filled_step d is may sound silent
-  lacks_step operation idle is sound may silent = with_step idle None m before (idle_step sound)
-  lacks_step operation unknown is sound may silent = let bad : ⊥ = cc in absurd bad
+  lacks_step : (operation : Operation) (row : Row) (j : RowJudging row) → IsRow operation row j → IsSound m → row_may_lack row ≡ true → ((w : Why) → row_speaks row j rules m before t None w ≡ false)
+      → Step (Lacks row) m (row_leaves row j m before t None) (row_holds row j before None)
+  lacks_step operation (deed d) j is sound may silent = filled_step d j is may sound silent
+  lacks_step operation idle j is sound may silent = with_step idle None m before (idle_step sound)
+  lacks_step operation unknown j is sound may silent = let bad : ⊥ = cc in absurd bad
 
-  with_never : (operation : Operation) (row : Row) (payload : Option PayloadOf) → IsRow operation row → (w : Why) → row_speaks row rules m before t payload w ≡ true
+  with_never : (operation : Operation) (row : Row) (j : RowJudging row) (payload : Option PayloadOf) → IsRow operation row j → (w : Why) → row_speaks row j rules m before t payload w ≡ true
       → (c : Choice) → Chooses m.secrets c → (V : List Thing) (p : Option (List ℕ)) → row_does row rules (inv c m.objects) before t payload V p → ⊥
-  with_never operation (deed d) payload is w h c ch V p x = seen_never d is (seen_in d payload) w h c ch V p x
-  with_never operation idle payload is w h c ch V p x = cc
-  with_never operation unknown payload is w h c ch V p x = cc
+  with_never operation (deed d) j payload is w h c ch V p x = seen_never d j is (seen_in d payload) w h c ch V p x
+  with_never operation idle j payload is w h c ch V p x = cc
+  with_never operation unknown j payload is w h c ch V p x = cc
 
-  lacks_never : (operation : Operation) (row : Row) → IsRow operation row → (w : Why) → row_speaks row rules m before t None w ≡ true
+  lacks_never : (operation : Operation) (row : Row) (j : RowJudging row) → IsRow operation row j → (w : Why) → row_speaks row j rules m before t None w ≡ true
       → (c : Choice) → Chooses m.secrets c → (V : List Thing) (p : Option (List ℕ)) → Lacks row (inv c m.objects) V p → ⊥
-  lacks_never operation (deed d) is w h c ch V p x = filled_never d is w h c ch V p x
-  lacks_never operation idle is w h c ch V p x = cc
-  lacks_never operation unknown is w h c ch V p x = cc
+  lacks_never operation (deed d) j is w h c ch V p x = filled_never d j is w h c ch V p x
+  lacks_never operation idle j is w h c ch V p x = cc
+  lacks_never operation unknown j is w h c ch V p x = cc
 
   -- ANY OUTCOME
 
@@ -152,18 +154,18 @@ module _ (rules : RulesOf) (m : Meaning) (before : Option (List ℕ)) (t : ℤ) 
       step_as (λ V V' p. Fails rules V before t asked reason V' p) (OutcomeSome Failed asked reason payload) m m before
       (λ V V' p x. (payload, refl, x)) (λ V V' p x. x.2) (fail_step asked reason sound (silent ReasonUnfounded))
   outcome_step Success asked reason (Some payload) sound readable brought shown silent =
-      with_step (asked_row asked) (Some payload) _ _ (done_step (operation_asked asked) (asked_row asked) payload (is_row asked) sound readable brought shown silent)
-  outcome_step Success asked reason None sound readable brought shown silent = idle_done (asked_row asked) sound readable
+      with_step (asked_row asked) (Some payload) _ _ (done_step (operation_asked asked) (asked_row asked) (asked_judging asked) payload (is_row asked) sound readable brought shown silent)
+  outcome_step Success asked reason None sound readable brought shown silent = idle_done (asked_row asked) (asked_judging asked) sound readable
   outcome_step Undone asked reason (Some payload) sound readable brought shown silent =
-      with_step (asked_row asked) (Some payload) _ _ (done_step (operation_asked asked) (asked_row asked) payload (is_row asked) sound readable brought shown silent)
-  outcome_step Undone asked reason None sound readable brought shown silent = lacks_step (operation_asked asked) (asked_row asked) (is_row asked) sound readable silent
+      with_step (asked_row asked) (Some payload) _ _ (done_step (operation_asked asked) (asked_row asked) (asked_judging asked) payload (is_row asked) sound readable brought shown silent)
+  outcome_step Undone asked reason None sound readable brought shown silent = lacks_step (operation_asked asked) (asked_row asked) (asked_judging asked) (is_row asked) sound readable silent
 
   -- what speaks against it allows no choice
-  some_never : (operation : Operation) (row : Row) (payload : Option PayloadOf) → IsRow operation row → (w : Why) → row_speaks row rules m before t payload w ≡ true
+  some_never : (operation : Operation) (row : Row) (j : RowJudging row) (payload : Option PayloadOf) → IsRow operation row j → (w : Why) → row_speaks row j rules m before t payload w ≡ true
       → (c : Choice) → Chooses m.secrets c → (V : List Thing) (p : Option (List ℕ)) → DoesWith row payload (inv c m.objects) V p → ⊥
-  some_never operation row payload is w h c ch V p x =
+  some_never operation row j payload is w h c ch V p x =
       let P : Option PayloadOf → Type 0 = λ f. row_does row rules (inv c m.objects) before t f V p in
-      with_never operation row payload is w h c ch V p (subst P x.1 x.2)
+      with_never operation row j payload is w h c ch V p (subst P x.1 x.2)
 
   fail_never : (asked : AskedOf) (reason : Option ℕ) (w : Why) → outcome_speaks Failed rules m before t asked reason None w ≡ true
       → (c : Choice) (V : List Thing) (p : Option (List ℕ)) → Fails rules (inv c m.objects) before t asked reason V p → ⊥
@@ -175,9 +177,9 @@ module _ (rules : RulesOf) (m : Meaning) (before : Option (List ℕ)) (t : ℤ) 
   pub outcome_never : (status : Status) (asked : AskedOf) (reason : Option ℕ) (payload : Option PayloadOf) (w : Why) → outcome_speaks status rules m before t asked reason payload w ≡ true
       → (c : Choice) → Chooses m.secrets c → (V : List Thing) (p : Option (List ℕ)) → OutcomeSome status asked reason payload (inv c m.objects) V p → ⊥
   outcome_never Failed asked reason payload w h c ch V p x = fail_never asked reason w h c V p x.2
-  outcome_never Success asked reason payload w h c ch V p x = some_never (operation_asked asked) (asked_row asked) payload (is_row asked) w h c ch V p x
-  outcome_never Undone asked reason (Some payload) w h c ch V p x = some_never (operation_asked asked) (asked_row asked) (Some payload) (is_row asked) w h c ch V p x
-  outcome_never Undone asked reason None w h c ch V p x = lacks_never (operation_asked asked) (asked_row asked) (is_row asked) w h c ch V p x
+  outcome_never Success asked reason payload w h c ch V p x = some_never (operation_asked asked) (asked_row asked) (asked_judging asked) payload (is_row asked) w h c ch V p x
+  outcome_never Undone asked reason (Some payload) w h c ch V p x = some_never (operation_asked asked) (asked_row asked) (asked_judging asked) (Some payload) (is_row asked) w h c ch V p x
+  outcome_never Undone asked reason None w h c ch V p x = lacks_never (operation_asked asked) (asked_row asked) (asked_judging asked) (is_row asked) w h c ch V p x
 
   -- the frame of an answer beside its outcome
   abbrev pub Framed : AskOf → AnswerOf → Type 0
@@ -238,21 +240,21 @@ module _ (rules : RulesOf) (m : Meaning) (before : Option (List ℕ)) (t : ℤ) 
       (outcome_step answer.status ask.asked answer.reason answer.payload sound judged bytes.0 bytes.1 (λ w. (parts w).1))
 
 -- what is known afterwards
-seen_learns : (d : Deed) {Says : Trees → PayloadOf → Type 0} {Sayable : d.Shown → Type 0} → IsDeed d Says Sayable → (m : Meaning) (before : Option (List ℕ)) (t : ℤ) (payload : PayloadOf) (o : Option d.Shown) → d.seen payload ≡ o
-    → Learns m (d.leaves m before t o) d.brings (shows (option_map d.payload o)) → Learns m (d.leaves m before t o) d.brings (shows (Some payload))
-seen_learns d is m before t payload None e h = λ number bytes q. elim (h number bytes q) [
+seen_learns : (d : Deed) (j : Judging d) {Says : Trees → PayloadOf → Type 0} {Sayable : d.Shown → Type 0} → IsDeed d j Says Sayable → (m : Meaning) (before : Option (List ℕ)) (t : ℤ) (payload : PayloadOf) (o : Option d.Shown) → d.seen payload ≡ o
+    → Learns m (j.leaves m before t o) (brought_by j.effect) (shows (option_map d.payload o)) → Learns m (j.leaves m before t o) (brought_by j.effect) (shows (Some payload))
+seen_learns d j is m before t payload None e h = λ number bytes q. elim (h number bytes q) [
   | inl y ↦ inl y
   | inr y ↦ inr (elim y [ inl z ↦ inl z | inr z ↦ let bad : ⊥ = cc in absurd bad ])
 ]
-seen_learns d is m before t payload (Some x) e h = subst (λ (p : PayloadOf). Learns m (d.leaves m before t (Some x)) d.brings (shows (Some p))) (sym (one_shows d is payload x e)) h
+seen_learns d j is m before t payload (Some x) e h = subst (λ (p : PayloadOf). Learns m (j.leaves m before t (Some x)) (brought_by j.effect) (shows (Some p))) (sym (one_shows d is payload x e)) h
 
-row_learns : (operation : Operation) (row : Row) → IsRow operation row → (m : Meaning) (before : Option (List ℕ)) (t : ℤ) (payload : Option PayloadOf) → Learns m (row_leaves row m before t payload) (row_brings row) (shows payload)
-row_learns operation (deed d) is m before t None = is.learns m before t None
-row_learns operation (deed d) is m before t (Some payload) = seen_learns d is m before t payload (d.seen payload) refl (is.learns m before t (d.seen payload))
-row_learns operation idle is m before t payload = λ number bytes e. inl e
-row_learns operation unknown is m before t payload = λ number bytes e. inl e
+row_learns : (operation : Operation) (row : Row) (j : RowJudging row) → IsRow operation row j → (m : Meaning) (before : Option (List ℕ)) (t : ℤ) (payload : Option PayloadOf) → Learns m (row_leaves row j m before t payload) (row_brings row j) (shows payload)
+row_learns operation (deed d) j is m before t None = is.learns m before t None
+row_learns operation (deed d) j is m before t (Some payload) = seen_learns d j is m before t payload (d.seen payload) refl (is.learns m before t (d.seen payload))
+row_learns operation idle j is m before t payload = λ number bytes e. inl e
+row_learns operation unknown j is m before t payload = λ number bytes e. inl e
 
 pub learns_after : (status : Status) (m : Meaning) (before : Option (List ℕ)) (t : ℤ) (asked : AskedOf) (payload : Option PayloadOf) → Learns m (after status m before t asked payload) (brings asked) (shows payload)
-learns_after Success m before t asked payload = row_learns (operation_asked asked) (asked_row asked) (is_row asked) m before t payload
-learns_after Undone m before t asked payload = row_learns (operation_asked asked) (asked_row asked) (is_row asked) m before t payload
+learns_after Success m before t asked payload = row_learns (operation_asked asked) (asked_row asked) (asked_judging asked) (is_row asked) m before t payload
+learns_after Undone m before t asked payload = row_learns (operation_asked asked) (asked_row asked) (asked_judging asked) (is_row asked) m before t payload
 learns_after Failed m before t asked payload = λ number bytes e. inl e

@@ -11,6 +11,7 @@ pub mod AddLemmas
 mod NewbornLemmas
 mod GetLemmas
 mod ChangeLemmas
+mod ChangingLemmas
 mod MeantLemmas
 mod GetAttributesLemmas
 mod LookLemmas

@@ -25,7 +25,7 @@ use Rattle.kmipa_ops.proofs.LocateLemmas.{fit_tells}
 use Rattle.kmipa_ops.proofs.NameLemmas.{same_both}
 use Rattle.kmipa_ops.specs.Locate.{says_no, is_doubtful, must_fit, fits_here, is_listed, is_over, is_full, has_repeat, lists_misfit, leaves_out, locate_speaks}
 use Rattle.kmipa_ops.specs.declared.places_listed.PlacesListed.{PlacesListed}
-use Rattle.kmipa_ops.specs.Listing.{is_among, is_place, PlaceListed, ArePlaced, NoneMust, NextCandidate, CoveredTo, LeavesOut, IsMissing, FitsAt, may_of, must_of}
+use Rattle.kmipa_ops.specs.Listing.{is_among, is_place, PlaceListed, ArePlaced, NextCandidate, CoveredTo, LeavesOut, IsMissing, FitsAt, may_of, must_of}
 use Rattle.kmipa_ops.proofs.TestLemmas.{or_cases, or_right, same_truth, true_not, false_if}
 use Rattle.kmipa_ops.proofs.ScanLemmas.{any_map, any_same, or_mix}
 

@@ -20,7 +20,7 @@ use Rattle.kmipa_attrs.specs.Filters.{FilterOf}
 use Rattle.kmipa_ops.specs.declared.fit.Fit.{Fit}
 use Rattle.kmipa_ops.specs.declared.fit.Fit.TheVariants as fit
 use Rattle.kmipa_ops.specs.Listing.{may_of, must_of}
-use Rattle.kmipa_ops.specs.Locate.{IsFit, May, Must, says_no, may_fit, is_doubtful, must_fit, has_repeat, is_over, is_full, fits_here, is_listed, is_unsure, lists_misfit, leaves_out, Lists, locate_speaks, locate_look, ListsAreDecided, ListsRightly, LeavesOut, LocateReason}
+use Rattle.kmipa_ops.specs.Locate.{IsFit, May, Must, says_no, may_fit, is_doubtful, must_fit, has_repeat, is_over, is_full, fits_here, is_listed, is_unsure, lists_misfit, leaves_out, Lists, locate_speaks, locate_look, locate_reasons, ListsAreDecided, ListsRightly, LeavesOut, LocateReason}
 use Rattle.kmipa_ops.proofs.TestLemmas.{refuted, not_false, or_cases, or_right, true_not, false_if, not_true, each_if, each_not, five_parts, five_cases, three_cases, echoes_if, echoes_not, agree_if, agree_not}
 use Rattle.kmipa_ops.proofs.NameLemmas.{strangers_if, strangers_not}
 use Rattle.kmipa_ops.proofs.DeedLaws.{outer_whys}
@@ -251,7 +251,7 @@ locate_decides cs t q (Some listed) ListedWrongly = wrongly_decides cs t q liste
 locate_decides cs t q (Some listed) ListedTooFew = few_decides cs t q listed
 locate_decides cs t q (Some listed) why = never_decides
 
-pub is_locate : (q : FilterOf) → IsLook (locate_look q) AnswersLocate SaysListed
+pub is_locate : (q : FilterOf) → IsLook (locate_look q) (locate_reasons q) AnswersLocate SaysListed
 is_locate q = record {
   back = λ x. refl;
   each = elim [ located x ↦ inl (x, refl) | _ ↦ inr (refl, λ ts s. s) ];

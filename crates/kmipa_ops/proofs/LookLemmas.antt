@@ -5,30 +5,30 @@ use Rattle.kmipa_store.specs.Ledger.{cards_of}
 use Rattle.kmipa_store.proofs.InventoryLemmas.{cards-inv}
 use Rattle.kmipa_msgs.specs.Messages.{PayloadOf}
 use Rattle.kmipa_ops.specs.declared.why.Why.{Why}
-use Rattle.kmipa_ops.specs.Looking.{Look, look_deed}
+use Rattle.kmipa_ops.specs.Looking.{Look, LookJudging, look_deed, look_judging}
 use Rattle.kmipa_ops.proofs.StepLemmas.{still_step}
 use Rattle.kmipa_ops.proofs.DeedLaws.{outer_whys, IsDeed}
 use Rattle.std.specs.Bool.{Decides}
 use Rattle.kmipa_ttlv.specs.Tree.{Trees}
 use Rattle.kmipa_ops.specs.Sayable.{ShowsSayable}
 
-pub record IsLook (l : Look) (Says : Trees → PayloadOf → Type 0) (Sayable : l.Shown → Type 0) : Type 0 where
+pub record IsLook (l : Look) (j : LookJudging l) (Says : Trees → PayloadOf → Type 0) (Sayable : l.Shown → Type 0) : Type 0 where
   pub back : (x : l.Shown) → l.seen (l.payload x) ≡ Some x
   pub each : (p : PayloadOf) → ((x : l.Shown) × (p ≡ l.payload x)) ⊎ ((l.seen p ≡ None) × ((ts : Trees) → Says ts p → ⊥))
   pub carries : (x : l.Shown) → Sayable x ↔ (l.says x × ShowsSayable (l.payload x))
-  pub quiet : (cs : List Card) (before : Option (List ℕ)) (t : ℤ) (shown : Option l.Shown) → find (l.speaks cs before t shown) outer_whys ≡ None
-  pub covers : (cs : List Card) (before : Option (List ℕ)) (t : ℤ) (x : l.Shown) (w : Why) → l.speaks cs before t None w ≡ true → l.speaks cs before t (Some x) w ≡ true
+  pub quiet : (cs : List Card) (before : Option (List ℕ)) (t : ℤ) (shown : Option l.Shown) → find (j.speaks cs before t shown) outer_whys ≡ None
+  pub covers : (cs : List Card) (before : Option (List ℕ)) (t : ℤ) (x : l.Shown) (w : Why) → j.speaks cs before t None w ≡ true → j.speaks cs before t (Some x) w ≡ true
   -- what is shown is right exactly where nothing speaks against it
-  pub right : (cs : List Card) (before : Option (List ℕ)) (t : ℤ) (x : l.Shown) → ((w : Why) → l.speaks cs before t (Some x) w ≡ false) → l.Sees cs before t x
-  pub wrong : (cs : List Card) (before : Option (List ℕ)) (t : ℤ) (x : l.Shown) (w : Why) → l.speaks cs before t (Some x) w ≡ true → l.Sees cs before t x → ⊥
+  pub right : (cs : List Card) (before : Option (List ℕ)) (t : ℤ) (x : l.Shown) → ((w : Why) → j.speaks cs before t (Some x) w ≡ false) → l.Sees cs before t x
+  pub wrong : (cs : List Card) (before : Option (List ℕ)) (t : ℤ) (x : l.Shown) (w : Why) → j.speaks cs before t (Some x) w ≡ true → l.Sees cs before t x → ⊥
   -- where the payload may be left out: something right can be shown, and it leaves the placeholder as no payload does
-  pub hidden : (cs : List Card) (before : Option (List ℕ)) (t : ℤ) → l.may_lack ≡ true → ((w : Why) → l.speaks cs before t None w ≡ false) → (x : l.Shown) × l.says x × l.Sees cs before t x
+  pub hidden : (cs : List Card) (before : Option (List ℕ)) (t : ℤ) → l.may_lack ≡ true → ((w : Why) → j.speaks cs before t None w ≡ false) → (x : l.Shown) × l.says x × l.Sees cs before t x
   pub keeps : (before : Option (List ℕ)) (x : l.Shown) → l.may_lack ≡ true → l.holds before (Some x) ≡ l.holds before None
   -- its test says what its reasons mean
-  pub decides : (cs : List Card) (before : Option (List ℕ)) (t : ℤ) (shown : Option l.Shown) (w : Why) → Decides (l.speaks cs before t shown w) (l.means cs before t shown w)
+  pub decides : (cs : List Card) (before : Option (List ℕ)) (t : ℤ) (shown : Option l.Shown) (w : Why) → Decides (j.speaks cs before t shown w) (j.means cs before t shown w)
 
-pub is_look : (l : Look) {Says : Trees → PayloadOf → Type 0} {Sayable : l.Shown → Type 0} → IsLook l Says Sayable → IsDeed (look_deed l) Says Sayable
-is_look l is = record {
+pub is_look : (l : Look) (j : LookJudging l) {Says : Trees → PayloadOf → Type 0} {Sayable : l.Shown → Type 0} → IsLook l j Says Sayable → IsDeed (look_deed l) (look_judging l j) Says Sayable
+is_look l j is = record {
   back = is.back;
   each = is.each;
   carries = is.carries;
@@ -47,5 +47,5 @@ is_look l is = record {
       (λ V V' p y. (y.2.1, y.2.2 ∙ is.keeps before y.0 may));
   learns = λ m before t shown number bytes e. inl e;
   decides = λ rules m before t shown w. is.decides (cards_of m.objects) before t shown w;
-  same = λ rules m n same before t shown w. ap (λ (cs : List Card). l.speaks cs before t shown w) same.0;
+  same = λ rules m n same before t shown w. ap (λ (cs : List Card). j.speaks cs before t shown w) same.0;
 }

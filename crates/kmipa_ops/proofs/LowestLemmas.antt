@@ -10,8 +10,9 @@ use Rattle.kmipa_ops.specs.declared.why.Why.{Why}
 use Rattle.kmipa_ops.specs.declared.why.Why.TheVariants.{NoSuchObject, WrongState, IdentifierTaken, NameTaken, BytesDiffer, LengthImpossible, AttributeDiffers, AttributeMissing, ListedWrongly, ListedTooFew, ReasonUnfounded, OperationDiffers, EchoDiffers}
 use Rattle.kmipa_ops.specs.Whys.{whys}
 use Rattle.kmipa_ops.specs.Objects.{is_other, clash}
-use Rattle.kmipa_ops.specs.Row.{Row, deed, idle, unknown, seen_in, row_speaks}
-use Rattle.kmipa_ops.specs.Rows.{asked_row}
+use Rattle.kmipa_ops.specs.Judging.{RowJudging, row_speaks}
+use Rattle.kmipa_ops.specs.Row.{Row, deed, idle, unknown, seen_in}
+use Rattle.kmipa_ops.specs.Rows.{asked_judging, asked_row}
 use Rattle.kmipa_ops.specs.Blame.{IsDoneUnopposed, outcome_speaks, frame_speaks, lowest}
 use Rattle.kmipa_ops.proofs.DeedLaws.{outer_whys, IsRow}
 use Rattle.kmipa_ops.proofs.RowLemmas.{is_row}
@@ -25,15 +26,15 @@ inner_whys = NoSuchObject ∷ WrongState ∷ IdentifierTaken ∷ NameTaken ∷ B
 abbrev last_whys : List Why
 last_whys = EchoDiffers ∷ []
 
-row_quiet : (operation : Operation) (row : Row) → IsRow operation row → (rules : RulesOf) (m : Meaning) (p : Option (List ℕ)) (t : ℤ) (payload : Option PayloadOf) → find (row_speaks row rules m p t payload) outer_whys ≡ None
-row_quiet operation (deed d) is rules m p t payload = is.quiet rules m p t (seen_in d payload)
-row_quiet operation idle is rules m p t payload = refl
-row_quiet operation unknown is rules m p t payload = refl
+row_quiet : (operation : Operation) (row : Row) (j : RowJudging row) → IsRow operation row j → (rules : RulesOf) (m : Meaning) (p : Option (List ℕ)) (t : ℤ) (payload : Option PayloadOf) → find (row_speaks row j rules m p t payload) outer_whys ≡ None
+row_quiet operation (deed d) j is rules m p t payload = is.quiet rules m p t (seen_in d payload)
+row_quiet operation idle j is rules m p t payload = refl
+row_quiet operation unknown j is rules m p t payload = refl
 
 quiet : (status : Status) (rules : RulesOf) (m : Meaning) (p : Option (List ℕ)) (t : ℤ) (asked : AskedOf) (reason : Option ℕ) (payload : Option PayloadOf)
     → find (outcome_speaks status rules m p t asked reason payload) outer_whys ≡ None
-quiet Success rules m p t asked reason payload = row_quiet (operation_asked asked) (asked_row asked) (is_row asked) rules m p t payload
-quiet Undone rules m p t asked reason payload = row_quiet (operation_asked asked) (asked_row asked) (is_row asked) rules m p t payload
+quiet Success rules m p t asked reason payload = row_quiet (operation_asked asked) (asked_row asked) (asked_judging asked) (is_row asked) rules m p t payload
+quiet Undone rules m p t asked reason payload = row_quiet (operation_asked asked) (asked_row asked) (asked_judging asked) (is_row asked) rules m p t payload
 quiet Failed rules m p t asked reason payload = refl
 
 last : (f g : Bool) (w : Why) → cond (f || g) (Some w) None ≡ option_or (cond g (Some w) None) (cond f (Some w) None)
@@ -73,6 +74,14 @@ pub lowest_is : (rules : RulesOf) (m : Meaning) (p : Option (List ℕ)) (t : ℤ
     (option_or (find (outcome_speaks answer.status rules m p t ask.asked answer.reason answer.payload) whys) (cond (clash bytes_eq answer.batch_id ask.batch_id) (Some EchoDiffers) None))
 lowest_is rules m p t ask answer =
     split ask answer (outcome_speaks answer.status rules m p t ask.asked answer.reason answer.payload) (quiet answer.status rules m p t ask.asked answer.reason answer.payload)
+
+-- of another operation: that
+pub other_lowest : (rules : RulesOf) (m : Meaning) (p : Option (List ℕ)) (t : ℤ) (ask : AskOf) (answer : AnswerOf)
+    → is_other (λ (x y : ℕ). x == y) answer.operation (operation_number (operation_asked ask.asked)) ≡ true → Some OperationDiffers ≡ lowest rules m p t ask answer
+other_lowest rules m p t ask answer other =
+    let own : Option Why = find (outcome_speaks answer.status rules m p t ask.asked answer.reason answer.payload) whys in
+    let echo : Option Why = cond (clash bytes_eq answer.batch_id ask.batch_id) (Some EchoDiffers) None in
+    ap (λ (b : Bool). cond b (Some OperationDiffers) (option_or own echo)) (sym other) ∙ sym (lowest_is rules m p t ask answer)
 
 -- where no reason speaks none speaks against what was done
 none_own : (b : Bool) (w : Why) (o e : Option Why) → cond b (Some w) (option_or o e) ≡ None → o ≡ None

@@ -16,9 +16,9 @@ use Rattle.kmipa_msgs.specs.Messages.{RulesOf, RegisterOf, RegisteredOf, created
 use Rattle.kmipa_ops.specs.declared.why.Why.{Why}
 use Rattle.kmipa_ops.specs.declared.why.Why.TheVariants.{IdentifierTaken, NameTaken, LengthImpossible, EchoDiffers}
 use Rattle.kmipa_ops.specs.Objects.{Echoes, is_named, HasNameOf}
-use Rattle.kmipa_ops.specs.Register.{brought, Registers, register_speaks, register_says, register_leaves, register_deed, RegisterReason}
+use Rattle.kmipa_ops.specs.Register.{brought, Registers, register_speaks, register_says, register_leaves, register_deed, register_judging, RegisterReason}
 use Rattle.kmipa_ops.specs.Adding.{newborn, name_taken, AddsObject, adding_speaks, with_own, AddingReason}
-use Rattle.kmipa_ops.specs.Create.{Creates, create_speaks, create_says, create_leaves, create_deed, CreateReason}
+use Rattle.kmipa_ops.specs.Create.{Creates, create_speaks, create_says, create_leaves, create_deed, create_judging, CreateReason}
 use Rattle.kmipa_ops.proofs.TestLemmas.{not_false, not_some, echoes_if, echoes_not, some_if, some_not, not_decides}
 use Rattle.kmipa_ops.proofs.AddLemmas.{own_sound}
 use Rattle.kmipa_ops.proofs.StepLemmas.{Step, step_as}
@@ -233,7 +233,7 @@ register_same : (rules : RulesOf) (m n : Meaning) → cards_of m.objects ≡ car
 register_same rules m n same r None why = refl
 register_same rules m n same r (Some x) why = ap (λ (cs : List Card). register_speaks rules cs r x why) same
 
-pub is_create : (a : Attributes) → IsDeed (create_deed a) AnswersCreate SaysNew
+pub is_create : (a : Attributes) → IsDeed (create_deed a) (create_judging a) AnswersCreate SaysNew
 is_create a = record {
   back = λ x. refl;
   each = elim [ created x ↦ inl (x, refl) | _ ↦ inr (refl, λ ts s. s) ];
@@ -248,7 +248,7 @@ is_create a = record {
   same = λ rules m n same before t shown w. create_same rules m n same.0 a shown w;
 }
 
-pub is_register : (r : RegisterOf) → IsDeed (register_deed r) AnswersRegister SaysNew
+pub is_register : (r : RegisterOf) → IsDeed (register_deed r) (register_judging r) AnswersRegister SaysNew
 is_register r = record {
   back = λ x. refl;
   each = elim [ registered x ↦ inl (x, refl) | _ ↦ inr (refl, λ ts s. s) ];

@@ -11,8 +11,9 @@ use Rattle.kmipa_msgs.specs.declared.response.Status.TheVariants.{Success, Faile
 use Rattle.kmipa_ops.specs.Blame.{failure_speaks, outcome_speaks, frame_speaks}
 use Rattle.kmipa_ops.specs.Founded.{founded}
 use Rattle.kmipa_ops.specs.Reasons.{FailureReason, FrameReason, OutcomeReason, ReasonsAreDecided}
-use Rattle.kmipa_ops.specs.Row.{Row, deed, idle, unknown, seen_in, row_speaks, row_reason}
-use Rattle.kmipa_ops.specs.Rows.{asked_row}
+use Rattle.kmipa_ops.specs.Judging.{RowJudging, row_speaks, row_reason}
+use Rattle.kmipa_ops.specs.Row.{Row, deed, idle, unknown, seen_in}
+use Rattle.kmipa_ops.specs.Rows.{asked_judging, asked_row}
 use Rattle.kmipa_ops.specs.declared.why.Why.{Why}
 use Rattle.kmipa_ops.specs.declared.why.Why.TheVariants.{OperationDiffers, ReasonUnfounded, EchoDiffers}
 use Rattle.kmipa_ops.proofs.ConditionLemmas.{never_decides, or_decides, differs_decides, clashes_decides}
@@ -22,11 +23,11 @@ use Rattle.kmipa_ops.proofs.RowLemmas.{is_row}
 use Rattle.kmipa_ops.proofs.TestLemmas.{not_decides}
 use Rattle.kmipa_msgs.specs.declared.operation.Operation.{Operation}
 
-row_decides : (operation : Operation) (row : Row) → IsRow operation row → (rules : RulesOf) (m : Meaning) (before : Option (List ℕ)) (t : ℤ) (payload : Option PayloadOf) (why : Why)
-    → Decides (row_speaks row rules m before t payload why) (row_reason row rules m before t payload why)
-row_decides operation (deed d) is rules m before t payload why = is.decides rules m before t (seen_in d payload) why
-row_decides operation idle is rules m before t payload why = never_decides
-row_decides operation unknown is rules m before t payload why = never_decides
+row_decides : (operation : Operation) (row : Row) (j : RowJudging row) → IsRow operation row j → (rules : RulesOf) (m : Meaning) (before : Option (List ℕ)) (t : ℤ) (payload : Option PayloadOf) (why : Why)
+    → Decides (row_speaks row j rules m before t payload why) (row_reason row j rules m before t payload why)
+row_decides operation (deed d) j is rules m before t payload why = is.decides rules m before t (seen_in d payload) why
+row_decides operation idle j is rules m before t payload why = never_decides
+row_decides operation unknown j is rules m before t payload why = never_decides
 
 failure_decides : (rules : RulesOf) (m : Meaning) (before : Option (List ℕ)) (t : ℤ) (asked : AskedOf) (reason : Option ℕ) (why : Why)
     → Decides (failure_speaks rules m before t asked reason why) (FailureReason rules m before t asked reason why)
@@ -35,8 +36,8 @@ failure_decides rules m before t asked reason why = never_decides
 
 outcome_decides : (status : Status) (rules : RulesOf) (m : Meaning) (before : Option (List ℕ)) (t : ℤ) (asked : AskedOf) (reason : Option ℕ) (payload : Option PayloadOf) (why : Why)
     → Decides (outcome_speaks status rules m before t asked reason payload why) (OutcomeReason status rules m before t asked reason payload why)
-outcome_decides Success rules m before t asked reason payload why = row_decides (operation_asked asked) (asked_row asked) (is_row asked) rules m before t payload why
-outcome_decides Undone rules m before t asked reason payload why = row_decides (operation_asked asked) (asked_row asked) (is_row asked) rules m before t payload why
+outcome_decides Success rules m before t asked reason payload why = row_decides (operation_asked asked) (asked_row asked) (asked_judging asked) (is_row asked) rules m before t payload why
+outcome_decides Undone rules m before t asked reason payload why = row_decides (operation_asked asked) (asked_row asked) (asked_judging asked) (is_row asked) rules m before t payload why
 outcome_decides Failed rules m before t asked reason payload why = failure_decides rules m before t asked reason why
 
 frame_decides : (ask : AskOf) (answer : AnswerOf) (why : Why) → Decides (frame_speaks ask answer why) (FrameReason ask answer why)

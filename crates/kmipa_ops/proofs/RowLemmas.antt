@@ -1,8 +1,8 @@
 -- The list of the operations: each keeps the laws.
 use Rattle.kmipa_msgs.specs.Messages.{AskedOf, creates, registers, locates, gets, gets_attributes, activates, revokes, destroys, idles, does_other, operation_asked}
 use Rattle.kmipa_ops.specs.declared.change.Change.TheVariants.{Activate, Revoke, Destroy}
-use Rattle.kmipa_ops.specs.Locate.{locate_look}
-use Rattle.kmipa_ops.specs.Rows.{asked_row}
+use Rattle.kmipa_ops.specs.Locate.{locate_look, locate_reasons}
+use Rattle.kmipa_ops.specs.Rows.{asked_judging, asked_row}
 use Rattle.kmipa_ops.proofs.DeedLaws.{IsRow}
 use Rattle.kmipa_ops.proofs.NewbornLemmas.{is_create, is_register}
 use Rattle.kmipa_ops.proofs.GetLemmas.{is_get}
@@ -11,10 +11,10 @@ use Rattle.kmipa_ops.proofs.LocateLemmas.{is_locate}
 use Rattle.kmipa_ops.proofs.LookLemmas.{is_look}
 use Rattle.kmipa_ops.proofs.ChangeLemmas.{is_change}
 
-pub is_row : (asked : AskedOf) → IsRow (operation_asked asked) (asked_row asked)
+pub is_row : (asked : AskedOf) → IsRow (operation_asked asked) (asked_row asked) (asked_judging asked)
 is_row (creates a) = is_create a
 is_row (registers r) = is_register r
-is_row (locates q) = is_look (locate_look q) (is_locate q)
+is_row (locates q) = is_look (locate_look q) (locate_reasons q) (is_locate q)
 is_row (gets id) = is_get id
 is_row (gets_attributes g) = is_get_attributes g
 is_row (activates id) = is_change id Activate

@@ -4,11 +4,11 @@ use Rattle.kmipa_store.specs.Ledger.{changed, Meaning, LedgerState}
 use Rattle.kmipa_msgs.specs.Messages.{AskedOf, PayloadOf}
 use Rattle.kmipa_msgs.specs.declared.response.Status.{Status}
 use Rattle.kmipa_msgs.specs.declared.response.Status.TheVariants.{Success, Failed, Undone}
-use Rattle.kmipa_ops.specs.Row.{row_leaves, row_holds}
-use Rattle.kmipa_ops.specs.Rows.{asked_row}
+use Rattle.kmipa_ops.specs.Judging.{row_leaves, row_holds}
+use Rattle.kmipa_ops.specs.Rows.{asked_judging, asked_row}
 
 abbrev pub after_done : Meaning → Option (List ℕ) → ℤ → AskedOf → Option PayloadOf → Meaning
-after_done m before t asked payload = row_leaves (asked_row asked) m before t payload
+after_done m before t asked payload = row_leaves (asked_row asked) (asked_judging asked) m before t payload
 
 abbrev pub after : Status → Meaning → Option (List ℕ) → ℤ → AskedOf → Option PayloadOf → Meaning
 after Success m before t asked payload = after_done m before t asked payload
@@ -17,7 +17,7 @@ after Failed m before t asked payload = m
 
 -- a Create, a Register or a Locate sets the placeholder
 abbrev pub placeholder_done : Option (List ℕ) → AskedOf → Option PayloadOf → Option (List ℕ)
-placeholder_done before asked payload = row_holds (asked_row asked) before payload
+placeholder_done before asked payload = row_holds (asked_row asked) (asked_judging asked) before payload
 
 abbrev pub placeholder_after : Status → Option (List ℕ) → AskedOf → Option PayloadOf → Option (List ℕ)
 placeholder_after Success before asked payload = placeholder_done before asked payload

@@ -8,15 +8,15 @@ use Rattle.kmipa_msgs.specs.declared.response.Status.{Status}
 use Rattle.kmipa_msgs.specs.declared.response.Status.TheVariants.{Success, Failed, Undone}
 use Rattle.kmipa_ops.specs.Founded.{founded}
 use Rattle.kmipa_ops.specs.Objects.{is_other, clash}
-use Rattle.kmipa_ops.specs.Row.{row_speaks}
-use Rattle.kmipa_ops.specs.Rows.{asked_row}
+use Rattle.kmipa_ops.specs.Judging.{row_speaks}
+use Rattle.kmipa_ops.specs.Rows.{asked_judging, asked_row}
 use Rattle.kmipa_ops.specs.Whys.{whys}
 use Rattle.kmipa_ops.specs.declared.why.Why.{Why}
 use Rattle.kmipa_ops.specs.declared.why.Why.TheVariants.{OperationDiffers, ReasonUnfounded, EchoDiffers}
 
 -- against a Success, or an Undone answer, which is judged as one
 abbrev pub done_speaks : RulesOf → Meaning → Option (List ℕ) → ℤ → AskedOf → Option PayloadOf → Why → Bool
-done_speaks rules m before t asked payload why = row_speaks (asked_row asked) rules m before t payload why
+done_speaks rules m before t asked payload why = row_speaks (asked_row asked) (asked_judging asked) rules m before t payload why
 
 -- against a failed answer
 abbrev pub failure_speaks : RulesOf → Meaning → Option (List ℕ) → ℤ → AskedOf → Option ℕ → Why → Bool

@@ -9,10 +9,12 @@ use Rattle.kmipa_object.specs.declared.allow.Allow.TheVariants.{Not}
 use Rattle.kmipa_object.specs.declared.life.Material.{Material}
 use Rattle.kmipa_object.specs.declared.life.Material.TheVariants.{Gone}
 use Rattle.kmipa_store.specs.Ledger.{Held, Meaning}
-use Rattle.kmipa_msgs.specs.Messages.{PayloadOf, changed}
+use Rattle.kmipa_msgs.specs.Messages.{AskedOf, PayloadOf, activates, changed, destroys, revokes}
 use Rattle.kmipa_ops.specs.Meant.{place_meant, object_meant, is_not, is_excluded, IsExcluded}
 use Rattle.kmipa_ops.specs.Objects.{meant, HasObject, Echoes, is_other_id, Clashes}
 use Rattle.kmipa_msgs.specs.Sayable.{IsSayableId}
+use Rattle.kmipa_ops.specs.Effects.{changes}
+use Rattle.kmipa_ops.specs.Judging.{Judging}
 use Rattle.kmipa_ops.specs.Row.{Deed, on_object}
 use Rattle.kmipa_ops.specs.declared.change.Change.{Change}
 use Rattle.kmipa_ops.specs.declared.change.Change.TheVariants.{Activate, Revoke, Destroy}
@@ -25,6 +27,12 @@ abbrev pub act_of : Change → Act
 act_of Activate = act.Activate
 act_of (Revoke code) = revoke_act code
 act_of Destroy = act.Destroy
+
+-- the operation, of the object that is named so
+abbrev pub asked_change : Option (List ℕ) → Change → AskedOf
+asked_change id Activate = activates id
+asked_change id (Revoke code) = revokes (record { id = id; code = code })
+asked_change id Destroy = destroys id
 
 -- the dates that it leaves
 abbrev pub dates_after : Change → ℤ → Dates → Dates
@@ -115,9 +123,13 @@ change_deed id change = record {
   seen = seen_changed;
   says = IsSayableId;
   subject = on_object id (act_of change) false;
-  brings = None;
   may_lack = true;
   does = λ rules V before t shown V' after. ChangesObject V before t id change shown V' after;
+}
+
+abbrev pub change_judging : (id : Option (List ℕ)) (change : Change) → Judging (change_deed id change)
+change_judging id change = record {
+  effect = changes change;
   speaks = λ rules m before t shown why. change_speaks m.objects (meant id before) t change (id_in shown) why;
   means = λ rules m before t shown why. ChangeReason m.objects (meant id before) t change (id_in shown) why;
   leaves = λ m before t shown. with_changed m (meant id before) t change;

@@ -7,6 +7,8 @@ use Rattle.kmipa_store.specs.Ledger.{Meaning, cards_of}
 use Rattle.kmipa_msgs.specs.Messages.{RulesOf, RegisteredOf, PayloadOf, created}
 use Rattle.kmipa_msgs.specs.Sayable.{SaysNew}
 use Rattle.kmipa_ops.specs.Adding.{newborn, AddsObject, adding_speaks, with_own, names_new, AddingReason}
+use Rattle.kmipa_ops.specs.Effects.{makes}
+use Rattle.kmipa_ops.specs.Judging.{Judging}
 use Rattle.kmipa_ops.specs.Row.{Deed, on_names}
 use Rattle.kmipa_ops.specs.declared.why.Why.{Why}
 
@@ -43,9 +45,13 @@ create_deed a = record {
   seen = seen_created;
   says = SaysNew;
   subject = on_names a.names;
-  brings = None;
   may_lack = false;
   does = λ rules V before t x V' after. Creates rules V t a x V' after;
+}
+
+abbrev pub create_judging : (a : Attributes) → Judging (create_deed a)
+create_judging a = record {
+  effect = makes (record { kind = SymmetricKey; attributes = a; block = None });
   speaks = λ rules m before t shown why. create_says rules m a shown why;
   means = λ rules m before t shown why. CreateReason rules (cards_of m.objects) a shown why;
   leaves = λ m before t shown. create_leaves m t a shown;

@@ -8,8 +8,8 @@ use Rattle.kmipa_msgs.specs.Messages.{RulesOf, AskedOf, AskOf, operation_asked, 
 use Rattle.kmipa_ops.specs.declared.why.Why.{Why}
 use Rattle.kmipa_ops.specs.declared.why.Refusal.{Refusal}
 use Rattle.kmipa_ops.specs.declared.why.Refusal.TheVariants.{Impossible, Memory}
-use Rattle.kmipa_ops.specs.Row.{row_brings}
-use Rattle.kmipa_ops.specs.Rows.{asked_row}
+use Rattle.kmipa_ops.specs.Judging.{row_brings}
+use Rattle.kmipa_ops.specs.Rows.{asked_judging, asked_row}
 use Rattle.kmipa_ops.specs.Objects.{is_other}
 use Rattle.kmipa_ops.specs.Completes.{DoesSome, can_judge}
 use Rattle.kmipa_ops.specs.Chains.{ChainSome}
@@ -18,7 +18,7 @@ use Rattle.kmipa_ops.specs.Blame.{lowest}
 
 -- the bytes that an ask brings
 abbrev pub brings : AskedOf → Option (List ℕ)
-brings asked = row_brings (asked_row asked)
+brings asked = row_brings (asked_row asked) (asked_judging asked)
 
 -- the bytes that an answer shows
 abbrev pub shows : Option PayloadOf → Option (List ℕ)

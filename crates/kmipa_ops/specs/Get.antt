@@ -10,6 +10,8 @@ use Rattle.kmipa_msgs.specs.Messages.{GotOf, PayloadOf, got}
 use Rattle.kmipa_ops.specs.Meant.{object_meant, secret_at, secret_meant, is_excluded, IsExcluded}
 use Rattle.kmipa_ops.specs.Objects.{meant, HasObject, Echoes, Agree, is_other, is_other_id, clash, same_type, Differs, Clashes}
 use Rattle.kmipa_msgs.specs.Sayable.{SaysKey}
+use Rattle.kmipa_ops.specs.Effects.{shows_bytes}
+use Rattle.kmipa_ops.specs.Judging.{Judging}
 use Rattle.kmipa_ops.specs.Row.{Deed, on_object}
 use Rattle.kmipa_ops.specs.declared.why.Why.{Why}
 use Rattle.kmipa_ops.specs.declared.why.Why.TheVariants.{NoSuchObject, WrongState, BytesDiffer, LengthImpossible, AttributeDiffers, EchoDiffers}
@@ -100,9 +102,13 @@ get_deed id = record {
   seen = seen_got;
   says = SaysKey;
   subject = on_object id act.Get false;
-  brings = None;
   may_lack = true;
   does = λ rules V before t a V' after. Gets V before id a V' after;
+}
+
+abbrev pub get_judging : (id : Option (List ℕ)) → Judging (get_deed id)
+get_judging id = record {
+  effect = shows_bytes;
   speaks = λ rules m before t shown why. get_speaks m (meant id before) t shown why;
   means = λ rules m before t shown why. GetReason m (meant id before) t shown why;
   leaves = λ m before t shown. get_leaves m (meant id before) shown;

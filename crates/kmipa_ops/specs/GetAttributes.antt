@@ -11,6 +11,8 @@ use Rattle.kmipa_msgs.specs.Messages.{GetAttributesOf, GotAttributesOf, PayloadO
 use Rattle.kmipa_object.specs.declared.state.State.{State as StateOf}
 use Rattle.kmipa_store.specs.Ledger.{cards_of}
 use Rattle.kmipa_msgs.specs.Sayable.{IsSayableId}
+use Rattle.kmipa_ops.specs.Effects.{shows_attributes}
+use Rattle.kmipa_ops.specs.Judging.{Judging}
 use Rattle.kmipa_ops.specs.Row.{Deed, on_object}
 use Rattle.kmipa_ops.specs.declared.judged.Judged.{Judged}
 use Rattle.kmipa_ops.specs.declared.judged.Judged.TheVariants.{Name, ObjectType, CryptographicAlgorithm, CryptographicLength, CryptographicUsageMask, State, InitialDate, ActivationDate, DeactivationDate, DestroyDate, CompromiseDate}
@@ -207,9 +209,13 @@ get_attributes_deed g = record {
   seen = seen_attributes;
   says = SaysAttributes;
   subject = on_object g.id act.GetAttributes g.is_selective;
-  brings = None;
   may_lack = true;
   does = λ rules V before t a V' after. GetsAttributes V before t g a V' after;
+}
+
+abbrev pub get_attributes_judging : (g : GetAttributesOf) → Judging (get_attributes_deed g)
+get_attributes_judging g = record {
+  effect = shows_attributes g;
   speaks = λ rules m before t shown why. get_attributes_speaks (cards_of m.objects) (meant g.id before) t g shown why;
   means = λ rules m before t shown why. GetAttributesReason (cards_of m.objects) (meant g.id before) t g shown why;
   leaves = λ m before t shown. m;

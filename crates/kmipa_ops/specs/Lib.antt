@@ -2,7 +2,9 @@ pub mod Whys
 pub mod Asks
 pub mod Placeholders
 pub mod Objects
+pub mod Effects
 pub mod Row
+pub mod Judging
 pub mod Meant
 pub mod Adding
 pub mod Create

@@ -15,8 +15,10 @@ use Rattle.kmipa_ops.specs.declared.why.Why.{Why}
 use Rattle.kmipa_ops.specs.declared.why.Why.TheVariants.{ListedWrongly, ListedTooFew}
 use Rattle.kmipa_ops.specs.Objects.{card_meant, Echoes, Agree, is_other, clash}
 use Rattle.kmipa_ops.specs.GetAttributes.{AreAmong, has_stranger}
+use Rattle.kmipa_ops.specs.Effects.{lists}
 use Rattle.kmipa_ops.specs.Row.{Deed, on_nothing}
-use Rattle.kmipa_ops.specs.Looking.{Look, look_deed}
+use Rattle.kmipa_ops.specs.Judging.{Judging}
+use Rattle.kmipa_ops.specs.Looking.{Look, LookJudging, look_deed, look_judging}
 
 -- WHICH OBJECTS FIT
 
@@ -152,10 +154,18 @@ locate_look q = record {
   subject = on_nothing;
   may_lack = false;
   Sees = λ cs before t listed. Lists cs t q listed;
-  speaks = λ cs before t shown why. locate_speaks cs t q shown why;
-  means = λ cs before t shown why. LocateReason cs t q shown why;
   holds = names_only;
 }
 
 abbrev pub locate_deed : FilterOf → Deed
 locate_deed q = look_deed (locate_look q)
+
+abbrev pub locate_reasons : (q : FilterOf) → LookJudging (locate_look q)
+locate_reasons q = record {
+  effect = lists q;
+  speaks = λ cs before t shown why. locate_speaks cs t q shown why;
+  means = λ cs before t shown why. LocateReason cs t q shown why;
+}
+
+abbrev pub locate_judging : (q : FilterOf) → Judging (locate_deed q)
+locate_judging q = look_judging (locate_look q) (locate_reasons q)

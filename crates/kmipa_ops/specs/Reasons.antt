@@ -9,14 +9,14 @@ use Rattle.kmipa_msgs.specs.declared.response.Status.TheVariants.{Success, Faile
 use Rattle.kmipa_ops.specs.Blame.{speaks}
 use Rattle.kmipa_ops.specs.Founded.{Founded}
 use Rattle.kmipa_ops.specs.Objects.{Differs, Clashes}
-use Rattle.kmipa_ops.specs.Row.{row_reason}
-use Rattle.kmipa_ops.specs.Rows.{asked_row}
+use Rattle.kmipa_ops.specs.Judging.{row_reason}
+use Rattle.kmipa_ops.specs.Rows.{asked_judging, asked_row}
 use Rattle.kmipa_ops.specs.declared.why.Why.{Why}
 use Rattle.kmipa_ops.specs.declared.why.Why.TheVariants.{OperationDiffers, ReasonUnfounded, EchoDiffers}
 
 -- against a Success, or an Undone answer, which is judged as one
 abbrev pub DoneReason : RulesOf → Meaning → Option (List ℕ) → ℤ → AskedOf → Option PayloadOf → Why → Type 0
-DoneReason rules m before t asked payload why = row_reason (asked_row asked) rules m before t payload why
+DoneReason rules m before t asked payload why = row_reason (asked_row asked) (asked_judging asked) rules m before t payload why
 
 -- against a failed answer
 abbrev pub FailureReason : RulesOf → Meaning → Option (List ℕ) → ℤ → AskedOf → Option ℕ → Why → Type 0

@@ -6,6 +6,8 @@ use Rattle.kmipa_store.specs.Ledger.{Meaning, cards_of}
 use Rattle.kmipa_msgs.specs.Messages.{RulesOf, RegisterOf, RegisteredOf, PayloadOf, registered}
 use Rattle.kmipa_msgs.specs.Sayable.{SaysNew}
 use Rattle.kmipa_ops.specs.Adding.{newborn, AddsObject, adding_speaks, with_own, names_new, AddingReason}
+use Rattle.kmipa_ops.specs.Effects.{makes}
+use Rattle.kmipa_ops.specs.Judging.{Judging}
 use Rattle.kmipa_ops.specs.Row.{Deed, on_names}
 use Rattle.kmipa_ops.specs.declared.why.Why.{Why}
 
@@ -53,9 +55,13 @@ register_deed r = record {
   seen = seen_registered;
   says = SaysNew;
   subject = on_names r.attributes.names;
-  brings = Some r.block.material;
   may_lack = false;
   does = λ rules V before t x V' after. Registers rules V t r x V' after;
+}
+
+abbrev pub register_judging : (r : RegisterOf) → Judging (register_deed r)
+register_judging r = record {
+  effect = makes (record { kind = r.object_type; attributes = r.attributes; block = Some r.block });
   speaks = λ rules m before t shown why. register_says rules m r shown why;
   means = λ rules m before t shown why. RegisterReason rules (cards_of m.objects) r shown why;
   leaves = λ m before t shown. register_leaves m t r shown;

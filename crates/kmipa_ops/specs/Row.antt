@@ -3,15 +3,24 @@ use Rattle.std.specs.Prelude.{◌≡◌, ℕ, ℤ, Bool, true, false, List, Opti
 use Rattle.kmipa_attrs.specs.Sets.{NameOf}
 use Rattle.kmipa_object.specs.Inventory.{Thing}
 use Rattle.kmipa_object.specs.declared.allow.Act.{Act}
-use Rattle.kmipa_store.specs.Ledger.{Meaning}
 use Rattle.kmipa_msgs.specs.Messages.{RulesOf, PayloadOf}
-use Rattle.kmipa_ops.specs.declared.why.Why.{Why}
 
 -- whom a refusal is judged by: the object that is meant with its row in the table of states (where `unjudged`, no cause is judged), or names
 pub data SubjectOf : Type 0 where
   on_object : Option (List ℕ) → Act → (unjudged : Bool) → SubjectOf
   on_names : List NameOf → SubjectOf
   on_nothing : SubjectOf
+
+-- the row in the table of states, and the identifier that is named, of an operation on an object
+abbrev pub act_by : SubjectOf → Option Act
+act_by (on_object id act unjudged) = Some act
+act_by (on_names names) = None
+act_by on_nothing = None
+
+abbrev pub id_by : SubjectOf → Option (List ℕ)
+id_by (on_object id act unjudged) = id
+id_by (on_names names) = None
+id_by on_nothing = None
 
 -- an operation whose payloads are read
 pub record Deed : Type 1 where
@@ -21,20 +30,12 @@ pub record Deed : Type 1 where
   pub seen : PayloadOf → Option Shown
   -- a message can carry it
   pub says : Shown → Type 0
-  -- whom a refusal is judged by, and the bytes that the ask brings
+  -- whom a refusal is judged by
   pub subject : SubjectOf
-  pub brings : Option (List ℕ)
   -- an Undone answer may leave its payload out
   pub may_lack : Bool
   -- it succeeds, and its answer shows this
   pub does : RulesOf → List Thing → Option (List ℕ) → ℤ → Shown → List Thing → Option (List ℕ) → Type 0
-  -- this reason speaks against it where it is done, and shows this if its payload is there
-  pub speaks : RulesOf → Meaning → Option (List ℕ) → ℤ → Option Shown → Why → Bool
-  -- what each reason that speaks against it means
-  pub means : RulesOf → Meaning → Option (List ℕ) → ℤ → Option Shown → Why → Type 0
-  -- the ledger and the placeholder after it
-  pub leaves : Meaning → Option (List ℕ) → ℤ → Option Shown → Meaning
-  pub holds : Option (List ℕ) → Option Shown → Option (List ℕ)
 
 -- operations without effect, whose payloads aren't read, and operations that are not read
 pub data Row : Type 1 where
@@ -70,28 +71,3 @@ abbrev pub row_subject : Row → SubjectOf
 row_subject (deed d) = d.subject
 row_subject idle = on_nothing
 row_subject unknown = on_nothing
-
-abbrev pub row_brings : Row → Option (List ℕ)
-row_brings (deed d) = d.brings
-row_brings idle = None
-row_brings unknown = None
-
-abbrev pub row_speaks : Row → RulesOf → Meaning → Option (List ℕ) → ℤ → Option PayloadOf → Why → Bool
-row_speaks (deed d) rules m before t payload why = d.speaks rules m before t (seen_in d payload) why
-row_speaks idle rules m before t payload why = false
-row_speaks unknown rules m before t payload why = false
-
-abbrev pub row_reason : Row → RulesOf → Meaning → Option (List ℕ) → ℤ → Option PayloadOf → Why → Type 0
-row_reason (deed d) rules m before t payload why = d.means rules m before t (seen_in d payload) why
-row_reason idle rules m before t payload why = ⊥
-row_reason unknown rules m before t payload why = ⊥
-
-abbrev pub row_leaves : Row → Meaning → Option (List ℕ) → ℤ → Option PayloadOf → Meaning
-row_leaves (deed d) m before t payload = d.leaves m before t (seen_in d payload)
-row_leaves idle m before t payload = m
-row_leaves unknown m before t payload = m
-
-abbrev pub row_holds : Row → Option (List ℕ) → Option PayloadOf → Option (List ℕ)
-row_holds (deed d) before payload = d.holds before (seen_in d payload)
-row_holds idle before payload = before
-row_holds unknown before payload = before

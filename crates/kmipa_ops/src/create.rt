@@ -12,7 +12,8 @@ ghost use Rattle.kmipa_ops.specs.Adding.{with_own, newborn};
 ghost use Rattle.kmipa_ops.specs.Create.{seen_created, create_speaks};
 
 use crate::adding::{Newborn, add, why_not_added};
-use crate::deed::{Deed, Subject};
+use crate::deed::Deed;
+use crate::operation_row::{Effect, New, OperationRow, Subject};
 use crate::placeholder::Placeholder;
 use crate::why::Why;
 use kmipa_attrs::{AttrSet, ObjectType};
@@ -39,12 +40,26 @@ impl Deed for Create {
         false
     }
 
-    fn subject(&self) -> Subject<'_> {
-        Subject::Names(self.attributes.names.as_slice())
+    fn row(&self) -> OperationRow<'_> {
+        OperationRow {
+            subject: Subject::Names(self.attributes.names.as_slice()),
+            effect: Effect::Makes(New {
+                kind: ObjectType::SymmetricKey,
+                attributes: &self.attributes,
+                block: None,
+            }),
+        }
     }
 
-    fn brings(&self) -> Option<&[u8]> {
-        None
+    fn holds<'p>(
+        &self,
+        held: Option<&'p str>,
+        payload: &'p Option<Payload<'p>>,
+    ) -> Option<&'p str> {
+        match shown(payload) {
+            Some(created) => Some(created.id),
+            None => held,
+        }
     }
 
     fn why_not_done<L: Ledger>(

@@ -1,22 +1,11 @@
 //! What each operation says of itself.
 
+use crate::operation_row::OperationRow;
 use crate::placeholder::Placeholder;
 use crate::why::Why;
-use kmipa_attrs::Name;
 use kmipa_msgs::{Payload, Rules};
-use kmipa_object::Act;
 use kmipa_store::Ledger;
 use std::alloc::{AllocError, Global};
-
-/// Whom a refusal is judged by.
-#[derive(Clone, Copy)]
-pub enum Subject<'a> {
-    /// The object that is meant, by its state in this row of the table of states; no cause is judged where the last says so.
-    Object(Option<&'a str>, Act, bool),
-    /// The objects of these names.
-    Names(&'a [Name]),
-    Nothing,
-}
 
 /// An operation that an item asks for.
 pub(crate) trait Deed {
@@ -26,12 +15,11 @@ pub(crate) trait Deed {
     ghost use Rattle.kmipa_ops.specs.After.{LeavesAfter, after_done, placeholder_done};
     ghost use Rattle.kmipa_ops.specs.Blame.{IsUnopposed, done_speaks};
     ghost use Rattle.kmipa_ops.specs.Completes.{is_idle, is_of, may_lack};
-    ghost use Rattle.kmipa_ops.specs.Explains.{brings};
     ghost use Rattle.kmipa_ops.specs.Meant.{place_about};
     ghost use Rattle.kmipa_ops.specs.Placeholders.{placeholder_of};
     ghost use Rattle.kmipa_ops.specs.Row.{row_subject};
-    ghost use Rattle.kmipa_ops.specs.Rows.{asked_row};
-    ghost use Rattle.kmipa_ops.specs.Subjects.{subject_of};
+    ghost use Rattle.kmipa_ops.specs.Rows.{asked_row, effect_asked};
+    ghost use Rattle.kmipa_ops.specs.Subjects.{effect_of, subject_of};
     ghost use Rattle.kmipa_ops.specs.Whys.{whys};
 
     /// What is asked for.
@@ -49,13 +37,15 @@ pub(crate) trait Deed {
     fn is_idle(&self) -> bool
         ensures { result ≡ is_idle (asked self.now) };
 
-    /// Whom a refusal of it is judged by.
-    fn subject(&self) -> Subject<'_>
-        ensures { subject_of result ≡ row_subject (asked_row (asked self.now)) };
+    /// What it is to those who ask.
+    fn row(&self) -> OperationRow<'_>
+        ensures subject { subject_of result.subject ≡ row_subject (asked_row (asked self.now)) }
+        ensures effect { effect_of result.effect ≡ effect_asked (asked self.now) };
 
-    /// The bytes that it brings.
-    fn brings(&self) -> Option<&[u8]>
-        ensures { maybe_lent result ≡ brings (asked self.now) };
+    /// The identifier that the ID Placeholder holds after it, where it held this.
+    fn holds<'p>(&self, held: Option<&'p str>, payload: &'p Option<Payload<'p>>) -> Option<&'p str>
+        ensures { maybe_lent result ≡ placeholder_done (maybe_lent held.entry) (asked self.now)
+            (option_map payload_of payload.now) };
 
     /// The lowest reason against it where it is done, with its payload or without one; `place` is that of the object that is meant.
     fn why_not_done<L: Ledger>(

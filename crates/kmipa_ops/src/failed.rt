@@ -12,9 +12,9 @@ ghost use Rattle.kmipa_ops.specs.Objects.{card_meant};
 ghost use Rattle.kmipa_ops.specs.Placeholders.{placeholder_of};
 ghost use Rattle.kmipa_ops.specs.Subjects.{subject_of};
 
-use crate::deed::Subject;
 use crate::names::any_named;
 use crate::objects::is_live;
+use crate::operation_row::Subject;
 use crate::placeholder::Placeholder;
 use kmipa_attrs::Name;
 use kmipa_msgs::{Cause, Row, Rules};

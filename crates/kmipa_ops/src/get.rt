@@ -11,9 +11,10 @@ ghost use Rattle.kmipa_ops.specs.Whys.{whys};
 ghost use Rattle.kmipa_ops.specs.Get.{differs_at, get_speaks, seen_got, shows_other, taught};
 ghost use Rattle.kmipa_ops.specs.Meant.{place_meant};
 
-use crate::deed::{Deed, Subject};
+use crate::deed::Deed;
 use crate::echo::{clash_lengths, clash_numbers, is_other_id, is_other_type};
 use crate::objects::is_excluded;
+use crate::operation_row::{Effect, OperationRow, Subject};
 use crate::placeholder::Placeholder;
 use crate::why::Why;
 use kmipa_msgs::{Get, Got, Payload, Rules};
@@ -39,12 +40,19 @@ impl<'a> Deed for Get<'a> {
         false
     }
 
-    fn subject(&self) -> Subject<'_> {
-        Subject::Object(self.id, Act::Get, false)
+    fn row(&self) -> OperationRow<'_> {
+        OperationRow {
+            subject: Subject::Object(self.id, Act::Get, false),
+            effect: Effect::ShowsBytes,
+        }
     }
 
-    fn brings(&self) -> Option<&[u8]> {
-        None
+    fn holds<'p>(
+        &self,
+        held: Option<&'p str>,
+        _payload: &'p Option<Payload<'p>>,
+    ) -> Option<&'p str> {
+        held
     }
 
     fn why_not_done<L: Ledger>(

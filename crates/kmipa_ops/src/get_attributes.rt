@@ -12,9 +12,10 @@ ghost use Rattle.kmipa_ops.specs.Objects.{clash};
 ghost use Rattle.kmipa_ops.specs.GetAttributes.{seen_attributes, attributes_speak, get_attributes_speaks, is_foreign_date, shows_foreign, shows_other_date, shows_other_value};
 ghost use Rattle.kmipa_ops.specs.Whys.{whys};
 
-use crate::deed::{Deed, Subject};
+use crate::deed::Deed;
 use crate::echo::{clash_lengths, clash_numbers, is_other_id, is_other_number};
 use crate::names::finds_stranger;
+use crate::operation_row::{Effect, OperationRow, Subject};
 use crate::placeholder::Placeholder;
 use crate::required::lacks_required;
 use crate::why::Why;
@@ -42,12 +43,19 @@ impl<'a> Deed for GetAttributes<'a> {
         false
     }
 
-    fn subject(&self) -> Subject<'_> {
-        Subject::Object(self.id, Act::GetAttributes, self.is_selective)
+    fn row(&self) -> OperationRow<'_> {
+        OperationRow {
+            subject: Subject::Object(self.id, Act::GetAttributes, self.is_selective),
+            effect: Effect::ShowsAttributes(self),
+        }
     }
 
-    fn brings(&self) -> Option<&[u8]> {
-        None
+    fn holds<'p>(
+        &self,
+        held: Option<&'p str>,
+        _payload: &'p Option<Payload<'p>>,
+    ) -> Option<&'p str> {
+        held
     }
 
     fn why_not_done<L: Ledger>(

@@ -1,90 +1,58 @@
 //! Operations without effect, and operations that are not read.
 
-ghost use Rattle.kmipa_msgs.specs.Messages.{does_other, idles};
+ghost use Rattle.kmipa_ops.specs.Subjects.{unjudged_of};
 
-use crate::deed::{Deed, Subject};
+use crate::deed::Deed;
+use crate::operation_row::{Effect, OperationRow, Subject};
 use crate::placeholder::Placeholder;
 use crate::why::Why;
 use kmipa_msgs::{Payload, Rules};
 use kmipa_store::Ledger;
 use std::alloc::{AllocError, Global};
 
-/// An operation without effect, by its number.
+/// An operation whose payloads aren't judged, by its number.
 #[derive(Clone, Copy)]
-pub struct Idle(pub u32);
-
-/// An operation that is not read, by its number.
-#[derive(Clone, Copy)]
-pub struct Unread(pub u32);
-
-impl Deed for Idle {
-    ghost asked = { λ idle. idles idle.0 };
-
-    fn is_of(&self, _payload: &Payload) -> bool {
-        false
-    }
-
-    fn may_lack(&self) -> bool {
-        true
-    }
-
-    fn is_idle(&self) -> bool {
-        true
-    }
-
-    fn subject(&self) -> Subject<'_> {
-        Subject::Nothing
-    }
-
-    fn brings(&self) -> Option<&[u8]> {
-        None
-    }
-
-    fn why_not_done<L: Ledger>(
-        &self,
-        _alloc: Global,
-        _ledger: &L,
-        _rules: &Rules,
-        _placeholder: &Placeholder,
-        _place: Option<usize>,
-        _payload: &Option<Payload>,
-    ) -> Result<Option<Why>, AllocError> {
-        Ok(None)
-    }
-
-    fn leave<L: Ledger>(
-        &self,
-        _alloc: Global,
-        _ledger: &mut L,
-        _placeholder: &mut Placeholder,
-        _place: Option<usize>,
-        _payload: &Option<Payload>,
-    ) -> Result<(), AllocError> {
-        Ok(())
-    }
+pub enum Unjudged {
+    /// One without effect.
+    Idle(u32),
+    /// One that is not read.
+    Unread(u32),
 }
 
-impl Deed for Unread {
-    ghost asked = { λ other. does_other other.0 };
+impl Deed for Unjudged {
+    ghost asked = { unjudged_of };
 
     fn is_of(&self, _payload: &Payload) -> bool {
         false
     }
 
     fn may_lack(&self) -> bool {
-        false
+        match self {
+            Unjudged::Idle(_) => true,
+            Unjudged::Unread(_) => false,
+        }
     }
 
     fn is_idle(&self) -> bool {
-        false
+        self.may_lack()
     }
 
-    fn subject(&self) -> Subject<'_> {
-        Subject::Nothing
+    fn row(&self) -> OperationRow<'_> {
+        OperationRow {
+            subject: Subject::Nothing,
+            effect: match self {
+                Unjudged::Idle(_) => Effect::Nothing,
+                Unjudged::Unread(_) => Effect::Unread,
+            },
+        }
     }
 
-    fn brings(&self) -> Option<&[u8]> {
-        None
+    fn holds<'p>(
+        &self,
+        held: Option<&'p str>,
+        _payload: &'p Option<Payload<'p>>,
+    ) -> Option<&'p str> {
+        held
     }
 
     fn why_not_done<L: Ledger>(

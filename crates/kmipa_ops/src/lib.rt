@@ -1,13 +1,12 @@
 //! One item of a batch: Ok exactly where some inventory allows it, or the lowest reason why none does.
 #![tactic(auto)]
 
-mod activate;
 mod adding;
 mod change;
+mod changing;
 mod create;
 mod deed;
 mod deeds;
-mod destroy;
 mod echo;
 mod failed;
 mod fit;
@@ -22,15 +21,17 @@ mod listing;
 mod locate;
 mod names;
 mod objects;
+mod operation_row;
 mod placeholder;
 mod places_listed;
 mod readable;
 mod register;
 mod required;
-mod revoke;
 mod taking;
 mod why;
 
+pub use change::Change;
+pub use deeds::{about, held_after, row_of};
 pub use fit::{Fit, matches};
 pub use judged::Judged;
 pub use laws::{
@@ -38,6 +39,7 @@ pub use laws::{
     fills_are_said, founded_is_decided, lists_are_decided, reasons_are_decided, stands_for_one,
     taking_decides,
 };
+pub use operation_row::{Effect, New, OperationRow, Subject};
 pub use placeholder::Placeholder;
 pub use readable::is_readable;
 pub use taking::take;

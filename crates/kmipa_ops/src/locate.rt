@@ -1,12 +1,13 @@
 //! Locate.
 
 ghost use Rattle.std.specs.Prelude.{◌≡◌, OnOk, map, option_and_then, option_map};
-ghost use Rattle.kmipa_msgs.specs.Messages.{lent, locate_of, located_of, locates, payload_of};
+ghost use Rattle.kmipa_msgs.specs.Messages.{lent, locate_of, located_of, locates, maybe_lent, payload_of};
 ghost use Rattle.kmipa_ops.specs.Locate.{only, seen_located};
 ghost use Rattle.kmipa_ops.specs.Placeholders.{placeholder_of};
 
-use crate::deed::{Deed, Subject};
+use crate::deed::Deed;
 use crate::listing::why_not_listed;
+use crate::operation_row::{Effect, OperationRow, Subject};
 use crate::placeholder::Placeholder;
 use crate::why::Why;
 use kmipa_msgs::{Locate, Located, Payload, Rules};
@@ -31,12 +32,22 @@ impl Deed for Locate {
         false
     }
 
-    fn subject(&self) -> Subject<'_> {
-        Subject::Nothing
+    fn row(&self) -> OperationRow<'_> {
+        OperationRow {
+            subject: Subject::Nothing,
+            effect: Effect::Lists(&self.filter),
+        }
     }
 
-    fn brings(&self) -> Option<&[u8]> {
-        None
+    fn holds<'p>(
+        &self,
+        held: Option<&'p str>,
+        payload: &'p Option<Payload<'p>>,
+    ) -> Option<&'p str> {
+        match shown(payload) {
+            Some(located) => only(located.ids.as_slice()),
+            None => held,
+        }
     }
 
     fn why_not_done<L: Ledger>(
@@ -88,9 +99,19 @@ fn hold_only(
 ) -> Result<(), AllocError>
     ensures { OnOk result (placeholder_of placeholder.new ≡ only (map lent listed.now)) }
 {
-    placeholder.id = match listed {
-        [id] => Some(String::from_str(alloc, id)?),
-        _ => None,
+    placeholder.id = match only(listed) {
+        Some(id) => Some(String::from_str(alloc, id)?),
+        None => None,
     };
     Ok(())
+}
+
+/// The identifier that is listed, if exactly one is.
+fn only<'p>(listed: &[&'p str]) -> Option<&'p str>
+    ensures { maybe_lent result ≡ only (map lent listed.now) }
+{
+    match listed {
+        [id] => Some(*id),
+        _ => None,
+    }
 }

@@ -8,7 +8,7 @@ ghost use Rattle.kmipa_ops.specs.Meant.{is_not, place_about, place_meant};
 ghost use Rattle.kmipa_ops.specs.Placeholders.{placeholder_of};
 ghost use Rattle.kmipa_ops.specs.Subjects.{subject_of};
 
-use crate::deed::Subject;
+use crate::operation_row::Subject;
 use crate::placeholder::Placeholder;
 use kmipa_object::{Act, Allow, Object, State, allows};
 use kmipa_store::Ledger;

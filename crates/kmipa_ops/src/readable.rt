@@ -5,10 +5,12 @@ ghost use Rattle.kmipa_msgs.specs.Messages.{answer_of, asked_of, ask_of, payload
 ghost use Rattle.kmipa_ops.specs.Completes.{can_judge, has_payload, may_have};
 ghost use Rattle.kmipa_ops.specs.Explains.{is_readable};
 
+use crate::change::Change;
+use crate::changing::Changing;
 use crate::deed::Deed;
 use crate::deeds::with_deed;
 use crate::echo::is_other_number;
-use crate::idle::{Idle, Unread};
+use crate::idle::Unjudged;
 use kmipa_msgs::{Answer, Ask, Asked, Payload, Status};
 
 /// Whether an answer has what there is to judge: a Success of the operation asked for has its payload, and so has an Undone Create,

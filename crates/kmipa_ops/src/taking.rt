@@ -15,12 +15,15 @@ ghost use Rattle.kmipa_ops.specs.Row.{row_subject};
 ghost use Rattle.kmipa_ops.specs.Rows.{asked_row};
 ghost use Rattle.kmipa_ops.specs.Whys.{whys};
 
+use crate::change::Change;
+use crate::changing::Changing;
 use crate::deed::Deed;
 use crate::deeds::with_deed;
 use crate::echo::{clash_bytes, is_other_number};
 use crate::failed::is_founded;
-use crate::idle::{Idle, Unread};
+use crate::idle::Unjudged;
 use crate::objects::place_about;
+use crate::operation_row::Effect;
 use crate::placeholder::Placeholder;
 use crate::why::{Refusal, Why};
 use kmipa_msgs::{Answer, Ask, Asked, Payload, Rules, Status};
@@ -104,7 +107,7 @@ fn take_deed<D: Deed, L: Ledger>(
         (ask_with (maybe_lent frame.entry.batch_id) (D.asked deed.now)) (answer_of answer.now) result
         (L.state ledger.new) (placeholder_of placeholder.new) }
 {
-    let place = place_about(ledger, placeholder, deed.subject());
+    let place = place_about(ledger, placeholder, deed.row().subject);
     let Ok(lowest) = lowest_why(
         alloc,
         ledger,
@@ -215,7 +218,14 @@ fn failure_why<D: Deed, L: Ledger>(
         (failure_speaks (rules_of rules.now) (L.state ledger.now).now (placeholder_of placeholder.now)
         (L.moment ledger.now) (D.asked deed.now) reason) whys }
 {
-    if is_founded(ledger, rules, placeholder, place, deed.subject(), reason) {
+    if is_founded(
+        ledger,
+        rules,
+        placeholder,
+        place,
+        deed.row().subject,
+        reason,
+    ) {
         None
     } else {
         Some(Why::ReasonUnfounded)
@@ -255,8 +265,10 @@ fn leave<D: Deed, L: Ledger>(
 fn brings_bytes<D: Deed>(deed: &D)
     ensures { AreBytes (brings (D.asked deed.now)) }
 {
-    if let Some(bytes) = deed.brings() {
-        are_bytes(bytes);
+    if let Effect::Makes(new) = deed.row().effect {
+        if let Some(bytes) = new.material() {
+            are_bytes(bytes);
+        }
     }
 }
 

@@ -2,16 +2,21 @@
 use Rattle.std.specs.Prelude.{◌≡◌, ◌≤◌, ℕ, Bool, true, false, List, [], ◌∷◌, slice_get, Some, None}
 use Rattle.kmipa_msgs.specs.declared.response.Status.{Status}
 use Rattle.kmipa_msgs.specs.declared.response.Status.TheVariants.{Success, Failed, Undone}
-use Rattle.kmipa_msgs.specs.Messages.{AskedOf, locates, gets_attributes, idles, AskOf, AnswerOf, RequestOf, ResponseOf}
+use Rattle.kmipa_msgs.specs.Messages.{AskedOf, AskOf, AnswerOf, RequestOf, ResponseOf}
+use Rattle.kmipa_ops.specs.Effects.{EffectOf, does_nothing, lists, shows_attributes}
+use Rattle.kmipa_ops.specs.Rows.{effect_asked}
 use Rattle.kmipa_batch.specs.Calls.{pairs_of}
 use Rattle.kmipa_check.specs.Steps.{StepOf, order_of}
 
 -- operations that look at objects, but not at their bytes
+abbrev pub looks_by : EffectOf → Bool
+looks_by (lists filter) = true
+looks_by (shows_attributes asked) = true
+looks_by does_nothing = true
+looks_by effect = false
+
 abbrev pub only_looks : AskedOf → Bool
-only_looks (locates q) = true
-only_looks (gets_attributes g) = true
-only_looks (idles number) = true
-only_looks asked = false
+only_looks asked = looks_by (effect_asked asked)
 
 -- an item that failed changes nothing either
 abbrev pub is_idle_item : AskedOf → Status → Bool

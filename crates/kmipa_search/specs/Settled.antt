@@ -7,7 +7,10 @@ use Rattle.kmipa_object.specs.declared.life.Material.TheVariants.{Gone, Secret}
 use Rattle.kmipa_store.specs.Ledger.{Held, Known, Meaning, bytes_at}
 use Rattle.kmipa_msgs.specs.declared.response.Status.{Status}
 use Rattle.kmipa_msgs.specs.declared.response.Status.TheVariants.{Success, Failed, Undone}
-use Rattle.kmipa_msgs.specs.Messages.{AskedOf, locates, gets, gets_attributes, activates, revokes, destroys, idles, AskOf, AnswerOf, RequestOf, ResponseOf}
+use Rattle.kmipa_msgs.specs.Messages.{AskedOf, AskOf, AnswerOf, RequestOf, ResponseOf}
+use Rattle.kmipa_ops.specs.Effects.{EffectOf, changes, does_nothing, lists, shows_attributes, shows_bytes}
+use Rattle.kmipa_ops.specs.Row.{SubjectOf, id_by}
+use Rattle.kmipa_ops.specs.Rows.{effect_asked, subject_asked}
 use Rattle.kmipa_batch.specs.Calls.{pairs_of}
 use Rattle.kmipa_check.specs.Steps.{StepOf, order_of}
 use Rattle.kmipa_search.specs.Taken.{step_at}
@@ -25,12 +28,15 @@ AreTold m = (place : ℕ) (h : Held) → slice_get m.objects place ≡ Some h �
 -- CALLS
 
 -- operations that change no object and add none
+abbrev pub reads_by : EffectOf → Bool
+reads_by (lists filter) = true
+reads_by shows_bytes = true
+reads_by (shows_attributes asked) = true
+reads_by does_nothing = true
+reads_by effect = false
+
 abbrev pub reads_only : AskedOf → Bool
-reads_only (locates q) = true
-reads_only (gets id) = true
-reads_only (gets_attributes g) = true
-reads_only (idles number) = true
-reads_only asked = false
+reads_only asked = reads_by (effect_asked asked)
 
 -- nor does an item that failed
 abbrev pub is_steady_item : AskedOf → Status → Bool
@@ -46,11 +52,12 @@ abbrev pub AreSteadyFrom : RequestOf → ResponseOf → ℕ → Type 0
 AreSteadyFrom request response from = (place : ℕ) → from ≤ place → IsSteadyAt request response place
 
 -- the identifier that a change names
+abbrev pub changed_by : EffectOf → SubjectOf → Option (List ℕ)
+changed_by (changes change) subject = id_by subject
+changed_by effect subject = None
+
 abbrev pub changed_id : AskedOf → Option (List ℕ)
-changed_id (activates id) = id
-changed_id (revokes r) = r.id
-changed_id (destroys id) = id
-changed_id asked = None
+changed_id asked = changed_by (effect_asked asked) (subject_asked asked)
 
 -- and that of an item that was done
 abbrev pub done_id : Status → AskedOf → Option (List ℕ)

@@ -5,8 +5,8 @@ ghost use Rattle.std.specs.Prelude.{◌≡◌, IfOk};
 use crate::candidate::Candidate;
 use kmipa_attrs::Filter;
 use kmipa_attrs::tags::{RESPONSE_PAYLOAD, UNIQUE_IDENTIFIER};
-use kmipa_msgs::{Ask, Asked, is_wanted};
-use kmipa_ops::{Fit, matches};
+use kmipa_msgs::{Ask, is_wanted};
+use kmipa_ops::{Effect, Fit, matches, row_of};
 use kmipa_record::{Fill, Turn};
 use kmipa_store::Ledger;
 use kmipa_ttlv::{Item, Tag};
@@ -49,8 +49,8 @@ fn guessed_payload<L: Ledger>(
     ask: &Ask,
     item: i32,
 ) -> Result<Item, AllocError> {
-    let ids = match &ask.asked {
-        Asked::Locate(locate) => fitting(alloc, ledger, &locate.filter)?,
+    let ids = match row_of(&ask.asked).effect {
+        Effect::Lists(filter) => fitting(alloc, ledger, filter)?,
         _ => undone(alloc, item)?,
     };
     let tag = Tag {

@@ -8,6 +8,7 @@ ghost use Rattle.kmipa_search.specs.Taken.{step_at};
 
 use crate::candidate::Candidate;
 use kmipa_msgs::{Asked, Request, Response, Status};
+use kmipa_ops::{Effect, row_of};
 
 /// Whether the call at a place is without effect.
 #[inline(always)]
@@ -70,10 +71,10 @@ fn is_idle_item(asked: &Asked, status: Status) -> bool
 fn only_looks(asked: &Asked) -> bool
     ensures { result ≡ only_looks (asked_of asked.now) }
 {
-    match asked {
-        Asked::Locate(_) => true,
-        Asked::GetAttributes(_) => true,
-        Asked::Idle(_) => true,
+    match row_of(asked).effect {
+        Effect::Lists(_) => true,
+        Effect::ShowsAttributes(_) => true,
+        Effect::Nothing => true,
         _ => false,
     }
 }

@@ -12,6 +12,7 @@ ghost use Rattle.kmipa_search.specs.Settled.{AreApart, AreSteadyFrom, AreTold, I
 use crate::candidate::Candidate;
 use kmipa_msgs::{Asked, Request, Response, Status};
 use kmipa_object::{Material, Object};
+use kmipa_ops::{Effect, row_of};
 use kmipa_store::Ledger;
 use std::alloc::{AllocError, Global};
 
@@ -107,7 +108,7 @@ fn mark_new(marks: &mut Vec<bool>, place: usize) -> bool
 }
 
 /// The identifier of the object that a call changes, where it has one item, which changes that object and was done.
-fn target_of<'b, 'a>(call: &Candidate<'b, 'a>) -> Option<&'a str>
+fn target_of<'b, 'a>(call: &Candidate<'b, 'a>) -> Option<&'b str>
     ensures { maybe_lent result ≡ target (candidate_step call.now) }
 {
     if call.request.items.len() != 1 {
@@ -123,13 +124,12 @@ fn target_of<'b, 'a>(call: &Candidate<'b, 'a>) -> Option<&'a str>
 }
 
 /// The identifier that a change names.
-fn changed_id<'a>(asked: &Asked<'a>) -> Option<&'a str>
+fn changed_id<'b>(asked: &'b Asked<'b>) -> Option<&'b str>
     ensures { maybe_lent result ≡ changed_id (asked_of asked.now) }
 {
-    match asked {
-        Asked::Activate(activate) => activate.id,
-        Asked::Revoke(revoke) => revoke.id,
-        Asked::Destroy(destroy) => destroy.id,
+    let row = row_of(asked);
+    match row.effect {
+        Effect::Changes(_) => row.subject.id(),
         _ => None,
     }
 }
@@ -173,11 +173,11 @@ fn is_steady_item(asked: &Asked, status: Status) -> bool
 fn reads_only(asked: &Asked) -> bool
     ensures { result ≡ reads_only (asked_of asked.now) }
 {
-    match asked {
-        Asked::Locate(_) => true,
-        Asked::Get(_) => true,
-        Asked::GetAttributes(_) => true,
-        Asked::Idle(_) => true,
+    match row_of(asked).effect {
+        Effect::Lists(_) => true,
+        Effect::ShowsBytes => true,
+        Effect::ShowsAttributes(_) => true,
+        Effect::Nothing => true,
         _ => false,
     }
 }

@@ -2,7 +2,8 @@
 
 use super::identifiers::asked_id;
 use kmipa_check::Call;
-use kmipa_msgs::{Ask, Asked};
+use kmipa_msgs::Ask;
+use kmipa_ops::{Change, Effect, row_of};
 
 /// What the success of an item leaves, which shows in a date of its object.
 #[derive(Clone, Copy, PartialEq, Eq)]
@@ -55,15 +56,17 @@ impl<'b, 'a> OpenCall<'b, 'a> {
 
 /// What the success of an item leaves, if it leaves anything.
 fn event_of(ask: &Ask) -> Option<Event> {
-    match &ask.asked {
-        Asked::Create(_) | Asked::Register(_) => Some(Event::Made),
-        Asked::Activate(_) => Some(Event::Activated),
-        Asked::Revoke(_) => Some(Event::Revoked),
-        Asked::Destroy(_) => Some(Event::Destroyed),
-        Asked::Locate(_)
-        | Asked::Get(_)
-        | Asked::GetAttributes(_)
-        | Asked::Idle(_)
-        | Asked::Other(_) => None,
+    match row_of(&ask.asked).effect {
+        Effect::Makes(_) => Some(Event::Made),
+        Effect::Changes(change) => Some(event_left(change)),
+        _ => None,
+    }
+}
+
+fn event_left(change: Change) -> Event {
+    match change {
+        Change::Activate => Event::Activated,
+        Change::Revoke(_) => Event::Revoked,
+        Change::Destroy => Event::Destroyed,
     }
 }

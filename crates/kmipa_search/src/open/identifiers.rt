@@ -1,7 +1,8 @@
 //! The identifiers that messages name.
 
 use kmipa_check::Call;
-use kmipa_msgs::{Answer, Ask, Asked, Payload};
+use kmipa_msgs::{Answer, Ask, Payload};
+use kmipa_ops::row_of;
 use std::alloc::AllocError;
 
 /// Adds the identifiers that the messages of a call name, in their order.
@@ -53,19 +54,8 @@ fn push_any<'b>(ids: &mut Vec<&'b str>, id: Option<&'b str>) -> Result<(), Alloc
 }
 
 /// The identifier that an item asks about.
-pub fn asked_id<'b, 'a>(ask: &'b Ask<'a>) -> Option<&'b str> {
-    match &ask.asked {
-        Asked::Get(get) => get.id,
-        Asked::GetAttributes(get) => get.id,
-        Asked::Activate(activate) => activate.id,
-        Asked::Revoke(revoke) => revoke.id,
-        Asked::Destroy(destroy) => destroy.id,
-        Asked::Create(_)
-        | Asked::Register(_)
-        | Asked::Locate(_)
-        | Asked::Idle(_)
-        | Asked::Other(_) => None,
-    }
+pub fn asked_id<'b>(ask: &'b Ask<'b>) -> Option<&'b str> {
+    row_of(&ask.asked).subject.id()
 }
 
 /// The identifier that a payload names, of one that does not list any.

@@ -4,8 +4,8 @@ use super::due::{first_from, fitting_makers};
 use super::identifiers::push_named;
 use super::standing::Standing;
 use super::tables::{Attempt, Tables};
-use kmipa_msgs::{Answer, Ask, Asked, Payload};
-use kmipa_ops::{Fit, matches};
+use kmipa_msgs::{Answer, Ask, Payload};
+use kmipa_ops::{Effect, Fit, matches, row_of};
 use kmipa_store::Ledger;
 use std::alloc::{AllocError, Global};
 
@@ -222,15 +222,15 @@ fn push_left_out<'b, 'a, L: Ledger>(
 }
 
 fn is_locate(ask: &Ask) -> bool {
-    match &ask.asked {
-        Asked::Locate(_) => true,
+    match row_of(&ask.asked).effect {
+        Effect::Lists(_) => true,
         _ => false,
     }
 }
 
 /// Whether a Locate has to list an object as it is now, and doesn't.
 fn is_left_out<L: Ledger>(ledger: &L, ask: &Ask, answer: &Answer, id: &str) -> bool {
-    let Asked::Locate(locate) = &ask.asked else {
+    let Effect::Lists(filter) = row_of(&ask.asked).effect else {
         return false;
     };
     let Some(Payload::Locate(located)) = &answer.payload else {
@@ -239,7 +239,7 @@ fn is_left_out<L: Ledger>(ledger: &L, ask: &Ask, answer: &Answer, id: &str) -> b
     let Some(place) = ledger.find(id) else {
         return false;
     };
-    matches(ledger.at(place), &locate.filter, ledger.state(place)) == Fit::Must
+    matches(ledger.at(place), filter, ledger.state(place)) == Fit::Must
         && !located.ids.contains(&id)
 }
 

@@ -4,7 +4,8 @@ use super::call::{Event, OpenCall};
 use super::identifiers::{asked_id, push_named, shown_id};
 use kmipa_attrs::{AttrSet, Name, ObjectType};
 use kmipa_check::Call;
-use kmipa_msgs::{Answer, Ask, Asked, Got, Payload, Response};
+use kmipa_msgs::{Answer, Ask, Got, Payload, Response};
+use kmipa_ops::{Effect, row_of};
 use kmipa_record::{Declaration, Entry};
 use std::alloc::{AllocError, Global};
 
@@ -150,10 +151,10 @@ impl<'b> Stories<'b> {
 
     /// What a Locate by a name lists has this name.
     fn note_listed<'a>(&mut self, ask: &'b Ask<'a>, listed: &[&'b str]) {
-        let Asked::Locate(locate) = &ask.asked else {
+        let Effect::Lists(filter) = row_of(&ask.asked).effect else {
             return;
         };
-        let name = first_name(locate.filter.names.as_slice());
+        let name = first_name(filter.names.as_slice());
         'ids: for id in listed {
             self.note_name(*id, name);
         }
@@ -221,14 +222,9 @@ impl<'b> Story<'b> {
         if self.is_brought {
             return false;
         }
-        match &ask.asked {
-            Asked::Create(create) => {
-                self.is_shown_as(ObjectType::SymmetricKey, None)
-                    && self.is_named(&create.attributes)
-            }
-            Asked::Register(register) => {
-                self.is_shown_as(register.object_type, Some(register.block.material))
-                    && self.is_named(&register.attributes)
+        match row_of(&ask.asked).effect {
+            Effect::Makes(new) => {
+                self.is_shown_as(new.kind, new.material()) && self.is_named(new.attributes)
             }
             _ => false,
         }

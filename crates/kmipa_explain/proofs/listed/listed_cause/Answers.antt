@@ -1,12 +1,11 @@
-use Rattle.std.proofs.Common.{rules, FitsSigned, ◌≡◌, ◌∙◌, ℕ, ℤ, None, cond, length, vec_len, w64, sym, ap, subst, arith}
+use Rattle.std.proofs.Common.{rules, FitsSigned, ◌≡◌, ℕ, ℤ, None, cond, length, vec_len, w64, sym, subst, arith}
 use Rattle.std.proofs.lemmas.Int.{to_z-of_z}
 use Rattle.std.proofs.lemmas.List.{length-map}
 use Rattle.kmipa_attrs.specs.Filters.{filter_of}
-use Rattle.kmipa_msgs.specs.Messages.{answer_of, ask_of, lent, locates, located_of}
+use Rattle.kmipa_msgs.specs.Messages.{answer_of, ask_of, lent, located_of}
 use Rattle.kmipa_record.specs.Declarations.{declaration_of}
 use Rattle.kmipa_ops.specs.Locate.{is_over}
 use Rattle.kmipa_explain.specs.Listed.{TellsWrongs}
-use Rattle.kmipa_explain.proofs.LeftOutLemmas.{the_filter}
 use Rattle.kmipa_explain.proofs.ListedLemmas.{some_wrong}
 use Rattle.kmipa_explain.proofs.listed.listed_cause.Goals as goal
 
@@ -29,7 +28,7 @@ returns c =
       filter = q;
       ids = ids;
       locate = record {
-        asks = c.requires.locate.asks ∙ ap locates (the_filter ask answer c.requires.filter q c.requires.ids c.requires.locate (sym c.in-Some.ensures));
+        asks = sym c.in-Some.ensures;
         lists = sym c.in-Some-located_in.ensures;
       };
       count = count;

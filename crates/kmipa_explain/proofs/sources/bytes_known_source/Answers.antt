@@ -1,4 +1,4 @@
-use Rattle.std.proofs.Common.{◌≡◌, ◌∙◌, Bool, true, false, if◌then◌else◌, List, ℕ, Option, None, map, refl, ap}
+use Rattle.std.proofs.Common.{◌≡◌, ◌∙◌, Bool, true, false, if◌then◌else◌, Option, None, map, refl, ap}
 use Rattle.kmipa_explain.specs.Reading.{seen_item, seen_start, seen_subject}
 use Rattle.kmipa_explain.specs.Sources.{bytes_source}
 use Rattle.kmipa_explain.specs.declared.source.Source.{Source}

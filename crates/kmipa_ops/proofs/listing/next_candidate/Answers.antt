@@ -1,4 +1,4 @@
-use Rattle.std.proofs.Common.{◌≡◌, ◌∙◌, ap, sym, map, slice_get, List, ℕ, Option, Some, None}
+use Rattle.std.proofs.Common.{◌≡◌, ◌∙◌, ap, sym, map, slice_get, List, ℕ, Some, None}
 use Rattle.kmipa_attrs.specs.Sets.{name_of}
 use Rattle.kmipa_attrs.specs.Filters.{filter_of}
 use Rattle.kmipa_attrs.specs.declared.name.Name.{Name}

@@ -1,4 +1,4 @@
-use Rattle.std.proofs.Common.{◌∙◌, sym, map, Some, None}
+use Rattle.std.proofs.Common.{◌∙◌, sym, map}
 use Rattle.kmipa_ops.specs.Listing.{is_among}
 use Rattle.kmipa_attrs.specs.Filters.{filter_of}
 use Rattle.kmipa_store.specs.Ledger.{cards_of}

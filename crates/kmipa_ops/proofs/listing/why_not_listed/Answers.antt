@@ -1,4 +1,4 @@
-use Rattle.std.proofs.Common.{◌∙◌, ap, sym, subst, map, true, false, Option, ℕ}
+use Rattle.std.proofs.Common.{◌∙◌, ap, sym, subst, map, true, false, Option}
 use Rattle.std.proofs.lemmas.List.{length-map}
 use Rattle.kmipa_ops.specs.declared.places_listed.PlacesListed.{PlacesListed}
 use Rattle.kmipa_attrs.specs.Filters.{filter_of}
