@@ -1,0 +1,4 @@
+pub mod CutLemmas
+pub mod ItemLemmas
+pub mod CallLemmas
+pub mod RunLemmas
