@@ -2,3 +2,4 @@ pub mod CutLemmas
 pub mod ItemLemmas
 pub mod CallLemmas
 pub mod RunLemmas
+pub mod MakingLemmas
