@@ -33,3 +33,4 @@ pub mod StillLemmas
 pub mod RememberLemmas
 pub mod TakenLemmas
 pub mod NotedLemmas
+pub mod PartLemmas

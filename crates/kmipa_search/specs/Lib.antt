@@ -24,3 +24,4 @@ pub mod Idle
 pub mod Settled
 pub mod Stills
 pub mod Ends
+pub mod ByObject

@@ -1,5 +1,6 @@
 //! Laws of the definitions.
 
+ghost use Rattle.kmipa_search.specs.ByObject.{RunsByObject};
 ghost use Rattle.kmipa_search.specs.Laws.{EnoughDecides, ForcedIsLight, IdleFirst, NextIsTested, EqualIsEqual};
 
 use kmipa_check::one_list_of_calls;
@@ -32,4 +33,9 @@ pub fn idle_first()
 /// begins no run, nor does the other.
 pub fn equal_is_equal()
     ensures { EqualIsEqual }
+{}
+
+/// Where calls have a run, their parts on an object have one, from what is declared of it.
+pub fn runs_by_object()
+    ensures { RunsByObject }
 {}

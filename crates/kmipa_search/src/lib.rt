@@ -33,7 +33,9 @@ mod watch;
 pub use deepest::Deepest;
 pub use forced::is_forced;
 pub use found::Found;
-pub use laws::{enough_decides, equal_is_equal, forced_is_light, idle_first, next_is_tested};
+pub use laws::{
+    enough_decides, equal_is_equal, forced_is_light, idle_first, next_is_tested, runs_by_object,
+};
 pub use open_searching::{search_open, search_open_calls};
 pub use reaching::reached;
 pub use searching::{search, search_calls, search_watched};

@@ -1,0 +1,201 @@
+-- What calls do to an inventory, one after the other, their parts on an object do to the inventory cut to that object.
+use Rattle.std.proofs.Common.{◌≡◌, ◌⊎◌, inl, inr, ℕ, zero, suc, ℤ, List, [], ◌∷◌, length, slice_get, Option, Some, None, option_map, refl, sym, ap, ◌∙◌, subst}
+use Rattle.std.specs.List.{zip, filter_map, AllZip}
+use Rattle.kmipa_object.specs.Inventory.{Thing}
+use Rattle.kmipa_msgs.specs.declared.request.BatchOption.{BatchOption}
+use Rattle.kmipa_msgs.specs.declared.response.Status.{Status}
+use Rattle.kmipa_msgs.specs.declared.response.Status.TheVariants.{Success, Failed, Undone}
+use Rattle.kmipa_msgs.specs.Messages.{RulesOf, AskOf, AnswerOf, ResponseOf}
+use Rattle.kmipa_ops.specs.Chains.{ChainSome}
+use Rattle.kmipa_batch.specs.Calls.{Leaves, RefusesMessage, CallSome, CallSomeAlong}
+use Rattle.kmipa_batch.specs.Calls.Leaves.{goes_back, goes_on}
+use Rattle.kmipa_batch.specs.Readable.{AreReadable, IsReadableCall}
+use Rattle.kmipa_batch.specs.Orders.{order_given}
+use Rattle.kmipa_batch.specs.Shapes.{HasShape}
+use Rattle.kmipa_batch.proofs.CompletionLemmas.{call_of_batch, call_of_refused, refused_leaves, batch_of_call}
+use Rattle.kmipa_batch.proofs.ShapeLemmas.{Alike, none_alike, first_alike, shape_alike}
+use Rattle.kmipa_check.specs.Steps.{StepOf, order_of}
+use Rattle.kmipa_check.specs.Runs.{Linked}
+use Rattle.kmipa_check.proofs.PlaceLemmas.{contains_at, at_contains}
+use Rattle.kmipa_parts.specs.Parts.{cut, held_after, IsPart, stays, lists, idle, ArePartItems, AllLeaveBe, IsPartOf, IsElsewhere, IsPartOrNone}
+use Rattle.kmipa_parts.specs.Laws.{AreReadableCalls, RunProjects}
+use Rattle.kmipa_parts.proofs.ItemLemmas.{part_does, leaves_be, held_some}
+
+-- ---- items, one after the other
+
+module _ (rules : RulesOf) (t : ℤ) (id : List ℕ) where
+  chain_part : (V : List Thing) (before now : Option (List ℕ)) (asks : List AskOf) (answers : List AnswerOf) (parts : List AskOf) (shown : List AnswerOf) (W : List Thing) (after : Option (List ℕ))
+      → AreReadable (zip asks answers) → ArePartItems id before asks answers parts shown → ChainSome rules t V before (zip asks answers) W after
+      → (then : Option (List ℕ)) × ChainSome rules t (cut id V) now (zip parts shown) (cut id W) then
+  chain_part V before now asks [] parts shown W after r p c = nothing asks c
+    where
+      nothing : (ks : List AskOf) → ChainSome rules t V before (zip ks []) W after → (then : Option (List ℕ)) × ChainSome rules t (cut id V) now (zip parts shown) (cut id W) then
+      nothing [] h = (now, subst (λ (xs : List AnswerOf). ChainSome rules t (cut id V) now (zip parts xs) (cut id W) now) (sym p.1) (none parts (ap (cut id) h.0)))
+        where
+          none : (ks : List AskOf) → cut id W ≡ cut id V → ChainSome rules t (cut id V) now (zip ks []) (cut id W) now
+          none [] e = (e, refl)
+          none (k ∷ ks) e = (e, refl)
+      nothing (k ∷ ks) h = (now, subst (λ (xs : List AnswerOf). ChainSome rules t (cut id V) now (zip parts xs) (cut id W) now) (sym p.1) (none parts (ap (cut id) h.0)))
+        where
+          none : (ks : List AskOf) → cut id W ≡ cut id V → ChainSome rules t (cut id V) now (zip ks []) (cut id W) now
+          none [] e = (e, refl)
+          none (k ∷ ks) e = (e, refl)
+  chain_part V before now [] (answer ∷ answers) parts shown W after r p c =
+      (now, subst (λ (ks : List AskOf). ChainSome rules t (cut id V) now (zip ks shown) (cut id W) now) (sym p.0) (ap (cut id) c.0, refl))
+  chain_part V before now (ask ∷ asks) (answer ∷ answers) [] shown W after r p c = absurd p
+  chain_part V before now (ask ∷ asks) (answer ∷ answers) (part ∷ parts) [] W after r p c = absurd p
+  chain_part V before now (ask ∷ asks) (answer ∷ answers) (part ∷ parts) (seen ∷ shown) W after r p c =
+      let d = part_does rules t V before ask answer c.0 c.1 r.0 c.2 id now part seen p.0 in
+      let e = held_some rules t V before ask answer c.0 c.1 r.0 c.2 in
+      let rest = chain_part c.0 c.1 d.0 asks answers parts shown W after r.1 (subst (λ (h : Option (List ℕ)). ArePartItems id h asks answers parts shown) (sym e) p.1) c.3 in
+      (rest.0, (cut id c.0, d.0, d.1, rest.1))
+
+  chain_elsewhere : (V : List Thing) (before : Option (List ℕ)) (asks : List AskOf) (answers : List AnswerOf) (W : List Thing) (after : Option (List ℕ))
+      → AreReadable (zip asks answers) → AllLeaveBe id before asks answers → ChainSome rules t V before (zip asks answers) W after → cut id W ≡ cut id V
+  chain_elsewhere V before [] answers W after r p c = ap (cut id) c.0
+  chain_elsewhere V before (ask ∷ asks) [] W after r p c = ap (cut id) c.0
+  chain_elsewhere V before (ask ∷ asks) (answer ∷ answers) W after r p c =
+      let e = held_some rules t V before ask answer c.0 c.1 r.0 c.2 in
+      let rest = chain_elsewhere c.0 c.1 asks answers W after r.1 (subst (λ (h : Option (List ℕ)). AllLeaveBe id h asks answers) (sym e) p.1) c.3 in
+      rest ∙ leaves_be rules t V before ask answer c.0 c.1 r.0 c.2 id p.0
+
+-- ---- statuses, and whole messages that are refused
+
+part_status : (id : List ℕ) (before : Option (List ℕ)) (ask : AskOf) (answer : AnswerOf) (part : AskOf) (seen : AnswerOf) → IsPart id before ask answer part seen → seen.status ≡ answer.status
+part_status id before ask answer part seen (stays m is same) = ap (λ (a : AnswerOf). a.status) same
+part_status id before ask answer part seen (lists q listed asks shows done tells is same) = ap (λ (a : AnswerOf). a.status) same
+part_status id before ask answer part seen (idle be i) = i.same
+
+part_unnamed : (id : List ℕ) (before : Option (List ℕ)) (ask : AskOf) (answer : AnswerOf) (part : AskOf) (seen : AnswerOf) → IsPart id before ask answer part seen → answer.operation ≡ None → seen.operation ≡ None
+part_unnamed id before ask answer part seen (stays m is same) e = ap (λ (a : AnswerOf). a.operation) same ∙ e
+part_unnamed id before ask answer part seen (lists q listed asks shows done tells is same) e = ap (λ (a : AnswerOf). a.operation) same ∙ e
+part_unnamed id before ask answer part seen (idle be i) e = i.unnamed
+
+abbrev status_at : List AnswerOf → ℕ → Option Status
+status_at answers place = option_map (λ (a : AnswerOf). a.status) (slice_get answers place)
+
+parts_alike : (id : List ℕ) (before : Option (List ℕ)) (asks : List AskOf) (answers : List AnswerOf) (parts : List AskOf) (shown : List AnswerOf) → ArePartItems id before asks answers parts shown
+    → (place : ℕ) → status_at answers place ≡ status_at shown place
+parts_alike id before asks [] parts shown p place = sym (ap (λ (xs : List AnswerOf). status_at xs place) p.1)
+parts_alike id before [] (answer ∷ answers) parts shown p place = sym (ap (λ (xs : List AnswerOf). status_at xs place) p.1)
+parts_alike id before (ask ∷ asks) (answer ∷ answers) [] shown p place = absurd p
+parts_alike id before (ask ∷ asks) (answer ∷ answers) (part ∷ parts) [] p place = absurd p
+parts_alike id before (ask ∷ asks) (answer ∷ answers) (part ∷ parts) (seen ∷ shown) p zero = ap (λ (s : Status). Some s) (sym (part_status id before ask answer part seen p.0))
+parts_alike id before (ask ∷ asks) (answer ∷ answers) (part ∷ parts) (seen ∷ shown) p (suc place) =
+    parts_alike id (held_after before ask.asked answer.status answer.payload) asks answers parts shown p.1 place
+
+parts_long : (id : List ℕ) (before : Option (List ℕ)) (asks : List AskOf) (answers : List AnswerOf) (parts : List AskOf) (shown : List AnswerOf) → ArePartItems id before asks answers parts shown → length parts ≡ length asks
+parts_long id before asks [] parts shown p = p.0
+parts_long id before [] (answer ∷ answers) parts shown p = ap length p.0
+parts_long id before (ask ∷ asks) (answer ∷ answers) [] shown p = absurd p
+parts_long id before (ask ∷ asks) (answer ∷ answers) (part ∷ parts) [] p = absurd p
+parts_long id before (ask ∷ asks) (answer ∷ answers) (part ∷ parts) (seen ∷ shown) p =
+    ap suc (parts_long id (held_after before ask.asked answer.status answer.payload) asks answers parts shown p.1)
+
+-- one answer alone
+parts_refuse : (id : List ℕ) (before : Option (List ℕ)) (asks : List AskOf) (answer : AnswerOf) (parts : List AskOf) (shown : List AnswerOf) → ArePartItems id before asks (answer ∷ []) parts shown
+    → answer.status ≡ Failed → answer.operation ≡ None → (seen : AnswerOf) × (shown ≡ seen ∷ []) × (seen.status ≡ Failed) × (seen.operation ≡ None)
+parts_refuse id before [] answer parts shown p fails unnamed = (answer, p.1, fails, unnamed)
+parts_refuse id before (ask ∷ asks) answer [] shown p fails unnamed = absurd p
+parts_refuse id before (ask ∷ asks) answer (part ∷ parts) [] p fails unnamed = absurd p
+parts_refuse id before (ask ∷ asks) answer (part ∷ parts) (seen ∷ shown) p fails unnamed =
+    (seen, ap (λ (xs : List AnswerOf). seen ∷ xs) p.1.1, part_status id before ask answer part seen p.0 ∙ fails, part_unnamed id before ask answer part seen p.0 unnamed)
+
+refuses_or_not : (response : ResponseOf) → RefusesMessage response ⊎ (RefusesMessage response → ⊥)
+refuses_or_not response = by response.items refl
+  where
+    by : (items : List AnswerOf) → response.items ≡ items → RefusesMessage response ⊎ (RefusesMessage response → ⊥)
+    by [] e = inr (λ r. let both : [] ≡ r.answer ∷ [] = sym e ∙ r.alone in let bad : ⊥ = cc in bad)
+    by (a ∷ b ∷ items) e = inr (λ r. let both : a ∷ b ∷ items ≡ r.answer ∷ [] = sym e ∙ r.alone in let bad : ⊥ = cc in bad)
+    by (a ∷ []) e = failing a.status a.operation refl refl
+      where
+        mine : (r : RefusesMessage response) → a ≡ r.answer
+        mine r = let both : a ∷ [] ≡ r.answer ∷ [] = sym e ∙ r.alone in cc
+
+        failing : (s : Status) (o : Option ℕ) → a.status ≡ s → a.operation ≡ o → RefusesMessage response ⊎ (RefusesMessage response → ⊥)
+        failing Failed None f u = inl (record { answer = a; alone = e; failed = f; unnamed = u })
+        failing Failed (Some x) f u = inr (λ r. let both : Some x ≡ None = sym u ∙ ap (λ (y : AnswerOf). y.operation) (mine r) ∙ r.unnamed in let bad : ⊥ = cc in bad)
+        failing Success o f u = inr (λ r. let both : Success ≡ Failed = sym f ∙ ap (λ (y : AnswerOf). y.status) (mine r) ∙ r.failed in let bad : ⊥ = cc in bad)
+        failing Undone o f u = inr (λ r. let both : Undone ≡ Failed = sym f ∙ ap (λ (y : AnswerOf). y.status) (mine r) ∙ r.failed in let bad : ⊥ = cc in bad)
+
+-- ---- a call
+
+leaves_alike : (option : BatchOption) (xs ys : List AnswerOf) (V M W : List Thing) → Alike xs ys → Leaves option xs V M W → Leaves option ys V M W
+leaves_alike option xs ys V M W h l = elim l [
+  | goes_back undo f first e ↦ goes_back undo f (first_alike xs ys f h first) e
+  | goes_on none e ↦ goes_on (λ undo. none_alike xs ys h (none undo)) e
+]
+
+leaves_part : (id : List ℕ) (option : BatchOption) (answers : List AnswerOf) (V M W : List Thing) → Leaves option answers V M W → Leaves option answers (cut id V) (cut id M) (cut id W)
+leaves_part id option answers V M W l = elim l [
+  | goes_back undo f first e ↦ goes_back undo f first (ap (cut id) e)
+  | goes_on none e ↦ goes_on none (ap (cut id) e)
+]
+
+module _ (rules : RulesOf) (id : List ℕ) (V : List Thing) (c : StepOf) (W : List Thing) (readable : IsReadableCall c.request c.response) (by_place : c.places ≡ None) (d : CallSomeAlong rules V c.request c.response (order_of c) W) where
+  placed : CallSome rules V c.request c.response W
+  placed = let P : Option (List ℕ) → Type 0 = λ o. CallSomeAlong rules V c.request c.response (order_given o) W in subst P by_place d
+
+  call_part : (part : StepOf) → IsPartOf id c part → CallSomeAlong rules (cut id V) part.request part.response (order_of part) (cut id W)
+  call_part part p =
+      let P : Option (List ℕ) → Type 0 = λ o. CallSomeAlong rules (cut id V) part.request part.response (order_given o) (cut id W) in
+      subst P (sym p.placed) (by (refuses_or_not c.response))
+    where
+      by : RefusesMessage c.response ⊎ (RefusesMessage c.response → ⊥) → CallSome rules (cut id V) part.request part.response (cut id W)
+      by (inl r) =
+          let Q : List AnswerOf → Type 0 = λ xs. ArePartItems id None c.request.items xs part.request.items part.response.items in
+          let one = parts_refuse id None c.request.items r.answer part.request.items part.response.items (subst Q r.alone p.items) r.failed r.unnamed in
+          let R : List Thing → Type 0 = λ X. CallSome rules (cut id V) part.request part.response X in
+          subst R (sym (ap (cut id) (refused_leaves rules V c.request c.response W r placed)))
+          (call_of_refused rules (cut id V) part.request part.response (record { answer = one.0; alone = one.1; failed = one.2; unnamed = one.3 }))
+      by (inr unrefused) =
+          let b = batch_of_call rules V c.request c.response None W unrefused placed in
+          let h = chain_part rules c.response.stamp id V None None c.request.items c.response.items part.request.items part.response.items b.last b.placeholder (readable unrefused) p.items b.chain in
+          let alike : Alike c.response.items part.response.items = record { same = parts_alike id None c.request.items c.response.items part.request.items part.response.items p.items } in
+          let long = parts_long id None c.request.items c.response.items part.request.items part.response.items p.items in
+          call_of_batch rules (cut id V) part.request part.response None (cut id W) tt (record {
+            shaped = λ place.
+                let S : BatchOption → Type 0 = λ o. HasShape o (length part.request.items) part.response.items place (slice_get part.response.items place) in
+                let T : ℕ → Type 0 = λ n. HasShape c.request.option n part.response.items place (slice_get part.response.items place) in
+                subst S (sym p.option) (subst T (sym long) (shape_alike c.request.option (length c.request.items) c.response.items part.response.items place alike (b.shaped place)));
+            last = cut id b.last;
+            placeholder = h.0;
+            chain = (let C : ℤ → Type 0 = λ z. ChainSome rules z (cut id V) None (zip part.request.items part.response.items) (cut id b.last) h.0 in subst C (sym p.stamp) h.1);
+            leaves =
+                (let L : BatchOption → Type 0 = λ o. Leaves o part.response.items (cut id V) (cut id b.last) (cut id W) in
+                subst L (sym p.option) (leaves_alike c.request.option c.response.items part.response.items (cut id V) (cut id b.last) (cut id W) alike (leaves_part id c.request.option c.response.items V b.last W b.leaves)));
+          })
+
+  call_elsewhere : IsElsewhere id c → cut id W ≡ cut id V
+  call_elsewhere p = by (refuses_or_not c.response)
+    where
+      by : RefusesMessage c.response ⊎ (RefusesMessage c.response → ⊥) → cut id W ≡ cut id V
+      by (inl r) = ap (cut id) (refused_leaves rules V c.request c.response W r placed)
+      by (inr unrefused) =
+          let b = batch_of_call rules V c.request c.response None W unrefused placed in
+          let e = chain_elsewhere rules c.response.stamp id V None c.request.items c.response.items b.last b.placeholder (readable unrefused) p.items b.chain in
+          (elim b.leaves [ goes_back undo f first is ↦ ap (cut id) is | goes_on none is ↦ ap (cut id) is ∙ e ])
+
+-- ---- calls, one after the other
+
+first_readable : (c : StepOf) (calls : List StepOf) → AreReadableCalls (c ∷ calls) → IsReadableCall c.request c.response
+first_readable c calls r = r c (contains_at (c ∷ calls) 0 c refl)
+
+others_readable : (c : StepOf) (calls : List StepOf) → AreReadableCalls (c ∷ calls) → AreReadableCalls calls
+others_readable c calls r x has = let i = at_contains calls x has in r x (contains_at (c ∷ calls) (suc i.0) x i.1)
+
+linked_parts : (rules : RulesOf) (id : List ℕ) (V W : List Thing) (calls : List StepOf) (each : List (Option StepOf)) → AreReadableCalls calls → AllZip (IsPartOrNone id) calls each → Linked rules V calls W
+    → Linked rules (cut id V) (filter_map (λ (part : Option StepOf). part) each) (cut id W)
+linked_parts rules id V W [] [] r z l = ap (cut id) l
+linked_parts rules id V W [] (part ∷ each) r z l = absurd z
+linked_parts rules id V W (c ∷ calls) [] r z l = absurd z
+linked_parts rules id V W (c ∷ calls) (Some part ∷ each) r z l =
+    (cut id l.0, call_part rules id V c l.0 (first_readable c calls r) z.0.by_place l.1 part z.0, linked_parts rules id l.0 W calls each (others_readable c calls r) z.1 l.2)
+linked_parts rules id V W (c ∷ calls) (None ∷ each) r z l =
+    let P : List Thing → Type 0 = λ X. Linked rules X (filter_map (λ (part : Option StepOf). part) each) (cut id W) in
+    subst P (call_elsewhere rules id V c l.0 (first_readable c calls r) z.0.by_place l.1 z.0) (linked_parts rules id l.0 W calls each (others_readable c calls r) z.1 l.2)
+
+pub run_projects_lem : RunProjects
+run_projects_lem rules id V W calls parts readable p l =
+    let P : List StepOf → Type 0 = λ xs. Linked rules (cut id V) xs (cut id W) in
+    subst P (sym p.are) (linked_parts rules id V W calls p.each readable p.of_calls l)

@@ -1,0 +1,5 @@
+pub mod CutLemmas
+pub mod ItemLemmas
+pub mod CallLemmas
+pub mod RunLemmas
+pub mod MakingLemmas

@@ -1,0 +1,12 @@
+//! What calls do to one object: the parts of calls on it.
+#![tactic(auto)]
+
+mod call;
+mod copies;
+mod item;
+mod laws;
+mod subject;
+
+pub use call::{Part, leave_be, part_of};
+pub use laws::{parts_are_placed, run_projects};
+pub use subject::{about, held_after};
