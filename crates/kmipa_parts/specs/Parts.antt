@@ -11,8 +11,7 @@ use Rattle.kmipa_ops.specs.Create.{seen_created}
 use Rattle.kmipa_ops.specs.Register.{seen_registered}
 use Rattle.kmipa_ops.specs.Locate.{is_full}
 use Rattle.kmipa_ops.specs.Objects.{meant}
-use Rattle.kmipa_ops.specs.Row.{row_holds}
-use Rattle.kmipa_ops.specs.Rows.{asked_row}
+use Rattle.kmipa_ops.specs.After.{placeholder_done}
 use Rattle.kmipa_check.specs.Steps.{StepOf}
 
 -- the inventory cut to the object of this identifier: that object alone, or none
@@ -23,8 +22,8 @@ cut id V = filter (λ (o : Thing). bytes_eq id o.card.id) V
 
 -- what the ID Placeholder holds after an item; one that failed leaves it
 abbrev pub held_after : Option (List ℕ) → AskedOf → Status → Option PayloadOf → Option (List ℕ)
-held_after before asked Success payload = row_holds (asked_row asked) before payload
-held_after before asked Undone payload = row_holds (asked_row asked) before payload
+held_after before asked Success payload = placeholder_done before asked payload
+held_after before asked Undone payload = placeholder_done before asked payload
 held_after before asked Failed payload = before
 
 -- the identifier of the object that was made, where it was

@@ -1,14 +1,14 @@
 //! Which object an item is about.
 
 ghost use Rattle.std.specs.Prelude.{◌≡◌, Option, map, option_and_then, option_map};
-ghost use Rattle.kmipa_msgs.specs.Messages.{RegisteredOf, answer_of, ask_of, asked_of, lent, maybe_lent, payload_of};
+ghost use Rattle.kmipa_attrs.specs.Filters.{FilterOf};
+ghost use Rattle.kmipa_msgs.specs.Messages.{RegisteredOf, answer_of, ask_of, asked_of, lent, locates, maybe_lent, payload_of};
 ghost use Rattle.kmipa_ops.specs.Adding.{names_new};
+ghost use Rattle.kmipa_ops.specs.After.{placeholder_done};
 ghost use Rattle.kmipa_ops.specs.Create.{seen_created};
 ghost use Rattle.kmipa_ops.specs.Locate.{only};
 ghost use Rattle.kmipa_ops.specs.Objects.{meant};
 ghost use Rattle.kmipa_ops.specs.Register.{seen_registered};
-ghost use Rattle.kmipa_ops.specs.Row.{row_holds};
-ghost use Rattle.kmipa_ops.specs.Rows.{asked_row};
 ghost use Rattle.kmipa_parts.specs.Parts.{about, held_after, made};
 
 use kmipa_msgs::{Answer, Ask, Asked, Payload, Status};
@@ -53,15 +53,29 @@ fn held_done<'a>(
     payload: &Option<Payload<'a>>,
 ) -> Option<&'a str>
     ensures { maybe_lent result
-        ≡ row_holds (asked_row (asked_of asked.now)) (maybe_lent held.entry) (option_map payload_of payload.now) }
+        ≡ placeholder_done (maybe_lent held.entry) (asked_of asked.now) (option_map payload_of payload.now) }
 {
     match asked {
         Asked::Create(_) => or_held(created(payload), held),
         Asked::Register(_) => or_held(registered(payload), held),
-        Asked::Locate(_) => match payload {
-            Some(Payload::Locate(located)) => only(&located.ids),
-            _ => held,
-        },
+        Asked::Locate(_) => listed_alone(held, payload),
+        Asked::Get(_) => held,
+        Asked::GetAttributes(_) => held,
+        Asked::Activate(_) => held,
+        Asked::Revoke(_) => held,
+        Asked::Destroy(_) => held,
+        Asked::Idle(_) => held,
+        Asked::Other(_) => held,
+    }
+}
+
+/// The identifier that a Locate lists alone, where it lists anything; the one that was held, where it has no list.
+fn listed_alone<'a>(held: Option<&'a str>, payload: &Option<Payload<'a>>) -> Option<&'a str>
+    ensures { (q : FilterOf)
+        → maybe_lent result ≡ placeholder_done (maybe_lent held.entry) (locates q) (option_map payload_of payload.now) }
+{
+    match payload {
+        Some(Payload::Locate(located)) => only(&located.ids),
         _ => held,
     }
 }
