@@ -132,7 +132,7 @@ module _ (marks : List MarkOf) (declared : DeclarationOf) (calls : List CallOf) 
         let P : StepOf → Type 0 = λ x. Contains steps x in
         subst P m.2 (contains_at steps m.0 (step_at steps m.0) (slice_get-get_or steps m.0 no_step below))
 
-    pub found_at_once : (budget count : ℕ) (witness : Witness) → witness_of witness ≡ turns_at steps places → length places ≡ count → count ≤ budget
+    pub found_at_once : (budget count : ℕ) (witness : Witness) → witness_of witness ≡ turns_at steps places → length places ≤ count → count ≤ budget
         → IsAccepted marks declared (witness_of witness) → Finds marks declared budget (Yes witness count)
     found_at_once budget count witness is long few a = (a, writable places in_places witness is, few, turns_long)
       where

@@ -1,6 +1,8 @@
 //! The search for a witness, under a budget.
 #![tactic(auto)]
 
+mod accepted;
+mod by_lives;
 mod candidate;
 mod check_laws;
 mod deepest;

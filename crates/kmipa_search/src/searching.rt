@@ -14,6 +14,8 @@ ghost use Rattle.kmipa_search.specs.Progress.{AllReadable};
 ghost use Rattle.kmipa_search.specs.Found.{Finds, Searches};
 ghost use Rattle.kmipa_search.specs.Confirming.{Confirms, IsTried, turns_at};
 
+use crate::accepted::{accepted_order, witness_at};
+use crate::by_lives::search_by_lives;
 use crate::candidate::Candidate;
 use crate::check_laws::check_laws;
 use crate::forthright::forthright_order;
@@ -26,7 +28,7 @@ use kmipa_check::{
     Call, CheckFault, Verdict, check, check_calls, open_ledger, read_calls, rules_of_declaration,
 };
 use kmipa_record::{Declaration, RecordKind, Transcript, Witness, write_witness};
-use std::alloc::{AllocError, Global};
+use std::alloc::Global;
 
 /// Looks for a witness that a check accepts, trying at most `budget` calls.
 ///
@@ -39,7 +41,8 @@ use std::alloc::{AllocError, Global};
 /// payloads or has no order, each payload has one guess, and nothing is remembered.
 ///
 /// Where all calls are plain and the budget is enough for them, the order in which they are tried if each is possible is made first, without a
-/// ledger, and checked: mostly it is the one that is found, and the calls are taken once.
+/// ledger, and checked: mostly it is the one that is found, and the calls are taken once. Where it isn't, and the first 1,000 steps don't end the
+/// search, the lives of the objects propose an order: where a check accepts it, it is found with those steps and one more for each call.
 pub fn search(
     alloc: Global,
     transcript: &Transcript,
@@ -107,7 +110,10 @@ pub fn search_plain<W: Watch>(
         → ArePlain (map call_of calls.now) (map candidate_step own.now)
         → Searches marks (declaration_of declaration.now) budget result }
 {
-    match search_forthright(alloc, calls, declaration, own, budget)? {
+    if let Some(found) = search_forthright(alloc, calls, declaration, own, budget)? {
+        return Ok(found);
+    }
+    match search_by_lives(alloc, calls, declaration, own, budget)? {
         Some(found) => Ok(found),
         None => search_step_by_step(alloc, calls, declaration, own, budget, watch),
     }
@@ -129,7 +135,6 @@ fn search_forthright(
         → IfOk result (λ found. IfSome found (Finds marks (declaration_of declaration.now) budget)) }
     ensures memory { IfErr result (λ fault. fault ≡ CheckFault.Memory) }
 {
-    check_laws();
     let steps = own.len() as u64;
     if steps > budget {
         return Ok(None);
@@ -138,12 +143,7 @@ fn search_forthright(
     if order.len() != own.len() {
         return Ok(None);
     }
-    let witness = witness_at(alloc, own, &order)?;
-    match check_calls(alloc, calls, declaration, &witness) {
-        Ok(Verdict::Yes) => Ok(Some(Found::Yes(witness, steps))),
-        Err(CheckFault::Memory) => Err(CheckFault::Memory),
-        _ => Ok(None),
-    }
+    accepted_order(alloc, calls, declaration, own, &order, steps)
 }
 
 /// The same, step by step: each call that is tried is taken over a ledger, and given back where it leads to nothing.
@@ -304,18 +304,6 @@ fn is_written(alloc: Global, witness: &Witness) -> Result<bool, CheckFault>
             }
         }
     }
-}
-
-/// The witness that takes the calls at these places.
-fn witness_at(alloc: Global, calls: &[Candidate], order: &[usize]) -> Result<Witness, AllocError>
-    requires { All (λ place. place < length calls.now) order.now }
-    ensures { IfOk result (λ witness. witness_of witness ≡ turns_at (map candidate_step calls.now) order.now) }
-{
-    let mut turns = Vec::with_capacity(alloc, order.len())?;
-    'places: for place in order {
-        turns.push(bare_turn(alloc, calls[*place].number))?;
-    }
-    Ok(Witness { turns })
 }
 
 /// Hands a witness out that is accepted.

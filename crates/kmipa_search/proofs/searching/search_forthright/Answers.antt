@@ -1,25 +1,5 @@
-use Rattle.std.proofs.Common.{◌≡◌, ◌<◌, ℕ, List, All, length, map, sym, subst, arith}
-use Rattle.std.proofs.lemmas.List.{length-map}
-use Rattle.kmipa_record.specs.Declarations.{declaration_of}
-use Rattle.kmipa_record.specs.Witnesses.{witness_of}
-use Rattle.kmipa_check.specs.Calls.{call_of}
-use Rattle.kmipa_check.specs.Verdicts.{TellsVerdict}
-use Rattle.kmipa_check.specs.declared.verdict.Verdict.{Verdict}
-use Rattle.kmipa_search.specs.Candidates.{candidate_step}
-use Rattle.kmipa_search.specs.Confirming.{turns_at}
-use Rattle.kmipa_search.proofs.AnswerLemmas.{found_at_once}
+use Rattle.std.proofs.Common.{arith}
 use Rattle.kmipa_search.proofs.searching.search_forthright.Goals as goal
 
-pub returns-in-Ok-Yes-clause-finds : goal.returns-in-Ok-Yes-clause-finds
-returns-in-Ok-Yes-clause-finds c = λ marks r are plain.
-    let calls = map call_of c.args.calls.now in
-    let declared = declaration_of c.args.declaration.now in
-    let steps = map candidate_step c.args.own.now in
-    let places = c.in_ok-order.order.items in
-    let witness = c.in_ok-witness.witness in
-    let N : ℕ → Type 0 = λ n. All (λ p. p < n) places in
-    let V : Verdict → Type 0 = λ v. TellsVerdict marks declared (witness_of witness) v in
-    let W : List ℕ → Type 0 = λ ps. witness_of witness ≡ turns_at steps ps in
-    found_at_once marks declared calls steps c.check_laws.ensures r are plain places (subst N (sym (length-map c.args.own.now candidate_step)) c.in_ok-order.ensures)
-    c.args.budget (length c.args.own.now) witness (subst W c.deref.ensures.value c.in_ok-witness.ensures) (omega (arith, c.if-len-own.false, c.len.ensures)) (omega (arith, c.if-steps-budget.false))
-    (subst V c.in-Ok-Yes.field-0-is (c.in-Ok-Yes.ensures marks r are))
+pub returns-clause-finds : goal.returns-clause-finds
+returns-clause-finds c = λ marks r are plain. c.accepted_order.ensures.finds marks c.args.budget r are plain (omega (arith, c.if-steps-budget.false))

@@ -1,0 +1,5 @@
+use Rattle.kmipa_store.specs.Choices.{IsSound}
+use Rattle.kmipa_lives.proofs.lives.lives_of.Given as goal
+
+abbrev pub invariant-chains : goal.invariant-chains
+invariant-chains g l = IsSound (g.L.Ledger.state l.ledger).now

@@ -1,0 +1,144 @@
+//! What lives leave open: choices among edges.
+
+use crate::lives::{Course, Reader, bit_of};
+use crate::times::{Time, time_at};
+use std::alloc::{AllocError, Global};
+
+/// An edge that is wished: a call before another.
+#[derive(Clone, Copy)]
+pub struct Wish {
+    pub from: usize,
+    pub to: usize,
+}
+
+/// A choice among options, each of which is a list of wishes.
+#[derive(Drop)]
+pub struct Choice {
+    pub options: Vec<Vec<Wish>>,
+    /// Of each option whether it was seen to be impossible.
+    pub is_out: Vec<bool>,
+    /// It is open only where that choice has taken that option.
+    pub under: Option<(usize, usize)>,
+    /// The option that is taken.
+    pub taken: Option<usize>,
+    /// The edges that it has in the graph.
+    pub edges: Vec<usize>,
+    /// So many times it was taken back.
+    pub defeats: usize,
+}
+
+/// Adds the choices of an object among its lives, and of its readers among slots.
+pub fn add_choices(
+    alloc: Global,
+    choices: &mut Vec<Choice>,
+    times: &[Time],
+    courses: &[Course],
+) -> Result<(), AllocError> {
+    let mut options = Vec::new(alloc);
+    for course in courses {
+        options.push(wishes_of(alloc, times, course)?)?;
+    }
+    let number = choices.len();
+    add_choice(alloc, choices, options, None)?;
+    for (option, course) in courses.iter().enumerate() {
+        for reader in &course.readers {
+            add_gaps(alloc, choices, times, course, reader, (number, option))?;
+        }
+    }
+    Ok(())
+}
+
+fn add_choice(
+    alloc: Global,
+    choices: &mut Vec<Choice>,
+    options: Vec<Vec<Wish>>,
+    under: Option<(usize, usize)>,
+) -> Result<(), AllocError> {
+    let is_out = vec![in alloc; false; options.len()]?;
+    choices.push(Choice {
+        options,
+        is_out,
+        under,
+        taken: None,
+        edges: Vec::new(alloc),
+        defeats: 0,
+    })?;
+    Ok(())
+}
+
+/// The edges that a course has, whatever its readers choose, but for those that times have anyway.
+fn wishes_of(alloc: Global, times: &[Time], course: &Course) -> Result<Vec<Wish>, AllocError> {
+    let mut wishes = Vec::new(alloc);
+    for (from, to) in course.chain.iter().zip(course.chain.iter().skip(1)) {
+        make_wish(&mut wishes, times, *from, *to)?;
+    }
+    for reader in &course.readers {
+        let low = reader.slots.trailing_zeros() as usize;
+        let high = 63usize.saturating_sub(reader.slots.leading_zeros() as usize);
+        wish_between(&mut wishes, times, course, reader.call, low, high)?;
+    }
+    Ok(wishes)
+}
+
+/// Wishes a call between the changes of these slots.
+fn wish_between(
+    wishes: &mut Vec<Wish>,
+    times: &[Time],
+    course: &Course,
+    call: usize,
+    low: usize,
+    high: usize,
+) -> Result<(), AllocError> {
+    if low > 0 {
+        if let Some(change) = course.chain.get(low.saturating_sub(1)) {
+            make_wish(wishes, times, *change, call)?;
+        }
+    }
+    match course.chain.get(high) {
+        Some(change) => make_wish(wishes, times, call, *change),
+        None => Ok(()),
+    }
+}
+
+fn make_wish(
+    wishes: &mut Vec<Wish>,
+    times: &[Time],
+    from: usize,
+    to: usize,
+) -> Result<(), AllocError> {
+    if !time_at(times, from).is_before(time_at(times, to)) {
+        wishes.push(Wish { from, to })?;
+    }
+    Ok(())
+}
+
+/// Adds the choice of a reader among runs of slots, where there is more than one.
+fn add_gaps(
+    alloc: Global,
+    choices: &mut Vec<Choice>,
+    times: &[Time],
+    course: &Course,
+    reader: &Reader,
+    under: (usize, usize),
+) -> Result<(), AllocError> {
+    let mut options = Vec::new(alloc);
+    let mut low = None;
+    for slot in 0..course.chain.len().saturating_add(2) {
+        let is_in = reader.slots & bit_of(slot) != 0;
+        match low {
+            None if is_in => low = Some(slot),
+            Some(first) if !is_in => {
+                let mut wishes = Vec::new(alloc);
+                let last = slot.saturating_sub(1);
+                wish_between(&mut wishes, times, course, reader.call, first, last)?;
+                options.push(wishes)?;
+                low = None;
+            }
+            _ => {}
+        }
+    }
+    if options.len() > 1 {
+        add_choice(alloc, choices, options, Some(under))?;
+    }
+    Ok(())
+}

@@ -1,0 +1,258 @@
+//! Which items of the calls are about which objects.
+
+use crate::looks::Look;
+use kmipa_attrs::{AttrSet, Filter, ObjectType};
+use kmipa_batch::is_refused_message;
+use kmipa_check::Call;
+use kmipa_msgs::{Answer, Ask, Asked, Payload, Status};
+use kmipa_record::Declaration;
+use std::alloc::{AllocError, Global};
+use std::collections::BTreeMap;
+
+/// How an item is about an object.
+#[derive(Clone, Copy, PartialEq, Eq, PartialOrd, Ord)]
+pub enum Part {
+    /// It means the object by its identifier, or brings it.
+    Means,
+    /// A Locate that lists it.
+    Lists,
+    /// A Locate that leaves it out.
+    LeavesOut,
+}
+
+/// An item that is about an object.
+#[derive(Clone, Copy, PartialEq, Eq, PartialOrd, Ord)]
+pub struct Touch {
+    /// The object, by its number here.
+    pub object: usize,
+    /// The place of the call.
+    pub call: usize,
+    /// The place of the item in it.
+    pub item: usize,
+    pub part: Part,
+}
+
+/// What is known of an object from the calls.
+#[derive(Clone, Copy)]
+pub struct Known<'b> {
+    /// Unique Identifier.
+    pub id: &'b str,
+    /// Its type and its attributes, where its birth or the declaration says them.
+    pub given: Option<(ObjectType, &'b AttrSet)>,
+    /// The call that brings it.
+    pub born: Option<usize>,
+    /// A call that destroys it.
+    pub gone: Option<usize>,
+    /// The last Locate that was noted to list it, counted from 1; 0 where none was.
+    pub listed: usize,
+}
+
+/// The objects that the calls and the declaration speak of, and the items about them.
+#[derive(Drop)]
+pub struct Items<'b> {
+    numbers: BTreeMap<&'b str, usize>,
+    pub objects: Vec<Known<'b>>,
+    pub touches: Vec<Touch>,
+    pub looks: Vec<Look<'b>>,
+}
+
+/// Whom an item is about.
+enum Aim<'b> {
+    /// The object of this identifier, or that of the ID Placeholder.
+    Object(Option<&'b str>),
+    /// A new object of this type and these attributes.
+    Newborn(ObjectType, &'b AttrSet),
+    /// The objects that fit a filter.
+    Fitting(&'b Filter),
+    Nothing,
+}
+
+impl<'b> Items<'b> {
+    /// Those of a declaration and of calls, but for the objects that a Locate leaves out.
+    pub fn of<'a>(
+        alloc: Global,
+        calls: &'b [Call<'a>],
+        declaration: &'b Declaration,
+    ) -> Result<Items<'b>, AllocError> {
+        let mut items = Items {
+            numbers: BTreeMap::new(alloc),
+            objects: Vec::new(alloc),
+            touches: Vec::new(alloc),
+            looks: Vec::new(alloc),
+        };
+        items.take_entries(declaration)?;
+        for (place, call) in calls.iter().enumerate() {
+            items.take_call(place, call)?;
+        }
+        Ok(items)
+    }
+
+    fn take_entries(&mut self, declaration: &'b Declaration) -> Result<(), AllocError> {
+        for entry in &declaration.entries {
+            let number = self.number(entry.id.as_str())?;
+            if let Some(known) = self.objects.get_mut(number) {
+                known.given = Some((entry.kind, &entry.attrs));
+            }
+        }
+        Ok(())
+    }
+
+    /// The number of an object, which is known from now on.
+    fn number(&mut self, id: &'b str) -> Result<usize, AllocError> {
+        if let Some(number) = self.numbers.get(&id) {
+            return Ok(*number);
+        }
+        let number = self.objects.len();
+        self.objects.push(Known {
+            id,
+            given: None,
+            born: None,
+            gone: None,
+            listed: 0,
+        })?;
+        self.numbers.insert(id, number)?;
+        Ok(number)
+    }
+
+    fn take_call<'a>(&mut self, place: usize, call: &'b Call<'a>) -> Result<(), AllocError> {
+        let Some(response) = &call.response else {
+            return Ok(());
+        };
+        if is_refused_message(response) {
+            return Ok(());
+        }
+        let mut held = None;
+        for (item, (ask, answer)) in call
+            .request
+            .items
+            .iter()
+            .zip(response.items.iter())
+            .enumerate()
+        {
+            held = self.take_item(place, item, ask, answer, held)?;
+        }
+        Ok(())
+    }
+
+    /// Notes whom an item is about, and answers what the ID Placeholder holds behind it.
+    fn take_item<'a>(
+        &mut self,
+        call: usize,
+        item: usize,
+        ask: &'b Ask<'a>,
+        answer: &'b Answer<'a>,
+        held: Option<&'b str>,
+    ) -> Result<Option<&'b str>, AllocError> {
+        let is_done = answer.status != Status::Failed;
+        match aim_of(&ask.asked) {
+            Aim::Object(id) => {
+                if let Some(id) = id.or(held) {
+                    let object = self.touch(id, call, item, Part::Means)?;
+                    self.note_end(object, call, &ask.asked, answer.status);
+                }
+                Ok(held)
+            }
+            Aim::Newborn(kind, given) => match brought(&answer.payload) {
+                Some(id) if is_done => {
+                    let object = self.touch(id, call, item, Part::Means)?;
+                    self.note_birth(object, call, kind, given);
+                    Ok(Some(id))
+                }
+                _ => Ok(held),
+            },
+            Aim::Fitting(filter) => match listed(&answer.payload) {
+                Some(ids) if is_done => self.take_look(call, item, filter, ids),
+                _ => Ok(held),
+            },
+            Aim::Nothing => Ok(held),
+        }
+    }
+
+    fn take_look<'a>(
+        &mut self,
+        call: usize,
+        item: usize,
+        filter: &'b Filter,
+        ids: &'b [&'a str],
+    ) -> Result<Option<&'b str>, AllocError> {
+        let from = self.touches.len();
+        for id in ids {
+            self.touch(id, call, item, Part::Lists)?;
+        }
+        self.looks.push(Look {
+            call,
+            item,
+            filter,
+            from,
+            to: self.touches.len(),
+        })?;
+        match ids {
+            [only] => Ok(Some(only)),
+            _ => Ok(None),
+        }
+    }
+
+    fn touch(
+        &mut self,
+        id: &'b str,
+        call: usize,
+        item: usize,
+        part: Part,
+    ) -> Result<usize, AllocError> {
+        let object = self.number(id)?;
+        self.touches.push(Touch {
+            object,
+            call,
+            item,
+            part,
+        })?;
+        Ok(object)
+    }
+
+    fn note_birth(&mut self, object: usize, call: usize, kind: ObjectType, given: &'b AttrSet) {
+        if let Some(known) = self.objects.get_mut(object) {
+            known.given = Some((kind, given));
+            known.born = Some(call);
+        }
+    }
+
+    fn note_end(&mut self, object: usize, call: usize, asked: &Asked, status: Status) {
+        if let (Asked::Destroy(_), Status::Success) = (asked, status) {
+            if let Some(known) = self.objects.get_mut(object) {
+                known.gone = Some(call);
+            }
+        }
+    }
+}
+
+fn aim_of<'b, 'a>(asked: &'b Asked<'a>) -> Aim<'b> {
+    match asked {
+        Asked::Create(create) => Aim::Newborn(ObjectType::SymmetricKey, &create.attributes),
+        Asked::Register(register) => Aim::Newborn(register.object_type, &register.attributes),
+        Asked::Locate(locate) => Aim::Fitting(&locate.filter),
+        Asked::Get(get) => Aim::Object(get.id),
+        Asked::GetAttributes(get) => Aim::Object(get.id),
+        Asked::Activate(activate) => Aim::Object(activate.id),
+        Asked::Revoke(revoke) => Aim::Object(revoke.id),
+        Asked::Destroy(destroy) => Aim::Object(destroy.id),
+        Asked::Idle(_) => Aim::Nothing,
+        Asked::Other(_) => Aim::Nothing,
+    }
+}
+
+/// The identifier of the object that an answer brings.
+fn brought<'b, 'a>(payload: &'b Option<Payload<'a>>) -> Option<&'b str> {
+    match payload {
+        Some(Payload::Create(created)) => Some(created.id),
+        Some(Payload::Register(registered)) => Some(registered.id),
+        _ => None,
+    }
+}
+
+/// The identifiers that an answer lists.
+fn listed<'b, 'a>(payload: &'b Option<Payload<'a>>) -> Option<&'b [&'a str]> {
+    match payload {
+        Some(Payload::Locate(located)) => Some(located.ids.as_slice()),
+        _ => None,
+    }
+}

@@ -1,0 +1,220 @@
+//! The lives of one object.
+
+ghost use Rattle.std.specs.Prelude.{◌≡◌};
+ghost use Rattle.kmipa_store.specs.Choices.{IsSound};
+
+use crate::chains::chains_of;
+use crate::stories::{Recording, Story};
+use crate::times::Time;
+use crate::trying::{take_chain, try_reader};
+use kmipa_store::Ledger;
+use std::alloc::{AllocError, Global};
+
+/// A call that doesn't change the object, and the slots of the life that it fits into: bit k is the slot behind k changes.
+#[derive(Clone, Copy)]
+pub struct Reader {
+    pub call: usize,
+    pub slots: u64,
+}
+
+/// The course of a life: the calls that change the object, in their order, and the others, but for those that fit in everywhere.
+#[derive(Drop)]
+pub struct Course {
+    pub chain: Vec<usize>,
+    pub readers: Vec<Reader>,
+}
+
+/// The slots into which a group fits by its time.
+#[derive(Clone, Copy)]
+struct Span {
+    low: usize,
+    high: usize,
+    is_change: bool,
+}
+
+/// The lives of the object; none where it has none, or too many.
+pub fn lives_of<L: Ledger>(
+    alloc: Global,
+    ledger: &mut L,
+    recording: &Recording<'_, '_>,
+    story: &Story<'_>,
+) -> Result<Vec<Course>, AllocError>
+    requires { IsSound (L.state ledger.old).now }
+    ensures { IsSound (L.state ledger.new).now }
+{
+    let mut lives = Vec::new(alloc);
+    let chains = chains_of(alloc, ledger, recording, story)?;
+    'chains: for chain in &chains {
+        if let Some(life) = life_along(alloc, ledger, recording, story, chain)? {
+            lives.push(life)?;
+        }
+    }
+    Ok(lives)
+}
+
+/// The life with these changes, if each other group fits in.
+fn life_along<L: Ledger>(
+    alloc: Global,
+    ledger: &mut L,
+    recording: &Recording<'_, '_>,
+    story: &Story<'_>,
+    chain: &[usize],
+) -> Result<Option<Course>, AllocError>
+    requires { IsSound (L.state ledger.old).now }
+    ensures { IsSound (L.state ledger.new).now }
+{
+    let spans = spans_of(alloc, recording, story, chain)?;
+    let mut slots = vec![in alloc; 0u64; spans.len()]?;
+    'slots: for slot in 0..chain.len() + 1 {
+        try_slot(
+            alloc, ledger, recording, story, chain, &spans, slot, &mut slots,
+        )?;
+    }
+    life_of_slots(alloc, story, chain, &spans, &slots)
+}
+
+/// The slots of each group by its time.
+fn spans_of(
+    alloc: Global,
+    recording: &Recording<'_, '_>,
+    story: &Story<'_>,
+    chain: &[usize],
+) -> Result<Vec<Span>, AllocError> {
+    let mut times = Vec::new(alloc);
+    for group in chain {
+        times.push(story.time(&recording.times, *group))?;
+    }
+    let mut spans = Vec::with_capacity(alloc, story.groups.len())?;
+    for group in 0..story.groups.len() {
+        let is_change = chain.iter().any(|other| *other == group);
+        spans.push(span_of(story.time(&recording.times, group), &times, is_change))?;
+    }
+    Ok(spans)
+}
+
+fn span_of(time: Time, chain: &[Time], is_change: bool) -> Span {
+    let mut low = 0;
+    let mut high = chain.len();
+    for (place, other) in chain.iter().enumerate() {
+        if other.is_before(time) {
+            low = place + 1;
+        }
+        if time.is_before(*other) && high > place {
+            high = place;
+        }
+    }
+    Span {
+        low,
+        high,
+        is_change,
+    }
+}
+
+/// Notes the slot behind so many changes of each group that fits into it.
+fn try_slot<L: Ledger>(
+    alloc: Global,
+    ledger: &mut L,
+    recording: &Recording<'_, '_>,
+    story: &Story<'_>,
+    chain: &[usize],
+    spans: &[Span],
+    slot: usize,
+    slots: &mut Vec<u64>,
+) -> Result<(), AllocError>
+    requires { IsSound (L.state ledger.old).now }
+    ensures { IsSound (L.state ledger.new).now }
+{
+    let Ok(mark) = ledger.mark() else {
+        return Err(AllocError);
+    };
+    let front = chain.get(..slot).unwrap_or(&[]);
+    let tried = try_readers(alloc, ledger, recording, story, front, spans, slots);
+    ledger.back(mark);
+    tried
+}
+
+fn try_readers<L: Ledger>(
+    alloc: Global,
+    ledger: &mut L,
+    recording: &Recording<'_, '_>,
+    story: &Story<'_>,
+    front: &[usize],
+    spans: &[Span],
+    slots: &mut Vec<u64>,
+) -> Result<(), AllocError>
+    requires { IsSound (L.state ledger.old).now }
+    ensures { (L.state ledger.new).marks ≡ (L.state ledger.old).marks }
+{
+    if !take_chain(alloc, ledger, recording, story, front)? {
+        return Ok(());
+    }
+    let slot = front.len();
+    'groups: for (group, span) in spans.iter().enumerate() {
+        if !span.has(slot) {
+            continue;
+        }
+        let fits = try_reader(alloc, ledger, recording, story, group)?;
+        note_slot(slots, group, slot, fits);
+    }
+    Ok(())
+}
+
+impl Span {
+    /// Whether the group may be tried in a slot.
+    fn has(&self, slot: usize) -> bool {
+        !self.is_change && self.low <= slot && slot <= self.high
+    }
+}
+
+fn note_slot(slots: &mut Vec<u64>, group: usize, slot: usize, fits: bool) {
+    if let Some(own) = slots.get_mut(group) {
+        if fits {
+            *own |= bit_of(slot);
+        }
+    }
+}
+
+/// The bit of a slot.
+pub fn bit_of(slot: usize) -> u64 {
+    if slot < 64 { 1u64 << slot } else { 0 }
+}
+
+/// The life, unless a group fits in nowhere.
+fn life_of_slots(
+    alloc: Global,
+    story: &Story<'_>,
+    chain: &[usize],
+    spans: &[Span],
+    slots: &[u64],
+) -> Result<Option<Course>, AllocError> {
+    let everywhere = bit_of(chain.len() + 1).wrapping_sub(1);
+    let mut readers = Vec::new(alloc);
+    for ((group, span), slots) in story.groups.iter().zip(spans.iter()).zip(slots.iter()) {
+        if span.is_change {
+            continue;
+        }
+        if *slots == 0 {
+            return Ok(None);
+        }
+        if *slots != everywhere {
+            readers.push(Reader {
+                call: group.call,
+                slots: *slots,
+            })?;
+        }
+    }
+    Ok(Some(Course {
+        chain: calls_of(alloc, story, chain)?,
+        readers,
+    }))
+}
+
+fn calls_of(alloc: Global, story: &Story<'_>, chain: &[usize]) -> Result<Vec<usize>, AllocError> {
+    let mut calls = Vec::new(alloc);
+    for place in chain {
+        if let Some(group) = story.groups.get(*place) {
+            calls.push(group.call)?;
+        }
+    }
+    Ok(calls)
+}

@@ -1,0 +1,174 @@
+//! Locates, and the objects that they leave out.
+
+use crate::items::{Items, Known, Part, Touch};
+use crate::times::{Time, time_at};
+use kmipa_attrs::{AttrSet, Filter, Name};
+use std::alloc::{AllocError, Global};
+
+/// So many items are kept at most.
+const MOST_TOUCHES: usize = 1_000_000;
+
+/// A Locate that was done.
+#[derive(Clone, Copy)]
+pub struct Look<'b> {
+    pub call: usize,
+    pub item: usize,
+    pub filter: &'b Filter,
+    /// The touches of what it lists stand from this place on.
+    pub from: usize,
+    /// They end before this one.
+    pub to: usize,
+}
+
+/// An object that has a name.
+#[derive(Clone, Copy, PartialEq, Eq, PartialOrd, Ord)]
+struct Bearer<'b> {
+    value: &'b str,
+    object: usize,
+}
+
+/// Notes the objects that each Locate leaves out though they may fit it; or answers that these are too many.
+pub fn leave_out(alloc: Global, items: &mut Items<'_>, times: &[Time]) -> Result<bool, AllocError> {
+    let bearers = bearers_of(alloc, &items.objects)?;
+    let looks = Vec::from_slice(alloc, &items.looks)?;
+    for (place, look) in looks.iter().enumerate() {
+        let number = place.saturating_add(1);
+        if is_strict(look) {
+            note_listed(items, look, number);
+            if !leave_out_of(items, times, &bearers, look, number)? {
+                return Ok(false);
+            }
+        }
+    }
+    Ok(true)
+}
+
+/// Notes at the objects that a Locate lists that it does.
+fn note_listed(items: &mut Items<'_>, look: &Look<'_>, number: usize) {
+    for place in look.from..look.to {
+        if let Some(touch) = items.touches.get(place).copied() {
+            if let Some(known) = items.objects.get_mut(touch.object) {
+                known.listed = number;
+            }
+        }
+    }
+}
+
+/// Whether an object that fits it has to be listed.
+fn is_strict(look: &Look<'_>) -> bool {
+    let is_full = match look.filter.maximum {
+        Some(most) => look.to.saturating_sub(look.from) as u64 >= u64::from(most.unsigned_abs()),
+        None => false,
+    };
+    !is_full && !look.filter.is_loose
+}
+
+/// The objects by their names.
+fn bearers_of<'b>(alloc: Global, objects: &[Known<'b>]) -> Result<Vec<Bearer<'b>>, AllocError> {
+    let mut bearers = Vec::new(alloc);
+    for (object, known) in objects.iter().enumerate() {
+        if let Some((_, given)) = known.given {
+            add_bearers(&mut bearers, object, given)?;
+        }
+    }
+    bearers.sort()?;
+    Ok(bearers)
+}
+
+fn add_bearers<'b>(
+    bearers: &mut Vec<Bearer<'b>>,
+    object: usize,
+    given: &'b AttrSet,
+) -> Result<(), AllocError> {
+    for name in given.names.as_slice() {
+        bearers.push(Bearer {
+            value: name.value.as_str(),
+            object,
+        })?;
+    }
+    Ok(())
+}
+
+/// The same of one Locate: of the bearers of its first name, or else of all objects.
+fn leave_out_of(
+    items: &mut Items<'_>,
+    times: &[Time],
+    bearers: &[Bearer<'_>],
+    look: &Look<'_>,
+    number: usize,
+) -> Result<bool, AllocError> {
+    match look.filter.names.as_slice().first() {
+        Some(name) => {
+            let from = bearers.partition_point(|b| b.value < name.value.as_str());
+            for bearer in bearers.get(from..).unwrap_or(&[]) {
+                if bearer.value != name.value.as_str() {
+                    break;
+                }
+                leave_out_one(items, times, look, number, bearer.object)?;
+            }
+        }
+        None => {
+            for object in 0..items.objects.len() {
+                leave_out_one(items, times, look, number, object)?;
+            }
+        }
+    }
+    Ok(items.touches.len() < MOST_TOUCHES)
+}
+
+fn leave_out_one(
+    items: &mut Items<'_>,
+    times: &[Time],
+    look: &Look<'_>,
+    number: usize,
+    object: usize,
+) -> Result<(), AllocError> {
+    let Some(known) = items.objects.get(object) else {
+        return Ok(());
+    };
+    if known.listed != number && may_matter(known, times, look) {
+        items.touches.push(Touch {
+            object,
+            call: look.call,
+            item: look.item,
+            part: Part::LeavesOut,
+        })?;
+    }
+    Ok(())
+}
+
+/// Whether the object may be live at the Locate, and fit it.
+fn may_matter(known: &Known<'_>, times: &[Time], look: &Look<'_>) -> bool {
+    let Some((kind, given)) = known.given else {
+        return false;
+    };
+    let time = time_at(times, look.call);
+    let is_early = match known.born {
+        Some(call) => time.is_before(time_at(times, call)),
+        None => false,
+    };
+    let is_late = match known.gone {
+        Some(call) => time_at(times, call).is_before(time),
+        None => false,
+    };
+    !is_early
+        && !is_late
+        && is_or_any(look.filter.object_type, Some(kind.number()))
+        && is_or_any(look.filter.algorithm, given.algorithm)
+        && is_or_any(look.filter.length, given.length)
+        && has_names(given.names.as_slice(), look.filter.names.as_slice())
+}
+
+/// Whether a value is the one that is wanted, as far as both are told.
+fn is_or_any<T: PartialEq + Copy>(wanted: Option<T>, own: Option<T>) -> bool {
+    match (wanted, own) {
+        (Some(wanted), Some(own)) => wanted == own,
+        _ => true,
+    }
+}
+
+fn has_names(own: &[Name], wanted: &[Name]) -> bool {
+    wanted
+        .iter()
+        .all(|name| own.iter().any(|other| other == name))
+}

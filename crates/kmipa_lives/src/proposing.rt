@@ -1,0 +1,121 @@
+//! An order of calls, proposed.
+
+ghost use Rattle.std.specs.Prelude.{◌<◌, All, IfOk, IfSome, length};
+ghost use Rattle.kmipa_store.specs.Choices.{IsSound};
+ghost use Rattle.kmipa_record.specs.Declarations.{AreDeclared, declaration_of};
+
+use crate::choices::{Choice, add_choices};
+use crate::items::{Items, Known, Touch};
+use crate::lives::{Course, lives_of};
+use crate::looks::leave_out;
+use crate::mending::Mending;
+use crate::sorting::graph_of;
+use crate::stories::{Recording, Story};
+use crate::times::times_of;
+use kmipa_check::{Call, open_ledger, rules_of_declaration};
+use kmipa_record::Declaration;
+use kmipa_store::Ledger;
+use std::alloc::{AllocError, Global};
+
+/// So many edges are looked at.
+const EFFORT: u64 = 20_000_000;
+
+/// So many items are tried, one life with another.
+const MOST_TRIES: usize = 1_500_000;
+
+/// The places of calls in an order that seems to explain their answers, object by object; none where none was found. Nothing is promised of it,
+/// but that these are places of calls: it is to be checked.
+pub fn propose<'x, 'a>(
+    alloc: Global,
+    calls: &'x [Call<'a>],
+    declaration: &'x Declaration,
+) -> Result<Option<Vec<usize>>, AllocError>
+    requires { AreDeclared (declaration_of declaration.now) }
+    ensures { IfOk result (λ order. IfSome order (λ o. All (λ place. place < length calls.now) o.items)) }
+{
+    let Some(times) = times_of(alloc, calls)? else {
+        return Ok(None);
+    };
+    let mut items = Items::of(alloc, calls, declaration)?;
+    if !leave_out(alloc, &mut items, &times)? {
+        return Ok(None);
+    }
+    items.touches.sort_unstable();
+    let recording = Recording {
+        calls,
+        times,
+        rules: rules_of_declaration(alloc, declaration)?,
+    };
+    let Ok(mut ledger) = open_ledger(alloc, declaration) else {
+        return Err(AllocError);
+    };
+    match choices_of(
+        alloc,
+        &mut ledger,
+        &recording,
+        &items.objects,
+        &items.touches,
+    )? {
+        Some(choices) => settled(alloc, &recording, choices),
+        None => Ok(None),
+    }
+}
+
+/// The choices that the lives of all objects leave; none where an object has no life, or too many.
+fn choices_of<L: Ledger>(
+    alloc: Global,
+    ledger: &mut L,
+    recording: &Recording<'_, '_>,
+    objects: &[Known<'_>],
+    touches: &[Touch],
+) -> Result<Option<Vec<Choice>>, AllocError>
+    requires { IsSound (L.state ledger.old).now }
+{
+    let mut choices = Vec::new(alloc);
+    let mut from = 0;
+    let mut tries = 0usize;
+    'objects: for (object, known) in objects.iter().enumerate() {
+        let to = touches.partition_point(|touch| touch.object <= object);
+        let own = touches.get(from..to).unwrap_or(&[]);
+        let story = Story::of(alloc, recording, known.id, own)?;
+        let courses = lives_of(alloc, ledger, recording, &story)?;
+        tries = tries.saturating_add(own.len().saturating_mul(courses.len()));
+        if courses.is_empty() || tries > MOST_TRIES {
+            return Ok(None);
+        }
+        add_choices(alloc, &mut choices, &recording.times, &courses)?;
+        from = to;
+    }
+    Ok(Some(choices))
+}
+
+/// The order that meets the choices, if one is found.
+fn settled(
+    alloc: Global,
+    recording: &Recording<'_, '_>,
+    choices: Vec<Choice>,
+) -> Result<Option<Vec<usize>>, AllocError>
+    ensures { IfOk result (λ order. IfSome order (λ o. All (λ place. place < length recording.now.calls.now) o.items)) }
+{
+    let Some(graph) = graph_of(alloc, &recording.times, EFFORT)? else {
+        return Ok(None);
+    };
+    let mut mending = Mending::new(alloc, graph, choices);
+    if !mending.settle()? {
+        return Ok(None);
+    }
+    Ok(Some(calls_among(alloc, &mending.graph.order, recording.calls.len())?))
+}
+
+/// The nodes that are calls, in their order.
+fn calls_among(alloc: Global, nodes: &[usize], count: usize) -> Result<Vec<usize>, AllocError>
+    ensures { IfOk result (λ places. All (λ place. place < count) places.items) }
+{
+    let mut places = Vec::new(alloc);
+    'nodes: for node in nodes {
+        if *node < count {
+            places.push(*node)?;
+        }
+    }
+    Ok(places)
+}

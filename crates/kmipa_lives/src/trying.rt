@@ -1,0 +1,207 @@
+//! Items about one object, tried over a ledger.
+
+ghost use Rattle.std.specs.Prelude.{◌≡◌, OnOk};
+ghost use Rattle.kmipa_store.specs.Choices.{IsSound};
+
+use crate::items::{Part, Touch};
+use crate::stories::{Recording, Story};
+use kmipa_msgs::{Answer, Ask, Asked, Rules};
+use kmipa_object::Life;
+use kmipa_ops::{Fit, Placeholder, Refusal, is_readable, matches, take};
+use kmipa_store::Ledger;
+use std::alloc::{AllocError, Global};
+
+/// Whether a group of items is possible behind a chain of groups, and changes the object.
+pub fn try_change<L: Ledger>(
+    alloc: Global,
+    ledger: &mut L,
+    recording: &Recording<'_, '_>,
+    story: &Story<'_>,
+    chain: &[usize],
+    group: usize,
+) -> Result<bool, AllocError>
+    requires { IsSound (L.state ledger.old).now }
+    ensures { IsSound (L.state ledger.new).now }
+{
+    let Ok(mark) = ledger.mark() else {
+        return Err(AllocError);
+    };
+    let tried = is_changed_behind(alloc, ledger, recording, story, chain, group);
+    ledger.back(mark);
+    tried
+}
+
+fn is_changed_behind<L: Ledger>(
+    alloc: Global,
+    ledger: &mut L,
+    recording: &Recording<'_, '_>,
+    story: &Story<'_>,
+    chain: &[usize],
+    group: usize,
+) -> Result<bool, AllocError>
+    requires { IsSound (L.state ledger.old).now }
+    ensures { (L.state ledger.new).marks ≡ (L.state ledger.old).marks }
+{
+    if !take_chain(alloc, ledger, recording, story, chain)? {
+        return Ok(false);
+    }
+    let before = life_of(ledger, story.id);
+    if !take_group(alloc, ledger, recording, story, group)? {
+        return Ok(false);
+    }
+    Ok(life_of(ledger, story.id) != before)
+}
+
+/// Whether a group of items is possible, and leaves the object as it is.
+pub fn try_reader<L: Ledger>(
+    alloc: Global,
+    ledger: &mut L,
+    recording: &Recording<'_, '_>,
+    story: &Story<'_>,
+    group: usize,
+) -> Result<bool, AllocError>
+    requires { IsSound (L.state ledger.old).now }
+    ensures marks { (L.state ledger.new).marks ≡ (L.state ledger.old).marks }
+    ensures sound { IsSound (L.state ledger.new).now }
+{
+    let Ok(mark) = ledger.mark() else {
+        return Err(AllocError);
+    };
+    let tried = is_left_by(alloc, ledger, recording, story, group);
+    ledger.back(mark);
+    tried
+}
+
+fn is_left_by<L: Ledger>(
+    alloc: Global,
+    ledger: &mut L,
+    recording: &Recording<'_, '_>,
+    story: &Story<'_>,
+    group: usize,
+) -> Result<bool, AllocError>
+    requires { IsSound (L.state ledger.old).now }
+    ensures { (L.state ledger.new).marks ≡ (L.state ledger.old).marks }
+{
+    let before = life_of(ledger, story.id);
+    if !take_group(alloc, ledger, recording, story, group)? {
+        return Ok(false);
+    }
+    let is_undone = story.time(&recording.times, group).is_undone;
+    Ok(is_undone || life_of(ledger, story.id) == before)
+}
+
+/// Takes the groups of a chain one after the other, as far as they are possible; and answers whether all are.
+pub fn take_chain<L: Ledger>(
+    alloc: Global,
+    ledger: &mut L,
+    recording: &Recording<'_, '_>,
+    story: &Story<'_>,
+    chain: &[usize],
+) -> Result<bool, AllocError>
+    requires { IsSound (L.state ledger.old).now }
+    ensures marks { (L.state ledger.new).marks ≡ (L.state ledger.old).marks }
+    ensures sound { OnOk result (IsSound (L.state ledger.new).now) }
+{
+    'groups: for group in chain {
+        if !take_group(alloc, ledger, recording, story, *group)? {
+            return Ok(false);
+        }
+    }
+    Ok(true)
+}
+
+/// The same of the items of a group.
+fn take_group<L: Ledger>(
+    alloc: Global,
+    ledger: &mut L,
+    recording: &Recording<'_, '_>,
+    story: &Story<'_>,
+    group: usize,
+) -> Result<bool, AllocError>
+    requires { IsSound (L.state ledger.old).now }
+    ensures marks { (L.state ledger.new).marks ≡ (L.state ledger.old).marks }
+    ensures sound { OnOk result (IsSound (L.state ledger.new).now) }
+{
+    'touches: for touch in story.items(group) {
+        if !take_touch(alloc, ledger, recording, story.id, *touch)? {
+            return Ok(false);
+        }
+    }
+    Ok(true)
+}
+
+/// The same of one item.
+fn take_touch<L: Ledger>(
+    alloc: Global,
+    ledger: &mut L,
+    recording: &Recording<'_, '_>,
+    id: &str,
+    touch: Touch,
+) -> Result<bool, AllocError>
+    requires { IsSound (L.state ledger.old).now }
+    ensures marks { (L.state ledger.new).marks ≡ (L.state ledger.old).marks }
+    ensures sound { OnOk result (IsSound (L.state ledger.new).now) }
+{
+    let Some(call) = recording.calls.get(touch.call) else {
+        return Ok(false);
+    };
+    let Some(response) = &call.response else {
+        return Ok(false);
+    };
+    let Some(ask) = call.request.items.get(touch.item) else {
+        return Ok(false);
+    };
+    let Some(answer) = response.items.get(touch.item) else {
+        return Ok(false);
+    };
+    ledger.set_moment(response.stamp);
+    match touch.part {
+        Part::Means => take_item(alloc, ledger, &recording.rules, id, ask, answer),
+        Part::Lists => Ok(fit_of(ledger, id, ask) != Fit::Not),
+        Part::LeavesOut => Ok(fit_of(ledger, id, ask) != Fit::Must),
+    }
+}
+
+fn take_item<L: Ledger>(
+    alloc: Global,
+    ledger: &mut L,
+    rules: &Rules,
+    id: &str,
+    ask: &Ask<'_>,
+    answer: &Answer<'_>,
+) -> Result<bool, AllocError>
+    requires { IsSound (L.state ledger.old).now }
+    ensures marks { (L.state ledger.new).marks ≡ (L.state ledger.old).marks }
+    ensures sound { OnOk result (IsSound (L.state ledger.new).now) }
+{
+    if !is_readable(ask, answer) {
+        return Ok(false);
+    }
+    let mut placeholder = Placeholder {
+        id: Some(String::from_str(alloc, id)?),
+    };
+    let t = ledger.moment();
+    match take(alloc, ledger, rules, &mut placeholder, t, ask, answer) {
+        Ok(()) => Ok(true),
+        Err(Refusal::Impossible(_)) => Ok(false),
+        Err(Refusal::Memory) => Err(AllocError),
+    }
+}
+
+/// How the object fits a Locate at the ledger's moment; not, where it isn't there.
+fn fit_of<L: Ledger>(ledger: &L, id: &str, ask: &Ask<'_>) -> Fit {
+    match (ledger.find(id), &ask.asked) {
+        (Some(place), Asked::Locate(locate)) => {
+            matches(ledger.at(place), &locate.filter, ledger.state(place))
+        }
+        _ => Fit::Not,
+    }
+}
+
+/// The life of the object, if it is there.
+fn life_of<L: Ledger>(ledger: &L, id: &str) -> Option<Life> {
+    match ledger.find(id) {
+        Some(place) => Some(ledger.at(place).life),
+        None => None,
+    }
+}
