@@ -187,11 +187,14 @@ class Report(unittest.TestCase):
         (self.folder / "all" / names[0] / "witness.ttlv").unlink()
         page = self.page(self.folder / "all", "--junit", self.folder / "junit.xml", "--jobs", 2)
         links = [found["href"] for found in page.attributes["a"]]
-        self.assertEqual(links, [f"#recording-{number}" for number in (1, 2, 3, 4)])
+        findings, all_of_them = links[:-4], links[-4:]
+        self.assertEqual(findings, ["#recording-1", "#story-1", "#recording-2", "#recording-4"])
+        self.assertEqual(all_of_them, [f"#recording-{number}" for number in (1, 2, 3, 4)])
         self.assertIn("no: 6 WrongState", page.texts)
         suite = ElementTree.parse(self.folder / "junit.xml").getroot()
         self.assertEqual([suite.get(name) for name in ("tests", "failures", "errors")], ["4", "1", "2"])
-        ends = {Path(case.get("name") or "").name: [child.tag for child in case] for case in suite}
+        ends = {Path(case.get("name") or "").name: [child.tag for child in case if child.tag in ("failure", "error")]
+                for case in suite}
         self.assertEqual(ends, {"destroy_twice": ["failure"], "outside_version": ["error"], "register_then_get": [],
                                 "torn_transcript": ["error"]})
 
