@@ -11,7 +11,7 @@ from ..calls import Name, Status, names
 from ..driving.store import Thing
 from ..operations import JUDGED, READ_OVER, Operation
 from ..tags import Tag
-from ..ttlv import Item, Kind
+from ..ttlv import Kind
 from .states import Standing, row_of
 from .steps import BIRTHS, Step, Taken
 from .things import born, left, named

@@ -134,6 +134,7 @@ def _timeline(judged: Judged) -> Markup:
                if does != "fault" or judged.refused() is not None]
     if judged.turns:
         buttons.append(element("button", "Line of the order", type="button", data_does="order", aria_pressed="false"))
+    buttons.append(element("button", "By object", type="button", data_does="objects", aria_pressed="false"))
     legend = [element("li", element("svg", *_sample(kind), viewBox="0 0 26 12", aria_hidden="true"), words)
               for kind, words in LEGEND]
     if len(judged.named()) > 1:
@@ -143,7 +144,7 @@ def _timeline(judged: Judged) -> Markup:
     order = ("Numbers in the bars are turns of the order; zoom in where a bar is too short for its own. "
              if judged.turns else "")
     lanes = element("div", element("svg", role="presentation"), of="lanes", tabindex=0, role="listbox",
-                    aria_label="Calls, a row for each client; arrow keys go from call to call")
+                    aria_label="Calls, a row for each client or object; arrow keys go from call to call")
     details = element(
         "div", element("h3", ""), element("p", "", of="soft"),
         element("div", _message("Request"), _message("Answer"), of="both"),
