@@ -1,5 +1,5 @@
-"""What the report says that a verdict rests on: calls and objects judged, and the conformance table; the expected values
-are those of the tables of docs/PROFILE.md."""
+"""What the report says that a verdict rests on: calls and objects judged, and the conformance table; the expected
+values are those of the tables of docs/PROFILE.md."""
 
 from __future__ import annotations
 
@@ -183,7 +183,8 @@ class States(InFolder):
                     if TABLE[row][standing] is Possible.NOT:
                         self.assertEqual(told.get((row, head), (0, 0))[0], 0, (folder, row, head))
                 self.assertEqual(told.get((row, "no such object"), (0, 0))[0], 0, (folder, row))
-        refused_ones = {"destroy_twice": ("Destroy", "Destroyed"), "revoke_pre_active": ("Revoke, other code", "Pre-Active"),
+        refused_ones = {"destroy_twice": ("Destroy", "Destroyed"),
+                        "revoke_pre_active": ("Revoke, other code", "Pre-Active"),
                         "get_of_unknown": ("Get", "no such object")}
         for name, cell in refused_ones.items():
             line = (EXAMPLES / name / "line").read_text()
@@ -250,12 +251,19 @@ class Tables(InFolder):
         self.assertEqual(coverage.operations, [("Activate", [1, 0, 0, 0]), ("Get", [2, 1, 0, 0])])
         self.assertEqual(coverage.reasons, [("1 Item Not Found", 1)])
 
+    def test_payloads_that_the_witness_gives(self) -> None:
+        basis = basis_of(EXAMPLES / "undone_create_filled", "yes")
+        self.assertEqual([(share.judged, share.all) for share in basis.coverage.shares], [(1, 1), (3, 3), (1, 1)])
+        self.assertEqual(cells(basis, "States")["Get", "Pre-Active"], (1, 0), "the placeholder means what was filled in")
+        answered = cells(basis_of(EXAMPLES / "open_call_answered", "yes"), "States")
+        self.assertNotIn("no such object", [head for _, head in answered], "the open call made it")
+
     def test_the_page_the_text_and_junit_have_it(self) -> None:
         out, xml = self.folder / "out.html", self.folder / "junit.xml"
         ran = report(out, EXAMPLES / "register_then_get", "--text", "--junit", xml)
         told = "".join(Page(out.read_text("utf-8")).texts)
-        for words in ("What the verdict rests on", "Judged: 2 of 2 calls, 2 of 2 items and 1 of 1 objects.", "Conformance table",
-                      "and not the auditor's word", "No finding"):
+        for words in ("What the verdict rests on", "Judged: 2 of 2 calls, 2 of 2 items and 1 of 1 objects.",
+                      "Conformance table", "and not the auditor's word", "No finding"):
             self.assertIn(words, told)
         self.assertIn("\n  Get: Pre-Active 1 / 0; never Active, ", ran.stdout)
         self.assertLessEqual(max(map(len, ran.stdout.splitlines())), 80)

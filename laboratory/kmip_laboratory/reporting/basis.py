@@ -67,8 +67,8 @@ def _told(order: str, calls: list[Call], turns: list[Turn], covering: Covering,
         if done.is_recorded:
             batches.call(done)
         for seen in lives.take(done):
-            covering.take(done.call, seen)
+            covering.take(done.call, seen, lives)
             for counting in of_items if done.is_recorded else ():
                 counting.take(seen)
     sections = [counting.section() for counting in of_items]
-    return Basis(order, covering.coverage(lives), [*sections[:-1], batches.section(), sections[-1]])
+    return Basis(order, covering.coverage(), [*sections[:-1], batches.section(), sections[-1]])

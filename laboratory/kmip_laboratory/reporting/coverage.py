@@ -13,6 +13,7 @@ from ..ttlv import Kind
 from ..verdicts import Outcome, Verdict
 from .exercised import reason_name
 from .lives import Lives, Seen
+from .steps import BIRTHS
 
 NOT_JUDGED = "not judged"
 ENDS = [*(STATUSES[status].lower() for status in (Status.SUCCESS, Status.FAILED, Status.UNDONE)), NOT_JUDGED]
@@ -56,18 +57,20 @@ class Covering:
             if is_judged and piece.status == Status.FAILED:
                 self._reasons[reason_name(piece.reason) + (REFUSED_MESSAGE if call.refused else "")] += 1
 
-    def take(self, call: Call, seen: Seen) -> None:
-        """Notes the objects of an item, behind which these lives go on."""
-        told = seen.step.told.every(Tag.UNIQUE_IDENTIFIER, Kind.TEXT) if seen.step.told else []
-        named = {item.value for item in told} | ({seen.identifier} if seen.identifier is not None else set())
+    def take(self, call: Call, seen: Seen, lives: Lives) -> None:
+        """Notes the objects of an item that are there, or that it makes. An identifier that nothing has is no object."""
+        step = seen.step
+        told = [item.value for item in step.told.every(Tag.UNIQUE_IDENTIFIER, Kind.TEXT)] if step.told else []
+        makes = step.operation in BIRTHS and step.has_succeeded
+        named = [name for name in (seen.identifier, *told) if name is not None and (makes or lives.holds(name))]
         self._objects[1].update(named)
         if call.number in self._judged:
             self._objects[0].update(named)
 
-    def coverage(self, lives: Lives) -> Coverage:
-        """What was counted. An identifier that nothing ever had is no object."""
+    def coverage(self) -> Coverage:
+        """What was counted."""
         items = sum(count for (_, end), count in self._items.items() if end != NOT_JUDGED)
-        judged, named = (sum(map(lives.holds, objects)) for objects in self._objects)
+        judged, named = map(len, self._objects)
         shares = [Share("calls", self._calls[True], sum(self._calls.values())),
                   Share("items", items, sum(self._items.values())), Share("objects", judged, named)]
         names = sorted({name for name, _ in self._items})

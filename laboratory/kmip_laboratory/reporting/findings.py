@@ -6,7 +6,7 @@ from ..paths import shown
 from .explanation import story
 from .judging import Judged, operations
 from .markup import Markup, Part, element, together
-from .reasons import in_short, in_words
+from .reasons import in_short, in_words, of_others
 
 NONE = "No finding: of each recording the answers are explained."
 
@@ -33,4 +33,5 @@ def _finding(judged: Judged, number: int, has_name: bool) -> Markup:
     if has_story(judged):
         words = f"the story of object {told.identifier}" if told else "the object's story"
         parts += [": ", element("a", words, href=f"#story-{number}")]
-    return element("li", *parts, element("div", in_words(judged.verdict), of="soft"))
+    others = "" if judged.searched is None else f" {of_others(judged.searched)}"
+    return element("li", *parts, element("div", in_words(judged.verdict) + others, of="soft"))

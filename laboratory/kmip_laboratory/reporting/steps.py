@@ -61,9 +61,10 @@ def taken(call: Call, turn: Turn) -> Taken:
     asks = request.every(Tag.BATCH_ITEM, Kind.STRUCTURE) if request else []
     answers = answer.every(Tag.BATCH_ITEM, Kind.STRUCTURE) if answer and not call.refused else []
     count = min(len(asks), len(answers))
+    fills = dict(turn.fills)
     places = [place for place in turn.places if 1 <= place <= count] or range(1, count + 1)
     return Taken(call, None if response is None else message.time_stamp(response), option.value if option else None,
-                 len(asks), [_step(asks[place - 1], answers[place - 1], turn.fill(place)) for place in places],
+                 len(asks), [_step(asks[place - 1], answers[place - 1], fills.get(place)) for place in places],
                  call.end is not None)
 
 

@@ -19,10 +19,6 @@ class Turn(NamedTuple):
     places: tuple[int, ...] = ()
     fills: tuple[tuple[int, Item], ...] = ()
 
-    def fill(self, place: int) -> Optional[Item]:
-        """The Response Payload that the answer at this place, counted from 1, lacks."""
-        return next((payload for of, payload in self.fills if of == place), None)
-
 
 def read_turns(path: str) -> list[Turn]:
     """The turns of a witness."""
