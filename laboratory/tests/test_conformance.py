@@ -230,6 +230,7 @@ class Tables(InFolder):
         made.call((LOCATE, b"", None, b""), (GET, b"", NOT_FOUND, b""))
         made.call(done(GET, "k"))
         basis = made.basis()
+        self.assertEqual(cells(basis, "Result Reasons"), {("1 Item Not Found, NotFound", "no object was meant"): (1,)})
         self.assertEqual(cells(basis, "Locate"), {(name, "answered"): (1,) for name in (
             "Name", "Cryptographic Algorithm", "Maximum Items", "no filter", "a filter that is not judged")})
         self.assertEqual(cells(basis, "States"), {("Activate", "Pre-Active"): (1, 0), ("Get", "no such object"): (0, 1),

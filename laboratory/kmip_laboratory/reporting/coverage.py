@@ -58,7 +58,7 @@ class Covering:
                 self._reasons[reason_name(piece.reason) + (REFUSED_MESSAGE if call.refused else "")] += 1
 
     def take(self, call: Call, seen: Seen, lives: Lives) -> None:
-        """Notes the objects of an item that are there, or that it makes. An identifier that nothing has is no object."""
+        """Notes the objects of an item that are there, or that it makes. An identifier that nothing has is none."""
         step = seen.step
         told = [item.value for item in step.told.every(Tag.UNIQUE_IDENTIFIER, Kind.TEXT)] if step.told else []
         makes = step.operation in BIRTHS and step.has_succeeded

@@ -24,6 +24,8 @@ FILTERS = (Tag.NAME, Tag.OBJECT_TYPE, Tag.STATE, Tag.CRYPTOGRAPHIC_ALGORITHM, Ta
 NO_FILTER, OTHER_FILTER = "no filter", "a filter that is not judged"
 # Of Result Reasons that no cause is asked for.
 NO_REASON, NO_ROW = "no reason", "a reason without a row"
+# Why a refusal is founded: by the row's cause, since no object is meant, or by nothing that is known here.
+HELD, NO_OBJECT, ELSE = "its cause held", "no object was meant", "else"
 
 
 class OfStates:
@@ -52,7 +54,7 @@ class OfReasons:
 
     def __init__(self, rows: Iterable[Row]) -> None:
         self._rows = list(dict.fromkeys(rows))
-        self._counts: Counts[tuple[Row, bool]] = Counter()
+        self._counts: Counts[tuple[Row, str]] = Counter()
         self._others: Counts[str] = Counter()
 
     def take(self, seen: Seen) -> None:
@@ -61,18 +63,18 @@ class OfReasons:
             return
         rows = [row for row in self._rows if row.reason == seen.step.reason]
         for row in rows:
-            self._counts[row, holds(row.cause, seen)] += 1
+            self._counts[row, founded(row.cause, seen)] += 1
         if not rows:
             self._others[NO_REASON if seen.step.reason is None else NO_ROW] += 1
 
     def section(self) -> Section:
         """What was counted."""
-        lines = [Line(f"{reason_name(row.reason)}, {row.cause.name}", [(self._counts[row, True],),
-                                                                       (self._counts[row, False],)])
+        heads = [HELD, NO_OBJECT, ELSE]
+        lines = [Line(f"{reason_name(row.reason)}, {row.cause.name}", [(self._counts[row, head],) for head in heads])
                  for row in self._rows]
-        lines += [Line(name, [NO_CELL, (self._others[name],)], True) for name in (NO_REASON, NO_ROW)]
-        return Section("Result Reasons", "refusals with this reason, and whether the row's cause is known to hold",
-                       ["its cause held", "else"], lines, 1)
+        lines += [Line(name, [NO_CELL, NO_CELL, (self._others[name],)], True) for name in (NO_REASON, NO_ROW)]
+        return Section("Result Reasons", "refusals with this reason, by whether the row's cause is known to hold, or "
+                       "the placeholder was empty", heads, lines, 2)
 
 
 class OfAttributes:
@@ -141,6 +143,13 @@ def asked_for(asked: Optional[Item]) -> tuple[Tag, ...]:
     return tuple(tag for tag in JUDGED_ATTRIBUTES if tag in {child.value for child in rest})
 
 
+def founded(cause: Cause, seen: Seen) -> str:
+    """Whether a refusal is known to be founded by this cause, or since no object is meant."""
+    if seen.takes_identifier and seen.standing is Standing.ABSENT and seen.identifier is None:
+        return NO_OBJECT
+    return HELD if holds(cause, seen) else ELSE
+
+
 def holds(cause: Cause, seen: Seen) -> bool:
     """Whether the cause of a refusal is known to hold."""
     operation, asked = seen.step.operation, seen.step.asked
@@ -151,7 +160,7 @@ def holds(cause: Cause, seen: Seen) -> bool:
     if row is None or (operation == Operation.GET_ATTRIBUTES and has_references):
         return False
     if cause is Cause.NotFound:
-        return seen.standing in GONE or (seen.standing is Standing.ABSENT and seen.identifier is not None)
+        return seen.standing in (Standing.ABSENT, *GONE)
     return cause is Cause.WrongState and possible(row, seen.standing) in (Possible.MAY, Possible.NOT)
 
 
