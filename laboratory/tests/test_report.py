@@ -3,6 +3,7 @@
 from __future__ import annotations
 
 import hashlib
+import html
 import html.parser
 import json
 import os
@@ -65,6 +66,21 @@ const drive = () => {
   document.body.append(told);
 };
 drive();
+</script>"""
+
+
+ROWS = """<script>
+const rows = () => {
+  if (!document.querySelector('rect[data-call]')) { setTimeout(rows, 20); return; }
+  for (let click = 0; click < CLICKS; click++) document.querySelector('button[data-does="objects"]').click();
+  const told = document.createElement('output'), bars = [...document.querySelectorAll('.lanes rect[data-call]')];
+  told.id = 'seen';
+  told.textContent = JSON.stringify({
+    names: [...document.querySelectorAll('.lanes text > title')].map(title => title.textContent), bars: bars.length,
+    identifiers: new Set(bars.map(bar => bar.id)).size });
+  document.body.append(told);
+};
+rows();
 </script>"""
 
 
@@ -187,11 +203,14 @@ class Report(unittest.TestCase):
         (self.folder / "all" / names[0] / "witness.ttlv").unlink()
         page = self.page(self.folder / "all", "--junit", self.folder / "junit.xml", "--jobs", 2)
         links = [found["href"] for found in page.attributes["a"]]
-        self.assertEqual(links, [f"#recording-{number}" for number in (1, 2, 3, 4)])
+        findings, all_of_them = links[:-4], links[-4:]
+        self.assertEqual(findings, ["#recording-1", "#story-1", "#recording-2", "#recording-4"])
+        self.assertEqual(all_of_them, [f"#recording-{number}" for number in (1, 2, 3, 4)])
         self.assertIn("no: 6 WrongState", page.texts)
         suite = ElementTree.parse(self.folder / "junit.xml").getroot()
         self.assertEqual([suite.get(name) for name in ("tests", "failures", "errors")], ["4", "1", "2"])
-        ends = {Path(case.get("name") or "").name: [child.tag for child in case] for case in suite}
+        ends = {Path(case.get("name") or "").name: [child.tag for child in case if child.tag in ("failure", "error")]
+                for case in suite}
         self.assertEqual(ends, {"destroy_twice": ["failure"], "outside_version": ["error"], "register_then_get": [],
                                 "torn_transcript": ["error"]})
 
@@ -504,6 +523,36 @@ class Report(unittest.TestCase):
         folder = self.large(1000)
         return processor_seconds(lambda: subprocess.run(
             [AUDITOR, "show", folder / "transcript.ttlv", "--messages"], stdout=subprocess.DEVNULL, check=True))
+
+    @unittest.skipUnless(CHROMIUM, "needs Debian's chromium")
+    def test_rows_are_of_clients_or_of_objects(self) -> None:
+        page = self.page(self.named_by_two())
+        (data,) = page.data["recordings"]
+        self.assertEqual((data["objects"], data["named"]), (["k1", "<b>", "k2"], [[0], [1], [0, 1, 2]]))
+        text = re.sub(r'<meta http-equiv="Content-Security-Policy"[^>]*>', "", self.out.read_text(encoding="utf-8"))
+        for clicks, names in ((0, ["a", "b"]), (1, ["k1", "<b>", "k2"]), (2, ["a", "b"])):
+            driven = self.folder / f"rows-{clicks}.html"
+            driven.write_text(text.replace("</body>", ROWS.replace("CLICKS", str(clicks)) + "</body>"), encoding="utf-8")
+            dom, said = self.browse(driven, until='<output id="seen">')
+            self.assertEqual([line for line in said.splitlines() if "CONSOLE" in line], [])
+            found = re.search(r'<output id="seen">(.*?)</output>', dom)
+            self.assertIsNotNone(found, "no script broke off")
+            told = json.loads(html.unescape(found.group(1)))
+            self.assertEqual(told, {"names": names, "bars": 5 if clicks == 1 else 3, "identifiers": 5 if clicks == 1 else 3})
+
+    def named_by_two(self) -> Path:
+        """A recording of two clients with three objects, all of which the last call lists."""
+        folder = self.folder / "named"
+        folder.mkdir()
+        with TranscriptWriter(str(folder / "transcript.ttlv")) as writer:
+            for client, name in (("a", "k1"), ("b", "<b>")):
+                writer.end(writer.begin(client, messages.get(name)), messages.not_found(9))
+            listed = b"".join(sessions.identifier(name) for name in ("k2", "k1", "<b>"))
+            asked = sessions.request(sessions.LOCATE, b"")
+            writer.end(writer.begin("a", asked), sessions.response(sessions.LOCATE, 9, listed))
+        (folder / "declaration.ttlv").write_bytes(sessions.declaration())
+        (folder / "witness.ttlv").write_bytes(witness([1, 2, 3]))
+        return folder
 
     @unittest.skipUnless(CHROMIUM, "needs Debian's chromium")
     def test_a_browser_shows_it(self) -> None:

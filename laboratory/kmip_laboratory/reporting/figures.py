@@ -6,7 +6,7 @@ import re
 
 from ..calls import Call
 from ..plain import plain
-from .judging import Judged, came_to, operations
+from .judging import Judged, came_to, identifiers, operations
 
 KINDS = ["success", "failed", "refused", "undone", "open"]
 
@@ -19,6 +19,8 @@ def figures(judged: Judged, recording: int, lines: dict[str, int]) -> dict[str, 
     clients = sorted({call.client for call in calls}, key=_natural)
     does = sorted(set(map(operations, calls)))
     numbers = [lines.setdefault(line, len(lines)) for line in judged.read.messages.lines]
+    objects: dict[str, int] = {}
+    named = [sorted(objects.setdefault(name, len(objects)) for name in sorted(identifiers(call))) for call in calls]
     shown = [judged.read.messages.of_call.get(call.number, ([], [])) for call in calls]
     return {
         "recording": recording, "fault": judged.verdict.call, "story": judged.named(),
@@ -28,6 +30,7 @@ def figures(judged: Judged, recording: int, lines: dict[str, int]) -> dict[str, 
         "end": [-1 if call.end is None else marks[call.end] for call in calls],
         "lane": [lane_of[call.number] for call in calls], "kind": [KINDS.index(came_to(call)) for call in calls],
         "turn": [judged.turns.get(call.number, 0) for call in calls], "stamp": [call.stamp for call in calls],
+        "objects": list(map(plain, objects)), "named": named,
         "does": [does.index(operations(call)) for call in calls],
         "request": [[numbers[line] for line in request] for request, _ in shown],
         "response": [[numbers[line] for line in response] for _, response in shown],

@@ -21,6 +21,7 @@ from ..records import read_file
 from ..shrinking.parts import is_plain
 from ..trouble import Trouble
 from ..verdicts import Account, Digest, Outcome, Verdict
+from .basis import Basis, read_basis
 from .explanation import Mention, mentions
 from .messages import Messages, read_messages
 
@@ -34,11 +35,13 @@ EPOCH = datetime(1970, 1, 1, tzinfo=timezone.utc)
 
 
 class Read(NamedTuple):
-    """The calls of a recording, the turn of each in the order that was judged or found, and their messages."""
+    """The calls of a recording, the turn of each in the order that was judged or found, their messages, and what a
+    verdict on them rests on."""
 
     calls: list[Call]
     turns: dict[int, int]
     messages: Messages
+    basis: Optional[Basis] = None
 
 
 class Judged(NamedTuple):
@@ -165,19 +168,21 @@ def judge(folder: str, asking: Asking) -> Judged:
         seconds = time.monotonic() - started
         account = _account(auditor, transcript, declaration, witness)
         _see_that_they_are_the_judged(files, account.files)
-        read = _read(auditor, verdict, (transcript, witness), asking.with_keys)
+        read = _read(auditor, verdict, (transcript, declaration, witness), asking.with_keys)
     if searched:
         searched = searched._replace(decided=_decides(searched, asking.budget, read.calls))
     return Judged(folder, verdict, _words(folder, is_checked, more), account, files, read, seconds, searched)
 
 
-def _read(auditor: Auditor, verdict: Verdict, files: tuple[str, str], with_keys: bool) -> Read:
-    """What can be read of a recording's transcript and witness, where it has this verdict."""
-    transcript, witness = files
+def _read(auditor: Auditor, verdict: Verdict, files: tuple[str, str, str], with_keys: bool) -> Read:
+    """What can be read of a recording's files, where it has this verdict."""
+    transcript, declaration, witness = files
     order = _turns(witness) if os.path.exists(witness) and verdict.outcome is not Outcome.MALFORMED else {}
     if verdict.outcome in (Outcome.MALFORMED, Outcome.DEVICE, Outcome.MEMORY):
         return Read([], order, Messages([], {}))
-    return Read(read_transcript(transcript).calls, order, read_messages(auditor, transcript, with_keys))
+    calls = read_transcript(transcript).calls
+    return Read(calls, order, read_messages(auditor, transcript, with_keys),
+                read_basis(verdict, calls, declaration, witness))
 
 
 def _readable_names(folder: str, made: str) -> list[str]:

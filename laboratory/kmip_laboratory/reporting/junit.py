@@ -2,19 +2,21 @@
 
 from __future__ import annotations
 
-
 from xml.etree import ElementTree
 
 from ..plain import plain_lines
 from ..verdicts import Outcome
+from .basis_in_text import numbers
 from .judging import Judged
 from .reasons import in_short, in_words
+from .text import basis_lines
 
 JUDGED = (Outcome.YES, Outcome.NO, Outcome.GAVE_UP)
 
 
 def told(recordings: list[Judged]) -> str:
-    """The XML: a yes passes, a no or a giving up fails, and what can't be judged is an error."""
+    """The XML: a yes passes, a no or a giving up fails, and what can't be judged is an error. What each verdict rests
+    on stands in properties of its case, and in what it printed."""
     failures = sum(judged.verdict.outcome in JUDGED[1:] for judged in recordings)
     errors = sum(judged.verdict.outcome not in JUDGED for judged in recordings)
     suite = ElementTree.Element("testsuite", name="kmip_audit", tests=str(len(recordings)), failures=str(failures),
@@ -22,10 +24,17 @@ def told(recordings: list[Judged]) -> str:
     for judged in recordings:
         case = ElementTree.SubElement(suite, "testcase", classname="kmip_audit", name=plain_lines(judged.folder),
                                       time=f"{judged.seconds:.3f}")
+        if judged.read.basis is not None:
+            properties = ElementTree.SubElement(case, "properties")
+            for name, number in numbers(judged.read.basis):
+                ElementTree.SubElement(properties, "property", name=name, value=str(number))
         if judged.verdict.outcome is not Outcome.YES:
             kind = "failure" if judged.verdict.outcome in JUDGED else "error"
             trouble = ElementTree.SubElement(case, kind, message=plain_lines(in_words(judged.verdict)),
                                              type=in_short(judged.verdict))
             lines = [*judged.verdict.lines, *judged.verdict.explanation, f"$ {judged.command}"]
             trouble.text = plain_lines("\n".join(lines))
+        if judged.read.basis is not None:
+            printed = ElementTree.SubElement(case, "system-out")
+            printed.text = plain_lines("\n".join(basis_lines(judged)))
     return '<?xml version="1.0" encoding="utf-8"?>\n' + ElementTree.tostring(suite, encoding="unicode") + "\n"

@@ -9,9 +9,11 @@ from typing import Optional, Sequence
 from ..paths import shown
 from ..plain import plain
 from ..verdicts import Outcome
+from . import basis_on_page
 from .counts import by_verdict, crosses, period
 from .explanation import Story, split, story
 from .figures import figures
+from .findings import findings
 from .judging import Judged, came_to, moment, operations
 from .markup import Markup, Part, data, digest, element, table, together
 from .reasons import PREMISES, in_short, in_words, of_others
@@ -42,7 +44,7 @@ def page(recordings: list[Judged], made: datetime) -> str:
         "head", element("meta", charset="utf-8"), element("meta", http_equiv="Content-Security-Policy", content=policy),
         element("meta", name="viewport", content="width=device-width, initial-scale=1"),
         element("title", _title(recordings)), element("style", Markup(style)))
-    parts = [element("h1", _title(recordings)), _made(recordings, made)]
+    parts = [element("h1", _title(recordings)), _made(recordings, made), findings(recordings)]
     if len(recordings) > 1:
         parts.append(_overview(recordings))
     parts += [_recording(judged, number, shown(judged.folder) if len(recordings) > 1 else "Verdict")
@@ -96,8 +98,11 @@ def _recording(judged: Judged, number: int, heading: str) -> Markup:
         parts.append(_explanation(judged))
     if judged.calls:
         told = story(judged.verdict.explanation)
-        parts += [_timeline(judged), _story(judged) if told is None else _told_story(judged, told),
-                  element("h3", "Calls"), _counts(judged)]
+        parts += [_timeline(judged), _story(judged, number) if told is None else _told_story(judged, told, number)]
+    if judged.read.basis is not None:
+        parts += [basis_on_page.coverage(judged.read.basis), basis_on_page.conformance(judged.read.basis)]
+    if judged.calls:
+        parts += [element("h3", "Calls"), _counts(judged)]
     parts += [element("h3", "Evidence"), _evidence(judged), element("h3", "What a verdict means"),
               element("p", PREMISES)]
     return element("section", *parts, of="recording", id=f"recording-{number}")
@@ -129,6 +134,7 @@ def _timeline(judged: Judged) -> Markup:
                if does != "fault" or judged.refused() is not None]
     if judged.turns:
         buttons.append(element("button", "Line of the order", type="button", data_does="order", aria_pressed="false"))
+    buttons.append(element("button", "By object", type="button", data_does="objects", aria_pressed="false"))
     legend = [element("li", element("svg", *_sample(kind), viewBox="0 0 26 12", aria_hidden="true"), words)
               for kind, words in LEGEND]
     if len(judged.named()) > 1:
@@ -138,7 +144,7 @@ def _timeline(judged: Judged) -> Markup:
     order = ("Numbers in the bars are turns of the order; zoom in where a bar is too short for its own. "
              if judged.turns else "")
     lanes = element("div", element("svg", role="presentation"), of="lanes", tabindex=0, role="listbox",
-                    aria_label="Calls, a row for each client; arrow keys go from call to call")
+                    aria_label="Calls, a row for each client or object; arrow keys go from call to call")
     details = element(
         "div", element("h3", ""), element("p", "", of="soft"),
         element("div", _message("Request"), _message("Answer"), of="both"),
@@ -161,7 +167,7 @@ def _sample(kind: str) -> list[Markup]:
     return [element("rect", of=kind, width=26, height=12), *stripes]
 
 
-def _told_story(judged: Judged, told: Story) -> Markup:
+def _told_story(judged: Judged, told: Story, number: int) -> Markup:
     """The story of the refused item's object, as the auditor tells it."""
     clients = {call.number: call.client for call in judged.calls}
     rows: list[list[Part]] = [
@@ -172,13 +178,13 @@ def _told_story(judged: Judged, told: Story) -> Markup:
     declared = "is declared" if told.is_declared else "is not declared"
     done = "What was done to it ahead of the refused item, the newest last:" if rows else (
         "Nothing was done to it ahead of the refused item.")
-    parts = [element("h3", "The object's story"),
+    parts = [element("h3", "The object's story", id=f"story-{number}"),
              element("p", f"The object {told.identifier} {declared}. {done}{left_out}", of="soft")]
     return together(parts + ([table(["Call", "Client", "Operation", "Time Stamp", "Item", "Turn"], rows, 2)] if rows
                              else []))
 
 
-def _story(judged: Judged) -> Markup:
+def _story(judged: Judged, number: int) -> Markup:
     """The newest calls that name an object of the refused call."""
     named = judged.story()
     if len(named) < 2:
@@ -190,7 +196,7 @@ def _story(judged: Judged) -> Markup:
     left_out = len(named) - len(rows)
     told = f" The {left_out} before these are left out." if left_out else ""
     return together([
-        element("h3", "The object's story"),
+        element("h3", "The object's story", id=f"story-{number}"),
         element("p", "The calls up to the verdict's that name an object which it names: this is the report's reading "
                 "of the transcript, and not the auditor's word." + told, of="soft"),
         table(["Call", "Client", "Operation", "Came to", "Time Stamp", "Turn"], rows, 1)])

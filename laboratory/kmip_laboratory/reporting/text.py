@@ -9,6 +9,7 @@ from typing import Iterator, Sequence
 from ..calls import Call
 from ..paths import shown
 from ..plain import plain
+from .basis_in_text import paragraphs
 from .counts import Cross, by_verdict, crosses, period
 from .judging import Judged, came_to, operations
 from .reasons import PREMISES, in_short, in_words, of_others
@@ -51,7 +52,13 @@ def _recording(judged: Judged, made: datetime) -> list[str]:
     lines += [f"Judged in {judged.seconds:.1f} seconds. Anybody can repeat the verdict:", *_command(judged.words)]
     if judged.calls:
         lines += ["", *_timeline(judged), "", *_counts(judged)]
-    return lines
+    return lines + ["", *basis_lines(judged)] if judged.read.basis is not None else lines
+
+
+def basis_lines(judged: Judged) -> list[str]:
+    """What the verdict rests on, if that is known."""
+    basis = judged.read.basis
+    return [line for told in paragraphs(basis) for line in _broken(told)] if basis is not None else []
 
 
 def _timeline(judged: Judged) -> list[str]:

@@ -12,6 +12,8 @@ const FROM_THE_FOOT = [4, 2, 1, 3, 0];
 const STRIPES = { failed: [15.5], refused: [2.5, 15.5], undone: [2.5] };
 // What is in view when the page opens: so many marks at least, and at most.
 const LEAST_AT_FIRST = 80, MOST_AT_FIRST = 240;
+// By object there are at most so many rows: those of the objects of the calls in view.
+const MOST_ROWS = 200;
 
 function drawn(name, attributes, text) {
   const made = document.createElementNS(SVG, name);
@@ -31,6 +33,7 @@ class Timeline {
     this.choose = choose;
     this.chosen = -1;
     this.ordered = false;
+    this.byObject = false;
     this.last = Math.max(1, data.marks);
     this.overview = root.querySelector('.overview');
     this.rows = root.querySelector('.lanes svg');
@@ -38,6 +41,7 @@ class Timeline {
     this.place = new Map(data.number.map((number, index) => [number, index]));
     this.fault = this.place.has(data.fault) ? this.place.get(data.fault) : -1;
     this.story = new Set(data.story.map(number => this.place.get(number)));
+    this.laid = this.rowsOf([]);
     for (const svg of [this.overview, this.rows]) svg.setAttribute('preserveAspectRatio', 'none');
     this.listen(root);
     this.start();
@@ -86,8 +90,43 @@ class Timeline {
     this.choose(index);
   }
 
+  // The rows: what each is of, and in which each call of these stands. A client has its own; an object has as many as
+  // there are calls at once that name it, that of the verdict's call the first.
+  rowsOf(found) {
+    if (!this.byObject) {
+      const clients = this.data.lanes.map(client => this.data.clients[client]);
+      return { names: clients, of: index => [this.data.lane[index]], left: 0 };
+    }
+    const calls = new Map(this.fault < 0 ? [] : this.data.named[this.fault].map(object => [object, []]));
+    for (const index of found) {
+      for (const object of this.data.named[index]) {
+        if (!calls.has(object)) calls.set(object, []);
+        calls.get(object).push(index);
+      }
+    }
+    const names = [], rows = new Map();
+    let left = 0;
+    for (const [object, named] of calls) {
+      if (names.length >= MOST_ROWS) { left++; continue; }
+      this.rowsOfObject(object, named, names, rows);
+    }
+    return { names, of: index => rows.get(index) || [], left };
+  }
+
+  rowsOfObject(object, named, names, rows) {
+    const first = names.length, free = [];
+    for (const index of named) {
+      let row = free.findIndex(until => until < this.data.begin[index]);
+      if (row < 0) { row = free.length; names.push(this.data.objects[object]); }
+      free[row] = this.end(index);
+      if (!rows.has(index)) rows.set(index, []);
+      rows.get(index).push(first + row);
+    }
+    if (!named.length) names.push(this.data.objects[object]);
+  }
+
   reveal(index) {
-    const top = this.data.lane[index] * ROW, box = this.box;
+    const top = (this.rowsOf(this.inView()).of(index)[0] || 0) * ROW, box = this.box;
     if (top < box.scrollTop) box.scrollTop = top;
     if (top + ROW * 2 > box.scrollTop + box.clientHeight) box.scrollTop = top + ROW * 2 - box.clientHeight;
   }
@@ -104,25 +143,27 @@ class Timeline {
   }
 
   draw() {
-    const lanes = this.data.lanes, height = lanes.length * ROW + AXIS, width = this.width();
+    const found = this.inView(), width = this.width();
+    this.laid = this.rowsOf(found);
+    const names = this.laid.names, height = names.length * ROW + AXIS;
     this.rows.setAttribute('height', height);
     this.rows.setAttribute('viewBox', `0 0 ${width} ${height}`);
     this.rows.replaceChildren();
-    this.axis(lanes.length * ROW);
-    lanes.forEach((client, lane) => this.row(client, lane, width));
-    const found = this.inView();
-    if (found.length <= MOST_BARS) found.forEach(index => this.bar(index));
+    this.axis(names.length * ROW);
+    names.forEach((name, lane) => this.row(name, lane, width));
+    if (found.length <= MOST_BARS) {
+      found.forEach(index => this.laid.of(index).forEach((lane, nth) => this.bar(index, lane, nth)));
+    }
     else this.together(found);
     if (this.ordered && found.length <= MOST_BARS) this.order(found);
     this.map(width);
     this.tell(found.length);
   }
 
-  row(client, lane, width) {
+  row(name, lane, width) {
     const y = lane * ROW;
     this.rows.append(drawn('line', { class: 'row', x1: 0, x2: width, y1: y + ROW, y2: y + ROW }));
-    if (lane && this.data.lanes[lane - 1] === client) return;
-    const name = this.data.clients[client];
+    if (lane && this.laid.names[lane - 1] === name) return;
     const text = drawn('text', { x: 8, y: y + 17 }, name.length > 20 ? name.slice(0, 19) + '…' : name || '(no name)');
     text.append(drawn('title', {}, name));
     this.rows.append(text);
@@ -144,8 +185,8 @@ class Timeline {
     this.rows.append(drawn('text', { class: 'soft', x: 8, y: top + 17 }, 'Time Stamp, UTC'));
   }
 
-  bar(index) {
-    const data = this.data, kind = KINDS[this.kind(index)], y = data.lane[index] * ROW + 4;
+  bar(index, lane, nth) {
+    const data = this.data, kind = KINDS[this.kind(index)], y = lane * ROW + 4;
     const left = Math.max(LABEL - 4, this.x(data.begin[index]));
     const right = Math.min(this.width(), this.x(this.end(index)));
     const width = Math.max(4, right - left);
@@ -153,7 +194,7 @@ class Timeline {
     const names = ['bar', kind];
     if (this.story.has(index) && index !== this.fault) names.push('story');
     const rect = drawn('rect', { class: names.join(' '), x: left, y, width, height: BAR, rx: 2, 'data-call': index,
-      role: 'option', id: this.name(index), 'aria-label': this.label(index),
+      role: 'option', id: this.name(index) + (nth ? `-${nth}` : ''), 'aria-label': this.label(index),
       'aria-selected': index === this.chosen ? 'true' : 'false' });
     rect.append(drawn('title', {}, this.label(index)));
     this.rows.append(rect);
@@ -186,13 +227,15 @@ class Timeline {
   together(found) {
     const columns = Math.ceil(this.width() / 3), shares = new Map();
     for (const index of found) {
-      const kind = this.kind(index), lane = this.data.lane[index];
+      const kind = this.kind(index);
       const first = Math.max(0, Math.floor(this.x(this.data.begin[index]) / 3));
       const last = Math.min(columns, Math.floor(this.x(this.end(index)) / 3));
-      for (let column = first; column <= last; column++) {
-        const at = lane * 10000 + column;
-        if (!shares.has(at)) shares.set(at, [0, 0, 0, 0, 0, 0]);
-        shares.get(at)[kind]++;
+      for (const lane of this.laid.of(index)) {
+        for (let column = first; column <= last; column++) {
+          const at = lane * 10000 + column;
+          if (!shares.has(at)) shares.set(at, [0, 0, 0, 0, 0, 0]);
+          shares.get(at)[kind]++;
+        }
       }
     }
     for (const [at, counts] of shares) {
@@ -214,12 +257,13 @@ class Timeline {
   }
 
   order(found) {
-    const path = found.filter(index => this.data.turn[index]).sort((a, b) => this.data.turn[a] - this.data.turn[b]);
+    const isDrawn = index => this.data.turn[index] && this.laid.of(index).length;
+    const path = found.filter(isDrawn).sort((a, b) => this.data.turn[a] - this.data.turn[b]);
     let moment = 0;
     const points = path.map(index => {
       moment = Math.max(moment, this.data.begin[index]);
       const x = Math.max(LABEL, this.x(Math.min(moment + 0.5, this.end(index))));
-      return `${x.toFixed(1)},${this.data.lane[index] * ROW + 4 + BAR / 2}`;
+      return `${x.toFixed(1)},${this.laid.of(index)[0] * ROW + 4 + BAR / 2}`;
     });
     this.rows.append(drawn('polyline', { class: 'order', points: points.join(' ') }));
   }
@@ -265,7 +309,8 @@ class Timeline {
   tell(count) {
     this.box.setAttribute('aria-activedescendant', this.chosen < 0 ? '' : this.name(this.chosen));
     this.said.textContent = `${count} of ${this.data.number.length} calls in view` +
-      (count > MOST_BARS ? ': drawn together; zoom in to see each' : '');
+      (count > MOST_BARS ? ': drawn together; zoom in to see each' : '') +
+      (this.laid.left ? `; ${this.laid.left} more objects than there are rows for` : '');
   }
 
   mark(event, svg) {
@@ -281,6 +326,12 @@ class Timeline {
       order: button => {
         this.ordered = !this.ordered;
         button.setAttribute('aria-pressed', this.ordered);
+        this.draw();
+      },
+      objects: button => {
+        this.byObject = !this.byObject;
+        button.setAttribute('aria-pressed', this.byObject);
+        this.box.scrollTop = 0;
         this.draw();
       },
     };
@@ -338,11 +389,12 @@ class Timeline {
   middle() { const found = this.inView(); return this.fault >= 0 ? this.fault : found[found.length >> 1] || 0; }
 
   beside(index, step) {
-    const data = this.data, lane = data.lane[index] + step;
+    const data = this.data, all = this.byObject ? this.inView() : data.number.keys();
+    const laid = this.laid, lane = (laid.of(index)[0] || 0) + step;
     let best = index, near = Infinity;
-    for (let other = 0; other < data.number.length; other++) {
+    for (const other of all) {
       const far = Math.abs(data.begin[other] - data.begin[index]);
-      if (data.lane[other] === lane && far < near) { best = other; near = far; }
+      if (far < near && laid.of(other).includes(lane)) { best = other; near = far; }
     }
     return best;
   }
