@@ -8,6 +8,7 @@ mod calls;
 mod files;
 mod leaving;
 mod ledgers;
+mod lives;
 mod messages;
 mod reading;
 mod searching;
