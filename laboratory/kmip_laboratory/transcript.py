@@ -78,6 +78,25 @@ def marks_in(path: str) -> Iterator[Mark]:
     return (mark for mark, _ in Reading(path).marks())
 
 
+class Taken:
+    """Numbers of calls that are taken: all from 1 on up to one, and some above."""
+
+    def __init__(self) -> None:
+        self._up_to = 0
+        self._others: set[int] = set()
+
+    def add(self, numbers: Iterable[int]) -> None:
+        """Takes these too."""
+        self._others.update(numbers)
+        while self._up_to + 1 in self._others:
+            self._up_to += 1
+            self._others.remove(self._up_to)
+
+    def has(self, number: int) -> bool:
+        """Whether this one is taken."""
+        return 0 < number <= self._up_to or number in self._others
+
+
 class Reading:
     """A transcript that is read from its header on. `chain` is what is known of a sealed one as far as it was read, and
     None of one of version 1; `length` is where the last whole record ends."""
@@ -90,13 +109,15 @@ class Reading:
         self.last_call = 0
         self.open_calls: set[int] = set()
         self.calls = 0
-        self._before = before
+        self._last = before.chain if before else None
         # The calls that began, and whether they ended. One that stays open in its segment ends in no other.
-        self._begun: dict[int, bool] = dict.fromkeys(before.all_begun(), True) if before else {}
+        self._begun: dict[int, bool] = {}
+        self._taken = before.taken() if before else Taken()
 
-    def all_begun(self) -> Iterable[int]:
-        """The calls that began in it, and in those before it."""
-        return self._begun
+    def taken(self) -> Taken:
+        """The numbers of the calls in it, and in those before it."""
+        self._taken.add(self._begun)
+        return self._taken
 
     def marks(self) -> Iterator[tuple[Mark, bytes]]:
         """Its marks, each with its record as version 1 has it. Tells where the file is not what it should be: an end
@@ -133,7 +154,7 @@ class Reading:
             header = sealing.read_header(record)
         except NotSealed as told:
             raise Trouble(f"{self.path} is no transcript: {told}") from None
-        last = self._before.chain if self._before else None
+        last = self._last
         if last and header != sealing.next_header(last):
             raise Trouble(f"{self.path} does not go on where the file before it ends: it is segment {header.segment} "
                           f"of {header.recording} behind {header.previous.hex()}, and segment {last.header.segment + 1}"
@@ -153,6 +174,8 @@ class Reading:
             if int.from_bytes(record[:3], "big") not in sealing.MARKS:
                 return None
         mark = _mark_of(bare, self._begun, self.path, self.length)
+        if self._taken.has(mark.call):
+            raise _twice(self.path, self.length, mark.call)
         if self.chain and spelled(mark) != bare:
             raise Trouble(f"{self.path} has a mark at offset {self.length} with other fields or padding; it was not "
                           "made by a recorder")
@@ -229,10 +252,14 @@ def _mark_of(record: bytes, begun: dict[int, bool], path: str, place: int) -> Ma
     if mark is None:
         raise Trouble(f"{path} has a record that is no mark at offset {place}; it is no transcript, or was damaged")
     if isinstance(mark, Begin) == (mark.call in begun) or begun.get(mark.call, False):
-        raise Trouble(f"{path} has at offset {place} a second begin mark of call {mark.call}, or an end mark of a call "
-                      "that is not under way; it is no transcript, or was damaged")
+        raise _twice(path, place, mark.call)
     begun[mark.call] = isinstance(mark, End)
     return mark
+
+
+def _twice(path: str, place: int, call: int) -> Trouble:
+    return Trouble(f"{path} has at offset {place} a second begin mark of call {call}, or an end mark of a call that is "
+                   "not under way; it is no transcript, or was damaged")
 
 
 def _read_mark(record: bytes) -> Optional[Mark]:

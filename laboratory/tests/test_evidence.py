@@ -374,6 +374,50 @@ class Group(InFolder):
         with mock.patch("os.fdatasync", slow):
             self.assertEqual(asyncio.run(settle_all()), 2)
 
+    def test_what_was_written_since_a_call_of_the_disk_began_is_brought_there_by_another(self) -> None:
+        first, second = AppendedFile(str(self.folder / "1")), AppendedFile(str(self.folder / "2"))
+        self.addCleanup(second.close)
+        behind, synced = [], []
+
+        def settled(files: list[AppendedFile]) -> None:
+            for file in [file for file in files if file in behind]:
+                behind.remove(file)
+                file.close()
+
+        def slow(number: int) -> None:
+            length = os.fstat(number).st_size
+            time.sleep(0.2)
+            synced.append(length)
+
+        async def finish_one() -> None:
+            syncing = Syncing(Sync.GROUP, lambda: [*behind, second] if behind else [first], settled)
+            early = asyncio.ensure_future(syncing.settle())
+            await asyncio.sleep(0.05)
+            first.append(b"close")
+            behind.append(first)
+            await asyncio.gather(early, syncing.settle())
+
+        with mock.patch("os.fdatasync", slow):
+            asyncio.run(finish_one())
+        self.assertIn(len(b"close"), synced)
+        self.assertEqual(behind, [])
+        with self.assertRaises(OSError):
+            first.see_whole()
+
+    def test_heads_that_nobody_reads_are_left_out(self) -> None:
+        reader, writer = os.pipe()
+        self.addCleanup(os.close, reader)
+        self.addCleanup(os.close, writer)
+        os.set_blocking(writer, False)
+        with self.assertRaises(BlockingIOError):
+            while True:
+                os.write(writer, b"x")
+        os.set_blocking(writer, True)
+        told = heads.Heads("-")
+        with mock.patch.object(told, "_number", writer), mock.patch("kmip_laboratory.recording.heads.say") as said:
+            told.tell("head 1\n")
+        said.assert_called_once_with("a head could not be written to -: nobody reads there; it was head 1")
+
     def test_a_head_is_told_each_minute_once_it_is_on_the_disk(self) -> None:
         self.assertEqual(heads.SECONDS_BETWEEN, 60)
         files = mock.Mock()

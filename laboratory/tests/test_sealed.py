@@ -16,7 +16,7 @@ from laboratory import FOLDER, InFolder, audit, run
 from sealed_files import MOMENT, RECORDING, begin, close, end, header, note, sealed
 
 from kmip_laboratory.recording.verifying import verify
-from kmip_laboratory.transcript import read_marks
+from kmip_laboratory.transcript import Taken, read_marks
 from kmip_laboratory.trouble import Trouble
 
 STAMP = 1_700_000_000
@@ -167,6 +167,16 @@ class Verify(Sealed):
         for segment, previous in ((1, b"\1" * 32), (2, bytes(32)), (0, bytes(32))):
             self.put("2", *sealed(header(segment, previous), [close(0)]))
             self.assertIn("2 is no transcript: its header ", self.fault("2"))
+
+
+class Numbers(unittest.TestCase):
+    """Numbers of calls that are taken."""
+
+    def test_each_that_was_taken_and_no_other(self) -> None:
+        taken = Taken()
+        for numbers in ([1, 2, 5], [3, 9, -4], [4]):
+            taken.add(numbers)
+        self.assertEqual([number for number in range(-5, 11) if taken.has(number)], [-4, 1, 2, 3, 4, 5, 9])
 
 
 class Seal(Sealed):

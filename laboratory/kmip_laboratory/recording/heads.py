@@ -3,12 +3,14 @@
 from __future__ import annotations
 
 import asyncio
+import errno
 import os
 from datetime import datetime, timedelta, timezone
 from typing import TYPE_CHECKING, Optional
 
 from ..plain import plain
 from ..sealing import Chain
+from ..telling import has_room
 from ..trouble import Trouble, say
 
 if TYPE_CHECKING:
@@ -39,8 +41,10 @@ class Heads:
                 raise Trouble(f"{path} can't be written: {error.strerror}; give --heads another name") from None
 
     def tell(self, line: str) -> None:
-        """Writes a line. Where that can't be, the recording goes on, and it is said."""
+        """Writes a line. Where that can't be, or would be waited for, the recording goes on, and it is said."""
         try:
+            if not has_room(self._number):
+                raise BlockingIOError(errno.EAGAIN, "nobody reads there")
             os.write(self._number, line.encode("utf-8"))
             if self.path != STANDARD_OUTPUT:
                 os.fdatasync(self._number)

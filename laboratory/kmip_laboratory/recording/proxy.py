@@ -110,6 +110,7 @@ async def run(way: Way, listener: socket.socket) -> None:
         await proxy.serve(listener)
     finally:
         telling.cancel()
+        await way.recording.files.rest()
 
 
 def take_all_room() -> None:

@@ -49,6 +49,10 @@ class RecordedFiles:
         """Comes back when all that was marked up to now is on the disk, as far as that is asked for."""
         await self._syncing.settle()
 
+    async def rest(self) -> None:
+        """Comes back when the disk is not at work on them any more."""
+        await self._syncing.rest()
+
     def begin_next(self) -> None:
         """Begins the next file. The one before stays open until it is known to be on the disk."""
         self.writer.finish()

@@ -90,8 +90,9 @@ class Recording:
         """The calls under way hold no new file up any more: they stay open in this one, unless they end ahead of it."""
         calls = sorted(self._open)
         told = ", ".join(map(str, calls[:MOST_TOLD])) + (", .." if len(calls) > MOST_TOLD else "")
+        which = f"call {told} was" if len(calls) == 1 else f"calls {told} were"
         self._open.clear()
-        say(f"call {told} was under way for all of --hold, and stays open in {self.path}: a new file begins")
+        say(f"{which} under way for all of --hold, and stays open in {self.path}: a new file begins")
 
     def note(self, kind: NoteKind, text: str) -> None:
         """Notes something in a sealed recording."""
