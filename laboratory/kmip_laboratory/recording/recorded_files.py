@@ -33,8 +33,8 @@ class RecordedFiles:
         self._segments = segments
         self._keeping = keeping
         self._number = 1
-        # Finished files that are not known to be on the disk yet.
-        self._behind: list[AppendedFile] = []
+        # Finished files that are not known to be on the disk yet, each with the line of its head.
+        self._behind: dict[AppendedFile, Optional[str]] = {}
         self._syncing = Syncing(keeping.sync, self._open_files, self._are_settled)
         self._is_closed = False
         self.writer = self._resumed(resume(out, segments)) if keeping.resumes else TranscriptWriter(
@@ -56,11 +56,10 @@ class RecordedFiles:
     def begin_next(self) -> None:
         """Begins the next file. The one before stays open until it is known to be on the disk."""
         self.writer.finish()
-        self.tell_head(self.head_line())
-        chain = self.writer.chain
+        chain, line = self.writer.chain, self.head_line()
         following = TranscriptWriter(segment_path(self._out, self._number + 1), self.writer,
                                      Chain(next_header(chain), chain.moment) if chain else None)
-        self._behind.append(self.writer.file)
+        self._behind[self.writer.file] = line
         self.writer, self._number = following, self._number + 1
         if self._keeping.sync is Sync.NONE:
             self._syncing.settle_at_once(False)
@@ -91,10 +90,10 @@ class RecordedFiles:
         return [*self._behind, self.writer.file]
 
     def _are_settled(self, files: list[AppendedFile]) -> None:
-        """These are on the disk. Of them those that were finished by now are closed."""
+        """These are on the disk. Of them those that were finished by now are closed, and their heads told."""
         for file in files:
             if file in self._behind:
-                self._behind.remove(file)
+                self.tell_head(self._behind.pop(file))
                 file.close()
 
     def _resumed(self, found: Resumed) -> TranscriptWriter:
