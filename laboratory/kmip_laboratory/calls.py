@@ -9,9 +9,10 @@ from enum import IntEnum
 from typing import Iterator, NamedTuple, Optional
 
 from . import message, ttlv
-from .records import File, read_file, records, which
+from .records import File, records, which
+from .sealing import Chain
 from .tags import Tag
-from .transcript import BEGIN_MARK, CALL, CLIENT, END_MARK, MESSAGE
+from .transcript import BEGIN_MARK, CALL, CLIENT, END_MARK, MESSAGE, read_unsealed
 from .trouble import Trouble
 from .ttlv import Item, Kind
 
@@ -57,15 +58,17 @@ class Call(NamedTuple):
 
 
 class Transcript(NamedTuple):
-    """A transcript: its header, and its calls in the order of their begin marks."""
+    """A transcript: its header, its calls in the order of their begin marks, and of a sealed one what is known of it.
+    The header and the marks are those of version 1."""
 
     header: bytes
     calls: list[Call]
+    chain: Optional[Chain] = None
 
 
 def read_transcript(path: str) -> Transcript:
     """The transcript in a file."""
-    data = read_file(path)
+    data, chain = read_unsealed(path)
     if which(path, data) is not File.TRANSCRIPT:
         raise Trouble(f"{path} is no transcript, but a {which(path, data).name.lower()}: give the files in their order")
     header = b""
@@ -81,7 +84,7 @@ def read_transcript(path: str) -> Transcript:
         else:
             marks = begins if record.item.tag == BEGIN_MARK else ends
             marks[call.value] = (record.place, record.spelled, record.item)
-    return Transcript(header, [_call(number, begin, ends.get(number)) for number, begin in begins.items()])
+    return Transcript(header, [_call(number, begin, ends.get(number)) for number, begin in begins.items()], chain)
 
 
 def _call(number: int, begin: tuple[int, bytes, Item], end: Optional[tuple[int, bytes, Item]]) -> Call:

@@ -4,6 +4,7 @@ from __future__ import annotations
 
 import asyncio
 import contextlib
+import hashlib
 import socket
 import ssl
 from typing import Optional
@@ -37,6 +38,11 @@ class Peer:
         names = [value for part in subject for key, value in part if key == "commonName"]
         return names[0] if names else None
 
+    def certificate_digest(self) -> str:
+        """SHA-256 of the peer's certificate, in hexadecimal digits."""
+        shown = self._writer.get_extra_info("ssl_object").getpeercert(True)
+        return hashlib.sha256(shown or b"").hexdigest()
+
     async def receive_within(self, seconds: float) -> Optional[bytes]:
         """The next message, as `receive` has it; refused where it is not whole in time."""
         limit = asyncio.get_running_loop().call_later(seconds, self._end_idleness)
@@ -65,7 +71,11 @@ class Peer:
             raise ConnectionTrouble(f"{self._who} broke off in the middle of a message") from None
         except OSError as error:
             raise ConnectionTrouble(f"{self._who} broke off: {tls.meaning(error)}") from None
-        message.see(received, self._side)
+        try:
+            message.see(received, self._side)
+        except ConnectionTrouble as trouble:
+            trouble.unrecorded = received
+            raise
         return received
 
     def stop_waiting(self) -> None:

@@ -30,7 +30,7 @@ class Teller:
             number = self._number()
             if number is None:
                 print(line, end="", file=sys.stderr, flush=True)
-            elif self.waits or _has_room(number):
+            elif self.waits or has_room(number):
                 more = f"{self.name}: nobody read the {self._left_out} lines before\n" if self._left_out else ""
                 self._left_out = 0
                 self._write(number, f"{more}{line}".encode("utf-8", "backslashreplace"))
@@ -46,11 +46,11 @@ class Teller:
             return None
 
     def _write(self, number: int, data: bytes) -> None:
-        while data and (self.waits or _has_room(number)):
+        while data and (self.waits or has_room(number)):
             data = data[os.write(number, data[:PIECE]):]
 
 
-def _has_room(number: int) -> bool:
+def has_room(number: int) -> bool:
     """Whether a piece can be written at once; of a pipe that nobody reads any more the write tells it."""
     waiting = select.poll()
     waiting.register(number, select.POLLOUT)

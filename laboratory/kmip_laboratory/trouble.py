@@ -3,6 +3,7 @@ outside stand in it."""
 
 import os
 import sys
+from typing import Optional
 
 from .plain import plain
 from .telling import TELLER
@@ -20,7 +21,10 @@ class WrongWords(Trouble):
 
 
 class ConnectionTrouble(Exception):
-    """Ends one connection alone. Its text says what went wrong on it."""
+    """Ends one connection alone. Its text says what went wrong on it; `unrecorded` is a message that came whole and was
+    not recorded."""
+
+    unrecorded: Optional[bytes] = None
 
     def __str__(self) -> str:
         return plain(super().__str__())

@@ -35,9 +35,9 @@ HEADER = struct.Struct(">II")
 WHOLE_INTEGER, WHOLE_ENUMERATION, WHOLE_LONG = struct.Struct(">IIi4x"), struct.Struct(">III4x"), struct.Struct(">IIq")
 PADDINGS = tuple(bytes(-length % 8) for length in range(8))
 # The members that are met most, since a look into an enumeration takes its time.
-STRUCTURE, INTEGER, BIG_INTEGER, ENUMERATION, BOOLEAN, TEXT, BYTES, DATE_TIME = (
+STRUCTURE, INTEGER, BIG_INTEGER, ENUMERATION, BOOLEAN, TEXT, BYTES, DATE_TIME, DATE_TIME_EXTENDED = (
     Kind.STRUCTURE, Kind.INTEGER, Kind.BIG_INTEGER, Kind.ENUMERATION, Kind.BOOLEAN, Kind.TEXT, Kind.BYTES,
-    Kind.DATE_TIME)
+    Kind.DATE_TIME, Kind.DATE_TIME_EXTENDED)
 # By the plain numbers of types, for the same reason.
 KINDS: dict[int, Kind] = {kind.value: kind for kind in Kind}
 LENGTHS: dict[int, int] = {kind.value: 4 if kind in SHORT_NUMBERS else 8 for kind in SHORT_NUMBERS + LONG_NUMBERS}
@@ -94,6 +94,11 @@ def enumeration(tag: int, number: int) -> bytes:
 def date_time(tag: int, seconds: int) -> bytes:
     """A moment in whole seconds."""
     return WHOLE_LONG.pack(tag << 8 | DATE_TIME, 8, seconds)
+
+
+def date_time_extended(tag: int, microseconds: int) -> bytes:
+    """A moment in microseconds."""
+    return WHOLE_LONG.pack(tag << 8 | DATE_TIME_EXTENDED, 8, microseconds)
 
 
 def boolean(tag: int, value: bool) -> bytes:

@@ -16,7 +16,7 @@ from laboratory import AUDITOR, FOLDER
 
 from kmip_laboratory.blinding import replacing
 from kmip_laboratory.recording.words import main
-from kmip_laboratory.transcript import TranscriptWriter
+from kmip_laboratory.transcript_writer import TranscriptWriter
 
 EXAMPLES = FOLDER.parent / "examples"
 NAMES = ["transcript.ttlv", "declaration.ttlv", "witness.ttlv"]

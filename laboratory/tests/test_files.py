@@ -16,7 +16,7 @@ from laboratory import InFolder, Laboratory, run
 from kmip_laboratory import certificate, ttlv
 from kmip_laboratory.files import write_file
 from kmip_laboratory.recording.words import main
-from kmip_laboratory.transcript import TranscriptWriter
+from kmip_laboratory.transcript_writer import TranscriptWriter
 from kmip_laboratory.trouble import Trouble
 
 HEADER = "54000101 00000010 54000202 00000004 00000001 00000000"
@@ -75,7 +75,7 @@ class Files(Laboratory):
 
     def test_a_transcript_has_no_more_calls_than_the_auditor_reads(self) -> None:
         path = self.folder / "transcript.ttlv"
-        with TranscriptWriter(str(path)) as transcript, mock.patch("kmip_laboratory.transcript.MOST_CALLS", 1):
+        with TranscriptWriter(str(path)) as transcript, mock.patch("kmip_laboratory.transcript_writer.MOST_CALLS", 1):
             transcript.begin("a", messages.get("1"))
             with self.assertRaisesRegex(Trouble, "record what follows into another file"):
                 transcript.begin("a", messages.get("2"))

@@ -12,7 +12,8 @@ from laboratory import FOLDER, InFolder, Laboratory, run, wait_until
 from kmip_laboratory.glimpse import glimpse
 from kmip_laboratory.message import Side
 from kmip_laboratory.recording.account import Account
-from kmip_laboratory.transcript import Begin, End, TranscriptWriter, spelled
+from kmip_laboratory.transcript import Begin, End, spelled
+from kmip_laboratory.transcript_writer import TranscriptWriter
 
 STAMP = 1_700_000_000
 # The transcript that docs/FORMATS.md follows byte by byte.

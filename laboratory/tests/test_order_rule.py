@@ -19,11 +19,12 @@ HEADER_LENGTH = 24
 BEGIN_BESIDES_MESSAGE = 48
 A_MOMENT = 0.2
 
-BEGIN_LINE = "        self.open_call = self._way.recording.begin(self.name, request)\n"
+SETTLE_LINE = "        await self._way.recording.files.settle()\n"
+BEGIN_LINES = "        self.open_call = self._way.recording.begin(self.name, request)\n" + SETTLE_LINE
 ASK_LINE = "        response = await self._answer(client, server, request)\n"
 END_LINES = """        self._way.recording.end(self.open_call, response)
         self.open_call = None
-"""
+""" + SETTLE_LINE
 SEND_LINE = "        await self._hand_over(client, response)\n"
 
 
@@ -66,7 +67,7 @@ class OrderRule(Laboratory):
         self.assertEqual(self.unmarked(RECORDER), [])
 
     def test_a_begin_mark_behind_its_request_is_caught(self) -> None:
-        turned = self.turned(BEGIN_LINE + ASK_LINE, ASK_LINE + BEGIN_LINE)
+        turned = self.turned(BEGIN_LINES + ASK_LINE, ASK_LINE + BEGIN_LINES)
         self.assertIn("the request went on", self.unmarked(turned))
 
     def test_an_end_mark_behind_its_answer_is_caught(self) -> None:

@@ -27,7 +27,7 @@ from laboratory import AUDITOR, FOLDER
 from test_blind import shown_key
 
 from kmip_laboratory.recording.order import witness
-from kmip_laboratory.transcript import TranscriptWriter
+from kmip_laboratory.transcript_writer import TranscriptWriter
 from kmip_laboratory.verdicts import Outcome, read_account, read_explained, read_verdict
 
 EXAMPLES = FOLDER.parent / "examples"

@@ -142,14 +142,14 @@ class Segments(Laboratory):
         _, files, said = self.overlapping("10000")
         self.assertTrue(self.late, "the quick one went on after the slow one was answered")
         self.assertEqual(files, [whole(1), whole(2), whole(3)])
-        self.assertFalse(any("the file goes on" in line for line in said))
+        self.assertFalse(any("stays open" in line for line in said))
 
     def test_they_are_held_no_longer_than_they_may_be(self) -> None:
         waited, files, said = self.overlapping("100")
         self.assertFalse(self.late)
         self.assertGreaterEqual(waited, 0.1)
-        self.assertEqual(files, [[("begin", 1), ("begin", 2), ("end", 2), ("end", 1)], whole(3)])
-        self.assertTrue(any("calls were under way for all of 100 ms: the file goes on" in line for line in said), said)
+        self.assertEqual(files, [[("begin", 1)], whole(2), whole(3)], "a call that takes longer stays open in its file")
+        self.assertTrue(any("call 1 was under way for all of --hold, and stays open in " in line for line in said), said)
 
     def test_a_new_file_after_so_many_seconds(self) -> None:
         server = self.stub(lambda peer, _: peer.sendall(messages.not_found(STAMP)))

@@ -19,7 +19,8 @@ from kmip_laboratory.calls import Call, Transcript, read_transcript
 from kmip_laboratory.shrinking import smallest
 from kmip_laboratory.shrinking.parts import has_effect, read_declaration
 from kmip_laboratory.shrinking.trials import Answer, Trials
-from kmip_laboratory.transcript import TranscriptWriter, read_marks
+from kmip_laboratory.transcript import read_marks
+from kmip_laboratory.transcript_writer import TranscriptWriter
 
 EXAMPLES = FOLDER.parent / "examples"
 Said = tuple[bytes, Optional[bytes]]

@@ -10,7 +10,9 @@ from typing import TYPE_CHECKING
 from .. import fresh
 from ..hiding import Sort
 from ..outputs import see_apart
+from ..origin import origin_files
 from ..records import read_file
+from ..transcript import read_unsealed
 from ..trouble import Trouble
 from . import replacing
 from .leaks import Leaks
@@ -58,7 +60,8 @@ def run(words: argparse.Namespace) -> None:
     fresh.refuse_present(outs)
     key = _key(words.key) if has_key else replacing.fresh_key()
     bytes_of = replacing.Bytes(key)
-    files = [Opened(path, read_file(path), bytes_of) for path in sources]
+    read = [read_unsealed(path) for path in sources]
+    files = [Opened(path, data, bytes_of) for path, (data, _) in zip(sources, read)]
     chosen = _chosen(files, kept)
     found = replacing.texts(key, (part for text in chosen for part in _parts(text)[::2]))
     for opened in files:
@@ -67,7 +70,9 @@ def run(words: argparse.Namespace) -> None:
                 opened.put(text, _replaced(text, found))
     # The new key comes last among them, where there is one.
     made = [bytes(opened.data) for opened in files] + [key.hex().encode("ascii") + b"\n"]
-    fresh.write_all(list(zip(outs, made)))
+    origins = [origin for path, target, (_, chain) in zip(sources, targets, read)
+               for origin in origin_files(target, path, chain)]
+    fresh.write_all([*zip(outs, made), *origins])
     for opened in files:
         opened.untranslated.tell()
     print(_account(files, chosen))

@@ -14,7 +14,7 @@ from ..address import Address
 from ..auditor import Auditor
 from ..recording import declaration
 from ..recordings import TRANSCRIPT
-from ..transcript import TranscriptWriter
+from ..transcript_writer import TranscriptWriter
 from ..verdicts import Verdict
 from . import certificates, mixes, record, simulate
 from .decide import Decision, decide

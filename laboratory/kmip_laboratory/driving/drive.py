@@ -12,7 +12,7 @@ from typing import Counter as Counted, Optional
 
 from .. import tls
 from ..address import Address
-from ..transcript import TranscriptWriter
+from ..transcript_writer import TranscriptWriter
 from ..trouble import Trouble
 from .client import Budget, Client, Way
 from .cuts import Cut, Cuts

@@ -11,7 +11,7 @@ import threading
 from typing import Optional
 
 from ..message import Side
-from ..transcript import TranscriptWriter
+from ..transcript_writer import TranscriptWriter
 from ..translation.messages import Translator
 
 

@@ -9,7 +9,7 @@ from typing import Iterator
 
 from ..recording import declaration
 from ..recordings import DECLARATION, TRANSCRIPT
-from ..transcript import TranscriptWriter
+from ..transcript_writer import TranscriptWriter
 from ..trouble import Trouble, say
 from .drive import JUDGED
 from .messages import Version
@@ -27,13 +27,14 @@ def recording(folder: Path, version: Version) -> Iterator[TranscriptWriter]:
     if version != JUDGED:
         say(f"version {version[0]}.{version[1]} is written as 2.1 in the transcript: what is judged then is not quite "
             "what was said")
-    with TranscriptWriter(str(folder / TRANSCRIPT)) as transcript:
-        try:
+    transcript = TranscriptWriter(str(folder / TRANSCRIPT))
+    try:
+        with transcript:
             yield transcript
-        except BaseException:
-            if transcript.calls == 0:
-                shutil.rmtree(folder)
-            raise
+    except BaseException:
+        if transcript.calls == 0:
+            shutil.rmtree(folder)
+        raise
 
 
 def declare(folder: Path, unique_names: bool, rows: list[declaration.Row]) -> None:

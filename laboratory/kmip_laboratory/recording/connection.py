@@ -3,7 +3,7 @@
 A begin mark is written when the whole request is there and before any byte of it goes on to the server; an end mark
 when the whole response is there and before any byte of it goes on to the client. So a call that ended before another
 began in the file did so at the server. A client's next request is looked at only after the answer to the one before
-went on.
+went on. Where the disk is waited for, a mark is on it by then.
 """
 
 from __future__ import annotations
@@ -11,11 +11,14 @@ from __future__ import annotations
 import asyncio
 import socket
 import ssl
-from typing import NamedTuple, Optional
+from contextlib import contextmanager
+from typing import Iterator, NamedTuple, Optional
 
 from .. import peer
 from ..address import Address
 from ..peer import Peer
+from ..plain import plain
+from ..sealing import NoteKind
 from ..trouble import ConnectionTrouble, say
 from .admission import Admission
 from .recording import Recording
@@ -66,10 +69,27 @@ class Connection:
         try:
             name = client.common_name()
             with self._way.admission.one_of(name or self._host):
+                known = f"{self.name}, certificate SHA-256 {client.certificate_digest()}, name {plain(name or 'none')}"
                 self.name = f"{name} {self.name}" if name and self._way.identities else name or self.name
-                await self._serve(client, name)
+                with self._noted(known):
+                    await self._serve(client, name)
         finally:
             await client.close()
+
+    @contextmanager
+    def _noted(self, known: str) -> Iterator[None]:
+        """Notes in a sealed recording that the connection began and ended, and what of it was not recorded."""
+        recording, why = self._way.recording, ""
+        recording.note(NoteKind.CONNECTION, known)
+        try:
+            yield
+        except ConnectionTrouble as trouble:
+            why = f": {trouble}"
+            if trouble.unrecorded is not None:
+                recording.note_unrecorded(f"{known}{why}", trouble.unrecorded)
+            raise
+        finally:
+            recording.note(NoteKind.ENDED, f"{known}{why}")
 
     async def _greet(self) -> Peer:
         """The client, which is unknown up to its certificate."""
@@ -103,9 +123,11 @@ class Connection:
 
     async def _take_call(self, client: Peer, server: Peer, request: bytes) -> None:
         self.open_call = self._way.recording.begin(self.name, request)
+        await self._way.recording.files.settle()
         response = await self._answer(client, server, request)
         self._way.recording.end(self.open_call, response)
         self.open_call = None
+        await self._way.recording.files.settle()
         await self._hand_over(client, response)
 
     async def _answer(self, client: Peer, server: Peer, request: bytes) -> bytes:

@@ -6,9 +6,10 @@ import os
 from typing import BinaryIO
 
 from .. import message
-from ..files import new_folder
+from ..files import new_folder, write_file
+from ..origin import origin_files
 from ..paths import see_plain
-from ..transcript import FILE_HEADER, Begin, Mark, marks_in, spelled_marks_in
+from ..transcript import FILE_HEADER, Begin, Mark, Reading, marks_in
 from ..trouble import Trouble, say
 from ..untranslated import Untranslated
 from .rewriting import rewrite
@@ -77,11 +78,13 @@ def run(source: str, folder: str, segments: Segments) -> str:
     see_plain(source)
     untranslated = Untranslated(source)
     with new_folder(folder) as made:
-        cutter = Cutter(made, segments, never_ended(source))
-        for mark, record in spelled_marks_in(source):
+        cutter, reading = Cutter(made, segments, never_ended(source)), Reading(source)
+        for mark, record in reading.marks():
             untranslated.take(mark.message)
             cutter.take(mark, record)
         cutter.close()
+        for path, data in origin_files(folder, source, reading.chain):
+            write_file(path, data)
     untranslated.tell()
     for number, count in enumerate(cutter.counts, 1):
         more = ", more than asked for: calls were under way all the time" if segments.calls and (

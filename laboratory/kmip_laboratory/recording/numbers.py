@@ -3,6 +3,7 @@
 from __future__ import annotations
 
 import argparse
+import re
 
 from ..transcript import MOST_CALLS
 from ..versions import JUDGED, TRANSLATED, Version
@@ -31,6 +32,13 @@ def read_count(words: str) -> int:
     if not (words.isascii() and words.isdigit() and 0 < int(words) <= MOST_CALLS):
         raise argparse.ArgumentTypeError(f"{words!r} is no number from 1 to {MOST_CALLS}")
     return int(words)
+
+
+def read_head(words: str) -> str:
+    """The head that these words are, in small digits."""
+    if not re.fullmatch("[0-9A-Fa-f]{64}", words):
+        raise argparse.ArgumentTypeError(f"{words!r} is no head, which has 64 hexadecimal digits")
+    return words.lower()
 
 
 def read_version(words: str) -> Version:

@@ -11,8 +11,8 @@ from ..sifting import effects, forgetting
 from ..sifting import run as sifting
 from ..translation import run as translation
 from ..trouble import Trouble, WrongWords
-from . import cut, listing, selection
-from .numbers import add_segment_words
+from . import cut, listing, resealing, selection, verifying
+from .numbers import add_segment_words, read_head
 from .segments import Segments
 
 if TYPE_CHECKING:
@@ -25,6 +25,8 @@ def add(words: Words) -> None:
     _add_translate(words.add_parser("translate", help="write a transcript of versions 1.0 to 2.0 as one of 2.1"))
     _add_cut(words.add_parser("cut", help="write a transcript as several behind each other"))
     _add_sift(words.add_parser("sift", help="leave out calls that had no effect on what is judged"))
+    _add_verify(words.add_parser("verify", help="test that recordings of version 2 are sealed, closed and whole"))
+    _add_seal(words.add_parser("seal", help="write a recording of version 1 as one of version 2, sealed as it is now"))
 
 
 def _add_list(word: argparse.ArgumentParser) -> None:
@@ -67,6 +69,21 @@ def _add_sift(word: argparse.ArgumentParser) -> None:
     word.add_argument("--forget", type=attribute_of, action="append", default=[], metavar="NAME",
                       help="take this judged attribute out of what Get Attributes tells; may be repeated")
     word.set_defaults(run=_sift)
+
+
+def _add_verify(word: argparse.ArgumentParser) -> None:
+    word.add_argument("transcripts", metavar="TRANSCRIPT", nargs="+", help="a recording; of several files all of them, "
+                      "in their order")
+    word.add_argument("--head", type=read_head, metavar="HEX", help="the head that the last of them has to have")
+    word.add_argument("--heads", metavar="FILE", help="the heads that the recorder wrote down there have to stand in "
+                      "these files")
+    word.set_defaults(run=_verify)
+
+
+def _add_seal(word: argparse.ArgumentParser) -> None:
+    word.add_argument("transcript", metavar="IN")
+    word.add_argument("out", metavar="OUT", help="a new file for the transcript")
+    word.set_defaults(run=_seal)
 
 
 def _doubtful(words: str) -> int:
@@ -119,6 +136,15 @@ def _list(words: argparse.Namespace) -> None:
         raise WrongWords("--call names one call: leave --client, --object and --operation away")
     else:
         _print(listing.call_lines(words.transcript, words.call, words.keys))
+
+
+def _verify(words: argparse.Namespace) -> None:
+    _print(verifying.verify(words.transcripts, words.head, words.heads))
+
+
+def _seal(words: argparse.Namespace) -> None:
+    see_apart([words.out], [words.transcript])
+    print(plain(resealing.seal(words.transcript, words.out)))
 
 
 def _print(lines: Iterable[str]) -> None:

@@ -16,6 +16,7 @@ from ..address import Address
 from ..telling import TELLER
 from ..trouble import ConnectionTrouble, Trouble, say
 from .connection import Connection, Way
+from .heads import tell_each_minute
 
 SECONDS_FOR_LAST_ANSWERS = 5
 WAITING_CLIENTS = 256
@@ -104,7 +105,12 @@ async def run(way: Way, listener: socket.socket) -> None:
         loop.add_signal_handler(number, proxy.stop)
     say(f"{Address(*listener.getsockname()[:2])} leads to {way.server}; marks go into {way.recording.path}; "
         "Ctrl-C ends")
-    await proxy.serve(listener)
+    telling = asyncio.ensure_future(tell_each_minute(way.recording.files))
+    try:
+        await proxy.serve(listener)
+    finally:
+        telling.cancel()
+        await way.recording.files.rest()
 
 
 def take_all_room() -> None:

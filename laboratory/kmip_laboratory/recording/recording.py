@@ -2,42 +2,45 @@
 
 from __future__ import annotations
 
+import hashlib
 import time
 from typing import Callable, Optional
 
 from ..glimpse import Glimpse, glimpse
 from ..message import Side
-from ..transcript import TranscriptWriter
+from ..sealing import NoteKind
 from ..translation import messages as translation
-from ..trouble import say
+from ..trouble import ConnectionTrouble, say
 from ..versions import JUDGED, TRANSLATED, Version
 from .account import Account
-from .segments import ONE_FILE, Due, Segments, segment_path
+from .recorded_files import Keeping, RecordedFiles
+from .segments import ONE_FILE, Due, Segments
+
+MOST_TOLD = 20
 
 
 class Recording:
     """Marks calls, counts them, and begins a new file where one is due and no call is under way."""
 
     def __init__(self, out: str, minor_1: bool = False, segments: Segments = ONE_FILE,
-                 clock: Callable[[], float] = time.monotonic, without_end: frozenset[int] = frozenset()) -> None:
+                 clock: Callable[[], float] = time.monotonic, without_end: frozenset[int] = frozenset(),
+                 keeping: Keeping = Keeping()) -> None:
         """`without_end` has the calls of which it is known that they will not end."""
-        self._out = out
+        self.files = RecordedFiles(out, segments, keeping)
         self._minor_1 = minor_1
-        self._segments = segments
         self._due = Due(segments, clock)
+        self._due.calls = self.files.writer.calls
         self._without_end = without_end
         self.when_quiet: Callable[[], None] = lambda: None
-        self._number = 1
         self._open: set[int] = set()
         self._versions: set[Version] = set()
         self._translator = translation.Translator()
         self.account = Account()
-        self._writer = TranscriptWriter(self.path)
 
     @property
     def path(self) -> str:
         """The file that is written to."""
-        return segment_path(self._out, self._number) if self._segments.are_asked else self._out
+        return self.files.path
 
     def wants_quiet(self) -> bool:
         """Whether a new file is due, and calls are under way."""
@@ -46,12 +49,17 @@ class Recording:
     def begin(self, client: str, request: bytes) -> int:
         """Marks that a request is whole, and answers the number of its call."""
         if not self._open and self._due.is_due():
-            self._next_file()
+            self.files.begin_next()
+            self._due.restart()
         seen = glimpse(request, Side.CLIENT)
         self._tell_version(client, seen)
-        number = self._writer.next_call
+        number = self.files.writer.next_call
         marked = self._marked(number, Side.CLIENT, request)
-        call = self._writer.begin(client, marked)
+        try:
+            call = self.files.writer.begin(client, marked)
+        except ConnectionTrouble as trouble:
+            trouble.unrecorded = request
+            raise
         self._due.begin()
         if call not in self._without_end:
             self._open.add(call)
@@ -59,9 +67,16 @@ class Recording:
         return call
 
     def end(self, call: int, response: bytes) -> None:
-        """Marks that the response to a call is whole."""
+        """Marks that the response to a call is whole. One that comes behind the end of the call's file is noted."""
+        if not self.files.writer.has_open(call):
+            self._note_late(call, response)
+            return
         marked = self._marked(call, Side.SERVER, response)
-        self._writer.end(call, marked)
+        try:
+            self.files.writer.end(call, marked)
+        except ConnectionTrouble as trouble:
+            trouble.unrecorded = response
+            raise
         self.account.end(call, glimpse(marked, Side.SERVER))
         self.give_up(call)
 
@@ -71,9 +86,25 @@ class Recording:
         if not self._open:
             self.when_quiet()
 
+    def leave_behind(self) -> None:
+        """The calls under way hold no new file up any more: they stay open in this one, unless they end ahead of it."""
+        calls = sorted(self._open)
+        told = ", ".join(map(str, calls[:MOST_TOLD])) + (", .." if len(calls) > MOST_TOLD else "")
+        which = f"call {told} was" if len(calls) == 1 else f"calls {told} were"
+        self._open.clear()
+        say(f"{which} under way for all of --hold, and stays open in {self.path}: a new file begins")
+
+    def note(self, kind: NoteKind, text: str) -> None:
+        """Notes something in a sealed recording."""
+        self.files.writer.note(kind, text)
+
+    def note_unrecorded(self, why: str, message: bytes) -> None:
+        """Notes that a message was not recorded, so that it can be known again."""
+        self.note(NoteKind.NOT_RECORDED, f"{why}; {len(message)} bytes, SHA-256 {hashlib.sha256(message).hexdigest()}")
+
     def summary(self) -> str:
         """The line that tells what was recorded, of all files together."""
-        return self._writer.summary()
+        return self.files.writer.summary()
 
     def account_lines(self) -> list[str]:
         """The account of it, as lines for a person."""
@@ -83,13 +114,14 @@ class Recording:
         return self
 
     def __exit__(self, *_: object) -> None:
-        self._writer.close()
+        self.files.close()
 
-    def _next_file(self) -> None:
-        following = TranscriptWriter(segment_path(self._out, self._number + 1), self._writer)
-        self._writer.close()
-        self._writer, self._number = following, self._number + 1
-        self._due.restart()
+    def _note_late(self, call: int, response: bytes) -> None:
+        """Tells of an answer whose call stays open in a file before this one."""
+        why = f"the answer to call {call}, which stays open in its file, came too late for that"
+        if self.files.writer.chain:
+            self.note_unrecorded(why, response)
+        say(f"{why}: {len(response)} bytes, SHA-256 {hashlib.sha256(response).hexdigest()}")
 
     def _marked(self, call: int, side: Side, message: bytes) -> bytes:
         """The message as the transcript is to have it."""
@@ -111,7 +143,10 @@ class Recording:
 
 
 def tell_account(recording: Recording) -> None:
-    """Tells what was recorded: the lines for a person, and then the summary for programs."""
-    for line in recording.account_lines():
-        say(line)
-    print(recording.summary(), flush=True)
+    """Closes the recording and tells what was recorded: the lines for a person, and then the summary for programs."""
+    try:
+        recording.files.close()
+    finally:
+        for line in recording.account_lines():
+            say(line)
+        print(recording.summary(), flush=True)

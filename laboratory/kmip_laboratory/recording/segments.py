@@ -1,4 +1,5 @@
-"""When one transcript is to be followed by another: after so many calls or seconds, while no call is under way."""
+"""When one transcript is to be followed by another: after so many calls or seconds, while no call is under way, or none
+but those that are left behind."""
 
 from __future__ import annotations
 
@@ -6,11 +7,6 @@ import asyncio
 import re
 from pathlib import Path
 from typing import Callable, NamedTuple, Optional
-
-from ..trouble import say
-
-# Requests are held for one part in so many of the time at most.
-PARTS_WITHOUT_HOLD = 20
 
 
 class Segments(NamedTuple):
@@ -71,15 +67,24 @@ def paths_of(out: str, segments: Segments) -> list[str]:
     return [segment_path(out, 1), *(str(there) for there in path.parent.glob("*") if name.fullmatch(there.name))]
 
 
-class Gate:
-    """Holds new requests for a short time where a new file is due and calls are under way, until none is."""
+def last_number(out: str) -> int:
+    """The highest number of the files of a recording that are there; 0 where none is."""
+    path = Path(out)
+    name = re.compile(rf"{re.escape(path.stem)}-(\d{{4,}}){re.escape(path.suffix)}")
+    found = (name.fullmatch(there.name) for there in path.parent.glob("*"))
+    return max((int(each[1]) for each in found if each), default=0)
 
-    def __init__(self, is_wanted: Callable[[], bool], seconds: float) -> None:
+
+class Gate:
+    """Holds new requests for a short time where a new file is due and calls are under way, until none is. Those that
+    are under way for all of that time are left behind in their file."""
+
+    def __init__(self, is_wanted: Callable[[], bool], leave_behind: Callable[[], None], seconds: float) -> None:
         self._is_wanted = is_wanted
+        self._leave_behind = leave_behind
         self._seconds = seconds
         self._quiet = asyncio.Event()
         self._until: Optional[float] = None
-        self._rest_until = 0.0
 
     def look(self) -> None:
         """Lets the held requests go, where no new file is wanted any more."""
@@ -88,21 +93,15 @@ class Gate:
 
     async def room(self) -> None:
         """Comes back when a request may be marked."""
-        now = asyncio.get_running_loop().time()
-        if not self._is_wanted() or now < self._rest_until:
+        if not self._is_wanted():
             return
+        now = asyncio.get_running_loop().time()
         if self._until is None:
             self._until = now + self._seconds
             self._quiet.clear()
         try:
             await asyncio.wait_for(self._quiet.wait(), max(0.0, self._until - now))
         except asyncio.TimeoutError:
-            self._give_up()
+            if self._is_wanted():
+                self._leave_behind()
         self._until = None
-
-    def _give_up(self) -> None:
-        now = asyncio.get_running_loop().time()
-        if self._is_wanted() and now >= self._rest_until:
-            self._rest_until = now + PARTS_WITHOUT_HOLD * self._seconds
-            say(f"calls were under way for all of {self._seconds * 1000:g} ms: the file goes on, and a new one begins "
-                "at the next moment without a call")

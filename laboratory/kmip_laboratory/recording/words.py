@@ -14,15 +14,19 @@ from ..blinding import words as blinding
 from ..files import OUT_HINT, see_that_free
 from ..front import Parser, run_or_help
 from ..outputs import see_apart
+from ..sealing import NoteKind
 from ..shrinking import words as shrinking
-from ..trouble import Trouble, say
+from ..trouble import Trouble, WrongWords, say
 from ..versions import JUDGED
 from . import capture, declaration, identities, inventory, order, passes, proxy
 from .admission import Admission
 from .connection import Way
 from .numbers import add_segment_words, read_count, read_milliseconds, read_seconds, read_version
+from .heads import STANDARD_OUTPUT, Heads
+from .recorded_files import Keeping
 from .recording import Recording, tell_account
 from .segments import Gate, Segments, paths_of
+from .syncing import Sync
 
 MINOR_HELP = "write messages of versions 1.0 to 2.0 as 2.1, as `translate` does"
 FORCE_HELP = "write over the file where it is there already"
@@ -66,8 +70,17 @@ def _add_proxy(word: argparse.ArgumentParser) -> None:
                       "client that sends no request for so long, or does not take its answer (3600)")
     word.add_argument("--connections", type=read_count, default=100, metavar="N", help="how many connections a client "
                       "may have at once (100)")
-    word.add_argument("--hold", type=read_milliseconds, default=50, metavar="MS", help="how long new requests may be "
-                      "held where a new file is due, until no call is under way (50)")
+    word.add_argument("--hold", type=read_milliseconds, default=1000, metavar="MS", help="how long new requests may be "
+                      "held where a new file is due, until no call is under way; one that takes longer stays open in "
+                      "its file (1000)")
+    word.add_argument("--sync", type=Sync, choices=list(Sync), default=Sync.GROUP, metavar="WHEN", help="a message "
+                      "goes on when its mark is on the disk: group (all that wait by one call of the disk, the default)"
+                      ", always (each by one of its own), or none (not waited for)")
+    word.add_argument("--resume", action="store_true", help="go on behind a recorder that was killed")
+    word.add_argument("--heads", metavar="FILE", help="write the head of a sealed recording there each minute and at "
+                      "its end (- for standard output)")
+    word.add_argument("--note", action="append", default=[], metavar="WORDS", help="words of yours that a sealed "
+                      "recording has at its begin; may be repeated")
     _add_transcript_words(word)
     word.set_defaults(run=_proxy)
 
@@ -84,6 +97,8 @@ def _add_keylog(word: argparse.ArgumentParser) -> None:
 def _add_transcript_words(word: argparse.ArgumentParser) -> None:
     add_segment_words(word)
     word.add_argument("--minor", choices=["1"], help=MINOR_HELP)
+    word.add_argument("--format", type=int, choices=[1, 2], help="1, which the auditor reads (the default), or 2, "
+                      "which is sealed: `kmip_record translate` and the other passes make 1 of it")
     word.add_argument("--out", required=True, metavar="TRANSCRIPT", help="a new file for the transcript")
 
 
@@ -116,6 +131,7 @@ def _add_order(word: argparse.ArgumentParser) -> None:
 
 
 def _proxy(words: argparse.Namespace) -> None:
+    _see_sealed_words(words)
     shown = identities.read_identities(words.identities)
     _see_recording_apart(words, words.cert, words.key, words.client_ca, words.server_cert, words.server_key,
                          words.server_ca, *(path for each in shown for path in (each.certificate, each.key)))
@@ -129,7 +145,9 @@ def _proxy(words: argparse.Namespace) -> None:
     with proxy.listen(words.listen) as listener:
         for context in [toward_server, *clients.values()]:
             asyncio.run(proxy.reach(words.server, context))
-        with Recording(words.out, bool(words.minor), _segments(words)) as recording:
+        with Recording(words.out, bool(words.minor), _segments(words), keeping=_keeping(words)) as recording:
+            for told in words.note:
+                recording.note(NoteKind.WORDS, told)
             try:
                 asyncio.run(_record(words, recording, toward_clients, toward_server, clients, listener))
             finally:
@@ -138,10 +156,24 @@ def _proxy(words: argparse.Namespace) -> None:
 
 async def _record(words: argparse.Namespace, recording: Recording, toward_clients: ssl.SSLContext,
                   toward_server: ssl.SSLContext, clients: dict[str, ssl.SSLContext], listener: socket.socket) -> None:
-    gate = Gate(recording.wants_quiet, words.hold / 1000)
+    gate = Gate(recording.wants_quiet, recording.leave_behind, words.hold / 1000)
     recording.when_quiet = gate.look
     await proxy.run(Way(words.server, toward_clients, toward_server, recording, words.answer_within, words.idle,
                         Admission(words.connections), gate, clients), listener)
+
+
+def _see_sealed_words(words: argparse.Namespace) -> None:
+    """Refuses of a recording of version 1 what only a sealed one has, as far as the version is known."""
+    if (words.heads or words.note) and words.format != 2 and not (words.resume and words.format is None):
+        raise WrongWords("--heads and --note are those of sealed recordings: give --format 2 too")
+    if words.heads and words.heads != STANDARD_OUTPUT:
+        see_apart([words.heads], paths_of(words.out, _segments(words)))
+
+
+def _keeping(words: argparse.Namespace) -> Keeping:
+    """How the recording is kept."""
+    return Keeping(None if words.format is None else words.format == 2, words.sync, words.resume,
+                   Heads(words.heads) if words.heads else None)
 
 
 def _segments(words: argparse.Namespace) -> Segments:
@@ -159,7 +191,7 @@ def _keylog(words: argparse.Namespace) -> None:
     if words.minor:
         say(MINOR_NOTE)
     capture.run(words.capture, words.keylog, words.server, lambda clock, without_end: Recording(
-        words.out, bool(words.minor), _segments(words), clock, without_end))
+        words.out, bool(words.minor), _segments(words), clock, without_end, Keeping(words.format == 2)))
 
 
 def _declare(words: argparse.Namespace) -> None:

@@ -8,6 +8,7 @@ from typing import TYPE_CHECKING
 from .. import fresh
 from ..auditor import Auditor
 from ..calls import Call, read_transcript
+from ..origin import origin_files
 from ..outputs import see_apart
 from ..trouble import Trouble, say
 from ..untranslated import Untranslated
@@ -63,7 +64,8 @@ def run(words: argparse.Namespace) -> None:
         found = shrunk(trials, transcript.calls)
         if found is None:
             raise Trouble(_undecided(transcript.calls, words.budget))
-        fresh.write_all(list(zip(outs, trials.files(found))))
+        fresh.write_all([*zip(outs, trials.files(found)),
+                         *origin_files(words.out, words.transcript, transcript.chain)])
         say(f"{trials.asked} searches were asked for")
         print(_account(found, transcript.calls, trials))
 
