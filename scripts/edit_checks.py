@@ -46,11 +46,12 @@ def kit_folder() -> Path:
 @dataclass(frozen=True)
 class Verdict:
     """What was found of an edit: 'refused', 'let through', 'stale', 'not judged', or 'to be reopened', the words for it, and the answers by
-    hand that don't fit its body and are to be reopened: their goals are left to the prover then."""
+    hand that don't fit its body and are to be reopened, with the folder of the proof that has them: their goals are left to the prover then."""
 
     kind: str
     words: str
     answers: frozenset[str] = frozenset()
+    folder: str = ""
 
 
 @dataclass
@@ -209,16 +210,6 @@ def copy_proofs(room: Path, edits: list[Edit]) -> None:
             (copy / file.name).write_text(text, encoding="utf-8")
 
 
-def proof_folder(texts: dict[str, str], edit: Edit) -> Optional[str]:
-    """The folder below proofs/ of the proof of the function that an edit changes; None where its type stands in no file. A copy's has its
-    ending behind it."""
-    path = edit.changes[0].path
-    name = next((name for it, name in full_names(texts, path) if it.name == edit.own), None)
-    if name is None or not edit.cycle:
-        return name.replace("::", "/") if name else None
-    return "/".join([*name.split("::")[:-1], f"+{edit.cycle}"])
-
-
 def without_reopened(text: str, edit: Edit) -> str:
     """The text of a function's answers by hand, but for those that are to be reopened for an edit."""
     return ANSWER.sub(lambda it: "" if it[1] in edit.reopened else it[0], text)
@@ -226,28 +217,25 @@ def without_reopened(text: str, edit: Edit) -> str:
 
 def reopen_answers(room: Path, edits: list[Edit]) -> None:
     """Takes the answers by hand that are to be reopened out of the proofs of these edits' functions, in a copy of a crate."""
-    texts = texts_in(room)
     for edit in edits:
-        folder = proof_folder(texts, edit) if edit.reopened else None
-        if folder:
-            file = room / "proofs" / f"{folder}{edit.ending()}" / "Answers.antt"
+        if edit.reopened:
+            file = room / "proofs" / f"{edit.folder}{edit.ending()}" / "Answers.antt"
             left = without_reopened(file.read_text(encoding="utf-8"), edit)
             file.unlink()
             if ANSWER.search(left):
                 file.write_text(left, encoding="utf-8")
 
 
-def unfit_answers(crate: Crate, edit: Edit, errors: list[tuple[str, str, str]]) -> Verdict:
-    """What is found of an edit whose function has answers by hand that don't fit, by their files, lines and errors: those are to be reopened.
-    Of the rest of a proof by hand, as of an invariant, only the error can be told."""
-    folder = proof_folder(texts_in(crate.folder), edit)
-    file = crate.folder / "proofs" / (folder or "") / "Answers.antt"
-    text = without_reopened(file.read_text(encoding="utf-8"), edit) if folder and file.is_file() else ""
+def unfit_answers(crate: Crate, edit: Edit, folder: str, errors: list[tuple[str, str, str]]) -> Verdict:
+    """What is found of an edit whose function has its proof in this folder, with answers by hand that don't fit, by their files, lines and
+    errors: those are to be reopened. Of the rest of a proof by hand, as of an invariant, only the error can be told."""
+    file = crate.folder / "proofs" / folder / "Answers.antt"
+    text = without_reopened(file.read_text(encoding="utf-8"), edit) if file.is_file() else ""
     named = {it[1] for it in ANSWER.finditer(text) for name, line, _ in errors
              if name == "Answers.antt" and text.count("\n", 0, it.start()) < int(line) <= text.count("\n", 0, it.end())}
     others = [words for name, _, words in errors if name != "Answers.antt"]
     if named and not others:
-        return Verdict("to be reopened", errors[0][2], edit.reopened | named)
+        return Verdict("to be reopened", errors[0][2], edit.reopened | named, folder)
     return Verdict("stale", others[0] if others else errors[0][2])
 
 
@@ -362,7 +350,7 @@ def verdict_of(crate: Crate, edit: Edit, said: str) -> Verdict:
     own = "/".join([*modules[:-1], f"+{edit.cycle}" if edit.cycle else modules[-1]])
     errors = re.findall(rf"^(?:\./)?proofs/{re.escape(own)}/(\w+\.antt):(\d+):\d+: error: (.*)", said, re.M)
     if told.startswith("not proved") and errors:
-        return unfit_answers(crate, edit, errors)
+        return unfit_answers(crate, edit, own[: len(own) - len(edit.ending())], errors)
     if PROVED.match(told):
         return Verdict("let through", f"{told}{ahead}")
     return Verdict("not judged", told)

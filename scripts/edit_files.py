@@ -52,7 +52,7 @@ class Function:
 class Edit:
     """One edit: its changes, the function to be refused, what is proved with it, whether all is in that body, whether a
     copy of the function may stand beside it, and where the edit is made in such a copy, that copy's number; and which of the function's answers
-    by hand are left out, since they fit the right body alone."""
+    by hand are left out, since they fit the right body alone, with the folder below proofs/ that has them."""
 
     name: str
     changes: tuple[Change, ...]
@@ -63,6 +63,7 @@ class Edit:
     has_copies: bool
     copy: int = 0
     reopened: frozenset[str] = frozenset()
+    folder: str = ""
 
     @property
     def function(self) -> str:
