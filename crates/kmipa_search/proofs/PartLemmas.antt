@@ -1,12 +1,12 @@
 -- Where calls have a run, their parts on an object have one.
-use Rattle.std.proofs.Common.{◌≡◌, ◌≢◌, ◌<◌, ◌≤◌, ◌⊎◌, inl, inr, ℕ, zero, suc, Bool, true, false, cond, List, [], ◌∷◌, ◌++◌, map, take, length, get_or, ◌+◌, bytes_eq, slice_get, Option, Some, None, Contains, refl, sym, ap, ◌∙◌, subst, arith}
-use Rattle.std.specs.Prelude.{AllPairs, IsPermutation, slice_index_or}
+use Rattle.std.proofs.Common.{◌≡◌, ◌≢◌, ◌<◌, ◌⊎◌, inl, inr, ℕ, zero, suc, Bool, true, false, cond, List, [], ◌∷◌, ◌++◌, map, take, length, get_or, ◌+◌, bytes_eq, slice_get, Option, Some, None, Contains, refl, sym, ap, ◌∙◌, subst, arith}
+use Rattle.std.specs.Prelude.{AllPairs, IsPermutation}
 use Rattle.std.specs.List.{filter, filter_map, AllZip}
 use Rattle.std.proofs.lemmas.List.{append-nil, map-append, take_more}
 use Rattle.std.proofs.lemmas.List.Elements.{All-filter, Contains-append_cases, filter-append, filter_map-append}
 use Rattle.std.proofs.lemmas.List.Kept.{AllPairs-filter}
 use Rattle.std.proofs.lemmas.List.Sorted.{Contains-permutation, IsPermutation-sym}
-use Rattle.kmipa_object.specs.Inventory.{Thing, IsInventory, HasBytes, live, rule_of}
+use Rattle.kmipa_object.specs.Inventory.{Thing}
 use Rattle.kmipa_msgs.specs.Messages.{RulesOf}
 use Rattle.kmipa_store.specs.Ledger.{Meaning}
 use Rattle.kmipa_record.specs.Declarations.{DeclarationOf, AreDeclared}
@@ -14,11 +14,11 @@ use Rattle.kmipa_record.specs.Entries.{EntryOf, IsDeclarable, entry_of}
 use Rattle.kmipa_record.specs.declared.entry.Entry.{Entry}
 use Rattle.kmipa_check.specs.Steps.{StepOf}
 use Rattle.kmipa_check.specs.Described.{IsDescribed, Describes}
-use Rattle.kmipa_check.specs.Runs.{IsPlaced, Linked, rules_declared}
+use Rattle.kmipa_check.specs.Runs.{rules_declared}
 use Rattle.kmipa_check.specs.Verdicts.{AreKnown}
 use Rattle.kmipa_check.proofs.PlaceLemmas.{contains_at, at_contains, at_within, apart}
 use Rattle.kmipa_parts.specs.Parts.{cut, IsElsewhere, IsPartOf, IsPartOrNone, AreParts}
-use Rattle.kmipa_parts.proofs.CutLemmas.{same_id, true_or_not, cut_has}
+use Rattle.kmipa_parts.proofs.CutLemmas.{same_id, cut_has}
 use Rattle.kmipa_parts.proofs.CallLemmas.{run_projects_lem}
 use Rattle.kmipa_parts.proofs.RunLemmas.{before_back, index_is, part_at, pair_at, pairs_all, parts_pair, parts_are_placed_lem, those_there}
 use Rattle.kmipa_batch.specs.Readable.{IsReadableCall}
@@ -26,7 +26,7 @@ use Rattle.kmipa_search.specs.ByObject.{AreOrderly, declared_on, part_step, Runs
 use Rattle.kmipa_search.specs.declared.by_object.CallPart.{CallPart}
 use Rattle.kmipa_search.specs.LawsOfCheck.{LawsOfCheck}
 use Rattle.kmipa_search.specs.Progress.{AllReadable, AreBegun, AreTimed, ComesTo, HaveRun, Opens}
-use Rattle.kmipa_search.specs.Taken.{step_at, no_step, TakesAll}
+use Rattle.kmipa_search.specs.Taken.{step_at, no_step}
 use Rattle.kmipa_search.proofs.CutLemmas.{once_permuted}
 use Rattle.kmipa_search.proofs.PermutationLemmas.{IsOnce, at_most, permuted, once_pairs}
 use Rattle.kmipa_search.proofs.PlaceLemmas.{one_cases, one_place}

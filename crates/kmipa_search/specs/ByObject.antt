@@ -1,5 +1,5 @@
 -- What one object says of calls: where the parts of the calls on it have no run, the calls have none.
-use Rattle.std.specs.Prelude.{◌≡◌, ◌≢◌, ℕ, List, Some, None, AllPairs, bytes_eq}
+use Rattle.std.specs.Prelude.{◌≢◌, ℕ, List, Some, None, AllPairs, bytes_eq}
 use Rattle.std.specs.List.{filter}
 use Rattle.kmipa_record.specs.Declarations.{DeclarationOf}
 use Rattle.kmipa_record.specs.Entries.{EntryOf}

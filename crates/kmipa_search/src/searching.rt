@@ -44,6 +44,7 @@ use std::alloc::Global;
 /// Where all calls are plain and the budget is enough for them, the order in which they are tried if each is possible is made first, without a
 /// ledger, and checked: mostly it is the one that is found, and the calls are taken once. Where it isn't, and the first 1,000 steps don't end the
 /// search, the lives of the objects propose an order: where a check accepts it, it is found with those steps and one more for each call.
+/// Where it doesn't, the objects are searched one by one: where one has no order of its own, it gives up with steps left.
 pub fn search(
     alloc: Global,
     transcript: &Transcript,
