@@ -116,7 +116,10 @@ pub fn search_plain<W: Watch>(
         return Ok(found);
     }
     match search_late(alloc, calls, declaration, own, budget)? {
-        Some(found) => Ok(found),
+        Some(found) => {
+            let _ended = ends_early(alloc, declaration, own, watch)?;
+            Ok(found)
+        }
         None => search_step_by_step(alloc, calls, declaration, own, budget, watch),
     }
 }
@@ -137,7 +140,7 @@ fn search_late(
         → IfOk result (λ found. IfSome found (Finds marks (declaration_of declaration.now) budget)) }
     ensures memory { IfErr result (λ fault. fault ≡ CheckFault.Memory) }
 {
-    if budget <= EARLY || ends_early(alloc, declaration, own)? {
+    if budget <= EARLY || ends_early(alloc, declaration, own, &mut Unwatched {})? {
         return Ok(None);
     }
     match search_by_lives(alloc, calls, declaration, own, budget)? {
@@ -146,11 +149,12 @@ fn search_late(
     }
 }
 
-/// Whether a search ends within its first steps.
-fn ends_early(
+/// Whether a search ends within its first steps, which are reported to a watcher.
+fn ends_early<W: Watch>(
     alloc: Global,
     declaration: &Declaration,
     own: &[Candidate],
+    watch: &mut W,
 ) -> Result<bool, CheckFault>
     requires declared { AreDeclared (declaration_of declaration.now) }
     requires readable { AllReadable (map candidate_step own.now) }
@@ -158,7 +162,7 @@ fn ends_early(
 {
     let rules = rules_of_declaration(alloc, declaration)?;
     let mut ledger = open_ledger(alloc, declaration)?;
-    match find_order(alloc, &mut ledger, &rules, own, EARLY, &mut Unwatched {}) {
+    match find_order(alloc, &mut ledger, &rules, own, EARLY, watch) {
         Ok(outcome) => Ok(outcome.order.is_some() || outcome.steps < EARLY),
         Err(_) => Err(CheckFault::Memory),
     }
