@@ -26,7 +26,8 @@ use Rattle.kmipa_search.specs.LawsOfCheck.{LawsOfCheck}
 use Rattle.kmipa_search.specs.Candidates.{AreNotPlain}
 use Rattle.kmipa_search.specs.Plain.{ArePlain, AreApart, IsForced}
 use Rattle.kmipa_search.specs.Next.{weight}
-use Rattle.kmipa_search.specs.Progress.{ordered, HaveRun, CanBeTaken, Opens, ComesTo}
+use Rattle.kmipa_search.specs.ByObject.{AreOrderly, Refuted}
+use Rattle.kmipa_search.specs.Progress.{ordered, AllReadable, HaveRun, CanBeTaken, Opens, ComesTo}
 use Rattle.kmipa_search.specs.Taken.{no_step, step_at}
 use Rattle.kmipa_search.specs.Confirming.{Confirms, IsTried, turns_at}
 use Rattle.kmipa_search.specs.Laws.{IsEnough, EnoughDecides, ForcedIsLight}
@@ -97,6 +98,18 @@ module _ (marks : List MarkOf) (declared : DeclarationOf) (calls : List CallOf) 
       by (one_by_one f few) =
           let P : List StepOf → Type 0 = λ ss. weight ss ≤ budget in
           inr (subst P (same_steps calls f.steps steps f.plain plain) (omega (arith, forced_is_light_lem calls f, few)))
+
+  -- calls in their order: each once, and none before itself
+  orderly : AreOrderly steps
+  orderly = record {
+    once = plain_once calls steps plain (laws.timed marks calls r are);
+    begun = plain_begun calls steps plain (laws.timed marks calls r are);
+    timed = plain_timed calls steps plain (laws.timed marks calls r are);
+  }
+
+  -- what one object refutes
+  pub gave_up_refuted : (budget count : ℕ) → count ≤ budget → AllReadable steps → Refuted declared steps → Finds marks declared budget (GaveUp count)
+  gave_up_refuted budget count few readable refuted = (few, (calls, are, λ decided explained. unexplained (refuted orderly readable) explained))
 
   -- ---- what takes these calls can be written
 

@@ -1,25 +1,35 @@
 -- Where calls have a run, their parts on an object have one.
-use Rattle.std.proofs.Common.{◌≡◌, ◌≢◌, ◌<◌, ◌⊎◌, inl, inr, ℕ, zero, suc, Bool, true, false, cond, List, [], ◌∷◌, bytes_eq, slice_get, Option, Some, None, Contains, refl, sym, ap, ◌∙◌, subst, arith}
+use Rattle.std.proofs.Common.{◌≡◌, ◌≢◌, ◌<◌, ◌⊎◌, inl, inr, ℕ, zero, suc, Bool, true, false, cond, List, [], ◌∷◌, ◌++◌, map, take, length, get_or, ◌+◌, bytes_eq, slice_get, Option, Some, None, Contains, refl, sym, ap, ◌∙◌, subst, arith}
 use Rattle.std.specs.Prelude.{AllPairs, IsPermutation}
-use Rattle.std.specs.List.{filter, AllZip}
+use Rattle.std.specs.List.{filter, filter_map, AllZip}
+use Rattle.std.proofs.lemmas.List.{append-nil, map-append, take_more}
+use Rattle.std.proofs.lemmas.List.Elements.{All-filter, Contains-append_cases, filter-append, filter_map-append}
+use Rattle.std.proofs.lemmas.List.Kept.{AllPairs-filter}
 use Rattle.std.proofs.lemmas.List.Sorted.{Contains-permutation, IsPermutation-sym}
 use Rattle.kmipa_object.specs.Inventory.{Thing}
-use Rattle.kmipa_record.specs.Declarations.{DeclarationOf}
-use Rattle.kmipa_record.specs.Entries.{EntryOf}
+use Rattle.kmipa_msgs.specs.Messages.{RulesOf}
+use Rattle.kmipa_store.specs.Ledger.{Meaning}
+use Rattle.kmipa_record.specs.Declarations.{DeclarationOf, AreDeclared}
+use Rattle.kmipa_record.specs.Entries.{EntryOf, IsDeclarable, entry_of}
+use Rattle.kmipa_record.specs.declared.entry.Entry.{Entry}
 use Rattle.kmipa_check.specs.Steps.{StepOf}
 use Rattle.kmipa_check.specs.Described.{IsDescribed, Describes}
 use Rattle.kmipa_check.specs.Runs.{rules_declared}
+use Rattle.kmipa_check.specs.Verdicts.{AreKnown}
 use Rattle.kmipa_check.proofs.PlaceLemmas.{contains_at, at_contains, at_within, apart}
-use Rattle.kmipa_parts.specs.Parts.{cut, IsPartOrNone, AreParts}
+use Rattle.kmipa_parts.specs.Parts.{cut, IsElsewhere, IsPartOf, IsPartOrNone, AreParts}
 use Rattle.kmipa_parts.proofs.CutLemmas.{same_id, cut_has}
 use Rattle.kmipa_parts.proofs.CallLemmas.{run_projects_lem}
-use Rattle.kmipa_parts.proofs.RunLemmas.{index_is, pair_at, pairs_all, parts_pair, parts_are_placed_lem, those_there}
-use Rattle.kmipa_search.specs.ByObject.{declared_on, RunsByObject}
-use Rattle.kmipa_search.specs.Progress.{AreBegun}
+use Rattle.kmipa_parts.proofs.RunLemmas.{before_back, index_is, part_at, pair_at, pairs_all, parts_pair, parts_are_placed_lem, those_there}
+use Rattle.kmipa_batch.specs.Readable.{IsReadableCall}
+use Rattle.kmipa_search.specs.ByObject.{AreOrderly, declared_on, part_step, RunsByObject}
+use Rattle.kmipa_search.specs.declared.by_object.CallPart.{CallPart}
+use Rattle.kmipa_search.specs.LawsOfCheck.{LawsOfCheck}
+use Rattle.kmipa_search.specs.Progress.{AllReadable, AreBegun, AreTimed, ComesTo, HaveRun, Opens}
 use Rattle.kmipa_search.specs.Taken.{step_at, no_step}
 use Rattle.kmipa_search.proofs.CutLemmas.{once_permuted}
 use Rattle.kmipa_search.proofs.PermutationLemmas.{IsOnce, at_most, permuted, once_pairs}
-use Rattle.kmipa_search.proofs.PlaceLemmas.{one_place}
+use Rattle.kmipa_search.proofs.PlaceLemmas.{one_cases, one_place}
 
 -- ---- lists of which some are there
 
@@ -211,3 +221,152 @@ runs_by_object_lem declared id calls parts readable begun a h =
             (λ c has. readable c (inside id calls parts begun a h.order h.run.once c has)) of_order h.run.linked;
       };
     }
+
+-- ---- what a search asks of the parts
+
+pub orderly_parts : (id : List ℕ) (calls parts : List StepOf) → AreBegun calls → AreTimed calls → AreParts id calls parts → AreOrderly parts
+orderly_parts id calls parts begun timed a = record {
+  once = pairs_all (λ (x y : StepOf). x ≢ y) parts (λ i j x y lt s t same.
+      let b = pair_at (λ (u v : StepOf). u.begin < v.begin) parts i j x y begins_parts lt s t in
+      let e = ap (λ (u : StepOf). u.begin) same in
+      omega (arith, b, e));
+  begun = λ p q lt within. begins_parts p q no_step lt within;
+  timed = λ p has before.
+      let P : List StepOf → Type 0 = λ xs. Contains xs p in
+      let i = at_contains (those_there a.each) p (subst P a.are has) in
+      let r = part_at id calls a.each i.0 p a.of_calls i.1 in
+      timed r.call (contains_at calls r.place r.call r.there) (before_back id r.call r.call p p r.is r.is before);
+}
+  where
+    begins_parts : AllPairs (λ (x y : StepOf). x.begin < y.begin) parts
+    begins_parts = parts_pair (λ (x y : StepOf). x.begin < y.begin) id calls parts a (begins id calls parts begun a)
+        (λ c d p q x y lt. subst (λ (n : ℕ). n < q.begin) (sym x.begin) (subst (λ (n : ℕ). c.begin < n) (sym y.begin) lt))
+
+pub declared_part : (id : List ℕ) (declared : DeclarationOf) → AreDeclared declared → AreDeclared (declared_on id declared)
+declared_part id declared d = record {
+  each = All-filter (λ (e : EntryOf). bytes_eq id e.id) IsDeclarable declared.entries d.each;
+  distinct = AllPairs-filter (λ (a b : EntryOf). a.id ≢ b.id) (λ (e : EntryOf). bytes_eq id e.id) declared.entries d.distinct;
+}
+
+pub opens_parts : (id : List ℕ) (declared own : DeclarationOf) (rules : RulesOf) (parts steps : List StepOf) (m : Meaning) → LawsOfCheck → own ≡ declared_on id declared → rules ≡ rules_declared own → AreKnown own [] m
+    → steps ≡ parts → AreOrderly parts → Opens (declared_on id declared) rules steps m
+opens_parts id declared own rules parts steps m laws same is known are o =
+    let P : DeclarationOf → Type 0 = λ d. AreKnown d [] m in
+    let Q : List StepOf → Type 0 = λ xs. Opens (declared_on id declared) rules xs m in
+    subst Q (sym are) (record {
+      rules_are = is ∙ ap rules_declared same;
+      once = o.once;
+      begun = o.begun;
+      timed = o.timed;
+      known = subst P same known;
+      taken = laws.taken;
+      refused = laws.refused;
+    })
+
+-- no order, and steps were left
+pub without_order : (declared : DeclarationOf) (calls parts : List StepOf) (budget steps : ℕ) → calls ≡ parts → ComesTo declared calls budget None steps → steps < budget → HaveRun declared parts → ⊥
+without_order declared calls parts budget steps are c less h =
+    let P : List StepOf → Type 0 = λ xs. HaveRun declared xs in
+    c.1 (inl less) (subst P (sym are) h)
+
+-- ---- parts of the calls so far
+
+-- two lists go on together
+zip_more : {A B : Type 0} (R : A → B → Type 0) (xs : List A) (ys : List B) (x : A) (y : B) → AllZip R xs ys → R x y → AllZip R (xs ++ x ∷ []) (ys ++ y ∷ [])
+zip_more R [] [] x y z r = (r, tt)
+zip_more R [] (b ∷ ys) x y z r = absurd z
+zip_more R (a ∷ xs) [] x y z r = absurd z
+zip_more R (a ∷ xs) (b ∷ ys) x y z r = (z.0, zip_more R xs ys x y z.1 r)
+
+pub no_parts : (id : List ℕ) → AreParts id [] []
+no_parts id = record { each = []; of_calls = tt; are = refl }
+
+-- a call more, and its part
+pub part_more : (id : List ℕ) (calls parts : List StepOf) (call part : StepOf) → AreParts id calls parts → IsPartOf id call part → AreParts id (calls ++ call ∷ []) (parts ++ part ∷ [])
+part_more id calls parts call part a is = record {
+  each = a.each ++ Some part ∷ [];
+  of_calls = zip_more (IsPartOrNone id) calls a.each call (Some part) a.of_calls is;
+  are = ap (λ (ps : List StepOf). ps ++ part ∷ []) a.are ∙ sym (filter_map-append (λ (p : Option StepOf). p) a.each (Some part ∷ []));
+}
+
+-- a call more that has none
+pub none_more : (id : List ℕ) (calls parts : List StepOf) (call : StepOf) → AreParts id calls parts → IsElsewhere id call → AreParts id (calls ++ call ∷ []) parts
+none_more id calls parts call a is = record {
+  each = a.each ++ None ∷ [];
+  of_calls = zip_more (IsPartOrNone id) calls a.each call None a.of_calls is;
+  are = a.are ∙ sym (append-nil (filter_map (λ (p : Option StepOf). p) a.each)) ∙ sym (filter_map-append (λ (p : Option StepOf). p) a.each (None ∷ []));
+}
+
+-- ---- entries so far
+
+module _ (id : List ℕ) (before own : List EntryOf) (entry : EntryOf) (so_far : own ≡ filter (λ (e : EntryOf). bytes_eq id e.id) before) where
+  abbrev of_id : EntryOf → Bool
+  of_id e = bytes_eq id e.id
+
+  -- an entry more of this object
+  pub entry_more : (copy : EntryOf) → copy ≡ entry → bytes_eq id entry.id ≡ true → own ++ copy ∷ [] ≡ filter of_id (before ++ entry ∷ [])
+  entry_more copy same is =
+      let P : Bool → Type 0 = λ b. own ++ copy ∷ [] ≡ filter of_id before ++ cond b (entry ∷ []) [] in
+      let Q : List EntryOf → Type 0 = λ es. own ++ copy ∷ [] ≡ es ++ entry ∷ [] in
+      subst P (sym is) (subst Q so_far (ap (λ (e : EntryOf). own ++ e ∷ []) same)) ∙ sym (filter-append of_id before (entry ∷ []))
+
+  -- an entry more of another one
+  pub entry_passed : bytes_eq id entry.id ≡ false → own ≡ filter of_id (before ++ entry ∷ [])
+  entry_passed is =
+      let P : Bool → Type 0 = λ b. own ≡ filter of_id before ++ cond b (entry ∷ []) [] in
+      subst P (sym is) (so_far ∙ sym (append-nil (filter of_id before))) ∙ sym (filter-append of_id before (entry ∷ []))
+
+mapped_more : {A B : Type 0} (f : A → B) (xs : List A) (i : ℕ) (x : A) → i < length xs → x ≡ get_or xs i x → map f (take (i + 1) xs) ≡ map f (take i xs) ++ f x ∷ []
+mapped_more f xs i x less is = ap (λ ys. map f ys) (take_more xs i x less ∙ ap (λ y. take i xs ++ y ∷ []) (sym is)) ∙ map-append f (take i xs) (x ∷ [])
+
+module _ (id : List ℕ) (xs : List Entry) (i : ℕ) (x : Entry) (less : i < length xs) (is : x ≡ get_or xs i x) (own : List Entry)
+    (before : map entry_of own ≡ filter (λ (e : EntryOf). bytes_eq id e.id) (map entry_of (take i xs))) where
+  abbrev of_this : EntryOf → Bool
+  of_this e = bytes_eq id e.id
+
+  pub entry_so_far : (more : List Entry) (copy : Entry) → more ≡ own ++ copy ∷ [] → entry_of copy ≡ entry_of x → bytes_eq id (entry_of x).id ≡ true → map entry_of more ≡ filter of_this (map entry_of (take (i + 1) xs))
+  entry_so_far more copy are same this =
+      let P : List EntryOf → Type 0 = λ es. map entry_of more ≡ filter of_this es in
+      subst P (sym (mapped_more entry_of xs i x less is))
+      (ap (λ (ys : List Entry). map entry_of ys) are ∙ map-append entry_of own (copy ∷ []) ∙ entry_more id (map entry_of (take i xs)) (map entry_of own) (entry_of x) before (entry_of copy) same this)
+
+  pub other_so_far : bytes_eq id (entry_of x).id ≡ false → map entry_of own ≡ filter of_this (map entry_of (take (i + 1) xs))
+  other_so_far other =
+      let P : List EntryOf → Type 0 = λ es. map entry_of own ≡ filter of_this es in
+      subst P (sym (mapped_more entry_of xs i x less is)) (entry_passed id (map entry_of (take i xs)) (map entry_of own) (entry_of x) before other)
+
+-- ---- calls so far
+
+module _ {A : Type 0} (step : A → StepOf) (xs : List A) (i : ℕ) (x : A) (less : i < length xs) (is : x ≡ get_or xs i x) where
+  step_more : map step (take (i + 1) xs) ≡ map step (take i xs) ++ step x ∷ []
+  step_more = mapped_more step xs i x less is
+
+  -- one more that can be read
+  pub readable_so_far : AllReadable (map step (take i xs)) → IsReadableCall (step x).request (step x).response → AllReadable (map step (take (i + 1) xs))
+  readable_so_far each last = let P : List StepOf → Type 0 = λ ss. AllReadable ss in subst P (sym step_more) (λ c has.
+      elim (Contains-append_cases (map step (take i xs)) (step x ∷ []) c has) [
+        | inl l ↦ each c l
+        | inr r ↦ elim (one_cases (step x) c [] r) [
+          | inl e ↦ let R : StepOf → Type 0 = λ y. IsReadableCall y.request y.response in subst R e last
+          | inr none ↦ absurd (omega (arith, none.1))
+        ]
+      ])
+
+  -- one more of two lists of the same steps
+  pub same_so_far : {B : Type 0} (other : B → StepOf) (own more : List B) (y : B) → more ≡ own ++ y ∷ [] → map other own ≡ map step (take i xs) → other y ≡ step x → map other more ≡ map step (take (i + 1) xs)
+  same_so_far other own more y are before same =
+      ap (λ ys. map other ys) are ∙ map-append other own (y ∷ []) ∙ ap (λ (ss : List StepOf). ss ++ other y ∷ []) before
+      ∙ ap (λ (s : StepOf). map step (take i xs) ++ s ∷ []) same ∙ sym step_more
+
+  -- a call more that has none
+  pub passed_so_far : (id : List ℕ) (parts : List StepOf) → AreParts id (map step (take i xs)) parts → IsElsewhere id (step x) → AreParts id (map step (take (i + 1) xs)) parts
+  passed_so_far id parts a e = let P : List StepOf → Type 0 = λ ss. AreParts id ss parts in subst P (sym step_more) (none_more id (map step (take i xs)) parts (step x) a e)
+
+  -- a call more, and its part
+  pub part_so_far : (id : List ℕ) (own more : List CallPart) (part : CallPart) → more ≡ own ++ part ∷ [] → AreParts id (map step (take i xs)) (map part_step own) → IsPartOf id (step x) (part_step part)
+      → AreParts id (map step (take (i + 1) xs)) (map part_step more)
+  part_so_far id own more part are a p =
+      let P : List StepOf → Type 0 = λ ss. AreParts id ss (map part_step more) in
+      let Q : List StepOf → Type 0 = λ ps. AreParts id (map step (take i xs) ++ step x ∷ []) ps in
+      subst P (sym step_more) (subst Q (sym (ap (λ (ps : List CallPart). map part_step ps) are ∙ map-append part_step own (part ∷ [])))
+      (part_more id (map step (take i xs)) (map part_step own) (step x) (part_step part) a p))

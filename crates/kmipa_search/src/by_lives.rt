@@ -12,15 +12,14 @@ ghost use Rattle.kmipa_search.specs.Found.{Finds};
 use crate::accepted::accepted_order;
 use crate::candidate::Candidate;
 use crate::found::Found;
-use crate::order::{EARLY, find_order};
-use crate::watch::Unwatched;
-use kmipa_check::{Call, CheckFault, open_ledger, rules_of_declaration};
+use crate::order::EARLY;
+use kmipa_check::{Call, CheckFault};
 use kmipa_lives::propose;
 use kmipa_record::Declaration;
 use std::alloc::{AllocError, Global};
 
 /// What is found where the lives of the objects propose an order, and a check accepts it: as many steps as a search makes before it asks for
-/// one, and one for each call. `None` where there is no such order, the budget is less, or a search ends within those first steps.
+/// one, and one for each call. `None` where there is no such order, or the budget is less.
 pub(crate) fn search_by_lives(
     alloc: Global,
     calls: &[Call],
@@ -38,9 +37,6 @@ pub(crate) fn search_by_lives(
 {
     let steps = EARLY + own.len() as u64;
     if steps > budget {
-        return Ok(None);
-    }
-    if ends_early(alloc, declaration, own)? {
         return Ok(None);
     }
     match proposed_order(alloc, calls, declaration, own.len())? {
@@ -70,22 +66,4 @@ fn proposed_order(
         return Ok(None);
     }
     Ok(Some(order))
-}
-
-/// Whether a search ends within its first steps.
-fn ends_early(
-    alloc: Global,
-    declaration: &Declaration,
-    own: &[Candidate],
-) -> Result<bool, CheckFault>
-    requires declared { AreDeclared (declaration_of declaration.now) }
-    requires readable { AllReadable (map candidate_step own.now) }
-    ensures { IfErr result (λ fault. fault ≡ CheckFault.Memory) }
-{
-    let rules = rules_of_declaration(alloc, declaration)?;
-    let mut ledger = open_ledger(alloc, declaration)?;
-    match find_order(alloc, &mut ledger, &rules, own, EARLY, &mut Unwatched {}) {
-        Ok(outcome) => Ok(outcome.order.is_some() || outcome.steps < EARLY),
-        Err(_) => Err(CheckFault::Memory),
-    }
 }

@@ -3,6 +3,7 @@
 
 mod accepted;
 mod by_lives;
+mod by_object;
 mod candidate;
 mod check_laws;
 mod deepest;
@@ -28,6 +29,7 @@ mod searching;
 mod settled;
 mod stills;
 mod stuck;
+mod suspects;
 mod taken;
 mod tried;
 mod watch;

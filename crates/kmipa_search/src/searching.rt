@@ -16,12 +16,13 @@ ghost use Rattle.kmipa_search.specs.Confirming.{Confirms, IsTried, turns_at};
 
 use crate::accepted::{accepted_order, witness_at};
 use crate::by_lives::search_by_lives;
+use crate::by_object::search_by_object;
 use crate::candidate::Candidate;
 use crate::check_laws::check_laws;
 use crate::forthright::forthright_order;
 use crate::found::Found;
 use crate::guessing::guess_order;
-use crate::order::find_order;
+use crate::order::{EARLY, find_order};
 use crate::plain::{all_plain, bare_turn, candidates, every_candidate};
 use crate::watch::{Unwatched, Watch};
 use kmipa_check::{
@@ -43,6 +44,7 @@ use std::alloc::Global;
 /// Where all calls are plain and the budget is enough for them, the order in which they are tried if each is possible is made first, without a
 /// ledger, and checked: mostly it is the one that is found, and the calls are taken once. Where it isn't, and the first 1,000 steps don't end the
 /// search, the lives of the objects propose an order: where a check accepts it, it is found with those steps and one more for each call.
+/// Where it doesn't, the objects are searched one by one: where one has no order of its own, it gives up with steps left.
 pub fn search(
     alloc: Global,
     transcript: &Transcript,
@@ -113,9 +115,56 @@ pub fn search_plain<W: Watch>(
     if let Some(found) = search_forthright(alloc, calls, declaration, own, budget)? {
         return Ok(found);
     }
-    match search_by_lives(alloc, calls, declaration, own, budget)? {
-        Some(found) => Ok(found),
+    match search_late(alloc, calls, declaration, own, budget)? {
+        Some(found) => {
+            let _ended = ends_early(alloc, declaration, own, watch)?;
+            Ok(found)
+        }
         None => search_step_by_step(alloc, calls, declaration, own, budget, watch),
+    }
+}
+
+/// What is found where the first steps of a search come to no end, and it has more: by the lives of the objects, or of one object.
+fn search_late(
+    alloc: Global,
+    calls: &[Call],
+    declaration: &Declaration,
+    own: &[Candidate],
+    budget: u64,
+) -> Result<Option<Found>, CheckFault>
+    requires declared { AreDeclared (declaration_of declaration.now) }
+    requires each { (marks : List MarkOf) × All (IsRecorded marks) (map call_of calls.now) }
+    requires readable { AllReadable (map candidate_step own.now) }
+    ensures finds { (marks : List MarkOf) → AreRecorded marks → AreCalls marks (map call_of calls.now)
+        → ArePlain (map call_of calls.now) (map candidate_step own.now)
+        → IfOk result (λ found. IfSome found (Finds marks (declaration_of declaration.now) budget)) }
+    ensures memory { IfErr result (λ fault. fault ≡ CheckFault.Memory) }
+{
+    if budget <= EARLY || ends_early(alloc, declaration, own, &mut Unwatched {})? {
+        return Ok(None);
+    }
+    match search_by_lives(alloc, calls, declaration, own, budget)? {
+        Some(found) => Ok(Some(found)),
+        None => search_by_object(alloc, declaration, own, budget),
+    }
+}
+
+/// Whether a search ends within its first steps, which are reported to a watcher.
+fn ends_early<W: Watch>(
+    alloc: Global,
+    declaration: &Declaration,
+    own: &[Candidate],
+    watch: &mut W,
+) -> Result<bool, CheckFault>
+    requires declared { AreDeclared (declaration_of declaration.now) }
+    requires readable { AllReadable (map candidate_step own.now) }
+    ensures { IfErr result (λ fault. fault ≡ CheckFault.Memory) }
+{
+    let rules = rules_of_declaration(alloc, declaration)?;
+    let mut ledger = open_ledger(alloc, declaration)?;
+    match find_order(alloc, &mut ledger, &rules, own, EARLY, watch) {
+        Ok(outcome) => Ok(outcome.order.is_some() || outcome.steps < EARLY),
+        Err(_) => Err(CheckFault::Memory),
     }
 }
 

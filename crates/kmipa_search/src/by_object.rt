@@ -1,0 +1,343 @@
+//! What one object says of calls: where the parts of the calls on it have no run, the calls have none.
+
+ghost use Rattle.std.specs.Prelude.{◌≡◌, ◌<◌, IfErr, IfOk, IfSome, List, None, bytes_eq, map, option_map, true};
+ghost use Rattle.kmipa_record.specs.Declarations.{AreDeclared, declaration_of};
+ghost use Rattle.kmipa_record.specs.Marks.{AreRecorded, MarkOf};
+ghost use Rattle.kmipa_check.specs.Calls.{AreCalls, CallOf};
+ghost use Rattle.kmipa_record.specs.Entries.{entry_of, items_of};
+ghost use Rattle.kmipa_parts.specs.Parts.{AreParts, IsElsewhere, IsPartOf};
+ghost use Rattle.kmipa_search.specs.ByObject.{AreOrderly, Refuted, declared_on, part_step};
+ghost use Rattle.kmipa_search.specs.Candidates.{candidate_step};
+ghost use Rattle.kmipa_search.specs.Found.{Finds};
+ghost use Rattle.kmipa_search.specs.Plain.{ArePlain};
+ghost use Rattle.kmipa_search.specs.Progress.{AllReadable, HaveRun};
+
+use crate::candidate::Candidate;
+use crate::check_laws::check_laws;
+use crate::found::Found;
+use crate::order::{EARLY, Outcome, find_order};
+use crate::suspects::named_objects;
+use crate::watch::Unwatched;
+use kmipa_batch::is_readable_call;
+use kmipa_check::{Call, CheckFault, open_ledger, rules_of_declaration};
+use kmipa_parts::{Part, leave_be, part_of};
+use kmipa_record::{Declaration, Entry};
+use std::alloc::{AllocError, Global};
+
+/// The part of a call on one object.
+#[derive(Drop)]
+struct CallPart<'b, 'a> {
+    call: &'b Call<'a>,
+    number: i32,
+    begin: usize,
+    end: usize,
+    part: Part<'a>,
+}
+
+/// So many steps are made for one object at most.
+const MOST_STEPS: u64 = 20_000;
+
+/// So many steps are made for all objects at most.
+const ALL_STEPS: u64 = 400_000;
+
+/// So many entries are looked at for all objects at most.
+const MOST_ENTRIES: usize = 20_000_000;
+
+/// What a search of the parts on one object came to.
+#[derive(Drop)]
+struct Looked {
+    /// Whether there is no order of them.
+    refuted: bool,
+    /// How many parts were tried.
+    steps: u64,
+}
+
+/// The objects are looked at, one after the other, until one is found of which the parts of the calls have no run. Then neither have the calls,
+/// and the search gives up with the steps that it makes first and those that were made for this object, where they are fewer than the budget.
+pub(crate) fn search_by_object(
+    alloc: Global,
+    declaration: &Declaration,
+    own: &[Candidate],
+    budget: u64,
+) -> Result<Option<Found>, CheckFault>
+    requires declared { AreDeclared (declaration_of declaration.now) }
+    requires readable { AllReadable (map candidate_step own.now) }
+    ensures finds { (marks : List MarkOf) (calls : List CallOf) → AreRecorded marks → AreCalls marks calls
+        → ArePlain calls (map candidate_step own.now)
+        → IfOk result (λ found. IfSome found (Finds marks (declaration_of declaration.now) budget)) }
+    ensures memory { IfErr result (λ fault. fault ≡ CheckFault.Memory) }
+{
+    check_laws();
+    let Ok(refuted) = first_refuted(alloc, declaration, own) else {
+        return Err(CheckFault::Memory);
+    };
+    let Some(steps) = refuted else {
+        return Ok(None);
+    };
+    let all = EARLY.saturating_add(steps);
+    if all >= budget {
+        return Ok(None);
+    }
+    Ok(Some(Found::GaveUp(all)))
+}
+
+/// The steps that were made for the first object that is found of which the parts of the calls have no run.
+fn first_refuted(
+    alloc: Global,
+    declaration: &Declaration,
+    calls: &[Candidate],
+) -> Result<Option<u64>, CheckFault>
+    requires { AreDeclared (declaration_of declaration.now) }
+    ensures { IfOk result
+        (λ steps. IfSome steps (λ _. Refuted (declaration_of declaration.now) (map candidate_step calls.now))) }
+{
+    let found = named_objects(alloc, calls)?;
+    if found
+        .objects
+        .len()
+        .saturating_mul(declaration.entries.len())
+        > MOST_ENTRIES
+    {
+        return Ok(None);
+    }
+    let mut left = ALL_STEPS;
+    'objects: for object in &found.objects {
+        let places = found.places(alloc, object)?;
+        let looked = first_look(alloc, declaration, calls, object.id, &places, left)?;
+        if looked.refuted {
+            return refutes(alloc, declaration, calls, object.id, &places);
+        }
+        left = left.saturating_sub(looked.steps);
+        if left == 0 {
+            return Ok(None);
+        }
+    }
+    Ok(None)
+}
+
+/// Searches the parts of the calls at these places on one object: it is not looked whether others are about it.
+fn first_look<'b, 'a>(
+    alloc: Global,
+    declaration: &Declaration,
+    calls: &[Candidate<'b, 'a>],
+    id: &'a str,
+    places: &[usize],
+    most: u64,
+) -> Result<Looked, CheckFault>
+    requires { AreDeclared (declaration_of declaration.now) }
+{
+    let mut parts = Vec::with_capacity(alloc, places.len())?;
+    'places: for place in places {
+        if let Some(call) = calls.get(*place) {
+            if let Some(part) = call_part(alloc, id, call)? {
+                parts.push(part)?;
+            }
+        }
+    }
+    search_parts(alloc, declaration, id, &parts, u64::min(most, MOST_STEPS))
+}
+
+/// Searches the parts of calls on one object, those at these places, for an order. Where there is none, the calls have no run, and it is
+/// answered how many steps were made; else nothing is.
+fn refutes<'b, 'a>(
+    alloc: Global,
+    declaration: &Declaration,
+    calls: &[Candidate<'b, 'a>],
+    id: &'a str,
+    places: &[usize],
+) -> Result<Option<u64>, CheckFault>
+    requires { AreDeclared (declaration_of declaration.now) }
+    ensures { IfOk result
+        (λ steps. IfSome steps (λ _. Refuted (declaration_of declaration.now) (map candidate_step calls.now))) }
+{
+    let Some(parts) = parts_on(alloc, calls, id, places)? else {
+        return Ok(None);
+    };
+    let looked = search_parts(alloc, declaration, id, &parts, MOST_STEPS)?;
+    if looked.refuted {
+        Ok(Some(looked.steps))
+    } else {
+        Ok(None)
+    }
+}
+
+/// Searches parts on one object for an order, from what is declared of it.
+fn search_parts<'c, 'a>(
+    alloc: Global,
+    declaration: &Declaration,
+    id: &str,
+    parts: &'c [CallPart<'c, 'a>],
+    most: u64,
+) -> Result<Looked, CheckFault>
+    requires { AreDeclared (declaration_of declaration.now) }
+    ensures { AreOrderly (map part_step parts.now)
+        → IfOk result
+        (λ looked. looked.refuted ≡ true
+        → HaveRun (declared_on id.now (declaration_of declaration.now)) (map part_step parts.now) → ⊥) }
+{
+    check_laws();
+    let own = candidates_of(alloc, parts)?;
+    if !are_readable(&own) {
+        return Ok(Looked {
+            refuted: false,
+            steps: 0,
+        });
+    }
+    let declared = declaration_on(alloc, declaration, id)?;
+    let rules = rules_of_declaration(alloc, &declared)?;
+    let mut ledger = open_ledger(alloc, &declared)?;
+    let outcome = find_order(alloc, &mut ledger, &rules, &own, most, &mut Unwatched {})?;
+    Ok(Looked {
+        refuted: has_decided(&outcome, most),
+        steps: outcome.steps,
+    })
+}
+
+/// Whether a search of so many steps at most found that there is no order.
+fn has_decided(outcome: &Outcome, most: u64) -> bool
+    ensures none { result ≡ true → outcome.now.order ≡ None }
+    ensures less { result ≡ true → outcome.now.steps < most }
+{
+    outcome.order.is_none() && outcome.steps < most
+}
+
+/// The parts of calls on one object: of those at these places, in their order. `None` where one of them has none, or another call may change
+/// the object.
+fn parts_on<'b, 'a>(
+    alloc: Global,
+    calls: &[Candidate<'b, 'a>],
+    id: &'a str,
+    places: &[usize],
+) -> Result<Option<Vec<CallPart<'b, 'a>>>, AllocError>
+    ensures { IfOk result
+        (λ parts. IfSome parts
+        (λ own. AreParts id.now (map candidate_step calls.now) (map part_step own.items))) }
+{
+    let mut parts = Vec::with_capacity(alloc, places.len())?;
+    let mut next = 0;
+    let mut at = 0;
+    'calls: while at < calls.len() {
+        let call = &calls[at];
+        if next < places.len() && places[next] == at {
+            let Some(part) = call_part(alloc, id, call)? else {
+                return Ok(None);
+            };
+            parts.push(part)?;
+            next += 1;
+        } else if !is_elsewhere(id, call) {
+            return Ok(None);
+        }
+        at += 1;
+    }
+    Ok(Some(parts))
+}
+
+/// The part of a call on one object.
+fn call_part<'b, 'a>(
+    alloc: Global,
+    id: &'a str,
+    call: &Candidate<'b, 'a>,
+) -> Result<Option<CallPart<'b, 'a>>, AllocError>
+    ensures { IfOk result (λ part. IfSome part (λ own. IsPartOf id.now (candidate_step call.now) (part_step own))) }
+{
+    let Some(part) = part_of(alloc, id, call.request, call.response)? else {
+        return Ok(None);
+    };
+    Ok(Some(CallPart {
+        call: call.call,
+        number: call.number,
+        begin: call.begin,
+        end: call.end,
+        part,
+    }))
+}
+
+/// Whether a call leaves the object as it is.
+fn is_elsewhere(id: &str, call: &Candidate) -> bool
+    ensures { result ≡ true → IsElsewhere id.now (candidate_step call.now) }
+{
+    leave_be(id, call.request, call.response)
+}
+
+/// The parts as calls that a search takes.
+fn candidates_of<'c, 'a>(
+    alloc: Global,
+    parts: &'c [CallPart<'c, 'a>],
+) -> Result<Vec<Candidate<'c, 'a>>, AllocError>
+    ensures { IfOk result (λ own. map candidate_step own.items ≡ map part_step parts.now) }
+{
+    let mut own = Vec::with_capacity(alloc, parts.len())?;
+    'parts: for part in parts {
+        own.push(Candidate {
+            number: part.number,
+            begin: part.begin,
+            end: part.end,
+            request: &part.part.request,
+            response: &part.part.response,
+            call: part.call,
+        })?;
+    }
+    Ok(own)
+}
+
+/// Whether each call has what there is to judge.
+fn are_readable(calls: &[Candidate]) -> bool
+    ensures { result ≡ true → AllReadable (map candidate_step calls.now) }
+{
+    'calls: for call in calls {
+        if !is_readable_call(call.request, call.response) {
+            return false;
+        }
+    }
+    true
+}
+
+/// What is declared of one object, and of no other.
+fn declaration_on(
+    alloc: Global,
+    declaration: &Declaration,
+    id: &str,
+) -> Result<Declaration, AllocError>
+    ensures { IfOk result (λ own. declaration_of own ≡ declared_on id.now (declaration_of declaration.now)) }
+{
+    let mut entries = Vec::new(alloc);
+    'entries: for entry in &declaration.entries {
+        if is_of(entry, id) {
+            let copy = copy_entry(alloc, entry)?;
+            entries.push(copy)?;
+        }
+    }
+    Ok(Declaration {
+        unique_names: declaration.unique_names,
+        rows: Vec::from_slice(alloc, &declaration.rows)?,
+        entries,
+    })
+}
+
+/// Whether this is the object's entry.
+fn is_of(entry: &Entry, id: &str) -> bool
+    ensures { result ≡ bytes_eq id.now (entry_of entry.now).id }
+{
+    id == entry.id.as_str()
+}
+
+/// An equal entry.
+fn copy_entry(alloc: Global, entry: &Entry) -> Result<Entry, AllocError>
+    ensures { IfOk result (λ copy. entry_of copy ≡ entry_of entry.now) }
+{
+    Ok(Entry {
+        id: String::from_str(alloc, entry.id.as_str())?,
+        kind: entry.kind,
+        attrs: entry.attrs.copy(alloc)?,
+        bytes: copy_bytes(alloc, &entry.bytes)?,
+    })
+}
+
+fn copy_bytes(alloc: Global, bytes: &Option<Vec<u8>>) -> Result<Option<Vec<u8>>, AllocError>
+    ensures { IfOk result (λ copy. option_map items_of copy ≡ option_map items_of bytes.now) }
+{
+    match bytes {
+        Some(bytes) => Ok(Some(bytes.clone()?)),
+        None => Ok(None),
+    }
+}
