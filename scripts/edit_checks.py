@@ -218,8 +218,8 @@ def without_reopened(text: str, edit: Edit) -> str:
 def reopen_answers(room: Path, edits: list[Edit]) -> None:
     """Takes the answers by hand that are to be reopened out of the proofs of these edits' functions, in a copy of a crate."""
     for edit in edits:
-        if edit.reopened:
-            file = room / "proofs" / f"{edit.folder}{edit.ending()}" / "Answers.antt"
+        file = room / "proofs" / f"{edit.folder}{edit.ending()}" / "Answers.antt"
+        if edit.reopened and file.is_file():
             left = without_reopened(file.read_text(encoding="utf-8"), edit)
             file.unlink()
             if ANSWER.search(left):
