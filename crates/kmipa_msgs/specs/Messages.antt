@@ -35,6 +35,9 @@ use Rattle.kmipa_msgs.specs.declared.rules.Cause.{Cause}
 use Rattle.kmipa_msgs.specs.declared.rules.Cause.TheVariants.{NotFound}
 use Rattle.kmipa_msgs.specs.declared.rules.Row.{Row}
 use Rattle.kmipa_msgs.specs.declared.rules.Rules.{Rules}
+use Rattle.kmipa_msgs.specs.declared.rules.Visibility.{Visibility}
+use Rattle.kmipa_msgs.specs.declared.rules.Visibility.TheVariants.{Everyone}
+use Rattle.kmipa_object.specs.declared.allow.AllowLine.{AllowLine}
 use denote.Bor.{Bor}
 
 -- texts and byte strings are lists of their bytes
@@ -244,13 +247,17 @@ pub record RowOf : Type 0 where
 abbrev pub row_of : Row → RowOf
 row_of r = record { reason = r.reason; cause = r.cause }
 
+-- what a server declares: whether names are unique, the causes of its reasons, its own words for cells of the table of states, and whether
+-- clients see the objects of others
 pub record RulesOf : Type 0 where
   pub unique_names : Bool
   pub rows : List RowOf
+  pub allow_lines : List AllowLine
+  pub visibility : Visibility
 
 abbrev pub rules_of : Rules → RulesOf
-rules_of r = record { unique_names = r.unique_names; rows = map row_of r.rows.items }
+rules_of r = record { unique_names = r.unique_names; rows = map row_of r.rows.items; allow_lines = r.allow_lines.items; visibility = r.visibility }
 
 -- the rules of a server that declares none: Item Not Found is for what isn't there, and names may be shared
 abbrev pub default_rules : RulesOf
-default_rules = record { unique_names = false; rows = record { reason = 1; cause = NotFound } ∷ [] }
+default_rules = record { unique_names = false; rows = record { reason = 1; cause = NotFound } ∷ []; allow_lines = []; visibility = Everyone }

@@ -8,6 +8,10 @@ use Rattle.kmipa_msgs.specs.declared.response.Status.{Status}
 use Rattle.kmipa_msgs.specs.declared.response.Status.TheVariants.{Success, Failed, Undone}
 use Rattle.kmipa_msgs.specs.declared.rules.Cause.{Cause}
 use Rattle.kmipa_msgs.specs.declared.rules.Cause.TheVariants.{NotFound, WrongState, TakenName}
+use Rattle.kmipa_msgs.specs.declared.rules.Unjudged.{Unjudged}
+use Rattle.kmipa_msgs.specs.declared.rules.Unjudged.TheVariants.{Refused, SetAside, Unknown}
+use Rattle.kmipa_msgs.specs.declared.rules.Visibility.{Visibility}
+use Rattle.kmipa_msgs.specs.declared.rules.Visibility.TheVariants.{Everyone, MayHide, MustHide}
 
 -- Key Format Type
 abbrev pub format_number : KeyFormat → ℕ
@@ -43,3 +47,21 @@ cause_number TakenName = 3
 
 abbrev pub cause_of : ℕ → Option Cause
 cause_of n = if n == 1 then Some NotFound else if n == 2 then Some WrongState else if n == 3 then Some TakenName else None
+
+-- whether clients see the objects of others, in a declaration
+abbrev pub visibility_number : Visibility → ℕ
+visibility_number Everyone = 1
+visibility_number MayHide = 2
+visibility_number MustHide = 3
+
+abbrev pub visibility_of : ℕ → Option Visibility
+visibility_of n = if n == 1 then Some Everyone else if n == 2 then Some MayHide else if n == 3 then Some MustHide else None
+
+-- what becomes of what isn't judged, in a declaration
+abbrev pub unjudged_number : Unjudged → ℕ
+unjudged_number Refused = 1
+unjudged_number SetAside = 2
+unjudged_number Unknown = 3
+
+abbrev pub unjudged_of : ℕ → Option Unjudged
+unjudged_of n = if n == 1 then Some Refused else if n == 2 then Some SetAside else if n == 3 then Some Unknown else None

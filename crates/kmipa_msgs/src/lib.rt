@@ -27,6 +27,6 @@ pub use request::{
 pub use response::{
     Answer, Changed, Got, GotAttributes, Located, Payload, Registered, Response, Status,
 };
-pub use rules::{Cause, Row, Rules};
+pub use rules::{Cause, Row, Rules, Unjudged, Visibility};
 pub use wanted::is_wanted;
 pub use writing::{write_request, write_response};

@@ -1,3 +1,4 @@
+pub mod Allowances
 pub mod Lists
 pub mod Life
 pub mod Table

@@ -9,7 +9,7 @@ mod object;
 mod rule;
 mod state;
 
-pub use allow::{Act, Allow, allows};
+pub use allow::{Act, Allow, AllowLine, allows, in_table};
 pub use fault::WrongState;
 pub use laws::{possible_rules_admit, rules_admit_only_if_possible};
 pub use life::{Life, Material, SecretNo, activated, destroyed, revoked};

@@ -4,7 +4,7 @@ ghost use Rattle.std.specs.Prelude.{◌≡◌, ◌≢◌, IfOk, MatchResult};
 ghost use Rattle.kmipa_object.specs.Life.{dates_of, state, activated_dates, revoked_dates, destroyed_dates, deactivated_dates};
 ghost use Rattle.kmipa_object.specs.Table.{allowed, revoke_act};
 
-use crate::allow::{Act, Allow, allows};
+use crate::allow::{Act, Allow, in_table};
 use crate::fault::WrongState;
 use crate::state::{State, state_at};
 
@@ -47,7 +47,7 @@ pub fn activated(life: Life, t: i64) -> Result<Life, WrongState>
     ensures err { MatchResult result (λ _. allowed Act.Activate (state (dates_of life) t) ≢ Allow.Not)
         (λ _. allowed Act.Activate (state (dates_of life) t) ≡ Allow.Not) }
 {
-    match allows(Act::Activate, state_at(&life, t)) {
+    match in_table(Act::Activate, state_at(&life, t)) {
         Allow::Not => Err(WrongState),
         Allow::Must | Allow::May => Ok(Life {
             activation: Some(t),
@@ -63,7 +63,7 @@ pub fn revoked(life: Life, code: u32, t: i64) -> Result<Life, WrongState>
     ensures err { MatchResult result (λ _. allowed (revoke_act code) (state (dates_of life) t) ≢ Allow.Not)
         (λ _. allowed (revoke_act code) (state (dates_of life) t) ≡ Allow.Not) }
 {
-    match allows(Act::of_revoke(code), state_at(&life, t)) {
+    match in_table(Act::of_revoke(code), state_at(&life, t)) {
         Allow::Not => Err(WrongState),
         Allow::Must | Allow::May => Ok(after_revoke(life, code, t)),
     }
@@ -76,7 +76,7 @@ pub fn destroyed(life: Life, t: i64) -> Result<Life, WrongState>
     ensures err { MatchResult result (λ _. allowed Act.Destroy (state (dates_of life) t) ≢ Allow.Not)
         (λ _. allowed Act.Destroy (state (dates_of life) t) ≡ Allow.Not) }
 {
-    match allows(Act::Destroy, state_at(&life, t)) {
+    match in_table(Act::Destroy, state_at(&life, t)) {
         Allow::Not => Err(WrongState),
         Allow::Must | Allow::May => Ok(Life {
             destroy: Some(t),

@@ -17,11 +17,28 @@ pub enum State {
 }
 
 impl State {
+    ghost use Rattle.kmipa_object.specs.Allowances.{state_numbered};
+
     /// The number on the wire.
     pub fn number(self) -> u32
         ensures { result ≡ state_number self }
     {
         self as u32
+    }
+
+    /// The state with this number, if there is one.
+    pub fn of(number: u32) -> Option<State>
+        ensures { result ≡ state_numbered number }
+    {
+        match number {
+            1 => Some(State::PreActive),
+            2 => Some(State::Active),
+            3 => Some(State::Deactivated),
+            4 => Some(State::Compromised),
+            5 => Some(State::Destroyed),
+            6 => Some(State::DestroyedCompromised),
+            _ => None,
+        }
     }
 
     /// The name in the standard.

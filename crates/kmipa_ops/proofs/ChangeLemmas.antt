@@ -1,6 +1,7 @@
 -- Activate, Revoke and Destroy: what a ledger leaves whose object was changed; they keep the laws of operations.
 use Rattle.std.proofs.Common.{cond, find, ◌≡◌, ◌≢◌, if◌then◌else◌, MatchResult, Result, Ok, Err, ℕ, zero, suc, ℤ, Bool, true, false, List, [], ◌∷◌, slice_get, is_none, bytes_eq, option_map, Option, Some, None, refl, ap, sym, ◌∙◌, subst, arith, find, inl, inr}
 use Rattle.std.proofs.lemmas.Slice.Eq.{bytes_eq-Decides}
+use Rattle.kmipa_object.specs.Allowances.{allows}
 use Rattle.kmipa_object.specs.Inventory.{Thing, place_of}
 use Rattle.kmipa_object.specs.Life.{Dates, dates_of, state, is_active, compromises, or_now, deactivated_dates, revoked_dates}
 use Rattle.kmipa_object.specs.Lists.{updated}
@@ -22,6 +23,7 @@ use Rattle.kmipa_ops.specs.declared.change.Change.{Change}
 use Rattle.kmipa_ops.specs.declared.change.Change.TheVariants.{Activate, Revoke, Destroy}
 use Rattle.kmipa_ops.specs.declared.why.Why.{Why}
 use Rattle.kmipa_ops.specs.declared.why.Why.TheVariants.{NoSuchObject, WrongState, EchoDiffers}
+use Rattle.kmipa_ops.specs.Allowance.{allowance}
 use Rattle.kmipa_ops.specs.Objects.{meant, is_other_id}
 use Rattle.kmipa_ops.specs.Changes.{act_of, dates_after, bytes_after, thing_after, ChangesObject, change_speaks, material_after, dates_left, material_left, held_left, changed_at, with_changed, change_deed, change_judging, id_in, ChangeReason}
 use Rattle.kmipa_ops.specs.Meant.{place_meant, object_meant, is_not, is_excluded}
@@ -33,11 +35,11 @@ use Rattle.kmipa_ops.specs.Whys.{whys}
 use Rattle.kmipa_ops.specs.After.{Changes, LeavesAfter}
 use Rattle.kmipa_ops.proofs.GetLemmas.{meant_is, meant_at}
 use Rattle.kmipa_ops.proofs.MeantLemmas.{object_there, object_nowhere, in_state}
-use Rattle.kmipa_msgs.specs.Messages.{changed}
+use Rattle.kmipa_msgs.specs.Messages.{RulesOf, changed}
 use Rattle.kmipa_msgs.specs.Sayable.{IsSayableId}
 use Rattle.kmipa_ops.proofs.DeedLaws.{IsDeed}
 use Rattle.std.specs.Bool.{Decides}
-use Rattle.kmipa_ops.proofs.ConditionLemmas.{never_decides, none_decides, id_decides, excluded_decides, none_same, excluded_same}
+use Rattle.kmipa_ops.proofs.ConditionLemmas.{never_decides, none_decides, id_decides, excluded_decides, in_table, none_same, excluded_same}
 use Rattle.kmipa_msgs.specs.Identifiers.{SaysChanged}
 
 -- two changes that agree on the element
@@ -156,9 +158,9 @@ excluded_is change done d t u r is same h =
     subst P (sym is) (subst Q same (excluded_cases r (allowed (act_of done) (state d u)) h))
 
 -- an answer that shows no identifier says less
-pub unshown : (V : List Thing) (before : Option (List ℕ)) (t : ℤ) (asked : Option (List ℕ)) (change : Change) (shown : Option (List ℕ)) (V' : List Thing) (p : Option (List ℕ))
-    → ChangesObject V before t asked change shown V' p → ChangesObject V before t asked change None V' p
-unshown V before t asked change shown V' p x = record {
+pub unshown : (rules : RulesOf) (V : List Thing) (before : Option (List ℕ)) (t : ℤ) (asked : Option (List ℕ)) (change : Change) (shown : Option (List ℕ)) (V' : List Thing) (p : Option (List ℕ))
+    → ChangesObject rules V before t asked change shown V' p → ChangesObject rules V before t asked change None V' p
+unshown rules V before t asked change shown V' p x = record {
   id = x.id;
   place = x.place;
   object = x.object;
@@ -170,7 +172,7 @@ unshown V before t asked change shown V' p x = record {
   placeholder = x.placeholder;
 }
 
-module _ (m : Meaning) (before asked : Option (List ℕ)) (t : ℤ) (change : Change) (shown : Option (List ℕ)) where
+module _ (rules : RulesOf) (m : Meaning) (before asked : Option (List ℕ)) (t : ℤ) (change : Change) (shown : Option (List ℕ)) where
   abbrev about : Option (List ℕ)
   about = meant asked before
 
@@ -193,8 +195,8 @@ module _ (m : Meaning) (before asked : Option (List ℕ)) (t : ℤ) (change : Ch
       ap (λ (o : Option ℕ). changed_at m.objects o (held_left change t)) (place_is id place h f)
       ∙ updated-agree m.objects place (held_left change t) (held_after change t) h f.stands (left_is change t h may)
 
-  links : (id : List ℕ) (place : ℕ) (h : Held) → Stands id place h → is_not (allowed (act_of change) (state h.card.dates t)) ≡ false → is_other_id shown about ≡ false
-      → (c : Choice) → ChangesObject (inv c m.objects) before t asked change shown (inv c (with_changed m about t change).objects) before
+  links : (id : List ℕ) (place : ℕ) (h : Held) → Stands id place h → is_not (allowance rules (act_of change) t h.card) ≡ false → is_other_id shown about ≡ false
+      → (c : Choice) → ChangesObject rules (inv c m.objects) before t asked change shown (inv c (with_changed m about t change).objects) before
   links id place h f may echo c = record {
     id = id;
     place = place;
@@ -203,22 +205,23 @@ module _ (m : Meaning) (before asked : Option (List ℕ)) (t : ℤ) (change : Ch
     there = record { named = ap (place_of id) (cards-inv c m.objects) ∙ f.named; stands = get-inv c m.objects place ∙ ap (option_map (thing c)) f.stands };
     may = λ e. let bad : true ≡ false = sym (ap is_not e) ∙ may in cc;
     echo = echoes_if bytes_eq bytes_eq-Decides shown id (ap (is_other_id shown) (sym f.about_is) ∙ echo);
-    leaves = ap (inv c) (objects_is id place h f may) ∙ inv-changed change t c m.objects place;
+    leaves = ap (inv c) (objects_is id place h f (in_table rules (act_of change) t h.card may)) ∙ inv-changed change t c m.objects place;
     placeholder = refl;
   }
 
-  found_by : (c : Choice) (V : List Thing) (p : Option (List ℕ)) (x : ChangesObject (inv c m.objects) before t asked change shown V p) → (h : Held) × Stands x.id x.place h × (thing c h ≡ x.object)
+  found_by : (c : Choice) (V : List Thing) (p : Option (List ℕ)) (x : ChangesObject rules (inv c m.objects) before t asked change shown V p) → (h : Held) × Stands x.id x.place h × (thing c h ≡ x.object)
   found_by c V p x =
       let o = inv_found c m.objects x.place x.object x.there.stands in
       (o.0, record { about_is = x.about; named = ap (place_of x.id) (sym (cards-inv c m.objects)) ∙ x.there.named; stands = o.1 }, o.2)
 
-  pub change_step : IsSound m → ((w : Why) → change_speaks m.objects about t change shown w ≡ false)
-      → Step (λ V V' p. ChangesObject V before t asked change shown V' p) m (with_changed m about t change) before
+  pub change_step : IsSound m → ((w : Why) → change_speaks rules m.objects about t change shown w ≡ false)
+      → Step (λ V V' p. ChangesObject rules V before t asked change shown V' p) m (with_changed m about t change) before
   change_step sound silent =
       let o = not_none (object_meant m.objects about) (silent NoSuchObject) in
       let at = meant_at m.objects about o.0 o.1 in
       let f : Stands at.0 at.2 o.0 = record { about_is = at.1; named = at.3; stands = at.4 } in
-      let may : is_not (allowed (act_of change) (state o.0.card.dates t)) ≡ false = ap (is_excluded (act_of change) t) (sym o.1) ∙ silent WrongState in
+      let may : is_not (allowance rules (act_of change) t o.0.card) ≡ false = ap (is_excluded rules (act_of change) t) (sym o.1) ∙ silent WrongState in
+      let left : (with_changed m about t change).objects ≡ updated m.objects at.2 (held_after change t) = objects_is at.0 at.2 o.0 f (in_table rules (act_of change) t o.0.card may) in
       let P : List Held → Type 0 = λ hs. IsSound (record { objects = hs; secrets = m.secrets }) in
       record {
         sound = λ c ch. (ch, links at.0 at.2 o.0 f may (silent EchoDiffers) c);
@@ -229,24 +232,24 @@ module _ (m : Meaning) (before asked : Option (List ℕ)) (t : ℤ) (change : Ch
               c,
               ch,
               agrees_same _ c,
-              x.leaves ∙ ap (λ (n : ℕ). updated (inv c m.objects) n (thing_after change t)) is ∙ sym (inv-changed change t c m.objects at.2) ∙ ap (inv c) (sym (objects_is at.0 at.2 o.0 f may)),
+              x.leaves ∙ ap (λ (n : ℕ). updated (inv c m.objects) n (thing_after change t)) is ∙ sym (inv-changed change t c m.objects at.2) ∙ ap (inv c) (sym left),
               x.placeholder,
             );
         grows = omega arith;
         extends = extends_same m.secrets;
-        kept = subst P (sym (objects_is at.0 at.2 o.0 f may)) (sound_changed m at.2 o.0 change t sound at.4);
+        kept = subst P (sym left) (sound_changed m at.2 o.0 change t sound at.4);
       }
 
   -- what speaks against it allows no choice
-  pub change_never : (w : Why) → change_speaks m.objects about t change shown w ≡ true → (c : Choice) (V : List Thing) (p : Option (List ℕ)) → ChangesObject (inv c m.objects) before t asked change shown V p → ⊥
+  pub change_never : (w : Why) → change_speaks rules m.objects about t change shown w ≡ true → (c : Choice) (V : List Thing) (p : Option (List ℕ)) → ChangesObject rules (inv c m.objects) before t asked change shown V p → ⊥
   change_never NoSuchObject h c V p x =
       let r = found_by c V p x in
       let e : is_none (object_meant m.objects about) ≡ false = ap is_none (object_is x.id x.place r.0 r.1) in
       cc
   change_never WrongState h c V p x =
       let r = found_by c V p x in
-      let e : is_not (allowed (act_of change) (state r.0.card.dates t)) ≡ true = ap (is_excluded (act_of change) t) (sym (object_is x.id x.place r.0 r.1)) ∙ h in
-      x.may (ap (λ (y : Thing). allowed (act_of change) (state y.card.dates t)) (sym r.2) ∙ is_not-Not (allowed (act_of change) (state r.0.card.dates t)) e)
+      let e : is_not (allowance rules (act_of change) t r.0.card) ≡ true = ap (is_excluded rules (act_of change) t) (sym (object_is x.id x.place r.0 r.1)) ∙ h in
+      x.may (ap (λ (y : Thing). allowance rules (act_of change) t y.card) (sym r.2) ∙ is_not-Not (allowance rules (act_of change) t r.0.card) e)
   change_never EchoDiffers h c V p x = echoes_not bytes_eq bytes_eq-Decides shown x.id (ap (is_other_id shown) (sym x.about) ∙ h) x.echo
   change_never w h c V p x = cc
 
@@ -254,37 +257,37 @@ none_other : (about : Option (List ℕ)) → is_other_id None about ≡ false
 none_other None = refl
 none_other (Some id) = refl
 
-covers_change : (objects : List Held) (about : Option (List ℕ)) (t : ℤ) (change : Change) (shown : Option (List ℕ)) (w : Why) → change_speaks objects about t change None w ≡ true
-    → change_speaks objects about t change shown w ≡ true
-covers_change objects about t change shown NoSuchObject h = h
-covers_change objects about t change shown WrongState h = h
-covers_change objects about t change shown EchoDiffers h = let none : is_other_id None about ≡ false = none_other about in let bad : ⊥ = cc in absurd bad
-covers_change objects about t change shown w h = cc
+covers_change : (rules : RulesOf) (objects : List Held) (about : Option (List ℕ)) (t : ℤ) (change : Change) (shown : Option (List ℕ)) (w : Why) → change_speaks rules objects about t change None w ≡ true
+    → change_speaks rules objects about t change shown w ≡ true
+covers_change rules objects about t change shown NoSuchObject h = h
+covers_change rules objects about t change shown WrongState h = h
+covers_change rules objects about t change shown EchoDiffers h = let none : is_other_id None about ≡ false = none_other about in let bad : ⊥ = cc in absurd bad
+covers_change rules objects about t change shown w h = cc
 
 -- an answer that shows no identifier completes one without payload
-hidden_change : (m : Meaning) (before id : Option (List ℕ)) (t : ℤ) (change : Change) → IsSound m → ((w : Why) → change_speaks m.objects (meant id before) t change None w ≡ false)
-    → Step (λ V V' p. (shown : Option (List ℕ)) × IsSayableId shown × ChangesObject V before t id change shown V' p) m (with_changed m (meant id before) t change) before
-hidden_change m before id t change sound silent =
-    step_as (λ V V' p. ChangesObject V before t id change None V' p)
-    (λ V V' p. (shown : Option (List ℕ)) × IsSayableId shown × ChangesObject V before t id change shown V' p) m (with_changed m (meant id before) t change) before
+hidden_change : (rules : RulesOf) (m : Meaning) (before id : Option (List ℕ)) (t : ℤ) (change : Change) → IsSound m → ((w : Why) → change_speaks rules m.objects (meant id before) t change None w ≡ false)
+    → Step (λ V V' p. (shown : Option (List ℕ)) × IsSayableId shown × ChangesObject rules V before t id change shown V' p) m (with_changed m (meant id before) t change) before
+hidden_change rules m before id t change sound silent =
+    step_as (λ V V' p. ChangesObject rules V before t id change None V' p)
+    (λ V V' p. (shown : Option (List ℕ)) × IsSayableId shown × ChangesObject rules V before t id change shown V' p) m (with_changed m (meant id before) t change) before
     (λ V V' p x. (None, tt, x))
-    (λ V V' p x. unshown V before t id change x.0 V' p x.2)
-    (change_step m before id t change None sound silent)
+    (λ V V' p x. unshown rules V before t id change x.0 V' p x.2)
+    (change_step rules m before id t change None sound silent)
 
 -- its test says what its reasons mean
-change_decides : (objects : List Held) (meant_id : Option (List ℕ)) (t : ℤ) (change : Change) (shown : Option (List ℕ)) (why : Why)
-    → Decides (change_speaks objects meant_id t change shown why) (ChangeReason objects meant_id t change shown why)
-change_decides objects meant_id t change shown NoSuchObject = none_decides (object_meant objects meant_id)
-change_decides objects meant_id t change shown WrongState = excluded_decides objects meant_id t (act_of change)
-change_decides objects meant_id t change shown EchoDiffers = id_decides shown meant_id
-change_decides objects meant_id t change shown why = never_decides
+change_decides : (rules : RulesOf) (objects : List Held) (meant_id : Option (List ℕ)) (t : ℤ) (change : Change) (shown : Option (List ℕ)) (why : Why)
+    → Decides (change_speaks rules objects meant_id t change shown why) (ChangeReason rules objects meant_id t change shown why)
+change_decides rules objects meant_id t change shown NoSuchObject = none_decides (object_meant objects meant_id)
+change_decides rules objects meant_id t change shown WrongState = excluded_decides rules objects meant_id t (act_of change)
+change_decides rules objects meant_id t change shown EchoDiffers = id_decides shown meant_id
+change_decides rules objects meant_id t change shown why = never_decides
 
 -- and the same over ledgers with the same objects
-change_same : (hs gs : List Held) → cards_of hs ≡ cards_of gs → (meant_id : Option (List ℕ)) (t : ℤ) (change : Change) (shown : Option (List ℕ)) (why : Why)
-    → change_speaks hs meant_id t change shown why ≡ change_speaks gs meant_id t change shown why
-change_same hs gs same meant_id t change shown NoSuchObject = none_same hs gs same meant_id
-change_same hs gs same meant_id t change shown WrongState = excluded_same hs gs same (act_of change) t meant_id
-change_same hs gs same meant_id t change shown why = refl
+change_same : (rules : RulesOf) (hs gs : List Held) → cards_of hs ≡ cards_of gs → (meant_id : Option (List ℕ)) (t : ℤ) (change : Change) (shown : Option (List ℕ)) (why : Why)
+    → change_speaks rules hs meant_id t change shown why ≡ change_speaks rules gs meant_id t change shown why
+change_same rules hs gs same meant_id t change shown NoSuchObject = none_same hs gs same meant_id
+change_same rules hs gs same meant_id t change shown WrongState = excluded_same hs gs same rules (act_of change) t meant_id
+change_same rules hs gs same meant_id t change shown why = refl
 
 pub is_change : (id : Option (List ℕ)) (change : Change) → IsDeed (change_deed id change) (change_judging id change) SaysChanged IsSayableId
 is_change id change = record {
@@ -292,33 +295,33 @@ is_change id change = record {
   each = elim [ changed x ↦ inl (x, refl) | _ ↦ inr (refl, λ ts s. s) ];
   carries = λ x. (λ h. (h, tt), λ h. h.0);
   quiet = λ rules m before t shown. refl;
-  covers = λ rules m before t shown w h. covers_change m.objects (meant id before) t change shown w h;
-  step = λ rules m before t a sound brought shown silent. change_step m before id t change a sound silent;
-  never = λ rules m before t a w h c ch V p x. change_never m before id t change a w h c V p x;
-  hidden = λ rules m before t may sound silent. hidden_change m before id t change sound silent;
+  covers = λ rules m before t shown w h. covers_change rules m.objects (meant id before) t change shown w h;
+  step = λ rules m before t a sound brought shown silent. change_step rules m before id t change a sound silent;
+  never = λ rules m before t a w h c ch V p x. change_never rules m before id t change a w h c V p x;
+  hidden = λ rules m before t may sound silent. hidden_change rules m before id t change sound silent;
   learns = λ m before t shown number bytes e. inl e;
-  decides = λ rules m before t shown w. change_decides m.objects (meant id before) t change (id_in shown) w;
-  same = λ rules m n same before t shown w. change_same m.objects n.objects same.0 (meant id before) t change (id_in shown) w;
+  decides = λ rules m before t shown w. change_decides rules m.objects (meant id before) t change (id_in shown) w;
+  same = λ rules m n same before t shown w. change_same rules m.objects n.objects same.0 (meant id before) t change (id_in shown) w;
 }
 
 -- AS THE PROGRAM LOOKS AT IT
 
-module _ (hs : List Held) (about : Option (List ℕ)) (t : ℤ) (change : Change) (shown : Option (List ℕ)) (o : Option ℕ) (place : o ≡ place_meant hs about) where
+module _ (rules : RulesOf) (hs : List Held) (about : Option (List ℕ)) (t : ℤ) (change : Change) (shown : Option (List ℕ)) (o : Option ℕ) (place : o ≡ place_meant hs about) where
   abbrev whys_behind : Option Held → Option Why
   whys_behind x =
-      cond (is_none x) (Some NoSuchObject) (cond (is_excluded (act_of change) t x) (Some WrongState) (cond (is_other_id shown about) (Some EchoDiffers) None))
+      cond (is_none x) (Some NoSuchObject) (cond (is_excluded rules (act_of change) t x) (Some WrongState) (cond (is_other_id shown about) (Some EchoDiffers) None))
 
-  whys_of_change : find (change_speaks hs about t change shown) whys ≡ whys_behind (object_meant hs about)
+  whys_of_change : find (change_speaks rules hs about t change shown) whys ≡ whys_behind (object_meant hs about)
   whys_of_change = refl
 
-  pub change_absent : o ≡ None → Some NoSuchObject ≡ find (change_speaks hs about t change shown) whys
+  pub change_absent : o ≡ None → Some NoSuchObject ≡ find (change_speaks rules hs about t change shown) whys
   change_absent none = ap whys_behind (sym (object_nowhere hs about o none place))
 
-  pub change_there : (p : ℕ) (s : State) (excluded other : Bool) → o ≡ Some p → state_of_place hs p t ≡ Some s → is_not (allowed (act_of change) s) ≡ excluded → is_other_id shown about ≡ other
-      → cond excluded (Some WrongState) (cond other (Some EchoDiffers) None) ≡ find (change_speaks hs about t change shown) whys
+  pub change_there : (p : ℕ) (s : State) (excluded other : Bool) → o ≡ Some p → state_of_place hs p t ≡ Some s → is_not (allows rules.allow_lines (act_of change) s) ≡ excluded → is_other_id shown about ≡ other
+      → cond excluded (Some WrongState) (cond other (Some EchoDiffers) None) ≡ find (change_speaks rules hs about t change shown) whys
   change_there p s excluded other here is out echo =
       let x = in_state hs p t s is in
       let rest : Option Why = cond (is_other_id shown about) (Some EchoDiffers) None in
       ap (λ (b : Bool). cond excluded (Some WrongState) (cond b (Some EchoDiffers) None)) (sym echo)
-      ∙ ap (λ (b : Bool). cond b (Some WrongState) rest) (sym out ∙ ap (λ (z : State). is_not (allowed (act_of change) z)) (sym x.2))
+      ∙ ap (λ (b : Bool). cond b (Some WrongState) rest) (sym out ∙ ap (λ (z : State). is_not (allows rules.allow_lines (act_of change) z)) (sym x.2))
       ∙ ap whys_behind (sym (object_there hs about o p x.0 here place x.1))

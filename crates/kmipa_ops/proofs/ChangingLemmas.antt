@@ -1,5 +1,5 @@
 -- The three operations that change an object have one row.
-use Rattle.std.proofs.Common.{◌≡◌, ◌∙◌, ℕ, ℤ, find, List, Option, Some, None, Result, Ok, Err, option_and_then, refl, sym, ap, subst}
+use Rattle.std.proofs.Common.{◌≡◌, ◌∙◌, ℕ, ℤ, find, List, Option, Result, Ok, Err, option_and_then, refl, sym, ap, subst}
 use Rattle.kmipa_store.specs.Ledger.{Held, LedgerState, Meaning, changed}
 use Rattle.kmipa_msgs.specs.Messages.{RulesOf, PayloadOf}
 use Rattle.kmipa_ops.specs.After.{Changes, LeavesAfter, after_done, placeholder_done}
@@ -36,18 +36,18 @@ module _ (id : Option (List ℕ)) where
   change_place Destroy objects before = refl
 
   change_done_speaks : (change : Change) (rules : RulesOf) (m : Meaning) (before : Option (List ℕ)) (t : ℤ) (payload : Option PayloadOf)
-      → find (change_speaks m.objects (meant id before) t change (id_in (option_and_then seen_changed payload))) whys ≡ find (done_speaks rules m before t (asked_change id change) payload) whys
+      → find (change_speaks rules m.objects (meant id before) t change (id_in (option_and_then seen_changed payload))) whys ≡ find (done_speaks rules m before t (asked_change id change) payload) whys
   change_done_speaks Activate rules m before t payload = refl
   change_done_speaks (Revoke code) rules m before t payload = refl
   change_done_speaks Destroy rules m before t payload = refl
 
 -- the lowest reason against a change is that of its row
 pub change_why : (m : Meaning) (id : Option (List ℕ)) (change : Change) (rules : RulesOf) (before : Option (List ℕ)) (t : ℤ) (payload : Option PayloadOf) (about shown : Option (List ℕ)) (why : Option Why)
-    → about ≡ meant id before → shown ≡ id_in (option_and_then seen_changed payload) → why ≡ find (change_speaks m.objects about t change shown) whys
+    → about ≡ meant id before → shown ≡ id_in (option_and_then seen_changed payload) → why ≡ find (change_speaks rules m.objects about t change shown) whys
     → why ≡ find (done_speaks rules m before t (asked_change id change) payload) whys
 change_why m id change rules before t payload about shown why is_meant is_shown is =
-    is ∙ ap (λ (o : Option (List ℕ)). find (change_speaks m.objects o t change shown) whys) is_meant
-    ∙ ap (λ (o : Option (List ℕ)). find (change_speaks m.objects (meant id before) t change o) whys) is_shown
+    is ∙ ap (λ (o : Option (List ℕ)). find (change_speaks rules m.objects o t change shown) whys) is_meant
+    ∙ ap (λ (o : Option (List ℕ)). find (change_speaks rules m.objects (meant id before) t change o) whys) is_shown
     ∙ change_done_speaks id change rules m before t payload
 
 -- and the ledger that is left is as its row leaves it

@@ -4,13 +4,17 @@ use Rattle.std.specs.Bool.{Decides}
 use Rattle.std.specs.Option.{option_and_then}
 use Rattle.std.proofs.lemmas.Slice.Eq.{bytes_eq-Decides}
 use Rattle.kmipa_object.specs.Inventory.{Card, place_of}
+use Rattle.kmipa_object.specs.Allowances.{by_line}
 use Rattle.kmipa_object.specs.Life.{state}
 use Rattle.kmipa_object.specs.Table.{allowed}
 use Rattle.kmipa_object.specs.declared.allow.Act.{Act}
 use Rattle.kmipa_object.specs.declared.allow.Allow.{Allow}
+use Rattle.kmipa_object.specs.declared.allow.AllowLine.{AllowLine}
 use Rattle.kmipa_object.specs.declared.allow.Allow.TheVariants.{Must, May, Not}
 use Rattle.kmipa_store.specs.Ledger.{Held, cards_of}
 use Rattle.kmipa_store.proofs.InventoryLemmas.{get-cards_of}
+use Rattle.kmipa_msgs.specs.Messages.{RulesOf}
+use Rattle.kmipa_ops.specs.Allowance.{allowance}
 use Rattle.kmipa_ops.specs.Meant.{object_meant, is_excluded, is_not, IsExcluded}
 use Rattle.kmipa_ops.specs.Objects.{card_meant, clash, is_other, is_other_id, Differs, Clashes}
 use Rattle.kmipa_ops.proofs.TestLemmas.{false_if, not_true, true_not}
@@ -77,18 +81,32 @@ excludes Must h = cc
 excludes May h = cc
 excludes Not h = refl
 
-excluded_at : (act : Act) (t : ℤ) (o : Option Held) → Decides (is_excluded act t o) ((h : Held) × (o ≡ Some h) × (allowed act (state h.card.dates t) ≡ Not))
-excluded_at act t None = (λ h. let bad : ⊥ = cc in absurd bad, λ x. let e : None ≡ Some x.0 = x.1 in let bad : ⊥ = cc in absurd bad)
-excluded_at act t (Some h) = (
-  λ q. (h, refl, excludes (allowed act (state h.card.dates t)) q),
+-- what the table excludes the rules exclude
+pub by_table : (a : Allow) (line : Option AllowLine) → is_not (by_line a line) ≡ false → is_not a ≡ false
+by_table Must line h = refl
+by_table May line h = refl
+by_table Not line h = h
+
+pub in_table : (rules : RulesOf) (act : Act) (t : ℤ) (c : Card) → is_not (allowance rules act t c) ≡ false → is_not (allowed act (state c.dates t)) ≡ false
+in_table rules act t c h = by_table (allowed act (state c.dates t)) _ h
+
+-- a test that says that the rules exclude the operation
+pub is_not_decides : (a : Allow) → Decides (is_not a) (a ≡ Not)
+is_not_decides a = (excludes a, λ e. ap is_not e)
+
+excluded_at : (rules : RulesOf) (act : Act) (t : ℤ) (o : Option Held) → Decides (is_excluded rules act t o) ((h : Held) × (o ≡ Some h) × (allowance rules act t h.card ≡ Not))
+excluded_at rules act t None = (λ h. let bad : ⊥ = cc in absurd bad, λ x. let e : None ≡ Some x.0 = x.1 in let bad : ⊥ = cc in absurd bad)
+excluded_at rules act t (Some h) = (
+  λ q. (h, refl, excludes (allowance rules act t h.card) q),
   λ x.
       let e : Some h ≡ Some x.0 = x.1 in
       let is : h ≡ x.0 = cc in
-      ap (λ (k : Held). is_not (allowed act (state k.card.dates t))) is ∙ ap is_not x.2,
+      ap (λ (k : Held). is_not (allowance rules act t k.card)) is ∙ ap is_not x.2,
 )
 
-pub excluded_decides : (objects : List Held) (about : Option (List ℕ)) (t : ℤ) (act : Act) → Decides (is_excluded act t (object_meant objects about)) (IsExcluded objects about t act)
-excluded_decides objects about t act = excluded_at act t (object_meant objects about)
+pub excluded_decides : (rules : RulesOf) (objects : List Held) (about : Option (List ℕ)) (t : ℤ) (act : Act)
+    → Decides (is_excluded rules act t (object_meant objects about)) (IsExcluded rules objects about t act)
+excluded_decides rules objects about t act = excluded_at rules act t (object_meant objects about)
 
 card_at : (hs : List Held) (o : Option ℕ) → option_and_then (slice_get (cards_of hs)) o ≡ option_map (λ (h : Held). h.card) (option_and_then (slice_get hs) o)
 card_at hs None = refl
@@ -116,5 +134,5 @@ module _ (hs gs : List Held) (same : cards_of hs ≡ cards_of gs) where
   pub none_same : (about : Option (List ℕ)) → is_none (object_meant hs about) ≡ is_none (object_meant gs about)
   none_same about = object_same is_none (λ h g e. refl) about
 
-  pub excluded_same : (act : Act) (t : ℤ) (about : Option (List ℕ)) → is_excluded act t (object_meant hs about) ≡ is_excluded act t (object_meant gs about)
-  excluded_same act t about = object_same (is_excluded act t) (λ h g e. ap (λ (c : Card). is_not (allowed act (state c.dates t))) e) about
+  pub excluded_same : (rules : RulesOf) (act : Act) (t : ℤ) (about : Option (List ℕ)) → is_excluded rules act t (object_meant hs about) ≡ is_excluded rules act t (object_meant gs about)
+  excluded_same rules act t about = object_same (is_excluded rules act t) (λ h g e. ap (λ (c : Card). is_not (allowance rules act t c)) e) about

@@ -4,14 +4,13 @@ use Rattle.std.specs.Bool.{Decides}
 use Rattle.std.proofs.lemmas.Bool.{and_parts, and_from}
 use Rattle.std.proofs.lemmas.Bool.Decides.{Decides-eqb}
 use Rattle.kmipa_object.specs.Inventory.{Card, live}
-use Rattle.kmipa_object.specs.Life.{state}
-use Rattle.kmipa_object.specs.Table.{allowed}
 use Rattle.kmipa_object.specs.declared.allow.Act.{Act}
 use Rattle.kmipa_object.specs.declared.allow.Allow.{Allow}
 use Rattle.kmipa_object.specs.declared.allow.Allow.TheVariants.{Must, May, Not}
 use Rattle.kmipa_msgs.specs.Messages.{RulesOf, RowOf}
 use Rattle.kmipa_msgs.specs.declared.rules.Cause.{Cause}
 use Rattle.kmipa_msgs.specs.declared.rules.Cause.TheVariants.{WrongState, NotFound, TakenName}
+use Rattle.kmipa_ops.specs.Allowance.{allowance}
 use Rattle.kmipa_ops.specs.Objects.{meant, card_meant}
 use Rattle.kmipa_ops.specs.Row.{row_subject, SubjectOf, on_object, on_names, on_nothing}
 use Rattle.kmipa_ops.specs.Rows.{asked_row}
@@ -33,25 +32,25 @@ must_is Must h = refl
 must_is May h = cc
 must_is Not h = cc
 
-refusable_if : (act : Act) (t : ℤ) (o : Option Card) → is_refusable act t o ≡ true → (c : Card) × (o ≡ Some c) × (allowed act (state c.dates t) ≢ Must)
-refusable_if act t None h = let bad : ⊥ = cc in absurd bad
-refusable_if act t (Some c) h = (c, refl, λ e. let q : not (is_must (allowed act (state c.dates t))) ≡ false = ap (λ (a : Allow). not (is_must a)) e in cc)
+refusable_if : (rules : RulesOf) (act : Act) (t : ℤ) (o : Option Card) → is_refusable rules act t o ≡ true → (c : Card) × (o ≡ Some c) × (allowance rules act t c ≢ Must)
+refusable_if rules act t None h = let bad : ⊥ = cc in absurd bad
+refusable_if rules act t (Some c) h = (c, refl, λ e. let q : not (is_must (allowance rules act t c)) ≡ false = ap (λ (a : Allow). not (is_must a)) e in cc)
 
-refusable_not : (act : Act) (t : ℤ) (o : Option Card) (c : Card) → o ≡ Some c → allowed act (state c.dates t) ≢ Must → is_refusable act t o ≡ true
-refusable_not act t o c e f = ap (is_refusable act t) e ∙ ap not (false_if (is_must (allowed act (state c.dates t))) (λ q. f (must_is _ q)))
+refusable_not : (rules : RulesOf) (act : Act) (t : ℤ) (o : Option Card) (c : Card) → o ≡ Some c → allowance rules act t c ≢ Must → is_refusable rules act t o ≡ true
+refusable_not rules act t o c e f = ap (is_refusable rules act t) e ∙ ap not (false_if (is_must (allowance rules act t c)) (λ q. f (must_is _ q)))
 
-holds_decides : (cs : List Card) (before : Option (List ℕ)) (t : ℤ) (subject : SubjectOf) (cause : Cause) → Decides (holds_of cs before t subject cause) (Holds cs before t subject cause)
-holds_decides cs before t (on_object id act true) cause = (λ h. tt, λ h. refl)
-holds_decides cs before t (on_object id act false) NotFound = (not_found_if (card_meant cs (meant id before)), not_found_not (card_meant cs (meant id before)))
-holds_decides cs before t (on_object id act false) WrongState = (
-  refusable_if act t (card_meant cs (meant id before)),
-  λ h. refusable_not act t (card_meant cs (meant id before)) h.0 h.1 h.2,
+holds_decides : (rules : RulesOf) (cs : List Card) (before : Option (List ℕ)) (t : ℤ) (subject : SubjectOf) (cause : Cause) → Decides (holds_of rules cs before t subject cause) (Holds rules cs before t subject cause)
+holds_decides rules cs before t (on_object id act true) cause = (λ h. tt, λ h. refl)
+holds_decides rules cs before t (on_object id act false) NotFound = (not_found_if (card_meant cs (meant id before)), not_found_not (card_meant cs (meant id before)))
+holds_decides rules cs before t (on_object id act false) WrongState = (
+  refusable_if rules act t (card_meant cs (meant id before)),
+  λ h. refusable_not rules act t (card_meant cs (meant id before)) h.0 h.1 h.2,
 )
-holds_decides cs before t (on_object id act false) TakenName = (λ h. tt, λ h. refl)
-holds_decides cs before t (on_names names) TakenName = any_named-Decides cs names
-holds_decides cs before t (on_names names) NotFound = (λ h. tt, λ h. refl)
-holds_decides cs before t (on_names names) WrongState = (λ h. tt, λ h. refl)
-holds_decides cs before t on_nothing cause = (λ h. tt, λ h. refl)
+holds_decides rules cs before t (on_object id act false) TakenName = (λ h. tt, λ h. refl)
+holds_decides rules cs before t (on_names names) TakenName = any_named-Decides cs names
+holds_decides rules cs before t (on_names names) NotFound = (λ h. tt, λ h. refl)
+holds_decides rules cs before t (on_names names) WrongState = (λ h. tt, λ h. refl)
+holds_decides rules cs before t on_nothing cause = (λ h. tt, λ h. refl)
 
 none_if : {A : Type 0} (o : Option A) → is_none o ≡ true → o ≡ None
 none_if None h = refl
@@ -67,12 +66,12 @@ module _ (rules : RulesOf) (cs : List Card) (before : Option (List ℕ)) (t : �
   has_it row = row.reason == reason
 
   abbrev is_cause : RowOf → Bool
-  is_cause row = (row.reason == reason) && holds_of cs before t subject row.cause
+  is_cause row = (row.reason == reason) && holds_of rules cs before t subject row.cause
 
-  cause_decides : (row : RowOf) → Decides (is_cause row) ((row.reason ≡ reason) × Holds cs before t subject row.cause)
+  cause_decides : (row : RowOf) → Decides (is_cause row) ((row.reason ≡ reason) × Holds rules cs before t subject row.cause)
   cause_decides row = (
-    λ h. let w = and_parts (row.reason == reason) (holds_of cs before t subject row.cause) h in ((Decides-eqb row.reason reason).0 w.0, (holds_decides cs before t subject row.cause).0 w.1),
-    λ h. and_from (row.reason == reason) (holds_of cs before t subject row.cause) ((Decides-eqb row.reason reason).1 h.0) ((holds_decides cs before t subject row.cause).1 h.1),
+    λ h. let w = and_parts (row.reason == reason) (holds_of rules cs before t subject row.cause) h in ((Decides-eqb row.reason reason).0 w.0, (holds_decides rules cs before t subject row.cause).0 w.1),
+    λ h. and_from (row.reason == reason) (holds_of rules cs before t subject row.cause) ((Decides-eqb row.reason reason).1 h.0) ((holds_decides rules cs before t subject row.cause).1 h.1),
   )
 
   abbrev Said : Type 0
@@ -84,7 +83,7 @@ module _ (rules : RulesOf) (cs : List Card) (before : Option (List ℕ)) (t : �
       unlisted reason refl (λ row at e. true_not (has_row rules reason) (some_not has_it (λ (r : RowOf). r.reason ≡ reason) (λ r. Decides-eqb r.reason reason) rules.rows row at e) is_listed)
   founded_cases true true cause is_listed is_nothing is_caused h = of_nothing ((nothing_decides before subject).0 is_nothing)
   founded_cases true false true is_listed is_nothing is_caused h =
-      let s = some_if is_cause (λ (r : RowOf). (r.reason ≡ reason) × Holds cs before t subject r.cause) cause_decides rules.rows is_caused in
+      let s = some_if is_cause (λ (r : RowOf). (r.reason ≡ reason) × Holds rules cs before t subject r.cause) cause_decides rules.rows is_caused in
       caused s.0 s.1 (ap Some (sym s.2.0)) s.2.1
   founded_cases true false false is_listed is_nothing is_caused h = let bad : ⊥ = cc in absurd bad
 
@@ -110,7 +109,7 @@ module _ (rules : RulesOf) (cs : List Card) (before : Option (List ℕ)) (t : �
   founded_not (caused row at e h) =
       let same : row.reason ≡ reason = cc in
       some_holds (not (has_row rules reason)) (is_of_nothing before subject) (has_cause rules cs before t subject reason)
-      (inr (inr (some_not is_cause (λ (r : RowOf). (r.reason ≡ reason) × Holds cs before t subject r.cause) cause_decides rules.rows row at (same, h))))
+      (inr (inr (some_not is_cause (λ (r : RowOf). (r.reason ≡ reason) × Holds rules cs before t subject r.cause) cause_decides rules.rows row at (same, h))))
 
 of_decides : (rules : RulesOf) (cs : List Card) (before : Option (List ℕ)) (t : ℤ) (subject : SubjectOf) (reason : Option ℕ) → Decides (founded_of rules cs before t subject reason) (FoundedOf rules cs before t subject reason)
 of_decides rules cs before t subject None = (λ h. unsaid refl, λ h. refl)

@@ -8,17 +8,21 @@ use Rattle.std.proofs.lemmas.Option.{slice_get-map}
 use Rattle.std.proofs.lemmas.Slice.Eq.{bytes_eq-Decides}
 use Rattle.kmipa_attrs.specs.Sets.{Attributes}
 use Rattle.kmipa_attrs.specs.ObjectTypes.{type_number}
+use Rattle.kmipa_object.specs.Allowances.{allows}
 use Rattle.kmipa_object.specs.Inventory.{Card, Thing, cards, place_of, live}
 use Rattle.kmipa_object.specs.Life.{state, state_number}
+use Rattle.kmipa_object.specs.declared.allow.Act.TheVariants as act
+use Rattle.kmipa_object.specs.declared.allow.Allow.TheVariants.{Not}
 use Rattle.kmipa_store.specs.Ledger.{Meaning, cards_of, Held}
 use Rattle.kmipa_store.specs.Choices.{Choice, inv, IsSound}
 use Rattle.kmipa_store.proofs.InventoryLemmas.{cards-inv}
-use Rattle.kmipa_msgs.specs.Messages.{GetAttributesOf, GotAttributesOf, got_attributes}
+use Rattle.kmipa_msgs.specs.Messages.{RulesOf, GetAttributesOf, GotAttributesOf, got_attributes}
 use Rattle.kmipa_ops.specs.declared.judged.Judged.TheVariants.{Name, ObjectType, CryptographicAlgorithm, CryptographicLength, CryptographicUsageMask, State, InitialDate, ActivationDate, DeactivationDate, DestroyDate, CompromiseDate}
 use Rattle.kmipa_ops.specs.declared.why.Why.{Why}
-use Rattle.kmipa_ops.specs.declared.why.Why.TheVariants.{NoSuchObject, AttributeDiffers, AttributeMissing, EchoDiffers}
+use Rattle.kmipa_ops.specs.declared.why.Why.TheVariants.{NoSuchObject, WrongState, AttributeDiffers, AttributeMissing, EchoDiffers}
+use Rattle.kmipa_ops.specs.Allowance.{allowance}
 use Rattle.kmipa_ops.specs.Objects.{meant, HasObject, card_meant, Agree, is_other_id, clash}
-use Rattle.kmipa_ops.specs.GetAttributes.{AttributesAreDecided, IsHad, IsOwnAt, ShowsAsked, HasRequired, GetsAttributes, has_stranger, is_foreign_date, asks_for, leaves_out, shows_other_value, shows_other_date, shows_foreign, shows_foreign_of, lacks_name, lacks_value, lacks_date, lacks_asked, lacks_required, lacks_required_of, get_attributes_speaks, SaysAttributes, get_attributes_deed, get_attributes_judging, attributes_speak, GetAttributesReason}
+use Rattle.kmipa_ops.specs.GetAttributes.{AttributesAreDecided, IsHad, IsOwnAt, ShowsAsked, HasRequired, GetsAttributes, has_stranger, is_foreign_date, asks_for, leaves_out, shows_other_value, shows_other_date, shows_foreign, shows_foreign_of, lacks_name, lacks_value, lacks_date, lacks_asked, lacks_required, lacks_required_of, excludes_attributes, get_attributes_speaks, SaysAttributes, get_attributes_deed, get_attributes_judging, attributes_speak, GetAttributesReason}
 use Rattle.kmipa_ops.proofs.NameLemmas.{strangers_if, strangers_not}
 use Rattle.kmipa_ops.proofs.TestLemmas.{false_if, five_parts, five_cases, three_cases, not_false, not_none, echoes_if, echoes_not, agree_if, agree_not, true_not, refuted}
 use Rattle.kmipa_ops.proofs.StepLemmas.{Step, still_step}
@@ -26,10 +30,10 @@ use Rattle.kmipa_ops.proofs.DeedLaws.{outer_whys, IsDeed}
 use Rattle.kmipa_ops.specs.Whys.{whys}
 use Rattle.kmipa_object.specs.declared.state.State.{State as StateOf}
 use Rattle.kmipa_store.specs.Queries.{state_of_place}
-use Rattle.kmipa_ops.specs.Meant.{place_meant, object_meant}
-use Rattle.kmipa_ops.proofs.MeantLemmas.{object_there, object_nowhere, state_there}
+use Rattle.kmipa_ops.specs.Meant.{is_not, place_meant}
+use Rattle.kmipa_ops.proofs.MeantLemmas.{card_there, card_nowhere, in_state, state_there}
 use Rattle.std.specs.Bool.{Decides}
-use Rattle.kmipa_ops.proofs.ConditionLemmas.{card_meant_is, never_decides, none_decides, id_decides}
+use Rattle.kmipa_ops.proofs.ConditionLemmas.{never_decides, is_not_decides, none_decides, id_decides}
 use Rattle.kmipa_msgs.specs.GetsAttributes.{AnswersGetAttributes}
 use Rattle.kmipa_msgs.specs.Sayable.{SaysOwn}
 
@@ -261,13 +265,13 @@ own_has_required g c t alive plain = record {
 
 -- INVENTORIES
 
-module _ (V : List Thing) (before : Option (List ℕ)) (t : ℤ) (asked : GetAttributesOf) where
+module _ (rules : RulesOf) (V : List Thing) (before : Option (List ℕ)) (t : ℤ) (asked : GetAttributesOf) where
   abbrev about : Option (List ℕ)
   about = meant asked.id before
 
   -- an answer of the object of a card
-  gets_of : (c : Card) (a : GotAttributesOf) → Stands V about c → IsOwnAt c t a.attributes → HasRequired asked c a.attributes → is_other_id a.id about ≡ false → GetsAttributes V before t asked a V before
-  gets_of c a x own required echo =
+  gets_of : (c : Card) (a : GotAttributesOf) → Stands V about c → excludes_attributes rules t (Some c) ≡ false → IsOwnAt c t a.attributes → HasRequired asked c a.attributes → is_other_id a.id about ≡ false → GetsAttributes rules V before t asked a V before
+  gets_of c a x may own required echo =
       let P : Card → Type 0 = λ y. IsOwnAt y t a.attributes in
       let Q : Card → Type 0 = λ y. HasRequired asked y a.attributes in
       record {
@@ -276,6 +280,7 @@ module _ (V : List Thing) (before : Option (List ℕ)) (t : ℤ) (asked : GetAtt
         object = x.object;
         about = x.about_is;
         there = x.there;
+        may = λ e. let bad : true ≡ false = sym (ap is_not e) ∙ ap (λ (y : Card). is_not (allowance rules act.GetAttributes t y)) x.card_is ∙ may in cc;
         own = subst P (sym x.card_is) own;
         required = subst Q (sym x.card_is) required;
         echo = echoes_if bytes_eq bytes_eq-Decides a.id x.id (ap (is_other_id a.id) (sym x.about_is) ∙ echo);
@@ -284,29 +289,31 @@ module _ (V : List Thing) (before : Option (List ℕ)) (t : ℤ) (asked : GetAtt
       }
 
   -- an answer against which nothing speaks
-  pub gets_if : (a : GotAttributesOf) → ((w : Why) → get_attributes_speaks (cards V) about t asked (Some a) w ≡ false) → GetsAttributes V before t asked a V before
+  pub gets_if : (a : GotAttributesOf) → ((w : Why) → get_attributes_speaks rules (cards V) about t asked (Some a) w ≡ false) → GetsAttributes rules V before t asked a V before
   gets_if a silent =
       let c = not_none (card_meant (cards V) about) (silent NoSuchObject) in
-      gets_of c.0 a (stands_if V about c.0 c.1)
+      gets_of c.0 a (stands_if V about c.0 c.1) (ap (excludes_attributes rules t) (sym c.1) ∙ silent WrongState)
       (own_if c.0 t a.attributes (ap (λ (o : Option Card). shows_foreign_of o t a.attributes) (sym c.1) ∙ silent AttributeDiffers))
       (required_if asked c.0 a.attributes (ap (λ (o : Option Card). lacks_required_of asked o a.attributes) (sym c.1) ∙ silent AttributeMissing))
       (silent EchoDiffers)
 
   -- where nothing speaks against an answer without payload, one that shows all of the object's attributes
-  pub gets_hidden : ((w : Why) → get_attributes_speaks (cards V) about t asked None w ≡ false)
-      → (a : GotAttributesOf) × (a.id ≡ None) × GetsAttributes V before t asked a V before
+  pub gets_hidden : ((w : Why) → get_attributes_speaks rules (cards V) about t asked None w ≡ false)
+      → (a : GotAttributesOf) × (a.id ≡ None) × GetsAttributes rules V before t asked a V before
   gets_hidden silent =
       let c = not_none (card_meant (cards V) about) (silent NoSuchObject) in
       let x = stands_if V about c.0 c.1 in
       let a : GotAttributesOf = record { id = None; attributes = own_attributes c.0 t } in
-      (a, refl, gets_of c.0 a x (own_is_own c.0 t) (own_has_required asked c.0 t) (ap (is_other_id None) x.about_is))
+      (a, refl, gets_of c.0 a x (ap (excludes_attributes rules t) (sym c.1) ∙ silent WrongState) (own_is_own c.0 t) (own_has_required asked c.0 t) (ap (is_other_id None) x.about_is))
 
   -- an answer against which something speaks
-  pub gets_not : (a : GotAttributesOf) (w : Why) → get_attributes_speaks (cards V) about t asked (Some a) w ≡ true
-      → (V' : List Thing) (p : Option (List ℕ)) → GetsAttributes V before t asked a V' p → ⊥
+  pub gets_not : (a : GotAttributesOf) (w : Why) → get_attributes_speaks rules (cards V) about t asked (Some a) w ≡ true
+      → (V' : List Thing) (p : Option (List ℕ)) → GetsAttributes rules V before t asked a V' p → ⊥
   gets_not a NoSuchObject h V' p x =
       let e : is_none (card_meant (cards V) about) ≡ false = ap is_none (meant_in V about x.id x.place x.object x.about x.there) in
       cc
+  gets_not a WrongState h V' p x =
+      x.may ((is_not_decides (allowance rules act.GetAttributes t x.object.card)).0 (ap (excludes_attributes rules t) (sym (meant_in V about x.id x.place x.object x.about x.there)) ∙ h))
   gets_not a AttributeDiffers h V' p x =
       own_not x.object.card t a.attributes
       (ap (λ (o : Option Card). shows_foreign_of o t a.attributes) (sym (meant_in V about x.id x.place x.object x.about x.there)) ∙ h) x.own
@@ -317,55 +324,57 @@ module _ (V : List Thing) (before : Option (List ℕ)) (t : ℤ) (asked : GetAtt
   gets_not a w h V' p x = cc
 
   -- against an answer without payload only what speaks against each with one
-  pub hidden_speaks : (a : GotAttributesOf) (w : Why) → get_attributes_speaks (cards V) about t asked None w ≡ true → get_attributes_speaks (cards V) about t asked (Some a) w ≡ true
+  pub hidden_speaks : (a : GotAttributesOf) (w : Why) → get_attributes_speaks rules (cards V) about t asked None w ≡ true → get_attributes_speaks rules (cards V) about t asked (Some a) w ≡ true
   hidden_speaks a NoSuchObject h = h
+  hidden_speaks a WrongState h = h
   hidden_speaks a w h = cc
 
 -- LEDGERS
 
-module _ (m : Meaning) (before : Option (List ℕ)) (t : ℤ) (asked : GetAttributesOf) where
+module _ (rules : RulesOf) (m : Meaning) (before : Option (List ℕ)) (t : ℤ) (asked : GetAttributesOf) where
   -- a reason speaks of the ledger as of each of its inventories
   speaks_of : (c : Choice) (shown : Option GotAttributesOf) (w : Why)
-      → get_attributes_speaks (cards (inv c m.objects)) (meant asked.id before) t asked shown w ≡ get_attributes_speaks (cards_of m.objects) (meant asked.id before) t asked shown w
-  speaks_of c shown w = ap (λ (cs : List Card). get_attributes_speaks cs (meant asked.id before) t asked shown w) (cards-inv c m.objects)
+      → get_attributes_speaks rules (cards (inv c m.objects)) (meant asked.id before) t asked shown w ≡ get_attributes_speaks rules (cards_of m.objects) (meant asked.id before) t asked shown w
+  speaks_of c shown w = ap (λ (cs : List Card). get_attributes_speaks rules cs (meant asked.id before) t asked shown w) (cards-inv c m.objects)
 
-  pub attributes_step : (a : GotAttributesOf) → IsSound m → ((w : Why) → get_attributes_speaks (cards_of m.objects) (meant asked.id before) t asked (Some a) w ≡ false)
-      → Step (λ V V' p. GetsAttributes V before t asked a V' p) m m before
+  pub attributes_step : (a : GotAttributesOf) → IsSound m → ((w : Why) → get_attributes_speaks rules (cards_of m.objects) (meant asked.id before) t asked (Some a) w ≡ false)
+      → Step (λ V V' p. GetsAttributes rules V before t asked a V' p) m m before
   attributes_step a sound silent =
-      still_step (λ V V' p. GetsAttributes V before t asked a V' p) m before sound
-      (λ c ch. gets_if (inv c m.objects) before t asked a (λ w. speaks_of c (Some a) w ∙ silent w))
+      still_step (λ V V' p. GetsAttributes rules V before t asked a V' p) m before sound
+      (λ c ch. gets_if rules (inv c m.objects) before t asked a (λ w. speaks_of c (Some a) w ∙ silent w))
       (λ V V' p x. (x.leaves, x.placeholder))
 
-  pub attributes_never : (a : GotAttributesOf) (w : Why) → get_attributes_speaks (cards_of m.objects) (meant asked.id before) t asked (Some a) w ≡ true
-      → (c : Choice) (V : List Thing) (p : Option (List ℕ)) → GetsAttributes (inv c m.objects) before t asked a V p → ⊥
-  attributes_never a w h c V p x = gets_not (inv c m.objects) before t asked a w (speaks_of c (Some a) w ∙ h) V p x
+  pub attributes_never : (a : GotAttributesOf) (w : Why) → get_attributes_speaks rules (cards_of m.objects) (meant asked.id before) t asked (Some a) w ≡ true
+      → (c : Choice) (V : List Thing) (p : Option (List ℕ)) → GetsAttributes rules (inv c m.objects) before t asked a V p → ⊥
+  attributes_never a w h c V p x = gets_not rules (inv c m.objects) before t asked a w (speaks_of c (Some a) w ∙ h) V p x
 
   -- an answer without payload
-  pub hidden_attributes : ((w : Why) → get_attributes_speaks (cards_of m.objects) (meant asked.id before) t asked None w ≡ false)
-      → (c : Choice) → (a : GotAttributesOf) × (a.id ≡ None) × GetsAttributes (inv c m.objects) before t asked a (inv c m.objects) before
-  hidden_attributes silent c = gets_hidden (inv c m.objects) before t asked (λ w. speaks_of c None w ∙ silent w)
+  pub hidden_attributes : ((w : Why) → get_attributes_speaks rules (cards_of m.objects) (meant asked.id before) t asked None w ≡ false)
+      → (c : Choice) → (a : GotAttributesOf) × (a.id ≡ None) × GetsAttributes rules (inv c m.objects) before t asked a (inv c m.objects) before
+  hidden_attributes silent c = gets_hidden rules (inv c m.objects) before t asked (λ w. speaks_of c None w ∙ silent w)
 
-  pub hidden_attributes_never : (a : GotAttributesOf) (w : Why) → get_attributes_speaks (cards_of m.objects) (meant asked.id before) t asked None w ≡ true
-      → (c : Choice) (V : List Thing) (p : Option (List ℕ)) → GetsAttributes (inv c m.objects) before t asked a V p → ⊥
+  pub hidden_attributes_never : (a : GotAttributesOf) (w : Why) → get_attributes_speaks rules (cards_of m.objects) (meant asked.id before) t asked None w ≡ true
+      → (c : Choice) (V : List Thing) (p : Option (List ℕ)) → GetsAttributes rules (inv c m.objects) before t asked a V p → ⊥
   hidden_attributes_never a w h c V p x =
-      gets_not (inv c m.objects) before t asked a w (hidden_speaks (inv c m.objects) before t asked a w (speaks_of c None w ∙ h)) V p x
+      gets_not rules (inv c m.objects) before t asked a w (hidden_speaks rules (inv c m.objects) before t asked a w (speaks_of c None w ∙ h)) V p x
 
-quiet_attributes : (cs : List Card) (about : Option (List ℕ)) (t : ℤ) (g : GetAttributesOf) (shown : Option GotAttributesOf) → find (get_attributes_speaks cs about t g shown) outer_whys ≡ None
-quiet_attributes cs meant_id t g None = refl
-quiet_attributes cs meant_id t g (Some a) = refl
+quiet_attributes : (rules : RulesOf) (cs : List Card) (about : Option (List ℕ)) (t : ℤ) (g : GetAttributesOf) (shown : Option GotAttributesOf) → find (get_attributes_speaks rules cs about t g shown) outer_whys ≡ None
+quiet_attributes rules cs meant_id t g None = refl
+quiet_attributes rules cs meant_id t g (Some a) = refl
 
-covers_attributes : (cs : List Card) (about : Option (List ℕ)) (t : ℤ) (g : GetAttributesOf) (a : GotAttributesOf) (w : Why) → get_attributes_speaks cs about t g None w ≡ true
-    → get_attributes_speaks cs about t g (Some a) w ≡ true
-covers_attributes cs about t g a NoSuchObject h = h
-covers_attributes cs about t g a w h = cc
+covers_attributes : (rules : RulesOf) (cs : List Card) (about : Option (List ℕ)) (t : ℤ) (g : GetAttributesOf) (a : GotAttributesOf) (w : Why) → get_attributes_speaks rules cs about t g None w ≡ true
+    → get_attributes_speaks rules cs about t g (Some a) w ≡ true
+covers_attributes rules cs about t g a NoSuchObject h = h
+covers_attributes rules cs about t g a WrongState h = h
+covers_attributes rules cs about t g a w h = cc
 
 -- an answer without payload: the object's attributes complete it
-hidden_of : (m : Meaning) (before : Option (List ℕ)) (t : ℤ) (g : GetAttributesOf) → IsSound m → ((w : Why) → get_attributes_speaks (cards_of m.objects) (meant g.id before) t g None w ≡ false)
-    → Step (λ V V' p. (a : GotAttributesOf) × SaysAttributes a × GetsAttributes V before t g a V' p) m m before
-hidden_of m before t g sound silent =
+hidden_of : (rules : RulesOf) (m : Meaning) (before : Option (List ℕ)) (t : ℤ) (g : GetAttributesOf) → IsSound m → ((w : Why) → get_attributes_speaks rules (cards_of m.objects) (meant g.id before) t g None w ≡ false)
+    → Step (λ V V' p. (a : GotAttributesOf) × SaysAttributes a × GetsAttributes rules V before t g a V' p) m m before
+hidden_of rules m before t g sound silent =
     let P : Option (List ℕ) → Type 0 = λ o. IfSome o (λ (id : List ℕ). IsUtf8 id) in
-    still_step (λ V V' p. (a : GotAttributesOf) × SaysAttributes a × GetsAttributes V before t g a V' p) m before sound
-    (λ c ch. let h = hidden_attributes m before t g silent c in (h.0, subst P (sym h.1) tt, h.2))
+    still_step (λ V V' p. (a : GotAttributesOf) × SaysAttributes a × GetsAttributes rules V before t g a V' p) m before sound
+    (λ c ch. let h = hidden_attributes rules m before t g silent c in (h.0, subst P (sym h.1) tt, h.2))
     (λ V V' p x. (x.2.leaves, x.2.placeholder))
 
 -- of an object that may be there, a test that fails exactly where something holds
@@ -383,67 +392,91 @@ card_refuted test P dec of nowhere there (Some c) = (
       there c ∙ (dec c).1 (subst (λ (d : Card). P d → ⊥) is x.2),
 )
 
+-- the rules exclude it in the object's state, or not
+barred_decides : (rules : RulesOf) (t : ℤ) (o : Option Card) → Decides (excludes_attributes rules t o) ((c : Card) × (o ≡ Some c) × (allowance rules act.GetAttributes t c ≡ Not))
+barred_decides rules t None = (λ h. let bad : ⊥ = cc in absurd bad, λ x. let e : None ≡ Some x.0 = x.1 in let bad : ⊥ = cc in absurd bad)
+barred_decides rules t (Some c) = (
+  λ h. (c, refl, (is_not_decides (allowance rules act.GetAttributes t c)).0 h),
+  λ x.
+      let e : Some c ≡ Some x.0 = x.1 in
+      let is : c ≡ x.0 = cc in
+      ap (λ (d : Card). is_not (allowance rules act.GetAttributes t d)) is ∙ ap is_not x.2,
+)
+
 -- its test says what its reasons mean
-get_attributes_decides : (cs : List Card) (meant_id : Option (List ℕ)) (t : ℤ) (g : GetAttributesOf) (shown : Option GotAttributesOf) (why : Why)
-    → Decides (get_attributes_speaks cs meant_id t g shown why) (GetAttributesReason cs meant_id t g shown why)
-get_attributes_decides cs meant_id t g None NoSuchObject = none_decides (card_meant cs meant_id)
-get_attributes_decides cs meant_id t g None why = never_decides
-get_attributes_decides cs meant_id t g (Some a) NoSuchObject = none_decides (card_meant cs meant_id)
-get_attributes_decides cs meant_id t g (Some a) AttributeDiffers =
+get_attributes_decides : (rules : RulesOf) (cs : List Card) (meant_id : Option (List ℕ)) (t : ℤ) (g : GetAttributesOf) (shown : Option GotAttributesOf) (why : Why)
+    → Decides (get_attributes_speaks rules cs meant_id t g shown why) (GetAttributesReason rules cs meant_id t g shown why)
+get_attributes_decides rules cs meant_id t g None NoSuchObject = none_decides (card_meant cs meant_id)
+get_attributes_decides rules cs meant_id t g None WrongState = barred_decides rules t (card_meant cs meant_id)
+get_attributes_decides rules cs meant_id t g None why = never_decides
+get_attributes_decides rules cs meant_id t g (Some a) NoSuchObject = none_decides (card_meant cs meant_id)
+get_attributes_decides rules cs meant_id t g (Some a) WrongState = barred_decides rules t (card_meant cs meant_id)
+get_attributes_decides rules cs meant_id t g (Some a) AttributeDiffers =
     card_refuted (λ c. shows_foreign c (state c.dates t) a.attributes) (λ c. IsOwnAt c t a.attributes)
     (λ c. let d = attributes_are_decided.0 c t a.attributes in refuted (shows_foreign c (state c.dates t) a.attributes) d.0 d.1)
     (λ o. shows_foreign_of o t a.attributes) refl (λ c. refl) (card_meant cs meant_id)
-get_attributes_decides cs meant_id t g (Some a) AttributeMissing =
+get_attributes_decides rules cs meant_id t g (Some a) AttributeMissing =
     card_refuted (λ c. lacks_required g c a.attributes) (λ c. HasRequired g c a.attributes)
     (λ c. let d = attributes_are_decided.1 g c a.attributes in refuted (lacks_required g c a.attributes) d.0 d.1)
     (λ o. lacks_required_of g o a.attributes) refl (λ c. refl) (card_meant cs meant_id)
-get_attributes_decides cs meant_id t g (Some a) EchoDiffers = id_decides a.id meant_id
-get_attributes_decides cs meant_id t g (Some a) why = never_decides
+get_attributes_decides rules cs meant_id t g (Some a) EchoDiffers = id_decides a.id meant_id
+get_attributes_decides rules cs meant_id t g (Some a) why = never_decides
 
 pub is_get_attributes : (g : GetAttributesOf) → IsDeed (get_attributes_deed g) (get_attributes_judging g) AnswersGetAttributes SaysOwn
 is_get_attributes g = record {
   back = λ a. refl;
   each = elim [ got_attributes x ↦ inl (x, refl) | _ ↦ inr (refl, λ ts s. s) ];
   carries = λ x. (λ h. h, λ h. h);
-  quiet = λ rules m before t shown. quiet_attributes (cards_of m.objects) (meant g.id before) t g shown;
-  covers = λ rules m before t a w h. covers_attributes (cards_of m.objects) (meant g.id before) t g a w h;
-  step = λ rules m before t a sound brought shown silent. attributes_step m before t g a sound silent;
-  never = λ rules m before t a w h c ch V p x. attributes_never m before t g a w h c V p x;
-  hidden = λ rules m before t may sound silent. hidden_of m before t g sound silent;
+  quiet = λ rules m before t shown. quiet_attributes rules (cards_of m.objects) (meant g.id before) t g shown;
+  covers = λ rules m before t a w h. covers_attributes rules (cards_of m.objects) (meant g.id before) t g a w h;
+  step = λ rules m before t a sound brought shown silent. attributes_step rules m before t g a sound silent;
+  never = λ rules m before t a w h c ch V p x. attributes_never rules m before t g a w h c V p x;
+  hidden = λ rules m before t may sound silent. hidden_of rules m before t g sound silent;
   learns = λ m before t shown number bytes e. inl e;
-  decides = λ rules m before t shown w. get_attributes_decides (cards_of m.objects) (meant g.id before) t g shown w;
-  same = λ rules m n same before t shown w. ap (λ (cs : List Card). get_attributes_speaks cs (meant g.id before) t g shown w) same.0;
+  decides = λ rules m before t shown w. get_attributes_decides rules (cards_of m.objects) (meant g.id before) t g shown w;
+  same = λ rules m n same before t shown w. ap (λ (cs : List Card). get_attributes_speaks rules cs (meant g.id before) t g shown w) same.0;
 }
 
--- against an answer about an object that is there
-module _ (hs : List Held) (about : Option (List ℕ)) (t : ℤ) (g : GetAttributesOf) (h : Held) where
-  meant_card : Some h ≡ object_meant hs about → Some h.card ≡ card_meant (cards_of hs) about
-  meant_card e = ap (option_map (λ (x : Held). x.card)) e ∙ sym (card_meant_is hs about)
+-- AS THE PROGRAM LOOKS AT IT
 
-  whys_there : (shown : Option GotAttributesOf) → Some h ≡ object_meant hs about → attributes_speak h.card (state h.card.dates t) about g shown ≡ find (get_attributes_speaks (cards_of hs) about t g shown) whys
-  whys_there None e = ap (λ (o : Option Card). cond (is_none o) (Some NoSuchObject) None) (meant_card e)
-  whys_there (Some a) e =
-      ap (λ (o : Option Card). cond (is_none o) (Some NoSuchObject)
-      (cond (shows_foreign_of o t a.attributes) (Some AttributeDiffers)
-      (cond (lacks_required_of g o a.attributes) (Some AttributeMissing) (cond (is_other_id a.id about) (Some EchoDiffers) None)))) (meant_card e)
+module _ (rules : RulesOf) (hs : List Held) (about : Option (List ℕ)) (t : ℤ) (g : GetAttributesOf) where
+  abbrev whys_behind : Option GotAttributesOf → Option Card → Option Why
+  whys_behind None c = None
+  whys_behind (Some a) c =
+      cond (shows_foreign_of c t a.attributes) (Some AttributeDiffers)
+      (cond (lacks_required_of g c a.attributes) (Some AttributeMissing) (cond (is_other_id a.id about) (Some EchoDiffers) None))
 
-  -- the program's answer, of the object at the place that is meant
-  pub why_there : (p : ℕ) (o : Option ℕ) (shown : Option GotAttributesOf) (s : StateOf) (why : Option Why) → o ≡ Some p → o ≡ place_meant hs about → slice_get hs p ≡ Some h → state_of_place hs p t ≡ Some s
-      → why ≡ attributes_speak h.card s about g shown → why ≡ find (get_attributes_speaks (cards_of hs) about t g shown) whys
-  why_there p o shown s why here place at is w =
-      w ∙ ap (λ (x : StateOf). attributes_speak h.card x about g shown) (sym (state_there hs p t s h at is)) ∙ whys_there shown (sym (object_there hs about o p h here place at))
+  abbrev whys_of : Option GotAttributesOf → Option Card → Option Why
+  whys_of shown c = cond (is_none c) (Some NoSuchObject) (cond (excludes_attributes rules t c) (Some WrongState) (whys_behind shown c))
 
--- where there is no object
-nowhere : (hs : List Held) (about : Option (List ℕ)) (t : ℤ) (g : GetAttributesOf) (shown : Option GotAttributesOf) → card_meant (cards_of hs) about ≡ None
-    → Some NoSuchObject ≡ find (get_attributes_speaks (cards_of hs) about t g shown) whys
-nowhere hs about t g None absent = ap (λ (o : Option Card). cond (is_none o) (Some NoSuchObject) None) (sym absent)
-nowhere hs about t g (Some a) absent =
-    ap (λ (o : Option Card). cond (is_none o) (Some NoSuchObject)
-    (cond (shows_foreign_of o t a.attributes) (Some AttributeDiffers)
-    (cond (lacks_required_of g o a.attributes) (Some AttributeMissing) (cond (is_other_id a.id about) (Some EchoDiffers) None)))) (sym absent)
+  whys_are : (shown : Option GotAttributesOf) → find (get_attributes_speaks rules (cards_of hs) about t g shown) whys ≡ whys_of shown (card_meant (cards_of hs) about)
+  whys_are None = refl
+  whys_are (Some a) = refl
 
-pub why_nowhere : (hs : List Held) (about : Option (List ℕ)) (t : ℤ) (g : GetAttributesOf) (o : Option ℕ) (shown : Option GotAttributesOf) → o ≡ None → o ≡ place_meant hs about
-    → Some NoSuchObject ≡ find (get_attributes_speaks (cards_of hs) about t g shown) whys
-why_nowhere hs about t g o shown none place =
-    let absent : card_meant (cards_of hs) about ≡ None = card_meant_is hs about ∙ ap (option_map (λ (x : Held). x.card)) (object_nowhere hs about o none place) in
-    nowhere hs about t g shown absent
+  speak_is : (shown : Option GotAttributesOf) (c : Card) → attributes_speak c (state c.dates t) about g shown ≡ whys_behind shown (Some c)
+  speak_is None c = refl
+  speak_is (Some a) c = refl
+
+  -- there is no object
+  pub why_nowhere : (o : Option ℕ) (shown : Option GotAttributesOf) → o ≡ None → o ≡ place_meant hs about → Some NoSuchObject ≡ find (get_attributes_speaks rules (cards_of hs) about t g shown) whys
+  why_nowhere o shown none place = ap (whys_of shown) (sym (card_nowhere hs about o none place)) ∙ sym (whys_are shown)
+
+  module _ (p : ℕ) (o : Option ℕ) (shown : Option GotAttributesOf) (s : StateOf) (here : o ≡ Some p) (place : o ≡ place_meant hs about) (is : state_of_place hs p t ≡ Some s) where
+    -- the rules exclude it in the object's state
+    pub why_barred : is_not (allows rules.allow_lines act.GetAttributes s) ≡ true → Some WrongState ≡ find (get_attributes_speaks rules (cards_of hs) about t g shown) whys
+    why_barred out =
+        let x = in_state hs p t s is in
+        let excluded : is_not (allowance rules act.GetAttributes t x.0.card) ≡ true = ap (λ (z : StateOf). is_not (allows rules.allow_lines act.GetAttributes z)) x.2 ∙ out in
+        ap (λ (b : Bool). cond b (Some WrongState) (whys_behind shown (Some x.0.card))) (sym excluded)
+        ∙ ap (whys_of shown) (sym (card_there hs about o p x.0 here place x.1)) ∙ sym (whys_are shown)
+
+    -- or they don't, and the answer is looked at
+    pub why_there : (h : Held) (id : Option (List ℕ)) (a : Option GotAttributesOf) (why : Option Why) → slice_get hs p ≡ Some h → is_not (allows rules.allow_lines act.GetAttributes s) ≡ false
+        → id ≡ about → a ≡ shown → why ≡ attributes_speak h.card s id g a → why ≡ find (get_attributes_speaks rules (cards_of hs) about t g shown) whys
+    why_there h id a why at may is_meant is_shown w =
+        let in_it : state h.card.dates t ≡ s = state_there hs p t s h at is in
+        let allowed : is_not (allowance rules act.GetAttributes t h.card) ≡ false = ap (λ (z : StateOf). is_not (allows rules.allow_lines act.GetAttributes z)) in_it ∙ may in
+        w ∙ ap (λ (x : Option (List ℕ)). attributes_speak h.card s x g a) is_meant ∙ ap (λ (x : Option GotAttributesOf). attributes_speak h.card s about g x) is_shown
+        ∙ ap (λ (z : StateOf). attributes_speak h.card z about g shown) (sym in_it) ∙ speak_is shown h.card
+        ∙ ap (λ (b : Bool). cond b (Some WrongState) (whys_behind shown (Some h.card))) (sym allowed)
+        ∙ ap (whys_of shown) (sym (card_there hs about o p h here place at)) ∙ sym (whys_are shown)

@@ -2,7 +2,6 @@
 use Rattle.std.proofs.Common.{◌≡◌, ◌&&◌, ◌==◌, ◌<◌, ℕ, ℤ, Bool, true, false, not, List, length, slice_get, All, is_none, bytes_eq, option_map, Option, Some, None, refl, ap, sym, ◌∙◌, subst, inl, inr, arith, ◌||◌, find, ◌≢◌}
 use Rattle.std.specs.Ordering.{int_eq}
 use Rattle.std.specs.Option.{option_and_then}
-use Rattle.std.specs.Prelude.{if◌then◌else◌}
 use Rattle.std.proofs.lemmas.Slice.Eq.{bytes_eq-Decides}
 use Rattle.std.proofs.lemmas.Bool.{or_parts, and_parts, and_from}
 use Rattle.std.proofs.lemmas.Bool.Decides.{Decides-eqb, Decides-int_eq}
@@ -10,9 +9,8 @@ use Rattle.kmipa_attrs.specs.declared.object_type.ObjectType.{ObjectType}
 use Rattle.kmipa_attrs.specs.declared.object_type.ObjectType.TheVariants.{SymmetricKey, SecretData}
 use Rattle.std.specs.Bool.{Decides}
 use Rattle.kmipa_object.specs.Inventory.{Card, Thing, Admitted, place_of, rule_of, admits, live}
-use Rattle.kmipa_object.specs.Life.{state, has_come}
+use Rattle.kmipa_object.specs.Life.{state}
 use Rattle.kmipa_object.specs.Table.{allowed}
-use Rattle.kmipa_object.specs.declared.state.State.TheVariants.{PreActive, Active, Deactivated}
 use Rattle.kmipa_object.specs.declared.life.Material.{Material}
 use Rattle.kmipa_object.specs.declared.life.Material.TheVariants.{Gone, Secret}
 use Rattle.kmipa_object.specs.declared.life.SecretNo.{SecretNo}
@@ -22,9 +20,10 @@ use Rattle.kmipa_store.specs.Choices.{Choice, Suits, Chooses, inv, thing, bytes_
 use Rattle.kmipa_store.proofs.ChoiceLemmas.{override, override_same, agrees_same, Chooses-told, told_bytes, Chooses-override, extends_told, length-told}
 use Rattle.kmipa_store.proofs.InventoryLemmas.{cards-inv, get-inv}
 use Rattle.kmipa_store.proofs.SoundLemmas.{inv_found, InRange-extends}
-use Rattle.kmipa_msgs.specs.Messages.{GotOf, got}
+use Rattle.kmipa_msgs.specs.Messages.{RulesOf, GotOf, got}
 use Rattle.kmipa_ops.specs.declared.why.Why.{Why}
 use Rattle.kmipa_ops.specs.declared.why.Why.TheVariants.{NoSuchObject, WrongState, BytesDiffer, LengthImpossible, AttributeDiffers, EchoDiffers}
+use Rattle.kmipa_ops.specs.Allowance.{allowance}
 use Rattle.kmipa_ops.specs.Objects.{meant, Echoes, Agree, is_other, clash, same_type, is_other_id, Differs}
 use Rattle.kmipa_msgs.specs.Sayable.{SaysKey}
 use Rattle.kmipa_ops.specs.Get.{Gets, shows_other, get_speaks, taught, taught_at, get_leaves, get_deed, get_judging, IsOther, GetReason}
@@ -36,7 +35,7 @@ use Rattle.kmipa_ops.specs.Explains.{shows}
 use Rattle.kmipa_ops.proofs.LearnLemmas.{known_at, told_cases}
 use Rattle.kmipa_ops.proofs.DeedLaws.{Learns, outer_whys, IsDeed, KnowSame}
 use Rattle.kmipa_object.specs.declared.allow.Act.TheVariants as act
-use Rattle.kmipa_ops.proofs.ConditionLemmas.{never_decides, or_decides, none_decides, differs_decides, clashes_decides, id_decides, excluded_decides, object_same, none_same, excluded_same}
+use Rattle.kmipa_ops.proofs.ConditionLemmas.{never_decides, or_decides, none_decides, differs_decides, clashes_decides, id_decides, in_table, is_not_decides, excluded_decides, object_same, none_same, excluded_same}
 use Rattle.kmipa_msgs.specs.Gets.{AnswersGet}
 
 pub same_type-Decides : (x y : ObjectType) → Decides (same_type x y) (x ≡ y)
@@ -45,20 +44,11 @@ same_type-Decides SymmetricKey SecretData = (λ h. let bad : ⊥ = cc in absurd 
 same_type-Decides SecretData SymmetricKey = (λ h. let bad : ⊥ = cc in absurd bad, λ h. let bad : ⊥ = cc in absurd bad)
 same_type-Decides SecretData SecretData = (λ h. refl, λ h. refl)
 
--- the state excludes a Get exactly where the Destroy Date is set
+-- the table excludes a Get where the Destroy Date is set
 pub alive_if : (i a d e c : Option ℤ) (t : ℤ) → is_not (allowed act.Get (state (record { initial = i; activation = a; deactivation = d; destroy = e; compromise = c }) t)) ≡ false → is_none e ≡ true
 alive_if i a d None c t h = refl
 alive_if i a d (Some x) None t h = cc
 alive_if i a d (Some x) (Some y) t h = cc
-
-pub alive_not : (i a d e c : Option ℤ) (t : ℤ) → is_none e ≡ true → is_not (allowed act.Get (state (record { initial = i; activation = a; deactivation = d; destroy = e; compromise = c }) t)) ≡ true → ⊥
-alive_not i a d None (Some y) t h x = cc
-alive_not i a d None None t h x =
-    (elim (has_come a t) as (λ b. is_not (allowed act.Get (if not b then PreActive else if has_come d t then Deactivated else Active)) ≡ true → ⊥) [
-      | false ↦ λ q. cc
-      | true ↦ (elim (has_come d t) as (λ b. is_not (allowed act.Get (if b then Deactivated else Active)) ≡ true → ⊥) [ false ↦ λ q. cc | true ↦ λ q. cc ])
-    ]) x
-alive_not i a d (Some z) c t h x = cc
 
 -- the object that is meant is at a place, is live, and has a secret
 pub record Finds (m : Meaning) (about : Option (List ℕ)) (id : List ℕ) (place : ℕ) (h : Held) (s : SecretNo) : Type 0 where
@@ -84,17 +74,17 @@ live_secret false mat e g = let bad : ⊥ = cc in absurd bad
 live_secret true Gone e g = absurd g
 live_secret true (Secret s) e g = (s, refl)
 
-pub finds : (m : Meaning) (about : Option (List ℕ)) (t : ℤ) → IsSound m → is_none (object_meant m.objects about) ≡ false → is_excluded act.Get t (object_meant m.objects about) ≡ false
+pub finds : (rules : RulesOf) (m : Meaning) (about : Option (List ℕ)) (t : ℤ) → IsSound m → is_none (object_meant m.objects about) ≡ false → is_excluded rules act.Get t (object_meant m.objects about) ≡ false
     → (id : List ℕ) × (place : ℕ) × (h : Held) × (s : SecretNo) × Finds m about id place h s
-finds m about t sound there fits =
+finds rules m about t sound there fits =
     let o = not_none (object_meant m.objects about) there in
     let at = meant_at m.objects about o.0 o.1 in
     let d = o.0.card.dates in
-    let alive : live o.0.card ≡ true = alive_if d.initial d.activation d.deactivation d.destroy d.compromise t (ap (is_excluded act.Get t) (sym o.1) ∙ fits) in
+    let alive : live o.0.card ≡ true = alive_if d.initial d.activation d.deactivation d.destroy d.compromise t (in_table rules act.Get t o.0.card (ap (is_excluded rules act.Get t) (sym o.1) ∙ fits)) in
     let s = live_secret (live o.0.card) o.0.material alive (sound.gone at.2 o.0 at.4) in
     (at.0, at.2, o.0, s.0, record { about_is = at.1; named = at.3; stands = at.4; alive = alive; secret = s.1 })
 
-module _ (m : Meaning) (before asked : Option (List ℕ)) (t : ℤ) where
+module _ (rules : RulesOf) (m : Meaning) (before asked : Option (List ℕ)) (t : ℤ) where
   abbrev about : Option (List ℕ)
   about = meant asked before
 
@@ -104,9 +94,9 @@ module _ (m : Meaning) (before asked : Option (List ℕ)) (t : ℤ) where
       ∙ ap (secret_at m.secrets) f.secret
 
   -- a Get of it, under a choice that gives it the bytes that are shown
-  pub links : (id : List ℕ) (place : ℕ) (h : Held) (s : SecretNo) (a : GotOf) → Finds m about id place h s → shows_other a (object_meant m.objects about) ≡ false → is_other_id a.id about ≡ false
-      → (c : Choice) → c s.number ≡ a.block.material → Gets (inv c m.objects) before asked a (inv c m.objects) before
-  links id place h s a f other echo c is =
+  pub links : (id : List ℕ) (place : ℕ) (h : Held) (s : SecretNo) (a : GotOf) → Finds m about id place h s → is_not (allowance rules act.Get t h.card) ≡ false → shows_other a (object_meant m.objects about) ≡ false → is_other_id a.id about ≡ false
+      → (c : Choice) → c s.number ≡ a.block.material → Gets rules (inv c m.objects) before t asked a (inv c m.objects) before
+  links id place h s a f may other echo c is =
       let o : shows_other a (Some h) ≡ false = ap (shows_other a) (sym (meant_is m about id place h f.about_is f.named f.stands)) ∙ other in
       let x = or_parts _ (clash int_eq a.block.length h.card.given.length) o in
       let y = or_parts _ (clash (λ (i j : ℕ). i == j) a.block.algorithm h.card.given.algorithm) x.0 in
@@ -118,6 +108,7 @@ module _ (m : Meaning) (before asked : Option (List ℕ)) (t : ℤ) where
         about = f.about_is;
         there = record { named = ap (place_of id) (cards-inv c m.objects) ∙ f.named; stands = get-inv c m.objects place ∙ ap (option_map (thing c)) f.stands };
         alive = f.alive;
+        may = λ e. let bad : true ≡ false = sym (ap is_not e) ∙ may in cc;
         bytes = ap (bytes_of c) f.secret ∙ ap Some is;
         kind = echoes_if same_type same_type-Decides a.object_type h.card.kind z.0;
         shape = (same_type-Decides a.shape h.card.kind).0 (not_false (same_type a.shape h.card.kind) z.1);
@@ -133,7 +124,7 @@ module _ (m : Meaning) (before asked : Option (List ℕ)) (t : ℤ) where
   material_is c (Secret s) b e = (s, refl, cc)
 
   -- what a Get of an inventory under a choice is about
-  pub found_by : (a : GotOf) (c : Choice) (V : List Thing) (p : Option (List ℕ)) (x : Gets (inv c m.objects) before asked a V p)
+  pub found_by : (a : GotOf) (c : Choice) (V : List Thing) (p : Option (List ℕ)) (x : Gets rules (inv c m.objects) before t asked a V p)
       → (h : Held) × (s : SecretNo) × Finds m about x.id x.place h s × (thing c h ≡ x.object) × (c s.number ≡ a.block.material)
   found_by a c V p x =
       let o = inv_found c m.objects x.place x.object x.there.stands in
@@ -177,14 +168,14 @@ module _ (m : Meaning) (before asked : Option (List ℕ)) (t : ℤ) where
       ap (λ (o : Option Held). taught m o b) (meant_is m about id place h f.about_is f.named f.stands) ∙ ap (λ (x : Material). taught_at m x b) f.secret
 
   told_step : (id : List ℕ) (place : ℕ) (h : Held) (s : SecretNo) (k : Known) (a : GotOf) → Finds m about id place h s → slice_get m.secrets s.number ≡ Some k → IsSound m
-      → ((x : List ℕ) → k.bytes ≡ Some x → a.block.material ≡ x) → Admitted k.rule a.block.material
+      → ((x : List ℕ) → k.bytes ≡ Some x → a.block.material ≡ x) → Admitted k.rule a.block.material → is_not (allowance rules act.Get t h.card) ≡ false
       → shows_other a (object_meant m.objects about) ≡ false → is_other_id a.id about ≡ false
-      → Step (λ V V' p. Gets V before asked a V' p) m (record { objects = m.objects; secrets = told m.secrets s.number a.block.material }) before
-  told_step id place h s k a f at sound fits admitted other echo =
+      → Step (λ V V' p. Gets rules V before t asked a V' p) m (record { objects = m.objects; secrets = told m.secrets s.number a.block.material }) before
+  told_step id place h s k a f at sound fits admitted may other echo =
       let b : List ℕ = a.block.material in
       let suits : Suits k b = record { admitted = admitted; known = fits } in
       record {
-        sound = λ c ch. (chose_before m.secrets s.number k b c at fits ch, links id place h s a f other echo c (told_bytes m.secrets s.number k b c at ch));
+        sound = λ c ch. (chose_before m.secrets s.number k b c at fits ch, links id place h s a f may other echo c (told_bytes m.secrets s.number k b c at ch));
         complete = λ c ch V p x.
             let r = found_by a c V p x in
             let same : r.1 ≡ s = one_found x.id id x.place place r.0 h r.1 s r.2 f in
@@ -204,34 +195,35 @@ module _ (m : Meaning) (before asked : Option (List ℕ)) (t : ℤ) where
         };
       }
 
-  pub get_step : (a : GotOf) → IsSound m → All (λ x. x < 256) a.block.material → ((w : Why) → get_speaks m about t (Some a) w ≡ false)
-      → Step (λ V V' p. Gets V before asked a V' p) m (taught m (object_meant m.objects about) a.block.material) before
+  pub get_step : (a : GotOf) → IsSound m → All (λ x. x < 256) a.block.material → ((w : Why) → get_speaks rules m about t (Some a) w ≡ false)
+      → Step (λ V V' p. Gets rules V before t asked a V' p) m (taught m (object_meant m.objects about) a.block.material) before
   get_step a sound small silent =
       let b : List ℕ = a.block.material in
-      let f = finds m about t sound (silent NoSuchObject) (silent WrongState) in
+      let f = finds rules m about t sound (silent NoSuchObject) (silent WrongState) in
       let r = sound.in_range.there f.1 f.2 f.3 f.4.stands f.4.secret in
       let k : Known = record { rule = rule_of f.2.card; bytes = r.0 } in
+      let may : is_not (allowance rules act.Get t f.2.card) ≡ false = ap (is_excluded rules act.Get t) (sym (meant_is m about f.0 f.1 f.2 f.4.about_is f.4.named f.4.stands)) ∙ silent WrongState in
       let is : secret_meant m about ≡ Some k = secret_is f.0 f.1 f.2 f.3 f.4 ∙ r.1 in
       let same : differs (Some k) b ≡ false = ap (λ (o : Option Known). differs o b) (sym is) ∙ silent BytesDiffer in
       let fits : breaks (Some k) b ≡ false = ap (λ (o : Option Known). breaks o b) (sym is) ∙ silent LengthImpossible in
       let admitted = fits_rule k b (sound.choice.0 f.3.number) (sound.choice.1.suits f.3.number k r.1) small same fits in
-      let P : Meaning → Type 0 = λ n. Step (λ V V' p. Gets V before asked a V' p) m n before in
+      let P : Meaning → Type 0 = λ n. Step (λ V V' p. Gets rules V before t asked a V' p) m n before in
       subst P (sym (taught_is f.0 f.1 f.2 f.3 b f.4))
-      (told_step f.0 f.1 f.2 f.3 k a f.4 r.1 sound (λ x e. fits_known k b x same e) admitted (silent AttributeDiffers) (silent EchoDiffers))
+      (told_step f.0 f.1 f.2 f.3 k a f.4 r.1 sound (λ x e. fits_known k b x same e) admitted may (silent AttributeDiffers) (silent EchoDiffers))
 
   -- what speaks against it allows no choice
-  not_absent : (a : GotOf) (c : Choice) (V : List Thing) (p : Option (List ℕ)) → is_none (object_meant m.objects about) ≡ true → Gets (inv c m.objects) before asked a V p → ⊥
+  not_absent : (a : GotOf) (c : Choice) (V : List Thing) (p : Option (List ℕ)) → is_none (object_meant m.objects about) ≡ true → Gets rules (inv c m.objects) before t asked a V p → ⊥
   not_absent a c V p h x =
       let r = found_by a c V p x in
       let e : is_none (object_meant m.objects about) ≡ false = ap is_none (meant_is m about x.id x.place r.0 r.2.about_is r.2.named r.2.stands) in
       cc
 
-  not_excluded : (a : GotOf) (c : Choice) (V : List Thing) (p : Option (List ℕ)) → is_excluded act.Get t (object_meant m.objects about) ≡ true → Gets (inv c m.objects) before asked a V p → ⊥
+  not_excluded : (a : GotOf) (c : Choice) (V : List Thing) (p : Option (List ℕ)) → is_excluded rules act.Get t (object_meant m.objects about) ≡ true → Gets rules (inv c m.objects) before t asked a V p → ⊥
   not_excluded a c V p h x =
       let r = found_by a c V p x in
-      let d = r.0.card.dates in
-      alive_not d.initial d.activation d.deactivation d.destroy d.compromise t r.2.alive
-      (ap (is_excluded act.Get t) (sym (meant_is m about x.id x.place r.0 r.2.about_is r.2.named r.2.stands)) ∙ h)
+      let e : is_not (allowance rules act.Get t r.0.card) ≡ true =
+      ap (is_excluded rules act.Get t) (sym (meant_is m about x.id x.place r.0 r.2.about_is r.2.named r.2.stands)) ∙ h in
+      x.may (ap (λ (y : Thing). allowance rules act.Get t y.card) (sym r.3) ∙ (is_not_decides (allowance rules act.Get t r.0.card)).0 e)
 
   suits_differ : (o : Option Known) (n : ℕ) (b : List ℕ) (c : Choice) → o ≡ slice_get m.secrets n → Chooses m.secrets c → c n ≡ b → differs o b ≡ true → ⊥
   suits_differ None n b c at ch is h = cc
@@ -255,7 +247,7 @@ module _ (m : Meaning) (before asked : Option (List ℕ)) (t : ℤ) where
       let q : not (admits k.rule b) ≡ true = and_right (is_none k.bytes) (not (admits k.rule b)) h in
       cc
 
-  not_other : (a : GotOf) (c : Choice) (V : List Thing) (p : Option (List ℕ)) → shows_other a (object_meant m.objects about) ≡ true → Gets (inv c m.objects) before asked a V p → ⊥
+  not_other : (a : GotOf) (c : Choice) (V : List Thing) (p : Option (List ℕ)) → shows_other a (object_meant m.objects about) ≡ true → Gets rules (inv c m.objects) before t asked a V p → ⊥
   not_other a c V p h x =
       let r = found_by a c V p x in
       let card : x.object.card ≡ r.0.card = sym (ap (λ (y : Thing). y.card) r.3) in
@@ -274,7 +266,7 @@ module _ (m : Meaning) (before asked : Option (List ℕ)) (t : ℤ) where
         ])
       ]
 
-  pub get_never : (a : GotOf) (w : Why) → get_speaks m about t (Some a) w ≡ true → (c : Choice) → Chooses m.secrets c → (V : List Thing) (p : Option (List ℕ)) → Gets (inv c m.objects) before asked a V p → ⊥
+  pub get_never : (a : GotOf) (w : Why) → get_speaks rules m about t (Some a) w ≡ true → (c : Choice) → Chooses m.secrets c → (V : List Thing) (p : Option (List ℕ)) → Gets rules (inv c m.objects) before t asked a V p → ⊥
   get_never a NoSuchObject h c ch V p x = not_absent a c V p h x
   get_never a WrongState h c ch V p x = not_excluded a c V p h x
   get_never a BytesDiffer h c ch V p x =
@@ -287,24 +279,25 @@ module _ (m : Meaning) (before asked : Option (List ℕ)) (t : ℤ) where
   get_never a EchoDiffers h c ch V p x = echoes_not bytes_eq bytes_eq-Decides a.id x.id (ap (is_other_id a.id) (sym x.about) ∙ h) x.echo
   get_never a w h c ch V p x = cc
 
-quiet_get : (m : Meaning) (about : Option (List ℕ)) (t : ℤ) (shown : Option GotOf) → find (get_speaks m about t shown) outer_whys ≡ None
-quiet_get m meant_id t None = refl
-quiet_get m meant_id t (Some a) = refl
+quiet_get : (rules : RulesOf) (m : Meaning) (about : Option (List ℕ)) (t : ℤ) (shown : Option GotOf) → find (get_speaks rules m about t shown) outer_whys ≡ None
+quiet_get rules m meant_id t None = refl
+quiet_get rules m meant_id t (Some a) = refl
 
-covers_get : (m : Meaning) (about : Option (List ℕ)) (t : ℤ) (a : GotOf) (w : Why) → get_speaks m about t None w ≡ true → get_speaks m about t (Some a) w ≡ true
-covers_get m meant_id t a NoSuchObject h = h
-covers_get m meant_id t a WrongState h = h
-covers_get m meant_id t a w h = cc
+covers_get : (rules : RulesOf) (m : Meaning) (about : Option (List ℕ)) (t : ℤ) (a : GotOf) (w : Why) → get_speaks rules m about t None w ≡ true → get_speaks rules m about t (Some a) w ≡ true
+covers_get rules m meant_id t a NoSuchObject h = h
+covers_get rules m meant_id t a WrongState h = h
+covers_get rules m meant_id t a w h = cc
 
 -- an answer without payload: the object's bytes complete it
-hidden_get : (m : Meaning) (before id : Option (List ℕ)) (t : ℤ) → IsSound m → ((w : Why) → get_speaks m (meant id before) t None w ≡ false)
-    → Step (λ V V' p. (a : GotOf) × SaysKey a × Gets V before id a V' p) m m before
-hidden_get m before id t sound silent =
+hidden_get : (rules : RulesOf) (m : Meaning) (before id : Option (List ℕ)) (t : ℤ) → IsSound m → ((w : Why) → get_speaks rules m (meant id before) t None w ≡ false)
+    → Step (λ V V' p. (a : GotOf) × SaysKey a × Gets rules V before t id a V' p) m m before
+hidden_get rules m before id t sound silent =
     let about : Option (List ℕ) = meant id before in
-    let f = finds m about t sound (silent NoSuchObject) (silent WrongState) in
+    let f = finds rules m about t sound (silent NoSuchObject) (silent WrongState) in
     let r = sound.in_range.there f.1 f.2 f.3 f.4.stands f.4.secret in
     let k : Known = record { rule = rule_of f.2.card; bytes = r.0 } in
-    still_step (λ V V' p. (a : GotOf) × SaysKey a × Gets V before id a V' p) m before sound
+    let may : is_not (allowance rules act.Get t f.2.card) ≡ false = ap (is_excluded rules act.Get t) (sym (meant_is m about f.0 f.1 f.2 f.4.about_is f.4.named f.4.stands)) ∙ silent WrongState in
+    still_step (λ V V' p. (a : GotOf) × SaysKey a × Gets rules V before t id a V' p) m before sound
     (λ c ch.
     let g : GotOf = record { object_type = None; id = None; shape = f.2.card.kind; block = record { format = Raw; material = c f.3.number; algorithm = None; length = None } } in
     let kind : not (same_type f.2.card.kind f.2.card.kind) ≡ false = ap not ((same_type-Decides f.2.card.kind f.2.card.kind).1 refl) in
@@ -312,7 +305,7 @@ hidden_get m before id t sound silent =
     let same : shows_other g (object_meant m.objects about) ≡ false = ap (shows_other g) (meant_is m about f.0 f.1 f.2 f.4.about_is f.4.named f.4.stands) ∙ other in (
       g,
       (tt, record { material = (ch.suits f.3.number k r.1).admitted.small; algorithm = tt; length = tt }),
-      links m before id t f.0 f.1 f.2 f.3 g f.4 same (ap (is_other_id None) f.4.about_is) c refl,
+      links rules m before id t f.0 f.1 f.2 f.3 g f.4 may same (ap (is_other_id None) f.4.about_is) c refl,
     ))
     (λ V V' p x. (x.2.leaves, x.2.placeholder))
 
@@ -382,40 +375,40 @@ other_at a (Some h) = (
       (other_decides a h).1 (subst (λ (k : Held). IsOther a k.card) is x.2),
 )
 
-get_decides : (m : Meaning) (meant_id : Option (List ℕ)) (t : ℤ) (shown : Option GotOf) (why : Why) → Decides (get_speaks m meant_id t shown why) (GetReason m meant_id t shown why)
-get_decides m meant_id t None NoSuchObject = none_decides (object_meant m.objects meant_id)
-get_decides m meant_id t None WrongState = excluded_decides m.objects meant_id t act.Get
-get_decides m meant_id t None why = never_decides
-get_decides m meant_id t (Some a) NoSuchObject = none_decides (object_meant m.objects meant_id)
-get_decides m meant_id t (Some a) WrongState = excluded_decides m.objects meant_id t act.Get
-get_decides m meant_id t (Some a) BytesDiffer = otherwise_at (secret_meant m meant_id) a.block.material
-get_decides m meant_id t (Some a) LengthImpossible = impossible_at (secret_meant m meant_id) a.block.material
-get_decides m meant_id t (Some a) AttributeDiffers = other_at a (object_meant m.objects meant_id)
-get_decides m meant_id t (Some a) EchoDiffers = id_decides a.id meant_id
-get_decides m meant_id t (Some a) why = never_decides
+get_decides : (rules : RulesOf) (m : Meaning) (meant_id : Option (List ℕ)) (t : ℤ) (shown : Option GotOf) (why : Why) → Decides (get_speaks rules m meant_id t shown why) (GetReason rules m meant_id t shown why)
+get_decides rules m meant_id t None NoSuchObject = none_decides (object_meant m.objects meant_id)
+get_decides rules m meant_id t None WrongState = excluded_decides rules m.objects meant_id t act.Get
+get_decides rules m meant_id t None why = never_decides
+get_decides rules m meant_id t (Some a) NoSuchObject = none_decides (object_meant m.objects meant_id)
+get_decides rules m meant_id t (Some a) WrongState = excluded_decides rules m.objects meant_id t act.Get
+get_decides rules m meant_id t (Some a) BytesDiffer = otherwise_at (secret_meant m meant_id) a.block.material
+get_decides rules m meant_id t (Some a) LengthImpossible = impossible_at (secret_meant m meant_id) a.block.material
+get_decides rules m meant_id t (Some a) AttributeDiffers = other_at a (object_meant m.objects meant_id)
+get_decides rules m meant_id t (Some a) EchoDiffers = id_decides a.id meant_id
+get_decides rules m meant_id t (Some a) why = never_decides
 
 -- and the same over ledgers of which the same is known
-get_same : (m n : Meaning) → KnowSame m n → (meant_id : Option (List ℕ)) (t : ℤ) (shown : Option GotOf) (why : Why) → get_speaks m meant_id t shown why ≡ get_speaks n meant_id t shown why
-get_same m n same meant_id t shown NoSuchObject = none_same m.objects n.objects same.0 meant_id
-get_same m n same meant_id t shown WrongState = excluded_same m.objects n.objects same.0 act.Get t meant_id
-get_same m n same meant_id t (Some a) BytesDiffer = ap (λ (o : Option Known). differs o a.block.material) (same.1 meant_id)
-get_same m n same meant_id t (Some a) LengthImpossible = ap (λ (o : Option Known). breaks o a.block.material) (same.1 meant_id)
-get_same m n same meant_id t (Some a) AttributeDiffers =
+get_same : (rules : RulesOf) (m n : Meaning) → KnowSame m n → (meant_id : Option (List ℕ)) (t : ℤ) (shown : Option GotOf) (why : Why) → get_speaks rules m meant_id t shown why ≡ get_speaks rules n meant_id t shown why
+get_same rules m n same meant_id t shown NoSuchObject = none_same m.objects n.objects same.0 meant_id
+get_same rules m n same meant_id t shown WrongState = excluded_same m.objects n.objects same.0 rules act.Get t meant_id
+get_same rules m n same meant_id t (Some a) BytesDiffer = ap (λ (o : Option Known). differs o a.block.material) (same.1 meant_id)
+get_same rules m n same meant_id t (Some a) LengthImpossible = ap (λ (o : Option Known). breaks o a.block.material) (same.1 meant_id)
+get_same rules m n same meant_id t (Some a) AttributeDiffers =
     object_same m.objects n.objects same.0 (shows_other a) (λ h g e. λ i. shows_other a (Some (record { card = e i; material = Gone }))) meant_id
-get_same m n same meant_id t (Some a) why = refl
-get_same m n same meant_id t None why = refl
+get_same rules m n same meant_id t (Some a) why = refl
+get_same rules m n same meant_id t None why = refl
 
 pub is_get : (id : Option (List ℕ)) → IsDeed (get_deed id) (get_judging id) AnswersGet SaysKey
 is_get id = record {
   back = λ a. refl;
   each = elim [ got x ↦ inl (x, refl) | _ ↦ inr (refl, λ ts s. s) ];
   carries = λ x. (λ h. (h, tt), λ h. h.0);
-  quiet = λ rules m before t shown. quiet_get m (meant id before) t shown;
-  covers = λ rules m before t a w h. covers_get m (meant id before) t a w h;
-  step = λ rules m before t a sound brought shown silent. get_step m before id t a sound shown silent;
-  never = λ rules m before t a w h c ch V p x. get_never m before id t a w h c ch V p x;
-  hidden = λ rules m before t may sound silent. hidden_get m before id t sound silent;
+  quiet = λ rules m before t shown. quiet_get rules m (meant id before) t shown;
+  covers = λ rules m before t a w h. covers_get rules m (meant id before) t a w h;
+  step = λ rules m before t a sound brought shown silent. get_step rules m before id t a sound shown silent;
+  never = λ rules m before t a w h c ch V p x. get_never rules m before id t a w h c ch V p x;
+  hidden = λ rules m before t may sound silent. hidden_get rules m before id t sound silent;
   learns = λ m before t shown. learns_get m (meant id before) shown;
-  decides = λ rules m before t shown w. get_decides m (meant id before) t shown w;
-  same = λ rules m n same before t shown w. get_same m n same (meant id before) t shown w;
+  decides = λ rules m before t shown w. get_decides rules m (meant id before) t shown w;
+  same = λ rules m n same before t shown w. get_same rules m n same (meant id before) t shown w;
 }

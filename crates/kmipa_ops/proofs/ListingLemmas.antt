@@ -6,7 +6,7 @@ use Rattle.std.proofs.lemmas.Slice.Eq.{bytes_eq-Decides}
 use Rattle.kmipa_attrs.specs.Sets.{NameOf, name_of}
 use Rattle.kmipa_attrs.specs.declared.name.Name.{Name}
 use Rattle.kmipa_attrs.specs.Filters.{FilterOf}
-use Rattle.kmipa_object.specs.Inventory.{Card, place_of}
+use Rattle.kmipa_object.specs.Inventory.{Card, live, place_of}
 use Rattle.kmipa_object.specs.Life.{state}
 use Rattle.kmipa_object.proofs.ListLemmas.{get_below}
 use Rattle.kmipa_store.specs.Ledger.{Held, Meaning, cards_of}
@@ -15,15 +15,14 @@ use Rattle.kmipa_store.proofs.InventoryLemmas.{get-cards_of, place_found, place_
 use Rattle.kmipa_ops.specs.declared.why.Why.TheVariants.{ListedWrongly, ListedTooFew}
 use Rattle.kmipa_ops.specs.Whys.{whys}
 use Rattle.kmipa_object.specs.declared.state.State.{State}
-use Rattle.kmipa_store.specs.Queries.{has_name, next_named}
+use Rattle.kmipa_store.specs.Queries.{has_name, has_name_alive, next_live_named, next_named}
 use Rattle.kmipa_ops.specs.Objects.{card_meant, same_name}
 use Rattle.kmipa_ops.specs.GetAttributes.{has_stranger}
 use Rattle.std.specs.Option.{option_and_then}
 use Rattle.kmipa_ops.specs.declared.fit.Fit.{Fit}
-use Rattle.kmipa_ops.specs.declared.fit.Fit.TheVariants as fit
 use Rattle.kmipa_ops.proofs.LocateLemmas.{fit_tells}
 use Rattle.kmipa_ops.proofs.NameLemmas.{same_both}
-use Rattle.kmipa_ops.specs.Locate.{says_no, is_doubtful, must_fit, fits_here, is_listed, is_over, is_full, has_repeat, lists_misfit, leaves_out, locate_speaks}
+use Rattle.kmipa_ops.specs.Locate.{says_no, is_doubtful, is_unsure, may_fit, must_fit, fits_here, is_listed, is_over, is_full, has_repeat, lists_misfit, leaves_out, locate_speaks}
 use Rattle.kmipa_ops.specs.declared.places_listed.PlacesListed.{PlacesListed}
 use Rattle.kmipa_ops.specs.Listing.{is_among, is_place, PlaceListed, ArePlaced, NextCandidate, CoveredTo, LeavesOut, IsMissing, FitsAt, may_of, must_of}
 use Rattle.kmipa_ops.proofs.TestLemmas.{or_cases, or_right, same_truth, true_not, false_if}
@@ -56,6 +55,15 @@ none_of true b c p q r = cc
 covered_if : (must listed : Bool) → (must ≡ true → listed ≡ true) → not (not must || listed) ≡ false
 covered_if true listed f = ap not (f refl)
 covered_if false listed f = refl
+
+false_right : (a b : Bool) → b ≡ false → (a && b) ≡ false
+false_right true b e = e
+false_right false b e = refl
+
+second_true : (a b c d : Bool) → b ≡ true → (a || b || c || d) ≡ true
+second_true true b c d h = refl
+second_true false true c d h = refl
+second_true false false c d h = cc
 
 five_true : (a b c d e : Bool) → a ≡ true → (a || b || c || d || e) ≡ true
 five_true true b c d e h = refl
@@ -324,6 +332,20 @@ no_stranger q s c e =
     let says : says_no q s c ≡ true = five_true (has_stranger c.given.names q.names) _ _ _ _ e in
     ap (λ (b : Bool). not b && not (is_doubtful q c)) says
 
+-- a destroyed object is never to be listed
+destroyed_not : (q : FilterOf) (s : State) (c : Card) → live c ≡ false → must_fit q s c ≡ false
+destroyed_not q s c gone =
+    let rest : Bool = is_unsure q.length c.given.length in
+    let doubtful : is_doubtful q c ≡ true = ap (λ (b : Bool). not b || q.is_loose || is_unsure q.algorithm c.given.algorithm || rest) gone in
+    false_right (may_fit q s c) (not (is_doubtful q c)) (ap not doubtful)
+
+-- where not all that is asked is judged, no object has to be listed
+loose_not : (q : FilterOf) (s : State) (c : Card) → q.is_loose ≡ true → must_fit q s c ≡ false
+loose_not q s c loose =
+    let rest : Bool = is_unsure q.length c.given.length in
+    let doubtful : is_doubtful q c ≡ true = second_true (not (live c)) q.is_loose (is_unsure q.algorithm c.given.algorithm) rest loose in
+    false_right (may_fit q s c) (not (is_doubtful q c)) (ap not doubtful)
+
 lt_or_le : (a b : ℕ) → (a < b) ⊎ (b ≤ a)
 lt_or_le a zero = inr (omega arith)
 lt_or_le zero (suc b) = inl (omega arith)
@@ -331,25 +353,33 @@ lt_or_le (suc a) (suc b) = elim (lt_or_le a b) [ inl h ↦ inl (omega arith) | i
 
 -- the next place, where one name more is asked for
 module _ (q : FilterOf) (n : NameOf) (i : ℕ) (asked : slice_get q.names i ≡ Some n) where
-  lacks_one : (s : State) (h : Held) → has_name n.value n.kind h ≡ false → must_fit q s h.card ≡ false
-  lacks_one s h lacks =
+  lacks_name : (s : State) (h : Held) → has_name n.value n.kind h ≡ false → must_fit q s h.card ≡ false
+  lacks_name s h lacks =
       let own : List NameOf = h.card.given.names in
       let known : list_any (λ (k : NameOf). same_name k n) own ≡ false =
       any_same (λ (k : NameOf). same_name k n) (λ (k : NameOf). same_name n k) (λ k. same_both k n) own ∙ lacks in
       no_stranger q s h.card (any_at (λ (m : NameOf). not (list_any (λ (k : NameOf). same_name k m) own)) q.names i n asked (ap not known))
 
+  -- it lacks the name, or is destroyed
+  lacks_by : (s : State) (h : Held) (b : Bool) → live h.card ≡ b → (b && has_name n.value n.kind h) ≡ false → must_fit q s h.card ≡ false
+  lacks_by s h true alive e = lacks_name s h e
+  lacks_by s h false alive e = destroyed_not q s h.card alive
+
+  lacks_one : (s : State) (h : Held) → has_name_alive n.value n.kind h ≡ false → must_fit q s h.card ≡ false
+  lacks_one s h e = lacks_by s h (live h.card) refl e
+
   module _ (hs : List Held) (t : ℤ) (from place : ℕ) (so_far : NextCandidate hs t q from (Some place)) where
-    pub narrow_none : next_named n.value n.kind place hs ≡ None → NextCandidate hs t q from None
+    pub narrow_none : next_live_named n.value n.kind place hs ≡ None → NextCandidate hs t q from None
     narrow_none e to p h low high at = elim (lt_or_le p place) [
       | inl below ↦ so_far.1 p h low below at
       | inr above ↦
           let d = dropped hs place p h above at in
-          lacks_one (state h.card.dates t) h (position_none (has_name n.value n.kind) (drop place hs) place e d.0 h d.2)
+          lacks_one (state h.card.dates t) h (position_none (has_name_alive n.value n.kind) (drop place hs) place e d.0 h d.2)
     ]
 
-    pub narrow_more : (to : ℕ) → next_named n.value n.kind place hs ≡ Some to → NextCandidate hs t q from (Some to)
+    pub narrow_more : (to : ℕ) → next_live_named n.value n.kind place hs ≡ Some to → NextCandidate hs t q from (Some to)
     narrow_more to e =
-        let r = position_some (has_name n.value n.kind) (drop place hs) place to e in
+        let r = position_some (has_name_alive n.value n.kind) (drop place hs) place to e in
         let on : place ≤ to = r.0 in
         let past : from ≤ place = so_far.0 in (
           omega (arith, on, past),
@@ -363,6 +393,10 @@ module _ (q : FilterOf) (n : NameOf) (i : ℕ) (asked : slice_get q.names i ≡ 
         )
 
 -- THE SCAN
+
+-- of a Locate that asks for what isn't judged nothing is left out
+pub loose_leaves : (hs : List Held) (t : ℤ) (q : FilterOf) (places : PlacesListed) → q.is_loose ≡ true → LeavesOut hs t q places false
+loose_leaves hs t q places loose p h at must = absurd (true_not (must_fit q (state h.card.dates t) h.card) must (loose_not q (state h.card.dates t) h.card loose))
 
 module _ (hs : List Held) (t : ℤ) (q : FilterOf) (places : PlacesListed) (from : ℕ) (covered : CoveredTo hs t q places from) where
   pub scan_end : NextCandidate hs t q from None → LeavesOut hs t q places false
@@ -427,10 +461,6 @@ lacks_is hs names p h at =
 -- an object at a place
 pub missing_if : (hs : List Held) (t : ℤ) (q : FilterOf) (places : PlacesListed) (p : ℕ) (f : Fit) → FitsAt hs t q p f → must_of f ≡ true → is_among places p ≡ false → IsMissing hs t q places p true
 missing_if hs t q places p f x must out = (x.0, x.1, (fit_tells q (state x.0.card.dates t) x.0.card f x.2).1 ∙ must, out)
-
-pub missing_must : (hs : List Held) (t : ℤ) (q : FilterOf) (places : PlacesListed) (p : ℕ) (b : Bool) → FitsAt hs t q p fit.Must → b ≡ is_among places p → IsMissing hs t q places p (not b)
-missing_must hs t q places p true x e = λ h at must. sym e
-missing_must hs t q places p false x e = missing_if hs t q places p fit.Must x refl (sym e)
 
 same_held : (hs : List Held) (p : ℕ) (g h : Held) → slice_get hs p ≡ Some g → slice_get hs p ≡ Some h → g ≡ h
 same_held hs p g h a b = let e : Some g ≡ Some h = sym a ∙ b in cc

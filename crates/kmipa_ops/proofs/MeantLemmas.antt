@@ -1,9 +1,9 @@
 -- The object that is meant, as the ledger finds it, and what speaks against a Get of it.
 use Rattle.std.proofs.Common.{not, Result, Ok, Err, ◌≡◌, ◌++◌, [], ◌∷◌, ℕ, ℤ, Bool, true, false, cond, List, length, slice_get, find, is_none, option_map, Option, Some, None, refl, ap, sym, ◌∙◌}
 use Rattle.std.specs.Option.{option_and_then, option_or}
+use Rattle.kmipa_object.specs.Allowances.{allows}
 use Rattle.kmipa_object.specs.Inventory.{live}
 use Rattle.kmipa_object.specs.Life.{state}
-use Rattle.kmipa_object.specs.Table.{allowed}
 use Rattle.kmipa_object.specs.declared.allow.Act.{Act}
 use Rattle.kmipa_object.specs.declared.allow.Act.TheVariants as act
 use Rattle.kmipa_object.specs.declared.life.Material.{Material}
@@ -15,7 +15,7 @@ use Rattle.kmipa_store.specs.Calls.{differs, breaks, is_unknown}
 use Rattle.kmipa_store.specs.Choices.{IsSound, GoneIfDestroyed}
 use Rattle.kmipa_store.proofs.ChoiceLemmas.{told-last}
 use Rattle.kmipa_store.proofs.LearnLemmas.{told_known}
-use Rattle.kmipa_msgs.specs.Messages.{GotOf}
+use Rattle.kmipa_msgs.specs.Messages.{RulesOf, GotOf}
 use Rattle.kmipa_ops.specs.declared.why.Why.{Why}
 use Rattle.kmipa_ops.specs.declared.why.Why.TheVariants.{NoSuchObject, WrongState, BytesDiffer, LengthImpossible, AttributeDiffers, EchoDiffers}
 use Rattle.kmipa_ops.specs.Whys.{whys}
@@ -25,11 +25,11 @@ use Rattle.kmipa_object.specs.declared.state.State.{State}
 use Rattle.kmipa_store.specs.Queries.{state_of_place}
 use Rattle.kmipa_ops.specs.Founded.{is_must, is_live_there, is_refusable}
 use Rattle.kmipa_ops.specs.Shown.{IsSecretOf, live_speak}
-use Rattle.kmipa_ops.specs.Meant.{place_meant, object_meant, secret_at, secret_meant, is_not, is_excluded}
+use Rattle.kmipa_ops.specs.Meant.{place_meant, object_meant, secret_at, secret_meant, is_excluded}
 use Rattle.kmipa_ops.specs.Get.{shows_other, differs_at, get_speaks, taught, taught_at}
-use Rattle.kmipa_ops.proofs.ConditionLemmas.{card_meant_is}
+use Rattle.kmipa_ops.proofs.ConditionLemmas.{card_meant_is, in_table}
 use Rattle.kmipa_ops.proofs.TestLemmas.{true_not}
-use Rattle.kmipa_ops.proofs.GetLemmas.{alive_if, alive_not, meant_at}
+use Rattle.kmipa_ops.proofs.GetLemmas.{alive_if}
 
 -- the object at the place that is meant
 pub object_there : (hs : List Held) (about : Option (List ℕ)) (o : Option ℕ) (p : ℕ) (h : Held) → o ≡ Some p → o ≡ place_meant hs about → slice_get hs p ≡ Some h → object_meant hs about ≡ Some h
@@ -38,10 +38,10 @@ object_there hs about o p h here place at = ap (option_and_then (slice_get hs)) 
 pub object_nowhere : (hs : List Held) (about : Option (List ℕ)) (o : Option ℕ) → o ≡ None → o ≡ place_meant hs about → object_meant hs about ≡ None
 object_nowhere hs about o none place = ap (option_and_then (slice_get hs)) (sym place ∙ none)
 
-card_there : (hs : List Held) (about : Option (List ℕ)) (o : Option ℕ) (p : ℕ) (h : Held) → o ≡ Some p → o ≡ place_meant hs about → slice_get hs p ≡ Some h → card_meant (cards_of hs) about ≡ Some h.card
+pub card_there : (hs : List Held) (about : Option (List ℕ)) (o : Option ℕ) (p : ℕ) (h : Held) → o ≡ Some p → o ≡ place_meant hs about → slice_get hs p ≡ Some h → card_meant (cards_of hs) about ≡ Some h.card
 card_there hs about o p h here place at = card_meant_is hs about ∙ ap (option_map (λ (g : Held). g.card)) (object_there hs about o p h here place at)
 
-card_nowhere : (hs : List Held) (about : Option (List ℕ)) (o : Option ℕ) → o ≡ None → o ≡ place_meant hs about → card_meant (cards_of hs) about ≡ None
+pub card_nowhere : (hs : List Held) (about : Option (List ℕ)) (o : Option ℕ) → o ≡ None → o ≡ place_meant hs about → card_meant (cards_of hs) about ≡ None
 card_nowhere hs about o none place = card_meant_is hs about ∙ ap (option_map (λ (g : Held). g.card)) (object_nowhere hs about o none place)
 
 -- its state
@@ -59,14 +59,14 @@ state_there hs p t s h at is =
     let e : h ≡ x.0 = cc in
     ap (λ (g : Held). state g.card.dates t) e ∙ x.2
 
-pub refusable_there : (hs : List Held) (about : Option (List ℕ)) (act : Act) (t : ℤ) (o : Option ℕ) (p : ℕ) (s : State) → o ≡ Some p → o ≡ place_meant hs about → state_of_place hs p t ≡ Some s
-    → not (is_must (allowed act s)) ≡ is_refusable act t (card_meant (cards_of hs) about)
-refusable_there hs about act t o p s here place is =
+pub refusable_there : (rules : RulesOf) (hs : List Held) (about : Option (List ℕ)) (act : Act) (t : ℤ) (o : Option ℕ) (p : ℕ) (s : State) → o ≡ Some p → o ≡ place_meant hs about → state_of_place hs p t ≡ Some s
+    → not (is_must (allows rules.allow_lines act s)) ≡ is_refusable rules act t (card_meant (cards_of hs) about)
+refusable_there rules hs about act t o p s here place is =
     let x = in_state hs p t s is in
-    ap (λ (z : State). not (is_must (allowed act z))) (sym x.2) ∙ ap (is_refusable act t) (sym (card_there hs about o p x.0 here place x.1))
+    ap (λ (z : State). not (is_must (allows rules.allow_lines act z))) (sym x.2) ∙ ap (is_refusable rules act t) (sym (card_there hs about o p x.0 here place x.1))
 
-pub refusable_nowhere : (hs : List Held) (about : Option (List ℕ)) (act : Act) (t : ℤ) (o : Option ℕ) → o ≡ None → o ≡ place_meant hs about → false ≡ is_refusable act t (card_meant (cards_of hs) about)
-refusable_nowhere hs about act t o none place = ap (is_refusable act t) (sym (card_nowhere hs about o none place))
+pub refusable_nowhere : (rules : RulesOf) (hs : List Held) (about : Option (List ℕ)) (act : Act) (t : ℤ) (o : Option ℕ) → o ≡ None → o ≡ place_meant hs about → false ≡ is_refusable rules act t (card_meant (cards_of hs) about)
+refusable_nowhere rules hs about act t o none place = ap (is_refusable rules act t) (sym (card_nowhere hs about o none place))
 
 pub live_there : (hs : List Held) (about : Option (List ℕ)) (o : Option ℕ) (p : ℕ) (h : Held) → o ≡ Some p → o ≡ place_meant hs about → slice_get hs p ≡ Some h → live h.card ≡ is_live_there (card_meant (cards_of hs) about)
 live_there hs about o p h here place at = ap is_live_there (sym (card_there hs about o p h here place at))
@@ -78,31 +78,18 @@ live_nowhere hs about o none place = ap is_live_there (sym (card_nowhere hs abou
 pub secret_there : (m : Meaning) (p : ℕ) (h : Held) (s : SecretNo) → IsSound m → slice_get m.objects p ≡ Some h → h.material ≡ Secret s → IsSecretOf m h s
 secret_there m p h s sound at mat = let r = sound.in_range.there p h s at mat in record { known = r.0; is = r.1 }
 
--- a state excludes a Get exactly where the bytes are gone
+-- the rules exclude a Get where the bytes are gone
 gone_dead : (b : Bool) (mat : Material) → mat ≡ Gone → GoneIfDestroyed b mat → b ≡ false
 gone_dead false mat e g = refl
 gone_dead true Gone e g = absurd g
 gone_dead true (Secret s) e g = let bad : ⊥ = cc in absurd bad
 
-secret_alive : (b : Bool) (mat : Material) (s : SecretNo) → mat ≡ Secret s → GoneIfDestroyed b mat → b ≡ true
-secret_alive true mat s e g = refl
-secret_alive false Gone s e g = let bad : ⊥ = cc in absurd bad
-secret_alive false (Secret r) s e g = absurd g
-
-excluded_if : (h : Held) (t : ℤ) → live h.card ≡ false → is_excluded act.Get t (Some h) ≡ true
-excluded_if h t dead =
+excluded_if : (rules : RulesOf) (h : Held) (t : ℤ) → live h.card ≡ false → is_excluded rules act.Get t (Some h) ≡ true
+excluded_if rules h t dead =
     let d = h.card.dates in
-    (elim (is_not (allowed act.Get (state d t))) as (λ b. is_not (allowed act.Get (state d t)) ≡ b → b ≡ true) [
+    (elim (is_excluded rules act.Get t (Some h)) as (λ b. is_excluded rules act.Get t (Some h) ≡ b → b ≡ true) [
       | true ↦ λ e. refl
-      | false ↦ λ e. let alive : is_none d.destroy ≡ true = alive_if d.initial d.activation d.deactivation d.destroy d.compromise t e in cc
-    ]) refl
-
-excluded_not : (h : Held) (t : ℤ) → live h.card ≡ true → is_excluded act.Get t (Some h) ≡ false
-excluded_not h t alive =
-    let d = h.card.dates in
-    (elim (is_not (allowed act.Get (state d t))) as (λ b. is_not (allowed act.Get (state d t)) ≡ b → b ≡ false) [
-      | true ↦ λ e. absurd (alive_not d.initial d.activation d.deactivation d.destroy d.compromise t alive e)
-      | false ↦ λ e. refl
+      | false ↦ λ e. let alive : is_none d.destroy ≡ true = alive_if d.initial d.activation d.deactivation d.destroy d.compromise t (in_table rules act.Get t h.card e) in cc
     ]) refl
 
 -- the reasons against a Get, as far as the object's state
@@ -113,27 +100,27 @@ behind m about t (Some a) =
     (cond (breaks (secret_meant m about) a.block.material) (Some LengthImpossible)
     (cond (shows_other a (object_meant m.objects about)) (Some AttributeDiffers) (cond (is_other_id a.id about) (Some EchoDiffers) None)))
 
-whys_of_get : (m : Meaning) (about : Option (List ℕ)) (t : ℤ) (shown : Option GotOf)
-    → find (get_speaks m about t shown) whys
-    ≡ cond (is_none (object_meant m.objects about)) (Some NoSuchObject) (cond (is_excluded act.Get t (object_meant m.objects about)) (Some WrongState) (behind m about t shown))
-whys_of_get m about t None = refl
-whys_of_get m about t (Some a) = refl
+whys_of_get : (rules : RulesOf) (m : Meaning) (about : Option (List ℕ)) (t : ℤ) (shown : Option GotOf)
+    → find (get_speaks rules m about t shown) whys
+    ≡ cond (is_none (object_meant m.objects about)) (Some NoSuchObject) (cond (is_excluded rules act.Get t (object_meant m.objects about)) (Some WrongState) (behind m about t shown))
+whys_of_get rules m about t None = refl
+whys_of_get rules m about t (Some a) = refl
 
-pub why_absent : (m : Meaning) (about : Option (List ℕ)) (t : ℤ) (shown : Option GotOf) → object_meant m.objects about ≡ None → Some NoSuchObject ≡ find (get_speaks m about t shown) whys
-why_absent m about t shown e =
-    sym (whys_of_get m about t shown
-    ∙ ap (λ (o : Option Held). cond (is_none o) (Some NoSuchObject) (cond (is_excluded act.Get t (object_meant m.objects about)) (Some WrongState) (behind m about t shown))) e)
+pub why_absent : (rules : RulesOf) (m : Meaning) (about : Option (List ℕ)) (t : ℤ) (shown : Option GotOf) → object_meant m.objects about ≡ None → Some NoSuchObject ≡ find (get_speaks rules m about t shown) whys
+why_absent rules m about t shown e =
+    sym (whys_of_get rules m about t shown
+    ∙ ap (λ (o : Option Held). cond (is_none o) (Some NoSuchObject) (cond (is_excluded rules act.Get t (object_meant m.objects about)) (Some WrongState) (behind m about t shown))) e)
 
-pub why_excluded : (m : Meaning) (about : Option (List ℕ)) (t : ℤ) (shown : Option GotOf) (h : Held) → object_meant m.objects about ≡ Some h → is_excluded act.Get t (Some h) ≡ true
-    → Some WrongState ≡ find (get_speaks m about t shown) whys
-why_excluded m about t shown h e out =
-    sym (whys_of_get m about t shown
-    ∙ ap (λ (o : Option Held). cond (is_none o) (Some NoSuchObject) (cond (is_excluded act.Get t o) (Some WrongState) (behind m about t shown))) e
+pub why_excluded : (rules : RulesOf) (m : Meaning) (about : Option (List ℕ)) (t : ℤ) (shown : Option GotOf) (h : Held) → object_meant m.objects about ≡ Some h → is_excluded rules act.Get t (Some h) ≡ true
+    → Some WrongState ≡ find (get_speaks rules m about t shown) whys
+why_excluded rules m about t shown h e out =
+    sym (whys_of_get rules m about t shown
+    ∙ ap (λ (o : Option Held). cond (is_none o) (Some NoSuchObject) (cond (is_excluded rules act.Get t o) (Some WrongState) (behind m about t shown))) e
     ∙ ap (λ (b : Bool). cond b (Some WrongState) (behind m about t shown)) out)
 
 -- an object whose state lets it be got has bytes
-pub has_secret : (m : Meaning) (p : ℕ) (t : ℤ) (h : Held) → IsSound m → slice_get m.objects p ≡ Some h → is_excluded act.Get t (Some h) ≡ false → h.material ≡ Gone → ⊥
-has_secret m p t h sound at in_state mat = true_not (is_excluded act.Get t (Some h)) (excluded_if h t (gone_dead (live h.card) h.material mat (sound.gone p h at))) in_state
+pub has_secret : (rules : RulesOf) (m : Meaning) (p : ℕ) (t : ℤ) (h : Held) → IsSound m → slice_get m.objects p ≡ Some h → is_excluded rules act.Get t (Some h) ≡ false → h.material ≡ Gone → ⊥
+has_secret rules m p t h sound at in_state mat = true_not (is_excluded rules act.Get t (Some h)) (excluded_if rules h t (gone_dead (live h.card) h.material mat (sound.gone p h at))) in_state
 
 cond_or : (x y : Bool) (v w : Why) (r : Option Why) → option_or (cond x (Some v) (cond y (Some w) None)) r ≡ cond x (Some v) (cond y (Some w) r)
 cond_or true y v w r = refl
@@ -150,15 +137,13 @@ behind_is m about t (Some a) h s e at =
     ∙ ap (λ (o : Option Held). cond (differs (slice_get m.secrets s.number) b) (Some BytesDiffer) (cond (breaks (slice_get m.secrets s.number) b) (Some LengthImpossible) (rest o))) e
     ∙ sym (cond_or (differs (slice_get m.secrets s.number) b) (breaks (slice_get m.secrets s.number) b) BytesDiffer LengthImpossible (rest (Some h)))
 
-pub why_live : (m : Meaning) (about : Option (List ℕ)) (t : ℤ) (shown : Option GotOf) (h : Held) (s : SecretNo) → IsSound m → object_meant m.objects about ≡ Some h → h.material ≡ Secret s
-    → live_speak m about h s shown ≡ find (get_speaks m about t shown) whys
-why_live m about t shown h s sound e mat =
-    let at = meant_at m.objects about h e in
-    let in_state : is_excluded act.Get t (Some h) ≡ false = excluded_not h t (secret_alive (live h.card) h.material s mat (sound.gone at.2 h at.4)) in
+pub why_live : (rules : RulesOf) (m : Meaning) (about : Option (List ℕ)) (t : ℤ) (shown : Option GotOf) (h : Held) (s : SecretNo) → IsSound m → object_meant m.objects about ≡ Some h → h.material ≡ Secret s
+    → is_excluded rules act.Get t (Some h) ≡ false → live_speak m about h s shown ≡ find (get_speaks rules m about t shown) whys
+why_live rules m about t shown h s sound e mat in_state =
     let secret : secret_meant m about ≡ slice_get m.secrets s.number =
     ap (option_and_then (λ (g : Held). secret_at m.secrets g.material)) e ∙ ap (secret_at m.secrets) mat in
-    sym (whys_of_get m about t shown
-    ∙ ap (λ (o : Option Held). cond (is_none o) (Some NoSuchObject) (cond (is_excluded act.Get t o) (Some WrongState) (behind m about t shown))) e
+    sym (whys_of_get rules m about t shown
+    ∙ ap (λ (o : Option Held). cond (is_none o) (Some NoSuchObject) (cond (is_excluded rules act.Get t o) (Some WrongState) (behind m about t shown))) e
     ∙ ap (λ (b : Bool). cond b (Some WrongState) (behind m about t shown)) in_state
     ∙ behind_is m about t shown h s e secret)
 

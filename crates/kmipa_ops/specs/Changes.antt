@@ -9,7 +9,8 @@ use Rattle.kmipa_object.specs.declared.allow.Allow.TheVariants.{Not}
 use Rattle.kmipa_object.specs.declared.life.Material.{Material}
 use Rattle.kmipa_object.specs.declared.life.Material.TheVariants.{Gone}
 use Rattle.kmipa_store.specs.Ledger.{Held, Meaning}
-use Rattle.kmipa_msgs.specs.Messages.{AskedOf, PayloadOf, activates, changed, destroys, revokes}
+use Rattle.kmipa_msgs.specs.Messages.{RulesOf, AskedOf, PayloadOf, activates, changed, destroys, revokes}
+use Rattle.kmipa_ops.specs.Allowance.{allowance}
 use Rattle.kmipa_ops.specs.Meant.{place_meant, object_meant, is_not, is_excluded, IsExcluded}
 use Rattle.kmipa_ops.specs.Objects.{meant, HasObject, Echoes, is_other_id, Clashes}
 use Rattle.kmipa_msgs.specs.Sayable.{IsSayableId}
@@ -50,38 +51,38 @@ bytes_after Destroy bytes = None
 abbrev pub thing_after : Change → ℤ → Thing → Thing
 thing_after change t o = record { card = record o.card { dates = dates_after change t o.card.dates }; bytes = bytes_after change o.bytes }
 
--- Activate, Revoke or Destroy succeeds: the state allows it, and the object stands changed in its place
-pub record ChangesObject (V : List Thing) (before : Option (List ℕ)) (t : ℤ) (asked : Option (List ℕ)) (change : Change) (shown : Option (List ℕ)) (V' : List Thing) (after : Option (List ℕ)) : Type 0 where
+-- Activate, Revoke or Destroy succeeds: the rules allow it in the object's state, and the object stands changed in its place
+pub record ChangesObject (rules : RulesOf) (V : List Thing) (before : Option (List ℕ)) (t : ℤ) (asked : Option (List ℕ)) (change : Change) (shown : Option (List ℕ)) (V' : List Thing) (after : Option (List ℕ)) : Type 0 where
   pub id : List ℕ
   pub place : ℕ
   pub object : Thing
   pub about : meant asked before ≡ Some id
   pub there : HasObject V id place object
-  pub may : allowed (act_of change) (state object.card.dates t) ≢ Not
+  pub may : allowance rules (act_of change) t object.card ≢ Not
   pub echo : Echoes shown id
   pub leaves : V' ≡ updated V place (thing_after change t)
   pub placeholder : after ≡ before
 
 -- against an Activate, a Revoke or a Destroy that is done, and shows this identifier if it is there
-abbrev pub ChangeReason : List Held → Option (List ℕ) → ℤ → Change → Option (List ℕ) → Why → Type 0
-ChangeReason objects about t change shown NoSuchObject = object_meant objects about ≡ None
-ChangeReason objects about t change shown WrongState = IsExcluded objects about t (act_of change)
-ChangeReason objects about t change shown EchoDiffers = Clashes shown about
-ChangeReason objects about t change shown why = ⊥
+abbrev pub ChangeReason : RulesOf → List Held → Option (List ℕ) → ℤ → Change → Option (List ℕ) → Why → Type 0
+ChangeReason rules objects about t change shown NoSuchObject = object_meant objects about ≡ None
+ChangeReason rules objects about t change shown WrongState = IsExcluded rules objects about t (act_of change)
+ChangeReason rules objects about t change shown EchoDiffers = Clashes shown about
+ChangeReason rules objects about t change shown why = ⊥
 
 -- against a change of an object that is done, and shows this identifier if it is there
-abbrev pub change_speaks : List Held → Option (List ℕ) → ℤ → Change → Option (List ℕ) → Why → Bool
-change_speaks objects about t change shown NoSuchObject = is_none (object_meant objects about)
-change_speaks objects about t change shown WrongState = is_excluded (act_of change) t (object_meant objects about)
-change_speaks objects about t change shown EchoDiffers = is_other_id shown about
-change_speaks objects about t change shown why = false
+abbrev pub change_speaks : RulesOf → List Held → Option (List ℕ) → ℤ → Change → Option (List ℕ) → Why → Bool
+change_speaks rules objects about t change shown NoSuchObject = is_none (object_meant objects about)
+change_speaks rules objects about t change shown WrongState = is_excluded rules (act_of change) t (object_meant objects about)
+change_speaks rules objects about t change shown EchoDiffers = is_other_id shown about
+change_speaks rules objects about t change shown why = false
 
 -- the identifier that the answer of a change shows
 abbrev pub id_shown : Option PayloadOf → Option (List ℕ)
 id_shown (Some (changed id)) = id
 id_shown payload = None
 
--- what a change leaves of dates and of material; of those of an object whose state excludes it, all
+-- what a change leaves of dates and of material; of those of an object of which the table excludes it, all
 abbrev pub dates_left : Change → ℤ → Dates → Dates
 dates_left change t d = if is_not (allowed (act_of change) (state d t)) then d else dates_after change t d
 
@@ -124,14 +125,14 @@ change_deed id change = record {
   says = IsSayableId;
   subject = on_object id (act_of change) false;
   may_lack = true;
-  does = λ rules V before t shown V' after. ChangesObject V before t id change shown V' after;
+  does = λ rules V before t shown V' after. ChangesObject rules V before t id change shown V' after;
 }
 
 abbrev pub change_judging : (id : Option (List ℕ)) (change : Change) → Judging (change_deed id change)
 change_judging id change = record {
   effect = changes change;
-  speaks = λ rules m before t shown why. change_speaks m.objects (meant id before) t change (id_in shown) why;
-  means = λ rules m before t shown why. ChangeReason m.objects (meant id before) t change (id_in shown) why;
+  speaks = λ rules m before t shown why. change_speaks rules m.objects (meant id before) t change (id_in shown) why;
+  means = λ rules m before t shown why. ChangeReason rules m.objects (meant id before) t change (id_in shown) why;
   leaves = λ m before t shown. with_changed m (meant id before) t change;
   holds = λ before shown. before;
 }

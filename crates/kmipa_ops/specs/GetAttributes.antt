@@ -1,5 +1,5 @@
 -- Get Attributes: which attributes of an object its answer may show at a moment, and which it must (KMIP 2.1, section 6; what is required: profile).
-use Rattle.std.specs.Prelude.{◌↔◌, ◌≡◌, ◌==◌, ◌&&◌, ◌||◌, ℕ, ℤ, Bool, true, false, not, is_none, is_some, IsSome, cond, List, Option, Some, None}
+use Rattle.std.specs.Prelude.{◌↔◌, ◌≡◌, ◌≢◌, ◌==◌, ◌&&◌, ◌||◌, ℕ, ℤ, Bool, true, false, not, is_none, is_some, IsSome, cond, List, Option, Some, None}
 use Rattle.std.specs.List.{Contains, list_any}
 use Rattle.std.specs.Ordering.{int_eq}
 use Rattle.kmipa_attrs.specs.Sets.{NameOf, Attributes}
@@ -7,17 +7,20 @@ use Rattle.kmipa_attrs.specs.ObjectTypes.{type_number}
 use Rattle.kmipa_attrs.specs.Tags.{activation_date, compromise_date, cryptographic_algorithm, cryptographic_length, cryptographic_usage_mask, deactivation_date, destroy_date, initial_date, name_tag, object_type_tag, state_tag}
 use Rattle.kmipa_object.specs.Inventory.{Card, Thing, live}
 use Rattle.kmipa_object.specs.Life.{Dates, state, state_number}
-use Rattle.kmipa_msgs.specs.Messages.{GetAttributesOf, GotAttributesOf, PayloadOf, got_attributes}
+use Rattle.kmipa_object.specs.declared.allow.Allow.TheVariants.{Not}
+use Rattle.kmipa_msgs.specs.Messages.{RulesOf, GetAttributesOf, GotAttributesOf, PayloadOf, got_attributes}
 use Rattle.kmipa_object.specs.declared.state.State.{State as StateOf}
 use Rattle.kmipa_store.specs.Ledger.{cards_of}
 use Rattle.kmipa_msgs.specs.Sayable.{IsSayableId}
+use Rattle.kmipa_ops.specs.Allowance.{allowance}
 use Rattle.kmipa_ops.specs.Effects.{shows_attributes}
 use Rattle.kmipa_ops.specs.Judging.{Judging}
+use Rattle.kmipa_ops.specs.Meant.{is_not}
 use Rattle.kmipa_ops.specs.Row.{Deed, on_object}
 use Rattle.kmipa_ops.specs.declared.judged.Judged.{Judged}
 use Rattle.kmipa_ops.specs.declared.judged.Judged.TheVariants.{Name, ObjectType, CryptographicAlgorithm, CryptographicLength, CryptographicUsageMask, State, InitialDate, ActivationDate, DeactivationDate, DestroyDate, CompromiseDate}
 use Rattle.kmipa_ops.specs.declared.why.Why.{Why}
-use Rattle.kmipa_ops.specs.declared.why.Why.TheVariants.{NoSuchObject, AttributeDiffers, AttributeMissing, EchoDiffers}
+use Rattle.kmipa_ops.specs.declared.why.Why.TheVariants.{NoSuchObject, WrongState, AttributeDiffers, AttributeMissing, EchoDiffers}
 use Rattle.kmipa_ops.specs.Objects.{meant, HasObject, card_meant, Echoes, Agree, is_other, is_other_id, clash, same_name, Clashes}
 use Rattle.kmipa_object.specs.declared.allow.Act.TheVariants as act
 
@@ -85,13 +88,14 @@ pub record ShowsAsked (g : GetAttributesOf) (c : Card) (shown : Attributes) : Ty
 abbrev pub HasRequired : GetAttributesOf → Card → Attributes → Type 0
 HasRequired g c shown = live c ≡ true → g.has_others ≡ false → ShowsAsked g c shown
 
--- Get Attributes succeeds, in any state
-pub record GetsAttributes (V : List Thing) (before : Option (List ℕ)) (t : ℤ) (asked : GetAttributesOf) (a : GotAttributesOf) (V' : List Thing) (after : Option (List ℕ)) : Type 0 where
+-- Get Attributes succeeds: the rules allow it in the object's state, and what it shows is right and enough
+pub record GetsAttributes (rules : RulesOf) (V : List Thing) (before : Option (List ℕ)) (t : ℤ) (asked : GetAttributesOf) (a : GotAttributesOf) (V' : List Thing) (after : Option (List ℕ)) : Type 0 where
   pub id : List ℕ
   pub place : ℕ
   pub object : Thing
   pub about : meant asked.id before ≡ Some id
   pub there : HasObject V id place object
+  pub may : allowance rules act.GetAttributes t object.card ≢ Not
   pub own : IsOwnAt object.card t a.attributes
   pub required : HasRequired asked object.card a.attributes
   pub echo : Echoes a.id id
@@ -99,12 +103,13 @@ pub record GetsAttributes (V : List Thing) (before : Option (List ℕ)) (t : ℤ
   pub placeholder : after ≡ before
 
 -- against a Get Attributes that is done
-abbrev pub GetAttributesReason : List Card → Option (List ℕ) → ℤ → GetAttributesOf → Option GotAttributesOf → Why → Type 0
-GetAttributesReason cs about t g shown NoSuchObject = card_meant cs about ≡ None
-GetAttributesReason cs about t g (Some a) AttributeDiffers = (c : Card) × (card_meant cs about ≡ Some c) × (IsOwnAt c t a.attributes → ⊥)
-GetAttributesReason cs about t g (Some a) AttributeMissing = (c : Card) × (card_meant cs about ≡ Some c) × (HasRequired g c a.attributes → ⊥)
-GetAttributesReason cs about t g (Some a) EchoDiffers = Clashes a.id about
-GetAttributesReason cs about t g shown why = ⊥
+abbrev pub GetAttributesReason : RulesOf → List Card → Option (List ℕ) → ℤ → GetAttributesOf → Option GotAttributesOf → Why → Type 0
+GetAttributesReason rules cs about t g shown NoSuchObject = card_meant cs about ≡ None
+GetAttributesReason rules cs about t g shown WrongState = (c : Card) × (card_meant cs about ≡ Some c) × (allowance rules act.GetAttributes t c ≡ Not)
+GetAttributesReason rules cs about t g (Some a) AttributeDiffers = (c : Card) × (card_meant cs about ≡ Some c) × (IsOwnAt c t a.attributes → ⊥)
+GetAttributesReason rules cs about t g (Some a) AttributeMissing = (c : Card) × (card_meant cs about ≡ Some c) × (HasRequired g c a.attributes → ⊥)
+GetAttributesReason rules cs about t g (Some a) EchoDiffers = Clashes a.id about
+GetAttributesReason rules cs about t g shown why = ⊥
 
 -- WHAT SPEAKS AGAINST IT
 
@@ -171,13 +176,19 @@ abbrev pub lacks_required_of : GetAttributesOf → Option Card → Attributes �
 lacks_required_of g None shown = false
 lacks_required_of g (Some c) shown = lacks_required g c shown
 
+-- the rules exclude it in the state of the object that is meant, where there is one
+abbrev pub excludes_attributes : RulesOf → ℤ → Option Card → Bool
+excludes_attributes rules t None = false
+excludes_attributes rules t (Some c) = is_not (allowance rules act.GetAttributes t c)
+
 -- against a Get Attributes that is done, about this identifier, and shows this if its payload is there
-abbrev pub get_attributes_speaks : List Card → Option (List ℕ) → ℤ → GetAttributesOf → Option GotAttributesOf → Why → Bool
-get_attributes_speaks cs about t g shown NoSuchObject = is_none (card_meant cs about)
-get_attributes_speaks cs about t g (Some a) AttributeDiffers = shows_foreign_of (card_meant cs about) t a.attributes
-get_attributes_speaks cs about t g (Some a) AttributeMissing = lacks_required_of g (card_meant cs about) a.attributes
-get_attributes_speaks cs about t g (Some a) EchoDiffers = is_other_id a.id about
-get_attributes_speaks cs about t g shown why = false
+abbrev pub get_attributes_speaks : RulesOf → List Card → Option (List ℕ) → ℤ → GetAttributesOf → Option GotAttributesOf → Why → Bool
+get_attributes_speaks rules cs about t g shown NoSuchObject = is_none (card_meant cs about)
+get_attributes_speaks rules cs about t g shown WrongState = excludes_attributes rules t (card_meant cs about)
+get_attributes_speaks rules cs about t g (Some a) AttributeDiffers = shows_foreign_of (card_meant cs about) t a.attributes
+get_attributes_speaks rules cs about t g (Some a) AttributeMissing = lacks_required_of g (card_meant cs about) a.attributes
+get_attributes_speaks rules cs about t g (Some a) EchoDiffers = is_other_id a.id about
+get_attributes_speaks rules cs about t g shown why = false
 
 -- the reasons against an answer about an object, as they are looked at one after the other
 abbrev pub attributes_speak : Card → StateOf → Option (List ℕ) → GetAttributesOf → Option GotAttributesOf → Option Why
@@ -210,14 +221,14 @@ get_attributes_deed g = record {
   says = SaysAttributes;
   subject = on_object g.id act.GetAttributes g.is_selective;
   may_lack = true;
-  does = λ rules V before t a V' after. GetsAttributes V before t g a V' after;
+  does = λ rules V before t a V' after. GetsAttributes rules V before t g a V' after;
 }
 
 abbrev pub get_attributes_judging : (g : GetAttributesOf) → Judging (get_attributes_deed g)
 get_attributes_judging g = record {
   effect = shows_attributes g;
-  speaks = λ rules m before t shown why. get_attributes_speaks (cards_of m.objects) (meant g.id before) t g shown why;
-  means = λ rules m before t shown why. GetAttributesReason (cards_of m.objects) (meant g.id before) t g shown why;
+  speaks = λ rules m before t shown why. get_attributes_speaks rules (cards_of m.objects) (meant g.id before) t g shown why;
+  means = λ rules m before t shown why. GetAttributesReason rules (cards_of m.objects) (meant g.id before) t g shown why;
   leaves = λ m before t shown. m;
   holds = λ before shown. before;
 }

@@ -5,6 +5,7 @@ pub mod Objects
 pub mod Effects
 pub mod Row
 pub mod Judging
+pub mod Allowance
 pub mod Meant
 pub mod Adding
 pub mod Create

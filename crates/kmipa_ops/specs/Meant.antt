@@ -1,14 +1,14 @@
 -- The object that is meant, in a ledger.
 use Rattle.std.specs.Prelude.{ℕ, ℤ, Bool, true, false, List, Option, Some, None, slice_get, option_and_then, ◌≡◌}
 use Rattle.kmipa_object.specs.Inventory.{place_of}
-use Rattle.kmipa_object.specs.Life.{state}
-use Rattle.kmipa_object.specs.Table.{allowed}
 use Rattle.kmipa_object.specs.declared.allow.Act.{Act}
 use Rattle.kmipa_object.specs.declared.allow.Allow.{Allow}
 use Rattle.kmipa_object.specs.declared.allow.Allow.TheVariants.{Not, Must, May}
 use Rattle.kmipa_object.specs.declared.life.Material.{Material}
 use Rattle.kmipa_object.specs.declared.life.Material.TheVariants.{Gone, Secret}
 use Rattle.kmipa_store.specs.Ledger.{Held, Known, Meaning, cards_of}
+use Rattle.kmipa_msgs.specs.Messages.{RulesOf}
+use Rattle.kmipa_ops.specs.Allowance.{allowance}
 use Rattle.kmipa_ops.specs.Objects.{meant}
 use Rattle.kmipa_ops.specs.Row.{SubjectOf, on_object, on_names, on_nothing}
 
@@ -27,9 +27,9 @@ place_about objects before on_nothing = None
 abbrev pub object_meant : List Held → Option (List ℕ) → Option Held
 object_meant objects about = option_and_then (slice_get objects) (place_meant objects about)
 
--- its state excludes the operation
-abbrev pub IsExcluded : List Held → Option (List ℕ) → ℤ → Act → Type 0
-IsExcluded objects about t act = (h : Held) × (object_meant objects about ≡ Some h) × (allowed act (state h.card.dates t) ≡ Not)
+-- the rules exclude the operation in its state
+abbrev pub IsExcluded : RulesOf → List Held → Option (List ℕ) → ℤ → Act → Type 0
+IsExcluded rules objects about t act = (h : Held) × (object_meant objects about ≡ Some h) × (allowance rules act t h.card ≡ Not)
 
 -- its secret, unless it is gone
 abbrev pub secret_at : List Known → Material → Option Known
@@ -44,7 +44,7 @@ is_not Must = false
 is_not May = false
 is_not Not = true
 
--- the object's state excludes the operation
-abbrev pub is_excluded : Act → ℤ → Option Held → Bool
-is_excluded act t None = false
-is_excluded act t (Some h) = is_not (allowed act (state h.card.dates t))
+-- the rules exclude the operation in the object's state
+abbrev pub is_excluded : RulesOf → Act → ℤ → Option Held → Bool
+is_excluded rules act t None = false
+is_excluded rules act t (Some h) = is_not (allowance rules act t h.card)

@@ -10,7 +10,6 @@ use Rattle.kmipa_ops.specs.Get.{get_deed, get_judging}
 use Rattle.kmipa_ops.specs.GetAttributes.{get_attributes_deed, get_attributes_judging}
 use Rattle.kmipa_ops.specs.Judging.{RowJudging, about_by, row_effect, row_holds}
 use Rattle.kmipa_ops.specs.Locate.{locate_deed, locate_judging}
-use Rattle.kmipa_ops.specs.Looking.{look_judging}
 use Rattle.kmipa_ops.specs.Register.{register_deed, register_judging}
 use Rattle.kmipa_ops.specs.Revoke.{revoke_deed}
 use Rattle.kmipa_ops.specs.Row.{Row, SubjectOf, deed, idle, row_subject, unknown}

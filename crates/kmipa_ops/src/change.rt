@@ -4,7 +4,7 @@ ghost use Rattle.std.specs.Prelude.{◌≡◌, ◌<◌, IfOk, IfSome, length, Ma
 ghost use Rattle.kmipa_object.specs.Inventory.{card_of};
 ghost use Rattle.kmipa_object.specs.Life.{dates_of, state};
 ghost use Rattle.kmipa_object.specs.Table.{allowed};
-ghost use Rattle.kmipa_msgs.specs.Messages.{maybe_lent, payload_of};
+ghost use Rattle.kmipa_msgs.specs.Messages.{maybe_lent, payload_of, rules_of};
 ghost use Rattle.kmipa_ops.specs.After.{Changes};
 ghost use Rattle.kmipa_ops.specs.Changes.{act_of, dates_after, id_in, seen_changed};
 ghost use Rattle.kmipa_ops.specs.Whys.{whys};
@@ -14,7 +14,7 @@ ghost use Rattle.kmipa_ops.specs.Meant.{is_not, place_meant};
 use crate::echo::is_other_id;
 use crate::objects::is_excluded;
 use crate::why::Why;
-use kmipa_msgs::Payload;
+use kmipa_msgs::{Payload, Rules};
 use kmipa_object::{Act, Life, WrongState, activated, destroyed, revoked};
 use kmipa_store::Ledger;
 use std::alloc::AllocError;
@@ -51,6 +51,7 @@ pub(crate) fn id_shown<'a>(payload: &'a Option<Payload<'a>>) -> Option<&'a str>
 /// The lowest reason against a change that is done: of the object at this place, whose identifier is shown so if it is.
 pub(crate) fn why_not_changed<L: Ledger>(
     ledger: &L,
+    rules: &Rules,
     place: Option<usize>,
     about: Option<&str>,
     change: Change,
@@ -59,13 +60,13 @@ pub(crate) fn why_not_changed<L: Ledger>(
     requires place { place ≡ place_meant (L.state ledger.now).now.objects (maybe_lent about) }
     requires within { IfSome place (λ p. p < length (L.state ledger.now).now.objects) }
     ensures { result ≡ find
-        (change_speaks (L.state ledger.now).now.objects (maybe_lent about.entry) (L.moment ledger.now) change
+        (change_speaks (rules_of rules.now) (L.state ledger.now).now.objects (maybe_lent about.entry) (L.moment ledger.now) change
         (maybe_lent shown.entry)) whys }
 {
     let Some(place) = place else {
         return Some(Why::NoSuchObject);
     };
-    if is_excluded(act_of(change), ledger.state(place)) {
+    if is_excluded(rules, act_of(change), ledger.state(place)) {
         return Some(Why::WrongState);
     }
     if is_other_id(shown, about) {
@@ -110,7 +111,7 @@ pub(crate) fn change_object<L: Ledger>(
     }
 }
 
-/// The life after the change, or as it is where the state excludes it.
+/// The life after the change, or as it is where the table excludes it.
 fn life_left(life: Life, change: Change, t: i64) -> Life
     ensures dates { dates_of result ≡ dates_left change t (dates_of life) }
     ensures material { result.material ≡ material_left change t (dates_of life) life.material }

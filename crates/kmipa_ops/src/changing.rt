@@ -54,13 +54,14 @@ impl<'a> Deed for Changing<'a> {
         &self,
         _alloc: Global,
         ledger: &L,
-        _rules: &Rules,
+        rules: &Rules,
         placeholder: &Placeholder,
         place: Option<usize>,
         payload: &Option<Payload>,
     ) -> Result<Option<Why>, AllocError> {
         let about = placeholder.meant(self.id);
-        Ok(why_not_changed(ledger, place, about, self.change, id_shown(payload)))
+        let shown = id_shown(payload);
+        Ok(why_not_changed(ledger, rules, place, about, self.change, shown))
     }
 
     fn leave<L: Ledger>(

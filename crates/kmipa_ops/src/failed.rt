@@ -3,7 +3,7 @@
 ghost use Rattle.std.specs.Prelude.{◌≡◌, ◌<◌, ◌&&◌, ◌==◌, IfSome, length, map, not};
 ghost use Rattle.std.specs.List.{list_any};
 ghost use Rattle.kmipa_attrs.specs.Sets.{name_of};
-ghost use Rattle.kmipa_object.specs.Table.{allowed};
+ghost use Rattle.kmipa_object.specs.Allowances.{allows};
 ghost use Rattle.kmipa_store.specs.Ledger.{cards_of};
 ghost use Rattle.kmipa_msgs.specs.Messages.{maybe_lent, rules_of};
 ghost use Rattle.kmipa_ops.specs.Founded.{founded_of, has_cause, has_row, holds_about, holds_of, holds_named, is_live_there, is_must, is_of_nothing, is_refusable};
@@ -13,12 +13,12 @@ ghost use Rattle.kmipa_ops.specs.Placeholders.{placeholder_of};
 ghost use Rattle.kmipa_ops.specs.Subjects.{subject_of};
 
 use crate::names::any_named;
-use crate::objects::is_live;
+use crate::objects::{allowance, is_live};
 use crate::operation_row::Subject;
 use crate::placeholder::Placeholder;
 use kmipa_attrs::Name;
 use kmipa_msgs::{Cause, Row, Rules};
-use kmipa_object::{Act, Allow, State, allows};
+use kmipa_object::{Act, Allow, State};
 use kmipa_store::Ledger;
 
 /// Whether a failed answer's reason is founded.
@@ -82,19 +82,12 @@ fn has_cause<L: Ledger>(
     ensures { result ≡ has_cause (rules_of rules.now) (cards_of (L.state ledger.now).now.objects)
         (placeholder_of placeholder.now) (L.moment ledger.now) (subject_of subject.entry) reason }
 {
-    any_cause(
-        ledger,
-        rules.rows.as_slice(),
-        placeholder,
-        place,
-        subject,
-        reason,
-    )
+    any_cause(ledger, rules, placeholder, place, subject, reason)
 }
 
 fn any_cause<L: Ledger>(
     ledger: &L,
-    rows: &[Row],
+    rules: &Rules,
     placeholder: &Placeholder,
     place: Option<usize>,
     subject: Subject<'_>,
@@ -104,37 +97,21 @@ fn any_cause<L: Ledger>(
         (subject_of subject) }
     requires within { IfSome place (λ p. p < length (L.state ledger.now).now.objects) }
     ensures { result ≡ list_any
-        (λ (row : Row). (row.reason == reason) && holds_of (cards_of (L.state ledger.now).now.objects)
-        (placeholder_of placeholder.now) (L.moment ledger.now) (subject_of subject.entry) row.cause) rows.now }
+        (λ (row : Row). (row.reason == reason) && holds_of (rules_of rules.now) (cards_of (L.state ledger.now).now.objects)
+        (placeholder_of placeholder.now) (L.moment ledger.now) (subject_of subject.entry) row.cause) rules.now.rows.items }
 {
-    for row in rows {
-        if is_cause(ledger, placeholder, place, subject, reason, *row) {
+    for row in &rules.rows {
+        if row.reason == reason && holds_of(ledger, rules, placeholder, place, subject, row.cause) {
             return true;
         }
     }
     false
 }
 
-fn is_cause<L: Ledger>(
-    ledger: &L,
-    placeholder: &Placeholder,
-    place: Option<usize>,
-    subject: Subject<'_>,
-    reason: u32,
-    row: Row,
-) -> bool
-    requires place { place ≡ place_about (L.state ledger.now).now.objects (placeholder_of placeholder.now)
-        (subject_of subject) }
-    requires within { IfSome place (λ p. p < length (L.state ledger.now).now.objects) }
-    ensures { result ≡ ((row.reason == reason) && holds_of (cards_of (L.state ledger.now).now.objects)
-        (placeholder_of placeholder.now) (L.moment ledger.now) (subject_of subject.entry) row.cause) }
-{
-    row.reason == reason && holds_of(ledger, placeholder, place, subject, row.cause)
-}
-
 /// Whether the cause holds. Where it isn't judged for the operation, it counts as holding.
 fn holds_of<L: Ledger>(
     ledger: &L,
+    rules: &Rules,
     placeholder: &Placeholder,
     place: Option<usize>,
     subject: Subject<'_>,
@@ -143,12 +120,12 @@ fn holds_of<L: Ledger>(
     requires place { place ≡ place_about (L.state ledger.now).now.objects (placeholder_of placeholder.now)
         (subject_of subject) }
     requires within { IfSome place (λ p. p < length (L.state ledger.now).now.objects) }
-    ensures { result ≡ holds_of (cards_of (L.state ledger.now).now.objects) (placeholder_of placeholder.now)
+    ensures { result ≡ holds_of (rules_of rules.now) (cards_of (L.state ledger.now).now.objects) (placeholder_of placeholder.now)
         (L.moment ledger.now) (subject_of subject.entry) cause }
 {
     match subject {
         Subject::Object(id, act, unjudged) => {
-            unjudged || holds_about(ledger, place, placeholder.meant(id), act, cause)
+            unjudged || holds_about(ledger, rules, place, placeholder.meant(id), act, cause)
         }
         Subject::Names(names) => holds_named(ledger, names, cause),
         Subject::Nothing => true,
@@ -158,6 +135,7 @@ fn holds_of<L: Ledger>(
 /// Whether a cause for refusing an operation on the object at this place holds.
 fn holds_about<L: Ledger>(
     ledger: &L,
+    rules: &Rules,
     place: Option<usize>,
     about: Option<&str>,
     act: Act,
@@ -165,12 +143,12 @@ fn holds_about<L: Ledger>(
 ) -> bool
     requires place { place ≡ place_meant (L.state ledger.now).now.objects (maybe_lent about) }
     requires within { IfSome place (λ p. p < length (L.state ledger.now).now.objects) }
-    ensures { result ≡ holds_about (cards_of (L.state ledger.now).now.objects) (maybe_lent about.entry)
+    ensures { result ≡ holds_about (rules_of rules.now) (cards_of (L.state ledger.now).now.objects) (maybe_lent about.entry)
         (L.moment ledger.now) act cause }
 {
     match cause {
         Cause::NotFound => !is_live_there(ledger, place, about),
-        Cause::WrongState => is_refusable(ledger, place, about, act),
+        Cause::WrongState => is_refusable(ledger, rules, place, about, act),
         Cause::TakenName => true,
     }
 }
@@ -197,22 +175,28 @@ fn is_live_there<L: Ledger>(ledger: &L, place: Option<usize>, about: Option<&str
 }
 
 /// Whether the object is there, and its state lets the operation be refused.
-fn is_refusable<L: Ledger>(ledger: &L, place: Option<usize>, about: Option<&str>, act: Act) -> bool
+fn is_refusable<L: Ledger>(
+    ledger: &L,
+    rules: &Rules,
+    place: Option<usize>,
+    about: Option<&str>,
+    act: Act,
+) -> bool
     requires place { place ≡ place_meant (L.state ledger.now).now.objects (maybe_lent about) }
     requires within { IfSome place (λ p. p < length (L.state ledger.now).now.objects) }
-    ensures { result ≡ is_refusable act (L.moment ledger.now)
+    ensures { result ≡ is_refusable (rules_of rules.now) act (L.moment ledger.now)
         (card_meant (cards_of (L.state ledger.now).now.objects) (maybe_lent about.entry)) }
 {
     match place {
-        Some(place) => is_doubted(act, ledger.state(place)),
+        Some(place) => is_doubted(rules, act, ledger.state(place)),
         None => false,
     }
 }
 
-fn is_doubted(act: Act, state: State) -> bool
-    ensures { result ≡ not (is_must (allowed act state)) }
+fn is_doubted(rules: &Rules, act: Act, state: State) -> bool
+    ensures { result ≡ not (is_must (allows (rules_of rules.now).allow_lines act state)) }
 {
-    match allows(act, state) {
+    match allowance(rules, act, state) {
         Allow::Must => false,
         Allow::May | Allow::Not => true,
     }

@@ -4,7 +4,7 @@ ghost use Rattle.std.specs.Prelude.{◌≡◌, ◌<◌, IfSome, false, length, b
 ghost use Rattle.kmipa_object.specs.Inventory.{admits};
 ghost use Rattle.kmipa_store.specs.Choices.{IsSound};
 ghost use Rattle.kmipa_store.specs.Ledger.{held};
-ghost use Rattle.kmipa_msgs.specs.Messages.{got_of, gets, id_of, maybe_lent, payload_of};
+ghost use Rattle.kmipa_msgs.specs.Messages.{got_of, gets, id_of, maybe_lent, payload_of, rules_of};
 ghost use Rattle.kmipa_ops.specs.After.{Changes};
 ghost use Rattle.kmipa_ops.specs.Shown.{HasRule, IsSecretOf, bytes_speak, live_speak, shown_speak};
 ghost use Rattle.kmipa_ops.specs.Whys.{whys};
@@ -59,13 +59,13 @@ impl<'a> Deed for Get<'a> {
         &self,
         _alloc: Global,
         ledger: &L,
-        _rules: &Rules,
+        rules: &Rules,
         placeholder: &Placeholder,
         place: Option<usize>,
         payload: &Option<Payload>,
     ) -> Result<Option<Why>, AllocError> {
         let about = placeholder.meant(self.id);
-        Ok(why_not_got(ledger, place, about, shown(payload)))
+        Ok(why_not_got(ledger, rules, place, about, shown(payload)))
     }
 
     fn leave<L: Ledger>(
@@ -96,6 +96,7 @@ fn shown<'a>(payload: &'a Option<Payload<'a>>) -> Option<&'a Got<'a>>
 /// The lowest reason against a Get that is done: of the object at this place, which is shown so if the payload is there.
 pub(crate) fn why_not_got<L: Ledger>(
     ledger: &L,
+    rules: &Rules,
     place: Option<usize>,
     about: Option<&str>,
     shown: Option<&Got>,
@@ -104,13 +105,13 @@ pub(crate) fn why_not_got<L: Ledger>(
     requires place { place ≡ place_meant (L.state ledger.now).now.objects (maybe_lent about) }
     requires within { IfSome place (λ p. p < length (L.state ledger.now).now.objects) }
     ensures { result ≡ find
-        (get_speaks (L.state ledger.now).now (maybe_lent about.entry) (L.moment ledger.now)
+        (get_speaks (rules_of rules.now) (L.state ledger.now).now (maybe_lent about.entry) (L.moment ledger.now)
         (option_map (λ got. got_of got.now) shown.entry)) whys }
 {
     let Some(place) = place else {
         return Some(Why::NoSuchObject);
     };
-    if is_excluded(Act::Get, ledger.state(place)) {
+    if is_excluded(rules, Act::Get, ledger.state(place)) {
         return Some(Why::WrongState);
     }
     let object = ledger.at(place);

@@ -15,6 +15,7 @@ ghost use Rattle.kmipa_ops.specs.Whys.{whys};
 use crate::deed::Deed;
 use crate::echo::{clash_lengths, clash_numbers, is_other_id, is_other_number};
 use crate::names::finds_stranger;
+use crate::objects::is_excluded;
 use crate::operation_row::{Effect, OperationRow, Subject};
 use crate::placeholder::Placeholder;
 use crate::required::lacks_required;
@@ -62,13 +63,20 @@ impl<'a> Deed for GetAttributes<'a> {
         &self,
         alloc: Global,
         ledger: &L,
-        _rules: &Rules,
+        rules: &Rules,
         placeholder: &Placeholder,
         place: Option<usize>,
         payload: &Option<Payload>,
     ) -> Result<Option<Why>, AllocError> {
         let about = placeholder.meant(self.id);
-        why_not_shown_attributes(alloc, ledger, place, about, self, shown(payload))
+        let Some(place) = place else {
+            return Ok(Some(Why::NoSuchObject));
+        };
+        let state = ledger.state(place);
+        if is_excluded(rules, Act::GetAttributes, state) {
+            return Ok(Some(Why::WrongState));
+        }
+        why_not_attributes(alloc, ledger.at(place), state, about, self, shown(payload))
     }
 
     fn leave<L: Ledger>(
@@ -92,36 +100,6 @@ fn shown<'a>(payload: &'a Option<Payload<'a>>) -> Option<&'a GotAttributes<'a>>
         Some(Payload::GetAttributes(got)) => Some(got),
         _ => None,
     }
-}
-
-/// The lowest reason against a Get Attributes that is done: of the object at this place these attributes are shown, if the payload is there.
-pub(crate) fn why_not_shown_attributes<L: Ledger>(
-    alloc: Global,
-    ledger: &L,
-    place: Option<usize>,
-    about: Option<&str>,
-    asked: &GetAttributes,
-    shown: Option<&GotAttributes>,
-) -> Result<Option<Why>, AllocError>
-    requires place { place ≡ place_meant (L.state ledger.now).now.objects (maybe_lent about) }
-    requires within { IfSome place (λ p. p < length (L.state ledger.now).now.objects) }
-    ensures { IfOk result
-        (λ why. why
-        ≡ find (get_attributes_speaks (cards_of (L.state ledger.now).now.objects) (maybe_lent about.entry)
-        (L.moment ledger.now) (get_attributes_of asked.now)
-        (option_map (λ got. got_attributes_of got.now) shown.entry)) whys) }
-{
-    let Some(place) = place else {
-        return Ok(Some(Why::NoSuchObject));
-    };
-    why_not_attributes(
-        alloc,
-        ledger.at(place),
-        ledger.state(place),
-        about,
-        asked,
-        shown,
-    )
 }
 
 /// The lowest reason against an answer about an object.

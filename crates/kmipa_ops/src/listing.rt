@@ -109,6 +109,9 @@ fn leaves_out<L: Ledger>(ledger: &L, filter: &Filter, places: &PlacesListed) -> 
     ensures { LeavesOut (L.state ledger.now).now.objects (L.moment ledger.now)
         (filter_of filter.now) places.now result }
 {
+    if filter.is_loose {
+        return false;
+    }
     let end = ledger.len();
     let mut from = 0;
     'scan: while from < end {
@@ -123,8 +126,8 @@ fn leaves_out<L: Ledger>(ledger: &L, filter: &Filter, places: &PlacesListed) -> 
     false
 }
 
-/// The next place from this one on of an object that may have all the filter's names. Each name moves the place on to its next bearer, so
-/// that a scan has at most as many candidates as the rarest name has bearers.
+/// The next place from this one on of an object that may be live and have all the filter's names. Each name moves the place on to its next
+/// live bearer, so that a scan has at most as many candidates as the rarest name has of these.
 fn next_candidate<L: Ledger>(ledger: &L, filter: &Filter, from: usize) -> Option<usize>
     requires { from < length (L.state ledger.now).now.objects }
     ensures next { NextCandidate (L.state ledger.now).now.objects (L.moment ledger.now)
@@ -133,7 +136,7 @@ fn next_candidate<L: Ledger>(ledger: &L, filter: &Filter, from: usize) -> Option
 {
     let mut place = from;
     'names: for name in filter.names.as_slice() {
-        let Some(next) = ledger.next_named(name.value.as_str(), name.kind, place) else {
+        let Some(next) = ledger.next_live_named(name.value.as_str(), name.kind, place) else {
             return None;
         };
         place = next;
@@ -147,14 +150,17 @@ fn is_missing<L: Ledger>(ledger: &L, filter: &Filter, places: &PlacesListed, pla
     ensures { IsMissing (L.state ledger.now).now.objects (L.moment ledger.now)
         (filter_of filter.now) places.now place result }
 {
+    if places.has(place) {
+        return false;
+    }
     match fit_at(ledger, filter, place) {
-        Fit::Must => !places.has(place),
+        Fit::Must => true,
         Fit::May => false,
         Fit::Not => false,
     }
 }
 
-/// How the object at a place fits at the moment. Its names are asked of the ledger, which has them in order.
+/// How the object at a place fits at the moment.
 fn fit_at<L: Ledger>(ledger: &L, filter: &Filter, place: usize) -> Fit
     requires { place < length (L.state ledger.now).now.objects }
     ensures { FitsAt (L.state ledger.now).now.objects (L.moment ledger.now) (filter_of filter.now) place result }

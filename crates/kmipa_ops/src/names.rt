@@ -62,11 +62,15 @@ fn is_had_alive<L: Ledger>(ledger: &L, name: &Name) -> bool
     ledger.any_live_named(name.value.as_str(), name.kind)
 }
 
-/// Whether the object at a place lacks one of these names.
+/// Whether the object at a place lacks one of these names. Where it has many, they are asked of the ledger, which has them in order.
 pub(crate) fn lacks_at<L: Ledger>(ledger: &L, names: &[Name], place: usize) -> bool
     requires { place < length (L.state ledger.now).now.objects }
     ensures { LacksAt (L.state ledger.now).now.objects (map name_of names.now) place result }
 {
+    let own = ledger.at(place).given.names.as_slice();
+    if own.len() <= FEW {
+        return has_stranger(own, names);
+    }
     any_lacks(ledger, names, place)
 }
 

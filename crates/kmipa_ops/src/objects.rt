@@ -2,14 +2,15 @@
 
 ghost use Rattle.std.specs.Prelude.{◌≡◌, ◌<◌, IfSome, length};
 ghost use Rattle.kmipa_object.specs.Inventory.{card_of, live};
-ghost use Rattle.kmipa_object.specs.Table.{allowed};
-ghost use Rattle.kmipa_msgs.specs.Messages.{maybe_lent};
+ghost use Rattle.kmipa_object.specs.Allowances.{allows};
+ghost use Rattle.kmipa_msgs.specs.Messages.{maybe_lent, rules_of};
 ghost use Rattle.kmipa_ops.specs.Meant.{is_not, place_about, place_meant};
 ghost use Rattle.kmipa_ops.specs.Placeholders.{placeholder_of};
 ghost use Rattle.kmipa_ops.specs.Subjects.{subject_of};
 
 use crate::operation_row::Subject;
 use crate::placeholder::Placeholder;
+use kmipa_msgs::Rules;
 use kmipa_object::{Act, Allow, Object, State, allows};
 use kmipa_store::Ledger;
 
@@ -40,11 +41,18 @@ pub(crate) fn place_about<L: Ledger>(
     }
 }
 
-/// Whether a state excludes an operation.
-pub(crate) fn is_excluded(act: Act, state: State) -> bool
-    ensures { result ≡ is_not (allowed act state) }
+/// What the rules say of an operation in a state.
+pub(crate) fn allowance(rules: &Rules, act: Act, state: State) -> Allow
+    ensures { result ≡ allows (rules_of rules.now).allow_lines act state }
 {
-    match allows(act, state) {
+    allows(rules.allow_lines.as_slice(), act, state)
+}
+
+/// Whether the rules exclude an operation in a state.
+pub(crate) fn is_excluded(rules: &Rules, act: Act, state: State) -> bool
+    ensures { result ≡ is_not (allows (rules_of rules.now).allow_lines act state) }
+{
+    match allowance(rules, act, state) {
         Allow::Not => true,
         Allow::Must | Allow::May => false,
     }

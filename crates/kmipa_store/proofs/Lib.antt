@@ -14,6 +14,7 @@ pub mod QueryLemmas
 pub mod SoundLedgerLemmas
 pub mod BearerLemmas
 pub mod NameLemmas
+pub mod LiveNameLemmas
 pub mod DueLemmas
 pub mod ClockLemmas
 pub mod AwaitLemmas

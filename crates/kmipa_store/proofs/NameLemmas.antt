@@ -68,7 +68,7 @@ is_named hash p s x e =
     let q = named_same hash p s x e in
     ap (λ (h : ℕ). (h, p, s)) q.0 ∙ ap (λ (n : ℕ). (x.0, n, s)) q.1 ∙ ap (λ (n : ℕ). (x.0, x.1, n)) q.2
 
-less_than : (a b : ℕ) → a < b → nat_cmp a b ≡ Less
+pub less_than : (a b : ℕ) → a < b → nat_cmp a b ≡ Less
 less_than a b h = (elim (nat_cmp a b) as (λ o. nat_cmp a b ≡ o → o ≡ Less) [
   | Less ↦ λ e. refl
   | Equal ↦ λ e. let bad : a ≡ b = ranked a b Equal (sym e) in absurd (omega (arith, bad, h))
@@ -93,7 +93,7 @@ at_most a b h = (elim (nat_cmp a b) as (λ o. nat_cmp a b ≡ o → is_le o ≡ 
 abbrev pub under : ℕ → ℕ → ℕ → List Named → List Named
 under hash from end listed = filter (range_contains named_cmp (Included (hash, from, 0)) (Excluded (hash, end, 0))) listed
 
-tied : (hash : ℕ) → nat_cmp hash hash ≡ Equal
+pub tied : (hash : ℕ) → nat_cmp hash hash ≡ Equal
 tied hash = tied_itself nat_cmp_total hash
 
 from_start : (hash from p s : ℕ) → from ≤ p → is_le (named_cmp (hash, from, 0) (hash, p, s)) ≡ true
@@ -109,7 +109,7 @@ below_end : (hash end p s : ℕ) → p < end → is_le (named_cmp (hash, end, 0)
 below_end hash end p s h =
     ap (λ o. is_le (ordering_then (ordering_then o (nat_cmp end p)) (nat_cmp 0 s))) (tied hash) ∙ ap (λ o. is_le (ordering_then o (nat_cmp 0 s))) (greater_than end p h)
 
-still_under : (hash from end : ℕ) (listed : List Named) (p s : ℕ) → from ≤ p → p < end → is_listed listed hash p s ≡ true → is_listed (under hash from end listed) hash p s ≡ true
+pub still_under : (hash from end : ℕ) (listed : List Named) (p s : ℕ) → from ≤ p → p < end → is_listed listed hash p s ≡ true → is_listed (under hash from end listed) hash p s ≡ true
 still_under hash from end listed p s a b h =
     any-filter_same (is_at (named_cmp (hash, p, s))) (range_contains named_cmp (Included (hash, from, 0)) (Excluded (hash, end, 0))) true (λ x is.
     ap (range_contains named_cmp (Included (hash, from, 0)) (Excluded (hash, end, 0))) (sym (is_named hash p s x (equal_at (named_cmp (hash, p, s) x) is)))
@@ -189,7 +189,7 @@ all_below : (x k : Named) (ks : List Named) → named_cmp x k ≡ Less → AllBy
 all_below x k [] e a = refl
 all_below x k (y ∷ ys) e a = ap (λ o. is_eq o || list_any (is_at (named_cmp x)) ys) (named_total.trans x k y e a.0) ∙ all_below x k ys e a.1
 
-none_before : (x one : Named) (rest : List Named) → IsStrictlySortedBy named_cmp (one ∷ rest) → named_cmp x one ≡ Less → list_any (is_at (named_cmp x)) (one ∷ rest) ≡ false
+pub none_before : (x one : Named) (rest : List Named) → IsStrictlySortedBy named_cmp (one ∷ rest) → named_cmp x one ≡ Less → list_any (is_at (named_cmp x)) (one ∷ rest) ≡ false
 none_before x one rest sorted e = ap (λ o. is_eq o || list_any (is_at (named_cmp x)) rest) e ∙ all_below x one rest e (sorted_head named_cmp one rest sorted)
 
 -- a name that is had is listed
@@ -289,7 +289,7 @@ covers_fewer names hs gs f c = record {
       subst P (sym r.2) (c.all p r.0 r.1);
 }
 
-taken_from : (hs : List Held) (n p : ℕ) (g : Held) → slice_get (take n hs) p ≡ Some g → slice_get hs p ≡ Some g
+pub taken_from : (hs : List Held) (n p : ℕ) (g : Held) → slice_get (take n hs) p ≡ Some g → slice_get hs p ≡ Some g
 taken_from [] zero p g e = e
 taken_from [] (suc n) p g e = e
 taken_from (h ∷ hs) zero p g e = cc
@@ -301,7 +301,7 @@ covers_relived names hs place life = covers_fewer names hs (relived hs place lif
     let r = relived_from hs place p life g at in
     (r.0, r.1, elim r.2 [ inl a ↦ ap (λ (x : Held). x.card.given.names) a | inr b ↦ ap (λ (x : Held). x.card.given.names) b.1 ]))
 
-taken_below : {X : Type 0} (xs : List X) (n p : ℕ) (x : X) → slice_get (take n xs) p ≡ Some x → p < n
+pub taken_below : {X : Type 0} (xs : List X) (n p : ℕ) (x : X) → slice_get (take n xs) p ≡ Some x → p < n
 taken_below [] zero p x e = let bad : ⊥ = cc in absurd bad
 taken_below [] (suc n) p x e = let bad : ⊥ = cc in absurd bad
 taken_below (y ∷ ys) zero p x e = let bad : ⊥ = cc in absurd bad

@@ -16,4 +16,5 @@ pub mod States
 pub mod Soundness
 pub mod Bearers
 pub mod Names
+pub mod LiveNames
 pub mod Tally

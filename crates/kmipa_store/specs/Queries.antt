@@ -19,9 +19,17 @@ has_name value kind h = list_any (is_name value kind) h.card.given.names
 abbrev pub next_named : List ℕ → ℕ → ℕ → List Held → Option ℕ
 next_named value kind from objects = position_from (has_name value kind) from (drop from objects)
 
+-- the object has no Destroy Date, and has the name
+abbrev pub has_name_alive : List ℕ → ℕ → Held → Bool
+has_name_alive value kind h = live h.card && has_name value kind h
+
+-- the first place from this one on whose object is so
+abbrev pub next_live_named : List ℕ → ℕ → ℕ → List Held → Option ℕ
+next_live_named value kind from objects = position_from (has_name_alive value kind) from (drop from objects)
+
 -- an object without a Destroy Date has the name
 abbrev pub any_live_named : List ℕ → ℕ → List Held → Bool
-any_live_named value kind objects = list_any (λ (h : Held). live h.card && has_name value kind h) objects
+any_live_named value kind objects = list_any (has_name_alive value kind) objects
 
 -- the state that the dates of the object at a place say at a moment, where there is one
 abbrev pub state_of_place : List Held → ℕ → ℤ → Option State

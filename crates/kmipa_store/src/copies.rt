@@ -66,6 +66,10 @@ impl Ledger for Copies {
         self.objects.next_named(value, kind, from)
     }
 
+    fn next_live_named(&self, value: &str, kind: u32, from: usize) -> Option<usize> {
+        self.objects.next_live_named(value, kind, from)
+    }
+
     fn any_live_named(&self, value: &str, kind: u32) -> bool {
         self.objects.any_live_named(value, kind)
     }

@@ -1,39 +1,45 @@
-//! Objects, and how many of the live ones have each name.
+//! Objects, how many of the live ones have each name, and where these stand.
 //!
 //! They are counted from the first on that is destroyed.
 
+ghost use Rattle.kmipa_store.specs.Ledger.{held};
+ghost use Rattle.kmipa_store.specs.LiveNames.{Follows};
+
 use crate::fault::StoreFault;
+use crate::live_names::LiveNames;
 use crate::objects::Objects;
 use crate::tally::Tally;
 use kmipa_object::{Life, Object};
 use std::alloc::Global;
 use std::marker::Model;
 
-/// Objects, and how many of the live ones have each name.
+/// Objects, how many of the live ones have each name, and where these stand.
 #[derive(Drop)]
 pub struct Counted {
     alloc: Global,
     objects: Objects,
     tally: Tally,
+    live: LiveNames,
 }
 
 impl Model for Counted {
     ghost use Rattle.std.specs.Prelude.{List};
     ghost use Rattle.kmipa_store.specs.Ledger.{Held};
+    ghost use Rattle.kmipa_store.specs.LiveNames.{KnowsLive};
     ghost use Rattle.kmipa_store.specs.Tally.{Counts};
 
     ghost Value = { List Held };
 
     ghost view = { λ c. c.objects };
 
-    ghost invariant = { λ c. Counts c.tally c.objects };
+    ghost invariant = { λ c. Counts c.tally c.objects × KnowsLive c.live c.objects };
 }
 
 impl Counted {
-    ghost use Rattle.std.specs.Prelude.{◌≡◌, ◌<◌, ◌-◌, [], true, false, length, slice_get, take, string_bytes, None, Some};
+    ghost use Rattle.std.specs.Prelude.{◌≡◌, ◌<◌, ◌-◌, [], true, false, length, slice_get, take, string_bytes, None, Some, IfSome};
     ghost use Rattle.kmipa_store.specs.Ledger.{held, cards_of, place_of, relived};
     ghost use Rattle.kmipa_store.specs.Memory.{Pushes};
-    ghost use Rattle.kmipa_store.specs.Queries.{any_live_named};
+    ghost use Rattle.kmipa_store.specs.Queries.{any_live_named, next_live_named};
 
     /// No objects.
     pub fn new(alloc: Global) -> Counted
@@ -43,6 +49,7 @@ impl Counted {
             alloc,
             objects: Objects::new(alloc),
             tally: Tally::new(alloc),
+            live: LiveNames::new(alloc),
         }
     }
 
@@ -75,6 +82,14 @@ impl Counted {
         self.tally.is_none(value, kind)
     }
 
+    /// The first place from this one on whose object has this name and no Destroy Date.
+    pub fn next_live_named(&self, value: &str, kind: u32, from: usize) -> Option<usize>
+        ensures place { result ≡ next_live_named value.now kind from self.now }
+        ensures within { IfSome result (λ place. place < length self.now) }
+    {
+        self.live.next(&self.objects, value, kind, from)
+    }
+
     /// Adds an object, whose identifier no other has, after the others.
     pub fn push(&mut self, object: Object) -> Result<(), StoreFault>
         requires { place_of (string_bytes object.id) (cards_of self.old) ≡ None }
@@ -83,6 +98,7 @@ impl Counted {
         let place = self.objects.len();
         self.objects.push(object)?;
         let added = self.objects.at(place);
+        self.live.note(place, added.given.names.as_slice());
         if self.tally.begins_with(added) {
             self.tally = Tally::of(self.alloc, &self.objects);
             return Ok(());
@@ -98,9 +114,12 @@ impl Counted {
         if place >= self.objects.len() {
             return;
         }
-        self.tally.remove(self.objects.at(place));
+        let before = self.objects.at(place);
+        let was_live = before.life.destroy.is_none();
+        self.tally.remove(before);
         self.objects.set_life(place, life);
         let led = self.objects.at(place);
+        follow(&mut self.live, was_live, place, led);
         if self.tally.begins_with(led) {
             self.tally = Tally::of(self.alloc, &self.objects);
             return;
@@ -115,7 +134,22 @@ impl Counted {
         let Some(last) = self.objects.len().checked_sub(1) else {
             return;
         };
-        self.tally.remove(self.objects.at(last));
+        let popped = self.objects.at(last);
+        self.tally.remove(popped);
+        self.live.forget(last, popped.given.names.as_slice());
         self.objects.pop();
+    }
+}
+
+/// Lists the names of an object that was live or wasn't, as it is now.
+fn follow(live: &mut LiveNames, was_live: bool, place: usize, led: &Object)
+    ensures { Follows live.old was_live place (held led.now) live.new }
+{
+    let is_live = led.life.destroy.is_none();
+    if was_live && !is_live {
+        live.forget(place, led.given.names.as_slice());
+    }
+    if !was_live && is_live {
+        live.note(place, led.given.names.as_slice());
     }
 }

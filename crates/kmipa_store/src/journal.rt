@@ -19,7 +19,8 @@ use std::alloc::Global;
 /// A ledger that writes down each change.
 ///
 /// # What a name costs
-/// An index lists where the names stand, so that `next_named` and `any_live_named` look at the objects of one name alone.
+/// An index lists where the names stand, so that `next_named` and `any_live_named` look at the objects of one name alone; another has
+/// the names of live objects, so that `next_live_named` looks at no destroyed one.
 ///
 /// # What a moment costs
 /// Each object's state is kept, and its dates to come stand in order: `set_moment` looks again only at the objects with a date between
@@ -88,6 +89,10 @@ impl Ledger for Journal {
 
     fn next_named(&self, value: &str, kind: u32, from: usize) -> Option<usize> {
         self.present.next_named(value, kind, from)
+    }
+
+    fn next_live_named(&self, value: &str, kind: u32, from: usize) -> Option<usize> {
+        self.present.next_live_named(value, kind, from)
     }
 
     fn any_live_named(&self, value: &str, kind: u32) -> bool {

@@ -23,7 +23,7 @@ pub trait Ledger {
     ghost use Rattle.std.specs.Prelude.{◌≡◌, ◌<◌, ℤ, length, slice_get, Some, IfSome, option_map};
     ghost use Rattle.kmipa_store.specs.Ledger.{LedgerState, held, cards_of, place_of, bytes_at, kept, undone, gone_back};
     ghost use Rattle.kmipa_store.specs.Calls.{Adds, Replaces, MakesSecret, Learns, SetsMark};
-    ghost use Rattle.kmipa_store.specs.Queries.{state_of_place, next_named, any_live_named};
+    ghost use Rattle.kmipa_store.specs.Queries.{state_of_place, next_live_named, next_named, any_live_named};
 
     /// Its objects, secrets and marks.
     ghost state: { Self → LedgerState };
@@ -48,6 +48,11 @@ pub trait Ledger {
     /// The first place from this one on whose object has this name, a value and a type, destroyed or not.
     fn next_named(&self, value: &str, kind: u32, from: usize) -> Option<usize>
         ensures place { result ≡ next_named value.now kind from (state self.now).now.objects }
+        ensures within { IfSome result (λ place. place < length (state self.now).now.objects) };
+
+    /// The first place from this one on whose object has this name and no Destroy Date.
+    fn next_live_named(&self, value: &str, kind: u32, from: usize) -> Option<usize>
+        ensures place { result ≡ next_live_named value.now kind from (state self.now).now.objects }
         ensures within { IfSome result (λ place. place < length (state self.now).now.objects) };
 
     /// Whether an object without a Destroy Date has this name.

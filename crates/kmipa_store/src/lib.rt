@@ -10,6 +10,7 @@ mod hashes;
 mod journal;
 mod laws;
 mod ledger;
+mod live_names;
 mod names;
 mod objects;
 mod present;

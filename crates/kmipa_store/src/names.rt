@@ -3,7 +3,7 @@
 ghost use Rattle.std.specs.Prelude.{◌≡◌, ◌<◌, length, map, IfSome};
 ghost use Rattle.kmipa_attrs.specs.Sets.{name_of};
 ghost use Rattle.kmipa_store.specs.Ledger.{held};
-ghost use Rattle.kmipa_store.specs.Queries.{next_named, any_live_named};
+ghost use Rattle.kmipa_store.specs.Queries.{next_live_named, next_named, any_live_named};
 ghost use Rattle.kmipa_store.specs.Bearers.{bears, bears_live, is_named_at};
 
 use crate::fault::StoreFault;
@@ -31,6 +31,7 @@ pub struct Names {
 
 impl Names {
     ghost use Rattle.std.specs.Prelude.{[]};
+    ghost use Rattle.kmipa_store.specs.LiveNames.{CoversLive};
     ghost use Rattle.kmipa_store.specs.Names.{Covers, KeepsOthers, Notes};
 
     /// No names.
@@ -57,6 +58,27 @@ impl Names {
         let end = Bound::Excluded((hash, count, 0));
         for one in self.by_hash.range((start, end)) {
             if bears(objects, one.1, one.2, value, kind) {
+                return Some(one.1);
+            }
+        }
+        None
+    }
+
+    /// The first place from this one on whose object has this name and no Destroy Date.
+    pub fn next_live(&self, objects: &Objects, value: &str, kind: u32, from: usize) -> Option<usize>
+        requires { CoversLive self.now objects.now }
+        ensures place { result ≡ next_live_named value.now kind from objects.now }
+        ensures within { IfSome result (λ place. place < length objects.now) }
+    {
+        let count = objects.len();
+        if count < from {
+            return None;
+        }
+        let hash = name_hash(value, kind);
+        let start = Bound::Included((hash, from, 0));
+        let end = Bound::Excluded((hash, count, 0));
+        for one in self.by_hash.range((start, end)) {
+            if bears_live(objects, one.1, one.2, value, kind) {
                 return Some(one.1);
             }
         }

@@ -46,7 +46,7 @@ impl Objects {
     ghost use Rattle.std.specs.Prelude.{◌≡◌, ◌-◌, ◌<◌, [], length, take, slice_get, string_bytes, Some, None, IfSome, IfOk, IfErr};
     ghost use Rattle.kmipa_store.specs.Ledger.{held, cards_of, place_of, relived};
     ghost use Rattle.kmipa_store.specs.Memory.{Pushes};
-    ghost use Rattle.kmipa_store.specs.Queries.{has_name, next_named, any_live_named, state_of_place};
+    ghost use Rattle.kmipa_store.specs.Queries.{has_name, next_live_named, next_named, any_live_named, state_of_place};
 
     /// No objects.
     pub fn new(alloc: Global) -> Objects
@@ -98,6 +98,19 @@ impl Objects {
         for place in from..self.len() {
             if has_name(self.at(place), value, kind) {
                 return Some(place);
+            }
+        }
+        None
+    }
+
+    /// The first place from this one on whose object has this name and no Destroy Date.
+    pub fn next_live_named(&self, value: &str, kind: u32, from: usize) -> Option<usize>
+        ensures place { result ≡ next_live_named value.now kind from self.now }
+        ensures within { IfSome result (λ place. place < length self.now) }
+    {
+        for next in from..self.len() {
+            if is_live_named(self.at(next), value, kind) {
+                return Some(next);
             }
         }
         None

@@ -37,7 +37,7 @@ impl Present {
     ghost use Rattle.std.specs.Prelude.{◌≡◌, ◌<◌, ◌++◌, ◌∷◌, [], pos, length, slice_get, string_bytes, Some, None, IfSome};
     ghost use Rattle.kmipa_store.specs.Ledger.{held, cards_of, place_of, relived};
     ghost use Rattle.kmipa_store.specs.Present.{AreAwaited, Makes};
-    ghost use Rattle.kmipa_store.specs.Queries.{next_named, any_live_named, state_of_place};
+    ghost use Rattle.kmipa_store.specs.Queries.{next_live_named, next_named, any_live_named, state_of_place};
 
     /// No objects, at moment 0.
     pub fn new(alloc: Global) -> Present
@@ -80,6 +80,14 @@ impl Present {
         ensures within { IfSome result (λ place. place < length self.now.dated.objects) }
     {
         self.names.next(self.objects.plain(), value, kind, from)
+    }
+
+    /// The first place from this one on whose object has this name and no Destroy Date.
+    pub fn next_live_named(&self, value: &str, kind: u32, from: usize) -> Option<usize>
+        ensures place { result ≡ next_live_named value.now kind from self.now.dated.objects }
+        ensures within { IfSome result (λ place. place < length self.now.dated.objects) }
+    {
+        self.objects.next_live_named(value, kind, from)
     }
 
     /// Whether an object without a Destroy Date has this name.

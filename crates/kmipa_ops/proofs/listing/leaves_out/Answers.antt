@@ -1,8 +1,12 @@
 use Rattle.std.proofs.Common.{◌≤◌, length, subst, arith}
 use Rattle.kmipa_attrs.specs.Filters.{filter_of}
 use Rattle.kmipa_ops.specs.Listing.{IsMissing}
-use Rattle.kmipa_ops.proofs.ListingLemmas.{scan_end, scan_more, scan_past}
+use Rattle.kmipa_ops.proofs.ListingLemmas.{loose_leaves, scan_end, scan_more, scan_past}
 use Rattle.kmipa_ops.proofs.listing.leaves_out.Goals as goal
+
+pub returns-then-filter : goal.returns-then-filter
+returns-then-filter g c =
+    loose_leaves (g.L.Ledger.state c.args.ledger.now).now.objects (g.L.Ledger.moment c.args.ledger.now) (filter_of c.args.filter.now) c.args.places.now c.if-filter.true
 
 pub returns-in_default : goal.returns-in_default
 returns-in_default g c =

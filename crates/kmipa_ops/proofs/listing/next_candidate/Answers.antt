@@ -2,7 +2,7 @@ use Rattle.std.proofs.Common.{◌≡◌, ◌∙◌, ap, sym, map, slice_get, Lis
 use Rattle.kmipa_attrs.specs.Sets.{name_of}
 use Rattle.kmipa_attrs.specs.Filters.{filter_of}
 use Rattle.kmipa_attrs.specs.declared.name.Name.{Name}
-use Rattle.kmipa_store.specs.Queries.{next_named}
+use Rattle.kmipa_store.specs.Queries.{next_live_named}
 use Rattle.kmipa_ops.proofs.ListingLemmas.{mapped_at, narrow_more, narrow_none}
 use Rattle.kmipa_ops.proofs.listing.next_candidate.Goals as goal
 
@@ -14,8 +14,8 @@ returns-in_default-clause-next g c =
     = ap (λ (xs : List Name). slice_get (map name_of xs) c.names.name-index) (sym c.as_slice-name-items.ensures)
     ∙ mapped_at name_of c.as_slice-name-items.result.now c.names.name-index c.name-item.result c.names-test.true
     ∙ ap (λ (n : Name). Some (name_of n)) (sym c.name-item.is) in
-    let next : next_named (name_of c.name-item.result).value c.name-item.result.kind c.names.place hs ≡ None
-    = ap (λ (v : List ℕ). next_named v c.name-item.result.kind c.names.place hs) (sym c.as_str.ensures.value) ∙ sym c.in_default.ensures.place in
+    let next : next_live_named (name_of c.name-item.result).value c.name-item.result.kind c.names.place hs ≡ None
+    = ap (λ (v : List ℕ). next_live_named v c.name-item.result.kind c.names.place hs) (sym c.as_str.ensures.value) ∙ sym c.in_default.ensures.place in
     narrow_none q (name_of c.name-item.result) c.names.name-index asked hs (g.L.Ledger.moment c.args.ledger.now) c.args.from c.names.place c.names.invariant.0 next
 
 pub names-preserved : goal.names-preserved
@@ -26,8 +26,8 @@ names-preserved g c =
     = ap (λ (xs : List Name). slice_get (map name_of xs) c.names.name-index) (sym c.as_slice-name-items.ensures)
     ∙ mapped_at name_of c.as_slice-name-items.result.now c.names.name-index c.name-item.result c.names-test.true
     ∙ ap (λ (n : Name). Some (name_of n)) (sym c.name-item.is) in
-    let next : next_named (name_of c.name-item.result).value c.name-item.result.kind c.names.place hs ≡ Some c.in-Some.next
-    = ap (λ (v : List ℕ). next_named v c.name-item.result.kind c.names.place hs) (sym c.as_str.ensures.value) ∙ sym c.in-Some.ensures.place in (
+    let next : next_live_named (name_of c.name-item.result).value c.name-item.result.kind c.names.place hs ≡ Some c.in-Some.next
+    = ap (λ (v : List ℕ). next_live_named v c.name-item.result.kind c.names.place hs) (sym c.as_str.ensures.value) ∙ sym c.in-Some.ensures.place in (
       narrow_more q (name_of c.name-item.result) c.names.name-index asked hs (g.L.Ledger.moment c.args.ledger.now) c.args.from c.names.place c.names.invariant.0 c.in-Some.next next,
       c.in-Some.ensures.within,
     )

@@ -1,4 +1,4 @@
-use Rattle.std.proofs.Common.{option_map, subst, sym}
+use Rattle.std.proofs.Common.{option_map}
 use Rattle.kmipa_msgs.specs.Messages.{maybe_lent, payload_of}
 use Rattle.kmipa_ops.specs.Placeholders.{placeholder_of}
 use Rattle.kmipa_ops.proofs.ChangingLemmas.{change_leaves_after}
