@@ -1,10 +1,12 @@
 -- Entries: what their items say, and what may be declared of them.
 use Rattle.std.proofs.Common.{◌≡◌, ◌<◌, ◌*◌, ◌%◌, ℕ, ℤ, pos, negsuc, ◌/◌, is_some, List, [], ◌∷◌, length, map, true, false, Option, None, Some, Result, Ok, Err, IfSome, IsSome, ◌⊎◌, inl, inr, refl, sym, ap, subst, ◌∙◌, arith}
 use Rattle.std.specs.Prelude.{All}
-use Rattle.kmipa_ttlv.specs.Tree.{Tree, Trees}
+use Rattle.kmipa_ttlv.specs.Tree.{Tree, Trees, scalar, text, byte_string}
 use Rattle.kmipa_attrs.proofs.AttrLemmas.{reads_attributes}
 use Rattle.kmipa_attrs.specs.Attributes.{attr_number, Single, SaysNames, SomeWrong, SingleFault, NamesFault, SaysAttributes, AttributesFault, GivesAttributes, attributes_in, in_names, in_object_type, in_algorithm, in_length, in_mask, in_state, in_initial, in_activation, in_deactivation, in_destroy, in_compromise, of_client_state, of_client_initial, of_client_destroy, of_client_compromise, of_client_identifier}
+use Rattle.kmipa_attrs.specs.Fields.{tag_of}
 use Rattle.kmipa_attrs.specs.ObjectTypes.{type_number}
+use Rattle.kmipa_attrs.specs.Tags.{key_material}
 use Rattle.kmipa_attrs.specs.Readings.{Reads}
 use Rattle.kmipa_attrs.specs.Sets.{NameOf, Attributes, attributes_of}
 use Rattle.kmipa_attrs.specs.declared.attr_set.AttrSet.{AttrSet}
@@ -14,7 +16,8 @@ use Rattle.kmipa_attrs.specs.declared.object_type.ObjectType.{ObjectType}
 use Rattle.kmipa_attrs.specs.declared.object_type.ObjectType.TheVariants.{SymmetricKey, SecretData}
 use Rattle.kmipa_attrs.specs.declared.side.Side.TheVariants.{Server}
 use Rattle.kmipa_record.specs.DeclarationReading.{are_whole_bytes}
-use Rattle.kmipa_record.specs.Entries.{EntryOf, AreListed, material, entry_item, SaysEntry, key_bits, AreWholeBytes, IsDeclarable}
+use Rattle.kmipa_record.specs.Tags.{owner_tag}
+use Rattle.kmipa_record.specs.Entries.{EntryOf, AreListed, material, ownership, entry_item, SaysEntry, key_bits, AreWholeBytes, IsDeclarable}
 
 -- ---- attributes say one set
 
@@ -94,40 +97,66 @@ type_once SymmetricKey SecretData e = absurd (omega (arith, e))
 type_once SecretData SymmetricKey e = absurd (omega (arith, e))
 type_once SecretData SecretData e = refl
 
-material_once : (a b : Option (List ℕ)) → material a ≡ material b → a ≡ b
-material_once None None e = refl
-material_once None (Some y) e = absurd cc
-material_once (Some x) None e = absurd cc
-material_once (Some x) (Some y) e = cc
+ownership_once : (o p : Option (List ℕ)) → ownership o ≡ ownership p → o ≡ p
+ownership_once None None e = refl
+ownership_once None (Some y) e = absurd cc
+ownership_once (Some x) None e = absurd cc
+ownership_once (Some x) (Some y) e = cc
 
-pub record SameParts (i j : List ℕ) (k l : ObjectType) (ts us : Trees) (x y : Option (List ℕ)) : Type 0 where
+-- an owner is no Key Material
+no_material : (o : Option (List ℕ)) (x : List ℕ) (rest : Trees) → ownership o ≡ material (Some x) rest → ⊥
+no_material None x rest e = absurd cc
+no_material (Some owner) x rest e =
+    absurd (let both : scalar owner_tag (text owner) ≡ scalar key_material (byte_string x) = cc in omega (arith, ap tag_of both))
+
+material_once : (a b o p : Option (List ℕ)) → material a (ownership o) ≡ material b (ownership p) → (a ≡ b) × (o ≡ p)
+material_once None None o p e = (refl, ownership_once o p e)
+material_once None (Some y) o p e = absurd (no_material o y (ownership p) e)
+material_once (Some x) None o p e = absurd (no_material p x (ownership o) (sym e))
+material_once (Some x) (Some y) o p e =
+    let tail : ownership o ≡ ownership p = cc in
+    let head : x ≡ y = cc in
+    (ap Some head, ownership_once o p tail)
+
+pub record SameParts (i j : List ℕ) (k l : ObjectType) (ts us : Trees) (x y o p : Option (List ℕ)) : Type 0 where
   pub id : i ≡ j
   pub kind : k ≡ l
   pub attributes : ts ≡ us
   pub bytes : x ≡ y
+  pub owner : o ≡ p
 
-pub parts_once : (i j : List ℕ) (k l : ObjectType) (ts us : Trees) (x y : Option (List ℕ)) → entry_item i k ts x ≡ entry_item j l us y → SameParts i j k l ts us x y
-parts_once i j k l ts us x y e =
+pub parts_once : (i j : List ℕ) (k l : ObjectType) (ts us : Trees) (x y o p : Option (List ℕ)) → entry_item i k ts x o ≡ entry_item j l us y p → SameParts i j k l ts us x y o p
+parts_once i j k l ts us x y o p e =
     let kinds : type_number k ≡ type_number l = cc in
-    let materials : material x ≡ material y = cc in
-    record { id = cc; kind = type_once k l kinds; attributes = cc; bytes = material_once x y materials }
+    let behind : material x (ownership o) ≡ material y (ownership p) = cc in
+    let both = material_once x y o p behind in
+    record { id = cc; kind = type_once k l kinds; attributes = cc; bytes = both.0; owner = both.1 }
+
+-- what is behind the attributes, as it is read
+pub read_behind : (bytes : Option (List ℕ)) (rest given : Trees) → given ≡ material bytes rest → (bytes ≡ None → (x : List ℕ) (more : Trees) → given ≡ material (Some x) more → ⊥)
+    → (b o : Option (List ℕ)) → given ≡ material b (ownership o) → rest ≡ ownership o
+read_behind None rest given e first None o f = sym e ∙ f
+read_behind None rest given e first (Some x) o f = absurd (first refl x (ownership o) f)
+read_behind (Some y) rest given e first None o f = absurd (no_material o y rest (sym f ∙ e))
+read_behind (Some y) rest given e first (Some x) o f = let both = sym e ∙ f in cc
 
 -- ---- an item is one entry
 
-abbrev entry_with : List ℕ → ObjectType → Attributes → Option (List ℕ) → EntryOf
-entry_with id kind attributes bytes = record { id = id; kind = kind; attributes = attributes; bytes = bytes }
+abbrev entry_with : List ℕ → ObjectType → Attributes → Option (List ℕ) → Option (List ℕ) → EntryOf
+entry_with id kind attributes bytes owner = record { id = id; kind = kind; attributes = attributes; bytes = bytes; owner = owner }
 
-pub same_entry : (e f : EntryOf) → e.id ≡ f.id → e.kind ≡ f.kind → e.attributes ≡ f.attributes → e.bytes ≡ f.bytes → e ≡ f
-same_entry e f p q r s =
-    ap (λ (x : List ℕ). entry_with x e.kind e.attributes e.bytes) p
-    ∙ ap (λ (x : ObjectType). entry_with f.id x e.attributes e.bytes) q
-    ∙ ap (λ (x : Attributes). entry_with f.id f.kind x e.bytes) r
-    ∙ ap (entry_with f.id f.kind f.attributes) s
+pub same_entry : (e f : EntryOf) → e.id ≡ f.id → e.kind ≡ f.kind → e.attributes ≡ f.attributes → e.bytes ≡ f.bytes → e.owner ≡ f.owner → e ≡ f
+same_entry e f p q r s o =
+    ap (λ (x : List ℕ). entry_with x e.kind e.attributes e.bytes e.owner) p
+    ∙ ap (λ (x : ObjectType). entry_with f.id x e.attributes e.bytes e.owner) q
+    ∙ ap (λ (x : Attributes). entry_with f.id f.kind x e.bytes e.owner) r
+    ∙ ap (λ (x : Option (List ℕ)). entry_with f.id f.kind f.attributes x e.owner) s
+    ∙ ap (entry_with f.id f.kind f.attributes f.bytes) o
 
 pub one_entry : (item : Tree) (e f : EntryOf) → SaysEntry item e → SaysEntry item f → e ≡ f
 one_entry item e f s t =
-    let parts = parts_once e.id f.id e.kind f.kind s.attributes t.attributes e.bytes f.bytes (sym s.is ∙ t.is) in
-    same_entry e f parts.id parts.kind (one_set t.attributes e.attributes f.attributes (subst (λ (ts : Trees). SaysAttributes ts e.attributes) parts.attributes s.said) t.said) parts.bytes
+    let parts = parts_once e.id f.id e.kind f.kind s.attributes t.attributes e.bytes f.bytes e.owner f.owner (sym s.is ∙ t.is) in
+    same_entry e f parts.id parts.kind (one_set t.attributes e.attributes f.attributes (subst (λ (ts : Trees). SaysAttributes ts e.attributes) parts.attributes s.said) t.said) parts.bytes parts.owner
 
 -- ---- its bytes
 
@@ -169,8 +198,8 @@ fits_any e live is small = record {
 
 -- ---- items that are no entry
 
-pub unlisted : (item : Tree) (id : List ℕ) (kind : ObjectType) (attributes : Trees) (bytes : Option (List ℕ)) → item ≡ entry_item id kind attributes bytes
+pub unlisted : (item : Tree) (id : List ℕ) (kind : ObjectType) (attributes : Trees) (bytes owner : Option (List ℕ)) → item ≡ entry_item id kind attributes bytes owner
     → ((a : Attributes) → AreListed attributes → ¬ (SaysAttributes attributes a)) → (e : EntryOf) → SaysEntry item e → ⊥
-unlisted item id kind attributes bytes is no_set e s =
-    let parts = parts_once e.id id e.kind kind s.attributes attributes e.bytes bytes (sym s.is ∙ is) in
+unlisted item id kind attributes bytes owner is no_set e s =
+    let parts = parts_once e.id id e.kind kind s.attributes attributes e.bytes bytes e.owner owner (sym s.is ∙ is) in
     no_set e.attributes (subst AreListed parts.attributes s.listed) (subst (λ (ts : Trees). SaysAttributes ts e.attributes) parts.attributes s.said)

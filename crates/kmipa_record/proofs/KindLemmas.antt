@@ -6,7 +6,7 @@ use Rattle.kmipa_ttlv.specs.declared.fault.FaultKind.TheVariants as flaw
 use Rattle.kmipa_record.specs.Kinds.{ByCause}
 use Rattle.kmipa_record.specs.Reading.{record_kind}
 use Rattle.kmipa_record.specs.declared.fault.RecordKind.{RecordKind}
-use Rattle.kmipa_record.specs.declared.fault.RecordKind.TheVariants.{Ttlv, Header, Number, EndWithoutBegin, SecondEnd, Identifier, Entry, Calls, Device, Memory}
+use Rattle.kmipa_record.specs.declared.fault.RecordKind.TheVariants.{Ttlv, Header, Number, EndWithoutBegin, SecondEnd, Identifier, Entry, Calls, Device, Memory, Seal, NoClose, Order}
 
 pub ByCause-map : (k : RecordKind) (D D' M M' P P' : Type 0) → (D → D') → (M → M') → (P → P') → ByCause k D M P → ByCause k D' M' P'
 ByCause-map Device D D' M M' P P' d m p h = d h
@@ -19,6 +19,9 @@ ByCause-map SecondEnd D D' M M' P P' d m p h = p h
 ByCause-map Identifier D D' M M' P P' d m p h = p h
 ByCause-map Entry D D' M M' P P' d m p h = p h
 ByCause-map Calls D D' M M' P P' d m p h = p h
+ByCause-map Seal D D' M M' P P' d m p h = p h
+ByCause-map NoClose D D' M M' P P' d m p h = p h
+ByCause-map Order D D' M M' P P' d m p h = p h
 
 -- what is reported of bytes
 pub reported_of_bytes : (k : FaultKind) (D M P : Type 0) → k ≢ flaw.Device → k ≢ flaw.Memory → read.ByCause k D M P → P

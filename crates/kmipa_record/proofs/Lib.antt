@@ -16,9 +16,12 @@ pub mod EntryLemmas
 pub mod RecordsLemmas
 pub mod DeclarationLemmas
 pub mod FirstFaultLemmas
+pub mod SealLemmas
 pub mod TranscriptLawLemmas
 pub mod WitnessLawLemmas
 pub mod DeclarationLawLemmas
 pub mod WrittenTranscriptLemmas
+pub mod PairLemmas
 pub mod DeclarationWritingLemmas
 pub mod MarkReadingLemmas
+pub mod SealedReadingLemmas

@@ -15,9 +15,13 @@ use Rattle.kmipa_ttlv.proofs.LawLemmas.{no_flaw_lem}
 use Rattle.kmipa_ttlv.proofs.ReadLemmas.{head_fails}
 use Rattle.kmipa_record.specs.Files.{IsOneItemAtMost, TellsItem}
 use Rattle.kmipa_record.specs.Reading.{record_kind, TellsFlawOf, Takes}
-use Rattle.kmipa_record.specs.Taking.{Refuses}
-use Rattle.kmipa_record.specs.Declarations.{RecordOf, row, entry}
-use Rattle.kmipa_record.specs.Entries.{EntryOf}
+use Rattle.kmipa_record.specs.DeclarationReading.{IsRefused, inadmissible, behind}
+use Rattle.kmipa_record.specs.DeclarationRecords.{RecordOf, row, allow, own, entry, aside}
+use Rattle.kmipa_record.specs.Declarations.{DeclarationOf, misplaced_kind}
+use Rattle.kmipa_record.specs.Kinds.{ByCause}
+use Rattle.kmipa_record.specs.declared.declaration_header.DeclarationHeader.{DeclarationHeader}
+use Rattle.kmipa_record.specs.declared.fault.RecordKind.{RecordKind}
+use Rattle.kmipa_record.specs.declared.reach.Reach.{Reach}
 use Rattle.kmipa_record.specs.Witnesses.{TurnOf}
 use Rattle.kmipa_record.specs.WitnessReading.{RefusesTurn, no_memory, foreign, low}
 use Rattle.kmipa_record.specs.declared.fault.RecordFault.{RecordFault}
@@ -81,8 +85,14 @@ refused_turn_place version turn came f one (no_memory e) = caused f.kind Memory 
 refused_turn_place version turn came f one (foreign d e) = caused f.kind Entry _ _ _ e tt
 refused_turn_place version turn came f one (low a l e) = caused f.kind Number _ _ _ e tt
 
-pub refused_record_place : (entries : List EntryOf) (r : RecordOf) (came : List ℕ) (f : RecordFault) → IsOneItemAtMost (drop f.offset came) → Refuses entries r f.kind → TellsItem came f
-refused_record_place entries (row r) came f one (inl e) = caused f.kind Memory _ _ _ e one
-refused_record_place entries (row r) came f one (inr x) = caused f.kind Entry _ _ _ x.0 tt
-refused_record_place entries (entry e) came f one (inl m) = caused f.kind Memory _ _ _ m one
-refused_record_place entries (entry e) came f one (inr x) = caused f.kind Identifier _ _ _ x.0 tt
+misplaced_place : (r : RecordOf) (kind : RecordKind) (D M : Type 0) → kind ≡ misplaced_kind r → ByCause kind D M (Unit {0})
+misplaced_place (row r) kind D M e = caused kind Entry _ _ _ e tt
+misplaced_place (allow l) kind D M e = caused kind Entry _ _ _ e tt
+misplaced_place (own a) kind D M e = caused kind Entry _ _ _ e tt
+misplaced_place (entry x) kind D M e = caused kind Identifier _ _ _ e tt
+misplaced_place (aside id) kind D M e = caused kind Identifier _ _ _ e tt
+
+pub refused_record_place : (reach : Reach) (h : DeclarationHeader) (declared : DeclarationOf) (r : RecordOf) (came : List ℕ) (f : RecordFault) → IsOneItemAtMost (drop f.offset came) → IsRefused reach h declared r f.kind → TellsItem came f
+refused_record_place reach h declared r came f one (inadmissible n e) = caused f.kind Entry _ _ _ e tt
+refused_record_place reach h declared r came f one (behind n (inl e)) = caused f.kind Memory _ _ _ e one
+refused_record_place reach h declared r came f one (behind n (inr x)) = misplaced_place r f.kind _ _ x.0

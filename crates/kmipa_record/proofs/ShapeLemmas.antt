@@ -1,10 +1,10 @@
 -- The shapes of items.
 use Rattle.std.proofs.Common.{◌≡◌, ◌≢◌, ℕ, ◌+◌, ℤ, Bool, List, Option, None, Some, MatchOption, sym, ap, ◌∙◌}
 use Rattle.std.specs.Option.{option_map}
-use Rattle.kmipa_ttlv.specs.Tree.{Tree, Trees, structure, scalar, none, more, integer, enumeration, boolean, text, byte_string}
+use Rattle.kmipa_ttlv.specs.Tree.{Tree, Trees, structure, scalar, none, more, integer, enumeration, boolean, date_time, text, byte_string}
 use Rattle.kmipa_ttlv.specs.ViewTree.{view_tree}
 use Rattle.kmipa_ttlv.specs.declared.view.View.{View}
-use Rattle.kmipa_attrs.specs.Fields.{tag_of, as_structure, as_integer, as_enumeration, as_boolean, as_text, as_bytes}
+use Rattle.kmipa_attrs.specs.Fields.{tag_of, as_structure, as_integer, as_enumeration, as_boolean, as_date, as_text, as_bytes}
 use Rattle.kmipa_ttlv.proofs.ViewTreeLemmas.{tag_of-view}
 
 -- an item with another tag
@@ -38,6 +38,11 @@ pub boolean_shape : (tag : ℕ) (t : Tree) → tag_of t ≡ tag → MatchOption 
 unfolding as_boolean
 boolean_shape tag (scalar n (boolean b)) e = ap (λ (k : ℕ). scalar k (boolean b)) e
 boolean_shape tag _ e = λ b h. absurd cc
+
+pub date_shape : (tag : ℕ) (t : Tree) → tag_of t ≡ tag → MatchOption (as_date t) ((z : ℤ) → t ≢ scalar tag (date_time z)) (λ z. t ≡ scalar tag (date_time z))
+unfolding as_date
+date_shape tag (scalar n (date_time z)) e = ap (λ (k : ℕ). scalar k (date_time z)) e
+date_shape tag _ e = λ z h. absurd cc
 
 pub text_shape : (tag : ℕ) (t : Tree) → tag_of t ≡ tag → MatchOption (as_text t) ((bs : List ℕ) → t ≢ scalar tag (text bs)) (λ bs. t ≡ scalar tag (text bs))
 unfolding as_text

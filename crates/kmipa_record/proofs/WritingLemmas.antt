@@ -44,6 +44,10 @@ pub all_mapped : {X Y : Type 0} (f : X → Y) (P : Y → Type 0) (xs : List X) �
 all_mapped f P [] all = All-nil (λ x. P (f x))
 all_mapped f P (x ∷ xs) all = All-cons (λ y. P (f y)) x xs (one_of P (f x ∷ map f xs) [] (map f xs) (f x) refl all) (all_mapped f P xs (All-tail P (f x) (map f xs) all))
 
+-- what holds of the elements ahead and of the next one
+pub all_at : {X : Type 0} (P : X → Type 0) (xs : List X) (i : ℕ) (d : X) → i < length xs → All P (take i xs) → P (get_or xs i d) → All P (take (i + 1) xs)
+all_at P xs i d h all one = subst (All P) (sym (take_more xs i d h)) (All-push P (take i xs) (get_or xs i d) all one)
+
 -- one more child
 pub pushed_more : {X : Type 0} (item_of : X → Tree) (old mid new : List Item) (item : Item) (xs : List X) (i : ℕ) (x : X) → i < length xs → x ≡ get_or xs i x → new ≡ mid ++ item ∷ [] → tree item ≡ item_of x
     → map tree mid ≡ map tree old ++ map item_of (take i xs) → map tree new ≡ map tree old ++ map item_of (take (i + 1) xs)

@@ -8,7 +8,7 @@ use Rattle.kmipa_ttlv.specs.Stream.{Begins}
 use Rattle.kmipa_ttlv.specs.Written.{spelling, Legal}
 use Rattle.kmipa_record.specs.Calls.{Follow, Refuses}
 use Rattle.kmipa_record.specs.Marks.{MarkOf, mark_of, mark_item, AreRecorded}
-use Rattle.kmipa_record.specs.Transcripts.{transcript_header, IsTranscript}
+use Rattle.kmipa_record.specs.Transcripts.{transcript_header, IsPlainTranscript}
 use Rattle.kmipa_record.specs.Writing.{Appends, IsWrittenTranscript, Unwritten, no_memory, no_file, AddsAll, Refused, starved, refused, AreWritable}
 use Rattle.kmipa_record.specs.declared.calls.Calls.{Calls}
 use Rattle.kmipa_record.specs.declared.transcript.Mark.{Mark}
@@ -42,7 +42,7 @@ legal_all marks able = all_mapped mark_of (λ mark. Legal 16 (mark_item mark)) m
 pub header_legal : Legal 16 transcript_header
 header_legal = record { levels = omega arith; sound = (tt, tt); small = omega arith }
 
-writable : (bytes : List ℕ) (marks : List MarkOf) → IsTranscript bytes marks → AreWritable marks
+writable : (bytes : List ℕ) (marks : List MarkOf) → IsPlainTranscript bytes marks → AreWritable marks
 writable bytes marks t = record {
   recorded = t.recorded;
   legal = λ k d h.
@@ -51,7 +51,7 @@ writable bytes marks t = record {
       (subst (λ (l : List Tree). Begins (transcript_header ∷ l) bytes []) (mapped_here mark_item marks k mark h (get_or_default marks k d mark h)) t.spelled);
 }
 
-pub unwritten : (marks : List MarkOf) (kind : RecordKind) → Refused (AreWritable marks) kind → Unwritten (λ bytes. IsTranscript bytes marks) (record { offset = 0; kind = kind })
+pub unwritten : (marks : List MarkOf) (kind : RecordKind) → Refused (AreWritable marks) kind → Unwritten (λ bytes. IsPlainTranscript bytes marks) (record { offset = 0; kind = kind })
 unwritten marks kind (starved k) = no_memory k
 unwritten marks kind (refused k n) = no_file refl k (λ bytes t. n (writable bytes marks t))
 

@@ -11,24 +11,25 @@ use Rattle.kmipa_attrs.specs.Sets.{Attributes, attributes_of}
 use Rattle.kmipa_attrs.specs.Tags.{name_tag, cryptographic_algorithm, cryptographic_length, cryptographic_usage_mask, initial_date, activation_date, deactivation_date, destroy_date, compromise_date, unique_identifier, object_type_tag, attributes_tag, key_material}
 use Rattle.kmipa_attrs.specs.declared.object_type.ObjectType.{ObjectType}
 use Rattle.kmipa_attrs.specs.declared.object_type.ObjectType.TheVariants.{SymmetricKey, SecretData}
-use Rattle.kmipa_record.specs.Tags.{entry_tag}
+use Rattle.kmipa_record.specs.Tags.{entry_tag, owner_tag}
 use Rattle.kmipa_record.specs.declared.entry.Entry.{Entry}
 use Rattle.kmipa_ttlv.specs.Spelling.{Spells}
 use Rattle.kmipa_attrs.specs.Writing.{short_children}
 
--- an object: its identifier, its type, its attributes, and its bytes where they are declared
+-- an object: its identifier, its type, its attributes, and its bytes and its owner where they are declared
 pub record EntryOf : Type 0 where
   pub id : List ℕ
   pub kind : ObjectType
   pub attributes : Attributes
   pub bytes : Option (List ℕ)
+  pub owner : Option (List ℕ)
 
 abbrev pub items_of : Vec ℕ → List ℕ
 items_of v = v.items
 
 -- the entry that a value of the program is
 abbrev pub entry_of : Entry → EntryOf
-entry_of e = record { id = string_bytes e.id; kind = e.kind; attributes = attributes_of e.attrs; bytes = option_map items_of e.bytes }
+entry_of e = record { id = string_bytes e.id; kind = e.kind; attributes = attributes_of e.attrs; bytes = option_map items_of e.bytes; owner = option_map string_bytes e.owner }
 
 -- ---- its record
 
@@ -53,19 +54,24 @@ abbrev pub AreListed : Trees → Type 0
 AreListed none = Unit {0}
 AreListed (more t ts) = IsTrue (is_listed t) × AreListed ts
 
-abbrev pub material : Option (List ℕ) → Trees
-material None = none
-material (Some bytes) = more (scalar key_material (byte_string bytes)) none
+-- the children behind the attributes: Key Material, and the owner
+abbrev pub material : Option (List ℕ) → Trees → Trees
+material None rest = rest
+material (Some bytes) rest = more (scalar key_material (byte_string bytes)) rest
+
+abbrev pub ownership : Option (List ℕ) → Trees
+ownership None = none
+ownership (Some owner) = more (scalar owner_tag (text owner)) none
 
 -- a record of an entry with these attributes: exactly these children, in this order
-abbrev pub entry_item : List ℕ → ObjectType → Trees → Option (List ℕ) → Tree
-entry_item id kind attributes bytes =
-    structure entry_tag (more (scalar unique_identifier (text id)) (more (scalar object_type_tag (enumeration (type_number kind))) (more (structure attributes_tag attributes) (material bytes))))
+abbrev pub entry_item : List ℕ → ObjectType → Trees → Option (List ℕ) → Option (List ℕ) → Tree
+entry_item id kind attributes bytes owner =
+    structure entry_tag (more (scalar unique_identifier (text id)) (more (scalar object_type_tag (enumeration (type_number kind))) (more (structure attributes_tag attributes) (material bytes (ownership owner)))))
 
 -- The item is a record of this entry; its attributes stand in any order, and are only those that an entry may have.
 pub record SaysEntry (item : Tree) (e : EntryOf) : Type 0 where
   pub attributes : Trees
-  pub is : item ≡ entry_item e.id e.kind attributes e.bytes
+  pub is : item ≡ entry_item e.id e.kind attributes e.bytes e.owner
   pub listed : AreListed attributes
   pub said : SaysAttributes attributes e.attributes
 
@@ -100,7 +106,7 @@ pub record IsDeclarable (e : EntryOf) : Type 0 where
 
 -- the record of an entry as it is written: its attributes in the shortest form
 abbrev pub written_entry : EntryOf → Tree
-written_entry e = entry_item e.id e.kind (short_children e.attributes) e.bytes
+written_entry e = entry_item e.id e.kind (short_children e.attributes) e.bytes e.owner
 
 -- no declaration has the entry: it is too long for one item, in its shortest form too
 abbrev pub IsTooLong : EntryOf → Type 0

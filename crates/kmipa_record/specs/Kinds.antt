@@ -1,7 +1,7 @@
 -- The kinds of faults of a file. No kind has the number 6.
 use Rattle.std.specs.Prelude.{ℕ, List, codes}
 use Rattle.kmipa_record.specs.declared.fault.RecordKind.{RecordKind}
-use Rattle.kmipa_record.specs.declared.fault.RecordKind.TheVariants.{Ttlv, Header, Number, EndWithoutBegin, SecondEnd, Identifier, Entry, Calls, Device, Memory}
+use Rattle.kmipa_record.specs.declared.fault.RecordKind.TheVariants.{Ttlv, Header, Number, EndWithoutBegin, SecondEnd, Identifier, Entry, Calls, Device, Memory, Seal, NoClose, Order}
 
 abbrev pub kind_number : RecordKind → ℕ
 kind_number (Ttlv flaw) = 1
@@ -14,6 +14,9 @@ kind_number Entry = 8
 kind_number Calls = 9
 kind_number Device = 10
 kind_number Memory = 11
+kind_number Seal = 12
+kind_number NoClose = 13
+kind_number Order = 14
 
 abbrev pub kind_name : RecordKind → List ℕ
 kind_name (Ttlv flaw) = codes "Ttlv"
@@ -26,6 +29,9 @@ kind_name Entry = codes "Entry"
 kind_name Calls = codes "Calls"
 kind_name Device = codes "Device"
 kind_name Memory = codes "Memory"
+kind_name Seal = codes "Seal"
+kind_name NoClose = codes "NoClose"
+kind_name Order = codes "Order"
 
 -- one fact where the device failed, one where memory ran out, and another at each other kind
 abbrev pub ByCause : RecordKind → Type 0 → Type 0 → Type 0 → Type 0
@@ -39,3 +45,6 @@ ByCause SecondEnd D M P = P
 ByCause Identifier D M P = P
 ByCause Entry D M P = P
 ByCause Calls D M P = P
+ByCause Seal D M P = P
+ByCause NoClose D M P = P
+ByCause Order D M P = P

@@ -2,9 +2,15 @@ pub mod Tags
 pub mod Kinds
 pub mod Files
 pub mod Marks
+pub mod Seals
+pub mod Heads
 pub mod Transcripts
 pub mod Hashes
 pub mod Entries
+pub mod Settings
+pub mod Lines
+pub mod DeclarationRecords
+pub mod Reaches
 pub mod Declarations
 pub mod Taking
 pub mod Witnesses

@@ -1,17 +1,22 @@
 -- What is written: files, spelled with zeros for padding.
-use Rattle.std.specs.Prelude.{◌≡◌, ◌≤◌, ℕ, List, [], ◌++◌, All, ◌≢◌, IsSome}
+use Rattle.std.specs.Prelude.{◌≡◌, ◌≤◌, ℕ, List, [], ◌++◌, All, ◌≢◌, IsSome, None}
 use Rattle.std.specs.List.{flat_map}
 use Rattle.kmipa_ttlv.specs.Tree.{Tree}
 use Rattle.kmipa_ttlv.specs.Spelling.{Spells}
 use Rattle.kmipa_ttlv.specs.Written.{spelling}
 use Rattle.kmipa_ttlv.specs.Written.{Legal}
-use Rattle.kmipa_record.specs.Declarations.{DeclarationOf, IsDeclaration}
+use Rattle.kmipa_record.specs.Declarations.{DeclarationOf, IsDeclarationWithin}
+use Rattle.kmipa_record.specs.Entries.{EntryOf}
+use Rattle.kmipa_record.specs.Settings.{plain_settings}
 use Rattle.kmipa_record.specs.Marks.{IsCallNumber, MarkOf, mark_item, AreRecorded}
-use Rattle.kmipa_record.specs.Transcripts.{IsTranscript}
+use Rattle.kmipa_record.specs.Transcripts.{IsPlainTranscript}
 use Rattle.kmipa_record.specs.Witnesses.{TurnOf, turn_item, version_number, Admits, IsWitness, ArePayloads}
 use Rattle.kmipa_record.specs.declared.fault.RecordFault.{RecordFault}
 use Rattle.kmipa_record.specs.declared.fault.RecordKind.{RecordKind}
 use Rattle.kmipa_record.specs.declared.fault.RecordKind.TheVariants.{Entry, Memory}
+use Rattle.kmipa_record.specs.declared.declaration_version.DeclarationVersion.TheVariants as declaration_versions
+use Rattle.kmipa_record.specs.declared.reach.Reach.{Reach}
+use Rattle.kmipa_record.specs.declared.reach.Reach.TheVariants.{Judged}
 use Rattle.kmipa_record.specs.declared.version.Version.{Version}
 use Rattle.kmipa_record.specs.declared.version.Version.TheVariants.{First, Third}
 
@@ -26,15 +31,31 @@ pub record ArePadded (bytes : List ℕ) : Type 0 where
   pub items : List Tree
   pub are : bytes ≡ flat_map spelling items
 
--- The bytes are a declaration of this, padded with zeros.
-pub record IsWrittenDeclaration (declared : DeclarationOf) (bytes : List ℕ) : Type 0 where
+abbrev pub AreUnowned : List EntryOf → Type 0
+AreUnowned = All (λ (e : EntryOf). e.owner ≡ None)
+
+-- version 1 can declare this
+pub record IsPlain (declared : DeclarationOf) : Type 0 where
+  pub settings : declared.settings ≡ plain_settings declared.settings.unique_names
+  pub lines : declared.allow_lines ≡ []
+  pub own : declared.own_attributes ≡ []
+  pub asides : declared.asides ≡ []
+  pub owners : AreUnowned declared.entries
+
+-- The bytes are a declaration of this within reach, padded with zeros, of version 1 where that can declare it.
+pub record IsWrittenDeclarationWithin (reach : Reach) (declared : DeclarationOf) (bytes : List ℕ) : Type 0 where
   pub padded : ArePadded bytes
-  pub is : IsDeclaration bytes declared
+  pub is : IsDeclarationWithin reach bytes declared
+  pub lowest : IsPlain declared → is.say.given.version ≡ declaration_versions.First
+
+-- The same of one by which calls are judged.
+abbrev pub IsWrittenDeclaration : DeclarationOf → List ℕ → Type 0
+IsWrittenDeclaration = IsWrittenDeclarationWithin Judged
 
 -- The bytes are a transcript of these marks, padded with zeros.
 pub record IsWrittenTranscript (marks : List MarkOf) (bytes : List ℕ) : Type 0 where
   pub padded : ArePadded bytes
-  pub is : IsTranscript bytes marks
+  pub is : IsPlainTranscript bytes marks
 
 -- The bytes are a witness of these turns, padded with zeros, in the lowest version that has such turns.
 pub record IsWrittenWitness (turns : List TurnOf) (bytes : List ℕ) : Type 0 where

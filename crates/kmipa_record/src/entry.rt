@@ -1,6 +1,6 @@
 //! Entries: the objects that a server held before the first call.
 
-ghost use Rattle.std.specs.Prelude.{◌≡◌, ◌≢◌, ◌↔◌, ◌*◌, ℕ, pos, List, length, IsTrue, Option, IfSome, option_map, MatchOption, IfOk};
+ghost use Rattle.std.specs.Prelude.{◌≡◌, ◌≢◌, ◌↔◌, ◌*◌, ℕ, pos, List, length, IsTrue, Option, Some, None, IfSome, option_map, MatchOption, IfOk};
 ghost use Rattle.kmipa_ttlv.specs.Tree.{Trees};
 ghost use Rattle.kmipa_ttlv.specs.ViewTree.{view_tree, view_trees};
 ghost use Rattle.kmipa_attrs.specs.Attributes.{SaysAttributes};
@@ -8,10 +8,10 @@ ghost use Rattle.kmipa_attrs.specs.Sets.{Attributes, attributes_of};
 ghost use Rattle.kmipa_attrs.specs.declared.object_type.ObjectType.{ObjectType};
 ghost use Rattle.kmipa_msgs.specs.Messages.{lent};
 ghost use Rattle.kmipa_record.specs.DeclarationReading.{are_whole_bytes};
-ghost use Rattle.kmipa_record.specs.Entries.{EntryOf, entry_of, items_of, entry_item, material, AreBytes, SaysEntry, AreListed, key_bits, IsDeclarable};
+ghost use Rattle.kmipa_record.specs.Entries.{EntryOf, entry_of, items_of, entry_item, material, ownership, AreBytes, SaysEntry, AreListed, key_bits, IsDeclarable};
 
-use crate::shape::{bytes_of, children_of, copied, enumeration_of, text_of};
-use crate::tags::ENTRY;
+use crate::shape::{bytes_of, children_of, copied, copied_text, enumeration_of, text_of};
+use crate::tags::{ENTRY, OWNER};
 use kmipa_attrs::tags::{
     ACTIVATION_DATE, ATTRIBUTES, COMPROMISE_DATE, CRYPTOGRAPHIC_ALGORITHM, CRYPTOGRAPHIC_LENGTH,
     CRYPTOGRAPHIC_USAGE_MASK, DEACTIVATION_DATE, DESTROY_DATE, INITIAL_DATE, KEY_MATERIAL, NAME,
@@ -48,6 +48,8 @@ pub struct Entry {
     pub attrs: AttrSet,
     /// The bytes of its Key Material, where they are declared.
     pub bytes: Option<Vec<u8>>,
+    /// The client that it is of, where that is declared.
+    pub owner: Option<String>,
 }
 
 /// The entry that an item says, where it may be declared.
@@ -66,6 +68,7 @@ pub fn entry_in(alloc: Global, item: &View) -> Result<Option<Entry>, AllocError>
         kind: parts.kind,
         attrs,
         bytes: copied(alloc, parts.bytes)?,
+        owner: copied_text(alloc, parts.owner)?,
     };
     if is_declarable(&entry) {
         Ok(Some(entry))
@@ -81,42 +84,62 @@ struct Parts<'a> {
     kind: ObjectType,
     attributes: Children<'a>,
     bytes: Option<&'a [u8]>,
+    owner: Option<&'a str>,
 }
 
 /// The parts of an entry's record.
 fn parts_in<'a>(item: &View<'a>) -> Option<Parts<'a>>
     ensures { MatchOption result
-        ((id : List ℕ) (kind : ObjectType) (attributes : Trees) (bytes : Option (List ℕ))
-        → view_tree item.now ≢ entry_item id kind attributes bytes)
-        (λ p. view_tree item.now ≡ entry_item p.id.now p.kind (view_trees p.attributes) (option_map lent p.bytes)) }
+        ((id : List ℕ) (kind : ObjectType) (attributes : Trees) (bytes owner : Option (List ℕ))
+        → view_tree item.now ≢ entry_item id kind attributes bytes owner)
+        (λ p. view_tree item.now
+        ≡ entry_item p.id.now p.kind (view_trees p.attributes) (option_map lent p.bytes) (option_map lent p.owner)) }
 {
     let mut children = children_of(item, ENTRY)?;
     let id = text_of(&children.next()?, UNIQUE_IDENTIFIER)?;
     let kind = ObjectType::of(enumeration_of(&children.next()?, OBJECT_TYPE)?)?;
     let attributes = children_of(&children.next()?, ATTRIBUTES)?;
-    let bytes = material_in(children)?;
+    let (bytes, behind_bytes) = material_before(children);
+    let owner = owner_in(behind_bytes)?;
     Some(Parts {
         id,
         kind,
         attributes,
         bytes,
+        owner,
     })
 }
 
-/// The bytes that the last children of an entry's record declare, if any.
-fn material_in<'a>(children: Children<'a>) -> Option<Option<&'a [u8]>>
-    ensures { MatchOption result ((bytes : Option (List ℕ)) → view_trees children.entry ≢ material bytes)
-        (λ o. view_trees children.entry ≡ material (option_map lent o)) }
+/// The bytes that the children begin with, if any, and the children behind them.
+fn material_before<'a>(children: Children<'a>) -> (Option<&'a [u8]>, Children<'a>)
+    ensures split { view_trees children.entry ≡ material (option_map lent result.0) (view_trees result.1) }
+    ensures first { option_map lent result.0 ≡ None
+        → (bytes : List ℕ) (rest : Trees) → view_trees children.entry ≢ material (Some bytes) rest }
+{
+    let mut rest = children;
+    let Some(child) = rest.next() else {
+        return (None, children);
+    };
+    match bytes_of(&child, KEY_MATERIAL) {
+        Some(bytes) => (Some(bytes), rest),
+        None => (None, children),
+    }
+}
+
+/// The owner that the last children of an entry's record declare, if any.
+fn owner_in<'a>(children: Children<'a>) -> Option<Option<&'a str>>
+    ensures { MatchOption result ((owner : Option (List ℕ)) → view_trees children.entry ≢ ownership owner)
+        (λ o. view_trees children.entry ≡ ownership (option_map lent o)) }
 {
     let mut children = children;
     let Some(child) = children.next() else {
         return Some(None);
     };
-    let bytes = bytes_of(&child, KEY_MATERIAL)?;
+    let owner = text_of(&child, OWNER)?;
     if children.next().is_some() {
         return None;
     }
-    Some(Some(bytes))
+    Some(Some(owner))
 }
 
 /// The set that the attributes of an entry say, where each is one that an entry may have.

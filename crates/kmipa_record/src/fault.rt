@@ -29,6 +29,12 @@ pub enum RecordKind {
     Device,
     /// Memory ran out.
     Memory,
+    /// A seal that isn't that of its record and the seal before, or a close that tells another number of records.
+    Seal,
+    /// A sealed transcript that ends without a close.
+    NoClose,
+    /// A moment below the one before.
+    Order,
 }
 
 impl RecordKind {
@@ -49,6 +55,9 @@ impl RecordKind {
             RecordKind::Calls => 9,
             RecordKind::Device => 10,
             RecordKind::Memory => 11,
+            RecordKind::Seal => 12,
+            RecordKind::NoClose => 13,
+            RecordKind::Order => 14,
         }
     }
 
@@ -67,6 +76,9 @@ impl RecordKind {
             RecordKind::Calls => "Calls",
             RecordKind::Device => "Device",
             RecordKind::Memory => "Memory",
+            RecordKind::Seal => "Seal",
+            RecordKind::NoClose => "NoClose",
+            RecordKind::Order => "Order",
         }
     }
 }

@@ -1,36 +1,54 @@
-//! The headers of the three files.
+//! The headers of a transcript and of a witness.
 
-ghost use Rattle.std.specs.Prelude.{◌≡◌, ◌≢◌, Bool, IfOk, MatchOption};
+ghost use Rattle.std.specs.Prelude.{◌≡◌, ◌≢◌, ◌↔◌, Bool, IsTrue, IfOk, MatchOption};
 ghost use Rattle.kmipa_ttlv.specs.ItemTree.{tree};
 ghost use Rattle.kmipa_ttlv.specs.ViewTree.{view_tree};
-ghost use Rattle.kmipa_record.specs.Transcripts.{transcript_header};
-ghost use Rattle.kmipa_record.specs.Declarations.{declaration_header};
+ghost use Rattle.kmipa_record.specs.Heads.{label_of};
+ghost use Rattle.kmipa_record.specs.Seals.{IsLabel, sealed_header};
+ghost use Rattle.kmipa_record.specs.Transcripts.{transcript_header, IsHeader};
 ghost use Rattle.kmipa_record.specs.Witnesses.{witness_header};
 ghost use Rattle.kmipa_record.specs.declared.version.Version.{Version};
 
+use crate::label::{Label, label_in};
 use crate::record::Record;
-use crate::shape::{boolean_of, children_of, integer_of};
-use crate::tags::{DECLARATION_HEADER, TRANSCRIPT_HEADER, UNIQUE_NAMES, VERSION, WITNESS_HEADER};
+use crate::shape::{children_of, integer_of};
+use crate::tags::{TRANSCRIPT_HEADER, VERSION, WITNESS_HEADER};
 use crate::version::{Version, version_of};
 use kmipa_ttlv::{Item, Tag, View};
 use std::alloc::{AllocError, Global};
 
 /// The header of a transcript.
 #[derive(Drop)]
-pub struct TranscriptHeader;
+pub struct TranscriptHeader {
+    /// That of one that is sealed.
+    pub label: Option<Label>,
+}
 
 impl Record for TranscriptHeader {
-    ghost says = { λ item _. item ≡ transcript_header };
+    ghost says = { λ item h. MatchOption h.label (item ≡ transcript_header) (λ label. (item ≡ sealed_header (label_of label)) × IsLabel (label_of label)) };
 
-    ghost is_record = { λ item. item ≡ transcript_header };
+    ghost is_record = { IsHeader };
 
-    fn of(_alloc: Global, item: &View) -> Result<Option<TranscriptHeader>, AllocError> {
-        Ok(transcript_header_in(item))
+    fn of(alloc: Global, item: &View) -> Result<Option<TranscriptHeader>, AllocError> {
+        if is_plain_header(item) {
+            return Ok(Some(TranscriptHeader { label: None }));
+        }
+        match label_in(alloc, item)? {
+            Some(label) => Ok(Some(TranscriptHeader { label: Some(label) })),
+            None => Ok(None),
+        }
     }
 }
 
-/// The header of a transcript, where the item is one.
-fn transcript_header_in(item: &View) -> Option<TranscriptHeader>
+/// Whether an item is the header of a transcript without seals.
+fn is_plain_header(item: &View) -> bool
+    ensures { IsTrue result ↔ (view_tree item.now ≡ transcript_header) }
+{
+    plain_header_in(item).is_some()
+}
+
+/// The version of a transcript without seals, where the item is its header.
+fn plain_header_in(item: &View) -> Option<i32>
     ensures { MatchOption result (view_tree item.now ≢ transcript_header)
         (λ _. view_tree item.now ≡ transcript_header) }
 {
@@ -39,37 +57,7 @@ fn transcript_header_in(item: &View) -> Option<TranscriptHeader>
     if version != 1 || children.next().is_some() {
         return None;
     }
-    Some(TranscriptHeader)
-}
-
-/// The header of a declaration.
-#[derive(Drop)]
-pub struct DeclarationHeader {
-    pub unique_names: bool,
-}
-
-impl Record for DeclarationHeader {
-    ghost says = { λ item h. item ≡ declaration_header h.unique_names };
-
-    ghost is_record = { λ item. (unique : Bool) × (item ≡ declaration_header unique) };
-
-    fn of(_alloc: Global, item: &View) -> Result<Option<DeclarationHeader>, AllocError> {
-        Ok(declaration_header_in(item))
-    }
-}
-
-/// The header of a declaration, where the item is one.
-fn declaration_header_in(item: &View) -> Option<DeclarationHeader>
-    ensures { MatchOption result (¬ ((unique : Bool) × (view_tree item.now ≡ declaration_header unique)))
-        (λ h. view_tree item.now ≡ declaration_header h.unique_names) }
-{
-    let mut children = children_of(item, DECLARATION_HEADER)?;
-    let version = integer_of(&children.next()?, VERSION)?;
-    let unique_names = boolean_of(&children.next()?, UNIQUE_NAMES)?;
-    if version != 1 || children.next().is_some() {
-        return None;
-    }
-    Some(DeclarationHeader { unique_names })
+    Some(version)
 }
 
 /// The header of a witness.
@@ -124,26 +112,6 @@ pub fn write_transcript_header(alloc: Global) -> Result<Item, AllocError>
     Ok(Item::structure(
         Tag {
             number: TRANSCRIPT_HEADER,
-        },
-        children,
-    ))
-}
-
-/// The header of a declaration.
-pub fn write_declaration_header(alloc: Global, unique_names: bool) -> Result<Item, AllocError>
-    ensures { IfOk result (λ item. tree item ≡ declaration_header unique_names) }
-{
-    let mut children = Vec::with_capacity(alloc, 2)?;
-    children.push(Item::integer(Tag { number: VERSION }, 1))?;
-    children.push(Item::boolean(
-        Tag {
-            number: UNIQUE_NAMES,
-        },
-        unique_names,
-    ))?;
-    Ok(Item::structure(
-        Tag {
-            number: DECLARATION_HEADER,
         },
         children,
     ))

@@ -1,11 +1,12 @@
 //! Laws of the three files: bytes are one file, or have one first fault.
 
 ghost use Rattle.std.specs.Prelude.{◌≡◌, ℕ, List};
-ghost use Rattle.kmipa_record.specs.Declarations.{DeclarationOf, IsDeclaration, DeclarationFault};
+ghost use Rattle.kmipa_record.specs.Declarations.{DeclarationOf, IsDeclarationWithin, DeclarationFaultWithin};
 ghost use Rattle.kmipa_record.specs.Marks.{MarkOf};
 ghost use Rattle.kmipa_record.specs.Transcripts.{IsTranscript, TranscriptFault};
 ghost use Rattle.kmipa_record.specs.Witnesses.{TurnOf, IsWitness, WitnessFault};
 ghost use Rattle.kmipa_record.specs.declared.fault.RecordKind.{RecordKind};
+ghost use Rattle.kmipa_record.specs.declared.reach.Reach.{Reach};
 
 /// Bytes are a transcript of one list of marks at most.
 pub fn one_transcript()
@@ -27,20 +28,20 @@ pub fn one_transcript_fault()
 
 /// Bytes are a declaration of one thing at most.
 pub fn one_declaration()
-    ensures { (bytes : List ℕ) (declared other : DeclarationOf) → IsDeclaration bytes declared
-        → IsDeclaration bytes other → declared ≡ other }
+    ensures { (reach : Reach) (bytes : List ℕ) (declared other : DeclarationOf)
+        → IsDeclarationWithin reach bytes declared → IsDeclarationWithin reach bytes other → declared ≡ other }
 {}
 
 /// The bytes of a declaration have no fault.
 pub fn no_fault_of_declaration()
-    ensures { (bytes : List ℕ) (declared : DeclarationOf) (offset : ℕ) (kind : RecordKind)
-        → IsDeclaration bytes declared → ¬ (DeclarationFault bytes offset kind) }
+    ensures { (reach : Reach) (bytes : List ℕ) (declared : DeclarationOf) (offset : ℕ) (kind : RecordKind)
+        → IsDeclarationWithin reach bytes declared → ¬ (DeclarationFaultWithin reach bytes offset kind) }
 {}
 
 /// Bytes have one first fault as a declaration at most.
 pub fn one_declaration_fault()
-    ensures { (bytes : List ℕ) (o p : ℕ) (j k : RecordKind) → DeclarationFault bytes o j → DeclarationFault bytes p k
-        → (o ≡ p) × (j ≡ k) }
+    ensures { (reach : Reach) (bytes : List ℕ) (o p : ℕ) (j k : RecordKind) → DeclarationFaultWithin reach bytes o j
+        → DeclarationFaultWithin reach bytes p k → (o ≡ p) × (j ≡ k) }
 {}
 
 /// Bytes are a witness of one list of turns at most.

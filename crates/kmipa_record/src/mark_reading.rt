@@ -1,15 +1,20 @@
 //! The next mark of a transcript, read from an input.
 
-ghost use Rattle.std.specs.Prelude.{◌≡◌, ◌<◌, ◌≤◌, ◌≢◌, ℕ, List, true, false, IfOk, IfErr, IfSome, OnOk, MatchResult, vec_len};
+ghost use Rattle.std.specs.Prelude.{◌≡◌, ◌<◌, ◌≤◌, ◌≢◌, ℕ, List, true, false, IfOk, IfErr, IfSome, None, OnOk, MatchOption, MatchResult, vec_len};
 ghost use Rattle.std.specs.Io.{StartsWith};
 ghost use Rattle.kmipa_ttlv.specs.Input.{came_of, taken_of, is_failed, IsFileOf, StaysOver};
 ghost use Rattle.kmipa_record.specs.Files.{Tells, TellsItem};
+ghost use Rattle.kmipa_record.specs.Heads.{head_of};
 ghost use Rattle.kmipa_record.specs.Marks.{MarkOf};
-ghost use Rattle.kmipa_record.specs.MarkReading.{AreGivenOf, GivesPlaced, FaultBehind, IsRightBehind};
+ghost use Rattle.kmipa_record.specs.Seals.{head_at};
+ghost use Rattle.kmipa_record.specs.MarkReading.{AreGivenOf, AreRead, GivesPlaced, FaultBehind, IsRightBehind};
+ghost use Rattle.kmipa_record.specs.Transcripts.{plain_items};
 
 use crate::fault::{RecordFault, RecordKind};
+use crate::head::Head;
 use crate::header::TranscriptHeader;
 use crate::record::{Next, read_header, read_next};
+use crate::sealed_reading::next_sealed;
 use crate::transcript::Mark;
 use kmipa_ttlv::Input;
 use std::alloc::Global;
@@ -27,12 +32,14 @@ pub fn read_on<R: Read>(
     alloc: Global,
     input: &mut Input<R>,
     bytes: &mut Vec<u8>,
+    head: &mut Option<Head>,
     begun: bool,
 ) -> Result<Option<PlacedMark>, RecordFault>
     requires { vec_len bytes.old ≤ 0x10_0000 }
-    ensures given { (marks : List MarkOf) → AreGivenOf begun marks input.old
-        → IfOk result (GivesPlaced marks input.new) }
-    ensures fault { (marks : List MarkOf) (file : List ℕ) → AreGivenOf begun marks input.old → IsFileOf file input.new
+    ensures given { (marks : List MarkOf) → AreGivenOf begun head.old marks input.old
+        → IfOk result (GivesPlaced marks head.new input.new) }
+    ensures fault { (marks : List MarkOf) (file : List ℕ) → AreGivenOf begun head.old marks input.old
+        → IsFileOf file input.new
         → IfErr result (Tells (FaultBehind marks) (IsRightBehind marks) file (is_failed input.new)) }
     ensures place { IfErr result (TellsItem (came_of input.new)) }
     ensures sound { MatchResult result (λ _. is_failed input.new ≡ false)
@@ -42,8 +49,11 @@ pub fn read_on<R: Read>(
     ensures grows { StartsWith (came_of input.new) (came_of input.old) }
     ensures over { StaysOver R.remaining input.old input.new }
 {
-    read_start(alloc, input, bytes, begun)?;
-    next_mark(alloc, input, bytes)
+    read_start(alloc, input, bytes, head, begun)?;
+    match head {
+        None => next_mark(alloc, input, bytes),
+        Some(head) => next_sealed(alloc, input, bytes, head),
+    }
 }
 
 /// Reads the header of a transcript, unless it was read.
@@ -51,12 +61,14 @@ fn read_start<R: Read>(
     alloc: Global,
     input: &mut Input<R>,
     bytes: &mut Vec<u8>,
+    head: &mut Option<Head>,
     begun: bool,
 ) -> Result<(), RecordFault>
     requires { vec_len bytes.old ≤ 0x10_0000 }
-    ensures given { (marks : List MarkOf) → AreGivenOf begun marks input.old
-        → OnOk result (AreGivenOf true marks input.new) }
-    ensures fault { (marks : List MarkOf) (file : List ℕ) → AreGivenOf begun marks input.old → IsFileOf file input.new
+    ensures given { (marks : List MarkOf) → AreGivenOf begun head.old marks input.old
+        → OnOk result (AreGivenOf true head.new marks input.new) }
+    ensures fault { (marks : List MarkOf) (file : List ℕ) → AreGivenOf begun head.old marks input.old
+        → IsFileOf file input.new
         → IfErr result (Tells (FaultBehind marks) (IsRightBehind marks) file (is_failed input.new)) }
     ensures place { IfErr result (TellsItem (came_of input.new)) }
     ensures sound { IfErr result (λ f. f.kind ≢ RecordKind.Device → is_failed input.new ≡ false) }
@@ -67,19 +79,32 @@ fn read_start<R: Read>(
     if begun {
         return Ok(());
     }
-    let _: TranscriptHeader = read_header(alloc, input, bytes)?;
+    let header: TranscriptHeader = read_header(alloc, input, bytes)?;
+    *head = head_behind(header, bytes);
     Ok(())
 }
 
-/// Reads the next mark after the header.
+/// What a transcript is known by behind a header of these bytes, if it is sealed.
+fn head_behind(header: TranscriptHeader, bytes: &[u8]) -> Option<Head>
+    ensures { MatchOption header.label (result ≡ None)
+        (λ label. MatchOption result ⊥ (λ head. (head_of head ≡ head_at bytes.now) × (head.label ≡ label))) }
+{
+    match header.label {
+        Some(label) => Some(Head::new(label, bytes)),
+        None => None,
+    }
+}
+
+/// Reads the next mark of a transcript without seals.
 fn next_mark<R: Read>(
     alloc: Global,
     input: &mut Input<R>,
     bytes: &mut Vec<u8>,
 ) -> Result<Option<PlacedMark>, RecordFault>
-    ensures given { (marks : List MarkOf) → AreGivenOf true marks input.old
-        → IfOk result (GivesPlaced marks input.new) }
-    ensures fault { (marks : List MarkOf) (file : List ℕ) → AreGivenOf true marks input.old → IsFileOf file input.new
+    ensures given { (marks : List MarkOf) → AreRead (plain_items marks) input.old
+        → IfOk result (GivesPlaced marks None input.new) }
+    ensures fault { (marks : List MarkOf) (file : List ℕ) → AreRead (plain_items marks) input.old
+        → IsFileOf file input.new
         → IfErr result (Tells (FaultBehind marks) (IsRightBehind marks) file (is_failed input.new)) }
     ensures place { IfErr result (TellsItem (came_of input.new)) }
     ensures sound { MatchResult result (λ _. is_failed input.new ≡ false)

@@ -3,6 +3,7 @@
 ghost use Rattle.std.specs.Prelude.{◌≤◌, vec_len};
 
 use crate::fault::{RecordFault, RecordKind};
+use crate::head::Head;
 use crate::mark_reading::{PlacedMark, read_on};
 use crate::transcript::Mark;
 use kmipa_ttlv::Input;
@@ -23,6 +24,8 @@ pub struct Marks<'a, R> {
     bytes: Vec<u8>,
     // Whether the header was read.
     begun: bool,
+    // What the transcript is known by, if it is sealed.
+    head: Option<Head>,
     // Where the mark begins that was given last.
     place: u64,
     // The fault that stays.
@@ -35,7 +38,7 @@ impl<'a, R: Read> Marks<'a, R> {
     ghost use Rattle.kmipa_ttlv.specs.Input.{came_of, taken_of, is_failed, IsFileOf, StaysOver};
     ghost use Rattle.kmipa_record.specs.Files.{Tells, TellsItem};
     ghost use Rattle.kmipa_record.specs.Marks.{MarkOf, mark_of};
-    ghost use Rattle.kmipa_record.specs.MarkReading.{input_of, reference_of, given_place, reported_of, HasGiven, GivesNext, StandsNext, FaultBehind, IsRightBehind};
+    ghost use Rattle.kmipa_record.specs.MarkReading.{input_of, reference_of, given_place, known_of, reported_of, HasGiven, GivesNext, StandsNext, FaultBehind, IsRightBehind};
 
     /// The marks of a transcript of whose bytes none was read.
     pub fn new(alloc: Global, input: &'a mut Input<R>) -> Marks<'a, R>
@@ -50,6 +53,7 @@ impl<'a, R: Read> Marks<'a, R> {
             input,
             bytes: Vec::new(alloc),
             begun: false,
+            head: None,
             place: 0,
             fault: None,
         }
@@ -62,6 +66,15 @@ impl<'a, R: Read> Marks<'a, R> {
     {
         let Marks { input, .. } = self;
         input
+    }
+
+    /// Takes out what the transcript is known by as far as it was read; `None` of one that bears no seals.
+    pub(crate) fn take_head(&mut self) -> Option<Head>
+        ensures known { result ≡ known_of self.old }
+        ensures input { input_of self.new ≡ input_of self.old }
+        ensures same_reference { reference_of self.new ≡ reference_of self.old }
+    {
+        self.head.take()
     }
 
     /// Where the mark that was given last begins, counted in bytes from the transcript's first.
@@ -117,7 +130,13 @@ impl<'a, R: Read> Marks<'a, R> {
         if let Some(fault) = self.fault {
             return Err(fault);
         }
-        match read_on(self.alloc, self.input, &mut self.bytes, self.begun) {
+        match read_on(
+            self.alloc,
+            self.input,
+            &mut self.bytes,
+            &mut self.head,
+            self.begun,
+        ) {
             Ok(Some(PlacedMark { place, mark })) => {
                 self.begun = true;
                 self.place = place;

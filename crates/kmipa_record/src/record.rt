@@ -53,6 +53,7 @@ pub fn read_header<R: Read, H: Record + Drop>(
     ensures grows { StartsWith (came_of input.new) (came_of input.old) }
     ensures over { StaysOver R.remaining input.old input.new }
     ensures bounded { vec_len bytes.new ≤ 0x10_0000 }
+    ensures came { OnOk result (came_of input.new ≡ came_of input.old ++ bytes.new.items) }
 {
     let offset = input.taken();
     let header: Next<H> = read_next(alloc, input, bytes)?;
@@ -82,6 +83,7 @@ pub fn read_next<R: Read, T: Record + Drop>(
     ensures grows { StartsWith (came_of input.new) (came_of input.old) }
     ensures over { StaysOver R.remaining input.old input.new }
     ensures bounded { vec_len bytes.new ≤ 0x10_0000 }
+    ensures came { OnOk result (came_of input.new ≡ came_of input.old ++ bytes.new.items) }
 {
     let offset = input.taken();
     match read_bytes(input, bytes) {

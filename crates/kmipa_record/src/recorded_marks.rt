@@ -5,11 +5,12 @@ ghost use Rattle.kmipa_ttlv.specs.Input.{came_of, taken_of, is_ended, is_failed,
 ghost use Rattle.kmipa_record.specs.Files.{Tells, TellsItem};
 ghost use Rattle.kmipa_record.specs.Marks.{MarkOf, mark_of};
 ghost use Rattle.kmipa_record.specs.MarkReading.{StandsNext};
-ghost use Rattle.kmipa_record.specs.TranscriptReading.{input_of, reference_of, mark_place, reported_of, HaveCome};
+ghost use Rattle.kmipa_record.specs.TranscriptReading.{input_of, reference_of, mark_place, reported_of, HaveCome, HaveEnded, IsKnownBy};
 ghost use Rattle.kmipa_record.specs.Transcripts.{IsTranscript, TranscriptFault, IsTranscriptUpTo};
 
 use crate::calls::Calls;
 use crate::fault::{RecordFault, RecordKind};
+use crate::head::Head;
 use crate::marks::Marks;
 use crate::transcript::Mark;
 use kmipa_ttlv::Input;
@@ -51,6 +52,17 @@ impl<'a, R: Read> RecordedMarks<'a, R> {
         source.into_input()
     }
 
+    /// Takes out what the transcript is known by as far as it was read; `None` of one that bears no seals.
+    pub fn take_head(&mut self) -> Option<Head>
+        // Where all of it was read, it has no seals, or all of them are right up to this head.
+        ensures known { (marks : List MarkOf) → HaveEnded marks self.old
+            → IsKnownBy (came_of (input_of self.old)) marks result }
+        ensures input { input_of self.new ≡ input_of self.old }
+        ensures same_reference { reference_of self.new ≡ reference_of self.old }
+    {
+        self.source.take_head()
+    }
+
     /// Where the mark that came last begins, counted in bytes from the transcript's first.
     pub fn place(&self) -> u64
         ensures { result ≡ mark_place self.now }
@@ -66,6 +78,8 @@ impl<'a, R: Read> RecordedMarks<'a, R> {
             (λ next. MatchOption next
             (IsTranscript (came_of (input_of self.new)) marks × IsTrue (is_ended (input_of self.new)))
             (λ mark. HaveCome (marks ++ mark_of mark ∷ []) self.new)) }
+        ensures ended { (marks : List MarkOf) → HaveCome marks self.old
+            → IfOk result (λ next. next ≡ None → HaveEnded marks self.new) }
         // A mark stands after those, at the place that is then reported.
         ensures placed { (marks : List MarkOf) → HaveCome marks self.old
             → IfOk result

@@ -3,7 +3,7 @@
 ghost use Rattle.std.specs.Prelude.{◌≡◌, ◌≢◌, MatchOption};
 ghost use Rattle.kmipa_ttlv.specs.ViewTree.{view_tree};
 ghost use Rattle.kmipa_msgs.specs.Messages.{RowOf, row_of};
-ghost use Rattle.kmipa_record.specs.Declarations.{row_item};
+ghost use Rattle.kmipa_record.specs.DeclarationRecords.{row_item};
 
 use crate::shape::{children_of, enumeration_of};
 use crate::tags::{CAUSE, ROW};

@@ -8,9 +8,10 @@ ghost use Rattle.kmipa_ttlv.specs.ViewTree.{view_tree, view_trees};
 ghost use Rattle.kmipa_record.specs.Files.{Tells, TellsItem};
 ghost use Rattle.kmipa_record.specs.Marks.{MarkOf, mark_of, mark_item, begin_fields, end_fields, AreRecorded};
 ghost use Rattle.kmipa_record.specs.Transcripts.{transcript_of, IsTranscript, TranscriptFault, IsTranscriptUpTo};
-ghost use Rattle.kmipa_record.specs.TranscriptReading.{input_of, reference_of, HaveCome};
+ghost use Rattle.kmipa_record.specs.TranscriptReading.{input_of, reference_of, HaveCome, HaveEnded, IsKnownBy};
 
 use crate::fault::{RecordFault, RecordKind};
+use crate::head::Head;
 use crate::record::Record;
 use crate::recorded_marks::RecordedMarks;
 use crate::shape::{bytes_of, children_of, integer_of, text_of};
@@ -23,6 +24,8 @@ use std::io::Read;
 #[derive(Drop)]
 pub struct Transcript {
     pub marks: Vec<Mark>,
+    /// The head of one that is sealed.
+    pub head: Option<Head>,
 }
 
 /// One thing that was seen of a call.
@@ -146,6 +149,9 @@ pub fn read_transcript<R: Read>(
         (λ transcript. IsTranscript (came_of input.new) (transcript_of transcript) × IsTrue (is_ended input.new)) }
     // Its calls begin and end as those of a transcript do; a call without an end mark is open.
     ensures recorded { IfOk result (λ transcript. AreRecorded (transcript_of transcript)) }
+    // It bears no seals, or all of them are right, from its header to its head.
+    ensures known { IfOk result
+        (λ transcript. IsKnownBy (came_of input.new) (transcript_of transcript) transcript.head) }
     // Else the first fault is reported, whatever follows what came, and nothing where the end was seen;
     // unless a read failed or memory ran out.
     ensures fault { (file : List ℕ) → IsFileOf file input.new
@@ -160,9 +166,10 @@ pub fn read_transcript<R: Read>(
     let mut source = RecordedMarks::new(alloc, input);
     let mut marks = Vec::new(alloc);
     let taken = take_marks(&mut source, &mut marks);
+    let head = source.take_head();
     let _ = source.into_input();
     match taken {
-        Ok(()) => Ok(Transcript { marks }),
+        Ok(()) => Ok(Transcript { marks, head }),
         Err(fault) => Err(fault),
     }
 }
@@ -176,6 +183,7 @@ fn take_marks<R: Read>(
     ensures found { OnOk result
         (IsTranscript (came_of (input_of source.new)) (map mark_of marks.new.items)
         × IsTrue (is_ended (input_of source.new))) }
+    ensures ended { OnOk result (HaveEnded (map mark_of marks.new.items) source.new) }
     ensures fault { (file : List ℕ) → IsFileOf file (input_of source.new)
         → IfErr result (Tells TranscriptFault IsTranscriptUpTo file (is_failed (input_of source.new))) }
     ensures place { IfErr result (TellsItem (came_of (input_of source.new))) }
@@ -198,6 +206,7 @@ fn take_mark<R: Read>(
     ensures end { IfOk result
         (λ more. more ≡ false → IsTranscript (came_of (input_of source.new)) (map mark_of marks.new.items)
         × IsTrue (is_ended (input_of source.new))) }
+    ensures ended { IfOk result (λ more. more ≡ false → HaveEnded (map mark_of marks.new.items) source.new) }
     ensures fault { (file : List ℕ) → IsFileOf file (input_of source.new)
         → IfErr result (Tells TranscriptFault IsTranscriptUpTo file (is_failed (input_of source.new))) }
     ensures place { IfErr result (TellsItem (came_of (input_of source.new))) }

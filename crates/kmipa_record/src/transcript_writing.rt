@@ -5,7 +5,7 @@ ghost use Rattle.std.specs.Io.{StartsWith};
 ghost use Rattle.std.specs.String.{string_bytes};
 ghost use Rattle.kmipa_ttlv.specs.ItemTree.{tree};
 ghost use Rattle.kmipa_record.specs.Marks.{MarkOf, mark_of, mark_item, AreRecorded};
-ghost use Rattle.kmipa_record.specs.Transcripts.{transcript_of, transcript_header, IsTranscript};
+ghost use Rattle.kmipa_record.specs.Transcripts.{transcript_of, transcript_header, IsPlainTranscript};
 ghost use Rattle.kmipa_record.specs.Writing.{Appends, IsWrittenTranscript, Unwritten, AddsAll, Refused, AreWritable};
 
 use crate::append::{Written, append, append_all};
@@ -17,7 +17,7 @@ use crate::transcript::{Begin, End, Mark, Transcript};
 use kmipa_ttlv::{Item, Tag};
 use std::alloc::{AllocError, Global};
 
-/// Appends a transcript of these marks.
+/// Appends a transcript of these marks, without seals.
 ///
 /// `Entry` at 0 where no bytes are one: marks of which `read_transcript` would tell a fault, or a mark too long for one
 /// item. An `Err` changes nothing.
@@ -30,7 +30,7 @@ pub fn write_transcript(
     ensures written { OnOk result
         (Appends (IsWrittenTranscript (transcript_of transcript.now)) out.old.items out.new.items) }
     // It is refused where no bytes are one, or where memory ran out.
-    ensures refused { IfErr result (Unwritten (λ bytes. IsTranscript bytes (transcript_of transcript.now))) }
+    ensures refused { IfErr result (Unwritten (λ bytes. IsPlainTranscript bytes (transcript_of transcript.now))) }
     ensures same { IfErr result (λ _. out.new.items ≡ out.old.items) }
 {
     let start = out.len();

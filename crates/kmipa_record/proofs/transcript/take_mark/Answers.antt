@@ -31,3 +31,6 @@ returns-clause-place g c =
           let f : RecordFault = record { offset = w.place.result; kind = Memory } in
           rw w.result-is (unkept_place (came_of (input_of source)) marks (mark_of c.in-Some.mark) (mark_place source) f (stands []) w.place.ensures refl)
     ]
+
+pub returns-in_default-clause-ended : goal.returns-in_default-clause-ended
+returns-in_default-clause-ended g c = λ e. c.in_ok-mark.ensures.ended (map mark_of c.args.marks.now.items) c.requires c.in_default.is

@@ -1,6 +1,6 @@
 use Rattle.std.proofs.Common.{List, map, subst}
 use Rattle.kmipa_record.specs.Marks.{mark_of}
-use Rattle.kmipa_record.specs.Transcripts.{IsTranscript}
+use Rattle.kmipa_record.specs.Transcripts.{IsPlainTranscript}
 use Rattle.kmipa_record.specs.Writing.{Appends, IsWrittenTranscript, Unwritten}
 use Rattle.kmipa_record.specs.declared.transcript.Mark.{Mark}
 use Rattle.kmipa_record.proofs.WrittenTranscriptLemmas.{written, unwritten}
@@ -14,5 +14,5 @@ returns-in-Ok-clause-written c =
 
 pub returns-in-Err-clause-refused : goal.returns-in-Err-clause-refused
 returns-in-Err-clause-refused c =
-    subst (λ (l : List Mark). Unwritten (λ bytes. IsTranscript bytes (map mark_of l)) (record { offset = 0; kind = c.in-Err.kind })) c.deref.ensures.value
+    subst (λ (l : List Mark). Unwritten (λ bytes. IsPlainTranscript bytes (map mark_of l)) (record { offset = 0; kind = c.in-Err.kind })) c.deref.ensures.value
     (unwritten (map mark_of c.deref.result.now) c.in-Err.kind c.in-Err.ensures.refused)

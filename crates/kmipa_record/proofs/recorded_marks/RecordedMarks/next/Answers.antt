@@ -3,7 +3,7 @@ use Rattle.std.proofs.lemmas.Result.{err_from_is_err_and}
 use Rattle.kmipa_ttlv.specs.Input.{came_of, is_failed}
 use Rattle.kmipa_record.specs.Marks.{mark_of}
 use Rattle.kmipa_record.specs.MarkReading.{input_of, given_place}
-use Rattle.kmipa_record.proofs.TranscriptLemmas.{behind_reported, refused_reported, refused_place, one_more_come}
+use Rattle.kmipa_record.proofs.TranscriptLemmas.{behind_reported, refused_reported, refused_place, one_more_come, all_come, all_known}
 use Rattle.kmipa_record.proofs.recorded_marks.RecordedMarks.next.Goals as goal
 
 pub returns-in_err-mark-clause-fault : goal.returns-in_err-mark-clause-fault
@@ -30,3 +30,9 @@ returns-in-Err-clause-place g c = λ marks come.
     let stands = rw c.in-Some.is at (c.in_ok-mark.ensures.placed marks come.given) in
     rw (c.refuse.ensures.input, c.refuse.ensures.fault) (refused_place (came_of (input_of source)) marks c.args.self.now.calls (mark_of c.in-Some.mark) (given_place source)
     (record { offset = given_place source; kind = c.in-Err.kind }) (stands []) refl c.in-Err.ensures)
+
+pub returns-in_default-clause-come : goal.returns-in_default-clause-come
+returns-in_default-clause-come g c = λ marks come. all_come c.next.new.self marks come.recorded (rw c.in_default.is at (c.in_ok-mark.ensures.given marks come.given))
+
+pub returns-in_default-clause-ended : goal.returns-in_default-clause-ended
+returns-in_default-clause-ended g c = λ marks come none. all_known _ marks (rw c.in_default.is at (c.in_ok-mark.ensures.given marks come.given))

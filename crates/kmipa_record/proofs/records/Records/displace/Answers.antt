@@ -18,11 +18,9 @@ returns c =
     ∙ slice_get_read lent (length lent) place entry refl c.in-Some-get.ensures.lookup.3.0 c.in-Some-get.ensures.lookup.1 in
     elim c.match-insert.branch [
       | in-Ok-insert w ↦ rw w.result-is (record {
-        rows = refl;
-        entries = refl;
-        places = refl;
+        same = refl;
         others = joined old.others c.insert.new.self old.entries.items c.args.earlier c.in-Some.place c.in-Some-get.entry.now id c.in-Some.is at c.in-Ok.ensures.cases
             (λ cs. btree_set_updates_text id old.others c.insert.new.self _ w.in-Ok-insert.ensures.updates cs);
       })
-      | in-Err w ↦ rw w.result-is (record { rows = refl; entries = refl; places = refl; others = refl })
+      | in-Err w ↦ rw w.result-is (record { same = refl; others = refl })
     ]
