@@ -5,6 +5,7 @@ use Rattle.kmipa_record.specs.Marks.{MarkOf, AreRecorded}
 use Rattle.kmipa_record.specs.Transcripts.{transcript_of}
 use Rattle.kmipa_record.specs.Declarations.{DeclarationOf}
 use Rattle.kmipa_record.specs.Witnesses.{TurnOf, witness_of}
+use Rattle.kmipa_record.specs.declared.reach.Reach.TheVariants.{Judged}
 use Rattle.kmipa_record.specs.declared.fault.RecordKind.{RecordKind}
 use Rattle.kmipa_record.specs.declared.fault.RecordKind.TheVariants as kind
 use Rattle.kmipa_record.proofs.DeclarationLawLemmas.{one_declaration_lem, no_fault_of_declaration_lem}
@@ -34,6 +35,9 @@ only_memory kind.SecondEnd D M P d p h = absurd (p h)
 only_memory kind.Identifier D M P d p h = absurd (p h)
 only_memory kind.Entry D M P d p h = absurd (p h)
 only_memory kind.Calls D M P d p h = absurd (p h)
+only_memory kind.Seal D M P d p h = absurd (p h)
+only_memory kind.NoClose D M P d p h = absurd (p h)
+only_memory kind.Order D M P d p h = absurd (p h)
 
 works : {A : Type 0} → IsTrue false × A → ⊥
 works (h, a) = absurd cc
@@ -64,12 +68,12 @@ pub accepted_audit_is_yes_lem : (t d w : List ℕ) → AreAccepted t d w → (re
 accepted_audit_is_yes_lem t d w a (Ok audited) h =
     verdict_of audited.verdict
     (said_yes a.marks (transcript_of audited.transcript) a.declared h.declared a.turns (witness_of audited.witness) (Ok audited.verdict)
-    (one_transcript_lem t (transcript_of audited.transcript) a.marks h.transcript a.transcript) (one_declaration_lem d h.declared a.declared h.declaration a.declaration)
+    (one_transcript_lem t (transcript_of audited.transcript) a.marks h.transcript a.transcript) (one_declaration_lem Judged d h.declared a.declared h.declaration a.declaration)
     (one_witness_lem w (witness_of audited.witness) a.turns h.witness a.witness) a.transcript.recorded a.accepted h.verdict)
 accepted_audit_is_yes_lem t d w a (Err (audit.Transcript f)) h = only_memory f.kind _ _ _ works (no_fault_of_transcript_lem t a.marks f.offset f.kind a.transcript) h
-accepted_audit_is_yes_lem t d w a (Err (audit.Declaration f)) h = only_memory f.kind _ _ _ works (no_fault_of_declaration_lem d a.declared f.offset f.kind a.declaration) h.1
+accepted_audit_is_yes_lem t d w a (Err (audit.Declaration f)) h = only_memory f.kind _ _ _ works (no_fault_of_declaration_lem Judged d a.declared f.offset f.kind a.declaration) h.1
 accepted_audit_is_yes_lem t d w a (Err (audit.Witness f)) h = only_memory f.kind _ _ _ works (no_fault_of_witness_lem w a.turns f.offset f.kind a.witness) h.2
 accepted_audit_is_yes_lem t d w a (Err (audit.Check f)) h =
     fault_of f
     (said_yes a.marks h.marks a.declared h.declared a.turns h.turns (Err f) (one_transcript_lem t h.marks a.marks h.transcript a.transcript)
-    (one_declaration_lem d h.declared a.declared h.declaration a.declaration) (one_witness_lem w h.turns a.turns h.witness a.witness) a.transcript.recorded a.accepted h.checks)
+    (one_declaration_lem Judged d h.declared a.declared h.declaration a.declaration) (one_witness_lem w h.turns a.turns h.witness a.witness) a.transcript.recorded a.accepted h.checks)

@@ -1,5 +1,5 @@
 -- What a run leaves, as a declaration: the objects of a ledger, with their bytes where these are known.
-use Rattle.std.specs.Prelude.{◌≡◌, ◌↔◌, ℕ, List, map, Option, Some, None, unwrap_or, length}
+use Rattle.std.specs.Prelude.{◌≡◌, ◌↔◌, ℕ, List, [], map, Option, Some, None, unwrap_or, length}
 use Rattle.kmipa_attrs.specs.Sets.{Attributes}
 use Rattle.kmipa_object.specs.Inventory.{Card, Thing}
 use Rattle.kmipa_object.specs.declared.life.Material.{Material}
@@ -73,11 +73,18 @@ bytes_left secrets (Secret secret) = unwrap_or (bytes_at secrets secret.number) 
 
 -- the entry of an object
 abbrev pub entry_left : List Known → Held → EntryOf
-entry_left secrets h = record { id = h.card.id; kind = h.card.kind; attributes = attributes_left h.card; bytes = bytes_left secrets h.material }
+entry_left secrets h = record { id = h.card.id; kind = h.card.kind; attributes = attributes_left h.card; bytes = bytes_left secrets h.material; owner = None }
 
 -- the declaration of a ledger's objects, with the rules of another one
 abbrev pub declaration_left : DeclarationOf → Meaning → DeclarationOf
-declaration_left declared m = record { unique_names = declared.unique_names; rows = declared.rows; entries = map (entry_left m.secrets) m.objects }
+declaration_left declared m = record {
+  settings = declared.settings;
+  rows = declared.rows;
+  allow_lines = declared.allow_lines;
+  own_attributes = declared.own_attributes;
+  entries = map (entry_left m.secrets) m.objects;
+  asides = [];
+}
 
 -- The declaration of a ledger that knows what steps leave is what they leave.
 abbrev pub LedgerIsLeft : Type 0

@@ -54,7 +54,12 @@ rows_declared (row ∷ rows) = row ∷ rows
 
 -- the rules that a declaration gives
 abbrev pub rules_declared : DeclarationOf → RulesOf
-rules_declared declared = record { unique_names = declared.unique_names; rows = rows_declared declared.rows }
+rules_declared declared = record {
+  unique_names = declared.settings.unique_names;
+  rows = rows_declared declared.rows;
+  allow_lines = declared.allow_lines;
+  visibility = declared.settings.visibility;
+}
 
 -- The witness is formed for the calls of the transcript, and some inventory that the declaration describes has a run of all calls by the
 -- steps of the witness, which gives every recorded response.

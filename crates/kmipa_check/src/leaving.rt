@@ -34,9 +34,12 @@ pub fn declaration_left<L: Ledger>(
         place += 1;
     }
     Ok(Declaration {
-        unique_names: declaration.unique_names,
+        settings: declaration.settings,
         rows: Vec::from_slice(alloc, &declaration.rows)?,
+        allow_lines: Vec::from_slice(alloc, &declaration.allow_lines)?,
+        own_attributes: Vec::from_slice(alloc, &declaration.own_attributes)?,
         entries,
+        asides: Vec::new(alloc),
     })
 }
 
@@ -51,6 +54,7 @@ fn entry_left<L: Ledger>(alloc: Global, ledger: &L, object: &Object) -> Result<E
         kind: object.kind,
         attrs: attributes_left(alloc, object)?,
         bytes: bytes_left(alloc, ledger, object.life.material)?,
+        owner: None,
     })
 }
 

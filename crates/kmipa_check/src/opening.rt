@@ -97,8 +97,10 @@ pub fn rules_of_declaration(alloc: Global, declaration: &Declaration) -> Result<
     ensures { IfOk result (λ rules. rules_of rules ≡ rules_declared (declaration_of declaration.now)) }
 {
     Ok(Rules {
-        unique_names: declaration.unique_names,
+        unique_names: declaration.settings.unique_names,
         rows: rows_of(alloc, &declaration.rows)?,
+        allow_lines: Vec::from_slice(alloc, &declaration.allow_lines)?,
+        visibility: declaration.settings.visibility,
     })
 }
 

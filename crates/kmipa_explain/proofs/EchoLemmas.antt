@@ -52,7 +52,7 @@ module _ (rules : RulesOf) (m : Meaning) (p : Option (List ℕ)) (t : ℤ) where
   located_echo q None r = r
   located_echo q (Some x) r = r
 
-  got_echo : (id : Option (List ℕ)) (payload : Option PayloadOf) → GetReason m id t (option_and_then seen_got payload) EchoDiffers → Differs id (id_repeated payload)
+  got_echo : (id : Option (List ℕ)) (payload : Option PayloadOf) → GetReason rules m id t (option_and_then seen_got payload) EchoDiffers → Differs id (id_repeated payload)
   got_echo id None r = absurd r
   got_echo id (Some (created x)) r = absurd r
   got_echo id (Some (registered x)) r = absurd r
@@ -61,7 +61,7 @@ module _ (rules : RulesOf) (m : Meaning) (p : Option (List ℕ)) (t : ℤ) where
   got_echo id (Some (got_attributes x)) r = absurd r
   got_echo id (Some (changed x)) r = absurd r
 
-  told_echo : (id : Option (List ℕ)) (g : _) (payload : Option PayloadOf) → GetAttributesReason (cards_of m.objects) id t g (option_and_then seen_attributes payload) EchoDiffers
+  told_echo : (id : Option (List ℕ)) (g : _) (payload : Option PayloadOf) → GetAttributesReason rules (cards_of m.objects) id t g (option_and_then seen_attributes payload) EchoDiffers
       → Differs id (id_repeated payload)
   told_echo id g None r = absurd r
   told_echo id g (Some (created x)) r = absurd r

@@ -3,8 +3,12 @@ use Rattle.std.proofs.Common.{◌≡◌, ◌≢◌, ◌⊎◌, inl, inr, ℕ, �
 use Rattle.std.specs.Prelude.{option_and_then, unwrap_or}
 use Rattle.std.specs.List.{position_from}
 use Rattle.kmipa_object.specs.Inventory.{Card}
+use Rattle.kmipa_object.specs.Life.{Dates, state}
 use Rattle.kmipa_object.specs.Table.{revoke_act}
+use Rattle.kmipa_object.specs.Allowances.{allows}
+use Rattle.kmipa_object.specs.declared.allow.Act.{Act}
 use Rattle.kmipa_object.specs.declared.allow.Act.TheVariants as act
+use Rattle.kmipa_object.specs.declared.allow.Allow.TheVariants.{Not}
 use Rattle.kmipa_object.specs.declared.life.Material.{Material}
 use Rattle.kmipa_object.specs.declared.life.Material.TheVariants.{Gone, Secret}
 use Rattle.kmipa_store.specs.Choices.{IsSound}
@@ -15,6 +19,7 @@ use Rattle.kmipa_msgs.specs.declared.response.Status.{Status}
 use Rattle.kmipa_msgs.specs.declared.response.Status.TheVariants.{Success, Failed, Undone}
 use Rattle.kmipa_record.specs.Declarations.{DeclarationOf}
 use Rattle.kmipa_record.specs.Entries.{EntryOf}
+use Rattle.kmipa_ops.specs.Allowance.{allowance}
 use Rattle.kmipa_ops.specs.Create.{seen_created, CreateReason}
 use Rattle.kmipa_ops.specs.Get.{seen_got, GetReason}
 use Rattle.kmipa_ops.specs.GetAttributes.{seen_attributes, GetAttributesReason}
@@ -30,14 +35,16 @@ use Rattle.kmipa_check.proofs.PlaceLemmas.{below_suc}
 use Rattle.kmipa_check.specs.Left.{bytes_left, declaration_left, entry_left}
 use Rattle.kmipa_check.specs.Runs.{rules_declared}
 use Rattle.kmipa_check.specs.Steps.{StepOf}
-use Rattle.kmipa_explain.specs.Holding.{act_asked, bytes_held, object_held}
+use Rattle.kmipa_explain.specs.Holding.{IsExcludedBy, act_asked, bytes_held, dates_told, object_held}
 use Rattle.kmipa_explain.specs.Items.{about}
 use Rattle.kmipa_explain.specs.Reasoned.{HeldReason, IsExcludedThere, IsReasoned, KnowsOtherBytes}
 use Rattle.kmipa_explain.specs.Replaying.{IsStanding}
+use Rattle.kmipa_explain.specs.Unfounded.{TellsObject}
+use Rattle.kmipa_explain.specs.declared.held.StateHeld.{StateHeld}
 use Rattle.kmipa_explain.proofs.EchoLemmas.{echo_differs}
 use Rattle.kmipa_explain.proofs.LengthLemmas.{length_impossible}
 use Rattle.kmipa_explain.proofs.TakenLemmas.{identifier_taken, name_taken}
-use Rattle.kmipa_explain.proofs.ValueLemmas.{foreign, lacks}
+use Rattle.kmipa_explain.proofs.ValueLemmas.{foreign, held_meant, lacks}
 use Rattle.kmipa_explain.proofs.FindLemmas.{find_map, find_place}
 use Rattle.kmipa_explain.proofs.LeftOutLemmas.{leaves_some}
 use Rattle.kmipa_explain.proofs.ListedLemmas.{listed_wrongly}
@@ -109,11 +116,11 @@ module _ (declared : DeclarationOf) (m : Meaning) where
     located_absent q None r = r
     located_absent q (Some x) r = r
 
-    got_absent : (about : Option (List ℕ)) (x : Option GotOf) → GetReason m about t x NoSuchObject → object_held made about ≡ None
+    got_absent : (about : Option (List ℕ)) (x : Option GotOf) → GetReason rules m about t x NoSuchObject → object_held made about ≡ None
     got_absent about None r = held_nowhere about r
     got_absent about (Some x) r = held_nowhere about r
 
-    told_absent : (about : Option (List ℕ)) (g : _) (x : Option GotAttributesOf) → GetAttributesReason (cards_of m.objects) about t g x NoSuchObject → object_held made about ≡ None
+    told_absent : (about : Option (List ℕ)) (g : _) (x : Option GotAttributesOf) → GetAttributesReason rules (cards_of m.objects) about t g x NoSuchObject → object_held made about ≡ None
     told_absent about g None r = card_nowhere about r
     told_absent about g (Some x) r = card_nowhere about r
 
@@ -131,7 +138,7 @@ module _ (declared : DeclarationOf) (m : Meaning) where
 
     -- ---- WrongState
 
-    excluded_there : (about : Option (List ℕ)) (asked : AskedOf) (act : _) → act_asked asked ≡ Some act → IsExcluded m.objects about t act → IsExcludedThere made about t asked
+    excluded_there : (about : Option (List ℕ)) (asked : AskedOf) (act : _) → act_asked asked ≡ Some act → IsExcluded rules m.objects about t act → IsExcludedThere made about t asked
     excluded_there about asked act judged r = record {
       dates = r.0.card.dates;
       had = ap (option_map (λ (e : EntryOf). dates_in e.attributes)) (held_at about r.0 r.1);
@@ -152,20 +159,26 @@ module _ (declared : DeclarationOf) (m : Meaning) where
     located_excluded q None r = r
     located_excluded q (Some x) r = r
 
-    got_excluded : (about : Option (List ℕ)) (x : Option GotOf) → GetReason m about t x WrongState → IsExcluded m.objects about t act.Get
+    got_excluded : (about : Option (List ℕ)) (x : Option GotOf) → GetReason rules m about t x WrongState → IsExcluded rules m.objects about t act.Get
     got_excluded about None r = r
     got_excluded about (Some x) r = r
 
-    told_excluded : (about : Option (List ℕ)) (g : _) (x : Option GotAttributesOf) → GetAttributesReason (cards_of m.objects) about t g x WrongState → ⊥
-    told_excluded about g None r = r
-    told_excluded about g (Some x) r = r
+    held_excluded : (about : Option (List ℕ)) → (c : Card) × (card_meant (cards_of m.objects) about ≡ Some c) × (allowance rules act.GetAttributes t c ≡ Not) → IsExcluded rules m.objects about t act.GetAttributes
+    held_excluded about r =
+        let h = held_meant m.objects about r.0 r.1 in
+        (h.0, h.1, ap (λ (c : Card). allowance rules act.GetAttributes t c) h.2 ∙ r.2)
+
+    told_excluded : (about : Option (List ℕ)) (g : _) (x : Option GotAttributesOf) → GetAttributesReason rules (cards_of m.objects) about t g x WrongState → IsExcluded rules m.objects about t act.GetAttributes
+    told_excluded about g None r = held_excluded about r
+    told_excluded about g (Some x) r = held_excluded about r
 
     done_excluded : (asked : AskedOf) (payload : Option PayloadOf) → DoneReason rules m p t asked payload WrongState → IsExcludedThere made (about p asked payload) t asked
     done_excluded (creates a) payload r = absurd (created_excluded a (option_and_then seen_created payload) r)
     done_excluded (registers a) payload r = absurd (registered_excluded a (option_and_then seen_registered payload) r)
     done_excluded (locates q) payload r = absurd (located_excluded q (option_and_then seen_located payload) r)
     done_excluded (gets id) payload r = excluded_there (meant id p) (gets id) act.Get refl (got_excluded (meant id p) (option_and_then seen_got payload) r)
-    done_excluded (gets_attributes g) payload r = absurd (told_excluded (meant g.id p) g (option_and_then seen_attributes payload) r)
+    done_excluded (gets_attributes g) payload r =
+        excluded_there (meant g.id p) (gets_attributes g) act.GetAttributes refl (told_excluded (meant g.id p) g (option_and_then seen_attributes payload) r)
     done_excluded (activates id) payload r = excluded_there (meant id p) (activates id) act.Activate refl r
     done_excluded (revokes a) payload r = excluded_there (meant a.id p) (revokes a) (revoke_act a.code) refl r
     done_excluded (destroys id) payload r = excluded_there (meant id p) (destroys id) act.Destroy refl r
@@ -186,11 +199,11 @@ module _ (declared : DeclarationOf) (m : Meaning) where
     located_other q None r = r
     located_other q (Some x) r = r
 
-    told_other : (about : Option (List ℕ)) (g : _) (x : Option GotAttributesOf) → GetAttributesReason (cards_of m.objects) about t g x BytesDiffer → ⊥
+    told_other : (about : Option (List ℕ)) (g : _) (x : Option GotAttributesOf) → GetAttributesReason rules (cards_of m.objects) about t g x BytesDiffer → ⊥
     told_other about g None r = r
     told_other about g (Some x) r = r
 
-    other_bytes : (about : Option (List ℕ)) (payload : Option PayloadOf) → GetReason m about t (option_and_then seen_got payload) BytesDiffer → KnowsOtherBytes made about payload
+    other_bytes : (about : Option (List ℕ)) (payload : Option PayloadOf) → GetReason rules m about t (option_and_then seen_got payload) BytesDiffer → KnowsOtherBytes made about payload
     other_bytes about None r = absurd r
     other_bytes about (Some (Messages.created x)) r = absurd r
     other_bytes about (Some (Messages.registered x)) r = absurd r
@@ -273,6 +286,26 @@ reasoned declared order turn c item why held placeholder law s =
       there = o.there;
       reason = subst P (sym s.is) (held_reason declared s.ledger o.sound placeholder c.response.stamp why o.ask o.answer r);
     }
+
+-- ---- the object that the rules exclude
+
+-- it is told as it is judged
+pub excluded_told : (held : DeclarationOf) (meant_id : Option (List ℕ)) (t : ℤ) (asked : AskedOf) (s : StateHeld) → IsExcludedThere held meant_id t asked → TellsObject held meant_id t asked (Some s) → IsExcludedBy held meant_id t asked s
+excluded_told held meant_id t asked s e told =
+    let acts : Some e.act ≡ Some s.act = sym e.judged ∙ told.act in
+    let act : e.act ≡ s.act = cc in
+    let both : Some e.dates ≡ Some (dates_told s.dates) = sym e.had ∙ told.dates in
+    let dates : e.dates ≡ dates_told s.dates = cc in
+    let lines = (rules_declared held).allow_lines in
+    record {
+      judged = told;
+      excluded = told.allow ∙ ap (allows lines s.act) told.state ∙ sym (ap (λ (d : Dates). allows lines s.act (state d t)) dates) ∙ sym (ap (λ (a : Act). allows lines a (state e.dates t)) act) ∙ e.excluded;
+    }
+
+-- and it is there
+pub excluded_there_is : (held : DeclarationOf) (meant_id : Option (List ℕ)) (t : ℤ) (asked : AskedOf) → IsExcludedThere held meant_id t asked → TellsObject held meant_id t asked None → ⊥
+excluded_there_is held meant_id t asked e (inl none) = let clash : Some e.act ≡ None = sym e.judged ∙ none in absurd cc
+excluded_there_is held meant_id t asked e (inr none) = let clash : Some e.dates ≡ None = sym e.had ∙ none in absurd cc
 
 -- ---- the first place where two lists differ
 

@@ -44,11 +44,11 @@ module _ (rules : RulesOf) (m : Meaning) (p : Option (List ℕ)) (t : ℤ) where
   registered a None r = r
   registered a (Some x) r = r
 
-  got : (about : Option (List ℕ)) (x : Option GotOf) → GetReason m about t x ListedTooFew → ⊥
+  got : (about : Option (List ℕ)) (x : Option GotOf) → GetReason rules m about t x ListedTooFew → ⊥
   got about None r = r
   got about (Some x) r = r
 
-  told : (about : Option (List ℕ)) (g : _) (x : Option GotAttributesOf) → GetAttributesReason (cards_of m.objects) about t g x ListedTooFew → ⊥
+  told : (about : Option (List ℕ)) (g : _) (x : Option GotAttributesOf) → GetAttributesReason rules (cards_of m.objects) about t g x ListedTooFew → ⊥
   told about g None r = r
   told about g (Some x) r = r
 

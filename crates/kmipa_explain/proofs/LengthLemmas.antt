@@ -80,11 +80,11 @@ module _ (m : Meaning) (sound : IsSound m) where
     located_length q None r = r
     located_length q (Some x) r = r
 
-    told_length : (id : Option (List ℕ)) (g : _) (x : Option GotAttributesOf) → GetAttributesReason (cards_of m.objects) id t g x LengthImpossible → ⊥
+    told_length : (id : Option (List ℕ)) (g : _) (x : Option GotAttributesOf) → GetAttributesReason rules (cards_of m.objects) id t g x LengthImpossible → ⊥
     told_length id g None r = r
     told_length id g (Some x) r = r
 
-    got_length : (asked id : Option (List ℕ)) (payload : Option PayloadOf) → GetReason m id t (option_and_then seen_got payload) LengthImpossible → Tells id (gets asked) payload
+    got_length : (asked id : Option (List ℕ)) (payload : Option PayloadOf) → GetReason rules m id t (option_and_then seen_got payload) LengthImpossible → Tells id (gets asked) payload
     got_length asked id None r = absurd r
     got_length asked id (Some (created x)) r = absurd r
     got_length asked id (Some (registered x)) r = absurd r

@@ -70,11 +70,11 @@ module _ (declared : DeclarationOf) (m : Meaning) where
     located_taken q None r = r
     located_taken q (Some x) r = r
 
-    got_taken : (id : Option (List ℕ)) (x : Option GotOf) → GetReason m id t x IdentifierTaken → ⊥
+    got_taken : (id : Option (List ℕ)) (x : Option GotOf) → GetReason (rules_declared declared) m id t x IdentifierTaken → ⊥
     got_taken id None r = r
     got_taken id (Some x) r = r
 
-    told_taken : (id : Option (List ℕ)) (g : _) (x : Option GotAttributesOf) → GetAttributesReason (cards_of m.objects) id t g x IdentifierTaken → ⊥
+    told_taken : (id : Option (List ℕ)) (g : _) (x : Option GotAttributesOf) → GetAttributesReason (rules_declared declared) (cards_of m.objects) id t g x IdentifierTaken → ⊥
     told_taken id g None r = r
     told_taken id g (Some x) r = r
 
@@ -135,11 +135,11 @@ module _ (declared : DeclarationOf) (m : Meaning) where
     located_borne q None r = r
     located_borne q (Some x) r = r
 
-    got_borne : (id : Option (List ℕ)) (x : Option GotOf) → GetReason m id t x NameTaken → ⊥
+    got_borne : (id : Option (List ℕ)) (x : Option GotOf) → GetReason (rules_declared declared) m id t x NameTaken → ⊥
     got_borne id None r = r
     got_borne id (Some x) r = r
 
-    told_borne : (id : Option (List ℕ)) (g : _) (x : Option GotAttributesOf) → GetAttributesReason (cards_of m.objects) id t g x NameTaken → ⊥
+    told_borne : (id : Option (List ℕ)) (g : _) (x : Option GotAttributesOf) → GetAttributesReason (rules_declared declared) (cards_of m.objects) id t g x NameTaken → ⊥
     told_borne id g None r = r
     told_borne id g (Some x) r = r
 
@@ -223,7 +223,7 @@ name_missed names entries e found none =
     cc
 
 -- what is found is a bearer of a name that is asked for
-pub borne : (held : DeclarationOf) (asked : AskedOf) (e : EntryOf) (n : NameOf) → held.unique_names ≡ true → find (bears (names_asked asked)) held.entries ≡ Some e
+pub borne : (held : DeclarationOf) (asked : AskedOf) (e : EntryOf) (n : NameOf) → held.settings.unique_names ≡ true → find (bears (names_asked asked)) held.entries ≡ Some e
     → shared (names_asked asked) e.attributes.names ≡ Some n → IsBorne held asked n e.id
 borne held asked e n unique found one =
     let names = names_asked asked in

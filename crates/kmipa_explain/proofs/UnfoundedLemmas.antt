@@ -29,11 +29,11 @@ module _ (rules : RulesOf) (m : Meaning) (p : Option (List ℕ)) (t : ℤ) where
   located q None r = r
   located q (Some x) r = r
 
-  got : (about : Option (List ℕ)) (x : Option GotOf) → GetReason m about t x ReasonUnfounded → ⊥
+  got : (about : Option (List ℕ)) (x : Option GotOf) → GetReason rules m about t x ReasonUnfounded → ⊥
   got about None r = r
   got about (Some x) r = r
 
-  told : (about : Option (List ℕ)) (g : _) (x : Option GotAttributesOf) → GetAttributesReason (cards_of m.objects) about t g x ReasonUnfounded → ⊥
+  told : (about : Option (List ℕ)) (g : _) (x : Option GotAttributesOf) → GetAttributesReason rules (cards_of m.objects) about t g x ReasonUnfounded → ⊥
   told about g None r = r
   told about g (Some x) r = r
 

@@ -45,7 +45,7 @@ held_at_place : (hs : List Held) (o : Option ℕ) (c : Card) → option_and_then
 held_at_place hs None c e = let bad : ⊥ = cc in absurd bad
 held_at_place hs (Some p) c e = held_card (slice_get hs p) c (sym (slice_get-map (λ (h : Held). h.card) hs p) ∙ e)
 
-held_meant : (hs : List Held) (id : Option (List ℕ)) (c : Card) → card_meant (cards_of hs) id ≡ Some c → (h : Held) × (object_meant hs id ≡ Some h) × (h.card ≡ c)
+pub held_meant : (hs : List Held) (id : Option (List ℕ)) (c : Card) → card_meant (cards_of hs) id ≡ Some c → (h : Held) × (object_meant hs id ≡ Some h) × (h.card ≡ c)
 held_meant hs None c e = let bad : ⊥ = cc in absurd bad
 held_meant hs (Some id) c e = held_at_place hs (place_of id (cards_of hs)) c e
 
@@ -66,11 +66,11 @@ module _ (m : Meaning) (rules : RulesOf) (p : Option (List ℕ)) (t : ℤ) (obje
   located_lacks q None r = r
   located_lacks q (Some x) r = r
 
-  got_lacks : (id : Option (List ℕ)) (x : Option GotOf) → GetReason m id t x AttributeMissing → ⊥
+  got_lacks : (id : Option (List ℕ)) (x : Option GotOf) → GetReason rules m id t x AttributeMissing → ⊥
   got_lacks id None r = r
   got_lacks id (Some x) r = r
 
-  told_lacks : (id : Option (List ℕ)) (g : GetAttributesOf) (payload : Option PayloadOf) → GetAttributesReason (cards_of m.objects) id t g (option_and_then seen_attributes payload) AttributeMissing
+  told_lacks : (id : Option (List ℕ)) (g : GetAttributesOf) (payload : Option PayloadOf) → GetAttributesReason rules (cards_of m.objects) id t g (option_and_then seen_attributes payload) AttributeMissing
       → LacksRequired (object id) (gets_attributes g) payload
   told_lacks id g None r = absurd r
   told_lacks id g (Some (Messages.created x)) r = absurd r
@@ -123,7 +123,7 @@ module _ (m : Meaning) (rules : RulesOf) (p : Option (List ℕ)) (t : ℤ) (obje
   located_foreign q None r = r
   located_foreign q (Some x) r = r
 
-  got_foreign : (id : Option (List ℕ)) (payload : Option PayloadOf) → GetReason m id t (option_and_then seen_got payload) AttributeDiffers → ShowsForeign (object id) t payload
+  got_foreign : (id : Option (List ℕ)) (payload : Option PayloadOf) → GetReason rules m id t (option_and_then seen_got payload) AttributeDiffers → ShowsForeign (object id) t payload
   got_foreign id None r = absurd r
   got_foreign id (Some (Messages.created x)) r = absurd r
   got_foreign id (Some (Messages.registered x)) r = absurd r
@@ -133,7 +133,7 @@ module _ (m : Meaning) (rules : RulesOf) (p : Option (List ℕ)) (t : ℤ) (obje
   got_foreign id (Some (Messages.changed x)) r = absurd r
 
   told_foreign : (id : Option (List ℕ)) (g : GetAttributesOf) (payload : Option PayloadOf)
-      → GetAttributesReason (cards_of m.objects) id t g (option_and_then seen_attributes payload) AttributeDiffers → ShowsForeign (object id) t payload
+      → GetAttributesReason rules (cards_of m.objects) id t g (option_and_then seen_attributes payload) AttributeDiffers → ShowsForeign (object id) t payload
   told_foreign id g None r = absurd r
   told_foreign id g (Some (Messages.created x)) r = absurd r
   told_foreign id g (Some (Messages.registered x)) r = absurd r

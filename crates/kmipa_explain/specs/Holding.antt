@@ -1,8 +1,6 @@
 -- What the reasons rest on that speak of an object, told of what was held where the item was refused.
 use Rattle.std.specs.Prelude.{◌≡◌, ◌≢◌, ◌<◌, ℕ, ℤ, List, length, slice_get, Option, Some, None, option_map}
 use Rattle.std.specs.String.{string_bytes}
-use Rattle.kmipa_object.specs.Life.{state}
-use Rattle.kmipa_object.specs.Table.{allowed}
 use Rattle.kmipa_object.specs.declared.allow.Allow.TheVariants.{Not}
 use Rattle.kmipa_msgs.specs.Messages.{AskedOf, AskOf, PayloadOf, AnswerOf}
 use Rattle.kmipa_record.specs.Declarations.{DeclarationOf}
@@ -17,7 +15,7 @@ use Rattle.kmipa_explain.specs.Values.{TellsDiffering, TellsMissing}
 use Rattle.kmipa_explain.specs.LeftOut.{TellsLeft}
 use Rattle.kmipa_explain.specs.Listed.{TellsListed}
 pub use Rattle.kmipa_explain.specs.Meant.{act_asked, bytes_held, dates_held, dates_told, object_held}
-use Rattle.kmipa_explain.specs.Unfounded.{TellsReason}
+use Rattle.kmipa_explain.specs.Unfounded.{IsJudgedBy, TellsReason}
 use Rattle.kmipa_explain.specs.declared.explanation.Cause.{Cause}
 use Rattle.kmipa_explain.specs.declared.explanation.Cause.TheVariants as told
 use Rattle.kmipa_explain.specs.declared.held.BytesHeld.{BytesHeld}
@@ -32,12 +30,10 @@ pub record IsAbsent (held : DeclarationOf) (meant : Option (List ℕ)) (id : Opt
 
 -- ---- WrongState
 
--- the object has these dates, they say this state at the moment, and that state excludes the operation
+-- the object as the operation on it is judged, and the server's rules exclude it
 pub record IsExcludedBy (held : DeclarationOf) (meant : Option (List ℕ)) (t : ℤ) (asked : AskedOf) (s : StateHeld) : Type 0 where
-  pub dates : dates_held held meant ≡ Some (dates_told s.dates)
-  pub act : act_asked asked ≡ Some s.act
-  pub state : s.state ≡ state (dates_told s.dates) t
-  pub excluded : allowed s.act s.state ≡ Not
+  pub judged : IsJudgedBy held meant t asked s
+  pub excluded : s.allow ≡ Not
 
 -- ---- BytesDiffer
 

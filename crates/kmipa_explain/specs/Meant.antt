@@ -1,7 +1,11 @@
 -- The object that is meant, of what was held.
-use Rattle.std.specs.Prelude.{ℕ, List, find, bytes_eq, Option, Some, None, option_and_then, option_map, String}
+use Rattle.std.specs.List.{list_any}
+use Rattle.std.specs.Prelude.{ℕ, Bool, List, find, bytes_eq, Option, Some, None, option_and_then, option_map, String}
+use Rattle.kmipa_object.specs.Allowances.{is_line_of}
 use Rattle.kmipa_object.specs.Life.{Dates}
 use Rattle.kmipa_object.specs.declared.allow.Act.{Act}
+use Rattle.kmipa_object.specs.declared.allow.AllowLine.{AllowLine}
+use Rattle.kmipa_object.specs.declared.state.State.{State}
 use Rattle.kmipa_msgs.specs.Messages.{AskedOf}
 use Rattle.kmipa_ops.specs.Row.{act_by}
 use Rattle.kmipa_ops.specs.Rows.{subject_asked}
@@ -27,6 +31,10 @@ bytes_held held id = option_and_then (λ (e : EntryOf). e.bytes) (object_held he
 -- the row of the table of states by which an operation on an object is judged
 abbrev pub act_asked : AskedOf → Option Act
 act_asked asked = act_by (subject_asked asked)
+
+-- a line of the server's own is for this operation in this state
+abbrev pub has_line : List AllowLine → Act → State → Bool
+has_line lines act state = list_any (is_line_of act state) lines
 
 abbrev pub dates_told : DatesHeld → Dates
 dates_told d = record { initial = d.initial; activation = d.activation; deactivation = d.deactivation; destroy = d.destroy; compromise = d.compromise }

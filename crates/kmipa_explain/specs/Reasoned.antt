@@ -1,7 +1,7 @@
 -- What a reason that speaks against an item says of what was held. Not promised: `Holding` says what is told.
 use Rattle.std.specs.Prelude.{◌≡◌, ◌≢◌, ℕ, ℤ, List, Option, Some, None}
 use Rattle.kmipa_object.specs.Life.{Dates, state}
-use Rattle.kmipa_object.specs.Table.{allowed}
+use Rattle.kmipa_object.specs.Allowances.{allows}
 use Rattle.kmipa_object.specs.declared.allow.Act.{Act}
 use Rattle.kmipa_object.specs.declared.allow.Allow.TheVariants.{Not}
 use Rattle.kmipa_attrs.specs.Sets.{NameOf}
@@ -11,6 +11,7 @@ use Rattle.kmipa_ops.specs.Explains.{shows}
 use Rattle.kmipa_ops.specs.declared.why.Why.{Why}
 use Rattle.kmipa_ops.specs.declared.why.Why.TheVariants.{NoSuchObject, WrongState, IdentifierTaken, NameTaken, BytesDiffer, LengthImpossible, AttributeDiffers, AttributeMissing, ListedWrongly, ListedTooFew, ReasonUnfounded, EchoDiffers}
 use Rattle.kmipa_batch.specs.Calls.{pairs_of}
+use Rattle.kmipa_check.specs.Runs.{rules_declared}
 use Rattle.kmipa_check.specs.Steps.{StepOf}
 use Rattle.kmipa_explain.specs.Echoes.{DiffersSomehow}
 use Rattle.kmipa_explain.specs.Holding.{act_asked, bytes_held, dates_held, object_held}
@@ -24,13 +25,13 @@ use Rattle.kmipa_explain.specs.LeftOut.{LeavesSomeOut}
 use Rattle.kmipa_explain.specs.Listed.{IsListedWrongly}
 use Rattle.kmipa_explain.specs.Unfounded.{FailsFor}
 
--- the object's state excludes the operation
+-- the server's rules exclude the operation in the object's state
 pub record IsExcludedThere (held : DeclarationOf) (meant : Option (List ℕ)) (t : ℤ) (asked : AskedOf) : Type 0 where
   pub dates : Dates
   pub had : dates_held held meant ≡ Some dates
   pub act : Act
   pub judged : act_asked asked ≡ Some act
-  pub excluded : allowed act (state dates t) ≡ Not
+  pub excluded : allows (rules_declared held).allow_lines act (state dates t) ≡ Not
 
 -- other bytes of it are known than are shown
 pub record KnowsOtherBytes (held : DeclarationOf) (meant : Option (List ℕ)) (payload : Option PayloadOf) : Type 0 where

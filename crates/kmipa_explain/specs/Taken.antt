@@ -40,7 +40,7 @@ names_asked asked = names_by (effect_asked asked)
 
 -- names are unique, this one is asked for, and a live object, which has this identifier, has it
 pub record IsBorne (held : DeclarationOf) (asked : AskedOf) (name : NameOf) (bearer : List ℕ) : Type 0 where
-  pub unique : held.unique_names ≡ true
+  pub unique : held.settings.unique_names ≡ true
   pub asked_for : Contains (names_asked asked) name
   pub object : EntryOf
   pub is_held : Contains held.entries object

@@ -2,16 +2,20 @@
 
 use kmipa_attrs::{Name, ObjectType};
 use kmipa_msgs::Cause as FailureCause;
-use kmipa_object::{Act, State};
+use kmipa_object::{Act, Allow, State};
 use kmipa_ops::Judged;
 
-/// Of `WrongState`: the object as it is judged.
+/// The object as an operation on it is judged.
 #[derive(Clone, Copy, PartialEq, Eq)]
 pub struct StateHeld {
     /// Its row in the table of states.
     pub act: Act,
-    /// The object's state at the Time Stamp of the response, which excludes it.
+    /// The object's state at the Time Stamp of the response.
     pub state: State,
+    /// What the server's rules say of the operation in that state; of `WrongState` that they exclude it.
+    pub allow: Allow,
+    /// Whether the declaration has a line that says so, in place of the table.
+    pub by_line: bool,
     pub dates: DatesHeld,
 }
 

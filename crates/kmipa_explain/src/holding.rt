@@ -24,7 +24,7 @@ ghost use Rattle.kmipa_explain.specs.Whence.{IsSubject};
 use crate::differing::differing_cause;
 use crate::echoes::echo_cause;
 use crate::explanation::Cause;
-use crate::held::{BytesHeld, DatesHeld, StateHeld};
+use crate::held::{BytesHeld, DatesHeld};
 use crate::items::about_in;
 use crate::left_out::left_out_cause;
 use crate::lengths::length_cause;
@@ -34,11 +34,11 @@ use crate::places::{answer_there, ask_there};
 use crate::standing::{Standing, standing_at};
 use crate::subject::{Resting, Subject, subject_held};
 use crate::taken::{identifier_cause, name_cause};
-use crate::unfounded::reason_cause;
+use crate::unfounded::{object_judged, reason_cause};
 use kmipa_attrs::AttrSet;
-use kmipa_check::{CheckFault, Step};
+use kmipa_check::{CheckFault, Step, rules_of_declaration};
 use kmipa_msgs::{Answer, Ask, Payload};
-use kmipa_object::{Act, Life, Material, state_at};
+use kmipa_object::{Act, Life, Material};
 use kmipa_ops::{Why, reasons_are_decided, row_of};
 use kmipa_record::{Declaration, Entry};
 use std::alloc::{AllocError, Global};
@@ -130,7 +130,7 @@ fn cause_of_meant(
 {
     match why {
         Why::NoSuchObject => Ok(Cause::NoObject(meant)),
-        Why::WrongState => Ok(state_cause(held, &meant, t, ask)),
+        Why::WrongState => state_cause(alloc, held, &meant, t, ask),
         Why::IdentifierTaken => Ok(identifier_cause(meant)),
         Why::NameTaken => name_cause(alloc, held, ask),
         Why::BytesDiffer => Ok(bytes_cause(held, &meant, answer)),
@@ -145,23 +145,22 @@ fn cause_of_meant(
     }
 }
 
-/// The state of the object that is meant, and its dates.
-fn state_cause(held: &Declaration, meant: &Option<String>, t: i64, ask: &Ask) -> Cause
+/// The object that is meant, as the operation on it is judged, which the server's rules exclude.
+fn state_cause(
+    alloc: Global,
+    held: &Declaration,
+    meant: &Option<String>,
+    t: i64,
+    ask: &Ask,
+) -> Result<Cause, AllocError>
     requires { IsExcludedThere (declaration_of held.now) (text_of meant.now) t (ask_of ask.now).asked }
-    ensures { TellsState (declaration_of held.now) (text_of meant.now) t (ask_of ask.now).asked result }
+    ensures { IfOk result (TellsState (declaration_of held.now) (text_of meant.now) t (ask_of ask.now).asked) }
 {
-    let Some(entry) = object_held(held, meant) else {
-        return Cause::Object;
-    };
-    let Some(act) = act_asked(ask) else {
-        return Cause::Object;
-    };
-    let dates = dates_in(&entry.attrs);
-    Cause::State(StateHeld {
-        act,
-        state: state_at(&life_with(dates), t),
-        dates,
-    })
+    let rules = rules_of_declaration(alloc, held)?;
+    match object_judged(held, &rules, meant, t, ask) {
+        Some(object) => Ok(Cause::State(object)),
+        None => Ok(Cause::Object),
+    }
 }
 
 /// The dates among these attributes.

@@ -14,6 +14,7 @@ mod looks;
 mod mending;
 mod proposing;
 mod sorting;
+mod spreads;
 mod stories;
 mod times;
 mod trying;

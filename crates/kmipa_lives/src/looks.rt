@@ -1,6 +1,10 @@
 //! Locates, and the objects that they leave out.
+//!
+//! What a Locate sees of an object is kept only where it may depend on the order of calls.
 
 use crate::items::{Items, Known, Part, Touch};
+use crate::spreads::Spreads;
+use crate::stories::Recording;
 use crate::times::{Time, time_at};
 use kmipa_attrs::{AttrSet, Filter, Name};
 use std::alloc::{AllocError, Global};
@@ -27,20 +31,46 @@ struct Bearer<'b> {
     object: usize,
 }
 
-/// Notes the objects that each Locate leaves out though they may fit it; or answers that these are too many.
-pub fn leave_out(alloc: Global, items: &mut Items<'_>, times: &[Time]) -> Result<bool, AllocError> {
+/// Notes the objects that each Locate leaves out though they may fit it, and drops those that it lists wherever it comes; or answers that
+/// these are too many.
+pub fn leave_out(
+    alloc: Global,
+    items: &mut Items<'_>,
+    recording: &Recording<'_, '_>,
+) -> Result<bool, AllocError> {
+    let times = recording.times.as_slice();
+    let spreads = Spreads::of(alloc, recording, &items.touches, items.objects.len())?;
     let bearers = bearers_of(alloc, &items.objects)?;
     let looks = Vec::from_slice(alloc, &items.looks)?;
     for (place, look) in looks.iter().enumerate() {
         let number = place.saturating_add(1);
         if is_strict(look) {
             note_listed(items, look, number);
-            if !leave_out_of(items, times, &bearers, look, number)? {
+            if !leave_out_of(items, times, &spreads, &bearers, look, number)? {
                 return Ok(false);
             }
         }
     }
+    drop_settled(alloc, items, times, &spreads)?;
     Ok(true)
+}
+
+/// Drops the objects that a Locate lists where what it sees of them depends on no order.
+fn drop_settled(
+    alloc: Global,
+    items: &mut Items<'_>,
+    times: &[Time],
+    spreads: &Spreads,
+) -> Result<(), AllocError> {
+    let mut open = Vec::with_capacity(alloc, items.touches.len())?;
+    for touch in &items.touches {
+        let time = time_at(times, touch.call);
+        if touch.part != Part::Lists || spreads.are_open(times, touch.object, time) {
+            open.push(*touch)?;
+        }
+    }
+    items.touches = open;
+    Ok(())
 }
 
 /// Notes at the objects that a Locate lists that it does.
@@ -93,23 +123,25 @@ fn add_bearers<'b>(
 fn leave_out_of(
     items: &mut Items<'_>,
     times: &[Time],
+    spreads: &Spreads,
     bearers: &[Bearer<'_>],
     look: &Look<'_>,
     number: usize,
 ) -> Result<bool, AllocError> {
     match look.filter.names.as_slice().first() {
         Some(name) => {
-            let from = bearers.partition_point(|b| b.value < name.value.as_str());
+            let wanted = name.value.as_str();
+            let from = bearers.partition_point(|b| b.value < wanted);
             for bearer in bearers.get(from..).unwrap_or(&[]) {
-                if bearer.value != name.value.as_str() {
+                if bearer.value != wanted {
                     break;
                 }
-                leave_out_one(items, times, look, number, bearer.object)?;
+                leave_out_one(items, times, spreads, look, number, bearer.object)?;
             }
         }
         None => {
             for object in 0..items.objects.len() {
-                leave_out_one(items, times, look, number, object)?;
+                leave_out_one(items, times, spreads, look, number, object)?;
             }
         }
     }
@@ -119,6 +151,7 @@ fn leave_out_of(
 fn leave_out_one(
     items: &mut Items<'_>,
     times: &[Time],
+    spreads: &Spreads,
     look: &Look<'_>,
     number: usize,
     object: usize,
@@ -126,7 +159,10 @@ fn leave_out_one(
     let Some(known) = items.objects.get(object) else {
         return Ok(());
     };
-    if known.listed != number && may_matter(known, times, look) {
+    if known.listed != number
+        && spreads.are_open(times, object, time_at(times, look.call))
+        && may_matter(known, times, look)
+    {
         items.touches.push(Touch {
             object,
             call: look.call,

@@ -37,15 +37,15 @@ pub fn propose<'x, 'a>(
         return Ok(None);
     };
     let mut items = Items::of(alloc, calls, declaration)?;
-    if !leave_out(alloc, &mut items, &times)? {
-        return Ok(None);
-    }
-    items.touches.sort_unstable();
     let recording = Recording {
         calls,
         times,
         rules: rules_of_declaration(alloc, declaration)?,
     };
+    if !leave_out(alloc, &mut items, &recording)? {
+        return Ok(None);
+    }
+    items.touches.sort_unstable();
     let Ok(mut ledger) = open_ledger(alloc, declaration) else {
         return Err(AllocError);
     };

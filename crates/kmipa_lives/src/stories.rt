@@ -100,6 +100,11 @@ impl Group {
     }
 }
 
+/// Whether an item may change the object that it is about.
+pub fn may_change(recording: &Recording<'_, '_>, touch: Touch) -> bool {
+    effect_of(recording, touch) != Effect::None
+}
+
 fn effect_of(recording: &Recording<'_, '_>, touch: Touch) -> Effect {
     if touch.part != Part::Means || time_at(&recording.times, touch.call).is_undone {
         return Effect::None;

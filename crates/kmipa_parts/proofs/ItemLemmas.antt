@@ -84,10 +84,10 @@ module _ (rules : RulesOf) (t : ℤ) (V V' : List Thing) (after : Option (List �
 
   module _ (before : Option (List ℕ)) where
     module _ (id : List ℕ) (now : Option (List ℕ)) where
-      changes_part : (asked : Option (List ℕ)) (change : Change) (shown : Option (List ℕ)) → meant asked before ≡ Some id → ChangesObject V before t asked change shown V' after
-          → ChangesObject (cut id V) now t (Some id) change shown (cut id V') now
+      changes_part : (asked : Option (List ℕ)) (change : Change) (shown : Option (List ℕ)) → meant asked before ≡ Some id → ChangesObject rules V before t asked change shown V' after
+          → ChangesObject rules (cut id V) now t (Some id) change shown (cut id V') now
       changes_part asked change shown m h =
-          let P : List ℕ → Type 0 = λ i. ChangesObject (cut i V) now t (Some i) change shown (cut i V') now in
+          let P : List ℕ → Type 0 = λ i. ChangesObject rules (cut i V) now t (Some i) change shown (cut i V') now in
           subst P (same_some h.id id (sym h.about ∙ m)) (record {
             id = h.id;
             place = 0;
@@ -100,9 +100,9 @@ module _ (rules : RulesOf) (t : ℤ) (V V' : List Thing) (after : Option (List �
             placeholder = refl;
           })
 
-      gets_part : (asked : Option (List ℕ)) (a : GotOf) → meant asked before ≡ Some id → Gets V before asked a V' after → Gets (cut id V) now (Some id) a (cut id V') now
+      gets_part : (asked : Option (List ℕ)) (a : GotOf) → meant asked before ≡ Some id → Gets rules V before t asked a V' after → Gets rules (cut id V) now t (Some id) a (cut id V') now
       gets_part asked a m h =
-          let P : List ℕ → Type 0 = λ i. Gets (cut i V) now (Some i) a (cut i V') now in
+          let P : List ℕ → Type 0 = λ i. Gets rules (cut i V) now t (Some i) a (cut i V') now in
           subst P (same_some h.id id (sym h.about ∙ m)) (record {
             id = h.id;
             place = 0;
@@ -110,6 +110,7 @@ module _ (rules : RulesOf) (t : ℤ) (V V' : List Thing) (after : Option (List �
             about = refl;
             there = has_cut h.id V h.place h.object h.there;
             alive = h.alive;
+            may = h.may;
             bytes = h.bytes;
             kind = h.kind;
             shape = h.shape;
@@ -120,16 +121,17 @@ module _ (rules : RulesOf) (t : ℤ) (V V' : List Thing) (after : Option (List �
             placeholder = refl;
           })
 
-      attributes_part : (g : GetAttributesOf) (a : GotAttributesOf) → meant g.id before ≡ Some id → GetsAttributes V before t g a V' after
-          → GetsAttributes (cut id V) now t (record g { id = Some id }) a (cut id V') now
+      attributes_part : (g : GetAttributesOf) (a : GotAttributesOf) → meant g.id before ≡ Some id → GetsAttributes rules V before t g a V' after
+          → GetsAttributes rules (cut id V) now t (record g { id = Some id }) a (cut id V') now
       attributes_part g a m h =
-          let P : List ℕ → Type 0 = λ i. GetsAttributes (cut i V) now t (record g { id = Some i }) a (cut i V') now in
+          let P : List ℕ → Type 0 = λ i. GetsAttributes rules (cut i V) now t (record g { id = Some i }) a (cut i V') now in
           subst P (same_some h.id id (sym h.about ∙ m)) (record {
             id = h.id;
             place = 0;
             object = h.object;
             about = refl;
             there = has_cut h.id V h.place h.object h.there;
+            may = h.may;
             own = h.own;
             required = required_part h.id g h.object.card a.attributes h.required;
             echo = h.echo;
@@ -137,7 +139,7 @@ module _ (rules : RulesOf) (t : ℤ) (V V' : List Thing) (after : Option (List �
             placeholder = refl;
           })
 
-    changes_other : (id : List ℕ) (asked : Option (List ℕ)) (change : Change) (shown : Option (List ℕ)) → (meant asked before ≡ Some id → ⊥) → ChangesObject V before t asked change shown V' after → cut id V' ≡ cut id V
+    changes_other : (id : List ℕ) (asked : Option (List ℕ)) (change : Change) (shown : Option (List ℕ)) → (meant asked before ≡ Some id → ⊥) → ChangesObject rules V before t asked change shown V' after → cut id V' ≡ cut id V
     changes_other id asked change shown apart h =
         ap (cut id) h.leaves
         ∙ cut_kept (thing_after change t) (λ x. refl) id V h.place h.object h.there.stands
@@ -145,19 +147,19 @@ module _ (rules : RulesOf) (t : ℤ) (V V' : List Thing) (after : Option (List �
 
 -- ---- reasons
 
-holds_part : (V : List Thing) (id : List ℕ) (before now : Option (List ℕ)) (t : ℤ) (asked : Option (List ℕ)) (act : Act) (unjudged : Bool) (cause : Cause) → meant asked before ≡ Some id
-    → Holds (cards V) before t (on_object asked act unjudged) cause → Holds (cards (cut id V)) now t (on_object (Some id) act unjudged) cause
-holds_part V id before now t asked act true cause m h = tt
-holds_part V id before now t asked act false NotFound m h = λ c is alive. h c (ap (card_meant (cards V)) m ∙ card_cut id V ∙ is) alive
-holds_part V id before now t asked act false WrongState m h = (h.0, sym (card_cut id V) ∙ sym (ap (card_meant (cards V)) m) ∙ h.1, h.2)
-holds_part V id before now t asked act false TakenName m h = tt
+holds_part : (rules : RulesOf) (V : List Thing) (id : List ℕ) (before now : Option (List ℕ)) (t : ℤ) (asked : Option (List ℕ)) (act : Act) (unjudged : Bool) (cause : Cause) → meant asked before ≡ Some id
+    → Holds rules (cards V) before t (on_object asked act unjudged) cause → Holds rules (cards (cut id V)) now t (on_object (Some id) act unjudged) cause
+holds_part rules V id before now t asked act true cause m h = tt
+holds_part rules V id before now t asked act false NotFound m h = λ c is alive. h c (ap (card_meant (cards V)) m ∙ card_cut id V ∙ is) alive
+holds_part rules V id before now t asked act false WrongState m h = (h.0, sym (card_cut id V) ∙ sym (ap (card_meant (cards V)) m) ∙ h.1, h.2)
+holds_part rules V id before now t asked act false TakenName m h = tt
 
 founded_part : (V : List Thing) (id : List ℕ) (rules : RulesOf) (before now : Option (List ℕ)) (t : ℤ) (asked : Option (List ℕ)) (act : Act) (unjudged : Bool) (reason : Option ℕ) → meant asked before ≡ Some id
     → FoundedOf rules (cards V) before t (on_object asked act unjudged) reason → FoundedOf rules (cards (cut id V)) now t (on_object (Some id) act unjudged) reason
 founded_part V id rules before now t asked act unjudged reason m (unsaid none) = unsaid none
 founded_part V id rules before now t asked act unjudged reason m (unlisted number is none) = unlisted number is none
 founded_part V id rules before now t asked act unjudged reason m (of_nothing h) = absurd (no_none id (sym h ∙ m))
-founded_part V id rules before now t asked act unjudged reason m (caused row has is h) = caused row has is (holds_part V id before now t asked act unjudged row.cause m h)
+founded_part V id rules before now t asked act unjudged reason m (caused row has is h) = caused row has is (holds_part rules V id before now t asked act unjudged row.cause m h)
 
 -- ---- lists
 
@@ -275,11 +277,11 @@ shown_leaves (Some x) P R f h = f x refl h
 module _ (rules : RulesOf) (t : ℤ) (V : List Thing) (before : Option (List ℕ)) (V' : List Thing) (after : Option (List ℕ)) (id : List ℕ) where
   -- what is done about the object
   change_part : (now : Option (List ℕ)) (asked : Option (List ℕ)) (change : Change) (payload : Option PayloadOf) → meant asked before ≡ Some id
-      → MatchOption (seen_in (change_deed asked change) payload) ⊥ (λ (shown : Option (List ℕ)). ChangesObject V before t asked change shown V' after)
-      → (then : Option (List ℕ)) × MatchOption (seen_in (change_deed (Some id) change) payload) ⊥ (λ (shown : Option (List ℕ)). ChangesObject (cut id V) now t (Some id) change shown (cut id V') then)
+      → MatchOption (seen_in (change_deed asked change) payload) ⊥ (λ (shown : Option (List ℕ)). ChangesObject rules V before t asked change shown V' after)
+      → (then : Option (List ℕ)) × MatchOption (seen_in (change_deed (Some id) change) payload) ⊥ (λ (shown : Option (List ℕ)). ChangesObject rules (cut id V) now t (Some id) change shown (cut id V') then)
   change_part now asked change payload m h =
-      shown_part (seen_in (change_deed asked change) payload) (λ (shown : Option (List ℕ)). ChangesObject V before t asked change shown V' after)
-      (λ (shown : Option (List ℕ)) (then : Option (List ℕ)). ChangesObject (cut id V) now t (Some id) change shown (cut id V') then)
+      shown_part (seen_in (change_deed asked change) payload) (λ (shown : Option (List ℕ)). ChangesObject rules V before t asked change shown V' after)
+      (λ (shown : Option (List ℕ)) (then : Option (List ℕ)). ChangesObject rules (cut id V) now t (Some id) change shown (cut id V') then)
       (λ shown e x. (now, changes_part rules t V V' after before id now asked change shown m x)) h
 
   succeeds_part : (now : Option (List ℕ)) (asked : AskedOf) (payload : Option PayloadOf) → about before asked Success payload ≡ Some id → Succeeds rules V before t asked payload V' after
@@ -298,11 +300,11 @@ module _ (rules : RulesOf) (t : ℤ) (V : List Thing) (before : Option (List ℕ
       (Some x.id, subst P is (adds_part rules t V V' after r.object_type (brought r) r.block.material x c))) h
   succeeds_part now (locates q) payload m h = absurd (no_none id m)
   succeeds_part now (gets asked) payload m h =
-      shown_part (seen_in (get_deed asked) payload) (λ (a : GotOf). Gets V before asked a V' after) (λ (a : GotOf) (then : Option (List ℕ)). Gets (cut id V) now (Some id) a (cut id V') then)
+      shown_part (seen_in (get_deed asked) payload) (λ (a : GotOf). Gets rules V before t asked a V' after) (λ (a : GotOf) (then : Option (List ℕ)). Gets rules (cut id V) now t (Some id) a (cut id V') then)
       (λ a e x. (now, gets_part rules t V V' after before id now asked a m x)) h
   succeeds_part now (gets_attributes g) payload m h =
-      shown_part (seen_in (get_attributes_deed g) payload) (λ (a : GotAttributesOf). GetsAttributes V before t g a V' after)
-      (λ (a : GotAttributesOf) (then : Option (List ℕ)). GetsAttributes (cut id V) now t (record g { id = Some id }) a (cut id V') then)
+      shown_part (seen_in (get_attributes_deed g) payload) (λ (a : GotAttributesOf). GetsAttributes rules V before t g a V' after)
+      (λ (a : GotAttributesOf) (then : Option (List ℕ)). GetsAttributes rules (cut id V) now t (record g { id = Some id }) a (cut id V') then)
       (λ a e x. (now, attributes_part rules t V V' after before id now g a m x)) h
   succeeds_part now (activates asked) payload m h = change_part now asked Activate payload m h
   succeeds_part now (revokes r) payload m h = change_part now r.id (Revoke r.code) payload m h
@@ -350,8 +352,8 @@ module _ (rules : RulesOf) (t : ℤ) (V : List Thing) (before : Option (List ℕ
   looked_on (creates a) payload e h = let bad : ⊥ = cc in absurd bad
   looked_on (registers r) payload e h = let bad : ⊥ = cc in absurd bad
   looked_on (locates q) payload e h = shown_leaves (seen_in (locate_deed q) payload) (λ (listed : List (List ℕ)). Lists (cards V) t q listed × (V' ≡ V) × (after ≡ names_only before (Some listed))) (V' ≡ V) (λ x s l. l.1) h
-  looked_on (gets asked) payload e h = shown_leaves (seen_in (get_deed asked) payload) (λ (a : GotOf). Gets V before asked a V' after) (V' ≡ V) (λ x s l. l.leaves) h
-  looked_on (gets_attributes g) payload e h = shown_leaves (seen_in (get_attributes_deed g) payload) (λ (a : GotAttributesOf). GetsAttributes V before t g a V' after) (V' ≡ V) (λ x s l. l.leaves) h
+  looked_on (gets asked) payload e h = shown_leaves (seen_in (get_deed asked) payload) (λ (a : GotOf). Gets rules V before t asked a V' after) (V' ≡ V) (λ x s l. l.leaves) h
+  looked_on (gets_attributes g) payload e h = shown_leaves (seen_in (get_attributes_deed g) payload) (λ (a : GotAttributesOf). GetsAttributes rules V before t g a V' after) (V' ≡ V) (λ x s l. l.leaves) h
   looked_on (activates asked) payload e h = let bad : ⊥ = cc in absurd bad
   looked_on (revokes r) payload e h = let bad : ⊥ = cc in absurd bad
   looked_on (destroys asked) payload e h = let bad : ⊥ = cc in absurd bad
@@ -360,9 +362,9 @@ module _ (rules : RulesOf) (t : ℤ) (V : List Thing) (before : Option (List ℕ
   looked_on (does_other number) payload e h = absurd h
 
   change_other : (asked : Option (List ℕ)) (change : Change) (payload : Option PayloadOf) → (meant asked before ≡ Some id → ⊥)
-      → MatchOption (seen_in (change_deed asked change) payload) ⊥ (λ (shown : Option (List ℕ)). ChangesObject V before t asked change shown V' after) → cut id V' ≡ cut id V
+      → MatchOption (seen_in (change_deed asked change) payload) ⊥ (λ (shown : Option (List ℕ)). ChangesObject rules V before t asked change shown V' after) → cut id V' ≡ cut id V
   change_other asked change payload apart h =
-      shown_leaves (seen_in (change_deed asked change) payload) (λ (shown : Option (List ℕ)). ChangesObject V before t asked change shown V' after) (cut id V' ≡ cut id V)
+      shown_leaves (seen_in (change_deed asked change) payload) (λ (shown : Option (List ℕ)). ChangesObject rules V before t asked change shown V' after) (cut id V' ≡ cut id V)
       (λ shown s x. changes_other rules t V V' after before id asked change shown apart x) h
 
   done_elsewhere : (asked : AskedOf) (payload : Option PayloadOf) → (about before asked Success payload ≡ Some id → ⊥) → Succeeds rules V before t asked payload V' after → cut id V' ≡ cut id V
@@ -451,9 +453,9 @@ held_shown (Some x) P after h f m = f x m
 
 module _ (rules : RulesOf) (t : ℤ) (V : List Thing) (before : Option (List ℕ)) (V' : List Thing) (after : Option (List ℕ)) where
   held_change : (asked : Option (List ℕ)) (change : Change) (payload : Option PayloadOf)
-      → MatchOption (seen_in (change_deed asked change) payload) ⊥ (λ (shown : Option (List ℕ)). ChangesObject V before t asked change shown V' after) → after ≡ before
+      → MatchOption (seen_in (change_deed asked change) payload) ⊥ (λ (shown : Option (List ℕ)). ChangesObject rules V before t asked change shown V' after) → after ≡ before
   held_change asked change payload h =
-      held_shown (seen_in (change_deed asked change) payload) (λ (shown : Option (List ℕ)). ChangesObject V before t asked change shown V' after) after (λ o. before) (λ x m. m.placeholder) h
+      held_shown (seen_in (change_deed asked change) payload) (λ (shown : Option (List ℕ)). ChangesObject rules V before t asked change shown V' after) after (λ o. before) (λ x m. m.placeholder) h
 
   held_success : (asked : AskedOf) (payload : Option PayloadOf) → Succeeds rules V before t asked payload V' after → after ≡ held_after before asked Success payload
   held_success (creates a) payload h =
@@ -462,9 +464,9 @@ module _ (rules : RulesOf) (t : ℤ) (V : List Thing) (before : Option (List ℕ
       held_shown (seen_in (register_deed r) payload) (λ (x : RegisteredOf). Registers rules V t r x V' after) after (names_new before) (λ x m. m.placeholder) h
   held_success (locates q) payload h =
       held_shown (seen_in (locate_deed q) payload) (λ (listed : List (List ℕ)). Lists (cards V) t q listed × (V' ≡ V) × (after ≡ names_only before (Some listed))) after (names_only before) (λ x m. m.2) h
-  held_success (gets asked) payload h = held_shown (seen_in (get_deed asked) payload) (λ (a : GotOf). Gets V before asked a V' after) after (λ o. before) (λ x m. m.placeholder) h
+  held_success (gets asked) payload h = held_shown (seen_in (get_deed asked) payload) (λ (a : GotOf). Gets rules V before t asked a V' after) after (λ o. before) (λ x m. m.placeholder) h
   held_success (gets_attributes g) payload h =
-      held_shown (seen_in (get_attributes_deed g) payload) (λ (a : GotAttributesOf). GetsAttributes V before t g a V' after) after (λ o. before) (λ x m. m.placeholder) h
+      held_shown (seen_in (get_attributes_deed g) payload) (λ (a : GotAttributesOf). GetsAttributes rules V before t g a V' after) after (λ o. before) (λ x m. m.placeholder) h
   held_success (activates asked) payload h = held_change asked Activate payload h
   held_success (revokes r) payload h = held_change r.id (Revoke r.code) payload h
   held_success (destroys asked) payload h = held_change asked Destroy payload h

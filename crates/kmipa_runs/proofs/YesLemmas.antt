@@ -2,6 +2,7 @@
 use Rattle.std.proofs.Common.{◌≡◌, ◌⊎◌, inl, inr, ℕ, Bool, false, List, Result, Ok, Err, ◌∙◌, subst}
 use Rattle.std.specs.Prelude.{IfOk, IsOkAnd, codes, string_bytes}
 use Rattle.std.specs.declared.alloc.AllocError.{AllocError}
+use Rattle.kmipa_record.specs.declared.reach.Reach.TheVariants.{Judged}
 use Rattle.kmipa_record.specs.Declarations.{DeclarationOf}
 use Rattle.kmipa_record.specs.Marks.{MarkOf}
 use Rattle.kmipa_record.specs.Witnesses.{TurnOf}
@@ -34,7 +35,7 @@ verdict_is_yes t d w a v j =
     let Q : DeclarationOf → Type 0 = λ x. TellsVerdict a.marks x j.turns v in
     let S : List TurnOf → Type 0 = λ x. TellsVerdict a.marks a.declared x v in
     let transcript = one_transcript_lem t j.marks a.marks j.transcript a.transcript in
-    let declaration = one_declaration_lem d j.declared a.declared j.declaration a.declaration in
+    let declaration = one_declaration_lem Judged d j.declared a.declared j.declaration a.declaration in
     let witness = one_witness_lem w j.turns a.turns j.witness a.witness in
     elim (accepted_is_yes_lem a.marks a.declared a.turns a.transcript.recorded a.accepted (Ok v) (subst S witness (subst Q declaration (subst P transcript j.verdict)))) [
       | inl e ↦ cc

@@ -94,10 +94,10 @@ shown_by None P R f h = absurd h
 shown_by (Some x) P R f h = f x h
 
 module _ (rules : RulesOf) (t : ℤ) (V : List Thing) (before : Option (List ℕ)) (V' : List Thing) (after : Option (List ℕ)) where
-  front_change : (id : Option (List ℕ)) (change : Change) (payload : Option PayloadOf) → MatchOption (seen_in (change_deed id change) payload) ⊥ (λ (shown : Option (List ℕ)). ChangesObject V before t id change shown V' after)
+  front_change : (id : Option (List ℕ)) (change : Change) (payload : Option PayloadOf) → MatchOption (seen_in (change_deed id change) payload) ⊥ (λ (shown : Option (List ℕ)). ChangesObject rules V before t id change shown V' after)
       → Front V V'
   front_change id change payload s =
-      shown_by (seen_in (change_deed id change) payload) (λ (shown : Option (List ℕ)). ChangesObject V before t id change shown V' after) (Front V V')
+      shown_by (seen_in (change_deed id change) payload) (λ (shown : Option (List ℕ)). ChangesObject rules V before t id change shown V' after) (Front V V')
       (λ shown h. front_changed V V' h.place change t h.leaves) s
 
   front_succeeds : (asked : AskedOf) (payload : Option PayloadOf) → Succeeds rules V before t asked payload V' after → Front V V'
@@ -107,9 +107,9 @@ module _ (rules : RulesOf) (t : ℤ) (V : List Thing) (before : Option (List ℕ
       shown_by (seen_in (register_deed r) payload) (λ (x : RegisteredOf). Registers rules V t r x V' after) (Front V V') (λ x h. front_added V V' _ h.leaves) s
   front_succeeds (locates q) payload s =
       shown_by (seen_in (locate_deed q) payload) (λ (listed : List (List ℕ)). Lists (cards V) t q listed × (V' ≡ V) × (after ≡ names_only before (Some listed))) (Front V V') (λ listed h. front_same V V' h.1) s
-  front_succeeds (gets id) payload s = shown_by (seen_in (get_deed id) payload) (λ (a : GotOf). Gets V before id a V' after) (Front V V') (λ a h. front_same V V' h.leaves) s
+  front_succeeds (gets id) payload s = shown_by (seen_in (get_deed id) payload) (λ (a : GotOf). Gets rules V before t id a V' after) (Front V V') (λ a h. front_same V V' h.leaves) s
   front_succeeds (gets_attributes g) payload s =
-      shown_by (seen_in (get_attributes_deed g) payload) (λ (a : GotAttributesOf). GetsAttributes V before t g a V' after) (Front V V') (λ a h. front_same V V' h.leaves) s
+      shown_by (seen_in (get_attributes_deed g) payload) (λ (a : GotAttributesOf). GetsAttributes rules V before t g a V' after) (Front V V') (λ a h. front_same V V' h.leaves) s
   front_succeeds (activates id) payload s = front_change id Activate payload s
   front_succeeds (revokes r) payload s = front_change r.id (Revoke r.code) payload s
   front_succeeds (destroys id) payload s = front_change id Destroy payload s

@@ -1,11 +1,13 @@
 -- Calls without effect can come first.
-use Rattle.std.proofs.Common.{◌≡◌, ◌≤◌, ◌<◌, inl, inr, ℕ, zero, suc, ℤ, ◌≤ℤ◌, ◌-◌, Bool, true, false, List, [], ◌∷◌, ◌++◌, length, take, drop, Option, Some, None, IfSome, MatchOption, slice_get, get_or, Contains, refl, sym, ap, ◌∙◌, subst, arith}
+use Rattle.std.proofs.Common.{◌≡◌, ◌≢◌, ◌≤◌, ◌<◌, inl, inr, ℕ, zero, suc, ℤ, ◌≤ℤ◌, ◌-◌, Bool, true, false, List, [], ◌∷◌, ◌++◌, length, take, drop, Option, Some, None, IfSome, MatchOption, slice_get, get_or, Contains, refl, sym, ap, ◌∙◌, subst, arith}
 use Rattle.std.specs.Prelude.{AllPairs, IsPermutation}
 use Rattle.std.specs.List.{zip}
 use Rattle.std.proofs.lemmas.List.{length-append, append_assoc}
 use Rattle.std.proofs.lemmas.List.Elements.{Contains-append_cases, Contains-append_left, Contains-append_right, Contains-get_or}
 use Rattle.std.proofs.lemmas.List.Sorted.{IsPermutation-sym, Contains-permutation, length_permutation}
 use Rattle.kmipa_object.specs.Inventory.{Card, Thing, cards}
+use Rattle.kmipa_object.specs.declared.allow.Act.TheVariants as act
+use Rattle.kmipa_object.specs.declared.allow.Allow.TheVariants.{Not}
 use Rattle.kmipa_store.specs.Ledger.{Meaning}
 use Rattle.kmipa_store.specs.Choices.{inv, IsSound}
 use Rattle.kmipa_store.proofs.InventoryLemmas.{cards-inv}
@@ -13,6 +15,7 @@ use Rattle.kmipa_record.specs.Declarations.{DeclarationOf}
 use Rattle.kmipa_msgs.specs.declared.response.Status.{Status}
 use Rattle.kmipa_msgs.specs.declared.response.Status.TheVariants.{Success, Failed, Undone}
 use Rattle.kmipa_msgs.specs.Messages.{RulesOf, AskedOf, creates, registers, locates, gets, gets_attributes, activates, revokes, destroys, idles, does_other, GetAttributesOf, GotAttributesOf, AskOf, PayloadOf, RequestOf, AnswerOf, ResponseOf}
+use Rattle.kmipa_ops.specs.Allowance.{allowance}
 use Rattle.kmipa_ops.specs.Founded.{Founded}
 use Rattle.kmipa_ops.specs.Row.{seen_in}
 use Rattle.kmipa_ops.specs.Locate.{Lists, locate_deed, names_only}
@@ -53,8 +56,8 @@ module _ (rules : RulesOf) (t : ℤ) (V W : List Thing) (same : cards V ≡ card
       let m = mapped_from (λ (x : Thing). x.card) W place object.card (subst P same (get_at (λ (x : Thing). x.card) V place object h.stands)) in
       (m.0, record { named = subst Q same h.named; stands = m.1 }, m.2)
 
-  attributes_again : (before : Option (List ℕ)) (g : GetAttributesOf) (V' : List Thing) (after : Option (List ℕ)) (a : GotAttributesOf) → GetsAttributes V before t g a V' after
-      → (V' ≡ V) × GetsAttributes W before t g a W after
+  attributes_again : (before : Option (List ℕ)) (g : GetAttributesOf) (V' : List Thing) (after : Option (List ℕ)) (a : GotAttributesOf) → GetsAttributes rules V before t g a V' after
+      → (V' ≡ V) × GetsAttributes rules W before t g a W after
   attributes_again before g V' after a h =
       let o = there h.id h.place h.object h.there in
       let P : Card → Type 0 = λ c. IsOwnAt c t a.attributes in
@@ -66,6 +69,7 @@ module _ (rules : RulesOf) (t : ℤ) (V W : List Thing) (same : cards V ≡ card
           object = o.0;
           about = h.about;
           there = o.1;
+          may = let M : Card → Type 0 = λ c. allowance rules act.GetAttributes t c ≢ Not in subst M (sym o.2) h.may;
           own = subst P (sym o.2) h.own;
           required = subst Q (sym o.2) h.required;
           echo = h.echo;
@@ -81,7 +85,7 @@ module _ (rules : RulesOf) (t : ℤ) (V W : List Thing) (same : cards V ≡ card
       let Q : List (List ℕ) → Type 0 = λ listed. Lists (cards W) t q listed × (W ≡ W) × (after ≡ names_only before (Some listed)) in
       matched (seen_in (locate_deed q) payload) P Q (V' ≡ V) (λ listed l. let L : List Card → Type 0 = λ cs. Lists cs t q listed in (l.1, (subst L same l.0, refl, l.2))) s
   succeeds_again before (gets_attributes g) payload V' after h s =
-      matched (seen_in (get_attributes_deed g) payload) (λ (a : GotAttributesOf). GetsAttributes V before t g a V' after) (λ (a : GotAttributesOf). GetsAttributes W before t g a W after) (V' ≡ V)
+      matched (seen_in (get_attributes_deed g) payload) (λ (a : GotAttributesOf). GetsAttributes rules V before t g a V' after) (λ (a : GotAttributesOf). GetsAttributes rules W before t g a W after) (V' ≡ V)
       (λ a x. attributes_again before g V' after a x) s
   succeeds_again before (idles number) None V' after h s = (s.0, (refl, s.1))
   succeeds_again before (idles number) (Some payload) V' after h s = absurd s

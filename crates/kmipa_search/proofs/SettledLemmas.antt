@@ -73,9 +73,9 @@ module _ (rules : RulesOf) (t : ℤ) (V : List Thing) (before : Option (List ℕ
   same_succeeds : (asked : AskedOf) (payload : Option PayloadOf) → reads_only asked ≡ true → Succeeds rules V before t asked payload V' after → V' ≡ V
   same_succeeds (locates q) payload h s =
       shown_by (seen_in (locate_deed q) payload) (λ (listed : List (List ℕ)). Lists (cards V) t q listed × (V' ≡ V) × (after ≡ names_only before (Some listed))) (V' ≡ V) (λ listed l. l.1) s
-  same_succeeds (gets id) payload h s = shown_by (seen_in (get_deed id) payload) (λ (a : GotOf). Gets V before id a V' after) (V' ≡ V) (λ a g. g.leaves) s
+  same_succeeds (gets id) payload h s = shown_by (seen_in (get_deed id) payload) (λ (a : GotOf). Gets rules V before t id a V' after) (V' ≡ V) (λ a g. g.leaves) s
   same_succeeds (gets_attributes g) payload h s =
-      shown_by (seen_in (get_attributes_deed g) payload) (λ (a : GotAttributesOf). GetsAttributes V before t g a V' after) (V' ≡ V) (λ a x. x.leaves) s
+      shown_by (seen_in (get_attributes_deed g) payload) (λ (a : GotAttributesOf). GetsAttributes rules V before t g a V' after) (V' ≡ V) (λ a x. x.leaves) s
   same_succeeds (idles number) None h s = s.0
   same_succeeds (idles number) (Some payload) h s = absurd s
   same_succeeds (creates a) payload h s = let clash : false ≡ true = h in absurd cc
@@ -91,9 +91,9 @@ module _ (rules : RulesOf) (t : ℤ) (V : List Thing) (before : Option (List ℕ
   same_outcome Undone asked reason payload h o = same_succeeds asked payload h o
 
   turns_change : (named : Option (List ℕ)) (change : Change) (payload : Option PayloadOf) (id : List ℕ) → named ≡ Some id
-      → MatchOption (seen_in (change_deed named change) payload) ⊥ (λ (shown : Option (List ℕ)). ChangesObject V before t named change shown V' after) → Turns V id (thing_after change t) V'
+      → MatchOption (seen_in (change_deed named change) payload) ⊥ (λ (shown : Option (List ℕ)). ChangesObject rules V before t named change shown V' after) → Turns V id (thing_after change t) V'
   turns_change named change payload id is s =
-      shown_by (seen_in (change_deed named change) payload) (λ (shown : Option (List ℕ)). ChangesObject V before t named change shown V' after) (Turns V id (thing_after change t) V')
+      shown_by (seen_in (change_deed named change) payload) (λ (shown : Option (List ℕ)). ChangesObject rules V before t named change shown V' after) (Turns V id (thing_after change t) V')
       (λ shown h.
       let e : Some id ≡ Some h.id = ap (λ (o : Option (List ℕ)). meant o before) (sym is) ∙ h.about in
       let same : id ≡ h.id = cc in

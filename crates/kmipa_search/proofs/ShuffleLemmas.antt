@@ -138,22 +138,22 @@ lists_again V W s t q listed l = record {
 
 -- ---- reasons
 
-holds_again : (V W : List Thing) → Shuffled V W → (before : Option (List ℕ)) (t : ℤ) (subject : SubjectOf) (cause : Cause) → Holds (cards V) before t subject cause → Holds (cards W) before t subject cause
-holds_again V W s before t (on_object id act true) cause h = tt
-holds_again V W s before t (on_object id act false) NotFound h = λ c is alive. h c (card_again V W s _ ∙ is) alive
-holds_again V W s before t (on_object id act false) WrongState h = (h.0, sym (card_again V W s _) ∙ h.1, h.2)
-holds_again V W s before t (on_object id act false) TakenName h = tt
-holds_again V W s before t (on_names names) TakenName h = (h.0, has_card V W s h.0 h.1, h.2)
-holds_again V W s before t (on_names names) NotFound h = tt
-holds_again V W s before t (on_names names) WrongState h = tt
-holds_again V W s before t on_nothing cause h = tt
+holds_again : (rules : RulesOf) (V W : List Thing) → Shuffled V W → (before : Option (List ℕ)) (t : ℤ) (subject : SubjectOf) (cause : Cause) → Holds rules (cards V) before t subject cause → Holds rules (cards W) before t subject cause
+holds_again rules V W s before t (on_object id act true) cause h = tt
+holds_again rules V W s before t (on_object id act false) NotFound h = λ c is alive. h c (card_again V W s _ ∙ is) alive
+holds_again rules V W s before t (on_object id act false) WrongState h = (h.0, sym (card_again V W s _) ∙ h.1, h.2)
+holds_again rules V W s before t (on_object id act false) TakenName h = tt
+holds_again rules V W s before t (on_names names) TakenName h = (h.0, has_card V W s h.0 h.1, h.2)
+holds_again rules V W s before t (on_names names) NotFound h = tt
+holds_again rules V W s before t (on_names names) WrongState h = tt
+holds_again rules V W s before t on_nothing cause h = tt
 
 founded_again : (V W : List Thing) → Shuffled V W → (rules : RulesOf) (before : Option (List ℕ)) (t : ℤ) (subject : SubjectOf) (reason : Option ℕ) → FoundedOf rules (cards V) before t subject reason
     → FoundedOf rules (cards W) before t subject reason
 founded_again V W s rules before t subject reason (unsaid none) = unsaid none
 founded_again V W s rules before t subject reason (unlisted number is none) = unlisted number is none
 founded_again V W s rules before t subject reason (of_nothing h) = of_nothing h
-founded_again V W s rules before t subject reason (caused row has is h) = caused row has is (holds_again V W s before t subject row.cause h)
+founded_again V W s rules before t subject reason (caused row has is h) = caused row has is (holds_again rules V W s before t subject row.cause h)
 
 -- ---- what is left
 
@@ -268,8 +268,8 @@ module _ (rules : RulesOf) (t : ℤ) (V W : List Thing) (s : Shuffled V W) (befo
         subst P (sym h.leaves) (added V W s new h.free),
       )
 
-  changes_again : (id : Option (List ℕ)) (change : Change) (shown : Option (List ℕ)) → ChangesObject V before t id change shown V' after
-      → (W' : List Thing) × ChangesObject W before t id change shown W' after × Shuffled V' W'
+  changes_again : (id : Option (List ℕ)) (change : Change) (shown : Option (List ℕ)) → ChangesObject rules V before t id change shown V' after
+      → (W' : List Thing) × ChangesObject rules W before t id change shown W' after × Shuffled V' W'
   changes_again id change shown h =
       let q = has_again V W s h.id h.place h.object h.there in
       let f : Thing → Thing = thing_after change t in
@@ -289,7 +289,7 @@ module _ (rules : RulesOf) (t : ℤ) (V W : List Thing) (s : Shuffled V W) (befo
         subst P (sym h.leaves) (changed f (λ x. refl) V W s h.place q.0 h.object h.there.stands q.1.stands),
       )
 
-  gets_again : (id : Option (List ℕ)) (a : GotOf) → Gets V before id a V' after → (W' : List Thing) × Gets W before id a W' after × Shuffled V' W'
+  gets_again : (id : Option (List ℕ)) (a : GotOf) → Gets rules V before t id a V' after → (W' : List Thing) × Gets rules W before t id a W' after × Shuffled V' W'
   gets_again id a h =
       let q = has_again V W s h.id h.place h.object h.there in (
         W,
@@ -300,6 +300,7 @@ module _ (rules : RulesOf) (t : ℤ) (V W : List Thing) (s : Shuffled V W) (befo
           about = h.about;
           there = q.1;
           alive = h.alive;
+          may = h.may;
           bytes = h.bytes;
           kind = h.kind;
           shape = h.shape;
@@ -312,7 +313,7 @@ module _ (rules : RulesOf) (t : ℤ) (V W : List Thing) (s : Shuffled V W) (befo
         stays V W V' s h.leaves,
       )
 
-  attributes_again : (g : GetAttributesOf) (a : GotAttributesOf) → GetsAttributes V before t g a V' after → (W' : List Thing) × GetsAttributes W before t g a W' after × Shuffled V' W'
+  attributes_again : (g : GetAttributesOf) (a : GotAttributesOf) → GetsAttributes rules V before t g a V' after → (W' : List Thing) × GetsAttributes rules W before t g a W' after × Shuffled V' W'
   attributes_again g a h =
       let q = has_again V W s h.id h.place h.object h.there in (
         W,
@@ -322,6 +323,7 @@ module _ (rules : RulesOf) (t : ℤ) (V W : List Thing) (s : Shuffled V W) (befo
           object = h.object;
           about = h.about;
           there = q.1;
+          may = h.may;
           own = h.own;
           required = h.required;
           echo = h.echo;
@@ -331,11 +333,11 @@ module _ (rules : RulesOf) (t : ℤ) (V W : List Thing) (s : Shuffled V W) (befo
         stays V W V' s h.leaves,
       )
 
-  change_again : (id : Option (List ℕ)) (change : Change) (payload : Option PayloadOf) → MatchOption (seen_in (change_deed id change) payload) ⊥ (λ (shown : Option (List ℕ)). ChangesObject V before t id change shown V' after)
-      → (W' : List Thing) × MatchOption (seen_in (change_deed id change) payload) ⊥ (λ (shown : Option (List ℕ)). ChangesObject W before t id change shown W' after) × Shuffled V' W'
+  change_again : (id : Option (List ℕ)) (change : Change) (payload : Option PayloadOf) → MatchOption (seen_in (change_deed id change) payload) ⊥ (λ (shown : Option (List ℕ)). ChangesObject rules V before t id change shown V' after)
+      → (W' : List Thing) × MatchOption (seen_in (change_deed id change) payload) ⊥ (λ (shown : Option (List ℕ)). ChangesObject rules W before t id change shown W' after) × Shuffled V' W'
   change_again id change payload h =
-      shown_again (seen_in (change_deed id change) payload) (λ (shown : Option (List ℕ)). ChangesObject V before t id change shown V' after)
-      (λ (shown : Option (List ℕ)) (W' : List Thing). ChangesObject W before t id change shown W' after) (Shuffled V') (λ shown x. changes_again id change shown x) h
+      shown_again (seen_in (change_deed id change) payload) (λ (shown : Option (List ℕ)). ChangesObject rules V before t id change shown V' after)
+      (λ (shown : Option (List ℕ)) (W' : List Thing). ChangesObject rules W before t id change shown W' after) (Shuffled V') (λ shown x. changes_again id change shown x) h
 
   succeeds_again : (asked : AskedOf) (payload : Option PayloadOf) → Succeeds rules V before t asked payload V' after → (W' : List Thing) × Succeeds rules W before t asked payload W' after × Shuffled V' W'
   succeeds_again (creates a) payload h =
@@ -349,10 +351,10 @@ module _ (rules : RulesOf) (t : ℤ) (V W : List Thing) (s : Shuffled V W) (befo
       (λ (listed : List (List ℕ)) (W' : List Thing). Lists (cards W) t q listed × (W' ≡ W) × (after ≡ names_only before (Some listed))) (Shuffled V')
       (λ listed l. (W, (lists_again V W s t q listed l.0, refl, l.2), stays V W V' s l.1)) h
   succeeds_again (gets id) payload h =
-      shown_again (seen_in (get_deed id) payload) (λ (a : GotOf). Gets V before id a V' after) (λ (a : GotOf) (W' : List Thing). Gets W before id a W' after) (Shuffled V') (λ a x. gets_again id a x) h
+      shown_again (seen_in (get_deed id) payload) (λ (a : GotOf). Gets rules V before t id a V' after) (λ (a : GotOf) (W' : List Thing). Gets rules W before t id a W' after) (Shuffled V') (λ a x. gets_again id a x) h
   succeeds_again (gets_attributes g) payload h =
-      shown_again (seen_in (get_attributes_deed g) payload) (λ (a : GotAttributesOf). GetsAttributes V before t g a V' after)
-      (λ (a : GotAttributesOf) (W' : List Thing). GetsAttributes W before t g a W' after) (Shuffled V') (λ a x. attributes_again g a x) h
+      shown_again (seen_in (get_attributes_deed g) payload) (λ (a : GotAttributesOf). GetsAttributes rules V before t g a V' after)
+      (λ (a : GotAttributesOf) (W' : List Thing). GetsAttributes rules W before t g a W' after) (Shuffled V') (λ a x. attributes_again g a x) h
   succeeds_again (activates id) payload h = change_again id Activate payload h
   succeeds_again (revokes r) payload h = change_again r.id (Revoke r.code) payload h
   succeeds_again (destroys id) payload h = change_again id Destroy payload h

@@ -1,5 +1,5 @@
 -- What one object says of calls: where the parts of the calls on it have no run, the calls have none.
-use Rattle.std.specs.Prelude.{◌≢◌, ℕ, List, Some, None, AllPairs, bytes_eq}
+use Rattle.std.specs.Prelude.{◌≢◌, ℕ, List, [], Some, None, AllPairs, bytes_eq}
 use Rattle.std.specs.List.{filter}
 use Rattle.kmipa_record.specs.Declarations.{DeclarationOf}
 use Rattle.kmipa_record.specs.Entries.{EntryOf}
@@ -11,7 +11,7 @@ use Rattle.kmipa_search.specs.Progress.{AllReadable, AreBegun, AreTimed, HaveRun
 
 -- what is declared of one object, and of no other
 abbrev pub declared_on : List ℕ → DeclarationOf → DeclarationOf
-declared_on id declared = record declared { entries = filter (λ (e : EntryOf). bytes_eq id e.id) declared.entries }
+declared_on id declared = record declared { entries = filter (λ (e : EntryOf). bytes_eq id e.id) declared.entries; asides = [] }
 
 -- the part of a call as a step
 abbrev pub part_step : CallPart → StepOf

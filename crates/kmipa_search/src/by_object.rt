@@ -1,6 +1,7 @@
 //! What one object says of calls: where the parts of the calls on it have no run, the calls have none.
 
 ghost use Rattle.std.specs.Prelude.{◌≡◌, ◌<◌, IfErr, IfOk, IfSome, List, None, bytes_eq, map, option_map, true};
+ghost use Rattle.std.specs.String.{string_bytes};
 ghost use Rattle.kmipa_record.specs.Declarations.{AreDeclared, declaration_of};
 ghost use Rattle.kmipa_record.specs.Marks.{AreRecorded, MarkOf};
 ghost use Rattle.kmipa_check.specs.Calls.{AreCalls, CallOf};
@@ -308,9 +309,12 @@ fn declaration_on(
         }
     }
     Ok(Declaration {
-        unique_names: declaration.unique_names,
+        settings: declaration.settings,
         rows: Vec::from_slice(alloc, &declaration.rows)?,
+        allow_lines: Vec::from_slice(alloc, &declaration.allow_lines)?,
+        own_attributes: Vec::from_slice(alloc, &declaration.own_attributes)?,
         entries,
+        asides: Vec::new(alloc),
     })
 }
 
@@ -330,7 +334,17 @@ fn copy_entry(alloc: Global, entry: &Entry) -> Result<Entry, AllocError>
         kind: entry.kind,
         attrs: entry.attrs.copy(alloc)?,
         bytes: copy_bytes(alloc, &entry.bytes)?,
+        owner: copy_text(alloc, &entry.owner)?,
     })
+}
+
+fn copy_text(alloc: Global, text: &Option<String>) -> Result<Option<String>, AllocError>
+    ensures { IfOk result (λ copy. option_map string_bytes copy ≡ option_map string_bytes text.now) }
+{
+    match text {
+        Some(text) => Ok(Some(String::from_str(alloc, text.as_str())?)),
+        None => Ok(None),
+    }
 }
 
 fn copy_bytes(alloc: Global, bytes: &Option<Vec<u8>>) -> Result<Option<Vec<u8>>, AllocError>

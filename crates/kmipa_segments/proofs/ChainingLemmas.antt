@@ -112,7 +112,7 @@ pub was_done : (name told : List ℕ) (judged said : Status) (lines : List ℕ) 
 was_done name told judged said lines (inl n) done = sym n.0 ∙ done
 was_done name told judged said lines (inr silent) done = let clash : status.Failed ≡ status.Done = sym silent.0 ∙ done in absurd cc
 
-prints_named : (P : Status → List ℕ → Type 0) (name told : List ℕ) (judged said : Status) (lines : List ℕ) → P judged told ⊎ IsSilent judged told
+pub prints_named : (P : Status → List ℕ → Type 0) (name told : List ℕ) (judged said : Status) (lines : List ℕ) → P judged told ⊎ IsSilent judged told
     → Named name told judged said lines → IsNamed name (P said) lines ⊎ IsSilent said lines
 prints_named P name told judged said lines h (inr silent) = inr silent
 prints_named P name told judged said lines (inr silent) (inl n) = absurd (n.1 silent.1)

@@ -19,7 +19,9 @@ use crate::auditor::Auditor;
 use crate::judged::Judged;
 use crate::opening::Opening;
 use kmipa_check::{AuditFault, CheckFault};
-use kmipa_record::{RecordFault, RecordedMarks, Witness, read_declaration_into, read_witness};
+use kmipa_record::{
+    Reach, RecordFault, RecordedMarks, Settings, Witness, read_declaration_into, read_witness,
+};
 use kmipa_ttlv::Input;
 use std::alloc::Global;
 use std::io::Read;
@@ -59,15 +61,15 @@ pub fn audit_stream<R: Read>(
         (IsTrue (is_ended transcript.new) × IsTrue (is_ended declaration.new) × IsTrue (is_ended witness.new)) }
 {
     let mut opening = Opening::new(alloc);
-    let unique_names = match read_declaration_into(alloc, declaration, &mut opening) {
-        Ok(unique_names) => unique_names,
+    let settings = match read_declaration_into(alloc, declaration, Reach::Judged, &mut opening) {
+        Ok(settings) => settings,
         Err(fault) => return Err(declaration_fault(alloc, transcript, fault)),
     };
     let witness = match read_witness(alloc, witness) {
         Ok(witness) => witness,
         Err(fault) => return Err(witness_fault(alloc, transcript, fault)),
     };
-    match judge(alloc, transcript, unique_names, opening, witness) {
+    match judge(alloc, transcript, settings, opening, witness) {
         Ok(Ok(judged)) => Ok(judged),
         Ok(Err(fault)) => Err(AuditFault::Check(fault)),
         Err(fault) => Err(AuditFault::Transcript(fault)),
@@ -140,18 +142,18 @@ fn pass_marks<R: Read>(source: &mut RecordedMarks<'_, R>) -> Result<(), RecordFa
 fn judge<R: Read>(
     alloc: Global,
     transcript: &mut Input<R>,
-    unique_names: bool,
+    settings: Settings,
     opening: Opening,
     witness: Witness,
 ) -> Result<Result<Judged, CheckFault>, RecordFault>
     requires came { came_of transcript.old ≡ [] }
-    requires declared { (declared : DeclarationOf) × (declared.unique_names ≡ unique_names) × Opens opening declared }
-    ensures judged { (declared : DeclarationOf) → declared.unique_names ≡ unique_names → Opens opening declared
+    requires declared { (declared : DeclarationOf) × (declared.settings ≡ settings) × Opens opening declared }
+    ensures judged { (declared : DeclarationOf) → declared.settings ≡ settings → Opens opening declared
         → IfOk result (IsJudged transcript.new declared (witness_of witness)) }
     ensures fault { (file : List ℕ) → IsFileOf file transcript.new
         → IfErr result (Tells TranscriptFault IsTranscriptUpTo file (is_failed transcript.new)) }
 {
-    let Ok(auditor) = Auditor::new(alloc, unique_names, opening, &witness.turns) else {
+    let Ok(auditor) = Auditor::new(alloc, settings, opening, &witness.turns) else {
         return match pass(alloc, transcript) {
             Ok(()) => Ok(Err(CheckFault::Memory)),
             Err(fault) => Err(fault),

@@ -8,7 +8,7 @@ use crate::reading::call_in;
 use crate::replaying::{Finding, Replay};
 use crate::seen::{Seen, SeenCall};
 use kmipa_check::{CheckFault, Verdict, WitnessFault, WitnessKind};
-use kmipa_record::{End, Mark, Turn};
+use kmipa_record::{End, Mark, Settings, Turn};
 use std::alloc::{AllocError, Global};
 
 /// An audit of a transcript whose marks come one at a time.
@@ -39,14 +39,14 @@ impl<'w> Auditor<'w> {
     /// Before the first mark.
     pub fn new(
         alloc: Global,
-        unique_names: bool,
+        settings: Settings,
         opening: Opening,
         turns: &'w [Turn],
     ) -> Result<Auditor<'w>, CheckFault>
-        ensures { (declared : DeclarationOf) → declared.unique_names ≡ unique_names → Opens opening declared
+        ensures { (declared : DeclarationOf) → declared.settings ≡ settings → Opens opening declared
             → IfOk result (Stands false [] turns.now declared) }
     {
-        let replay = Replay::new(alloc, unique_names, opening, turns)?;
+        let replay = Replay::new(alloc, settings, opening, turns)?;
         Ok(Auditor {
             alloc,
             seen: Seen::new(alloc),

@@ -13,12 +13,12 @@ ghost use Rattle.kmipa_check.specs.Runs.{rows_declared};
 
 use kmipa_attrs::AttrSet;
 use kmipa_msgs::{Row, Rules};
-use kmipa_object::{Life, Material, Object, Rule};
-use kmipa_record::{DeclarationRecord, Entry, RecordKind, TakesRecords};
+use kmipa_object::{AllowLine, Life, Material, Object, Rule};
+use kmipa_record::{DeclarationRecord, Entry, RecordKind, Settings, TakesRecords, is_new_cell};
 use kmipa_store::{Journal, Ledger, StoreFault};
 use std::alloc::{AllocError, Global};
 
-/// The ledger of a server before any call, and the rows of its declaration, as far as this was read.
+/// The ledger of a server before any call, and the rows and allow lines of its declaration, as far as this was read.
 ///
 /// An entry is let go as its object is added; its identifier and its attributes become the object's.
 #[derive(Drop)]
@@ -26,35 +26,54 @@ pub(crate) struct Opening {
     /// It stands for exactly the inventories that the entries describe.
     pub ledger: Journal,
     pub rows: Vec<Row>,
+    pub allow_lines: Vec<AllowLine>,
 }
 
 impl Opening {
-    ghost use Rattle.std.specs.Prelude.{Bool, MatchResult};
-    ghost use Rattle.kmipa_record.specs.Declarations.{DeclarationOf};
-    ghost use Rattle.kmipa_record.specs.Taking.{MayFollow, Refuses, nothing_declared, record_of, with_record};
+    ghost use Rattle.std.specs.Prelude.{MatchResult};
+    ghost use Rattle.kmipa_record.specs.Declarations.{DeclarationOf, MayFollow, nothing_declared, with_record};
+    ghost use Rattle.kmipa_record.specs.Taking.{Refuses, record_of};
+    ghost use Rattle.kmipa_record.specs.declared.settings.Settings.{Settings};
     ghost use Rattle.kmipa_stream.specs.Opening.{Opens};
 
     /// Before the first record.
     pub fn new(alloc: Global) -> Opening
-        ensures { (unique : Bool) → Opens result (nothing_declared unique) }
+        ensures { (settings : Settings) → Opens result (nothing_declared settings) }
     {
         Opening {
             ledger: Journal::new(alloc),
             rows: Vec::new(alloc),
+            allow_lines: Vec::new(alloc),
         }
     }
 
     fn take_row(&mut self, row: Row) -> Result<(), RecordKind>
         ensures { (declared : DeclarationOf) → Opens self.old declared
             → MatchResult result
-            (λ _. MayFollow declared.entries (record_of (DeclarationRecord.Row row))
+            (λ _. MayFollow declared (record_of (DeclarationRecord.Row row))
             × Opens self.new (with_record declared (record_of (DeclarationRecord.Row row))))
-            (Refuses declared.entries (record_of (DeclarationRecord.Row row))) }
+            (Refuses declared (record_of (DeclarationRecord.Row row))) }
     {
-        if self.ledger.len() > 0 {
+        if self.ledger.len() > 0 || !self.allow_lines.is_empty() {
             return Err(RecordKind::Entry);
         }
         match self.rows.push(row) {
+            Ok(()) => Ok(()),
+            Err(_) => Err(RecordKind::Memory),
+        }
+    }
+
+    fn take_line(&mut self, line: AllowLine) -> Result<(), RecordKind>
+        ensures { (declared : DeclarationOf) → Opens self.old declared
+            → MatchResult result
+            (λ _. MayFollow declared (record_of (DeclarationRecord.Allow line))
+            × Opens self.new (with_record declared (record_of (DeclarationRecord.Allow line))))
+            (Refuses declared (record_of (DeclarationRecord.Allow line))) }
+    {
+        if self.ledger.len() > 0 || !is_new_cell(&self.allow_lines, &line) {
+            return Err(RecordKind::Entry);
+        }
+        match self.allow_lines.push(line) {
             Ok(()) => Ok(()),
             Err(_) => Err(RecordKind::Memory),
         }
@@ -64,9 +83,9 @@ impl Opening {
         requires { IsDeclarable (entry_of entry) }
         ensures { (declared : DeclarationOf) → Opens self.old declared
             → MatchResult result
-            (λ _. MayFollow declared.entries (record_of (DeclarationRecord.Entry entry))
+            (λ _. MayFollow declared (record_of (DeclarationRecord.Entry entry))
             × Opens self.new (with_record declared (record_of (DeclarationRecord.Entry entry))))
-            (Refuses declared.entries (record_of (DeclarationRecord.Entry entry))) }
+            (Refuses declared (record_of (DeclarationRecord.Entry entry))) }
     {
         if self.ledger.find(entry.id.as_str()).is_some() {
             return Err(RecordKind::Identifier);
@@ -79,36 +98,44 @@ impl Opening {
 }
 
 impl TakesRecords for Opening {
-    ghost use Rattle.kmipa_stream.specs.Opening.{Opens};
+    ghost use Rattle.kmipa_stream.specs.Opening.{Opens, IsOpened};
 
     ghost holds = { Opens };
+
+    ghost takes = { IsOpened };
 
     fn take(&mut self, given: DeclarationRecord) -> Result<(), RecordKind> {
         match given {
             DeclarationRecord::Row(row) => self.take_row(row),
+            DeclarationRecord::Allow(line) => self.take_line(line),
             DeclarationRecord::Entry(entry) => self.take_entry(entry),
+            DeclarationRecord::Own(_) | DeclarationRecord::Aside(_) => Err(RecordKind::Entry),
         }
     }
 }
 
-/// The rules of a declaration with these rows; one without rows has the default ones.
+/// The rules of a declaration with these settings, rows and lines; one without rows has the default ones.
 pub(crate) fn rules_with(
     alloc: Global,
-    unique_names: bool,
+    settings: Settings,
     rows: Vec<Row>,
+    allow_lines: Vec<AllowLine>,
 ) -> Result<Rules, AllocError>
     ensures { IfOk result
         (λ rules. rules_of rules
-        ≡ record { unique_names = unique_names; rows = rows_declared (map row_of rows.items) }) }
+        ≡ record { unique_names = settings.unique_names; rows = rows_declared (map row_of rows.items); allow_lines = allow_lines.items; visibility = settings.visibility }) }
 {
-    if rows.is_empty() {
-        let default = Rules::default_rules(alloc)?;
-        return Ok(Rules {
-            unique_names,
-            rows: default.rows,
-        });
-    }
-    Ok(Rules { unique_names, rows })
+    let rows = if rows.is_empty() {
+        Rules::default_rules(alloc)?.rows
+    } else {
+        rows
+    };
+    Ok(Rules {
+        unique_names: settings.unique_names,
+        rows,
+        allow_lines,
+        visibility: settings.visibility,
+    })
 }
 
 /// Adds the object of an entry, whose identifier no object has. Refused for memory alone.

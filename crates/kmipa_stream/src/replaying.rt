@@ -13,7 +13,7 @@ use kmipa_check::{
     step_of_turn,
 };
 use kmipa_msgs::Rules;
-use kmipa_record::Turn;
+use kmipa_record::{Settings, Turn};
 use kmipa_store::Journal;
 use std::alloc::{AllocError, Global};
 
@@ -62,11 +62,11 @@ impl<'w> Replay<'w> {
     /// Before the first turn.
     pub fn new(
         alloc: Global,
-        unique_names: bool,
+        settings: Settings,
         opening: Opening,
         turns: &'w [Turn],
     ) -> Result<Replay<'w>, CheckFault>
-        ensures replays { (declared : DeclarationOf) → declared.unique_names ≡ unique_names → Opens opening declared
+        ensures replays { (declared : DeclarationOf) → declared.settings ≡ settings → Opens opening declared
             → IfOk result
             (λ replay. (closed : Bool) (marks : List MarkOf) → Replays closed marks turns.now declared replay) }
         ensures first { IfOk result (λ replay. replay.formed ≡ 0) }
@@ -75,7 +75,7 @@ impl<'w> Replay<'w> {
             alloc,
             turns,
             named: FirstPlaces::of(alloc, turns)?,
-            rules: rules_with(alloc, unique_names, opening.rows)?,
+            rules: rules_with(alloc, settings, opening.rows, opening.allow_lines)?,
             ledger: opening.ledger,
             formed: 0,
             last: None,

@@ -8,7 +8,7 @@ use Rattle.kmipa_ttlv.proofs.ReadLemmas.{itself}
 use Rattle.kmipa_record.specs.Transcripts.{transcript_of}
 use Rattle.kmipa_record.specs.Witnesses.{witness_of}
 use Rattle.kmipa_record.specs.declared.fault.RecordKind.{RecordKind}
-use Rattle.kmipa_record.specs.declared.fault.RecordKind.TheVariants.{Ttlv, Header, Number, EndWithoutBegin, SecondEnd, Identifier, Entry, Calls, Device, Memory}
+use Rattle.kmipa_record.specs.declared.fault.RecordKind.TheVariants.{Ttlv, Header, Number, EndWithoutBegin, SecondEnd, Identifier, Entry, Calls, Device, Memory, Seal, NoClose, Order}
 use Rattle.kmipa_check.specs.Audits.{AreAccepted}
 use Rattle.kmipa_check.specs.declared.auditing.Audited.{Audited}
 use Rattle.kmipa_check.specs.declared.auditing.AuditFault.{AuditFault}
@@ -38,6 +38,9 @@ record_not_done SecondEnd e = absurd cc
 record_not_done Identifier e = absurd cc
 record_not_done Entry e = absurd cc
 record_not_done Calls e = absurd cc
+record_not_done Seal e = absurd cc
+record_not_done NoClose e = absurd cc
+record_not_done Order e = absurd cc
 record_not_done Device e = absurd cc
 record_not_done Memory e = absurd cc
 

@@ -3,18 +3,15 @@ use Rattle.std.specs.Prelude.{◌≡◌, ℕ, pos, List, [], ◌∷◌, ◌++◌
 use Rattle.kmipa_msgs.specs.declared.rules.Cause.{Cause as FailureCause}
 use Rattle.kmipa_msgs.specs.declared.rules.Cause.TheVariants.{NotFound, WrongState, TakenName}
 use Rattle.kmipa_object.specs.Life.{state_name}
-use Rattle.kmipa_object.specs.Table.{allowed}
-use Rattle.kmipa_object.specs.declared.allow.Act.{Act}
 use Rattle.kmipa_object.specs.declared.allow.Allow.{Allow}
 use Rattle.kmipa_object.specs.declared.allow.Allow.TheVariants.{Must, May, Not}
-use Rattle.kmipa_object.specs.declared.state.State.{State}
 use Rattle.kmipa_explain.specs.declared.held.ReasonHeld.{ReasonHeld}
 use Rattle.kmipa_explain.specs.declared.held.StateHeld.{StateHeld}
 use Rattle.kmipa_explain.specs.declared.source.Whence.{Whence}
 use Rattle.kmipa_runs.specs.Lines.{line}
 use Rattle.kmipa_runs.specs.Notes.{name_among, result_reasons}
 use Rattle.kmipa_telling.specs.Naming.{number_text}
-use Rattle.kmipa_telling.specs.StateCauses.{PrintsSince, act_text}
+use Rattle.kmipa_telling.specs.StateCauses.{PrintsSince, act_text, line_text}
 
 -- the line of a reason: its number, and its name
 abbrev pub reason_line : ℕ → List ℕ
@@ -35,13 +32,14 @@ allow_text Must = codes "allows"
 allow_text May = codes "may exclude"
 allow_text Not = codes "excludes"
 
--- the line of a state, and of what it says of an operation
-abbrev pub judged_line : State → Act → List ℕ
-judged_line state operation = line (codes "state: " ∷ state_name state ∷ codes ", which " ∷ allow_text (allowed operation state) ∷ codes " " ∷ act_text operation ∷ [])
+-- the line of a state, and of what the server's rules say of an operation in it
+abbrev pub judged_line : StateHeld → List ℕ
+judged_line s =
+    line (codes "state: " ∷ state_name s.state ∷ codes ", which " ∷ allow_text s.allow ∷ codes " " ∷ act_text s.act ∷ line_text s.by_line ∷ [])
 
 -- the same with whence the state is, and the dates that it follows from
 abbrev pub PrintsJudged : StateHeld → Option Whence → List ℕ → Type 0
-PrintsJudged s w lines = (since : List ℕ) × PrintsSince w s.dates since × (lines ≡ judged_line s.state s.act ++ since)
+PrintsJudged s w lines = (since : List ℕ) × PrintsSince w s.dates since × (lines ≡ judged_line s ++ since)
 
 -- what stands against the causes: the object that is there, or that there is no such one
 abbrev pub PrintsAgainst : Option StateHeld → Option Whence → List ℕ → Type 0

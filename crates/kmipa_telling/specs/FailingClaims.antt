@@ -5,7 +5,6 @@ use Rattle.kmipa_msgs.specs.Numbers.{cause_number}
 use Rattle.kmipa_msgs.specs.declared.rules.Cause.{Cause as FailureCause}
 use Rattle.kmipa_msgs.specs.declared.rules.Cause.TheVariants.{NotFound, WrongState, TakenName}
 use Rattle.kmipa_object.specs.Life.{state_name}
-use Rattle.kmipa_object.specs.Table.{allowed}
 use Rattle.kmipa_object.specs.declared.allow.Allow.{Allow}
 use Rattle.kmipa_object.specs.declared.allow.Allow.TheVariants.{Must, May, Not}
 use Rattle.kmipa_explain.specs.declared.held.ReasonHeld.{ReasonHeld}
@@ -14,7 +13,7 @@ use Rattle.kmipa_runs.specs.Notes.{name_among, result_reasons}
 use Rattle.kmipa_telling.specs.Lists.{objects}
 use Rattle.kmipa_telling.specs.NamingClaims.{number_members}
 use Rattle.kmipa_telling.specs.StateCauses.{act_text}
-use Rattle.kmipa_telling.specs.StateClaims.{TellsDates}
+use Rattle.kmipa_telling.specs.StateClaims.{TellsDates, line_members}
 
 -- the number of a reason, and its name
 abbrev pub reason_members : ℕ → Members
@@ -30,16 +29,16 @@ behind_name TakenName = codes "TakenName"
 abbrev pub behind_members : FailureCause → Members
 behind_members cause = number_members (pos (cause_number cause)) (Some (behind_name cause))
 
--- what the table of operations says
+-- what the server's rules say of an operation
 abbrev pub allow_name : Allow → List ℕ
 allow_name Must = codes "must"
 allow_name May = codes "may"
 allow_name Not = codes "not"
 
--- a state, and what it says of an operation
+-- a state, and what the rules say of an operation in it
 abbrev pub judged_members : StateHeld → Members
-judged_members s = put (codes "allows") (string (allow_name (allowed s.act s.state)))
-    (put (codes "operation") (string (act_text s.act)) (put (codes "name") (string (state_name s.state)) no_members))
+judged_members s = line_members s.by_line (put (codes "allows") (string (allow_name s.allow))
+    (put (codes "operation") (string (act_text s.act)) (put (codes "name") (string (state_name s.state)) no_members)))
 
 -- the same with the dates that it follows from
 abbrev pub TellsJudged : StateHeld → Members → Type 0

@@ -1,12 +1,11 @@
 -- What is printed of an object's state, of the operation that it bears on, and of the dates that it follows from.
-use Rattle.std.specs.Prelude.{◌≡◌, ℕ, ℤ, List, [], ◌∷◌, ◌++◌, codes, Option, Some, None}
+use Rattle.std.specs.Prelude.{◌≡◌, ℕ, ℤ, Bool, true, false, List, [], ◌∷◌, ◌++◌, codes, Option, Some, None}
 use Rattle.std.specs.Fmt.{signed_decimal}
 use Rattle.kmipa_runs.specs.Dates.{HasDate}
 use Rattle.kmipa_runs.specs.Lines.{line}
 use Rattle.kmipa_object.specs.Life.{state_name}
 use Rattle.kmipa_object.specs.declared.allow.Act.{Act}
 use Rattle.kmipa_object.specs.declared.allow.Act.TheVariants as act
-use Rattle.kmipa_object.specs.declared.state.State.{State}
 use Rattle.kmipa_explain.specs.declared.held.DatesHeld.{DatesHeld}
 use Rattle.kmipa_explain.specs.declared.held.StateHeld.{StateHeld}
 use Rattle.kmipa_explain.specs.declared.source.Source.{Source}
@@ -23,9 +22,14 @@ act_text act.RevokeCompromised = codes "Revoke for a compromise"
 act_text act.RevokeOther = codes "Revoke"
 act_text act.Destroy = codes "Destroy"
 
+-- that a line of the declaration says so, and not the table
+abbrev pub line_text : Bool → List ℕ
+line_text true = codes " by a line of the declaration"
+line_text false = []
+
 -- the line of a state, and of the operation that it excludes
-abbrev pub state_line : State → Act → List ℕ
-state_line state excluded = line (codes "state: " ∷ state_name state ∷ codes ", which excludes " ∷ act_text excluded ∷ [])
+abbrev pub state_line : StateHeld → List ℕ
+state_line s = line (codes "state: " ∷ state_name s.state ∷ codes ", which excludes " ∷ act_text s.act ∷ line_text s.by_line ∷ [])
 
 -- the line of a moment behind its name: its date, or that there is none
 abbrev pub PrintsMoment : List ℕ → Option ℤ → List ℕ → Type 0
@@ -57,4 +61,4 @@ PrintsSince w d lines = (state dates : List ℕ) × PrintsSource (codes "held si
 
 -- the lines of a state that excludes an operation, of whence it is, and of the dates that it follows from
 abbrev pub PrintsState : StateHeld → Option Whence → List ℕ → Type 0
-PrintsState s w lines = (since : List ℕ) × PrintsSince w s.dates since × (lines ≡ state_line s.state s.act ++ since)
+PrintsState s w lines = (since : List ℕ) × PrintsSince w s.dates since × (lines ≡ state_line s ++ since)

@@ -1,5 +1,5 @@
 -- What is told in JSON of an object's state, of the operation that it bears on, and of the dates that it follows from.
-use Rattle.std.specs.Prelude.{◌≡◌, ℕ, ℤ, List, codes, Option, Some, None}
+use Rattle.std.specs.Prelude.{◌≡◌, ℕ, ℤ, Bool, true, false, List, codes, Option, Some, None}
 use Rattle.serde_json.specs.Data.{Members, no_members, object, string, put}
 use Rattle.kmipa_object.specs.Life.{state_name}
 use Rattle.kmipa_explain.specs.declared.held.DatesHeld.{DatesHeld}
@@ -20,9 +20,14 @@ TellsDates d before after = (initial : Members) × TellsMoment (codes "initial_d
     × ((destroy : Members) × TellsMoment (codes "destroy_date") d.destroy deactivation destroy
     × TellsMoment (codes "compromise_date") d.compromise destroy after)))
 
+-- that a line of the declaration says so, and not the table, where one does
+abbrev pub line_members : Bool → Members → Members
+line_members true before = put (codes "by") (string (codes "declaration")) before
+line_members false before = before
+
 -- a state, and the operation that it excludes
 abbrev pub state_members : StateHeld → Members
-state_members s = put (codes "excludes") (string (act_text s.act)) (put (codes "name") (string (state_name s.state)) no_members)
+state_members s = line_members s.by_line (put (codes "excludes") (string (act_text s.act)) (put (codes "name") (string (state_name s.state)) no_members))
 
 -- the same with the dates that it follows from
 abbrev pub TellsState : StateHeld → Members → Type 0

@@ -1,14 +1,13 @@
 //! The lines of a Result Reason of which no cause holds, and of what stands against its causes.
 
 ghost use Rattle.std.specs.Prelude.{◌≡◌, IfOk, flat_map, string_bytes};
-ghost use Rattle.kmipa_object.specs.Table.{allowed};
 ghost use Rattle.kmipa_telling.specs.FailingCauses.{PrintsAgainst, PrintsJudged, PrintsReason, allow_text, behind_line, behind_text, judged_line, reason_line};
 
 use crate::naming::number_text;
-use crate::state_causes::{act_text, since_lines};
+use crate::state_causes::{act_text, line_text, since_lines};
 use kmipa_explain::{ReasonHeld, StateHeld, Whence};
 use kmipa_msgs::Cause as FailureCause;
-use kmipa_object::{Act, Allow, State, allows};
+use kmipa_object::Allow;
 use kmipa_runs::result_reason_name;
 use std::alloc::{AllocError, Global};
 
@@ -84,19 +83,19 @@ fn judged_lines(
 ) -> Result<String, AllocError>
     ensures { IfOk result (λ text. PrintsJudged held whence (string_bytes text)) }
 {
-    let StateHeld { act, state, dates } = held;
-    let judged = judged_line(alloc, state, act)?;
-    let since = since_lines(alloc, dates, whence)?;
+    let judged = judged_line(alloc, held)?;
+    let since = since_lines(alloc, held.dates, whence)?;
     format!(in alloc; "{judged}{since}")
 }
 
-fn judged_line(alloc: Global, state: State, act: Act) -> Result<String, AllocError>
-    ensures { IfOk result (λ text. string_bytes text ≡ judged_line state act) }
+fn judged_line(alloc: Global, held: StateHeld) -> Result<String, AllocError>
+    ensures { IfOk result (λ text. string_bytes text ≡ judged_line held) }
 {
-    let name = state.name();
-    let allow = allow_text(allows(act, state));
-    let operation = act_text(act);
-    format!(in alloc; "state: {name}, which {allow} {operation}\n")
+    let name = held.state.name();
+    let allow = allow_text(held.allow);
+    let operation = act_text(held.act);
+    let source = line_text(held.by_line);
+    format!(in alloc; "state: {name}, which {allow} {operation}{source}\n")
 }
 
 fn allow_text(allow: Allow) -> &'static str

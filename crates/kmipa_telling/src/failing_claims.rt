@@ -7,11 +7,11 @@ ghost use Rattle.kmipa_telling.specs.FailingClaims.{TellsAgainst, TellsJudged, T
 
 use crate::naming_claims::number_object;
 use crate::state_causes::act_text;
-use crate::state_claims::tell_dates;
+use crate::state_claims::{tell_dates, tell_line};
 use kmipa_explain::{ReasonHeld, StateHeld};
 use kmipa_json::{JsonList, JsonObject};
 use kmipa_msgs::Cause as FailureCause;
-use kmipa_object::{Allow, allows};
+use kmipa_object::Allow;
 use kmipa_runs::result_reason_name;
 use std::alloc::{AllocError, Global};
 
@@ -86,7 +86,8 @@ fn allowing_object(alloc: Global, held: StateHeld) -> Result<JsonObject, AllocEr
     let mut told = JsonObject::new(alloc);
     told.put_text("name", held.state.name())?;
     told.put_text("operation", act_text(held.act))?;
-    told.put_text("allows", allow_name(allows(held.act, held.state)))?;
+    told.put_text("allows", allow_name(held.allow))?;
+    tell_line(&mut told, held.by_line)?;
     Ok(told)
 }
 

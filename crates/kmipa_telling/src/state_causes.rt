@@ -2,11 +2,11 @@
 
 ghost use Rattle.std.specs.Prelude.{◌≡◌, IfOk, string_bytes};
 ghost use Rattle.kmipa_telling.specs.Sources.{attribute_source};
-ghost use Rattle.kmipa_telling.specs.StateCauses.{PrintsDate, PrintsDates, PrintsMoment, PrintsSince, PrintsState, act_text, state_line};
+ghost use Rattle.kmipa_telling.specs.StateCauses.{PrintsDate, PrintsDates, PrintsMoment, PrintsSince, PrintsState, act_text, line_text, state_line};
 
 use crate::sources::{attribute_source, source_line, with_source};
 use kmipa_explain::{DatesHeld, StateHeld, Whence};
-use kmipa_object::{Act, State};
+use kmipa_object::Act;
 use kmipa_ops::Judged;
 use kmipa_runs::date_text;
 use std::alloc::{AllocError, Global};
@@ -19,19 +19,30 @@ pub fn state_lines(
 ) -> Result<String, AllocError>
     ensures { IfOk result (λ text. PrintsState held.now whence (string_bytes text)) }
 {
-    let StateHeld { act, state, dates } = *held;
-    let excluding = state_line(alloc, state, act)?;
-    let since = since_lines(alloc, dates, whence)?;
+    let excluding = state_line(alloc, held)?;
+    let since = since_lines(alloc, held.dates, whence)?;
     format!(in alloc; "{excluding}{since}")
 }
 
 /// The line of a state, and of the operation that it excludes.
-fn state_line(alloc: Global, state: State, act: Act) -> Result<String, AllocError>
-    ensures { IfOk result (λ text. string_bytes text ≡ state_line state act) }
+fn state_line(alloc: Global, held: &StateHeld) -> Result<String, AllocError>
+    ensures { IfOk result (λ text. string_bytes text ≡ state_line held.now) }
 {
-    let name = state.name();
-    let excluded = act_text(act);
-    format!(in alloc; "state: {name}, which excludes {excluded}\n")
+    let name = held.state.name();
+    let excluded = act_text(held.act);
+    let source = line_text(held.by_line);
+    format!(in alloc; "state: {name}, which excludes {excluded}{source}\n")
+}
+
+/// That a line of the declaration says so, and not the table.
+pub fn line_text(by_line: bool) -> &'static str
+    ensures { result.now ≡ line_text by_line }
+{
+    if by_line {
+        " by a line of the declaration"
+    } else {
+        ""
+    }
 }
 
 /// What a row of the table of states is called.

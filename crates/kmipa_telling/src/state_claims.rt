@@ -3,7 +3,7 @@
 ghost use Rattle.std.specs.Prelude.{◌≡◌, IfOk, OnOk, Some};
 ghost use Rattle.serde_json.specs.Data.{no_members};
 ghost use Rattle.kmipa_json.specs.Told.{members_of};
-ghost use Rattle.kmipa_telling.specs.StateClaims.{TellsDates, TellsMoment, TellsState, state_members};
+ghost use Rattle.kmipa_telling.specs.StateClaims.{TellsDates, TellsMoment, TellsState, line_members, state_members};
 ghost use Rattle.kmipa_telling.specs.Telling.{TellsDate};
 
 use crate::state_causes::act_text;
@@ -28,7 +28,18 @@ fn excluding_object(alloc: Global, held: &StateHeld) -> Result<JsonObject, Alloc
     let mut told = JsonObject::new(alloc);
     told.put_text("name", held.state.name())?;
     told.put_text("excludes", act_text(held.act))?;
+    tell_line(&mut told, held.by_line)?;
     Ok(told)
+}
+
+/// Puts into an object that a line of the declaration says so, where one does.
+pub fn tell_line(told: &mut JsonObject, by_line: bool) -> Result<(), AllocError>
+    ensures { OnOk result (members_of told.new ≡ line_members by_line (members_of told.old)) }
+{
+    if by_line {
+        return told.put_text("by", "declaration");
+    }
+    Ok(())
 }
 
 /// Puts the dates of an object into an object, each under its name, those that it has.

@@ -253,9 +253,11 @@ fn check_named<L: Ledger>(rt: &impl Abort, ledger: &L, places: &[(u32, usize, Op
     }
 }
 
-/// Checks whether any live object has the name `n`.
+/// Checks whether any live object has the name `n`, and is found by it.
 fn check_live<L: Ledger>(rt: &impl Abort, ledger: &L, any: bool) {
     check(rt, ledger.any_live_named("n", 1) == any, "a name");
+    let next = ledger.next_live_named("n", 1, 0);
+    check(rt, next.is_some() == any, "a place of a live name");
 }
 
 /// Names are found, destroyed or not, until they are taken back.

@@ -59,7 +59,10 @@ fn misleading(rt: &impl Abort, alloc: Global) -> Transcript {
         }
     }
     begins.append(&mut ends).expect(rt, "memory");
-    Transcript { marks: begins }
+    Transcript {
+        marks: begins,
+        head: None,
+    }
 }
 
 // After the first 1,000 steps an order is proposed and accepted, with one step more for each call.

@@ -1,4 +1,4 @@
-use Rattle.std.proofs.Common.{◌≡◌, ◌<◌, ◌+◌, ◌-◌, ℕ, length, map, option_map, subst, arith}
+use Rattle.std.proofs.Common.{rules, ◌≡◌, ◌<◌, ◌+◌, ◌-◌, ℕ, length, map, option_map, subst, arith}
 use Rattle.std.proofs.lemmas.List.{length-map}
 use Rattle.std.proofs.lemmas.Option.{slice_get_within}
 use Rattle.kmipa_record.specs.Declarations.{declaration_of}
@@ -24,6 +24,12 @@ pub bounds-steps-turn : goal.bounds-steps-turn
 bounds-steps-turn c =
     let r = c.requires.refused.1.2 in
     omega (arith, slice_get_within (map step_of c.args.steps.now) c.args.turn c.requires.refused.0 r.there, length-map c.args.steps.now step_of)
+
+pub offset_bounds-steps-turn : goal.offset_bounds-steps-turn
+offset_bounds-steps-turn c =
+    let r = c.requires.refused.1.2 in
+    let within : c.args.turn < length c.args.steps.now = omega (arith, slice_get_within (map step_of c.args.steps.now) c.args.turn c.requires.refused.0 r.there, length-map c.args.steps.now step_of) in
+    search rules
 
 pub cause_in-requires : goal.cause_in-requires
 cause_in-requires c =

@@ -5,8 +5,12 @@ use Rattle.kmipa_record.specs.Witnesses.{witness_of}
 use Rattle.kmipa_check.specs.declared.fault.CheckFault.{CheckFault}
 use Rattle.kmipa_stream.specs.Standing.{Judges}
 use Rattle.kmipa_stream.specs.declared.judged.Judged.{Judged}
+use Rattle.kmipa_stream.proofs.OpeningLemmas.{opens_all}
 use Rattle.kmipa_stream.proofs.StreamLemmas.{a_declaration, these_records, judged_so, unjudged_so, accepted_so, dated_so}
 use Rattle.kmipa_stream.proofs.auditing.audit_stream.Goals as goal
+
+pub read_declaration_into-requires-clause-takes : goal.read_declaration_into-requires-clause-takes
+read_declaration_into-requires-clause-takes g c = opens_all
 
 pub returns-in-Err-clause-audits : goal.returns-in-Err-clause-audits
 returns-in-Err-clause-audits g c = λ t d w tf df wf. c.declaration_fault.ensures t d w (is_failed c.read_declaration_into.new.input) _ tf (c.in-Err.ensures.fault d df)
@@ -54,6 +58,12 @@ returns-in-Ok-Ok-clause-dated g c =
     let told = subst P c.in-Ok-Ok.field-0-is j.judged in
     dated_so (came_of ti) (came_of di) (came_of wi) j.marks declared turns c.in-Ok-Ok.judged.verdict c.in-Ok-Ok.judged.stamp
     (these_records ti di wi (came_of ti) (came_of di) (came_of wi) j.marks declared turns (itself ti) (itself di) (itself wi) j.transcript j.ended (taken.found, c.in-Ok.ensures.found.1) c.in-Ok-read_witness.ensures.found) told.1
+
+pub returns-in-Ok-Ok-clause-ended : goal.returns-in-Ok-Ok-clause-ended
+returns-in-Ok-Ok-clause-ended g c =
+    let taken = c.in-Ok.ensures.found.0 in
+    let j = c.in-Ok-Ok.ensures.judged taken.declared taken.named taken.held in
+    (j.ended, c.in-Ok.ensures.found.1, c.in-Ok-read_witness.ensures.found.1)
 
 pub returns-in-Ok-Err-clause-audits : goal.returns-in-Ok-Err-clause-audits
 returns-in-Ok-Err-clause-audits g c = λ t d w tf df wf.

@@ -11,7 +11,7 @@ returns-clause-replays c = λ declared named opens closed marks.
     record {
       same = refl;
       named = c.in_ok-of.ensures;
-      rules = rules_opened c.args.opening declared c.args.unique_names (rules_of c.in_ok-rules_with.field-0) named opens c.in_ok-rules_with.ensures;
+      rules = rules_opened c.args.opening declared c.args.settings (rules_of c.in_ok-rules_with.field-0) named opens c.in_ok-rules_with.ensures;
       within = omega arith;
       formed = λ all calls ahead are place lt. absurd (omega (arith, lt));
       finding = (
