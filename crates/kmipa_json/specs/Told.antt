@@ -1,11 +1,13 @@
 -- What an object or a list tells, and what is told of a file. JSON is that of RFC 8259.
-use Rattle.std.specs.Prelude.{ℕ, ℤ, List, [], ◌∷◌, ◌++◌, length, codes}
+use Rattle.std.specs.Prelude.{ℕ, ℤ, List, [], ◌∷◌, ◌++◌, length, codes, flat_map}
+use Rattle.std.specs.Str.{chars}
 use Rattle.hex.specs.Hex.{encode_lower}
 use Rattle.serde_json.specs.Data.{Data, Items, Members, no_items, item, no_members, number, string, unsigned, put}
 use Rattle.serde_json.specs.Find.{of_integer}
 use Rattle.serde_json.specs.View.{items_view, members_view}
 use Rattle.serde_json.specs.Written.{compact_text}
 use Rattle.sha2.specs.Sha256.{sha256}
+use Rattle.kmipa_json.specs.Escapes.{told_char}
 use Rattle.kmipa_json.specs.declared.list.JsonList.{JsonList}
 use Rattle.kmipa_json.specs.declared.object.JsonObject.{JsonObject}
 
@@ -30,9 +32,9 @@ count n = number (unsigned n)
 abbrev pub integer : ℤ → Data
 integer z = number (of_integer z)
 
--- a value's text without spaces, on a line of its own
+-- a value's text without spaces, on a line of its own; in its strings hidden characters stand as escapes
 abbrev pub line_of : Data → List ℕ
-line_of d = compact_text d ++ 10 ∷ []
+line_of d = flat_map told_char (chars (compact_text d)) ++ 10 ∷ []
 
 -- what is told of a file: its part in the run, its length, and its digest (FIPS 180-4) in hexadecimal digits
 abbrev pub file_members : List ℕ → List ℕ → Members

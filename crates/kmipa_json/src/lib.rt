@@ -1,6 +1,7 @@
 //! JSON objects that are made member by member, whose text is that of their value, and what is told of a file.
 #![tactic(auto)]
 
+mod escapes;
 mod files;
 mod list;
 mod object;

@@ -4,6 +4,7 @@ ghost use Rattle.std.specs.Prelude.{◌≡◌, false};
 ghost use Rattle.serde_json.specs.View.{members_view};
 ghost use Rattle.serde_json.specs.Written.{members_have_float};
 
+use crate::escapes::with_escapes;
 use crate::list::JsonList;
 use serde_json::{Map, Value, put};
 use std::alloc::{AllocError, Global};
@@ -93,14 +94,15 @@ impl JsonObject {
         put(&mut self.members, self.alloc, name, value)
     }
 
-    /// The object on a line of its own, with its line feed.
+    /// The object on a line of its own, with its line feed. C1 controls and characters that turn the direction of writing stand as escapes.
     pub fn into_line(self) -> Result<String, AllocError>
         ensures { IfOk result (λ text. string_bytes text ≡ line_of (object (members_of self))) }
     {
         let alloc = self.alloc;
-        let mut text = self.into_value().to_string(alloc)?;
-        text.push_str("\n")?;
-        Ok(text)
+        let text = self.into_value().to_string(alloc)?;
+        let mut line = with_escapes(alloc, text.as_str())?;
+        line.push_str("\n")?;
+        Ok(line)
     }
 
     /// The object as a value.
