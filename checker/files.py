@@ -5,11 +5,14 @@ from dataclasses import dataclass, field
 from typing import Callable, Dict, Iterator, List, Optional, Tuple
 
 from attributes import read_attributes
-from objects import (ACTIVATION, ALGORITHM, COMPROMISE, DEACTIVATION, DESTROY, INITIAL, LENGTH, MASK, NAME, SECRET_DATA,
-                     SYMMETRIC_KEY, DATES, Attributes, Inventory, Object, Secret, admits)
-from ttlv import BOOLEAN, BYTES, ENUMERATION, FAULTS, INTEGER, STRUCTURE, TEXT, Item, TtlvFault, decode
+from objects import (ACTIVATION, ALGORITHM, COMPROMISE, DEACTIVATION, DESTROY, INITIAL, LENGTH, MASK, MAY, MUST, NAME, NOT, ROWS,
+                     SECRET_DATA, SYMMETRIC_KEY, DATES, Attributes, Inventory, Object, Secret, admits)
+from seals import Misplaced, Seals, is_sealed_header
+from ttlv import BOOLEAN, BYTES, ENUMERATION, FAULTS, INTEGER, STRUCTURE, TEXT, Item, TtlvFault, decode, head_at
 
-KINDS = ("", "Ttlv", "Header", "Number", "EndWithoutBegin", "SecondEnd", "", "Identifier", "Entry", "Calls")
+KINDS = ("", "Ttlv", "Header", "Number", "EndWithoutBegin", "SecondEnd", "", "Identifier", "Entry", "Calls", "Device", "Memory",
+         "Seal", "NoClose", "Order")
+NO_CLOSE = 13
 TTLV, HEADER, NUMBER, END_WITHOUT_BEGIN, SECOND_END, _, IDENTIFIER, ENTRY, CALLS = range(1, 10)
 MOST_CALLS = 100000
 NOT_FOUND, WRONG_STATE, TAKEN_NAME = 1, 2, 3
@@ -37,11 +40,12 @@ class Call:
 
 @dataclass
 class Declaration:
-    """What the server held at the start, and its rules: unique names, and rows of a reason and a cause."""
+    """What the server held at the start, and its rules: unique names, rows of a reason and a cause, and words for cells of the table."""
 
     unique_names: bool
     rows: List[Tuple[int, int]] = field(default_factory=list)
     entries: Inventory = field(default_factory=dict)
+    lines: Dict[Tuple[str, int], str] = field(default_factory=dict)
 
 
 @dataclass
@@ -93,14 +97,27 @@ def records(data: bytes, is_header: Callable[[Item], bool]) -> Iterator[Tuple[in
         at += taken
 
 
+def take_sealed(seals: Seals, data: bytes, at: int, item: Item) -> Optional[Item]:
+    """The mark that a sealed record at a place is, as one of version 1; None where it is none."""
+    try:
+        return seals.take(data[at:at + head_at(data, at)[3]], item)
+    except Misplaced as fault:
+        raise Malformed(fault.kind, at) from None
+
+
 def read_transcript(data: bytes) -> List[Call]:
     """The calls of a transcript, in the order of their begin marks."""
     calls: Dict[int, Call] = {}
+    seals: Optional[Seals] = None
     header = lambda it: has_form(it, 0x540001, (0x540002, INTEGER, "")) and number(it.children[0]) == 1
-    for place, (at, item) in enumerate(records(data, header)):
-        begins = has_form(item, 0x540010, (0x540011, INTEGER, ""), (0x540012, TEXT, ""), (0x540013, BYTES, ""))
+    for place, (at, read) in enumerate(records(data, lambda it: header(it) or is_sealed_header(it))):
         if place == 0:
+            seals = Seals(data[:head_at(data, 0)[3]]) if is_sealed_header(read) else None
             continue
+        item = read if seals is None else take_sealed(seals, data, at, read)
+        if item is None:
+            continue
+        begins = has_form(item, 0x540010, (0x540011, INTEGER, ""), (0x540012, TEXT, ""), (0x540013, BYTES, ""))
         if not begins and not has_form(item, 0x540020, (0x540011, INTEGER, ""), (0x540013, BYTES, "")):
             raise Malformed(ENTRY, at)
         call, message = number(item.children[0]), data_of(item.children[-1])
@@ -114,16 +131,19 @@ def read_transcript(data: bytes) -> List[Call]:
             raise Malformed(END_WITHOUT_BEGIN if call not in calls else SECOND_END, at)
         else:
             calls[call].end, calls[call].response = place, message
+    if seals and not seals.is_closed:
+        raise Malformed(NO_CLOSE, len(data))
     return list(calls.values())
 
 
-def read_entry(item: Item) -> Optional[Tuple[str, Object]]:
+def read_entry(item: Item, version: int) -> Optional[Tuple[str, Object]]:
     """The object that an entry declares, or None where it is none."""
     wanted = ((0x420094, TEXT, ""), (0x420057, ENUMERATION, ""), (0x420125, STRUCTURE, ""), (0x420043, BYTES, "?"))
-    if not has_form(item, 0x540034, *wanted):
+    if not has_form(item, 0x540034, *wanted, *(((0x54003C, TEXT, "?"),) if version > 1 else ())):
         return None
     said, faults = read_attributes(item.children[2], False)
-    kind, key = number(item.children[1]), data_of(item.children[3]) if len(item.children) > 3 else None
+    kind, held = number(item.children[1]), item.first(0x420043)
+    key = data_of(held) if held else None
     is_destroyed = DESTROY in said.single
     is_listed = all(it.tag in LISTED for it in item.children[2].children)
     may_be = key is None if is_destroyed else admits(kind, said, key)
@@ -134,19 +154,42 @@ def read_entry(item: Item) -> Optional[Tuple[str, Object]]:
     return str(item.children[0].value), Object(kind, given, dates, Secret(key))
 
 
+ACTS = ("", "Get", "Get Attributes", "Activate", "Revoke 2, 3", "Revoke", "Destroy")
+WORDS = ("", MUST, MAY, NOT)
+
+
+def is_declaration(item: Item) -> bool:
+    """Whether an item is the header of a declaration: of version 2 with nothing set aside, no tolerance, and objects that everyone sees."""
+    front = ((0x540002, INTEGER, ""), (0x540031, BOOLEAN, ""))
+    more = ((0x540035, ENUMERATION, ""), (0x540036, INTEGER, ""), (0x540037, ENUMERATION, ""))
+    numbers = [number(it) for it in item.children[:1] + item.children[2:]]
+    return has_form(item, 0x540030, *front) and numbers == [1] or has_form(item, 0x540030, *front, *more) and numbers == [2, 1, 0, 1]
+
+
+def read_line(item: Item, said: Declaration) -> bool:
+    """Notes the word that an allow line has for a cell of the table; whether it may have one."""
+    act, state, word = (number(it) for it in item.children)
+    if not (1 <= act <= 6 and 1 <= state <= 6 and 1 <= word <= 3) or ROWS[ACTS[act]][state - 1] == NOT or (ACTS[act], state) in said.lines:
+        return False
+    said.lines[ACTS[act], state] = WORDS[word]
+    return True
+
+
 def read_declaration(data: bytes) -> Declaration:
     """What a declaration says."""
-    said = Declaration(False)
-    header = lambda it: has_form(it, 0x540030, (0x540002, INTEGER, ""), (0x540031, BOOLEAN, "")) and number(it.children[0]) == 1
-    for place, (at, item) in enumerate(records(data, header)):
+    said, version = Declaration(False), 0
+    for place, (at, item) in enumerate(records(data, is_declaration)):
         if place == 0:
-            said.unique_names = bool(item.children[1].value)
+            version, said.unique_names = number(item.children[0]), bool(item.children[1].value)
         elif has_form(item, 0x540032, (0x42007E, ENUMERATION, ""), (0x540033, ENUMERATION, "")):
-            if said.entries or number(item.children[1]) not in (NOT_FOUND, WRONG_STATE, TAKEN_NAME):
+            if said.entries or said.lines or number(item.children[1]) not in (NOT_FOUND, WRONG_STATE, TAKEN_NAME):
                 raise Malformed(ENTRY, at)
             said.rows.append((number(item.children[0]), number(item.children[1])))
+        elif version > 1 and has_form(item, 0x540038, (0x540039, ENUMERATION, ""), (0x42008D, ENUMERATION, ""), (0x54003A, ENUMERATION, "")):
+            if said.entries or not read_line(item, said):
+                raise Malformed(ENTRY, at)
         else:
-            entry = read_entry(item)
+            entry = read_entry(item, version)
             if entry is None or entry[0] in said.entries:
                 raise Malformed(ENTRY if entry is None else IDENTIFIER, at)
             said.entries[entry[0]] = entry[1]

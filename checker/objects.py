@@ -79,9 +79,9 @@ class Object:
         is_over = DEACTIVATION in self.dates and self.dates[DEACTIVATION] <= now
         return DEACTIVATED if is_over else ACTIVE
 
-    def allows(self, row: str, now: int) -> str:
-        """What its state says of an operation."""
-        return ROWS[row][self.state(now) - 1]
+    def allows(self, row: str, now: int, lines: Dict[Tuple[str, int], str]) -> str:
+        """What its state says of an operation, by the declaration's own word for the cell or by the table's."""
+        return lines.get((row, self.state(now)), ROWS[row][self.state(now) - 1])
 
     def dated(self, now: int, *tags: int) -> Object:
         """The same object with these dates set to a moment."""

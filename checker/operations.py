@@ -44,7 +44,7 @@ def is_founded(run: Run, ask: Ask, reason: Optional[int]) -> bool:
     taken = any(ask.attributes.names & it.given.names for it in run.inventory.values())
     holds = {
         NOT_FOUND: not is_judged or found is None or found.is_destroyed,
-        WRONG_STATE: not is_judged or found is not None and found.allows(row_of(ask), run.now) != MUST,
+        WRONG_STATE: not is_judged or found is not None and found.allows(row_of(ask), run.now, run.declared.lines) != MUST,
         TAKEN_NAME: ask.operation not in (CREATE, REGISTER) or taken,
     }
     return any(holds[it] for it in causes)
@@ -114,7 +114,7 @@ def why_on_object(run: Run, ask: Ask, answer: Answer, meant: Optional[str]) -> i
     found = run.inventory.get(meant) if meant is not None else None
     if found is None:
         return NO_SUCH_OBJECT
-    if found.allows(row_of(ask), run.now) == NOT:
+    if found.allows(row_of(ask), run.now, run.declared.lines) == NOT:
         return IN_WRONG_STATE
     if answer.payload is None:
         return 0
