@@ -64,9 +64,10 @@ def windows(data: bytes, length: int = 8) -> Iterator[bytes]:
 
 
 def folders() -> list[Path]:
-    """Every example and every recording, but the one that is torn."""
+    """Every example and every recording, but those that are torn or whose seals aren't right."""
     found = sorted(path.parent for path in EXAMPLES.glob("**/transcript.ttlv"))
-    return [folder for folder in found if folder.name != "torn_transcript"]
+    broken = ("torn_transcript", "sealed_record_doubled", "sealed_record_turned", "sealed_without_close")
+    return [folder for folder in found if folder.name not in broken]
 
 
 class Blind(unittest.TestCase):

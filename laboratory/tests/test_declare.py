@@ -36,6 +36,8 @@ def told(state: int, *dates: bytes, object_type: int = SYMMETRIC_KEY) -> bytes:
 class Declared(Laboratory):
     """A server that holds what a test says; each client sees its own objects."""
 
+    owners: list[str] = []
+
     def declared(self, objects: dict[str, dict[str, bytes]], *words: object) -> tuple[list[str], str]:
         """The identifiers that are declared, where the server tells each client, by its name, of these objects; and
         what is said."""
@@ -58,7 +60,10 @@ class Declared(Laboratory):
             "--out", out, cwd=self.certificates)
         self.assertEqual(done.returncode, 0, done.stderr)
         entries = [record.item for record in records(str(out), read_file(str(out))) if record.item.tag == 0x540034]
-        self.assertEqual(done.stdout, f"0 rows, {len(entries)} entries\n")
+        owners = [entry.first(0x54003C, ttlv.Kind.TEXT) for entry in entries]
+        owned = sum(owner is not None for owner in owners)
+        self.assertEqual(done.stdout, f"0 rows, {len(entries)} entries{f', {owned} owners' if owned else ''}\n")
+        self.owners = [owner.value if owner else "" for owner in owners]
         return [entry.first(0x420094, ttlv.Kind.TEXT).value for entry in entries], done.stderr
 
     def as_recorder(self, **objects: bytes) -> tuple[list[str], str]:
@@ -97,13 +102,27 @@ class Declared(Laboratory):
         words = [f"--as={name}={name}.pem,{name}.key" for name in objects]
         found, said = self.declared(objects, *words)
         self.assertEqual(found, ["own-1", "shared", "own-2"])
-        for line in ("object own-1: of those that asked, client-1 alone are told of it",
-                     "object own-2: of those that asked, client-2 alone are told of it",
+        self.assertEqual(self.owners, ["client-1", "", "client-2"])
+        for line in ("object own-1: of those that asked, client-1 alone is told of it, and is declared as its owner",
+                     "object own-2: of those that asked, client-2 alone is told of it, and is declared as its owner",
                      "object torn: left out, for client-1 and client-2 are told different things of it"):
             self.assertIn(line, said)
         self.assertNotIn("object shared", said)
         pair = ["--server-cert", "recorder.pem", "--server-key", "recorder.key"]
         self.assertEqual(self.declared({**objects, "recorder": {}}, *words, *pair)[0], found)
+        self.assertEqual(self.owners, ["client-1", "", "client-2"])
+
+    def test_who_is_told_without_being_a_client_owns_nothing(self) -> None:
+        pair = ["--server-cert", "recorder.pem", "--server-key", "recorder.key", "--as=client-1=client-1.pem,client-1.key"]
+        found, said = self.declared({"recorder": {"own": told(PRE_ACTIVE, date(INITIAL))}}, *pair)
+        self.assertEqual((found, self.owners), (["own"], [""]))
+        self.assertIn("the certificate of --server-cert alone are told of it; no owner is declared", said)
+
+    def test_an_owner_by_the_words_stands_over_what_was_seen(self) -> None:
+        new = told(PRE_ACTIVE, date(INITIAL))
+        found, _ = self.declared({"client-1": {"a": new, "b=c": new}}, "--as=client-1=client-1.pem,client-1.key",
+                                 "--owner", "b=c=alice")
+        self.assertEqual((found, self.owners), (["a", "b=c"], ["", "alice"]))
 
     def test_who_asks_must_be_named(self) -> None:
         for words in ([], ["--server-cert", "recorder.pem"]):
@@ -111,6 +130,54 @@ class Declared(Laboratory):
                        cwd=self.certificates)
             self.assertEqual((done.returncode, done.stderr), (1, (
                 "kmip_record: to ask a server, give --server-ca, and --server-cert with --server-key, or --as\n")))
+
+
+class Rules(Laboratory):
+    """Rules by words and by files. The bytes are those that docs/FORMATS.md asks for."""
+
+    def declared(self, *words: str) -> str:
+        """The bytes of a declaration of an empty server, in hexadecimal digits; or what is said where there is none."""
+        out = Path(self.folder) / "d.ttlv"
+        out.unlink(missing_ok=True)
+        done = run("declare", "--empty", *words, "--out", str(out))
+        return out.read_bytes().hex() if done.returncode == 0 else done.stderr
+
+    def test_without_lines_it_has_version_1(self) -> None:
+        self.assertEqual(self.declared("--unique-names"), "54003001000000205400020200000004000000010000000054003106000000080000000000000001")
+
+    def test_a_line_makes_version_2(self) -> None:
+        header = ("5400300100000050" "54000202000000040000000200000000" "54003106000000080000000000000000"
+                  "54003505000000040000000100000000" "54003602000000040000000000000000" "54003705000000040000000100000000")
+        line = "5400380100000030" "54003905000000040000000600000000" "42008d05000000040000000200000000" "54003a05000000040000000300000000"
+        self.assertEqual(self.declared("--allow", "Destroy,Active=not"), header + line)
+
+    def test_a_file_says_what_words_say(self) -> None:
+        file = Path(self.folder) / "my.rules"
+        file.write_text("# a server\nunique-names\n\nreason 0x37=NotFound # why\nallow Destroy,Active=not\n", "utf-8")
+        words = ["--unique-names", "--reason", "0x37=NotFound", "--allow", "Destroy,Active=not"]
+        self.assertEqual(self.declared("--rules", str(file)), self.declared(*words))
+        self.assertEqual(self.declared("--rules", str(file), "--allow", "Destroy,Active=not"), self.declared(*words))
+        self.assertIn("Destroy in state Active has two words: leave one of them away",
+                      self.declared("--rules", str(file), "--allow", "Destroy,Active=may"))
+
+    def test_what_no_rule_says(self) -> None:
+        self.assertIn("an object in state Destroyed is never open to Get, and no rule changes that",
+                      self.declared("--allow", "Get,Destroyed=may"))
+        self.assertIn("'Destroy=not' is no OPERATION,STATE=WORD", self.declared("--allow", "Destroy=not"))
+        file = Path(self.folder) / "my.rules"
+        for text, told_so in (("unique names", "'unique names' is no rule"), ("reason 1=Nothing", "is no NUMBER=CAUSE"),
+                              ("allow Get,Destroyed=must", "is never open to Get")):
+            file.write_text(f"unique-names\n{text}\n", "utf-8")
+            self.assertRegex(self.declared("--rules", str(file)), rf"^kmip_record: {file}, line 2: .*{told_so}")
+        file.write_bytes(b"\xff")
+        self.assertIn("is no text in UTF-8", self.declared("--rules", str(file)))
+        self.assertIn("nothing can't be read", self.declared("--rules", "nothing"))
+
+    def test_the_files_that_are_ready(self) -> None:
+        ready = sorted((Path(__file__).resolve().parent.parent / "rules").glob("*.rules"))
+        self.assertEqual([file.name for file in ready], ["pykmip.rules", "standard-2.1.rules"])
+        for file in ready:
+            self.assertTrue(self.declared("--rules", str(file)).startswith("540030"), file)
 
 
 if __name__ == "__main__":

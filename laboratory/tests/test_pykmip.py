@@ -63,9 +63,9 @@ class ByProxy(WithPyKmip):
                    self.folder / "asked.ttlv", "--server-cert", certificates / "recorder.pem", "--server-key",
                    certificates / "recorder.key", "--server-ca", certificates / "authority.pem", "--as",
                    f"client-0={certificates / 'client-0.pem'},{certificates / 'client-0.key'}")
-        self.assertEqual((done.returncode, done.stdout), (0, "0 rows, 1 entries\n"), done.stderr)
+        self.assertEqual((done.returncode, done.stdout), (0, "0 rows, 1 entries, 1 owners\n"), done.stderr)
         self.assertIn("the server is asked in version 1.2", done.stderr)
-        shared = ttlv.read_item((self.folder / "asked.ttlv").read_bytes()[40:])
+        shared = ttlv.read_item((self.folder / "asked.ttlv").read_bytes()[88:])
         told = shared.first(0x420125, ttlv.Kind.STRUCTURE)
         self.assertEqual(told.first(0x420028, ttlv.Kind.ENUMERATION).value, 3)
         self.assertEqual(told.first(0x42002A, ttlv.Kind.INTEGER).value, 256)

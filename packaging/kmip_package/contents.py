@@ -43,7 +43,7 @@ class Made(NamedTuple):
 def files(made: Made, of_debian: bool) -> list[File]:
     """All files of a package."""
     return [*_programs(made, of_debian), *_manuals(made), *_completions(made, of_debian), *_documents(made),
-            *_examples(), *_pykmip()]
+            *_examples(), *_beside("pykmip"), *_beside("rules")]
 
 
 def _read(path: str) -> bytes:
@@ -87,10 +87,10 @@ def _examples() -> Iterator[File]:
         yield File(f"{SHARED}/{path}", _read(path))
 
 
-def _pykmip() -> Iterator[File]:
-    """What PyKMIP lacks, and a server of it to try things on, which the documents name."""
-    yield File(f"{DOCUMENTS}/pykmip", link=f"../../{SHARED.rpartition('/')[2]}/pykmip")
-    for path in repository.files_below("laboratory/pykmip"):
+def _beside(folder: str) -> Iterator[File]:
+    """A folder of the laboratory that the documents name: what PyKMIP lacks, with a server of it to try things on; rules that are ready."""
+    yield File(f"{DOCUMENTS}/{folder}", link=f"../../{SHARED.rpartition('/')[2]}/{folder}")
+    for path in repository.files_below(f"laboratory/{folder}"):
         yield File(f"{SHARED}/{PurePosixPath(path).relative_to('laboratory')}", _read(path))
 
 

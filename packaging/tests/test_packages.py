@@ -137,6 +137,11 @@ class InTheArchive(unittest.TestCase):
                 places = [self.top / folder / name for folder in ("lib/kmip-audit", "share/kmip-audit")]
                 self.assertTrue(any(place.exists() for place in places), f"{document.name} names laboratory/{name}")
 
+    def test_rules_are_ready_there(self) -> None:
+        for name in ("pykmip.rules", "standard-2.1.rules"):
+            path = self.top / "share/doc/kmip-audit/rules" / name
+            self.assertEqual(path.read_bytes(), (TOP / "laboratory/rules" / name).read_bytes())
+
     def test_a_server_of_pykmip_runs_from_there(self) -> None:
         for name in ("pykmip_tls.py", "pykmip_server.py"):
             path = self.top / "share/doc/kmip-audit/pykmip" / name

@@ -7,7 +7,7 @@ from pathlib import Path
 from typing import NamedTuple
 
 from ..auditor import Auditor
-from ..recording import declaration, inventory
+from ..recording import declaration, inventory, rules
 from ..recordings import DECLARATION, TRANSCRIPT, WITNESS
 from ..reporting.judging import Asking
 from ..reporting.words import make_page
@@ -32,7 +32,7 @@ class Wanted(NamedTuple):
     folder: Path
     is_empty: bool
     unique_names: bool
-    rows: list[declaration.Row]
+    rows: list[rules.Row]
     forgotten: frozenset[int]
     budget: int
 
@@ -65,15 +65,16 @@ def _report(recording: Path, page: Path, asking: Asking) -> None:
 
 def _declare(job: Job, wanted: Wanted) -> None:
     """What the server holds, as it says itself; or nothing."""
-    entries: list[bytes] = []
+    entries: list[declaration.Entry] = []
     if not wanted.is_empty:
         try:
             held = asyncio.run(inventory.held(job.server, job.context, Version(*job.version), False))
-            entries = inventory.entries({"the driver": held}, False)
+            entries = inventory.entries({"the driver": held}, False, {})
         except Trouble as trouble:
             raise Trouble(f"the server could not be asked what it holds ({trouble}); on one that holds nothing, give "
                           "--empty") from None
-    told = declaration.run(wanted.unique_names, wanted.rows, entries, str(wanted.folder / DECLARATION), False)
+    said = rules.Rules(wanted.unique_names, wanted.rows, [])
+    told = declaration.run(said, entries, str(wanted.folder / DECLARATION), False)
     print(f"declaration: {told}", flush=True)
 
 

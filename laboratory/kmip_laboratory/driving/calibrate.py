@@ -12,7 +12,7 @@ from typing import Iterator, NamedTuple, Optional
 from .. import tls
 from ..address import Address
 from ..auditor import Auditor
-from ..recording import declaration
+from ..recording import rules
 from ..recordings import TRANSCRIPT
 from ..transcript_writer import TranscriptWriter
 from ..verdicts import Verdict
@@ -76,7 +76,7 @@ class Calibration:
         self._count += 1
         folder = self._folder / f"recording-{self._count}"
         folder.mkdir()
-        record.declare(folder, engine.unique_names, [declaration.read_row(row) for row in ROWS])
+        record.declare(folder, engine.unique_names, [rules.read_row(row) for row in ROWS])
         with Server(engine, self._context(True)) as server, TranscriptWriter(str(folder / TRANSCRIPT)) as transcript:
             drive(Job(Address("127.0.0.1", server.port), self._context(False), mixes.find(mix),
                       clients=self._scale.clients, calls=self._scale.calls, seed=seed, pause=self._scale.pause),

@@ -7,7 +7,7 @@ from contextlib import contextmanager
 from pathlib import Path
 from typing import Iterator
 
-from ..recording import declaration
+from ..recording import declaration, rules
 from ..recordings import DECLARATION, TRANSCRIPT
 from ..transcript_writer import TranscriptWriter
 from ..trouble import Trouble, say
@@ -37,6 +37,6 @@ def recording(folder: Path, version: Version) -> Iterator[TranscriptWriter]:
         raise
 
 
-def declare(folder: Path, unique_names: bool, rows: list[declaration.Row]) -> None:
+def declare(folder: Path, unique_names: bool, rows: list[rules.Row]) -> None:
     """A declaration that the server was empty."""
-    declaration.run(unique_names, rows, [], str(folder / DECLARATION), False)
+    declaration.run(rules.Rules(unique_names, rows, []), [], str(folder / DECLARATION), False)

@@ -13,7 +13,7 @@ from ..address import Address, read_address
 from ..auditor import Auditor
 from ..front import DONE, TROUBLE, Parser, run_or_help
 from ..outputs import see_apart
-from ..recording import declaration, discovery
+from ..recording import discovery, rules
 from ..recording.passes import attribute_of
 from ..trouble import Trouble, say
 from . import audit, calibrate, certificates, drive, mixes, simulate, wire
@@ -204,7 +204,7 @@ def _add_audit(word: argparse.ArgumentParser) -> None:
     word.add_argument("--out", type=Path, required=True, metavar="FOLDER", help="a new folder for all files")
     word.add_argument("--empty", action="store_true", help="the server holds nothing, and need not be asked")
     word.add_argument("--unique-names", action="store_true", help="declare that live objects never share a name")
-    word.add_argument("--reason", type=declaration.read_row, action="append", default=[], metavar="NUMBER=CAUSE",
+    word.add_argument("--reason", type=rules.read_row, action="append", default=[], metavar="NUMBER=CAUSE",
                       help="a Result Reason that is given only for NotFound, WrongState or TakenName")
     word.add_argument("--forget", type=attribute_of, action="append", default=[], metavar="NAME",
                       help="take this judged attribute out of what Get Attributes tells; may be repeated")

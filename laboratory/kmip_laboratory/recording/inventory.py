@@ -13,9 +13,9 @@ from ..operations import Operation
 from ..trouble import Trouble, say
 from ..ttlv import Item, Kind
 from ..versions import OF_OLD, Version
+from .declaration import Entry
 from .questions import Failed, Questions
 
-ENTRY = 0x540034
 ATTRIBUTES = 0x420125
 KEY_BLOCK = 0x420040
 KEY_FORMAT_TYPE = 0x420042
@@ -25,6 +25,9 @@ LOCATED_ITEMS = 0x4200D5
 OBJECT_TYPE = 0x420057
 STATE = 0x42008D
 UNIQUE_IDENTIFIER = 0x420094
+
+# Who asks with the certificate of --server-cert.
+ASKED_PLAINLY = "the certificate of --server-cert"
 
 SYMMETRIC_KEY = 2
 OBJECT_TAGS = {SYMMETRIC_KEY: 0x42008F, 7: 0x420085}
@@ -54,7 +57,7 @@ SINGLE = [*OF_KEYS, INITIAL_DATE, ACTIVATION_DATE, DEACTIVATION_DATE, DESTROY_DA
 STATES = ["no State", "Pre-Active", "Active", "Deactivated", "Compromised", "Destroyed", "Destroyed Compromised"]
 
 
-# Of each object by its identifier the entry; None where it is left out.
+# Of each object by its identifier what its entry has; None where it is left out.
 Held = dict[str, Optional[bytes]]
 
 
@@ -65,24 +68,33 @@ async def held(server: Address, context: ssl.SSLContext, version: Version, with_
                 for identifier in await _identifiers(questions, version)}
 
 
-def entries(by_client: dict[str, Held], with_bytes: bool) -> list[bytes]:
-    """The entry of each object that has one by what somebody was told, and no other by what another was told. Who sees
-    an object is said where several asked."""
+def entries(by_client: dict[str, Held], with_bytes: bool, owners: dict[str, str]) -> list[Entry]:
+    """The entry of each object that has one by what somebody was told, and no other by what another was told. Where
+    several asked and one client alone is told of an object, it is that client's, if `owners` says nothing else."""
     found, by_object = [], _by_object(by_client)
     for identifier, told in by_object.items():
         if len(set(told.values())) > 1:
             say(f"object {identifier}: left out, for {' and '.join(told)} are told different things of it")
         elif told:
-            found.append(next(iter(told.values())))
-            if len(told) < len(by_client):
-                say(f"object {identifier}: of those that asked, {' and '.join(told)} alone are told of it; a "
-                    "declaration does not say whose it is")
+            owner = owners.get(identifier) or _owner(identifier, list(told), by_client)
+            found.append(Entry(next(iter(told.values())), owner))
     if len(found) < len(by_object):
         say(f"{len(by_object) - len(found)} objects are left out: where a recorded call succeeds on one of them, the "
             "auditor will say that there is no such object")
     if found and not with_bytes:
         say("the bytes of keys are left undeclared: the first Get of each will show them (--bytes asks for them)")
     return found
+
+
+def _owner(identifier: str, told: list[str], by_client: dict[str, Held]) -> Optional[str]:
+    """Whose an object is of which these are told."""
+    if len(told) == len(by_client):
+        return None
+    if len(told) == 1 and told[0] != ASKED_PLAINLY:
+        say(f"object {identifier}: of those that asked, {told[0]} alone is told of it, and is declared as its owner")
+        return told[0]
+    say(f"object {identifier}: of those that asked, {' and '.join(told)} alone are told of it; no owner is declared")
+    return None
 
 
 def _by_object(by_client: dict[str, Held]) -> dict[str, dict[str, bytes]]:
@@ -129,7 +141,7 @@ async def _entry(questions: Questions, identifier: str, with_bytes: bool) -> Opt
     parts = [named, ttlv.enumeration(OBJECT_TYPE, object_type.value), ttlv.structure(ATTRIBUTES, *_judged(told))]
     if with_bytes and told.first(DESTROY_DATE.tag, DESTROY_DATE.kind) is None:
         parts += await _key_material(questions, identifier, object_type.value)
-    return ttlv.structure(ENTRY, *parts)
+    return b"".join(parts)
 
 
 def _judged(told: Item) -> list[bytes]:

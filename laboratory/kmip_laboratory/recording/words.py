@@ -18,7 +18,7 @@ from ..sealing import NoteKind
 from ..shrinking import words as shrinking
 from ..trouble import Trouble, WrongWords, say
 from ..versions import JUDGED
-from . import capture, declaration, identities, inventory, order, passes, proxy
+from . import capture, declaration, identities, inventory, order, passes, proxy, rules
 from .admission import Admission
 from .connection import Way
 from .numbers import add_segment_words, read_count, read_milliseconds, read_seconds, read_version
@@ -113,9 +113,16 @@ def _add_declare(word: argparse.ArgumentParser) -> None:
                       "this client too, and declare what any of them is told of; or a folder of NAME.pem and NAME.key; "
                       "may be repeated")
     word.add_argument("--bytes", action="store_true", help="ask for the bytes of keys too, and declare them")
+    word.add_argument("--owner", type=_read_owner, action="append", default=[], metavar="IDENTIFIER=CLIENT",
+                      help="whose an object is that the server tells of; may be repeated")
+    word.add_argument("--rules", action="append", default=[], metavar="FILE", help="a file of rules, as "
+                      "standard-2.1.rules is one; may be repeated")
     word.add_argument("--unique-names", action="store_true", help="declare that live objects never share a name")
-    word.add_argument("--reason", type=declaration.read_row, action="append", default=[], metavar="NUMBER=CAUSE",
+    word.add_argument("--reason", type=rules.read_row, action="append", default=[], metavar="NUMBER=CAUSE",
                       help="a Result Reason that is given only for this cause: NotFound, WrongState or TakenName")
+    word.add_argument("--allow", type=rules.read_allow_line, action="append", default=[],
+                      metavar="OPERATION,STATE=WORD", help="the server's own word for an operation in a state: must, "
+                      "may or not, as Destroy,Active=not")
     word.add_argument("--version", type=read_version, metavar="MAJOR.MINOR", default=JUDGED,
                       help="ask in this version, from 1.0 on (2.1)")
     word.add_argument("--out", required=True, metavar="DECLARATION", help="a new file for it")
@@ -194,19 +201,27 @@ def _keylog(words: argparse.Namespace) -> None:
         words.out, bool(words.minor), _segments(words), clock, without_end, Keeping(words.format == 2)))
 
 
+def _read_owner(words: str) -> tuple[str, str]:
+    identifier, _, client = words.rpartition("=")
+    if not identifier or not client:
+        raise argparse.ArgumentTypeError(f"{words!r} is no IDENTIFIER=CLIENT, as 42=alice is one")
+    return identifier, client
+
+
 def _declare(words: argparse.Namespace) -> None:
     shown = identities.read_identities(words.identities)
-    see_apart([words.out], [words.server_cert, words.server_key, words.server_ca,
+    see_apart([words.out], [words.server_cert, words.server_key, words.server_ca, *words.rules,
                             *(path for each in shown for path in (each.certificate, each.key))])
     see_that_free(words.out, words.force, OUT_HINT)
-    entries: list[bytes] = []
+    said = rules.together(words.rules, rules.Rules(words.unique_names, words.reason, words.allow))
+    entries: list[declaration.Entry] = []
     if words.server:
         if words.version != JUDGED:
             say(f"the server is asked in version {words.version}")
         by_client = {name: asyncio.run(inventory.held(words.server, context, words.version, words.bytes))
                      for name, context in _asking(words, shown).items()}
-        entries = inventory.entries(by_client, words.bytes)
-    print(declaration.run(words.unique_names, words.reason, entries, words.out, words.force))
+        entries = inventory.entries(by_client, words.bytes, dict(words.owner))
+    print(declaration.run(said, entries, words.out, words.force))
 
 
 def _asking(words: argparse.Namespace, shown: list[identities.Identity]) -> dict[str, ssl.SSLContext]:
@@ -216,7 +231,7 @@ def _asking(words: argparse.Namespace, shown: list[identities.Identity]) -> dict
         raise Trouble("to ask a server, give --server-ca, and --server-cert with --server-key, or --as")
     asking = identities.contexts(shown, words.server_ca)
     if all(pair):
-        asking = {"the certificate of --server-cert": tls.toward_server(*pair, words.server_ca), **asking}
+        asking = {inventory.ASKED_PLAINLY: tls.toward_server(*pair, words.server_ca), **asking}
     return asking
 
 

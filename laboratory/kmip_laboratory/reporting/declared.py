@@ -5,7 +5,7 @@ from __future__ import annotations
 from typing import NamedTuple
 
 from ..driving.store import Thing
-from ..recording.declaration import Cause, Row
+from ..recording.rules import Cause, Row
 from ..records import read_file, records
 from ..tags import FileTag, Tag
 from ..ttlv import Item, Kind

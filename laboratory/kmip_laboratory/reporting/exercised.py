@@ -8,7 +8,7 @@ from typing import Counter as Counts, Iterable, Optional
 from ..calls import Status
 from ..enumerations import number_name
 from ..operations import Operation
-from ..recording.declaration import Cause, Row
+from ..recording.rules import Cause, Row
 from ..tag_names import TAG_NAMES
 from ..tags import JUDGED_ATTRIBUTES, Tag
 from ..ttlv import Item, Kind

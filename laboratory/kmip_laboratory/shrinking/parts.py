@@ -10,7 +10,7 @@ from typing import Iterable, NamedTuple
 from ..calls import Call, Name, Piece, Status, names
 from ..operations import Operation
 from ..records import File, read_file, records, which
-from ..recording.inventory import ENTRY
+from ..recording.declaration import ENTRY
 from ..tags import Tag
 from ..trouble import Trouble
 from ..ttlv import Kind

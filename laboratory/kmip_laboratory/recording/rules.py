@@ -1,0 +1,157 @@
+"""Rules of a server: which reasons have a cause, whether names are unique, and what a state allows.
+
+A file of rules says one a line, as the words of `declare` do, without their dashes: `unique-names`,
+`reason 0x37=NotFound`, `allow Destroy,Active=not`. What stands behind `#` is for whoever reads it.
+"""
+
+from __future__ import annotations
+
+import argparse
+from enum import IntEnum
+from pathlib import Path
+from typing import NamedTuple
+
+from ..trouble import Trouble
+
+
+class Cause(IntEnum):
+    """The causes of the auditor's table."""
+
+    NotFound = 1
+    WrongState = 2
+    TakenName = 3
+
+
+class Act(IntEnum):
+    """The rows of the auditor's table of states."""
+
+    Get = 1
+    GetAttributes = 2
+    Activate = 3
+    RevokeCompromised = 4
+    RevokeOther = 5
+    Destroy = 6
+
+
+class State(IntEnum):
+    """The states of an object."""
+
+    PreActive = 1
+    Active = 2
+    Deactivated = 3
+    Compromised = 4
+    Destroyed = 5
+    DestroyedCompromised = 6
+
+
+class Allow(IntEnum):
+    """What a state says of an operation: it succeeds, it may, or it can't."""
+
+    must = 1
+    may = 2
+    # `not` is a word of Python
+    never = 3
+
+
+NEVER = "not"
+GONE = (State.Destroyed, State.DestroyedCompromised)
+# The cells of the auditor's table that no rule frees.
+FIXED = {
+    Act.Get: GONE,
+    Act.GetAttributes: (),
+    Act.Activate: tuple(it for it in State if it != State.PreActive),
+    Act.RevokeCompromised: (),
+    Act.RevokeOther: (State.PreActive, State.Compromised, *GONE),
+    Act.Destroy: GONE,
+}
+
+
+class Row(NamedTuple):
+    """A refusal with this Result Reason is founded only where this cause holds, or that of another row with it."""
+
+    reason: int
+    cause: Cause
+
+
+class AllowLine(NamedTuple):
+    """The server's own word for a cell of the table of states."""
+
+    act: Act
+    state: State
+    allow: Allow
+
+
+class Rules(NamedTuple):
+    """The rules of a server."""
+
+    unique_names: bool
+    rows: list[Row]
+    allow_lines: list[AllowLine]
+
+
+def read_row(words: str) -> Row:
+    """The row that NUMBER=CAUSE says; the number is decimal, or hexadecimal behind 0x."""
+    number, _, cause = words.partition("=")
+    try:
+        row = Row(int(number, 0), Cause[cause])
+    except (ValueError, KeyError):
+        row = Row(-1, Cause.NotFound)
+    if not 0 <= row.reason < 2**32:
+        causes = ", ".join(cause.name for cause in Cause)
+        raise argparse.ArgumentTypeError(f"{words!r} is no NUMBER=CAUSE, as 1=NotFound is one; causes are {causes}")
+    return row
+
+
+def read_allow_line(words: str) -> AllowLine:
+    """The line that OPERATION,STATE=WORD says."""
+    cell, _, word = words.partition("=")
+    act, _, state = cell.partition(",")
+    try:
+        line = AllowLine(Act[act], State[state], Allow.never if word == NEVER else Allow[word])
+    except KeyError:
+        acts, states = (", ".join(it.name for it in each) for each in (Act, State))
+        raise argparse.ArgumentTypeError(f"{words!r} is no OPERATION,STATE=WORD, as Destroy,Active=not is one; "
+                                         f"operations are {acts}; states are {states}; words are must, may, "
+                                         "not") from None
+    if line.state in FIXED[line.act]:
+        raise argparse.ArgumentTypeError(f"{words!r}: an object in state {state} is never open to {act}, and no rule "
+                                         "changes that: leave the line out")
+    return line
+
+
+def read_file(path: str) -> Rules:
+    """The rules that the lines of a file say."""
+    try:
+        lines = Path(path).read_text("utf-8").splitlines()
+    except OSError as error:
+        raise Trouble(f"{path} can't be read: {error.strerror}; name a file of rules") from None
+    except UnicodeDecodeError:
+        raise Trouble(f"{path} is no text in UTF-8: name a file of rules") from None
+    unique_names, rows, allow_lines = False, [], []
+    for place, line in enumerate(lines, 1):
+        word, _, said = line.partition("#")[0].strip().partition(" ")
+        try:
+            if word == "unique-names" and not said:
+                unique_names = True
+            elif word == "reason":
+                rows.append(read_row(said.strip()))
+            elif word == "allow":
+                allow_lines.append(read_allow_line(said.strip()))
+            elif word:
+                raise argparse.ArgumentTypeError(f"{line.strip()!r} is no rule: a line says unique-names, reason "
+                                                 "NUMBER=CAUSE or allow OPERATION,STATE=WORD")
+        except argparse.ArgumentTypeError as trouble:
+            raise Trouble(f"{path}, line {place}: {trouble}") from None
+    return Rules(unique_names, rows, allow_lines)
+
+
+def together(files: list[str], said: Rules) -> Rules:
+    """The rules of files and of words. A cell has one word: two that differ are refused."""
+    every = [*map(read_file, files), said]
+    lines = [line for rules in every for line in rules.allow_lines]
+    cells = {(line.act, line.state): line for line in lines}
+    for line in lines:
+        if cells[line.act, line.state] != line:
+            raise Trouble(f"{line.act.name} in state {line.state.name} has two words: leave one of them away")
+    return Rules(any(rules.unique_names for rules in every), [row for rules in every for row in rules.rows],
+                 list(cells.values()))
