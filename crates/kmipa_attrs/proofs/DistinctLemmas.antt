@@ -1,5 +1,5 @@
 -- Each name once: the same names, none twice; and a list without repeats stays as it is.
-use Rattle.std.proofs.Common.{◌≡◌, ◌<◌, ◌↔◌, ◌||◌, ℕ, zero, suc, length, get_or, Bool, true, false, not, cond, List, [], ◌∷◌, map, refl, sym, ap, ◌∙◌, subst, inl, inr, ◌⊎◌, arith}
+use Rattle.std.proofs.Common.{◌≡◌, ◌<◌, ◌↔◌, ◌||◌, ◌++◌, ℕ, zero, suc, length, take, get_or, Bool, true, false, not, cond, List, [], ◌∷◌, map, refl, sym, ap, ◌∙◌, subst, inl, inr, ◌⊎◌, arith}
 use Rattle.std.proofs.lemmas.List.Elements.{Contains-append_right}
 use Rattle.std.specs.List.{Contains}
 use Rattle.kmipa_attrs.specs.Sets.{NameOf, name_of}
@@ -128,3 +128,49 @@ once_passed whole left rest name e fresh same = (
   λ h. same.0 (subst NoneTwice (sym e) (has_not_there (map name_of rest) (name_of name) fresh, h)),
   λ h. let here = subst NoneTwice e (same.1 h) in here.1,
 )
+
+-- ---- names that are looked up among those before them
+
+there : (names : List Name) (i : ℕ) (d : Name) → i < length names → Contains (map name_of names) (name_of (get_or names i d))
+there [] i d lt = absurd (omega arith)
+there (x ∷ names) zero d lt = contains_first (name_of x) (map name_of names)
+there (x ∷ names) (suc i) d lt = contains_behind (name_of x) (map name_of names) (name_of (get_or names i d)) (there names i d (omega arith))
+
+pub repeats_at : (names : List Name) (i : ℕ) (d : Name) → i < length names → has (map name_of (take i names)) (name_of (get_or names i d)) ≡ true → NoneTwice names → ⊥
+repeats_at [] i d lt e h = omega arith
+repeats_at (x ∷ names) zero d lt e h = cc
+repeats_at (x ∷ names) (suc i) d lt e h = by (same_name (name_of x) n) refl e (repeats_at names i d (omega arith))
+  where
+    n : NameOf
+    n = name_of (get_or names i d)
+
+    by : (b : Bool) → same_name (name_of x) n ≡ b → (b || has (map name_of (take i names)) n) ≡ true → (has (map name_of (take i names)) n ≡ true → NoneTwice names → ⊥) → ⊥
+    by true is e rest = h.0 (let P : NameOf → Type 0 = Contains (map name_of names) in subst P (sym (same_name-true (name_of x) n is)) (there names i d (omega arith)))
+    by false is e rest = rest e h.1
+
+contains_last : (names : List NameOf) (n m : NameOf) → Contains (names ++ n ∷ []) m → Contains names m ⊎ (n ≡ m)
+contains_last [] n m c = elim (contains_cases n [] m c) [
+  | inl p ↦ inr p
+  | inr p ↦ absurd (contains_nothing m p)
+]
+contains_last (x ∷ names) n m c = elim (contains_cases x (names ++ n ∷ []) m c) [
+  | inl p ↦ inl (let P : NameOf → Type 0 = Contains (x ∷ names) in subst P p (contains_first x names))
+  | inr p ↦ elim (contains_last names n m p) [
+    | inl q ↦ inl (contains_behind x names m q)
+    | inr q ↦ inr q
+  ]
+]
+
+pub push_differs : (names : List NameOf) (n : NameOf) → HasNoRepeats names → has names n ≡ false → HasNoRepeats (names ++ n ∷ [])
+push_differs [] n h e = (contains_nothing n, tt)
+push_differs (m ∷ names) n h e = by (same_name m n) refl e (push_differs names n h.1)
+  where
+    by : (b : Bool) → same_name m n ≡ b → (b || has names n) ≡ false → (has names n ≡ false → HasNoRepeats (names ++ n ∷ [])) → HasNoRepeats (m ∷ names ++ n ∷ [])
+    by true is e rest = absurd cc
+    by false is e rest = (
+      λ c. elim (contains_last names n m c) [
+        | inl q ↦ h.0 q
+        | inr q ↦ let clash : false ≡ true = sym is ∙ ap (same_name m) q ∙ same_name-self m in cc
+      ],
+      rest e,
+    )

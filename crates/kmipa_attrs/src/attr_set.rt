@@ -63,7 +63,7 @@ impl AttrSet {
     pub fn names_differ(&self) -> bool
         ensures { IsTrue result ↔ HasNoRepeats (attributes_of self.now).names }
     {
-        differ(self.names.as_slice())
+        differ(*self.names.allocator(), self.names.as_slice())
     }
 
     /// The same set, with names of its own.

@@ -87,6 +87,16 @@ fn lent_name<'a>(view: &View<'a>) -> Result<LentName<'a>, AttrFault>
 }
 
 impl<'a> LentName<'a> {
+    /// A name, lent.
+    fn of(name: &'a Name) -> LentName<'a>
+        ensures { record { value = result.value.now; kind = result.kind } ≡ name_of name.now }
+    {
+        LentName {
+            value: name.value.as_str(),
+            kind: name.kind,
+        }
+    }
+
     fn copy(self, alloc: Global) -> Result<Name, AllocError>
         ensures { IfOk result (λ name. name_of name ≡ record { value = self.entry.value.now; kind = self.entry.kind }) }
     {
@@ -106,8 +116,33 @@ fn add_name(names: &mut SmallVec<Name, NAMES>, name: Name) -> Result<(), AllocEr
     Ok(())
 }
 
-/// Whether no name stands again after itself.
-pub(crate) fn differ(names: &[Name]) -> bool
+/// Whether no name stands again after itself. Many are looked up among those before them, where there is memory for that.
+pub(crate) fn differ(alloc: Global, names: &[Name]) -> bool
+    ensures { IsTrue result ↔ HasNoRepeats (map name_of names.now) }
+{
+    if names.len() > FEW {
+        if let Ok(differ) = many_differ(alloc, names) {
+            return differ;
+        }
+    }
+    few_differ(names)
+}
+
+/// The same, each looked up among those before it.
+fn many_differ(alloc: Global, names: &[Name]) -> Result<bool, AllocError>
+    ensures { IfOk result (λ differ. IsTrue differ ↔ HasNoRepeats (map name_of names.now)) }
+{
+    let mut seen = BTreeSet::new(alloc);
+    for name in names {
+        if !seen.insert(LentName::of(name))? {
+            return Ok(false);
+        }
+    }
+    Ok(true)
+}
+
+/// The same without memory: each is compared with those behind it.
+fn few_differ(names: &[Name]) -> bool
     ensures { IsTrue result ↔ HasNoRepeats (map name_of names.now) }
 {
     let mut left = names;

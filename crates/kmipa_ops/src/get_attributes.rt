@@ -1,6 +1,6 @@
 //! Get Attributes.
 
-ghost use Rattle.std.specs.Prelude.{◌≡◌, ◌<◌, IfOk, IfSome, length, find, option_and_then, option_map};
+ghost use Rattle.std.specs.Prelude.{◌≡◌, ◌<◌, IfOk, IfSome, Some, length, find, option_and_then, option_map};
 ghost use Rattle.std.specs.Ordering.{int_eq};
 ghost use Rattle.kmipa_attrs.specs.Sets.{attributes_of};
 ghost use Rattle.kmipa_object.specs.Inventory.{card_of};
@@ -9,12 +9,12 @@ ghost use Rattle.kmipa_store.specs.Ledger.{cards_of};
 ghost use Rattle.kmipa_msgs.specs.Messages.{get_attributes_of, gets_attributes, got_attributes_of, maybe_lent, payload_of};
 ghost use Rattle.kmipa_ops.specs.Meant.{place_meant};
 ghost use Rattle.kmipa_ops.specs.Objects.{clash};
-ghost use Rattle.kmipa_ops.specs.GetAttributes.{seen_attributes, attributes_speak, get_attributes_speaks, is_foreign_date, shows_foreign, shows_other_date, shows_other_value};
+ghost use Rattle.kmipa_ops.specs.GetAttributes.{seen_attributes, attributes_speak, get_attributes_speaks, has_stranger, is_foreign_date, shows_foreign, shows_other_date, shows_other_value};
 ghost use Rattle.kmipa_ops.specs.Whys.{whys};
 
 use crate::deed::Deed;
 use crate::echo::{clash_lengths, clash_numbers, is_other_id, is_other_number};
-use crate::names::finds_stranger;
+use crate::names::lacks_at;
 use crate::objects::is_excluded;
 use crate::operation_row::{Effect, OperationRow, Subject};
 use crate::placeholder::Placeholder;
@@ -76,7 +76,11 @@ impl<'a> Deed for GetAttributes<'a> {
         if is_excluded(rules, Act::GetAttributes, state) {
             return Ok(Some(Why::WrongState));
         }
-        why_not_attributes(alloc, ledger.at(place), state, about, self, shown(payload))
+        let Some(got) = shown(payload) else {
+            return Ok(None);
+        };
+        let is_strange = lacks_at(ledger, got.attributes.names.as_slice(), place);
+        why_not_attributes(alloc, ledger.at(place), state, about, self, got, is_strange)
     }
 
     fn leave<L: Ledger>(
@@ -102,24 +106,23 @@ fn shown<'a>(payload: &'a Option<Payload<'a>>) -> Option<&'a GotAttributes<'a>>
     }
 }
 
-/// The lowest reason against an answer about an object.
+/// The lowest reason against an answer about an object, where it is known whether it shows a name that the object doesn't have.
 fn why_not_attributes(
     alloc: Global,
     object: &Object,
     state: State,
     about: Option<&str>,
     asked: &GetAttributes,
-    shown: Option<&GotAttributes>,
+    got: &GotAttributes,
+    is_strange: bool,
 ) -> Result<Option<Why>, AllocError>
+    requires { is_strange ≡ has_stranger (card_of object.now).given.names (got_attributes_of got.now).attributes.names }
     ensures { IfOk result
         (λ why. why
         ≡ attributes_speak (card_of object.now) state (maybe_lent about.entry) (get_attributes_of asked.now)
-        (option_map (λ got. got_attributes_of got.now) shown.entry)) }
+        (Some (got_attributes_of got.now))) }
 {
-    let Some(got) = shown else {
-        return Ok(None);
-    };
-    if shows_foreign(alloc, object, state, &got.attributes)? {
+    if shows_foreign(object, state, &got.attributes, is_strange) {
         return Ok(Some(Why::AttributeDiffers));
     }
     if lacks_required(alloc, asked, object, &got.attributes)? {
@@ -132,25 +135,11 @@ fn why_not_attributes(
 }
 
 /// Whether something is shown that isn't the object's in this state.
-fn shows_foreign(
-    alloc: Global,
-    object: &Object,
-    state: State,
-    shown: &AttrSet,
-) -> Result<bool, AllocError>
-    ensures { IfOk result
-        (λ is_foreign. is_foreign ≡ shows_foreign (card_of object.now) state (attributes_of shown.now)) }
+fn shows_foreign(object: &Object, state: State, shown: &AttrSet, is_strange: bool) -> bool
+    requires { is_strange ≡ has_stranger (card_of object.now).given.names (attributes_of shown.now).names }
+    ensures { result ≡ shows_foreign (card_of object.now) state (attributes_of shown.now) }
 {
-    let is_other_named = finds_stranger(
-        alloc,
-        object.given.names.as_slice(),
-        shown.names.as_slice(),
-    )?;
-    Ok(
-        is_other_named
-            || shows_other_value(object, state, shown)
-            || shows_other_date(&object.life, shown),
-    )
+    is_strange || shows_other_value(object, state, shown) || shows_other_date(&object.life, shown)
 }
 
 fn shows_other_value(object: &Object, state: State, shown: &AttrSet) -> bool

@@ -1,7 +1,7 @@
 use Rattle.std.proofs.Common.{sym, ◌∙◌}
 use Rattle.kmipa_attrs.proofs.DistinctLemmas.{again_repeats, once_passed}
 use Rattle.kmipa_attrs.proofs.NameLemmas.{has_of}
-use Rattle.kmipa_attrs.proofs.names.differ.Goals as goal
+use Rattle.kmipa_attrs.proofs.names.few_differ.Goals as goal
 
 pub returns-then-contains : goal.returns-then-contains
 returns-then-contains c =
