@@ -24,7 +24,7 @@ struct Changes {
 }
 
 /// The chains of groups that change the object one after the other, each with all that are needed; none where there are too many.
-pub fn chains_of<L: Ledger>(
+pub(crate) fn chains_of<L: Ledger>(
     alloc: Global,
     ledger: &mut L,
     recording: &Recording<'_, '_>,

@@ -28,7 +28,7 @@ pub struct Choice {
 }
 
 /// Adds the choices of an object among its lives, and of its readers among slots.
-pub fn add_choices(
+pub(crate) fn add_choices(
     alloc: Global,
     choices: &mut Vec<Choice>,
     times: &[Time],

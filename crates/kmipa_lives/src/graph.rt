@@ -53,7 +53,7 @@ struct Bounds {
 
 impl Graph {
     /// A graph without edges over these nodes, each of which stands there once.
-    pub fn new(alloc: Global, order: Vec<usize>, left: u64) -> Result<Graph, AllocError> {
+    pub(crate) fn new(alloc: Global, order: Vec<usize>, left: u64) -> Result<Graph, AllocError> {
         let count = order.len();
         let mut place = vec![in alloc; 0usize; count]?;
         for (number, node) in order.iter().enumerate() {
@@ -76,13 +76,13 @@ impl Graph {
 
     /// The place of a node in the order.
     #[inline(always)]
-    pub fn place(&self, node: usize) -> usize {
+    pub(crate) fn place(&self, node: usize) -> usize {
         at(&self.place, node)
     }
 
     /// Adds an edge, and answers its number; the order is mended where it says otherwise. None where a way leads back already:
     /// `blamed` says whose edges are on it.
-    pub fn add(
+    pub(crate) fn add(
         &mut self,
         from: usize,
         to: usize,
@@ -110,14 +110,14 @@ impl Graph {
     }
 
     /// Takes an edge out.
-    pub fn remove(&mut self, number: usize) {
+    pub(crate) fn remove(&mut self, number: usize) {
         if let Some(edge) = self.edges.get_mut(number.wrapping_sub(1)) {
             edge.is_there = false;
         }
     }
 
     /// Whether a way leads from one node to another.
-    pub fn leads(&mut self, from: usize, to: usize) -> Result<bool, AllocError> {
+    pub(crate) fn leads(&mut self, from: usize, to: usize) -> Result<bool, AllocError> {
         if self.place(to) < self.place(from) {
             return Ok(false);
         }

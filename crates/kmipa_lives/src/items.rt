@@ -69,7 +69,7 @@ enum Aim<'b> {
 
 impl<'b> Items<'b> {
     /// Those of a declaration and of calls, but for the objects that a Locate leaves out.
-    pub fn of<'a>(
+    pub(crate) fn of<'a>(
         alloc: Global,
         calls: &'b [Call<'a>],
         declaration: &'b Declaration,

@@ -33,7 +33,7 @@ struct Span {
 }
 
 /// The lives of the object; none where it has none, or too many.
-pub fn lives_of<L: Ledger>(
+pub(crate) fn lives_of<L: Ledger>(
     alloc: Global,
     ledger: &mut L,
     recording: &Recording<'_, '_>,
@@ -175,7 +175,7 @@ fn note_slot(slots: &mut Vec<u64>, group: usize, slot: usize, fits: bool) {
 }
 
 /// The bit of a slot.
-pub fn bit_of(slot: usize) -> u64 {
+pub(crate) fn bit_of(slot: usize) -> u64 {
     if slot < 64 { 1u64 << slot } else { 0 }
 }
 

@@ -33,7 +33,7 @@ struct Bearer<'b> {
 
 /// Notes the objects that each Locate leaves out though they may fit it, and drops those that it lists wherever it comes; or answers that
 /// these are too many.
-pub fn leave_out(
+pub(crate) fn leave_out(
     alloc: Global,
     items: &mut Items<'_>,
     recording: &Recording<'_, '_>,

@@ -29,7 +29,7 @@ enum Tried {
 }
 
 impl Mending {
-    pub fn new(alloc: Global, graph: Graph, choices: Vec<Choice>) -> Mending {
+    pub(crate) fn new(alloc: Global, graph: Graph, choices: Vec<Choice>) -> Mending {
         Mending {
             alloc,
             graph,
@@ -38,7 +38,7 @@ impl Mending {
     }
 
     /// Takes choices until all are met; or gives up.
-    pub fn settle(&mut self) -> Result<bool, AllocError> {
+    pub(crate) fn settle(&mut self) -> Result<bool, AllocError> {
         if !self.narrow_all()? {
             return Ok(false);
         }

@@ -23,7 +23,11 @@ struct Sorted {
 }
 
 /// The graph of the times of calls; none where they contradict each other. So many edges may be looked at in it.
-pub fn graph_of(alloc: Global, times: &[Time], left: u64) -> Result<Option<Graph>, AllocError> {
+pub(crate) fn graph_of(
+    alloc: Global,
+    times: &[Time],
+    left: u64,
+) -> Result<Option<Graph>, AllocError> {
     let sorted = Sorted::of(alloc, times)?;
     let mut graph = Graph::new(alloc, sorted.nodes(alloc)?, left)?;
     for call in 0..times.len() {

@@ -37,7 +37,7 @@ pub struct Spreads {
 
 impl Spreads {
     /// Those of so many objects, by the items about them.
-    pub fn of(
+    pub(crate) fn of(
         alloc: Global,
         recording: &Recording<'_, '_>,
         touches: &[Touch],
@@ -65,7 +65,7 @@ impl Spreads {
 
     /// Whether what a call sees of an object may depend on the order: it may come before a change or behind it, or changes of the
     /// object may have come in either order.
-    pub fn are_open(&self, times: &[Time], object: usize, time: Time) -> bool {
+    pub(crate) fn are_open(&self, times: &[Time], object: usize, time: Time) -> bool {
         match self.objects.get(object) {
             Some(spread) => {
                 spread.is_tangled

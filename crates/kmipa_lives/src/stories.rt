@@ -36,7 +36,7 @@ pub struct Story<'s> {
 
 impl<'s> Story<'s> {
     /// That of these touches, which stand call by call.
-    pub fn of(
+    pub(crate) fn of(
         alloc: Global,
         recording: &Recording<'_, '_>,
         id: &'s str,
@@ -58,7 +58,7 @@ impl<'s> Story<'s> {
     }
 
     /// The items of a group.
-    pub fn items(&self, group: usize) -> &[Touch] {
+    pub(crate) fn items(&self, group: usize) -> &[Touch] {
         match self.groups.get(group) {
             Some(group) => self.touches.get(group.from..group.to).unwrap_or(&[]),
             None => &[],
@@ -66,7 +66,7 @@ impl<'s> Story<'s> {
     }
 
     /// When the call of a group was.
-    pub fn time(&self, times: &[Time], group: usize) -> Time {
+    pub(crate) fn time(&self, times: &[Time], group: usize) -> Time {
         match self.groups.get(group) {
             Some(group) => time_at(times, group.call),
             None => time_at(times, usize::MAX),
@@ -101,7 +101,7 @@ impl Group {
 }
 
 /// Whether an item may change the object that it is about.
-pub fn may_change(recording: &Recording<'_, '_>, touch: Touch) -> bool {
+pub(crate) fn may_change(recording: &Recording<'_, '_>, touch: Touch) -> bool {
     effect_of(recording, touch) != Effect::None
 }
 

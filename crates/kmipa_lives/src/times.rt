@@ -20,13 +20,13 @@ pub struct Time {
 impl Time {
     /// Whether a call has to be taken before another one: it ended before that began, or its stamp is less.
     #[inline(always)]
-    pub fn is_before(self, other: Time) -> bool {
+    pub(crate) fn is_before(self, other: Time) -> bool {
         self.end < other.begin || self.stamp < other.stamp
     }
 }
 
 /// When each call was; none where one is open.
-pub fn times_of(alloc: Global, calls: &[Call]) -> Result<Option<Vec<Time>>, AllocError> {
+pub(crate) fn times_of(alloc: Global, calls: &[Call]) -> Result<Option<Vec<Time>>, AllocError> {
     let mut times = Vec::with_capacity(alloc, calls.len())?;
     for call in calls {
         match time_of(call) {
@@ -60,7 +60,7 @@ fn is_undone(request: &Request, response: &Response) -> bool {
 
 /// When the call at a place was; at no time where there is none.
 #[inline(always)]
-pub fn time_at(times: &[Time], place: usize) -> Time {
+pub(crate) fn time_at(times: &[Time], place: usize) -> Time {
     match times.get(place) {
         Some(time) => *time,
         None => Time {

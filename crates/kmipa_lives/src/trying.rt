@@ -12,7 +12,7 @@ use kmipa_store::Ledger;
 use std::alloc::{AllocError, Global};
 
 /// Whether a group of items is possible behind a chain of groups, and changes the object.
-pub fn try_change<L: Ledger>(
+pub(crate) fn try_change<L: Ledger>(
     alloc: Global,
     ledger: &mut L,
     recording: &Recording<'_, '_>,
@@ -53,7 +53,7 @@ fn is_changed_behind<L: Ledger>(
 }
 
 /// Whether a group of items is possible, and leaves the object as it is.
-pub fn try_reader<L: Ledger>(
+pub(crate) fn try_reader<L: Ledger>(
     alloc: Global,
     ledger: &mut L,
     recording: &Recording<'_, '_>,
@@ -91,7 +91,7 @@ fn is_left_by<L: Ledger>(
 }
 
 /// Takes the groups of a chain one after the other, as far as they are possible; and answers whether all are.
-pub fn take_chain<L: Ledger>(
+pub(crate) fn take_chain<L: Ledger>(
     alloc: Global,
     ledger: &mut L,
     recording: &Recording<'_, '_>,

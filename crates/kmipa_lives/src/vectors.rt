@@ -2,7 +2,7 @@
 
 /// The number at a place; 0 where there is none.
 #[inline(always)]
-pub fn at(numbers: &[usize], place: usize) -> usize {
+pub(crate) fn at(numbers: &[usize], place: usize) -> usize {
     match numbers.get(place) {
         Some(number) => *number,
         None => 0,
@@ -11,7 +11,7 @@ pub fn at(numbers: &[usize], place: usize) -> usize {
 
 /// Writes a number at a place, if there is one.
 #[inline(always)]
-pub fn put(numbers: &mut Vec<usize>, place: usize, number: usize) {
+pub(crate) fn put(numbers: &mut Vec<usize>, place: usize, number: usize) {
     if place < numbers.len() {
         numbers[place] = number;
     }
