@@ -1,6 +1,8 @@
 pub mod AppendLemmas
+mod DateLemmas
 mod FrontLemmas
 mod InputLemmas
+pub mod KnowingLemmas
 mod LawLemmas
 pub mod LineLemmas
 mod PrintLemmas

@@ -14,10 +14,12 @@ use Rattle.kmipa_record.specs.declared.declaration.Declaration.{Declaration}
 use Rattle.kmipa_record.specs.declared.transcript.Transcript.{Transcript}
 use Rattle.kmipa_record.specs.declared.witness.Witness.{Witness}
 use Rattle.kmipa_check.specs.Audits.{AreAccepted}
+use Rattle.kmipa_check.specs.declared.auditing.AuditFault.{AuditFault}
 use Rattle.kmipa_check.specs.declared.fault.CheckFault.{CheckFault}
 use Rattle.kmipa_search.specs.Found.{Finds}
 use Rattle.kmipa_search.specs.declared.found.Found.{Found}
 use Rattle.kmipa_search.specs.declared.found.Found.TheVariants.{Yes, GaveUp}
+use Rattle.kmipa_runs.specs.Lines.{PrintsFault}
 use Rattle.kmipa_runs.specs.Searches.{found_status, found_text, forced_text, AreSearched, AreUnsearched, Makes, PrintsSearch, SearchesRecords}
 use Rattle.kmipa_runs.specs.Statuses.{IsSilent}
 use Rattle.kmipa_runs.specs.declared.lines.Lines.{Lines}
@@ -111,3 +113,9 @@ done_is_accepted searched t d budget asked said lines made a (inl p) done = go s
           witness = subst M e p.2;
           accepted = (subst F e a.found).0;
         }
+
+-- where nothing is made, what is printed of a fault is what is printed of a search that ends with it
+pub fault_ends_search : (fault : AuditFault) (said : Status) (lines made : List ℕ) → made ≡ [] → PrintsFault fault said lines ⊎ IsSilent said lines
+    → PrintsSearch (Err fault) said lines made ⊎ (IsSilent said lines × (made ≡ []))
+fault_ends_search fault said lines made none (inl prints) = inl (prints, none)
+fault_ends_search fault said lines made none (inr silent) = inr (silent, none)

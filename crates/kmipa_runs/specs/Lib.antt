@@ -1,7 +1,9 @@
 pub mod Dates
 pub mod Inputs
+pub mod Knowing
 pub mod Lines
 pub mod Notes
+pub mod Sealing
 pub mod Searches
 pub mod Shown
 pub mod Statuses

@@ -24,7 +24,7 @@ use Rattle.kmipa_check.specs.declared.verdict.Refused.{Refused}
 use Rattle.kmipa_check.specs.declared.verdict.Verdict.{Verdict}
 use Rattle.kmipa_check.specs.declared.verdict.Verdict.TheVariants as verdict
 use Rattle.kmipa_stream.specs.Streams.{WasAnsweredAt}
-use Rattle.kmipa_runs.specs.Dates.{HasDate}
+use Rattle.kmipa_runs.specs.Dates.{TellsSecond}
 use Rattle.kmipa_runs.specs.Statuses.{IsSilent}
 use Rattle.kmipa_runs.specs.declared.status.Status.{Status}
 use Rattle.kmipa_runs.specs.declared.status.Status.TheVariants as status
@@ -90,7 +90,7 @@ fault_status (audit.Check fault) = check_status fault
 abbrev pub PrintsDate : Option ℤ → List ℕ → Type 0
 PrintsDate None lines = lines ≡ []
 PrintsDate (Some second) lines =
-    (date : List ℕ) × (¬ (HasDate second) → date ≡ signed_decimal second) × (lines ≡ line (codes "at " ∷ date ∷ []))
+    (date : List ℕ) × TellsSecond second date × (lines ≡ line (codes "at " ∷ date ∷ []))
 
 -- what is printed of a verdict: after a no the date of this moment
 abbrev pub PrintsStamped : Verdict → Option ℤ → Status → List ℕ → Type 0

@@ -17,6 +17,7 @@ use Rattle.kmipa_search.specs.Found.{Finds}
 use Rattle.kmipa_search.specs.declared.found.Found.{Found}
 use Rattle.kmipa_search.specs.declared.found.Found.TheVariants.{Yes, GaveUp}
 use Rattle.kmipa_runs.specs.Lines.{line, PrintsFault}
+use Rattle.kmipa_runs.specs.declared.searched.Looked.{Looked}
 use Rattle.kmipa_runs.specs.declared.searched.Searched.{Searched}
 use Rattle.kmipa_runs.specs.declared.status.Status.{Status}
 use Rattle.kmipa_runs.specs.declared.status.Status.TheVariants as status
@@ -95,6 +96,11 @@ SearchFails t d failed_t failed_d (audit.Check f) = AreUnsearched f t d
 abbrev pub SearchesFiles : List ℕ → List ℕ → Bool → Bool → ℕ → Bool → Result Searched AuditFault → Type 0
 SearchesFiles t d failed_t failed_d budget asked (Ok searched) = AreSearched searched t d budget asked
 SearchesFiles t d failed_t failed_d budget asked (Err fault) = SearchFails t d failed_t failed_d fault
+
+-- what was found without what the transcript is known by
+abbrev pub searched_alone : Result Looked AuditFault → Result Searched AuditFault
+searched_alone (Ok looked) = Ok looked.searched
+searched_alone (Err fault) = Err fault
 
 -- ---- what is made and printed
 

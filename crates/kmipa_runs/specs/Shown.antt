@@ -10,7 +10,7 @@ use Rattle.kmipa_ttlv.specs.Spelling.{Spells}
 use Rattle.kmipa_ttlv.specs.declared.view.ViewValue.{ViewValue}
 use Rattle.kmipa_ttlv.specs.declared.view.ViewValue.TheVariants.{Structure, Integer, LongInteger, BigInteger, Enumeration, Boolean, Text, Bytes, DateTime, Interval, DateTimeExtended}
 use Rattle.kmipa_attrs.specs.Tags.{request_message, response_message, tag_name_of}
-use Rattle.kmipa_runs.specs.Dates.{HasDate}
+use Rattle.kmipa_runs.specs.Dates.{HasDate, ReadsAsSecond}
 use Rattle.kmipa_runs.specs.Notes.{number_name_of}
 use Rattle.kmipa_runs.specs.declared.options.ShowOptions.{ShowOptions}
 
@@ -28,7 +28,7 @@ truth_name false = codes "false"
 
 -- the number of a moment's second, and after it its date, where the calendar has one
 pub record ShowsMoment (second : ℤ) (value : List ℕ) : Type 0 where
-  pub dated : HasDate second → (date : List ℕ) × (value ≡ signed_decimal second ++ 32 ∷ date)
+  pub dated : HasDate second → (date : List ℕ) × ReadsAsSecond date second × (value ≡ signed_decimal second ++ 32 ∷ date)
   pub undated : ¬ (HasDate second) → value ≡ signed_decimal second
 
 -- the text of a value

@@ -1,11 +1,13 @@
 //! The runs of the program, over inputs and outputs that are handed in: each appends its lines and answers its status.
 #![tactic(auto)]
 
+mod answered;
 mod dates;
 mod digits;
 mod flaws;
 mod front;
 mod holding;
+mod known;
 mod laws;
 mod lines;
 mod message;
@@ -16,6 +18,7 @@ mod printer;
 mod quoting;
 mod reporting;
 mod runs;
+mod sealing;
 mod searched;
 mod searching;
 mod showing;
@@ -25,7 +28,9 @@ mod text;
 mod values;
 mod writing;
 
+pub use answered::Answered;
 pub use dates::date_text;
+pub use known::read_known_records;
 pub use laws::items_have_no_fault;
 pub use lines::{Lines, fault_lines, message_name, verdict_lines};
 pub use notes::{
@@ -34,9 +39,10 @@ pub use notes::{
 };
 pub use options::ShowOptions;
 pub use printer::{Printer, Unprinted};
-pub use quoting::quoted_text;
+pub use quoting::{escaped_text, quoted_text};
 pub use reporting::{append, report};
 pub use runs::check_run;
+pub use sealing::{has_seal, head_line, other_head_line, other_head_object, read_seal};
 pub use searched::Searched;
 pub use searching::{search_records, search_run, searched_lines, tell_searched, tell_witness};
 pub use showing::show_run;

@@ -1,6 +1,7 @@
-//! Texts between double quotes, whatever their bytes are.
+//! Texts with each byte as it is or escaped, whatever their bytes are.
 
 ghost use Rattle.std.specs.Prelude.{◌≡◌, ◌++◌, IfOk, OnOk, string_bytes};
+ghost use Rattle.std.specs.List.{flat_map};
 ghost use Rattle.kmipa_runs.specs.Shown.{escaped, quoted};
 
 use crate::values::is_plain;
@@ -15,6 +16,17 @@ pub fn quoted_text(alloc: Global, text: &str) -> Result<String, AllocError>
         push_escaped(alloc, &mut told, *byte)?;
     }
     told.push_str("\"")?;
+    Ok(told)
+}
+
+/// The same without the quotes.
+pub fn escaped_text(alloc: Global, text: &str) -> Result<String, AllocError>
+    ensures { IfOk result (λ told. string_bytes told ≡ flat_map escaped text.now) }
+{
+    let mut told = String::new(alloc);
+    'bytes: for byte in text.as_bytes() {
+        push_escaped(alloc, &mut told, *byte)?;
+    }
     Ok(told)
 }
 

@@ -1,5 +1,6 @@
 //! What a search finds.
 
+use kmipa_record::Head;
 use kmipa_search::Found;
 
 /// What a search found, and whether the transcript is forced, where that was asked for.
@@ -7,4 +8,11 @@ use kmipa_search::Found;
 pub struct Searched {
     pub forced: Option<bool>,
     pub found: Found,
+}
+
+/// The same of two inputs, with what the transcript is known by.
+#[derive(Drop)]
+pub(crate) struct Looked {
+    pub searched: Searched,
+    pub head: Option<Head>,
 }

@@ -10,12 +10,14 @@ ghost use Rattle.kmipa_record.specs.Witnesses.{witness_of, IsWitness};
 ghost use Rattle.kmipa_check.specs.Audits.{AreAccepted};
 ghost use Rattle.kmipa_check.specs.Calls.{AreCalls, IsRecorded, call_of};
 ghost use Rattle.kmipa_search.specs.Found.{Searches};
-ghost use Rattle.kmipa_runs.specs.Searches.{found_status, found_text, forced_text, PrintsSearch, SearchesFiles, SearchesRecords, TellsIfForced};
+ghost use Rattle.kmipa_runs.specs.Knowing.{Known, KnowsSeals};
+ghost use Rattle.kmipa_runs.specs.Searches.{found_status, found_text, forced_text, PrintsSearch, SearchesFiles, SearchesRecords, TellsIfForced, searched_alone};
 ghost use Rattle.kmipa_runs.specs.Statuses.{IsSilent};
 
+use crate::answered::Answered;
 use crate::lines::{Lines, fault_lines};
 use crate::reporting::append;
-use crate::searched::Searched;
+use crate::searched::{Looked, Searched};
 use crate::status::Status;
 use kmipa_check::{AuditFault, Call, CheckFault, read_calls};
 use kmipa_record::{
@@ -43,29 +45,37 @@ pub fn search_run<R: Read, W: Watch>(
     watch: &mut W,
     out: &mut Vec<u8>,
     made: &mut Vec<u8>,
-) -> Status
+) -> Answered
     requires transcript { came_of transcript.old ≡ [] }
     requires declaration { came_of declaration.old ≡ [] }
     // What is made and printed tells what a search answers of whatever the inputs may be, or memory ran out.
     ensures prints { (outcome : Result Searched AuditFault)
         × ((t d : List ℕ) → IsFileOf t transcript.new → IsFileOf d declaration.new
         → SearchesFiles t d (is_failed transcript.new) (is_failed declaration.new) budget forced outcome)
-        × (PrintsSearch outcome result (appended_bytes out.old.items out.new.items)
+        × (PrintsSearch outcome result.status (appended_bytes out.old.items out.new.items)
         (appended_bytes made.old.items made.new.items)
-        ⊎ (IsSilent result (appended_bytes out.old.items out.new.items)
+        ⊎ (IsSilent result.status (appended_bytes out.old.items out.new.items)
         × (appended_bytes made.old.items made.new.items ≡ []))) }
     // Status 0 is answered only where the bytes that came, to the ends that were seen, are accepted with the
     // witness that is made.
-    ensures accepts { result ≡ Status.Done
+    ensures accepts { result.status ≡ Status.Done
         → AreAccepted (came_of transcript.new) (came_of declaration.new) (appended_bytes made.old.items made.new.items)
         × IsTrue (is_ended transcript.new) × IsTrue (is_ended declaration.new) }
-    ensures nothing { result ≢ Status.Done → made.new.items ≡ made.old.items }
+    ensures nothing { result.status ≢ Status.Done → made.new.items ≡ made.old.items }
     ensures appends { StartsWith out.new.items out.old.items }
     ensures makes { StartsWith made.new.items made.old.items }
+    // Behind each verdict stands what the transcript is known by.
+    ensures known { KnowsSeals (came_of transcript.new) result.status result.head }
 {
     match search_inputs(alloc, transcript, declaration, budget, forced, open, watch) {
-        Ok(searched) => tell_searched(alloc, &searched, out, made),
-        Err(fault) => append(fault_lines(alloc, &fault), out),
+        Ok(looked) => Answered {
+            status: tell_searched(alloc, &looked.searched, out, made),
+            head: looked.head,
+        },
+        Err(fault) => Answered {
+            status: append(fault_lines(alloc, &fault), out),
+            head: None,
+        },
     }
 }
 
@@ -78,23 +88,26 @@ fn search_inputs<R: Read, W: Watch>(
     forced: bool,
     open: bool,
     watch: &mut W,
-) -> Result<Searched, AuditFault>
+) -> Result<Looked, AuditFault>
     requires transcript { came_of transcript.old ≡ [] }
     requires declaration { came_of declaration.old ≡ [] }
     ensures searches { (t d : List ℕ) → IsFileOf t transcript.new → IsFileOf d declaration.new
-        → SearchesFiles t d (is_failed transcript.new) (is_failed declaration.new) budget forced result }
+        → SearchesFiles t d (is_failed transcript.new) (is_failed declaration.new) budget forced
+        (searched_alone result) }
+    ensures known { IfOk result (λ looked. Known (came_of transcript.new) looked.head) }
     ensures ended { OnOk result (IsTrue (is_ended transcript.new) × IsTrue (is_ended declaration.new)) }
 {
-    let transcript = match read_transcript(alloc, transcript) {
+    let mut transcript = match read_transcript(alloc, transcript) {
         Ok(transcript) => transcript,
         Err(fault) => return Err(AuditFault::Transcript(fault)),
     };
+    let head = transcript.head.take();
     let declaration = match read_declaration(alloc, declaration) {
         Ok(declaration) => declaration,
         Err(fault) => return Err(AuditFault::Declaration(fault)),
     };
     match search_at_last(alloc, transcript, &declaration, budget, forced, open, watch) {
-        Ok(searched) => Ok(searched),
+        Ok(searched) => Ok(Looked { searched, head }),
         Err(fault) => Err(AuditFault::Check(fault)),
     }
 }

@@ -34,13 +34,13 @@ use Rattle.kmipa_stream.specs.Seeing.{EndsSo, AreSeen}
 use Rattle.kmipa_stream.specs.Standing.{WereRead, Stands, AreAllReleased, IsDone, IsDoneBy, IsUnnamed, NoneUnnamed, IsFirstLeftOut, Judges, TellsLeftOut}
 use Rattle.kmipa_stream.specs.Waiting.{AreNamedAt}
 use Rattle.kmipa_stream.specs.declared.auditor.Auditor.{Auditor}
-use Rattle.kmipa_stream.specs.declared.judged.Judged.{Judged}
 use Rattle.kmipa_stream.specs.declared.lowest.Found.{Found}
 use Rattle.kmipa_stream.specs.declared.replaying.Finding.{Finding}
 use Rattle.kmipa_stream.specs.declared.replaying.Finding.TheVariants.{Possible, No, Faulty}
 use Rattle.kmipa_stream.specs.declared.replaying.Replay.{Replay}
 use Rattle.kmipa_stream.specs.declared.seen.Seen.{Seen}
 use Rattle.kmipa_stream.specs.declared.seen.SeenCall.{SeenCall}
+use Rattle.kmipa_stream.specs.declared.stamped.Stamped.{Stamped}
 use Rattle.kmipa_stream.proofs.AheadLemmas.{ahead_itself}
 use Rattle.kmipa_stream.proofs.OrderLemmas.{ended_so, end_noted}
 use Rattle.kmipa_stream.proofs.WaitingLemmas.{is_it_named}
@@ -221,13 +221,13 @@ module _ (marks : List MarkOf) (turns : List Turn) (declared : DeclarationOf) (a
         subst P first.1.2 (number_counted marks first.1.0.number first.1.0.begin i.asked r i.begun)
 
     -- a verdict, unless a call is left out
-    pub unless_told : (judged : Judged) (result : Result Judged CheckFault)
-        → MatchResult result (λ (told : Judged). (told ≡ judged) × IsFirstLeftOut turns a.seen.calls.items None) (TellsLeftOut turns a.seen.calls.items)
-        → (IsFirstLeftOut turns a.seen.calls.items None → Judges marks declared (map turn_of turns) (Ok judged)) → Judges marks declared (map turn_of turns) result
-    unless_told judged (Ok told) h told_whole = let P : Judged → Type 0 = λ j. Judges marks declared (map turn_of turns) (Ok j) in subst P (sym h.0) (told_whole h.1)
-    unless_told judged (Err (check_fault.Witness f)) h told_whole = left_told h.0 f h.1 (h.2 (left_counted h.0 h.1)) h.3
-    unless_told judged (Err (check_fault.Outside n side o)) h told_whole = absurd h
-    unless_told judged (Err check_fault.Memory) h told_whole = tt
+    pub unless_told : (stamped : Stamped) (result : Result Stamped CheckFault)
+        → MatchResult result (λ (told : Stamped). (told ≡ stamped) × IsFirstLeftOut turns a.seen.calls.items None) (TellsLeftOut turns a.seen.calls.items)
+        → (IsFirstLeftOut turns a.seen.calls.items None → Judges marks declared (map turn_of turns) (Ok stamped)) → Judges marks declared (map turn_of turns) result
+    unless_told stamped (Ok told) h told_whole = let P : Stamped → Type 0 = λ j. Judges marks declared (map turn_of turns) (Ok j) in subst P (sym h.0) (told_whole h.1)
+    unless_told stamped (Err (check_fault.Witness f)) h told_whole = left_told h.0 f h.1 (h.2 (left_counted h.0 h.1)) h.3
+    unless_told stamped (Err (check_fault.Outside n side o)) h told_whole = absurd h
+    unless_told stamped (Err check_fault.Memory) h told_whole = tt
 
     module _ (whole : IsFirstLeftOut turns a.seen.calls.items None) where
       order_there : (order : List StepOf) × IsOrder calls_there.0 (map turn_of turns) order

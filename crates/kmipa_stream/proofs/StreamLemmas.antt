@@ -1,12 +1,15 @@
 -- What the three files and the audit of the transcript come to together.
-use Rattle.std.proofs.Common.{◌≡◌, ℕ, ℤ, List, IsTrue, Option, Err}
+use Rattle.std.proofs.Common.{◌≡◌, ℕ, ℤ, List, IsTrue, Option, Result, Ok, Err, sym, subst}
+use Rattle.std.specs.Prelude.{IfOk}
 use Rattle.kmipa_ttlv.specs.Input.{came_of, is_ended, IsFileOf}
 use Rattle.kmipa_ttlv.specs.declared.input.Input.{Input}
 use Rattle.kmipa_ttlv.proofs.ReadLemmas.{whole_file}
 use Rattle.kmipa_record.specs.Declarations.{DeclarationOf, IsDeclaration}
 use Rattle.kmipa_record.specs.Marks.{MarkOf}
+use Rattle.kmipa_record.specs.TranscriptReading.{IsKnownBy}
 use Rattle.kmipa_record.specs.Transcripts.{IsTranscript}
 use Rattle.kmipa_record.specs.Witnesses.{TurnOf, IsWitness}
+use Rattle.kmipa_record.specs.declared.head.Head.{Head}
 use Rattle.kmipa_check.specs.Audits.{AreAccepted, AreJudgedAs, AreUnjudged, AreATranscript, AreADeclaration}
 use Rattle.kmipa_check.specs.Verdicts.{Checks, TellsVerdict}
 use Rattle.kmipa_check.specs.declared.fault.CheckFault.{CheckFault}
@@ -14,6 +17,7 @@ use Rattle.kmipa_check.specs.declared.verdict.Verdict.{Verdict}
 use Rattle.kmipa_check.specs.declared.verdict.Verdict.TheVariants.{Yes, No}
 use Rattle.kmipa_stream.specs.Standing.{DatesSo}
 use Rattle.kmipa_stream.specs.Streams.{TellsDate}
+use Rattle.kmipa_stream.specs.declared.judged.Judged.{Judged}
 
 -- the file whose bytes came to the end that was seen
 pub a_transcript : {R : Type 0} (ti : Input R) (t : List ℕ) (marks : List MarkOf) → IsFileOf t ti → IsTranscript (came_of ti) marks → IsTrue (is_ended ti) → AreATranscript t
@@ -82,3 +86,9 @@ dated_so t d w marks declared turns (No refused) stamp r dates = (
   dates.1,
   record { marks = marks; transcript = r.transcript; turns = turns; witness = r.witness; answered = dates.2 },
 )
+
+-- what is answered comes with what the transcript is known by
+pub known_with : (bytes : List ℕ) (marks : List MarkOf) (head : Option Head) (answer : Result Judged CheckFault) → IsKnownBy bytes marks head
+    → IfOk answer (λ judged. judged.head ≡ head) → IfOk answer (λ judged. IsKnownBy bytes marks judged.head)
+known_with bytes marks head (Ok judged) known is = let P : Option Head → Type 0 = λ h. IsKnownBy bytes marks h in subst P (sym is) known
+known_with bytes marks head (Err fault) known is = tt

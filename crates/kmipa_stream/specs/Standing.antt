@@ -1,9 +1,10 @@
 -- What an audit knows of a transcript that is still coming. Not promised.
-use Rattle.std.specs.Prelude.{◌≡◌, ◌≢◌, ◌<◌, ◌⊎◌, ℕ, ℤ, pos, ◌≤ℤ◌, IsTrue, Bool, false, List, [], ◌∷◌, ◌++◌, length, map, Option, Some, None, slice_get, Result, Ok, Err}
+use Rattle.std.specs.Prelude.{◌≡◌, ◌≢◌, ◌<◌, ◌⊎◌, ℕ, ℤ, pos, ◌≤ℤ◌, IsTrue, Bool, false, List, [], ◌∷◌, ◌++◌, length, map, Option, Some, None, slice_get, Result, Ok, Err, IfOk}
 use Rattle.kmipa_ttlv.specs.Input.{came_of, is_ended}
 use Rattle.kmipa_ttlv.specs.declared.input.Input.{Input}
 use Rattle.kmipa_record.specs.Marks.{MarkOf, AreRecorded}
 use Rattle.kmipa_record.specs.Transcripts.{IsTranscript}
+use Rattle.kmipa_record.specs.TranscriptReading.{IsKnownBy}
 use Rattle.kmipa_record.specs.Declarations.{DeclarationOf}
 use Rattle.kmipa_record.specs.Witnesses.{TurnOf, turn_of}
 use Rattle.kmipa_record.specs.declared.turn.Turn.{Turn}
@@ -25,6 +26,7 @@ use Rattle.kmipa_stream.specs.declared.lowest.Found.{Found}
 use Rattle.kmipa_stream.specs.declared.replaying.Replay.{Replay}
 use Rattle.kmipa_stream.specs.declared.seen.SeenCall.{SeenCall}
 use Rattle.kmipa_stream.specs.declared.seen.Held.TheVariants.{Released}
+use Rattle.kmipa_stream.specs.declared.stamped.Stamped.{Stamped}
 
 -- each call of which nothing is held was read
 abbrev pub WereRead : Bool → List MarkOf → Option Found → List SeenCall → Type 0
@@ -44,8 +46,8 @@ DatesSo marks turns Yes stamp = Unit {0}
 DatesSo marks turns (No refused) stamp = (moment : ℤ) × (stamp ≡ Some moment) × IsAnsweredAt marks turns refused.call moment
 
 -- what is answered of these records
-abbrev pub Judges : List MarkOf → DeclarationOf → List TurnOf → Result Judged CheckFault → Type 0
-Judges marks declared turns (Ok judged) = TellsVerdict marks declared turns judged.verdict × DatesSo marks turns judged.verdict judged.stamp
+abbrev pub Judges : List MarkOf → DeclarationOf → List TurnOf → Result Stamped CheckFault → Type 0
+Judges marks declared turns (Ok stamped) = TellsVerdict marks declared turns stamped.verdict × DatesSo marks turns stamped.verdict stamped.stamp
 Judges marks declared turns (Err fault) = Checks marks declared turns (Err fault)
 
 -- ---- the parts
@@ -105,9 +107,15 @@ TellsLeftOut turns calls (check_fault.Witness f) =
 TellsLeftOut turns calls (check_fault.Outside number side o) = ⊥
 TellsLeftOut turns calls check_fault.Memory = Unit {0}
 
--- a transcript came, to the end that was seen, and this is answered of it
+-- the same without the head
+abbrev pub stamped_alone : Result Judged CheckFault → Result Stamped CheckFault
+stamped_alone (Ok judged) = Ok (record { verdict = judged.verdict; stamp = judged.stamp })
+stamped_alone (Err fault) = Err fault
+
+-- a transcript came, to the end that was seen, and this is answered of it, with what it is known by
 pub record IsJudged {R : Type 0} (i : Input R) (declared : DeclarationOf) (turns : List TurnOf) (answer : Result Judged CheckFault) : Type 0 where
   pub marks : List MarkOf
   pub transcript : IsTranscript (came_of i) marks
   pub ended : IsTrue (is_ended i)
-  pub judged : Judges marks declared turns answer
+  pub judged : Judges marks declared turns (stamped_alone answer)
+  pub known : IfOk answer (λ judged. IsKnownBy (came_of i) marks judged.head)

@@ -5,22 +5,23 @@ ghost use Rattle.kmipa_ttlv.specs.Input.{came_of, is_ended, is_failed, IsFileOf}
 ghost use Rattle.kmipa_record.specs.Declarations.{DeclarationFault, DeclarationOf, IsDeclarationUpTo};
 ghost use Rattle.kmipa_record.specs.Files.{Tells};
 ghost use Rattle.kmipa_record.specs.Marks.{MarkOf};
-ghost use Rattle.kmipa_record.specs.TranscriptReading.{HaveCome, input_of, reference_of};
+ghost use Rattle.kmipa_record.specs.TranscriptReading.{HaveCome, HaveEnded, IsKnownBy, input_of, reference_of};
 ghost use Rattle.kmipa_record.specs.Transcripts.{IsTranscript, IsTranscriptUpTo, TranscriptFault};
 ghost use Rattle.kmipa_record.specs.Witnesses.{IsWitnessUpTo, WitnessFault, turn_of, witness_of};
 ghost use Rattle.kmipa_record.specs.declared.turn.Turn as turns;
 ghost use Rattle.kmipa_check.specs.Audits.{AreADeclaration, AreAccepted, AuditFails, AuditsAs};
 ghost use Rattle.kmipa_check.specs.declared.verdict.Verdict.TheVariants.{Yes};
 ghost use Rattle.kmipa_stream.specs.Opening.{Opens};
-ghost use Rattle.kmipa_stream.specs.Standing.{IsJudged, Stands};
+ghost use Rattle.kmipa_stream.specs.Standing.{IsJudged, Stands, stamped_alone};
 ghost use Rattle.kmipa_stream.specs.Streams.{IsPassed, TellsDate, verdict_alone};
 
 use crate::auditor::Auditor;
 use crate::judged::Judged;
 use crate::opening::Opening;
+use crate::stamped::Stamped;
 use kmipa_check::{AuditFault, CheckFault};
 use kmipa_record::{
-    Reach, RecordFault, RecordedMarks, Settings, Witness, read_declaration_into, read_witness,
+    Head, Reach, RecordFault, RecordedMarks, Settings, Witness, read_declaration_into, read_witness,
 };
 use kmipa_ttlv::Input;
 use std::alloc::Global;
@@ -57,6 +58,9 @@ pub fn audit_stream<R: Read>(
     // A no comes with the Time Stamp of its call's response.
     ensures dated { IfOk result
         (λ judged. TellsDate (came_of transcript.new) (came_of witness.new) judged.verdict judged.stamp) }
+    // Each verdict comes with the head up to which all seals are right of what came, or that bears none.
+    ensures known { IfOk result
+        (λ judged. (marks : List MarkOf) × IsKnownBy (came_of transcript.new) marks judged.head) }
     ensures ended { OnOk result
         (IsTrue (is_ended transcript.new) × IsTrue (is_ended declaration.new) × IsTrue (is_ended witness.new)) }
 {
@@ -179,14 +183,30 @@ fn judge_by<R: Read>(
 {
     let mut source = RecordedMarks::new(alloc, transcript);
     let taken = take_marks(&mut source, &mut auditor);
+    let head = source.take_head();
     let _ = source.into_input();
     match taken {
         Ok(true) => {
-            let judged = auditor.judge();
+            let stamped = auditor.judge();
             forget(auditor);
-            Ok(judged)
+            Ok(with_head(stamped, head))
         }
         Ok(false) => Ok(Err(CheckFault::Memory)),
+        Err(fault) => Err(fault),
+    }
+}
+
+/// What is answered, with what the transcript is known by.
+fn with_head(stamped: Result<Stamped, CheckFault>, head: Option<Head>) -> Result<Judged, CheckFault>
+    ensures alone { stamped_alone result ≡ stamped }
+    ensures head { IfOk result (λ judged. judged.head ≡ head) }
+{
+    match stamped {
+        Ok(Stamped { verdict, stamp }) => Ok(Judged {
+            verdict,
+            stamp,
+            head,
+        }),
         Err(fault) => Err(fault),
     }
 }
@@ -202,7 +222,7 @@ fn take_marks<R: Read>(
     ensures taken { (turns : List turns.Turn) (declared : DeclarationOf) → Stands false [] turns declared auditor.old
         → IfOk result (λ sufficed. (marks : List MarkOf) × IsTranscript (came_of (input_of source.new)) marks
         × IsTrue (is_ended (input_of source.new))
-        × (sufficed ≡ true → Stands false marks turns declared auditor.new)) }
+        × (sufficed ≡ true → Stands false marks turns declared auditor.new) × HaveEnded marks source.new) }
     ensures fault { (file : List ℕ) → IsFileOf file (input_of source.new)
         → IfErr result (Tells TranscriptFault IsTranscriptUpTo file (is_failed (input_of source.new))) }
     ensures same_reference { reference_of source.new ≡ reference_of source.old }

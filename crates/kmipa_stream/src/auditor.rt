@@ -1,12 +1,12 @@
 //! What an audit knows of a transcript that is still coming.
 
 use crate::ends::Ends;
-use crate::judged::Judged;
 use crate::lowest::Found;
 use crate::opening::Opening;
 use crate::reading::call_in;
 use crate::replaying::{Finding, Replay};
 use crate::seen::{Seen, SeenCall};
+use crate::stamped::Stamped;
 use kmipa_check::{CheckFault, Verdict, WitnessFault, WitnessKind};
 use kmipa_record::{End, Mark, Settings, Turn};
 use std::alloc::{AllocError, Global};
@@ -195,7 +195,7 @@ impl<'w> Auditor<'w> {
     }
 
     /// The verdict, once all marks have come; or the fault.
-    pub fn judge(&mut self) -> Result<Judged, CheckFault>
+    pub fn judge(&mut self) -> Result<Stamped, CheckFault>
         requires { Standing false self.old }
         ensures { (marks : List MarkOf) (turns : List turns.Turn) (declared : DeclarationOf)
             → AreRecorded marks → Stands false marks turns declared self.old
@@ -230,18 +230,18 @@ impl<'w> Auditor<'w> {
     }
 
     /// The verdict where no message is outside; or the fault of the witness.
-    fn conclude(&self) -> Result<Judged, CheckFault>
+    fn conclude(&self) -> Result<Stamped, CheckFault>
         ensures { (marks : List MarkOf) (turns : List turns.Turn) (declared : DeclarationOf)
             → AreRecorded marks → Stands true marks turns declared self.now → AreAllReleased self.now.seen.calls.items
             → self.now.lowest ≡ None → IsDone self.now → Judges marks declared (map turn_of turns) result }
     {
         match self.replay.finding() {
             Finding::Faulty(fault) => Err(CheckFault::Witness(fault)),
-            Finding::No(refused, stamp) => self.unless_left_out(Judged {
+            Finding::No(refused, stamp) => self.unless_left_out(Stamped {
                 verdict: Verdict::No(refused),
                 stamp: Some(stamp),
             }),
-            Finding::Possible => self.unless_left_out(Judged {
+            Finding::Possible => self.unless_left_out(Stamped {
                 verdict: Verdict::Yes,
                 stamp: None,
             }),
@@ -249,13 +249,13 @@ impl<'w> Auditor<'w> {
     }
 
     /// This verdict; or the fault of a witness that leaves out a call.
-    fn unless_left_out(&self, judged: Judged) -> Result<Judged, CheckFault>
+    fn unless_left_out(&self, stamped: Stamped) -> Result<Stamped, CheckFault>
         ensures { (turns : List turns.Turn) → AreNamedAt turns self.now.replay.named
-            → MatchResult result (λ told. (told ≡ judged) × IsFirstLeftOut turns self.now.seen.calls.items None)
+            → MatchResult result (λ told. (told ≡ stamped) × IsFirstLeftOut turns self.now.seen.calls.items None)
             (TellsLeftOut turns self.now.seen.calls.items) }
     {
         match self.left_out() {
-            None => Ok(judged),
+            None => Ok(stamped),
             Some(number) => Err(CheckFault::Witness(WitnessFault {
                 at: usize::try_from(number).unwrap_or(0),
                 kind: WitnessKind::LeftOut,

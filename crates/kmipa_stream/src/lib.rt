@@ -11,6 +11,7 @@ mod opening;
 mod reading;
 mod replaying;
 mod seen;
+mod stamped;
 mod taking;
 
 pub use auditing::audit_stream;

@@ -1,6 +1,7 @@
-use Rattle.std.proofs.Common.{Ok, Err}
+use Rattle.std.proofs.Common.{Ok, Err, None}
 use Rattle.std.specs.Io.{appended_bytes}
 use Rattle.kmipa_ttlv.specs.Input.{came_of}
+use Rattle.kmipa_runs.proofs.KnowingLemmas.{knows, refusal_knows}
 use Rattle.kmipa_runs.proofs.LineLemmas.{judged_told, outcome_dated, stamped_done_is_yes}
 use Rattle.kmipa_runs.proofs.YesLemmas.{accepted_printed, fault_printed}
 use Rattle.kmipa_runs.proofs.runs.check_run.Goals as goal
@@ -48,3 +49,11 @@ returns-in-Ok-clause-accepts g c = λ done.
     let judged = c.in-Ok.judged in
     let yes = stamped_done_is_yes judged.verdict judged.stamp c.report_judged.result (appended_bytes c.args.out.now.items c.report_judged.new.out.items) c.report_judged.ensures.prints done in
     (c.in-Ok.ensures.accepted yes, c.in-Ok.ensures.ended.0, c.in-Ok.ensures.ended.1, c.in-Ok.ensures.ended.2)
+
+pub returns-in-Ok-clause-known : goal.returns-in-Ok-clause-known
+returns-in-Ok-clause-known g c = knows (came_of c.audit_stream.new.transcript) c.report_judged.result c.in-Ok.judged.head c.in-Ok.ensures.known
+
+pub returns-in-Err-clause-known : goal.returns-in-Err-clause-known
+returns-in-Err-clause-known g c =
+    refusal_knows (came_of c.audit_stream.new.transcript) c.fault_lines.result c.in-Err.fault c.append.result (appended_bytes c.args.out.now.items c.append.new.out.items) None
+    c.fault_lines.ensures c.append.ensures.prints

@@ -1,9 +1,11 @@
 use Rattle.std.proofs.Common.{Result, subst}
+use Rattle.std.specs.Prelude.{IfOk}
 use Rattle.kmipa_ttlv.specs.Input.{came_of, is_failed}
 use Rattle.kmipa_ttlv.proofs.ReadLemmas.{itself}
+use Rattle.kmipa_record.specs.TranscriptReading.{IsKnownBy}
 use Rattle.kmipa_record.specs.Witnesses.{witness_of}
 use Rattle.kmipa_check.specs.declared.fault.CheckFault.{CheckFault}
-use Rattle.kmipa_stream.specs.Standing.{Judges}
+use Rattle.kmipa_stream.specs.Standing.{Judges, stamped_alone}
 use Rattle.kmipa_stream.specs.declared.judged.Judged.{Judged}
 use Rattle.kmipa_stream.proofs.OpeningLemmas.{opens_all}
 use Rattle.kmipa_stream.proofs.StreamLemmas.{a_declaration, these_records, judged_so, unjudged_so, accepted_so, dated_so}
@@ -26,7 +28,7 @@ returns-in-Ok-Ok-clause-audits g c = λ t d w tf df wf.
     let declared = taken.declared in
     let j = c.in-Ok-Ok.ensures.judged declared taken.named taken.held in
     let turns = witness_of c.in-Ok-read_witness.witness in
-    let P : Result Judged CheckFault → Type 0 = λ x. Judges j.marks declared turns x in
+    let P : Result Judged CheckFault → Type 0 = λ x. Judges j.marks declared turns (stamped_alone x) in
     let told = subst P c.in-Ok-Ok.field-0-is j.judged in
     judged_so t d w j.marks declared turns c.in-Ok-Ok.judged.verdict
     (these_records c.judge.new.transcript c.read_declaration_into.new.input c.read_witness.new.input t d w j.marks declared turns tf df wf j.transcript j.ended (taken.found, c.in-Ok.ensures.found.1) c.in-Ok-read_witness.ensures.found) told.0
@@ -40,7 +42,7 @@ returns-in-Ok-Ok-clause-accepted g c = λ yes.
     let declared = taken.declared in
     let j = c.in-Ok-Ok.ensures.judged declared taken.named taken.held in
     let turns = witness_of c.in-Ok-read_witness.witness in
-    let P : Result Judged CheckFault → Type 0 = λ x. Judges j.marks declared turns x in
+    let P : Result Judged CheckFault → Type 0 = λ x. Judges j.marks declared turns (stamped_alone x) in
     let told = subst P c.in-Ok-Ok.field-0-is j.judged in
     accepted_so (came_of ti) (came_of di) (came_of wi) j.marks declared turns c.in-Ok-Ok.judged.verdict yes
     (these_records ti di wi (came_of ti) (came_of di) (came_of wi) j.marks declared turns (itself ti) (itself di) (itself wi) j.transcript j.ended (taken.found, c.in-Ok.ensures.found.1) c.in-Ok-read_witness.ensures.found) told.0
@@ -54,7 +56,7 @@ returns-in-Ok-Ok-clause-dated g c =
     let declared = taken.declared in
     let j = c.in-Ok-Ok.ensures.judged declared taken.named taken.held in
     let turns = witness_of c.in-Ok-read_witness.witness in
-    let P : Result Judged CheckFault → Type 0 = λ x. Judges j.marks declared turns x in
+    let P : Result Judged CheckFault → Type 0 = λ x. Judges j.marks declared turns (stamped_alone x) in
     let told = subst P c.in-Ok-Ok.field-0-is j.judged in
     dated_so (came_of ti) (came_of di) (came_of wi) j.marks declared turns c.in-Ok-Ok.judged.verdict c.in-Ok-Ok.judged.stamp
     (these_records ti di wi (came_of ti) (came_of di) (came_of wi) j.marks declared turns (itself ti) (itself di) (itself wi) j.transcript j.ended (taken.found, c.in-Ok.ensures.found.1) c.in-Ok-read_witness.ensures.found) told.1
@@ -71,10 +73,18 @@ returns-in-Ok-Err-clause-audits g c = λ t d w tf df wf.
     let declared = taken.declared in
     let j = c.in-Ok-Err.ensures.judged declared taken.named taken.held in
     let turns = witness_of c.in-Ok-read_witness.witness in
-    let P : Result Judged CheckFault → Type 0 = λ x. Judges j.marks declared turns x in
+    let P : Result Judged CheckFault → Type 0 = λ x. Judges j.marks declared turns (stamped_alone x) in
     let told = subst P c.in-Ok-Err.field-0-is j.judged in
     unjudged_so t d w j.marks declared turns c.in-Ok-Err.fault
     (these_records c.judge.new.transcript c.read_declaration_into.new.input c.read_witness.new.input t d w j.marks declared turns tf df wf j.transcript j.ended (taken.found, c.in-Ok.ensures.found.1) c.in-Ok-read_witness.ensures.found) told
 
 pub returns-in-Err-judge-clause-audits : goal.returns-in-Err-judge-clause-audits
 returns-in-Err-judge-clause-audits g c = λ t d w tf df wf. c.in-Err-judge.ensures.fault t tf
+
+pub returns-in-Ok-Ok-clause-known : goal.returns-in-Ok-Ok-clause-known
+returns-in-Ok-Ok-clause-known g c =
+    let taken = c.in-Ok.ensures.found.0 in
+    let j = c.in-Ok-Ok.ensures.judged taken.declared taken.named taken.held in
+    let bytes = came_of c.judge.new.transcript in
+    let P : Result Judged CheckFault → Type 0 = λ x. IfOk x (λ judged. IsKnownBy bytes j.marks judged.head) in
+    (j.marks, subst P c.in-Ok-Ok.field-0-is j.known)
