@@ -57,13 +57,13 @@ ToldCheck t d w said lines = (outcome : Result Explained FaultTold) × ExplainsI
 
 explained_done : {R : Type 0} (t d w : Input R) (outcome : Result Explained FaultTold) (said : Status) (lines : List ℕ) → ExplainsInputs t d w outcome
     → PrintsExplainedJson t d w outcome said lines → said ≡ status.Done → AreAccepted (came_of t) (came_of d) (came_of w) × AreEnded t d w
-explained_done t d w (Ok explained) said lines audits (told, (verdict, tells, more), is) done =
+explained_done t d w (Ok explained) said lines audits (known, told, knows, (verdict, tells, more), is) done =
     let yes = told_yes (transcript_of explained.records.transcript) (witness_of explained.records.witness) explained.verdict said _ verdict tells done in (
       yes_explained (came_of t) (came_of d) (came_of w) explained explained.verdict refl yes
           (audits.0 (came_of t) (came_of d) (came_of w) (itself t) (itself d) (itself w)),
       audits.1,
     )
-explained_done t d w (Err fault) said lines audits (told, (without, tells, more), is) done = absurd (fault_not_done fault.fault (sym tells.0 ∙ done))
+explained_done t d w (Err fault) said lines audits (known, told, knows, (without, tells, more), is) done = absurd (fault_not_done fault.fault (sym tells.0 ∙ done))
 
 pub done_is_explained : {R : Type 0} (t d w : Input R) (said : Status) (lines : List ℕ) → ToldCheck t d w said lines ⊎ IsSilent said lines
     → said ≡ status.Done → AreAccepted (came_of t) (came_of d) (came_of w) × AreEnded t d w
@@ -72,12 +72,17 @@ done_is_explained t d w said lines (inr silent) done = absurd (silent_not_done s
 
 -- ---- what is appended
 
-pub printed_explained : {R : Type 0} (made : Result Lines AllocError) (t d w : Input R) (said : Status) (lines : List ℕ)
-    → IfOk made (λ l. ToldCheck t d w l.status (string_bytes l.text))
-    → IsOkAnd made (λ l. (said ≡ l.status) × (lines ≡ string_bytes l.text)) ⊎ IsSilent said lines → ToldCheck t d w said lines ⊎ IsSilent said lines
-printed_explained made t d w said lines told (inr silent) = inr silent
-printed_explained (Err e) t d w said lines told (inl p) = absurd p
-printed_explained (Ok l) t d w said lines told (inl p) =
-    let P : Status → Type 0 = λ s. ToldCheck t d w s (string_bytes l.text) in
-    let Q : List ℕ → Type 0 = λ text. ToldCheck t d w said text in
+pub explained_printed : {R : Type 0} (made : Result Lines AllocError) (t d w : Input R) (outcome : Result Explained FaultTold) (said : Status) (lines : List ℕ)
+    → IfOk made (λ l. PrintsExplainedJson t d w outcome l.status (string_bytes l.text))
+    → IsOkAnd made (λ l. (said ≡ l.status) × (lines ≡ string_bytes l.text)) ⊎ IsSilent said lines → PrintsExplainedJson t d w outcome said lines ⊎ IsSilent said lines
+explained_printed made t d w outcome said lines told (inr silent) = inr silent
+explained_printed (Err e) t d w outcome said lines told (inl p) = absurd p
+explained_printed (Ok l) t d w outcome said lines told (inl p) =
+    let P : Status → Type 0 = λ s. PrintsExplainedJson t d w outcome s (string_bytes l.text) in
+    let Q : List ℕ → Type 0 = λ text. PrintsExplainedJson t d w outcome said text in
     inl (subst Q (sym p.1) (subst P (sym p.0) told))
+
+pub printed_explained : {R : Type 0} (t d w : Input R) (outcome : Result Explained FaultTold) (said : Status) (lines : List ℕ) → ExplainsInputs t d w outcome
+    → PrintsExplainedJson t d w outcome said lines ⊎ IsSilent said lines → ToldCheck t d w said lines ⊎ IsSilent said lines
+printed_explained t d w outcome said lines audits (inl prints) = inl (outcome, audits, prints)
+printed_explained t d w outcome said lines audits (inr silent) = inr silent

@@ -44,7 +44,7 @@ read_known (Err f) remaining bytes old new Is Flaw Right all none goes left over
     subst P works (fault (bytes ++ after) (more_file bytes after new (known_file remaining bytes old new none goes left over works) (λ e. end (seen ∙ e))))
 
 -- and what is said besides of what was read
-pub read_and : {T : Type 0} (r : Result T RecordFault) (Is : List ℕ → T → Type 0) (D : T → Type 0) (came : List ℕ) (ended : Bool)
-    → IfOk r (λ t. Is came t × IsTrue ended) → IfOk r D → IfOk r (λ t. (Is came t × D t) × IsTrue ended)
-read_and (Ok t) Is D came ended p d = ((p.0, d), p.1)
-read_and (Err f) Is D came ended p d = tt
+pub read_and : {T : Type 0} (r : Result T RecordFault) (Is And : List ℕ → T → Type 0) (came : List ℕ) (ended : Bool)
+    → IfOk r (λ t. Is came t × IsTrue ended) → IfOk r (And came) → IfOk r (λ t. (Is came t × And came t) × IsTrue ended)
+read_and (Ok t) Is And came ended p d = ((p.0, d), p.1)
+read_and (Err f) Is And came ended p d = tt

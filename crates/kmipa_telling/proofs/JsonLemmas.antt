@@ -13,12 +13,11 @@ use Rattle.kmipa_check.specs.Audits.{AreAccepted}
 use Rattle.kmipa_check.specs.declared.auditing.Audited.{Audited}
 use Rattle.kmipa_check.specs.declared.auditing.AuditFault.{AuditFault}
 use Rattle.kmipa_check.specs.declared.auditing.AuditFault.TheVariants as audit
-use Rattle.kmipa_check.specs.declared.fault.CheckFault.{CheckFault}
 use Rattle.kmipa_check.specs.declared.fault.CheckFault.TheVariants as check
 use Rattle.kmipa_check.specs.declared.verdict.Verdict.{Verdict}
 use Rattle.kmipa_check.specs.declared.verdict.Verdict.TheVariants as verdict
 use Rattle.kmipa_check.proofs.AuditLemmas.{yes_accepted}
-use Rattle.kmipa_runs.specs.Lines.{check_status, fault_status, record_status}
+use Rattle.kmipa_runs.specs.Lines.{fault_status, record_status}
 use Rattle.kmipa_runs.specs.Statuses.{IsSilent}
 use Rattle.kmipa_runs.specs.declared.lines.Lines.{Lines}
 use Rattle.kmipa_runs.specs.declared.status.Status.{Status}
@@ -29,34 +28,44 @@ use Rattle.serde_json.specs.Data.{Members}
 
 -- ---- no fault ends well
 
-record_not_done : (kind : RecordKind) → record_status kind ≡ status.Done → ⊥
-record_not_done (Ttlv flaw) e = absurd cc
-record_not_done Header e = absurd cc
-record_not_done Number e = absurd cc
-record_not_done EndWithoutBegin e = absurd cc
-record_not_done SecondEnd e = absurd cc
-record_not_done Identifier e = absurd cc
-record_not_done Entry e = absurd cc
-record_not_done Calls e = absurd cc
-record_not_done Seal e = absurd cc
-record_not_done NoClose e = absurd cc
-record_not_done Order e = absurd cc
-record_not_done Device e = absurd cc
-record_not_done Memory e = absurd cc
+record_ends : (kind : RecordKind) → (record_status kind ≡ status.Refused) ⊎ (record_status kind ≡ status.Failed)
+record_ends (Ttlv flaw) = inl refl
+record_ends Header = inl refl
+record_ends Number = inl refl
+record_ends EndWithoutBegin = inl refl
+record_ends SecondEnd = inl refl
+record_ends Identifier = inl refl
+record_ends Entry = inl refl
+record_ends Calls = inl refl
+record_ends Seal = inl refl
+record_ends NoClose = inl refl
+record_ends Order = inl refl
+record_ends Device = inr refl
+record_ends Memory = inr refl
 
-check_not_done : (fault : CheckFault) → check_status fault ≡ status.Done → ⊥
-check_not_done (check.Outside number side o) e = absurd cc
-check_not_done (check.Witness f) e = absurd cc
-check_not_done check.Memory e = absurd cc
+-- a fault is told with one of two statuses
+pub fault_ends : (fault : AuditFault) → (fault_status fault ≡ status.Refused) ⊎ (fault_status fault ≡ status.Failed)
+fault_ends (audit.Transcript f) = record_ends f.kind
+fault_ends (audit.Declaration f) = record_ends f.kind
+fault_ends (audit.Witness f) = record_ends f.kind
+fault_ends (audit.Check (check.Outside number side o)) = inl refl
+fault_ends (audit.Check (check.Witness f)) = inl refl
+fault_ends (audit.Check check.Memory) = inr refl
 
 pub fault_not_done : (fault : AuditFault) → fault_status fault ≡ status.Done → ⊥
-fault_not_done (audit.Transcript f) e = record_not_done f.kind e
-fault_not_done (audit.Declaration f) e = record_not_done f.kind e
-fault_not_done (audit.Witness f) e = record_not_done f.kind e
-fault_not_done (audit.Check f) e = check_not_done f e
+fault_not_done fault e = go (fault_ends fault)
+  where
+    go : (fault_status fault ≡ status.Refused) ⊎ (fault_status fault ≡ status.Failed) → ⊥
+    go (inl r) = let clash : status.Refused ≡ status.Done = sym r ∙ e in absurd cc
+    go (inr f) = let clash : status.Failed ≡ status.Done = sym f ∙ e in absurd cc
 
 pub silent_not_done : (said : Status) (lines : List ℕ) → IsSilent said lines → said ≡ status.Done → ⊥
 silent_not_done said lines silent done = let clash : status.Failed ≡ status.Done = sym silent.0 ∙ done in absurd cc
+
+-- where nothing can be appended memory ran out
+pub only_silent : {A : Type 0} → ⊥ ⊎ A → A
+only_silent (inl none) = absurd none
+only_silent (inr silent) = silent
 
 -- ---- checks
 
@@ -71,12 +80,12 @@ ToldAudit t d w said lines = (outcome : Result Audited AuditFault) × AuditsInpu
 
 judged_done : {R : Type 0} (t d w : Input R) (outcome : Result Audited AuditFault) (said : Status) (lines : List ℕ) → AuditsInputs t d w outcome
     → PrintsJson t d w outcome said lines → said ≡ status.Done → AreAccepted (came_of t) (came_of d) (came_of w) × AreEnded t d w
-judged_done t d w (Ok audited) said lines audits prints done = (
-  yes_accepted (came_of t) (came_of d) (came_of w) audited (yes_told audited said _ prints.0 audited.verdict refl prints.1 done)
+judged_done t d w (Ok audited) said lines audits (known, told, knows, tells, is) done = (
+  yes_accepted (came_of t) (came_of d) (came_of w) audited (yes_told audited said _ told audited.verdict refl tells done)
       (audits.0 (came_of t) (came_of d) (came_of w) (itself t) (itself d) (itself w)),
   audits.1,
 )
-judged_done t d w (Err fault) said lines audits prints done = absurd (fault_not_done fault (sym prints.1.0 ∙ done))
+judged_done t d w (Err fault) said lines audits (known, told, knows, tells, is) done = absurd (fault_not_done fault (sym tells.0 ∙ done))
 
 pub done_is_judged : {R : Type 0} (t d w : Input R) (said : Status) (lines : List ℕ) → ToldAudit t d w said lines ⊎ IsSilent said lines → said ≡ status.Done
     → AreAccepted (came_of t) (came_of d) (came_of w) × AreEnded t d w
@@ -85,11 +94,17 @@ done_is_judged t d w said lines (inr silent) done = absurd (silent_not_done said
 
 -- ---- what is appended
 
-pub printed_check : {R : Type 0} (made : Result Lines AllocError) (t d w : Input R) (said : Status) (lines : List ℕ) → IfOk made (λ l. ToldAudit t d w l.status (string_bytes l.text))
-    → IsOkAnd made (λ l. (said ≡ l.status) × (lines ≡ string_bytes l.text)) ⊎ IsSilent said lines → ToldAudit t d w said lines ⊎ IsSilent said lines
-printed_check made t d w said lines told (inr silent) = inr silent
-printed_check (Err e) t d w said lines told (inl p) = absurd p
-printed_check (Ok l) t d w said lines told (inl p) =
-    let P : Status → Type 0 = λ s. ToldAudit t d w s (string_bytes l.text) in
-    let Q : List ℕ → Type 0 = λ text. ToldAudit t d w said text in
+pub json_reported : {R : Type 0} (made : Result Lines AllocError) (t d w : Input R) (outcome : Result Audited AuditFault) (said : Status) (lines : List ℕ)
+    → IfOk made (λ l. PrintsJson t d w outcome l.status (string_bytes l.text))
+    → IsOkAnd made (λ l. (said ≡ l.status) × (lines ≡ string_bytes l.text)) ⊎ IsSilent said lines → PrintsJson t d w outcome said lines ⊎ IsSilent said lines
+json_reported made t d w outcome said lines told (inr silent) = inr silent
+json_reported (Err e) t d w outcome said lines told (inl p) = absurd p
+json_reported (Ok l) t d w outcome said lines told (inl p) =
+    let P : Status → Type 0 = λ s. PrintsJson t d w outcome s (string_bytes l.text) in
+    let Q : List ℕ → Type 0 = λ text. PrintsJson t d w outcome said text in
     inl (subst Q (sym p.1) (subst P (sym p.0) told))
+
+pub printed_check : {R : Type 0} (t d w : Input R) (outcome : Result Audited AuditFault) (said : Status) (lines : List ℕ) → AuditsInputs t d w outcome
+    → PrintsJson t d w outcome said lines ⊎ IsSilent said lines → ToldAudit t d w said lines ⊎ IsSilent said lines
+printed_check t d w outcome said lines audits (inl prints) = inl (outcome, audits, prints)
+printed_check t d w outcome said lines audits (inr silent) = inr silent

@@ -22,10 +22,10 @@ ToldSearch t d budget asked said lines made = (outcome : Result Judged FaultTold
 
 found_done : {R : Type 0} (t d : Input R) (budget : ℕ) (asked : Bool) (outcome : Result Judged FaultTold) (said : Status) (lines made : List ℕ) → DecidesInputs t d budget asked outcome
     → PrintsJsonSearch t d outcome said lines made → said ≡ status.Done → AreAccepted (came_of t) (came_of d) made × BothEnded t d
-found_done t d budget asked (Err told) said lines made decides (none, (told_in, (without, tells, more), is)) done = absurd (fault_not_done told.fault (sym tells.0 ∙ done))
-found_done t d budget asked (Ok judged) said lines made decides prints done =
+found_done t d budget asked (Err told) said lines made decides (none, (known, told_in, knows, (without, tells, more), is)) done = absurd (fault_not_done told.fault (sym tells.0 ∙ done))
+found_done t d budget asked (Ok judged) said lines made decides (makes, (known, told_in, knows, tells, is)) done =
     let are = decides.0 (came_of t) (came_of d) (itself t) (itself d) in
-    (done_accepted judged (came_of t) (came_of d) budget asked said made are prints.1.1.0 prints.0 done, decides.1)
+    (done_accepted judged (came_of t) (came_of d) budget asked said made are tells.0 makes done, decides.1)
 
 pub done_is_found : {R : Type 0} (t d : Input R) (budget : ℕ) (asked : Bool) (said : Status) (lines made : List ℕ)
     → ToldSearch t d budget asked said lines made ⊎ (IsSilent said lines × (made ≡ [])) → said ≡ status.Done → AreAccepted (came_of t) (came_of d) made × BothEnded t d
@@ -34,14 +34,20 @@ done_is_found t d budget asked said lines made (inr silent) done = absurd (silen
 
 -- ---- what is appended
 
-pub printed_search : {R : Type 0} (answer : Result Answer AllocError) (t d : Input R) (budget : ℕ) (asked : Bool) (said : Status) (lines file : List ℕ)
-    → IfOk answer (λ a. ToldSearch t d budget asked a.lines.status (string_bytes a.lines.text) a.made.items)
+pub search_reported : {R : Type 0} (answer : Result Answer AllocError) (t d : Input R) (outcome : Result Judged FaultTold) (said : Status) (lines file : List ℕ)
+    → IfOk answer (λ a. PrintsJsonSearch t d outcome a.lines.status (string_bytes a.lines.text) a.made.items)
     → IsOkAnd answer (λ a. (said ≡ a.lines.status) × (lines ≡ string_bytes a.lines.text) × (file ≡ a.made.items)) ⊎ (IsSilent said lines × (file ≡ []))
-    → ToldSearch t d budget asked said lines file ⊎ (IsSilent said lines × (file ≡ []))
-printed_search answer t d budget asked said lines file told (inr silent) = inr silent
-printed_search (Err e) t d budget asked said lines file told (inl p) = absurd p
-printed_search (Ok a) t d budget asked said lines file told (inl p) =
-    let P : Status → Type 0 = λ s. ToldSearch t d budget asked s (string_bytes a.lines.text) a.made.items in
-    let Q : List ℕ → Type 0 = λ text. ToldSearch t d budget asked said text a.made.items in
-    let S : List ℕ → Type 0 = λ bytes. ToldSearch t d budget asked said lines bytes in
+    → PrintsJsonSearch t d outcome said lines file ⊎ (IsSilent said lines × (file ≡ []))
+search_reported answer t d outcome said lines file told (inr silent) = inr silent
+search_reported (Err e) t d outcome said lines file told (inl p) = absurd p
+search_reported (Ok a) t d outcome said lines file told (inl p) =
+    let P : Status → Type 0 = λ s. PrintsJsonSearch t d outcome s (string_bytes a.lines.text) a.made.items in
+    let Q : List ℕ → Type 0 = λ text. PrintsJsonSearch t d outcome said text a.made.items in
+    let S : List ℕ → Type 0 = λ bytes. PrintsJsonSearch t d outcome said lines bytes in
     inl (subst S (sym p.2) (subst Q (sym p.1) (subst P (sym p.0) told)))
+
+pub printed_search : {R : Type 0} (t d : Input R) (budget : ℕ) (asked : Bool) (outcome : Result Judged FaultTold) (said : Status) (lines file : List ℕ)
+    → DecidesInputs t d budget asked outcome → PrintsJsonSearch t d outcome said lines file ⊎ (IsSilent said lines × (file ≡ []))
+    → ToldSearch t d budget asked said lines file ⊎ (IsSilent said lines × (file ≡ []))
+printed_search t d budget asked outcome said lines file decides (inl prints) = inl (outcome, decides, prints)
+printed_search t d budget asked outcome said lines file decides (inr silent) = inr silent

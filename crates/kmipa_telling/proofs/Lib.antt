@@ -11,5 +11,6 @@ mod JsonSearchLemmas
 mod JudgingLemmas
 mod ListLemmas
 mod PhraseLemmas
+mod SealLemmas
 mod StoryLemmas
 mod TellingLemmas

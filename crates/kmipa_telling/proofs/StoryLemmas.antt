@@ -2,9 +2,8 @@
 use Rattle.std.proofs.Common.{◌≡◌, ◌∙◌, ap, sym, subst, List, [], ◌∷◌, ◌++◌, ℕ, ℤ, codes, drop, length, take, ◌-◌}
 use Rattle.std.proofs.lemmas.List.{length-drop}
 use Rattle.std.proofs.Math.Seq.{take-length}
-use Rattle.std.specs.Fmt.{signed_decimal}
 use Rattle.std.specs.String.{string_bytes}
-use Rattle.kmipa_runs.specs.Dates.{HasDate}
+use Rattle.kmipa_runs.specs.Dates.{TellsSecond}
 use Rattle.kmipa_runs.specs.Lines.{line}
 use Rattle.kmipa_runs.specs.Shown.{quoted}
 use Rattle.kmipa_telling.specs.Lists.{AreLines}
@@ -15,10 +14,10 @@ use Rattle.kmipa_explain.specs.declared.explanation.Story.{Story}
 
 -- an item is told by its parts
 pub event_told : (word : List ℕ) (e : Event) (stamp : ℤ) (place date name end text : List ℕ) → stamp ≡ e.stamp → place ≡ place_text e
-    → (¬ (HasDate stamp) → date ≡ signed_decimal stamp) → name ≡ operation_text e.operation → end ≡ undone_text e.undone
+    → TellsSecond stamp date → name ≡ operation_text e.operation → end ≡ undone_text e.undone
     → text ≡ line (word ∷ codes ": " ∷ place ∷ codes " at " ∷ date ∷ codes ": " ∷ name ∷ end ∷ []) → PrintsEvent word e text
 event_told word e stamp place date name end text same placed dated named ended told =
-    let D : ℤ → Type 0 = λ z. ¬ (HasDate z) → date ≡ signed_decimal z in
+    let D : ℤ → Type 0 = λ z. TellsSecond z date in
     let lines : List ℕ → List ℕ → List ℕ → List ℕ = λ p n u. line (word ∷ codes ": " ∷ p ∷ codes " at " ∷ date ∷ codes ": " ∷ n ∷ u ∷ []) in
     (date, subst D same dated, told ∙ ap (λ p. lines p name end) placed ∙ ap (λ n. lines (place_text e) n end) named ∙ ap (lines (place_text e) (operation_text e.operation)) ended)
 

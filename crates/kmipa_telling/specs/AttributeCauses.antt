@@ -1,6 +1,5 @@
 -- What is printed of attributes that are shown otherwise than the object has them, or that are missing.
 use Rattle.std.specs.Prelude.{◌≡◌, ℕ, ℤ, Bool, true, false, List, [], ◌∷◌, ◌++◌, codes, flat_map, Option, Some, None}
-use Rattle.std.specs.Fmt.{signed_decimal}
 use Rattle.kmipa_attrs.specs.declared.name.Name.{Name}
 use Rattle.kmipa_explain.specs.declared.held.AttributesHeld.{AttributesHeld}
 use Rattle.kmipa_explain.specs.declared.held.ValueHeld.{ValueHeld}
@@ -8,7 +7,7 @@ use Rattle.kmipa_explain.specs.declared.source.Source.{Source}
 use Rattle.kmipa_explain.specs.declared.source.Whence.{Whence}
 use Rattle.kmipa_ops.specs.declared.judged.Judged.{Judged}
 use Rattle.kmipa_ops.specs.declared.judged.Judged.TheVariants as judged
-use Rattle.kmipa_runs.specs.Dates.{HasDate}
+use Rattle.kmipa_runs.specs.Dates.{TellsSecond}
 use Rattle.kmipa_runs.specs.Lines.{line}
 use Rattle.kmipa_telling.specs.Lists.{AreLines}
 use Rattle.kmipa_telling.specs.Naming.{attribute_name, is_moment, name_text, number_text, value_name}
@@ -38,7 +37,7 @@ unit_text judged.State = []
 
 -- a value is told: as a date where it is a moment, else so
 abbrev pub PrintsEither : Bool → ℤ → List ℕ → List ℕ → Type 0
-PrintsEither true value so text = ¬ (HasDate value) → text ≡ signed_decimal value
+PrintsEither true value so text = TellsSecond value text
 PrintsEither false value so text = text ≡ so
 
 -- a value of an attribute: of a moment its date, of another its number, with the name or the unit that it has

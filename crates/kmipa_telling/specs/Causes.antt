@@ -2,7 +2,7 @@
 use Rattle.std.specs.Prelude.{◌≡◌, ℕ, Bool, true, false, List, [], ◌∷◌, ◌++◌, codes, Option, Some, None}
 use Rattle.std.specs.Fmt.{decimal, signed_decimal}
 use Rattle.std.specs.String.{string_bytes}
-use Rattle.kmipa_runs.specs.Dates.{HasDate}
+use Rattle.kmipa_runs.specs.Dates.{TellsSecond}
 use Rattle.kmipa_runs.specs.Lines.{line}
 use Rattle.kmipa_runs.specs.Shown.{quoted}
 use Rattle.kmipa_telling.specs.AttributeCauses.{PrintsAttributes}
@@ -28,7 +28,7 @@ use Rattle.kmipa_explain.specs.declared.source.Whence.{Whence}
 
 -- the line of the turn before, with the date of its stamp
 abbrev pub PrintsBefore : TurnBefore → List ℕ → Type 0
-PrintsBefore before lines = (date : List ℕ) × (¬ (HasDate before.stamp) → date ≡ signed_decimal before.stamp)
+PrintsBefore before lines = (date : List ℕ) × TellsSecond before.stamp date
     × (lines ≡ line (codes "turn before: turn " ∷ decimal before.turn ∷ codes " call " ∷ signed_decimal before.call ∷ codes " at " ∷ date ∷ []))
 
 abbrev pub option_text : BatchOption → List ℕ

@@ -1,16 +1,18 @@
 -- What is told in JSON of a check that also says what its no means.
-use Rattle.std.specs.Prelude.{◌≡◌, ℕ, List, Result, Ok, Err}
+use Rattle.std.specs.Prelude.{◌≡◌, ℕ, List, Option, None, Result, Ok, Err}
 use Rattle.serde_json.specs.Data.{Members, object}
 use Rattle.kmipa_json.specs.Told.{line_of}
-use Rattle.kmipa_ttlv.specs.Input.{is_failed, IsFileOf}
+use Rattle.kmipa_ttlv.specs.Input.{came_of, is_failed, IsFileOf}
 use Rattle.kmipa_ttlv.specs.declared.input.Input.{Input}
 use Rattle.kmipa_record.specs.Transcripts.{transcript_of}
 use Rattle.kmipa_record.specs.Witnesses.{witness_of}
+use Rattle.kmipa_record.specs.declared.head.Head.{Head}
 use Rattle.kmipa_runs.specs.declared.status.Status.{Status}
 use Rattle.kmipa_telling.specs.Claims.{TellsMeaning}
 use Rattle.kmipa_telling.specs.Explaining.{AuditsExplained}
 use Rattle.kmipa_telling.specs.FaultsTold.{TellsFaultTold, by_fault}
 use Rattle.kmipa_telling.specs.Judging.{AreEnded, WhereRead}
+use Rattle.kmipa_telling.specs.Seals.{KnowsJudged}
 use Rattle.kmipa_telling.specs.Telling.{TellsVerdict, check_files, opened}
 use Rattle.kmipa_telling.specs.declared.explained.Explained.{Explained}
 use Rattle.kmipa_telling.specs.declared.fault_told.FaultTold.{FaultTold}
@@ -27,7 +29,12 @@ TellsExplained (Ok explained) said before after = (told : Members)
     × TellsMeaning explained.explanation told after
 TellsExplained (Err told) said before after = TellsFaultTold told said before after
 
--- what is printed of this outcome: one object on a line
+-- the head that is told behind a verdict
+abbrev pub explained_head : Result Explained FaultTold → Option Head
+explained_head (Ok explained) = explained.records.transcript.head
+explained_head (Err told) = None
+
+-- what is printed of this outcome: one object on a line, behind a verdict with the head of a sealed transcript
 abbrev pub PrintsExplainedJson : {R : Type 0} → Input R → Input R → Input R → Result Explained FaultTold → Status → List ℕ → Type 0
-PrintsExplainedJson t d w outcome said lines = (told : Members) × TellsExplained outcome said (opened (check_files t d w)) told
-    × (lines ≡ line_of (object told))
+PrintsExplainedJson t d w outcome said lines = (known : Option Head) × (told : Members) × KnowsJudged outcome (came_of t) known
+    × TellsExplained outcome said (opened (check_files known t d w)) told × (lines ≡ line_of (object told))

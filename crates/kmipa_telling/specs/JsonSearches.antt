@@ -2,8 +2,9 @@
 use Rattle.std.specs.Prelude.{◌≡◌, ℕ, List, [], Bool, true, false, IsTrue, codes, Option, Some, None, Result, Ok, Err}
 use Rattle.serde_json.specs.Data.{Members, Items, no_items, item, object, array, boolean, put}
 use Rattle.kmipa_json.specs.Told.{count, file_members, line_of, with_item}
-use Rattle.kmipa_ttlv.specs.Input.{is_ended, is_failed, IsFileOf}
+use Rattle.kmipa_ttlv.specs.Input.{came_of, is_ended, is_failed, IsFileOf}
 use Rattle.kmipa_ttlv.specs.declared.input.Input.{Input}
+use Rattle.kmipa_record.specs.declared.head.Head.{Head}
 use Rattle.kmipa_search.specs.declared.found.Found.{Found}
 use Rattle.kmipa_search.specs.declared.found.Found.TheVariants.{Yes, GaveUp}
 use Rattle.kmipa_runs.specs.Searches.{found_status, Makes}
@@ -14,7 +15,8 @@ use Rattle.kmipa_telling.specs.Deciding.{DecidesFiles}
 use Rattle.kmipa_telling.specs.DeepestClaims.{told_reached}
 use Rattle.kmipa_telling.specs.FaultsTold.{TellsFaultTold, by_fault}
 use Rattle.kmipa_telling.specs.Judging.{WhereRead}
-use Rattle.kmipa_telling.specs.Telling.{input_members, opened, verdict_named}
+use Rattle.kmipa_telling.specs.Seals.{KnowsJudged}
+use Rattle.kmipa_telling.specs.Telling.{input_members, opened, transcript_members, verdict_named}
 use Rattle.kmipa_telling.specs.declared.fault_told.FaultTold.{FaultTold}
 use Rattle.kmipa_telling.specs.declared.judged.Decision.{Decision}
 use Rattle.kmipa_telling.specs.declared.judged.Decision.TheVariants as decision
@@ -72,9 +74,9 @@ judged_items (Ok judged) made told = found_items judged.searched.found made told
 judged_items (Err fault) made told = told
 
 -- the files of a search: the two that are read, and the one that is made
-abbrev pub judged_files : {R : Type 0} → Result Judged FaultTold → Input R → Input R → List ℕ → Items
-judged_files outcome t d made = judged_items outcome made
-    (item (object (input_members (codes "transcript") t)) (item (object (input_members (codes "declaration") d)) no_items))
+abbrev pub judged_files : {R : Type 0} → Result Judged FaultTold → Option Head → Input R → Input R → List ℕ → Items
+judged_files outcome known t d made = judged_items outcome made
+    (item (object (transcript_members known t)) (item (object (input_members (codes "declaration") d)) no_items))
 
 -- the bytes are a file of the witness that was found, or none
 abbrev pub MakesFile : Result Judged FaultTold → List ℕ → Type 0
@@ -85,7 +87,8 @@ abbrev pub TellsJudged : Result Judged FaultTold → Status → Members → Memb
 TellsJudged (Ok judged) said before after = (said ≡ found_status judged.searched.found) × (after ≡ found_members judged before)
 TellsJudged (Err told) said before after = TellsFaultTold told said before after
 
--- what a search of two files prints in JSON of this outcome, one object on a line, and what it makes
+-- what a search of two files prints in JSON of this outcome, one object on a line, with the head of a sealed transcript, and what it makes
 abbrev pub PrintsJsonSearch : {R : Type 0} → Input R → Input R → Result Judged FaultTold → Status → List ℕ → List ℕ → Type 0
 PrintsJsonSearch t d outcome said lines made = MakesFile outcome made
-    × ((told : Members) × TellsJudged outcome said (opened (judged_files outcome t d made)) told × (lines ≡ line_of (object told)))
+    × ((known : Option Head) × (told : Members) × KnowsJudged outcome (came_of t) known
+    × TellsJudged outcome said (opened (judged_files outcome known t d made)) told × (lines ≡ line_of (object told)))

@@ -1,6 +1,6 @@
 -- What is judged of files whose bytes are held in memory as they are read.
 use Rattle.std.specs.Prelude.{◌≡◌, ℕ, List, [], ◌++◌, Bool, false, IsTrue, Result, Ok, Err, OnOk}
-use Rattle.kmipa_ttlv.specs.Input.{came_of, is_ended, is_failed, IsFileOf}
+use Rattle.kmipa_ttlv.specs.Input.{is_ended, is_failed, IsFileOf}
 use Rattle.kmipa_ttlv.specs.declared.input.Input.{Input}
 use Rattle.kmipa_record.specs.Files.{Tells}
 use Rattle.kmipa_record.specs.declared.fault.RecordFault.{RecordFault}

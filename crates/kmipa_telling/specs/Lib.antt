@@ -29,6 +29,7 @@ pub mod OutsideClaims
 pub mod OutsideLines
 pub mod OutsidePhrases
 pub mod Phrases
+pub mod Seals
 pub mod SourceClaims
 pub mod Sources
 pub mod StateCauses

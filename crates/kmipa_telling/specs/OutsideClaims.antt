@@ -1,12 +1,12 @@
 -- What is told in JSON of what makes a message outside.
-use Rattle.std.specs.Prelude.{List, codes}
+use Rattle.std.specs.Prelude.{codes}
 use Rattle.std.specs.String.{string_bytes}
-use Rattle.serde_json.specs.Data.{Members, array, no_members, object, string, put}
+use Rattle.serde_json.specs.Data.{Members, array, no_members, string, put}
 use Rattle.kmipa_check.specs.declared.fault.Side.{Side}
 use Rattle.kmipa_outside.specs.declared.explaining.OutsideExplanation.{OutsideExplanation}
 use Rattle.kmipa_outside.specs.declared.told.FieldTold.{FieldTold}
 use Rattle.kmipa_outside.specs.declared.told.MessageTold.{MessageTold}
-use Rattle.kmipa_outside.specs.declared.told.MessageTold.TheVariants.{Flaw, Longer, Tagged, Fields}
+use Rattle.kmipa_outside.specs.declared.told.MessageTold.TheVariants.{Fields}
 use Rattle.kmipa_telling.specs.EventClaims.{operation_told}
 use Rattle.kmipa_telling.specs.Lists.{objects}
 use Rattle.kmipa_telling.specs.OutsideLines.{message_text, whole_text}

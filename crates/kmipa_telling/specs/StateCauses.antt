@@ -1,7 +1,6 @@
 -- What is printed of an object's state, of the operation that it bears on, and of the dates that it follows from.
 use Rattle.std.specs.Prelude.{◌≡◌, ℕ, ℤ, Bool, true, false, List, [], ◌∷◌, ◌++◌, codes, Option, Some, None}
-use Rattle.std.specs.Fmt.{signed_decimal}
-use Rattle.kmipa_runs.specs.Dates.{HasDate}
+use Rattle.kmipa_runs.specs.Dates.{TellsSecond}
 use Rattle.kmipa_runs.specs.Lines.{line}
 use Rattle.kmipa_object.specs.Life.{state_name}
 use Rattle.kmipa_object.specs.declared.allow.Act.{Act}
@@ -35,7 +34,7 @@ state_line s = line (codes "state: " ∷ state_name s.state ∷ codes ", which e
 abbrev pub PrintsMoment : List ℕ → Option ℤ → List ℕ → Type 0
 PrintsMoment name None lines = lines ≡ line (name ∷ codes ": none" ∷ [])
 PrintsMoment name (Some second) lines =
-    (date : List ℕ) × (¬ (HasDate second) → date ≡ signed_decimal second) × (lines ≡ line (name ∷ codes ": " ∷ date ∷ []))
+    (date : List ℕ) × TellsSecond second date × (lines ≡ line (name ∷ codes ": " ∷ date ∷ []))
 
 -- the same with whence it is
 abbrev pub PrintsDate : List ℕ → Option ℤ → Option Source → List ℕ → Type 0

@@ -2,7 +2,7 @@
 use Rattle.std.specs.Prelude.{◌≡◌, ℕ, ◌-◌, Bool, true, false, List, [], ◌∷◌, ◌++◌, codes, drop, length, Option, Some, None}
 use Rattle.std.specs.String.{string_bytes}
 use Rattle.std.specs.Fmt.{decimal, signed_decimal}
-use Rattle.kmipa_runs.specs.Dates.{HasDate}
+use Rattle.kmipa_runs.specs.Dates.{TellsSecond}
 use Rattle.kmipa_runs.specs.Lines.{line}
 use Rattle.kmipa_runs.specs.Shown.{quoted}
 use Rattle.kmipa_telling.specs.Lists.{AreLines}
@@ -24,7 +24,7 @@ place_text e = codes "turn " ++ (decimal e.turn ++ (codes " call " ++ (signed_de
 
 -- the line of an item that was done to an object, behind this word
 abbrev pub PrintsEvent : List ℕ → Event → List ℕ → Type 0
-PrintsEvent word e lines = (date : List ℕ) × (¬ (HasDate e.stamp) → date ≡ signed_decimal e.stamp)
+PrintsEvent word e lines = (date : List ℕ) × TellsSecond e.stamp date
     × (lines ≡ line (word ∷ codes ": " ∷ place_text e ∷ codes " at " ∷ date ∷ codes ": " ∷ operation_text e.operation ∷ undone_text e.undone ∷ []))
 
 -- the line of the item that made the object later, where there is one

@@ -1,7 +1,6 @@
 -- What is told in JSON of a verdict or a fault: the numbers of its line, each under a name of its own. An object has each name once, and
 -- what is put under a name stands in place of what it had there.
 use Rattle.std.specs.Prelude.{◌≡◌, ℕ, ℤ, Bool, true, false, List, codes, Option, Some, None, Result, Ok, Err}
-use Rattle.std.specs.Fmt.{signed_decimal}
 use Rattle.serde_json.specs.Data.{Members, Items, no_items, item, no_members, object, array, string, put}
 use Rattle.kmipa_json.specs.Told.{count, integer, file_members, line_of}
 use Rattle.kmipa_ttlv.specs.Flaw.{fault_name}
@@ -13,6 +12,7 @@ use Rattle.kmipa_ops.specs.Whys.{why_number, why_name}
 use Rattle.kmipa_record.specs.Kinds as files
 use Rattle.kmipa_record.specs.declared.fault.RecordKind.{RecordKind}
 use Rattle.kmipa_record.specs.declared.fault.RecordKind.TheVariants.{Ttlv, Device, Memory}
+use Rattle.kmipa_record.specs.declared.head.Head.{Head}
 use Rattle.kmipa_record.specs.Marks.{MarkOf}
 use Rattle.kmipa_record.specs.Witnesses.{TurnOf, witness_of}
 use Rattle.kmipa_record.specs.Transcripts.{transcript_of}
@@ -26,10 +26,11 @@ use Rattle.kmipa_check.specs.declared.fault.CheckFault.TheVariants as check
 use Rattle.kmipa_check.specs.declared.verdict.Refused.{Refused}
 use Rattle.kmipa_check.specs.declared.verdict.Verdict.{Verdict}
 use Rattle.kmipa_check.specs.declared.verdict.Verdict.TheVariants as verdict
-use Rattle.kmipa_runs.specs.Dates.{HasDate}
-use Rattle.kmipa_runs.specs.Lines.{side_name, record_status, check_status, fault_status}
+use Rattle.kmipa_runs.specs.Dates.{TellsSecond}
+use Rattle.kmipa_runs.specs.Lines.{side_name, fault_status}
 use Rattle.kmipa_runs.specs.declared.status.Status.{Status}
 use Rattle.kmipa_runs.specs.declared.status.Status.TheVariants as status
+use Rattle.kmipa_telling.specs.Seals.{KnowsJudged, sealed_members}
 
 -- what stands for the line's first word
 abbrev pub verdict_named : List ℕ → Members → Members
@@ -52,7 +53,7 @@ refused_members r told = named_under (codes "why") (why_number r.why) (why_name 
 -- a moment in seconds and as a date, or the number of its second where the calendar ends before; nothing without a moment
 abbrev pub TellsDate : Option ℤ → Members → Members → Type 0
 TellsDate None before after = after ≡ before
-TellsDate (Some second) before after = (date : List ℕ) × (¬ (HasDate second) → date ≡ signed_decimal second)
+TellsDate (Some second) before after = (date : List ℕ) × TellsSecond second date
     × (after ≡ put (codes "date") (string date) (put (codes "stamp") (integer second) before))
 
 -- what is told of a verdict on these marks and turns; of a no besides the Time Stamp of its call's response
@@ -114,11 +115,21 @@ read_members role false came = put (codes "role") (string role) no_members
 abbrev pub input_members : {R : Type 0} → List ℕ → Input R → Members
 input_members role i = read_members role (is_ended i) (came_of i)
 
+-- what is told of a transcript, with what it is known by
+abbrev pub transcript_members : {R : Type 0} → Option Head → Input R → Members
+transcript_members known t = sealed_members known (input_members (codes "transcript") t)
+
 -- the three files of a check
-abbrev pub check_files : {R : Type 0} → Input R → Input R → Input R → Items
-check_files t d w = item (object (input_members (codes "transcript") t)) (item (object (input_members (codes "declaration") d))
+abbrev pub check_files : {R : Type 0} → Option Head → Input R → Input R → Input R → Items
+check_files known t d w = item (object (transcript_members known t)) (item (object (input_members (codes "declaration") d))
     (item (object (input_members (codes "witness") w)) no_items))
 
--- what a check of three files prints in JSON of this outcome: one object on a line
+-- the head that is told behind a verdict
+abbrev pub audit_head : Result Audited AuditFault → Option Head
+audit_head (Ok audited) = audited.transcript.head
+audit_head (Err fault) = None
+
+-- what a check of three files prints in JSON of this outcome: one object on a line, behind a verdict with the head of a sealed transcript
 abbrev pub PrintsJson : {R : Type 0} → Input R → Input R → Input R → Result Audited AuditFault → Status → List ℕ → Type 0
-PrintsJson t d w outcome said lines = (told : Members) × TellsOutcome outcome said (opened (check_files t d w)) told × (lines ≡ line_of (object told))
+PrintsJson t d w outcome said lines = (known : Option Head) × (told : Members) × KnowsJudged outcome (came_of t) known
+    × TellsOutcome outcome said (opened (check_files known t d w)) told × (lines ≡ line_of (object told))

@@ -5,6 +5,7 @@ ghost use Rattle.kmipa_record.specs.declared.fault.RecordKind.{RecordKind};
 ghost use Rattle.kmipa_record.specs.Declarations.{declaration_of, AreDeclared, IsDeclaration, DeclarationFault, IsDeclarationUpTo};
 ghost use Rattle.kmipa_record.specs.Transcripts.{transcript_of, IsTranscript, TranscriptFault, IsTranscriptUpTo};
 ghost use Rattle.kmipa_record.specs.Witnesses.{witness_of, IsWitness, WitnessFault, IsWitnessUpTo};
+ghost use Rattle.kmipa_runs.specs.Knowing.{Known};
 ghost use Rattle.kmipa_telling.specs.Judging.{ReadsBytes};
 
 use kmipa_record::{
@@ -38,7 +39,7 @@ pub trait Kept: Sized {
 }
 
 impl Kept for Transcript {
-    ghost is = { λ bytes transcript. IsTranscript bytes (transcript_of transcript) };
+    ghost is = { λ bytes transcript. IsTranscript bytes (transcript_of transcript) × Known bytes transcript.head };
 
     ghost flaw = { TranscriptFault };
 

@@ -26,8 +26,9 @@ pub struct Explained {
 pub fn explain_records(alloc: Global, records: AuditRecords) -> Result<Explained, FaultTold>
     requires recorded { AreRecorded (transcript_of records.transcript) }
     requires declared { AreDeclared (declaration_of records.declaration) }
-    ensures { (t d w : List ℕ) (failed_t failed_d failed_w : Bool) → AreRecords records t d w
+    ensures audits { (t d w : List ℕ) (failed_t failed_d failed_w : Bool) → AreRecords records t d w
         → AuditsExplained t d w failed_t failed_d failed_w result }
+    ensures same { IfOk result (λ explained. explained.records ≡ records) }
 {
     let verdict = match check(
         alloc,

@@ -5,10 +5,13 @@ ghost use Rattle.std.specs.Io.{StartsWith, appended_bytes};
 ghost use Rattle.kmipa_ttlv.specs.Input.{came_of};
 ghost use Rattle.kmipa_json.specs.Told.{members_of};
 ghost use Rattle.kmipa_check.specs.Audits.{AreAccepted};
+ghost use Rattle.kmipa_runs.specs.Knowing.{KnowsSeals};
 ghost use Rattle.kmipa_runs.specs.Statuses.{IsSilent};
-ghost use Rattle.kmipa_telling.specs.ExplainedJson.{ExplainsInputs, PrintsExplainedJson, TellsExplained};
+ghost use Rattle.kmipa_telling.specs.ExplainedJson.{ExplainsInputs, PrintsExplainedJson, TellsExplained, explained_head};
 ghost use Rattle.kmipa_telling.specs.Held.{HoldsAll, HoldsNothing};
 ghost use Rattle.kmipa_telling.specs.Judging.{AreEnded};
+ghost use Rattle.kmipa_telling.specs.Seals.{KnowsJudged};
+ghost use Rattle.kmipa_telling.specs.Telling.{check_files, opened};
 
 use crate::claims::tell_meaning;
 use crate::explained::{Explained, explain_records};
@@ -19,20 +22,22 @@ use crate::json::open_files;
 use crate::judging::records_held;
 use crate::telling::tell_verdict;
 use kmipa_json::JsonObject;
-use kmipa_runs::{Lines, Status, append};
+use kmipa_record::Head;
+use kmipa_runs::{Answered, Lines, Status, append};
 use kmipa_ttlv::Input;
 use std::alloc::{AllocError, Global};
 use std::io::Read;
 
 /// `check TRANSCRIPT DECLARATION WITNESS --json --explain`: appends the object that `check_json` appends, and where it tells a no, or a
-/// message that is outside, with what this means as one member more; and answers the status. Where memory runs out nothing is appended, and the status is `Failed`.
+/// message that is outside, with what this means as one member more; and answers the status, and the head of a sealed transcript. Where memory
+/// runs out nothing is appended, and the status is `Failed`.
 pub fn explain_json<R: Read>(
     alloc: Global,
     transcript: &mut Input<R>,
     declaration: &mut Input<R>,
     witness: &mut Input<R>,
     out: &mut Vec<u8>,
-) -> Status
+) -> Answered
     requires transcript { came_of transcript.old ≡ [] }
     requires declaration { came_of declaration.old ≡ [] }
     requires witness { came_of witness.old ≡ [] }
@@ -40,39 +45,41 @@ pub fn explain_json<R: Read>(
     // ran out.
     ensures prints { ((outcome : Result Explained FaultTold)
         × ExplainsInputs transcript.new declaration.new witness.new outcome
-        × PrintsExplainedJson transcript.new declaration.new witness.new outcome result
+        × PrintsExplainedJson transcript.new declaration.new witness.new outcome result.status
         (appended_bytes out.old.items out.new.items))
-        ⊎ IsSilent result (appended_bytes out.old.items out.new.items) }
+        ⊎ IsSilent result.status (appended_bytes out.old.items out.new.items) }
     // Status 0 is answered only where the bytes that came, to the ends that were seen, are accepted.
-    ensures accepts { result ≡ Status.Done
+    ensures accepts { result.status ≡ Status.Done
         → AreAccepted (came_of transcript.new) (came_of declaration.new) (came_of witness.new)
         × AreEnded transcript.new declaration.new witness.new }
+    // With a verdict the head is answered up to which all seals of the bytes that came are right, or none of bytes without seals.
+    ensures known { KnowsSeals (came_of transcript.new) result.status result.head }
     ensures appends { StartsWith out.new.items out.old.items }
 {
-    append(
-        explained_object(alloc, transcript, declaration, witness),
-        out,
-    )
+    let mut held = Held::new(alloc);
+    match explain_held(alloc, transcript, declaration, witness, &mut held) {
+        Ok(outcome) => {
+            let lines = lines_of(alloc, transcript, declaration, witness, &held, &outcome);
+            Answered {
+                status: append(lines, out),
+                head: explained_head(outcome),
+            }
+        }
+        Err(error) => Answered {
+            status: append(Err(error), out),
+            head: None,
+        },
+    }
 }
 
-/// The object of a check of these files, on a line.
-fn explained_object<R: Read>(
-    alloc: Global,
-    transcript: &mut Input<R>,
-    declaration: &mut Input<R>,
-    witness: &mut Input<R>,
-) -> Result<Lines, AllocError>
-    requires transcript { came_of transcript.old ≡ [] }
-    requires declaration { came_of declaration.old ≡ [] }
-    requires witness { came_of witness.old ≡ [] }
-    ensures { IfOk result (λ lines. (outcome : Result Explained FaultTold)
-        × ExplainsInputs transcript.new declaration.new witness.new outcome
-        × PrintsExplainedJson transcript.new declaration.new witness.new outcome lines.status
-        (string_bytes lines.text)) }
+/// The head of the transcript that was checked, if it is sealed.
+fn explained_head(outcome: Result<Explained, FaultTold>) -> Option<Head>
+    ensures { result ≡ explained_head outcome }
 {
-    let mut held = Held::new(alloc);
-    let outcome = explain_held(alloc, transcript, declaration, witness, &mut held)?;
-    lines_of(alloc, transcript, declaration, witness, &held, &outcome)
+    match outcome {
+        Ok(explained) => explained.records.transcript.head,
+        Err(_) => None,
+    }
 }
 
 /// The object of a check of files whose bytes are held, with this outcome, on a line.
@@ -84,16 +91,43 @@ fn lines_of<R>(
     held: &Held,
     outcome: &Result<Explained, FaultTold>,
 ) -> Result<Lines, AllocError>
-    requires { HoldsAll held.now transcript.now declaration.now witness.now }
+    requires held { HoldsAll held.now transcript.now declaration.now witness.now }
+    requires known { KnowsJudged outcome.now (came_of transcript.now) (explained_head outcome.now) }
     ensures { IfOk result (λ lines. PrintsExplainedJson transcript.now declaration.now witness.now outcome.now
         lines.status (string_bytes lines.text)) }
 {
-    let mut told = open_files(alloc, transcript, declaration, witness, held)?;
+    let mut told = opened_object(alloc, transcript, declaration, witness, held, outcome)?;
     let status = tell_explained(alloc, &mut told, outcome)?;
     Ok(Lines {
         text: told.into_line()?,
         status,
     })
+}
+
+/// An object that has what every one has, where a check of these files had this outcome.
+fn opened_object<R>(
+    alloc: Global,
+    transcript: &Input<R>,
+    declaration: &Input<R>,
+    witness: &Input<R>,
+    held: &Held,
+    outcome: &Result<Explained, FaultTold>,
+) -> Result<JsonObject, AllocError>
+    requires { HoldsAll held.now transcript.now declaration.now witness.now }
+    ensures { IfOk result (λ told. members_of told
+        ≡ opened (check_files (explained_head outcome.now) transcript.now declaration.now witness.now)) }
+{
+    match outcome {
+        Ok(explained) => open_files(
+            alloc,
+            transcript,
+            declaration,
+            witness,
+            held,
+            &explained.records.transcript.head,
+        ),
+        Err(_) => open_files(alloc, transcript, declaration, witness, held, &None),
+    }
 }
 
 /// Reads the three inputs, of which nothing was read, one after the other, and checks the witness; at a no with what it means. What came of
@@ -110,6 +144,8 @@ fn explain_held<R: Read>(
     requires witness { came_of witness.old ≡ [] }
     requires none { HoldsNothing held.old }
     ensures explains { IfOk result (ExplainsInputs transcript.new declaration.new witness.new) }
+    ensures known { IfOk result
+        (λ outcome. KnowsJudged outcome (came_of transcript.new) (explained_head outcome)) }
     ensures held { OnOk result (HoldsAll held.new transcript.new declaration.new witness.new) }
 {
     match records_held(alloc, transcript, declaration, witness, held)? {

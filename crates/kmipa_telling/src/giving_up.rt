@@ -4,6 +4,7 @@ ghost use Rattle.std.specs.Prelude.{◌≡◌, ◌≢◌, ◌⊎◌, ℕ, List, 
 ghost use Rattle.std.specs.Io.{StartsWith, appended_bytes};
 ghost use Rattle.kmipa_ttlv.specs.Input.{came_of, is_ended, is_failed, IsFileOf};
 ghost use Rattle.kmipa_check.specs.Audits.{AreAccepted};
+ghost use Rattle.kmipa_runs.specs.Knowing.{Known, KnowsSeals};
 ghost use Rattle.kmipa_runs.specs.Searches.{found_status};
 ghost use Rattle.kmipa_runs.specs.Statuses.{IsSilent};
 ghost use Rattle.kmipa_telling.specs.Deciding.{DecidesFiles};
@@ -12,11 +13,11 @@ ghost use Rattle.kmipa_telling.specs.GivingUp.{PrintsGivingUp, decision_line, de
 use crate::deepest::reached_text;
 use crate::fault_told::FaultTold;
 use crate::faults::{fault_told, fault_told_lines};
-use crate::judged::{Decision, Judged, judge_records};
+use crate::judged::{Decision, Judged, SearchOptions, judge_records};
 use crate::phrases::calls_text;
 use kmipa_check::AuditFault;
-use kmipa_record::{read_declaration, read_transcript};
-use kmipa_runs::{Lines, Status, append, searched_lines, tell_witness};
+use kmipa_record::{Head, read_declaration, read_transcript};
+use kmipa_runs::{Answered, Lines, Status, append, searched_lines, tell_witness};
 use kmipa_search::{Found, Watch};
 use kmipa_ttlv::Input;
 use std::alloc::{AllocError, Global};
@@ -24,7 +25,7 @@ use std::io::Read;
 
 /// `search TRANSCRIPT DECLARATION OUT --explain`: does what `search_run` does, and appends behind the lines of a giving up one more, which
 /// tells whether the search has decided, and if not, why; and where the calls are plain, those of the deepest place that it reached. Behind the
-/// line of a message that is outside it appends those of why it is.
+/// line of a message that is outside it appends those of why it is. It answers the status, and the head of a sealed transcript.
 pub fn explain_search_run<R: Read, W: Watch>(
     alloc: Global,
     transcript: &mut Input<R>,
@@ -35,7 +36,7 @@ pub fn explain_search_run<R: Read, W: Watch>(
     watch: &mut W,
     out: &mut Vec<u8>,
     made: &mut Vec<u8>,
-) -> Status
+) -> Answered
     requires transcript { came_of transcript.old ≡ [] }
     requires declaration { came_of declaration.old ≡ [] }
     // What is made and printed tells what a search answers of whatever the inputs may be, with what its
@@ -43,39 +44,54 @@ pub fn explain_search_run<R: Read, W: Watch>(
     ensures prints { (outcome : Result Judged FaultTold)
         × ((t d : List ℕ) → IsFileOf t transcript.new → IsFileOf d declaration.new
         → DecidesFiles t d (is_failed transcript.new) (is_failed declaration.new) budget forced outcome)
-        × (PrintsGivingUp outcome result (appended_bytes out.old.items out.new.items)
+        × (PrintsGivingUp outcome result.status (appended_bytes out.old.items out.new.items)
         (appended_bytes made.old.items made.new.items)
-        ⊎ (IsSilent result (appended_bytes out.old.items out.new.items)
+        ⊎ (IsSilent result.status (appended_bytes out.old.items out.new.items)
         × (appended_bytes made.old.items made.new.items ≡ []))) }
     // Status 0 is answered only where the bytes that came, to the ends that were seen, are accepted with the
     // witness that is made.
-    ensures accepts { result ≡ Status.Done
+    ensures accepts { result.status ≡ Status.Done
         → AreAccepted (came_of transcript.new) (came_of declaration.new) (appended_bytes made.old.items made.new.items)
         × IsTrue (is_ended transcript.new) × IsTrue (is_ended declaration.new) }
-    ensures nothing { result ≢ Status.Done → made.new.items ≡ made.old.items }
+    ensures nothing { result.status ≢ Status.Done → made.new.items ≡ made.old.items }
+    // With a verdict the head is answered up to which all seals of the bytes that came are right, or none of bytes without seals.
+    ensures known { KnowsSeals (came_of transcript.new) result.status result.head }
     ensures appends { StartsWith out.new.items out.old.items }
     ensures makes { StartsWith made.new.items made.old.items }
 {
-    match judge_inputs(alloc, transcript, declaration, budget, forced, open, watch) {
-        Ok(judged) => tell_judged(alloc, &judged, out, made),
-        Err(told) => append(fault_told_lines(alloc, &told), out),
+    let asked = SearchOptions {
+        budget,
+        forced,
+        open,
+    };
+    let mut head = None;
+    match judge_inputs(alloc, transcript, declaration, asked, watch, &mut head) {
+        Ok(judged) => Answered {
+            status: tell_judged(alloc, &judged, out, made),
+            head,
+        },
+        Err(told) => Answered {
+            status: append(fault_told_lines(alloc, &told), out),
+            head: None,
+        },
     }
 }
 
-/// Reads the two inputs, of which nothing was read, one after the other, and searches; at a giving up with what it says.
+/// Reads the two inputs, of which nothing was read, one after the other, and searches; at a giving up with what it says. The head of
+/// a transcript that was searched is kept, if it is sealed.
 fn judge_inputs<R: Read, W: Watch>(
     alloc: Global,
     transcript: &mut Input<R>,
     declaration: &mut Input<R>,
-    budget: u64,
-    forced: bool,
-    open: bool,
+    asked: SearchOptions,
     watch: &mut W,
+    head: &mut Option<Head>,
 ) -> Result<Judged, FaultTold>
     requires transcript { came_of transcript.old ≡ [] }
     requires declaration { came_of declaration.old ≡ [] }
     ensures decides { (t d : List ℕ) → IsFileOf t transcript.new → IsFileOf d declaration.new
-        → DecidesFiles t d (is_failed transcript.new) (is_failed declaration.new) budget forced result }
+        → DecidesFiles t d (is_failed transcript.new) (is_failed declaration.new) asked.budget asked.forced result }
+    ensures known { IfOk result (λ judged. Known (came_of transcript.new) head.new) }
     ensures ended { OnOk result (IsTrue (is_ended transcript.new) × IsTrue (is_ended declaration.new)) }
 {
     let transcript = match read_transcript(alloc, transcript) {
@@ -86,16 +102,11 @@ fn judge_inputs<R: Read, W: Watch>(
         Ok(declaration) => declaration,
         Err(fault) => return Err(FaultTold::bare(AuditFault::Declaration(fault))),
     };
-    match judge_records(
-        alloc,
-        &transcript,
-        &declaration,
-        budget,
-        forced,
-        open,
-        watch,
-    ) {
-        Ok(judged) => Ok(judged),
+    match judge_records(alloc, &transcript, &declaration, asked, watch) {
+        Ok(judged) => {
+            *head = transcript.head;
+            Ok(judged)
+        }
         Err(fault) => Err(fault_told(alloc, &transcript, fault)),
     }
 }

@@ -5,17 +5,21 @@ ghost use Rattle.std.specs.Io.{StartsWith, appended_bytes};
 ghost use Rattle.kmipa_ttlv.specs.Input.{came_of};
 ghost use Rattle.kmipa_json.specs.Told.{items_of, members_of};
 ghost use Rattle.kmipa_check.specs.Audits.{AreAccepted};
+ghost use Rattle.kmipa_runs.specs.Knowing.{KnowsSeals};
 ghost use Rattle.kmipa_runs.specs.Statuses.{IsSilent};
 ghost use Rattle.kmipa_telling.specs.Held.{HoldsAll};
 ghost use Rattle.kmipa_telling.specs.Judging.{AreEnded, AuditsInputs};
-ghost use Rattle.kmipa_telling.specs.Telling.{PrintsJson, TellsOutcome, check_files, input_members, opened};
+ghost use Rattle.kmipa_telling.specs.Seals.{KnowsJudged};
+ghost use Rattle.kmipa_telling.specs.Telling.{PrintsJson, TellsOutcome, audit_head, check_files, input_members, opened, transcript_members};
 
 use crate::held::Held;
 use crate::judging::audit_held;
+use crate::seals::tell_seal;
 use crate::telling::{tell_fault, tell_verdict};
 use kmipa_check::{AuditFault, Audited};
 use kmipa_json::{JsonList, JsonObject, told_file};
-use kmipa_runs::{Lines, Status, append};
+use kmipa_record::Head;
+use kmipa_runs::{Answered, Lines, Status, append};
 use kmipa_ttlv::Input;
 use std::alloc::{AllocError, Global};
 use std::io::Read;
@@ -24,74 +28,139 @@ use std::io::Read;
 pub const VERSION: &str = "0.1.0";
 
 /// `check TRANSCRIPT DECLARATION WITNESS --json`: appends one JSON object and a line feed, which tell the verdict, or the fault that
-/// stands in its place, and answers the status. Where memory runs out nothing is appended, and the status is `Failed`.
+/// stands in its place, and answers the status. Behind a verdict on a sealed transcript they tell its head, which is answered too. Where memory
+/// runs out nothing is appended, and the status is `Failed`.
 pub fn check_json<R: Read>(
     alloc: Global,
     transcript: &mut Input<R>,
     declaration: &mut Input<R>,
     witness: &mut Input<R>,
     out: &mut Vec<u8>,
-) -> Status
+) -> Answered
     requires transcript { came_of transcript.old ≡ [] }
     requires declaration { came_of declaration.old ≡ [] }
     requires witness { came_of witness.old ≡ [] }
     // What is printed tells what an audit answers of whatever the inputs may be, or memory ran out.
     ensures prints { ((outcome : Result Audited AuditFault)
         × AuditsInputs transcript.new declaration.new witness.new outcome
-        × PrintsJson transcript.new declaration.new witness.new outcome result
+        × PrintsJson transcript.new declaration.new witness.new outcome result.status
         (appended_bytes out.old.items out.new.items))
-        ⊎ IsSilent result (appended_bytes out.old.items out.new.items) }
+        ⊎ IsSilent result.status (appended_bytes out.old.items out.new.items) }
     // Status 0 is answered only where the bytes that came, to the ends that were seen, are accepted.
-    ensures accepts { result ≡ Status.Done
+    ensures accepts { result.status ≡ Status.Done
         → AreAccepted (came_of transcript.new) (came_of declaration.new) (came_of witness.new)
         × AreEnded transcript.new declaration.new witness.new }
+    // With a verdict the head is answered up to which all seals of the bytes that came are right, or none of bytes without seals.
+    ensures known { KnowsSeals (came_of transcript.new) result.status result.head }
     ensures appends { StartsWith out.new.items out.old.items }
 {
-    append(check_object(alloc, transcript, declaration, witness), out)
+    let mut held = Held::new(alloc);
+    match audit_held(alloc, transcript, declaration, witness, &mut held) {
+        Ok(outcome) => {
+            let lines = lines_of(alloc, transcript, declaration, witness, &held, &outcome);
+            Answered {
+                status: append(lines, out),
+                head: audit_head(outcome),
+            }
+        }
+        Err(error) => Answered {
+            status: append(Err(error), out),
+            head: None,
+        },
+    }
 }
 
-/// The object of an audit of these files, on a line.
-fn check_object<R: Read>(
-    alloc: Global,
-    transcript: &mut Input<R>,
-    declaration: &mut Input<R>,
-    witness: &mut Input<R>,
-) -> Result<Lines, AllocError>
-    requires transcript { came_of transcript.old ≡ [] }
-    requires declaration { came_of declaration.old ≡ [] }
-    requires witness { came_of witness.old ≡ [] }
-    ensures { IfOk result
-        (λ lines. (outcome : Result Audited AuditFault)
-        × AuditsInputs transcript.new declaration.new witness.new outcome
-        × PrintsJson transcript.new declaration.new witness.new outcome lines.status (string_bytes lines.text)) }
+/// The head of the transcript that was audited, if it is sealed.
+fn audit_head(outcome: Result<Audited, AuditFault>) -> Option<Head>
+    ensures { result ≡ audit_head outcome }
 {
-    let mut held = Held::new(alloc);
-    let outcome = audit_held(alloc, transcript, declaration, witness, &mut held)?;
-    let mut told = open_files(alloc, transcript, declaration, witness, &held)?;
-    let status = tell_outcome(alloc, &mut told, &outcome)?;
+    match outcome {
+        Ok(audited) => audited.transcript.head,
+        Err(_) => None,
+    }
+}
+
+/// The object of an audit of files whose bytes are held, with this outcome, on a line.
+fn lines_of<R>(
+    alloc: Global,
+    transcript: &Input<R>,
+    declaration: &Input<R>,
+    witness: &Input<R>,
+    held: &Held,
+    outcome: &Result<Audited, AuditFault>,
+) -> Result<Lines, AllocError>
+    requires held { HoldsAll held.now transcript.now declaration.now witness.now }
+    requires known { KnowsJudged outcome.now (came_of transcript.now) (audit_head outcome.now) }
+    ensures { IfOk result (λ lines. PrintsJson transcript.now declaration.now witness.now outcome.now
+        lines.status (string_bytes lines.text)) }
+{
+    let mut told = opened_object(alloc, transcript, declaration, witness, held, outcome)?;
+    let status = tell_outcome(alloc, &mut told, outcome)?;
     Ok(Lines {
         text: told.into_line()?,
         status,
     })
 }
 
-/// An object that has what every one has, where these files were read whose bytes are held.
+/// An object that has what every one has, where an audit of these files had this outcome.
+fn opened_object<R>(
+    alloc: Global,
+    transcript: &Input<R>,
+    declaration: &Input<R>,
+    witness: &Input<R>,
+    held: &Held,
+    outcome: &Result<Audited, AuditFault>,
+) -> Result<JsonObject, AllocError>
+    requires { HoldsAll held.now transcript.now declaration.now witness.now }
+    ensures { IfOk result (λ told. members_of told
+        ≡ opened (check_files (audit_head outcome.now) transcript.now declaration.now witness.now)) }
+{
+    match outcome {
+        Ok(audited) => open_files(
+            alloc,
+            transcript,
+            declaration,
+            witness,
+            held,
+            &audited.transcript.head,
+        ),
+        Err(_) => open_files(alloc, transcript, declaration, witness, held, &None),
+    }
+}
+
+/// An object that has what every one has, where these files were read whose bytes are held, and this head is to be told of the transcript.
 pub fn open_files<R>(
     alloc: Global,
     transcript: &Input<R>,
     declaration: &Input<R>,
     witness: &Input<R>,
     held: &Held,
+    known: &Option<Head>,
 ) -> Result<JsonObject, AllocError>
     requires { HoldsAll held.now transcript.now declaration.now witness.now }
-    ensures { IfOk result (λ told.
-        members_of told ≡ opened (check_files transcript.now declaration.now witness.now)) }
+    ensures { IfOk result (λ told. members_of told
+        ≡ opened (check_files known.now transcript.now declaration.now witness.now)) }
 {
     let mut files = JsonList::new(alloc);
-    files.push_object(read_object(alloc, "transcript", transcript, &held.transcript)?)?;
+    files.push_object(transcript_object(alloc, transcript, &held.transcript, known)?)?;
     files.push_object(read_object(alloc, "declaration", declaration, &held.declaration)?)?;
     files.push_object(read_object(alloc, "witness", witness, &held.witness)?)?;
     open_object(alloc, files)
+}
+
+/// What is told of a transcript that was read, whose bytes are held, and this head.
+pub fn transcript_object<R>(
+    alloc: Global,
+    input: &Input<R>,
+    held: &[u8],
+    known: &Option<Head>,
+) -> Result<JsonObject, AllocError>
+    requires { held.now ≡ came_of input.now }
+    ensures { IfOk result (λ told. members_of told ≡ transcript_members known.now input.now) }
+{
+    let mut told = read_object(alloc, "transcript", input, held)?;
+    tell_seal(alloc, &mut told, known)?;
+    Ok(told)
 }
 
 /// What is told of a file that was read, whose bytes are held.

@@ -1,23 +1,25 @@
 //! What a search tells in JSON.
 
-ghost use Rattle.std.specs.Prelude.{◌≡◌, ◌⊎◌, IfOk, IsOkAnd, OnOk, Result, [], string_bytes};
+ghost use Rattle.std.specs.Prelude.{◌≡◌, ◌⊎◌, IfOk, IsOkAnd, OnOk, None, Result, [], string_bytes};
 ghost use Rattle.std.specs.Io.{StartsWith, appended_bytes};
 ghost use Rattle.kmipa_json.specs.Told.{items_of, members_of};
 ghost use Rattle.kmipa_ttlv.specs.Input.{came_of};
 ghost use Rattle.kmipa_check.specs.Audits.{AreAccepted};
+ghost use Rattle.kmipa_runs.specs.Knowing.{KnowsSeals};
 ghost use Rattle.kmipa_runs.specs.Statuses.{IsSilent};
 ghost use Rattle.kmipa_telling.specs.JsonSearches.{BothEnded, DecidesInputs, MakesFile, PrintsJsonSearch, TellsJudged, judged_items};
+ghost use Rattle.kmipa_telling.specs.Seals.{KnowsJudged};
 
 use crate::fault_told::FaultTold;
 use crate::faults::{fault_told, tell_fault_told};
-use crate::json::{open_object, read_object};
-use crate::judged::{Judged, judge_records};
+use crate::json::{open_object, read_object, transcript_object};
+use crate::judged::{Judged, SearchOptions, judge_records};
 use crate::reading::read_held;
 use crate::telling_found::tell_judged;
 use kmipa_check::AuditFault;
 use kmipa_json::{JsonList, JsonObject, told_file};
-use kmipa_record::{Declaration, RecordFault, Transcript, write_witness};
-use kmipa_runs::{Lines, Status};
+use kmipa_record::{Declaration, Head, RecordFault, Transcript, write_witness};
+use kmipa_runs::{Answered, Lines, Status};
 use kmipa_search::{Found, Watch};
 use kmipa_ttlv::Input;
 use std::alloc::{AllocError, Global};
@@ -30,9 +32,17 @@ struct Answer {
     made: Vec<u8>,
 }
 
+/// The bytes of the two files of a search, as far as they came, and the head of a sealed transcript, where it was searched.
+#[derive(Drop)]
+struct SearchHeld {
+    transcript: Vec<u8>,
+    declaration: Vec<u8>,
+    head: Option<Head>,
+}
+
 /// `search TRANSCRIPT DECLARATION OUT --json`: appends to `out` one JSON object and a line feed, which tell what a search as `search_run` makes
-/// it found, where it gave up whether it has decided, and of a message that is outside why it is; and answers the status. A witness that was
-/// found is appended to `made`, as a file; at every other status than `Done` nothing is. Where memory runs out nothing is appended to either,
+/// it found, where it gave up whether it has decided, and of a message that is outside why it is; and answers the status. Behind what a search of
+/// a sealed transcript found they tell its head, which is answered too. A witness that was found is appended to `made`, as a file; at every other status than `Done` nothing is. Where memory runs out nothing is appended to either,
 /// and the status is `Failed`.
 pub fn search_json<R: Read, W: Watch>(
     alloc: Global,
@@ -44,26 +54,49 @@ pub fn search_json<R: Read, W: Watch>(
     watch: &mut W,
     out: &mut Vec<u8>,
     made: &mut Vec<u8>,
-) -> Status
+) -> Answered
     requires transcript { came_of transcript.old ≡ [] }
     requires declaration { came_of declaration.old ≡ [] }
     // What is made and printed tells what a search answers of whatever the inputs may be, or memory ran out.
     ensures prints { ((outcome : Result Judged FaultTold)
         × DecidesInputs transcript.new declaration.new budget forced outcome
-        × PrintsJsonSearch transcript.new declaration.new outcome result (appended_bytes out.old.items out.new.items)
-        (appended_bytes made.old.items made.new.items))
-        ⊎ (IsSilent result (appended_bytes out.old.items out.new.items)
+        × PrintsJsonSearch transcript.new declaration.new outcome result.status
+        (appended_bytes out.old.items out.new.items) (appended_bytes made.old.items made.new.items))
+        ⊎ (IsSilent result.status (appended_bytes out.old.items out.new.items)
         × (appended_bytes made.old.items made.new.items ≡ [])) }
     // Status 0 is answered only where the bytes that came, to the ends that were seen, are accepted with the
     // witness that is made.
-    ensures accepts { result ≡ Status.Done
+    ensures accepts { result.status ≡ Status.Done
         → AreAccepted (came_of transcript.new) (came_of declaration.new) (appended_bytes made.old.items made.new.items)
         × BothEnded transcript.new declaration.new }
+    // With a verdict the head is answered up to which all seals of the bytes that came are right, or none of bytes without seals.
+    ensures known { KnowsSeals (came_of transcript.new) result.status result.head }
     ensures appends { StartsWith out.new.items out.old.items }
     ensures makes { StartsWith made.new.items made.old.items }
 {
-    let answer = answer_of(alloc, transcript, declaration, budget, forced, open, watch);
-    append_both(answer, out, made)
+    let asked = SearchOptions {
+        budget,
+        forced,
+        open,
+    };
+    let mut held = SearchHeld {
+        transcript: Vec::new(alloc),
+        declaration: Vec::new(alloc),
+        head: None,
+    };
+    match search_held(alloc, transcript, declaration, &mut held, asked, watch) {
+        Ok(outcome) => {
+            let answer = told_of(alloc, transcript, declaration, &held, &outcome);
+            Answered {
+                status: append_both(answer, out, made),
+                head: held.head,
+            }
+        }
+        Err(error) => Answered {
+            status: append_both(Err(error), out, made),
+            head: None,
+        },
+    }
 }
 
 /// Appends what is printed to `out` and what is made to `made`; nothing to either where memory runs out.
@@ -90,58 +123,24 @@ fn append_both(answer: Result<Answer, AllocError>, out: &mut Vec<u8>, made: &mut
     answer.lines.status
 }
 
-/// What is printed and made of a search of these files.
-fn answer_of<R: Read, W: Watch>(
-    alloc: Global,
-    transcript: &mut Input<R>,
-    declaration: &mut Input<R>,
-    budget: u64,
-    forced: bool,
-    open: bool,
-    watch: &mut W,
-) -> Result<Answer, AllocError>
-    requires transcript { came_of transcript.old ≡ [] }
-    requires declaration { came_of declaration.old ≡ [] }
-    ensures { IfOk result
-        (λ answer. (outcome : Result Judged FaultTold)
-        × DecidesInputs transcript.new declaration.new budget forced outcome
-        × PrintsJsonSearch transcript.new declaration.new outcome answer.lines.status (string_bytes answer.lines.text)
-        answer.made.items) }
-{
-    let mut first = Vec::new(alloc);
-    let mut second = Vec::new(alloc);
-    let outcome = search_held(
-        alloc,
-        transcript,
-        declaration,
-        &mut first,
-        &mut second,
-        budget,
-        forced,
-        open,
-        watch,
-    )?;
-    told_of(alloc, transcript, declaration, &first, &second, &outcome)
-}
-
 /// What is printed and made of this outcome of a search of files whose bytes are held.
 fn told_of<R>(
     alloc: Global,
     transcript: &Input<R>,
     declaration: &Input<R>,
-    first: &[u8],
-    second: &[u8],
+    held: &SearchHeld,
     outcome: &Result<Judged, FaultTold>,
 ) -> Result<Answer, AllocError>
-    requires first { first.now ≡ came_of transcript.now }
-    requires second { second.now ≡ came_of declaration.now }
+    requires transcript { held.now.transcript.items ≡ came_of transcript.now }
+    requires declaration { held.now.declaration.items ≡ came_of declaration.now }
+    requires known { KnowsJudged outcome.now (came_of transcript.now) held.now.head }
     ensures { IfOk result (λ answer. PrintsJsonSearch transcript.now declaration.now outcome.now answer.lines.status
         (string_bytes answer.lines.text) answer.made.items) }
 {
     let made = made_of(alloc, outcome)?;
     let mut files = JsonList::new(alloc);
-    files.push_object(read_object(alloc, "transcript", transcript, first)?)?;
-    files.push_object(read_object(alloc, "declaration", declaration, second)?)?;
+    files.push_object(transcript_object(alloc, transcript, &held.transcript, &held.head)?)?;
+    files.push_object(read_object(alloc, "declaration", declaration, &held.declaration)?)?;
     push_made(alloc, &mut files, outcome, made.as_slice())?;
     let mut told = open_object(alloc, files)?;
     let status = tell_search(alloc, &mut told, outcome)?;
@@ -202,33 +201,39 @@ fn search_held<R: Read, W: Watch>(
     alloc: Global,
     transcript: &mut Input<R>,
     declaration: &mut Input<R>,
-    first: &mut Vec<u8>,
-    second: &mut Vec<u8>,
-    budget: u64,
-    forced: bool,
-    open: bool,
+    held: &mut SearchHeld,
+    asked: SearchOptions,
     watch: &mut W,
 ) -> Result<Result<Judged, FaultTold>, AllocError>
     requires transcript { came_of transcript.old ≡ [] }
     requires declaration { came_of declaration.old ≡ [] }
-    requires first { first.old.items ≡ [] }
-    requires second { second.old.items ≡ [] }
-    ensures decides { IfOk result (DecidesInputs transcript.new declaration.new budget forced) }
-    ensures first { OnOk result (first.new.items ≡ came_of transcript.new) }
-    ensures second { OnOk result (second.new.items ≡ came_of declaration.new) }
+    requires first { held.old.transcript.items ≡ [] }
+    requires second { held.old.declaration.items ≡ [] }
+    requires none { held.old.head ≡ None }
+    ensures decides { IfOk result (DecidesInputs transcript.new declaration.new asked.budget asked.forced) }
+    ensures transcript { OnOk result (held.new.transcript.items ≡ came_of transcript.new) }
+    ensures declaration { OnOk result (held.new.declaration.items ≡ came_of declaration.new) }
+    ensures known { IfOk result (λ outcome. KnowsJudged outcome (came_of transcript.new) held.new.head) }
 {
-    let read: Result<Transcript, RecordFault> = read_held(alloc, transcript, first)?;
+    let read: Result<Transcript, RecordFault> = read_held(alloc, transcript, &mut held.transcript)?;
     let marks = match read {
         Ok(marks) => marks,
         Err(fault) => return Ok(Err(FaultTold::bare(AuditFault::Transcript(fault)))),
     };
-    let read: Result<Declaration, RecordFault> = read_held(alloc, declaration, second)?;
+    let read: Result<Declaration, RecordFault> = read_held(
+        alloc,
+        declaration,
+        &mut held.declaration,
+    )?;
     let declared = match read {
         Ok(declared) => declared,
         Err(fault) => return Ok(Err(FaultTold::bare(AuditFault::Declaration(fault)))),
     };
-    match judge_records(alloc, &marks, &declared, budget, forced, open, watch) {
-        Ok(judged) => Ok(Ok(judged)),
+    match judge_records(alloc, &marks, &declared, asked, watch) {
+        Ok(judged) => {
+            held.head = marks.head;
+            Ok(Ok(judged))
+        }
         Err(fault) => Ok(Err(fault_told(alloc, &marks, fault))),
     }
 }

@@ -34,28 +34,37 @@ pub struct Judged {
     pub reached: Option<Reached>,
 }
 
+/// What a search is asked.
+#[derive(Clone, Copy)]
+pub struct SearchOptions {
+    /// How many steps it may take.
+    pub budget: u64,
+    /// Whether it also says whether the transcript is forced.
+    pub forced: bool,
+    /// Whether it also takes calls without an end mark, and batches without order in other orders.
+    pub open: bool,
+}
+
 /// Searches the records, and where the search gives up, asks whether it has decided, and where it got stuck.
 pub fn judge_records<W: Watch>(
     alloc: Global,
     transcript: &Transcript,
     declaration: &Declaration,
-    budget: u64,
-    forced: bool,
-    open: bool,
+    asked: SearchOptions,
     watch: &mut W,
 ) -> Result<Judged, CheckFault>
     requires { AreDeclared (declaration_of declaration.now) }
     ensures { AreRecorded (transcript_of transcript.now)
-        → DecidesRecords (transcript_of transcript.now) (declaration_of declaration.now) budget forced result }
+        → DecidesRecords (transcript_of transcript.now) (declaration_of declaration.now) asked.budget asked.forced result }
 {
     let mut deepest = Deepest::new(alloc, watch);
     let searched = search_records(
         alloc,
         transcript,
         declaration,
-        budget,
-        forced,
-        open,
+        asked.budget,
+        asked.forced,
+        asked.open,
         &mut deepest,
     )?;
     match &searched.found {
@@ -65,7 +74,7 @@ pub fn judge_records<W: Watch>(
             reached: None,
         }),
         Found::GaveUp(count) => {
-            let said = decide(alloc, transcript, budget, *count)?;
+            let said = decide(alloc, transcript, asked.budget, *count)?;
             let order = deepest.into_calls()?;
             let reached = deepest_place(alloc, transcript, declaration, &said, &order)?;
             Ok(Judged {

@@ -3,8 +3,11 @@
 ghost use Rattle.std.specs.Prelude.{◌≡◌, [], IfOk, OnOk};
 ghost use Rattle.kmipa_ttlv.specs.Input.{came_of};
 ghost use Rattle.kmipa_record.specs.Declarations.{AreDeclared, declaration_of};
+ghost use Rattle.kmipa_runs.specs.Knowing.{Known};
 ghost use Rattle.kmipa_telling.specs.Held.{HoldsAll, HoldsNothing};
 ghost use Rattle.kmipa_telling.specs.Judging.{AuditsInputs, ReadsInputs};
+ghost use Rattle.kmipa_telling.specs.Seals.{KnowsJudged};
+ghost use Rattle.kmipa_telling.specs.Telling.{audit_head};
 
 use crate::held::Held;
 use crate::reading::read_held;
@@ -27,6 +30,7 @@ pub fn audit_held<R: Read>(
     requires witness { came_of witness.old ≡ [] }
     requires none { HoldsNothing held.old }
     ensures audits { IfOk result (AuditsInputs transcript.new declaration.new witness.new) }
+    ensures known { IfOk result (λ outcome. KnowsJudged outcome (came_of transcript.new) (audit_head outcome)) }
     ensures held { OnOk result (HoldsAll held.new transcript.new declaration.new witness.new) }
 {
     let records = match records_held(alloc, transcript, declaration, witness, held)? {
@@ -63,6 +67,8 @@ pub fn records_held<R: Read>(
     requires none { HoldsNothing held.old }
     ensures reads { IfOk result (ReadsInputs transcript.new declaration.new witness.new) }
     ensures declared { IfOk result (λ read. IfOk read (λ records. AreDeclared (declaration_of records.declaration))) }
+    ensures known { IfOk result
+        (λ read. IfOk read (λ records. Known (came_of transcript.new) records.transcript.head)) }
     ensures held { OnOk result (HoldsAll held.new transcript.new declaration.new witness.new) }
 {
     let read: Result<Transcript, RecordFault> = read_held(alloc, transcript, &mut held.transcript)?;

@@ -37,6 +37,7 @@ mod outside_lines;
 mod outside_phrases;
 mod phrases;
 mod reading;
+mod seals;
 mod source_claims;
 mod sources;
 mod state_causes;

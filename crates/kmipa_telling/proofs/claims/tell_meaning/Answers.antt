@@ -1,4 +1,4 @@
-use Rattle.std.proofs.Common.{Option, Some, OnOk, sym, subst}
+use Rattle.std.proofs.Common.{Option, OnOk, sym, subst}
 use Rattle.std.proofs.lemmas.Result.{on_ok_weaker}
 use Rattle.kmipa_json.specs.Told.{members_of}
 use Rattle.kmipa_explain.specs.declared.explanation.Explanation.{Explanation}

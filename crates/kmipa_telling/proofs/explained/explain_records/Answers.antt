@@ -9,9 +9,9 @@ check_fault_told-requires-clause-told c =
     let records = c.args.records in
     fault_of (transcript_of records.transcript) (declaration_of records.declaration) (witness_of records.witness) c.in-Err.fault (c.in-Err.ensures c.requires.recorded)
 
-pub returns-in-Err : goal.returns-in-Err
-returns-in-Err c = λ t d w ft fd fw r. fault_audited c.args.records t d w r ft fd fw c.in-Err.fault c.check_fault_told.result (c.in-Err.ensures c.requires.recorded) c.check_fault_told.ensures
+pub returns-in-Err-clause-audits : goal.returns-in-Err-clause-audits
+returns-in-Err-clause-audits c = λ t d w ft fd fw r. fault_audited c.args.records t d w r ft fd fw c.in-Err.fault c.check_fault_told.result (c.in-Err.ensures c.requires.recorded) c.check_fault_told.ensures
 
-pub returns-in-Err-explanation_of : goal.returns-in-Err-explanation_of
-returns-in-Err-explanation_of c = λ t d w ft fd fw r.
+pub returns-in-Err-explanation_of-clause-audits : goal.returns-in-Err-explanation_of-clause-audits
+returns-in-Err-explanation_of-clause-audits c = λ t d w ft fd fw r.
     memory_audited c.args.records t d w r ft fd fw c.in-Err-explanation_of.fault c.bare.result c.in-Err-explanation_of.ensures.memory c.bare.ensures

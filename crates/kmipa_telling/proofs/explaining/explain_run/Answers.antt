@@ -1,8 +1,10 @@
-use Rattle.std.proofs.Common.{Ok, Err}
+use Rattle.std.proofs.Common.{None, Ok, Err}
 use Rattle.std.specs.Io.{appended_bytes}
 use Rattle.kmipa_ttlv.specs.Input.{came_of, is_failed}
 use Rattle.kmipa_ttlv.proofs.ReadLemmas.{itself}
+use Rattle.kmipa_runs.proofs.KnowingLemmas.{knows}
 use Rattle.kmipa_telling.proofs.ExplainingLemmas.{done_accepted, explained_fits, explained_reported, told_fits, told_not_done, yes_fits}
+use Rattle.kmipa_telling.proofs.SealLemmas.{told_knows}
 use Rattle.kmipa_telling.proofs.explaining.explain_run.Goals as goal
 
 pub returns-in-Ok-clause-prints : goal.returns-in-Ok-clause-prints
@@ -70,3 +72,13 @@ returns-in-Err-clause-accepts g c = λ done.
     let lines = appended_bytes c.args.out.now.items c.append-in-Err.new.out.items in
     let reported = explained_reported c.fault_told_lines.result (Err c.in-Err.told) c.append-in-Err.result lines c.fault_told_lines.ensures c.append-in-Err.ensures.prints in
     absurd (told_not_done c.in-Err.told c.append-in-Err.result lines reported done)
+
+pub returns-in-Ok-clause-known : goal.returns-in-Ok-clause-known
+returns-in-Ok-clause-known g c =
+    knows (came_of c.explain_inputs.new.transcript) c.append.result c.in-Ok.explained.records.transcript.head c.in-Ok.ensures.known
+
+pub returns-in-Err-clause-known : goal.returns-in-Err-clause-known
+returns-in-Err-clause-known g c =
+    let lines = appended_bytes c.args.out.now.items c.append-in-Err.new.out.items in
+    told_knows (came_of c.explain_inputs.new.transcript) c.in-Err.told c.append-in-Err.result lines None
+    (explained_reported c.fault_told_lines.result (Err c.in-Err.told) c.append-in-Err.result lines c.fault_told_lines.ensures c.append-in-Err.ensures.prints)

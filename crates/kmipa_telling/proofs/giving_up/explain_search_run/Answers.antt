@@ -1,10 +1,13 @@
-use Rattle.std.proofs.Common.{Err, [], sym}
+use Rattle.std.proofs.Common.{Err, None, [], sym}
 use Rattle.std.proofs.lemmas.List.{append-nil}
 use Rattle.std.specs.Io.{appended_bytes}
 use Rattle.kmipa_ttlv.specs.Input.{came_of}
 use Rattle.kmipa_ttlv.proofs.ReadLemmas.{itself}
 use Rattle.kmipa_runs.proofs.AppendLemmas.{since}
+use Rattle.kmipa_runs.proofs.KnowingLemmas.{knows}
+use Rattle.kmipa_telling.proofs.ExplainingLemmas.{explained_reported}
 use Rattle.kmipa_telling.proofs.GivingUpLemmas.{done_is_decided, fault_reported}
+use Rattle.kmipa_telling.proofs.SealLemmas.{told_knows}
 use Rattle.kmipa_telling.proofs.giving_up.explain_search_run.Goals as goal
 
 pub returns-in-Err-clause-prints : goal.returns-in-Err-clause-prints
@@ -26,3 +29,12 @@ returns-in-Ok-clause-accepts g c = λ done.
     let found = c.in-Ok.ensures.decides (came_of t) (came_of d) (itself t) (itself d) in
     let accepted = done_is_decided c.in-Ok.judged (came_of t) (came_of d) c.args.budget c.args.forced c.tell_judged.result lines made found c.tell_judged.ensures.tells done in
     (accepted, c.in-Ok.ensures.ended.0, c.in-Ok.ensures.ended.1)
+
+pub returns-in-Ok-clause-known : goal.returns-in-Ok-clause-known
+returns-in-Ok-clause-known g c = knows (came_of c.judge_inputs.new.transcript) c.tell_judged.result c.judge_inputs.new.head c.in-Ok.ensures.known
+
+pub returns-in-Err-clause-known : goal.returns-in-Err-clause-known
+returns-in-Err-clause-known g c =
+    let lines = appended_bytes c.args.out.now.items c.append.new.out.items in
+    told_knows (came_of c.judge_inputs.new.transcript) c.in-Err.told c.append.result lines None
+    (explained_reported c.fault_told_lines.result (Err c.in-Err.told) c.append.result lines c.fault_told_lines.ensures c.append.ensures.prints)

@@ -1,16 +1,41 @@
+use Rattle.std.proofs.Common.{None, inr}
 use Rattle.std.specs.Io.{appended_bytes}
-use Rattle.kmipa_telling.proofs.JsonLemmas.{done_is_judged, printed_check}
+use Rattle.kmipa_ttlv.specs.Input.{came_of}
+use Rattle.kmipa_telling.proofs.JsonLemmas.{done_is_judged, json_reported, only_silent, printed_check, silent_not_done}
+use Rattle.kmipa_telling.proofs.SealLemmas.{audit_knows, silent_knows}
 use Rattle.kmipa_telling.proofs.json.check_json.Goals as goal
 
+pub returns-in-Ok-clause-prints : goal.returns-in-Ok-clause-prints
+returns-in-Ok-clause-prints g c =
+    let t = c.audit_held.new.transcript in
+    let d = c.audit_held.new.declaration in
+    let w = c.audit_held.new.witness in
+    let lines = appended_bytes c.args.out.now.items c.append.new.out.items in
+    printed_check t d w c.in-Ok.outcome c.append.result lines c.in-Ok.ensures.audits
+    (json_reported c.lines_of-lines.result t d w c.in-Ok.outcome c.append.result lines c.lines_of-lines.ensures c.append.ensures.prints)
+
+pub returns-in-Ok-clause-accepts : goal.returns-in-Ok-clause-accepts
+returns-in-Ok-clause-accepts g c = λ done.
+    let lines = appended_bytes c.args.out.now.items c.append.new.out.items in
+    done_is_judged c.audit_held.new.transcript c.audit_held.new.declaration c.audit_held.new.witness c.append.result lines (returns-in-Ok-clause-prints g c) done
+
+pub returns-in-Ok-clause-known : goal.returns-in-Ok-clause-known
+returns-in-Ok-clause-known g c =
+    let t = c.audit_held.new.transcript in
+    let d = c.audit_held.new.declaration in
+    let w = c.audit_held.new.witness in
+    let lines = appended_bytes c.args.out.now.items c.append.new.out.items in
+    audit_knows t d w c.in-Ok.outcome c.append.result lines c.audit_head.result c.audit_head.ensures c.in-Ok.ensures.known
+    (json_reported c.lines_of-lines.result t d w c.in-Ok.outcome c.append.result lines c.lines_of-lines.ensures c.append.ensures.prints)
+
 pub returns-clause-prints : goal.returns-clause-prints
-returns-clause-prints g c =
-    printed_check c.check_object.result c.check_object.new.transcript c.check_object.new.declaration c.check_object.new.witness c.append.result
-    (appended_bytes c.args.out.now.items c.append.new.out.items) c.check_object.ensures c.append.ensures.prints
+returns-clause-prints g c = inr (only_silent c.append-in-Err.ensures.prints)
 
 pub returns-clause-accepts : goal.returns-clause-accepts
 returns-clause-accepts g c = λ done.
-    let t = c.check_object.new.transcript in
-    let d = c.check_object.new.declaration in
-    let w = c.check_object.new.witness in
-    let lines = appended_bytes c.args.out.now.items c.append.new.out.items in
-    done_is_judged t d w c.append.result lines (printed_check c.check_object.result t d w c.append.result lines c.check_object.ensures c.append.ensures.prints) done
+    absurd (silent_not_done c.append-in-Err.result (appended_bytes c.args.out.now.items c.append-in-Err.new.out.items) (only_silent c.append-in-Err.ensures.prints) done)
+
+pub returns-clause-known : goal.returns-clause-known
+returns-clause-known g c =
+    silent_knows (came_of c.audit_held.new.transcript) c.append-in-Err.result (appended_bytes c.args.out.now.items c.append-in-Err.new.out.items) None
+    (only_silent c.append-in-Err.ensures.prints)

@@ -15,19 +15,21 @@ returns-in-Err-clause-reads g c = (
 )
 
 pub returns-in-Err-read-clause-reads : goal.returns-in-Err-read-clause-reads
-returns-in-Err-read-clause-reads g c = (
-  λ a b w af bf wf. (
-    a_transcript c.read_held.new.input a c.in-Ok.first af (ok_told c.in_ok-read.read c.in-Ok.first _ c.in-Ok.is c.in_ok-read.ensures.found),
-    err_told c.in_ok-read-2.read c.in-Err-read.fault (Tells DeclarationFault IsDeclarationUpTo b (is_failed c.read_held-2.new.input)) c.in-Err-read.is (c.in_ok-read-2.ensures.fault b bf),
-  ),
-  tt,
-)
+returns-in-Err-read-clause-reads g c =
+    let first = ok_told c.in_ok-read.read c.in-Ok.first _ c.in-Ok.is c.in_ok-read.ensures.found in (
+      λ a b w af bf wf. (
+        a_transcript c.read_held.new.input a c.in-Ok.first af (first.0.0, first.1),
+        err_told c.in_ok-read-2.read c.in-Err-read.fault (Tells DeclarationFault IsDeclarationUpTo b (is_failed c.read_held-2.new.input)) c.in-Err-read.is (c.in_ok-read-2.ensures.fault b bf),
+      ),
+      tt,
+    )
 
 pub returns-in-Err-read-2-clause-reads : goal.returns-in-Err-read-2-clause-reads
 returns-in-Err-read-2-clause-reads g c =
+    let first = ok_told c.in_ok-read.read c.in-Ok.first _ c.in-Ok.is c.in_ok-read.ensures.found in
     let second = ok_told c.in_ok-read-2.read c.in-Ok-read.second _ c.in-Ok-read.is c.in_ok-read-2.ensures.found in (
       λ a b w af bf wf. (
-        a_transcript c.read_held.new.input a c.in-Ok.first af (ok_told c.in_ok-read.read c.in-Ok.first _ c.in-Ok.is c.in_ok-read.ensures.found),
+        a_transcript c.read_held.new.input a c.in-Ok.first af (first.0.0, first.1),
         a_declaration c.read_held-2.new.input b c.in-Ok-read.second bf (second.0.0, second.1),
         err_told c.in_ok-read-3.read c.in-Err-read-2.fault (Tells WitnessFault IsWitnessUpTo w (is_failed c.read_held-3.new.input)) c.in-Err-read-2.is (c.in_ok-read-3.ensures.fault w wf),
       ),

@@ -10,4 +10,4 @@ returns-clause-reads c =
     let read = c.read_declaration-read in
     read_known read.result ghosts.remaining c.args.bytes.now c.new-input.result read.new.input (λ b d. IsDeclaration b (declaration_of d) × AreDeclared (declaration_of d)) DeclarationFault IsDeclarationUpTo c.ended.result
     c.new-input.ensures.none_came c.new-input.ensures.goes_on (ap (λ r. Some r.now) c.new-input.ensures.reader) read.ensures.over
-    (sym c.failed.ensures ∙ c.if-failed.false) c.ended.ensures (read_and read.result (λ b d. IsDeclaration b (declaration_of d)) (λ d. AreDeclared (declaration_of d)) (came_of read.new.input) (is_ended read.new.input) read.ensures.found read.ensures.declared) read.ensures.fault
+    (sym c.failed.ensures ∙ c.if-failed.false) c.ended.ensures (read_and read.result (λ b d. IsDeclaration b (declaration_of d)) (λ b d. AreDeclared (declaration_of d)) (came_of read.new.input) (is_ended read.new.input) read.ensures.found read.ensures.declared) read.ensures.fault
