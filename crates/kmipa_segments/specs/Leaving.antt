@@ -14,7 +14,7 @@ use Rattle.kmipa_check.specs.declared.auditing.AuditFault.{AuditFault}
 use Rattle.kmipa_check.specs.declared.auditing.AuditRecords.{AuditRecords}
 use Rattle.kmipa_check.specs.declared.segment.Left.{Left}
 use Rattle.kmipa_check.specs.declared.verdict.Verdict.{Verdict}
-use Rattle.kmipa_runs.specs.Dates.{HasDate}
+use Rattle.kmipa_runs.specs.Dates.{TellsSecond}
 use Rattle.kmipa_runs.specs.Lines.{line, yes_line, PrintsFault, PrintsVerdict}
 use Rattle.kmipa_runs.specs.declared.status.Status.{Status}
 use Rattle.kmipa_runs.specs.declared.status.Status.TheVariants as status
@@ -43,7 +43,7 @@ ChecksSegment t d w failed_t failed_d failed_w since (Err fault) = AuditFails t 
 -- a moment as it is printed: its date, or the number of its second where the calendar ends before; or that there is none
 abbrev pub IsMomentText : Option ℤ → List ℕ → Type 0
 IsMomentText None text = text ≡ codes "none"
-IsMomentText (Some second) text = ¬ (HasDate second) → text ≡ signed_decimal second
+IsMomentText (Some second) text = TellsSecond second text
 
 -- the line of what is left: how many entries, and the last Time Stamp
 abbrev pub PrintsLeft : Left → List ℕ → Type 0

@@ -22,6 +22,7 @@ use Rattle.kmipa_runs.specs.declared.status.Status.{Status}
 use Rattle.kmipa_runs.specs.declared.status.Status.TheVariants as status
 use Rattle.kmipa_segments.specs.Leaving.{if_asked, TellsLeft}
 use Rattle.kmipa_segments.specs.declared.segment_search.FoundSegment.{FoundSegment}
+use Rattle.kmipa_segments.specs.declared.segment_search.KnownSegment.{KnownSegment}
 
 -- ---- what is searched
 
@@ -76,6 +77,11 @@ pub record AreSearchedSince (segment : FoundSegment) (t d : List ℕ) (since : O
 abbrev pub SearchesSince : List ℕ → List ℕ → Bool → Bool → Option ℤ → ℕ → Bool → Result FoundSegment AuditFault → Type 0
 SearchesSince t d failed_t failed_d since budget asked (Ok segment) = AreSearchedSince segment t d since budget asked
 SearchesSince t d failed_t failed_d since budget asked (Err fault) = SearchFails t d failed_t failed_d fault
+
+-- what was found without what the transcript is known by
+abbrev pub found_alone : Result KnownSegment AuditFault → Result FoundSegment AuditFault
+found_alone (Ok known) = Ok known.segment
+found_alone (Err fault) = Err fault
 
 -- ---- what is made and printed
 

@@ -7,13 +7,16 @@ ghost use Rattle.kmipa_record.specs.Declarations.{declaration_of};
 ghost use Rattle.kmipa_record.specs.Entries.{entry_of};
 ghost use Rattle.kmipa_record.specs.Transcripts.{transcript_of};
 ghost use Rattle.kmipa_record.specs.Witnesses.{witness_of};
+ghost use Rattle.kmipa_runs.specs.Knowing.{Known, KnowsSeals};
 ghost use Rattle.kmipa_runs.specs.Lines.{PrintsVerdict};
 ghost use Rattle.kmipa_runs.specs.Statuses.{IsSilent};
 ghost use Rattle.kmipa_segments.specs.Leaving.{ChecksSegment, IsMomentText, IsTooLongAt, LeadsAsAsked, NoneTooLongBefore, PrintsLeft, PrintsSegment, PrintsUnwritten, TellsLeft, TellsSegment, TellsChecked, entry_line, unwritable_line};
 
-use kmipa_check::{AuditFault, AuditRecords, Checked, Left, check_segment, read_records};
+use kmipa_check::{AuditFault, AuditRecords, Checked, Left, check_segment};
 use kmipa_record::{Declaration, Entry, RecordKind, is_too_long, write_declaration};
-use kmipa_runs::{Lines, Status, append, date_text, fault_lines, report};
+use kmipa_runs::{
+    Answered, Lines, Status, append, date_text, fault_lines, read_known_records, report,
+};
 use kmipa_ttlv::Input;
 use std::alloc::{AllocError, Global};
 use std::io::Read;
@@ -38,7 +41,7 @@ pub fn segment_run<R: Read>(
     leaves: bool,
     out: &mut Vec<u8>,
     made: &mut Vec<u8>,
-) -> Status
+) -> Answered
     requires transcript { came_of transcript.old ≡ [] }
     requires declaration { came_of declaration.old ≡ [] }
     requires witness { came_of witness.old ≡ [] }
@@ -47,23 +50,31 @@ pub fn segment_run<R: Read>(
         × ((t d w : List ℕ) → IsFileOf t transcript.new → IsFileOf d declaration.new → IsFileOf w witness.new
         → ChecksSegment t d w (is_failed transcript.new) (is_failed declaration.new) (is_failed witness.new) since
         outcome)
-        × (PrintsSegment leaves outcome result (appended_bytes out.old.items out.new.items)
+        × (PrintsSegment leaves outcome result.status (appended_bytes out.old.items out.new.items)
         (appended_bytes made.old.items made.new.items)
-        ⊎ (IsSilent result (appended_bytes out.old.items out.new.items)
+        ⊎ (IsSilent result.status (appended_bytes out.old.items out.new.items)
         × (appended_bytes made.old.items made.new.items ≡ []))) }
     // Status 0 is answered only where the bytes that came, to the ends that were seen, are accepted from the
     // moment on; and where it is asked for, what they lead to is made.
-    ensures leads { result ≡ Status.Done
+    ensures leads { result.status ≡ Status.Done
         → LeadsAsAsked leaves (came_of transcript.new) (came_of declaration.new) (came_of witness.new) since
         (appended_bytes made.old.items made.new.items)
         × IsTrue (is_ended transcript.new) × IsTrue (is_ended declaration.new) × IsTrue (is_ended witness.new) }
-    ensures nothing { result ≢ Status.Done → made.new.items ≡ made.old.items }
+    ensures nothing { result.status ≢ Status.Done → made.new.items ≡ made.old.items }
     ensures appends { StartsWith out.new.items out.old.items }
     ensures makes { StartsWith made.new.items made.old.items }
+    // Behind each verdict stands what the transcript is known by.
+    ensures known { KnowsSeals (came_of transcript.new) result.status result.head }
 {
     match check_inputs(alloc, transcript, declaration, witness, since) {
-        Ok(segment) => tell_segment(alloc, &segment, leaves, out, made),
-        Err(fault) => append(fault_lines(alloc, &fault), out),
+        Ok(segment) => Answered {
+            status: tell_segment(alloc, &segment, leaves, out, made),
+            head: segment.records.transcript.head,
+        },
+        Err(fault) => Answered {
+            status: append(fault_lines(alloc, &fault), out),
+            head: None,
+        },
     }
 }
 
@@ -81,10 +92,11 @@ fn check_inputs<R: Read>(
     ensures checks { (t d w : List ℕ) → IsFileOf t transcript.new → IsFileOf d declaration.new → IsFileOf w witness.new
         → ChecksSegment t d w (is_failed transcript.new) (is_failed declaration.new) (is_failed witness.new) since
         result }
+    ensures known { IfOk result (λ segment. Known (came_of transcript.new) segment.records.transcript.head) }
     ensures ended { OnOk result (IsTrue (is_ended transcript.new) × IsTrue (is_ended declaration.new)
         × IsTrue (is_ended witness.new)) }
 {
-    let records = match read_records(alloc, transcript, declaration, witness) {
+    let records = match read_known_records(alloc, transcript, declaration, witness) {
         Ok(records) => records,
         Err(fault) => return Err(fault),
     };

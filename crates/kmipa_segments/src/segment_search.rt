@@ -1,6 +1,6 @@
 //! The search of a segment: a witness that goes on from a moment, and with it the declaration with which the next segment goes on.
 
-ghost use Rattle.std.specs.Prelude.{◌≡◌, ◌≢◌, ◌⊎◌, ℕ, List, [], Bool, IsTrue, OnOk, OnErr, Result, Some, None, Ok};
+ghost use Rattle.std.specs.Prelude.{◌≡◌, ◌≢◌, ◌⊎◌, ℕ, List, [], Bool, IsTrue, IfOk, OnOk, OnErr, Result, Some, None, Ok};
 ghost use Rattle.std.specs.Io.{StartsWith, appended_bytes};
 ghost use Rattle.kmipa_ttlv.specs.Input.{came_of, is_ended, is_failed, IsFileOf};
 ghost use Rattle.kmipa_record.specs.Declarations.{AreDeclared, declaration_of};
@@ -8,18 +8,20 @@ ghost use Rattle.kmipa_record.specs.Marks.{AreRecorded};
 ghost use Rattle.kmipa_record.specs.Transcripts.{transcript_of};
 ghost use Rattle.kmipa_search.specs.Found.{Finds};
 ghost use Rattle.kmipa_search.specs.declared.found.Found.TheVariants.{Yes};
+ghost use Rattle.kmipa_runs.specs.Knowing.{Known, KnowsSeals};
 ghost use Rattle.kmipa_runs.specs.Searches.{IsForcedTold, Makes};
 ghost use Rattle.kmipa_runs.specs.Statuses.{IsSilent};
 ghost use Rattle.kmipa_segments.specs.Leaving.{LeadsAsAsked, if_asked};
-ghost use Rattle.kmipa_segments.specs.SegmentSearches.{PrintsSegmentSearch, SearchesSegment, SearchesSince, TellsBoth, TellsFound};
+ghost use Rattle.kmipa_segments.specs.SegmentSearches.{PrintsSegmentSearch, SearchesSegment, SearchesSince, TellsBoth, TellsFound, found_alone};
 
 use crate::leaving::tell_left;
 use kmipa_check::{AuditFault, CheckFault, Left, check_segment};
 use kmipa_record::{
-    Declaration, RecordFault, Transcript, Witness, read_declaration, read_transcript, write_witness,
+    Declaration, Head, RecordFault, Transcript, Witness, read_declaration, read_transcript,
+    write_witness,
 };
 use kmipa_runs::{
-    Searched, Status, append, fault_lines, search_records, searched_lines, tell_searched,
+    Answered, Searched, Status, append, fault_lines, search_records, searched_lines, tell_searched,
 };
 use kmipa_search::{Found, Watch};
 use kmipa_ttlv::Input;
@@ -31,6 +33,13 @@ use std::io::Read;
 pub struct FoundSegment {
     pub searched: Searched,
     pub left: Option<Left>,
+}
+
+/// The same of two inputs, with what the transcript is known by.
+#[derive(Drop)]
+pub(crate) struct KnownSegment {
+    pub segment: FoundSegment,
+    pub head: Option<Head>,
 }
 
 /// `search TRANSCRIPT DECLARATION OUT`, from a moment on (in seconds since 1970) where one is given, `--not-before DATE`: looks for a witness
@@ -52,29 +61,31 @@ pub fn search_segment_run<R: Read, W: Watch>(
     out: &mut Vec<u8>,
     made: &mut Vec<u8>,
     left: &mut Vec<u8>,
-) -> Status
+) -> Answered
     requires transcript { came_of transcript.old ≡ [] }
     requires declaration { came_of declaration.old ≡ [] }
     // What is made and printed tells what a search answers of whatever the inputs may be, or memory ran out.
     ensures prints { (outcome : Result FoundSegment AuditFault)
         × ((t d : List ℕ) → IsFileOf t transcript.new → IsFileOf d declaration.new
         → SearchesSince t d (is_failed transcript.new) (is_failed declaration.new) since budget forced outcome)
-        × (PrintsSegmentSearch leaves outcome result (appended_bytes out.old.items out.new.items)
+        × (PrintsSegmentSearch leaves outcome result.status (appended_bytes out.old.items out.new.items)
         (appended_bytes made.old.items made.new.items)
         (appended_bytes left.old.items left.new.items)
-        ⊎ (IsSilent result (appended_bytes out.old.items out.new.items)
+        ⊎ (IsSilent result.status (appended_bytes out.old.items out.new.items)
         × (appended_bytes made.old.items made.new.items ≡ [])
         × (appended_bytes left.old.items left.new.items ≡ []))) }
     // Status 0 is answered only where the bytes that came, to the ends that were seen, are accepted from the
     // moment on with the witness that is made; and where it is asked for, what they lead to is made.
-    ensures leads { result ≡ Status.Done
+    ensures leads { result.status ≡ Status.Done
         → LeadsAsAsked leaves (came_of transcript.new) (came_of declaration.new)
         (appended_bytes made.old.items made.new.items) since
         (appended_bytes left.old.items left.new.items) × IsTrue (is_ended transcript.new)
         × IsTrue (is_ended declaration.new) }
-    ensures nothing { result ≢ Status.Done → (made.new.items ≡ made.old.items) × (left.new.items ≡ left.old.items) }
+    ensures nothing { result.status ≢ Status.Done → (made.new.items ≡ made.old.items) × (left.new.items ≡ left.old.items) }
     ensures appends { StartsWith out.new.items out.old.items }
     ensures makes { StartsWith made.new.items made.old.items × StartsWith left.new.items left.old.items }
+    // Behind each verdict stands what the transcript is known by.
+    ensures known { KnowsSeals (came_of transcript.new) result.status result.head }
 {
     match search_inputs(
         alloc,
@@ -86,8 +97,14 @@ pub fn search_segment_run<R: Read, W: Watch>(
         open,
         watch,
     ) {
-        Ok(segment) => tell_segment(alloc, &segment, leaves, out, made, left),
-        Err(fault) => append(fault_lines(alloc, &fault), out),
+        Ok(known) => Answered {
+            status: tell_segment(alloc, &known.segment, leaves, out, made, left),
+            head: known.head,
+        },
+        Err(fault) => Answered {
+            status: append(fault_lines(alloc, &fault), out),
+            head: None,
+        },
     }
 }
 
@@ -101,11 +118,13 @@ fn search_inputs<R: Read, W: Watch>(
     forced: bool,
     open: bool,
     watch: &mut W,
-) -> Result<FoundSegment, AuditFault>
+) -> Result<KnownSegment, AuditFault>
     requires transcript { came_of transcript.old ≡ [] }
     requires declaration { came_of declaration.old ≡ [] }
     ensures searches { (t d : List ℕ) → IsFileOf t transcript.new → IsFileOf d declaration.new
-        → SearchesSince t d (is_failed transcript.new) (is_failed declaration.new) since budget forced result }
+        → SearchesSince t d (is_failed transcript.new) (is_failed declaration.new) since budget forced
+        (found_alone result) }
+    ensures known { IfOk result (λ known. Known (came_of transcript.new) known.head) }
     ensures ended { OnOk result (IsTrue (is_ended transcript.new) × IsTrue (is_ended declaration.new)) }
 {
     let transcript = match read_transcript(alloc, transcript) {
@@ -126,7 +145,10 @@ fn search_inputs<R: Read, W: Watch>(
         open,
         watch,
     ) {
-        Ok(segment) => Ok(segment),
+        Ok(segment) => Ok(KnownSegment {
+            segment,
+            head: transcript.head,
+        }),
         Err(fault) => Err(AuditFault::Check(fault)),
     }
 }

@@ -1,4 +1,5 @@
 use Rattle.kmipa_ttlv.specs.Input.{is_failed}
+use Rattle.kmipa_record.specs.Transcripts.{transcript_of}
 use Rattle.kmipa_check.proofs.AuditLemmas.{unjudged, fails}
 use Rattle.kmipa_segments.proofs.LeavingLemmas.{checked_files}
 use Rattle.kmipa_segments.proofs.leaving.check_inputs.Goals as goal
@@ -16,5 +17,8 @@ returns-in-Err-check_segment-clause-checks g c = λ t d w tf df wf.
 
 pub returns-in-Err-clause-checks : goal.returns-in-Err-clause-checks
 returns-in-Err-clause-checks g c = λ t d w tf df wf.
-    fails t d w (is_failed c.read_records.new.transcript) (is_failed c.read_records.new.declaration) (is_failed c.read_records.new.witness) c.in-Err.fault
+    fails t d w (is_failed c.read_known_records.new.transcript) (is_failed c.read_known_records.new.declaration) (is_failed c.read_known_records.new.witness) c.in-Err.fault
     (c.in-Err.ensures.reads t d w tf df wf)
+
+pub returns-in-Ok-check_segment-clause-known : goal.returns-in-Ok-check_segment-clause-known
+returns-in-Ok-check_segment-clause-known g c = (transcript_of c.in-Ok.records.transcript, c.in-Ok.ensures.known)

@@ -1,8 +1,25 @@
+use Rattle.std.proofs.Common.{◌≡◌, [], Ok, Err, None, arith}
+use Rattle.std.proofs.Math.ListN.{drop_of_length-le}
 use Rattle.std.specs.Io.{appended_bytes}
 use Rattle.kmipa_ttlv.specs.Input.{came_of}
 use Rattle.kmipa_ttlv.proofs.ReadLemmas.{itself}
+use Rattle.kmipa_runs.proofs.KnowingLemmas.{knows, refusal_knows}
+use Rattle.kmipa_segments.proofs.FaultLemmas.{fault_ends_check}
 use Rattle.kmipa_segments.proofs.LeavingLemmas.{done_leads}
 use Rattle.kmipa_segments.proofs.leaving.segment_run.Goals as goal
+
+pub returns-in-Ok-clause-prints : goal.returns-in-Ok-clause-prints
+returns-in-Ok-clause-prints g c = (Ok c.in-Ok.segment, c.in-Ok.ensures.checks, c.tell_segment.ensures.tells)
+
+pub returns-in-Err-clause-prints : goal.returns-in-Err-clause-prints
+returns-in-Err-clause-prints g c =
+    let kept = appended_bytes c.args.made.now.items c.args.made.now.items in
+    let none : kept ≡ [] = drop_of_length-le c.args.made.now.items (omega arith) in (
+      Err c.in-Err.fault,
+      c.in-Err.ensures.checks,
+      fault_ends_check c.args.leaves c.fault_lines.result c.in-Err.fault c.append.result
+          (appended_bytes c.args.out.now.items c.append.new.out.items) kept none c.fault_lines.ensures c.append.ensures.prints,
+    )
 
 pub returns-in-Ok-clause-leads : goal.returns-in-Ok-clause-leads
 returns-in-Ok-clause-leads g c = λ done.
@@ -17,3 +34,11 @@ returns-in-Ok-clause-leads g c = λ done.
       c.in-Ok.ensures.ended.1,
       c.in-Ok.ensures.ended.2,
     )
+
+pub returns-in-Ok-clause-known : goal.returns-in-Ok-clause-known
+returns-in-Ok-clause-known g c = knows (came_of c.check_inputs.new.transcript) c.tell_segment.result c.in-Ok.segment.records.transcript.head c.in-Ok.ensures.known
+
+pub returns-in-Err-clause-known : goal.returns-in-Err-clause-known
+returns-in-Err-clause-known g c =
+    refusal_knows (came_of c.check_inputs.new.transcript) c.fault_lines.result c.in-Err.fault c.append.result (appended_bytes c.args.out.now.items c.append.new.out.items) None
+    c.fault_lines.ensures c.append.ensures.prints
