@@ -10,6 +10,7 @@ use Rattle.clap.specs.declared.error.kind.ErrorKind.TheVariants.{DisplayHelp, Di
 use Rattle.kmipa_runs.specs.declared.status.Status.{Status}
 use Rattle.kmipa_runs.specs.declared.status.Status.TheVariants.{Done, Failed, Usage as Mistake}
 use Rattle.kmipa_runs.specs.Statuses.{IsSilent}
+use Rattle.kmipa_session.specs.declared.job.AnswerWords.{AnswerWords}
 use Rattle.kmipa_session.specs.declared.job.FormWords.{FormWords}
 use Rattle.kmipa_session.specs.declared.job.Job.{Job}
 use Rattle.kmipa_session.specs.declared.job.Job.TheVariants.{Chain, Check, Search, Show, Write}
@@ -47,8 +48,12 @@ abbrev pub check_texts_app : App
 check_texts_app = with_rule (with_rule check_files_app (flag_rule (codes "explain"))) (flag_rule (codes "json"))
 
 -- and after that `[--leaves OUT] [--not-before DATE]`
+abbrev pub check_segment_app : App
+check_segment_app = with_rule (with_rule check_texts_app (option_rule (codes "leaves"))) (option_rule (codes "not-before"))
+
+-- and after that `[--head HEX]`
 abbrev pub check_app : App
-check_app = with_rule (with_rule check_texts_app (option_rule (codes "leaves"))) (option_rule (codes "not-before"))
+check_app = with_rule check_segment_app (option_rule (codes "head"))
 
 -- `search TRANSCRIPT DECLARATION OUT`
 abbrev pub search_files_app : App
@@ -64,8 +69,12 @@ abbrev pub search_texts_app : App
 search_texts_app = with_rule (with_rule search_steps_app (flag_rule (codes "explain"))) (flag_rule (codes "json"))
 
 -- and after that `[--leaves LEFT] [--not-before DATE]`
+abbrev pub search_segment_app : App
+search_segment_app = with_rule (with_rule search_texts_app (option_rule (codes "leaves"))) (option_rule (codes "not-before"))
+
+-- and after that `[--head HEX]`
 abbrev pub search_app : App
-search_app = with_rule (with_rule search_texts_app (option_rule (codes "leaves"))) (option_rule (codes "not-before"))
+search_app = with_rule search_segment_app (option_rule (codes "head"))
 
 -- `chain DIR [--budget N] [--quiet]`
 abbrev pub chain_steps_app : App
@@ -116,19 +125,22 @@ IsSegment segment rows = IsText (codes "leaves") rows segment.leaves × IsText (
 abbrev pub IsForm : FormWords → List Row → Type 0
 IsForm form rows = IsFlag (codes "json") rows form.json × IsFlag (codes "explain") rows form.explain
 
+-- these values ask for this answer
+abbrev pub IsAnswer : AnswerWords → List Row → Type 0
+IsAnswer words rows = IsForm words.form rows × IsSegment words.segment rows × IsText (codes "head") rows words.seals.head
+
 -- these values are of this check
 abbrev pub IsCheck : Job → List Row → Type 0
-IsCheck (Check transcript declaration witness form segment) rows = (first_of (codes "TRANSCRIPT") rows ≡ Some transcript.now)
-    × (first_of (codes "DECLARATION") rows ≡ Some declaration.now) × (first_of (codes "WITNESS") rows ≡ Some witness.now)
-    × IsForm form rows × IsSegment segment rows
+IsCheck (Check files words) rows = (first_of (codes "TRANSCRIPT") rows ≡ Some files.transcript.now)
+    × (first_of (codes "DECLARATION") rows ≡ Some files.declaration.now) × (first_of (codes "WITNESS") rows ≡ Some files.witness.now) × IsAnswer words rows
 IsCheck job rows = ⊥
 
 -- these values are of this search
 abbrev pub IsSearch : Job → List Row → Type 0
-IsSearch (Search transcript declaration out search form segment) rows = (first_of (codes "TRANSCRIPT") rows ≡ Some transcript.now)
-    × (first_of (codes "DECLARATION") rows ≡ Some declaration.now) × (first_of (codes "OUT") rows ≡ Some out.now)
+IsSearch (Search files search words) rows = (first_of (codes "TRANSCRIPT") rows ≡ Some files.transcript.now)
+    × (first_of (codes "DECLARATION") rows ≡ Some files.declaration.now) × (first_of (codes "OUT") rows ≡ Some files.out.now)
     × IsNumber (codes "budget") rows search.budget × IsFlag (codes "forced") rows search.forced × IsFlag (codes "open") rows search.open
-    × IsFlag (codes "quiet") rows search.quiet × IsForm form rows × IsSegment segment rows
+    × IsFlag (codes "quiet") rows search.quiet × IsAnswer words rows
 IsSearch job rows = ⊥
 
 -- these values are of this chain
@@ -140,10 +152,8 @@ IsChain job rows = ⊥
 -- the subcommand with this name and these values is this job
 abbrev pub IsJob : Job → Option (Text × List Row) → Type 0
 IsJob job None = ⊥
-IsJob (Check transcript declaration witness form segment) (Some found) = (found.0 ≡ codes "check")
-    × IsCheck (Check transcript declaration witness form segment) found.1
-IsJob (Search transcript declaration out search form segment) (Some found) = (found.0 ≡ codes "search")
-    × IsSearch (Search transcript declaration out search form segment) found.1
+IsJob (Check files words) (Some found) = (found.0 ≡ codes "check") × IsCheck (Check files words) found.1
+IsJob (Search files search words) (Some found) = (found.0 ≡ codes "search") × IsSearch (Search files search words) found.1
 IsJob (Chain folder budget quiet leaves) (Some found) = (found.0 ≡ codes "chain") × IsChain (Chain folder budget quiet leaves) found.1
 IsJob (Show file options) (Some found) = (found.0 ≡ codes "show") × (first_of (codes "FILE") found.1 ≡ Some file.now)
     × IsFlag (codes "messages") found.1 options.messages × IsFlag (codes "notes") found.1 options.notes

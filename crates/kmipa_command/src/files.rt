@@ -25,7 +25,8 @@ pub fn open_file<R: Files + AllocGlobal + Eprint>(
     reported(rt, name, opened(rt, name))
 }
 
-fn opened<R: Files + AllocGlobal>(rt: &R, name: &str) -> io::Result<BufReader<R::File>> {
+/// Opens a file, and tells nothing where it can't be opened.
+pub fn opened<R: Files + AllocGlobal>(rt: &R, name: &str) -> io::Result<BufReader<R::File>> {
     let file = fs::open(rt, name)?;
     if file.metadata()?.is_dir() {
         return Err(io::Error::from(io::ErrorKind::IsADirectory));

@@ -5,7 +5,7 @@ ghost use Rattle.std.specs.Prelude.{◌≡◌, [], ◌++◌};
 ghost use Rattle.std.specs.IoError.{error_kind};
 ghost use Rattle.kmipa_command.specs.Sessions.{is_memory};
 
-use crate::files::{hint_digits, hint_kind, open_file};
+use crate::files::{hint_digits, hint_kind, open_file, opened};
 use crate::folders::read_folder;
 use crate::progress::Progress;
 use crate::replacing::{are_one_output, is_input, replace_both, replace_file, test_output};
@@ -13,6 +13,7 @@ use kmipa_session::{Content, Folder, Named, World};
 use kmipa_ttlv::History;
 use std::io;
 use std::io::BufReader;
+use std::os::fd::AsFd;
 use std::rt::{Clock, Files};
 
 /// The runtime.
@@ -49,7 +50,7 @@ fn made_of(file: Content<'_>) -> MadeFile
     made
 }
 
-impl<'a, R: Files + Clock + AllocGlobal + Eprint + Clone + Drop> World for Host<'a, R> {
+impl<'a, R: Files<File: AsFd> + Clock + AllocGlobal + Eprint + Clone + Drop> World for Host<'a, R> {
     type File = BufReader<R::File>;
 
     type Watcher = Progress<'a, R>;
@@ -64,6 +65,10 @@ impl<'a, R: Files + Clock + AllocGlobal + Eprint + Clone + Drop> World for Host<
 
     fn open<'n>(&self, name: &'n str) -> Result<Named<'n, BufReader<R::File>>, io::Error> {
         Ok(Named::over(name, open_file(self.rt, name)?))
+    }
+
+    fn peek<'n>(&self, name: &'n str) -> Option<Named<'n, BufReader<R::File>>> {
+        Some(Named::over(name, opened(self.rt, name).ok()?))
     }
 
     fn test_distinct(&self, output: &str, inputs: &[&str]) -> Result<(), io::Error> {

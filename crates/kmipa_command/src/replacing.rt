@@ -2,9 +2,10 @@
 
 use crate::files::reported;
 use kmipa_session::Content;
-use std::fs::{Metadata, OpenOptions};
+use std::fs::{Metadata, OpenFile, OpenOptions};
 use std::io::Write;
-use std::os::unix::fs::{MetadataExt, OpenOptionsExt, chown};
+use std::os::fd::AsFd;
+use std::os::unix::fs::{MetadataExt, OpenOptionsExt, fchown};
 use std::path::{Path, PathBuf};
 use std::rt::Files;
 use std::{fs, io};
@@ -48,11 +49,15 @@ fn are_one_name<R: Files + AllocGlobal>(rt: &R, one: &str, other: &str) -> bool 
 
 /// The folder that a file is in, or would be made in, behind all links.
 fn folder_of<R: Files + AllocGlobal>(rt: &R, file: Path<'_>) -> Option<PathBuf> {
-    let folder = match file.parent() {
+    fs::canonicalize(rt, parent_of(file)).ok()
+}
+
+/// The folder that a file is in, or would be made in, as its name has it.
+fn parent_of(file: Path<'_>) -> Path<'_> {
+    match file.parent() {
         Some(parent) if parent != Path::new("") => parent,
         _ => Path::new("."),
-    };
-    fs::canonicalize(rt, folder).ok()
+    }
 }
 
 fn are_one_file<R: Files>(rt: &R, one: &str, other: &str) -> bool {
@@ -97,18 +102,25 @@ fn may_be_replaced(there: &Metadata) -> io::Result<()> {
     Ok(())
 }
 
-/// Writes a file in place of what it held, whole or not at all: the bytes are written to a new file beside it, which then takes its name, with
-/// the mode and the owner of what was there. Behind a link its file is replaced. What is no plain file, as a device or a pipe, is written as it
-/// stands.
-pub fn replace_file<R: Files + AllocGlobal + Eprint>(rt: &R, file: Content<'_>) -> io::Result<()> {
+/// Writes a file in place of what it held, whole or not at all, also where the process is killed or the power goes: the bytes are written to a
+/// new file beside it, with the mode and the owner of what was there, and are on the disk before that takes its name. Behind a link its file is
+/// replaced. What is no plain file, as a device or a pipe, is written as it stands.
+pub fn replace_file<R: Files<File: AsFd> + AllocGlobal + Eprint>(
+    rt: &R,
+    file: Content<'_>,
+) -> io::Result<()> {
     let mut staged = reported(rt, file.name, stage(rt, file))?;
     let done = reported(rt, file.name, staged.place(rt));
     staged.let_go(rt);
     done
 }
 
-/// Writes two files so, both or neither: where the second can't take its name, the first has again what it held.
-pub fn replace_both<R: Files + AllocGlobal + Eprint>(
+/// Writes two files so, both or neither: where one can't take its name, both have again what they held.
+///
+/// # Where it is killed
+/// What the second held has another name before the first is touched, and the second takes its name last. So at each moment either both
+/// are what they were, or both are what was to be written, or the second isn't there. The same once more then makes both.
+pub fn replace_both<R: Files<File: AsFd> + AllocGlobal + Eprint>(
     rt: &R,
     one: Content<'_>,
     other: Content<'_>,
@@ -120,61 +132,34 @@ pub fn replace_both<R: Files + AllocGlobal + Eprint>(
 }
 
 /// Writes the second of two files behind one that is staged.
-fn replace_behind<R: Files + AllocGlobal + Eprint>(
+fn replace_behind<R: Files<File: AsFd> + AllocGlobal + Eprint>(
     rt: &R,
     first: &mut Staged<'_>,
     other: Content<'_>,
 ) -> io::Result<()> {
     let mut second = reported(rt, other.name, stage(rt, other))?;
-    let done = place_both(rt, first, &mut second);
+    let done = place_in_turn(rt, first, &mut second);
+    if done.is_ok() {
+        first.forget_held(rt);
+        second.forget_held(rt);
+    } else {
+        first.put_back(rt);
+        second.put_back(rt);
+    }
     second.let_go(rt);
     done
 }
 
-/// Gives two files their names, with what the first held staged beside it.
-fn place_both<R: Files + AllocGlobal + Eprint>(
+/// Gives two files their names one after the other, with what they held set aside.
+fn place_in_turn<R: Files + AllocGlobal + Eprint>(
     rt: &R,
     first: &mut Staged<'_>,
     second: &mut Staged<'_>,
 ) -> io::Result<()> {
-    let name = first.content.name;
-    let Some(held) = reported(rt, name, held_bytes(rt, name))? else {
-        return place_in_turn(rt, first, second, None);
-    };
-    let before = Content {
-        name,
-        bytes: held.as_slice(),
-    };
-    let mut before = reported(rt, name, stage(rt, before))?;
-    let done = place_in_turn(rt, first, second, Some(&mut before));
-    before.let_go(rt);
-    done
-}
-
-/// Gives two files their names one after the other. Where the second can't have its own, the first has what it held `before`, or is removed.
-fn place_in_turn<R: Files + Eprint>(
-    rt: &R,
-    first: &mut Staged<'_>,
-    second: &mut Staged<'_>,
-    before: Option<&mut Staged<'_>>,
-) -> io::Result<()> {
+    reported(rt, second.content.name, second.set_aside(rt))?;
+    reported(rt, first.content.name, first.set_aside(rt))?;
     reported(rt, first.content.name, first.place(rt))?;
-    let done = reported(rt, second.content.name, second.place(rt));
-    if done.is_err() {
-        match before {
-            Some(before) => before.place(rt).ok(),
-            None => first.take_away(rt).ok(),
-        };
-    }
-    done
-}
-
-/// The bytes of a plain file, where one is there.
-fn held_bytes<R: Files + AllocGlobal>(rt: &R, name: &str) -> io::Result<Option<Vec<u8>>> {
-    match fs::metadata(rt, name) {
-        Ok(there) if there.is_file() => Ok(Some(fs::read(rt, name)?)),
-        _ => Ok(None),
-    }
+    reported(rt, second.content.name, second.place(rt))
 }
 
 /// An output that is ready to be made: a new file with its bytes stands beside it, or it is no plain file, and is written as it stands.
@@ -185,24 +170,56 @@ struct Staged<'a> {
     real: Option<String>,
     // The new file, until it takes its name.
     beside: Option<String>,
+    // What the file held, where that has another name.
+    held: Option<String>,
 }
 
 impl Staged<'_> {
-    /// Gives the new file its name, or writes what is no plain file.
-    fn place<R: Files>(&mut self, rt: &R) -> io::Result<()> {
-        match (&self.beside, &self.real) {
-            (Some(beside), Some(real)) => fs::rename(rt, beside.as_str(), real.as_str())?,
-            _ => return fs::write(rt, self.content.name, self.content.bytes),
+    /// Gives what the file holds another name, where it is there.
+    fn set_aside<R: Files + AllocGlobal>(&mut self, rt: &R) -> io::Result<()> {
+        let Some(real) = &self.real else {
+            return Ok(());
+        };
+        if fs::metadata(rt, real.as_str()).is_err() {
+            return Ok(());
         }
-        self.beside = None;
-        Ok(())
+        let (held, file) = new_beside(rt, real.as_str())?;
+        drop(file);
+        if let Err(error) = fs::rename(rt, real.as_str(), held.as_str()) {
+            fs::remove_file(rt, held.as_str()).ok();
+            return Err(error);
+        }
+        self.held = Some(held);
+        sync_folder(rt, real.as_str())
     }
 
-    /// Removes a file that was made under its name.
-    fn take_away<R: Files>(&self, rt: &R) -> io::Result<()> {
-        match &self.real {
-            Some(real) => fs::remove_file(rt, real.as_str()),
-            None => Ok(()),
+    /// Gives the new file its name, or writes what is no plain file.
+    fn place<R: Files>(&mut self, rt: &R) -> io::Result<()> {
+        let (Some(beside), Some(real)) = (&self.beside, &self.real) else {
+            return fs::write(rt, self.content.name, self.content.bytes);
+        };
+        fs::rename(rt, beside.as_str(), real.as_str())?;
+        self.beside = None;
+        sync_folder(rt, real.as_str())
+    }
+
+    /// Gives the file again what it held, and removes one that was not there. Where that can't be, what it held keeps its other name.
+    fn put_back<R: Files>(&mut self, rt: &R) {
+        let Some(real) = &self.real else {
+            return;
+        };
+        match &self.held {
+            Some(held) => fs::rename(rt, held.as_str(), real.as_str()).ok(),
+            None if self.beside.is_none() => fs::remove_file(rt, real.as_str()).ok(),
+            None => return,
+        };
+        sync_folder(rt, real.as_str()).ok();
+    }
+
+    /// Removes what the file held.
+    fn forget_held<R: Files>(&self, rt: &R) {
+        if let Some(held) = &self.held {
+            fs::remove_file(rt, held.as_str()).ok();
         }
     }
 
@@ -216,7 +233,10 @@ impl Staged<'_> {
 }
 
 /// Makes ready what is to stand in a file.
-fn stage<'a, R: Files + AllocGlobal>(rt: &R, content: Content<'a>) -> io::Result<Staged<'a>> {
+fn stage<'a, R: Files<File: AsFd> + AllocGlobal>(
+    rt: &R,
+    content: Content<'a>,
+) -> io::Result<Staged<'a>> {
     let Ok(there) = fs::metadata(rt, content.name) else {
         leads_somewhere(rt, content.name)?;
         let real = String::from_str(rt.alloc(), content.name)?;
@@ -228,6 +248,7 @@ fn stage<'a, R: Files + AllocGlobal>(rt: &R, content: Content<'a>) -> io::Result
             content,
             real: None,
             beside: None,
+            held: None,
         });
     }
     let real = fs::canonicalize(rt, content.name)?;
@@ -235,19 +256,20 @@ fn stage<'a, R: Files + AllocGlobal>(rt: &R, content: Content<'a>) -> io::Result
     stage_beside(rt, content, real, Some(&there))
 }
 
-/// Writes the new file under a name that nothing had, with the mode and the owner of what was there. What can't be done whole is removed.
-fn stage_beside<'a, R: Files + AllocGlobal>(
+/// Makes the new file, with its bytes. What can't be done whole is removed.
+fn stage_beside<'a, R: Files<File: AsFd> + AllocGlobal>(
     rt: &R,
     content: Content<'a>,
     real: String,
     there: Option<&Metadata>,
 ) -> io::Result<Staged<'a>> {
-    let beside = new_beside(rt, real.as_str())?;
-    let done = fill(rt, beside.as_str(), content.bytes, there);
+    let (beside, file) = new_beside(rt, real.as_str())?;
+    let done = fill(file, content.bytes, there);
     let mut staged = Staged {
         content,
         real: Some(real),
         beside: Some(beside),
+        held: None,
     };
     match done {
         Ok(()) => Ok(staged),
@@ -258,32 +280,34 @@ fn stage_beside<'a, R: Files + AllocGlobal>(
     }
 }
 
-fn fill<R: Files>(rt: &R, beside: &str, bytes: &[u8], there: Option<&Metadata>) -> io::Result<()> {
-    let mut file = OpenOptions::new().write(true).open(rt, beside)?;
+/// Writes a new file, gives it the owner and the mode of the one whose place it takes, and has all of it written to the disk.
+fn fill<F: Write + OpenFile + AsFd + Drop>(
+    mut file: F,
+    bytes: &[u8],
+    there: Option<&Metadata>,
+) -> io::Result<()> {
     file.write_all(bytes)?;
-    drop(file);
     if let Some(there) = there {
-        keep_owner(rt, beside, there)?;
-        fs::set_permissions(rt, beside, there.permissions())?;
+        keep_owner(&file, there)?;
+        file.set_permissions(there.permissions())?;
     }
-    Ok(())
+    file.sync_all()
 }
 
-/// Gives a new file to the owner of the one whose place it takes.
-fn keep_owner<R: Files>(rt: &R, beside: &str, there: &Metadata) -> io::Result<()> {
-    let made = fs::metadata(rt, beside)?;
+fn keep_owner<F: OpenFile + AsFd>(file: &F, there: &Metadata) -> io::Result<()> {
+    let made = file.metadata()?;
     if made.uid() == there.uid() && made.gid() == there.gid() {
         return Ok(());
     }
-    chown(rt, beside, Some(there.uid()), Some(there.gid()))
+    fchown(file, Some(there.uid()), Some(there.gid()))
 }
 
-/// Makes an empty file beside this one, under the first name of its kind that nothing has.
-fn new_beside<R: Files + AllocGlobal>(rt: &R, name: &str) -> io::Result<String> {
+/// Makes an empty file beside this one, under the first name of its kind that nothing has. It is opened here, and never again by its name.
+fn new_beside<R: Files + AllocGlobal>(rt: &R, name: &str) -> io::Result<(String, R::File)> {
     for number in 1..MOST_NAMES {
         let beside = format!(in rt.alloc(); "{name}.{number}.part")?;
         match make_new(rt, beside.as_str()) {
-            Ok(()) => return Ok(beside),
+            Ok(file) => return Ok((beside, file)),
             Err(error) if error.kind() == io::ErrorKind::AlreadyExists => {}
             Err(error) => return Err(error),
         }
@@ -291,12 +315,32 @@ fn new_beside<R: Files + AllocGlobal>(rt: &R, name: &str) -> io::Result<String> 
     Err(io::Error::from(io::ErrorKind::AlreadyExists))
 }
 
-fn make_new<R: Files>(rt: &R, name: &str) -> io::Result<()> {
-    let file = OpenOptions::new()
+/// Makes and opens a file under a name that nothing has. A link has it too, wherever it leads: with `O_CREAT | O_EXCL`, which is what
+/// `create_new` asks for, none is followed.
+fn make_new<R: Files>(rt: &R, name: &str) -> io::Result<R::File> {
+    OpenOptions::new()
         .write(true)
         .create_new(true)
         .mode(NEW_MODE)
-        .open(rt, name)?;
-    drop(file);
-    Ok(())
+        .open(rt, name)
+}
+
+/// Has the names of a file's folder written to the disk. A folder that may not be read, and one whose file system has no such call, are left
+/// to the system.
+fn sync_folder<R: Files>(rt: &R, file: &str) -> io::Result<()> {
+    match synced(rt, parent_of(Path::new(file))) {
+        Err(error) if may_stay_unsynced(error.kind()) => Ok(()),
+        done => done,
+    }
+}
+
+fn synced<R: Files>(rt: &R, folder: Path<'_>) -> io::Result<()> {
+    fs::open(rt, folder)?.sync_all()
+}
+
+fn may_stay_unsynced(kind: io::ErrorKind) -> bool {
+    matches!(
+        kind,
+        io::ErrorKind::PermissionDenied | io::ErrorKind::InvalidInput
+    )
 }

@@ -11,12 +11,13 @@ use kmipa_runs::Status;
 use kmipa_session::{Did, Out, Session, Voice, World, run_job, tell, tell_refusal};
 use std::alloc::Global;
 use std::convert::AsStr;
+use std::os::fd::AsFd;
 use std::rt::{Clock, Env, Files};
 use std::{env, io};
 
 /// The words of the process, the first of which is the program's name. Where they can't be read it is told why, and the status to end with is
 /// answered.
-pub fn words_of<R: Env + Files + Clock + AllocGlobal + Print + Eprint + Clone + Drop>(
+pub fn words_of<R: Env + Files<File: AsFd> + Clock + AllocGlobal + Print + Eprint + Clone + Drop>(
     rt: &R,
 ) -> Result<Vec<String>, Status> {
     match collect_words(rt) {
@@ -30,7 +31,7 @@ fn collect_words<R: Env + AllocGlobal>(rt: &R) -> io::Result<Vec<String>> {
 }
 
 /// Tells why the words can't be read. A word that is not UTF-8 is a mistake in the words.
-fn tell_words<R: Files + Clock + AllocGlobal + Print + Eprint + Clone + Drop>(
+fn tell_words<R: Files<File: AsFd> + Clock + AllocGlobal + Print + Eprint + Clone + Drop>(
     rt: &R,
     error: &io::Error,
 ) -> Status

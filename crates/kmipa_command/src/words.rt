@@ -4,13 +4,15 @@ ghost use Rattle.std.specs.Prelude.{◌≡◌, ◌≢◌, ◌⊎◌, ◌||◌, i
 ghost use Rattle.clap.specs.Words.{app_of, rule_of, rows_of, found_of, kind_of, subcommand_of, subcommand_rows_of, fault_of};
 ghost use Rattle.clap.specs.declared.builder.command.Command.TheViews.{out-Command};
 ghost use Rattle.kmipa_runs.specs.Statuses.{IsSilent};
-ghost use Rattle.kmipa_command.specs.Words.{program_app, check_app, check_files_app, check_texts_app, search_app, search_files_app, search_steps_app, search_texts_app, show_app, write_app, chain_app, chain_steps_app, budget_rule, file_rule, flag_rule, option_rule, status_of, IsChain, IsCheck, IsForm, IsJob, IsSearch, IsSegment, IsTold};
+ghost use Rattle.kmipa_command.specs.Words.{program_app, check_app, check_files_app, check_segment_app, check_texts_app, search_app, search_files_app, search_segment_app, search_steps_app, search_texts_app, show_app, write_app, chain_app, chain_steps_app, budget_rule, file_rule, flag_rule, option_rule, status_of, IsAnswer, IsChain, IsCheck, IsForm, IsJob, IsSearch, IsSegment, IsTold};
 
 use clap::builder::ValueParser;
 use clap::error::ErrorKind;
 use clap::{Arg, ArgAction, ArgMatches, Command, Error};
 use kmipa_runs::{ShowOptions, Status};
-use kmipa_session::{FormWords, Job, SearchWords, SegmentWords};
+use kmipa_session::{
+    AnswerWords, CheckFiles, FormWords, Job, SealWords, SearchFiles, SearchWords, SegmentWords,
+};
 use std::alloc::{AllocError, Global};
 use std::convert::AsStr;
 
@@ -45,6 +47,8 @@ const EXPLAIN: &str = "explain";
 const LEAVES: &str = "leaves";
 
 const NOT_BEFORE: &str = "not-before";
+
+const HEAD: &str = "head";
 
 const MESSAGES: &str = "messages";
 
@@ -86,6 +90,9 @@ At a yes, and only then, --leaves writes the declaration with which the audit of
 'left: N entries, last stamp DATE'. That DATE is the --not-before of the next segment: a first turn that is earlier is
 a no by reason 2. A date is written as 2023-11-14T22:13:20Z or as a number of seconds since 1970.
 
+Of a sealed transcript the last line behind a verdict is 'sealed: RECORDING segment N head HEX'. Where --head gives
+another head, or the transcript bears no seals, 'head: HEX, expected HEX' stands in place of the verdict.
+
 Status: 0 yes; 1 no; 2 a file is refused; 3 a device failed or memory ran out; 64 wrong words";
 
 const SEARCH_HELP: &str = "\
@@ -110,6 +117,9 @@ orders than by place. Of a plain transcript nothing changes; of another one noth
 At a yes --leaves also writes the declaration with which the audit of the next segment goes on, and prints 'left: N
 entries, last stamp DATE'; both files are written, or neither is. That DATE is the --not-before of the next segment: no
 order that takes a call at an earlier stamp is one, so an answered call that is earlier has it give up.
+
+Of a sealed transcript the last line behind an answer is 'sealed: RECORDING segment N head HEX'. Where --head gives
+another head, or the transcript bears no seals, 'head: HEX, expected HEX' stands in its place, and nothing is written.
 
 Where standard error is a terminal, a long search tells there once a second how far it got, unless --quiet is given.
 
@@ -154,8 +164,8 @@ pub struct Usage {
 
 /// The job that the words of a command line name, the first of which is the program's name.
 ///
-/// - `kmip_audit check TRANSCRIPT DECLARATION WITNESS [--explain] [--json] [--leaves OUT] [--not-before DATE]`
-/// - `kmip_audit search TRANSCRIPT DECLARATION OUT [--budget N] [--forced] [--open] [--quiet] [--explain] [--json] [--leaves LEFT] [--not-before DATE]`, N from 0 to 1,000,000,000
+/// - `kmip_audit check TRANSCRIPT DECLARATION WITNESS [--explain] [--json] [--leaves OUT] [--not-before DATE] [--head HEX]`
+/// - `kmip_audit search TRANSCRIPT DECLARATION OUT [--budget N] [--forced] [--open] [--quiet] [--explain] [--json] [--leaves LEFT] [--not-before DATE] [--head HEX]`, N from 0 to 1,000,000,000
 /// - `kmip_audit chain DIR [--budget N] [--quiet] [--leaves OUT]`
 /// - `kmip_audit show FILE [--messages] [--notes]`
 /// - `kmip_audit write HEX OUT`
@@ -193,6 +203,14 @@ fn check<'a>(alloc: Global) -> Result<Command<'a>, AllocError>
     ensures app { IfOk result (λ command. app_of command ≡ check_app) }
     ensures local { IfOk result (λ command. (out-Command command).has_globals ≡ false) }
 {
+    check_with_segment(alloc)?.arg(head(alloc))
+}
+
+/// A check with the options of what it prints, and of a segment.
+fn check_with_segment<'a>(alloc: Global) -> Result<Command<'a>, AllocError>
+    ensures app { IfOk result (λ command. app_of command ≡ check_segment_app) }
+    ensures local { IfOk result (λ command. (out-Command command).has_globals ≡ false) }
+{
     check_with_texts(alloc)?
         .arg(leaves(alloc, OUT))?
         .arg(not_before(alloc))
@@ -223,6 +241,14 @@ fn check_of_files<'a>(alloc: Global) -> Result<Command<'a>, AllocError>
 
 fn search<'a>(alloc: Global) -> Result<Command<'a>, AllocError>
     ensures app { IfOk result (λ command. app_of command ≡ search_app) }
+    ensures local { IfOk result (λ command. (out-Command command).has_globals ≡ false) }
+{
+    search_with_segment(alloc)?.arg(head(alloc))
+}
+
+/// A search with the options of how it searches, of what it prints, and of a segment.
+fn search_with_segment<'a>(alloc: Global) -> Result<Command<'a>, AllocError>
+    ensures app { IfOk result (λ command. app_of command ≡ search_segment_app) }
     ensures local { IfOk result (λ command. (out-Command command).has_globals ≡ false) }
 {
     search_with_texts(alloc)?
@@ -386,6 +412,19 @@ fn not_before<'a>(alloc: Global) -> Arg<'a>
     )
 }
 
+/// The head that a transcript has to have.
+fn head<'a>(alloc: Global) -> Arg<'a>
+    ensures rule { rule_of result ≡ option_rule (codes "head") }
+    ensures local { result.global ≡ false }
+{
+    option(
+        alloc,
+        HEAD,
+        HEX,
+        "The head that the transcript has to have, in 64 digits",
+    )
+}
+
 /// An option that has a value where it is given.
 fn option<'a>(alloc: Global, name: &'a str, value: &'a str, about: &'a str) -> Arg<'a>
     ensures rule { rule_of result ≡ option_rule name.entry.now }
@@ -435,13 +474,27 @@ fn job_of<'a>(matches: &ArgMatches<'a>) -> Option<Job<'a>>
 fn check_of<'a>(words: &ArgMatches<'a>) -> Option<Job<'a>>
     ensures { IfSome result (λ job. IsCheck job (rows_of (found_of words.now))) }
 {
-    Some(Job::Check {
+    let files = CheckFiles {
         transcript: words.get_str(TRANSCRIPT)?,
         declaration: words.get_str(DECLARATION)?,
         witness: words.get_str(WITNESS)?,
+    };
+    Some(Job::Check {
+        files,
+        words: answer_of(words),
+    })
+}
+
+fn answer_of<'a>(words: &ArgMatches<'a>) -> AnswerWords<'a>
+    ensures { IsAnswer result (rows_of (found_of words.now)) }
+{
+    AnswerWords {
         form: form_of(words),
         segment: segment_of(words),
-    })
+        seals: SealWords {
+            head: words.get_str(HEAD),
+        },
+    }
 }
 
 fn form_of<'a>(words: &ArgMatches<'a>) -> FormWords
@@ -465,18 +518,21 @@ fn segment_of<'a>(words: &ArgMatches<'a>) -> SegmentWords<'a>
 fn search_of<'a>(words: &ArgMatches<'a>) -> Option<Job<'a>>
     ensures { IfSome result (λ job. IsSearch job (rows_of (found_of words.now))) }
 {
-    Some(Job::Search {
+    let files = SearchFiles {
         transcript: words.get_str(TRANSCRIPT)?,
         declaration: words.get_str(DECLARATION)?,
         out: words.get_str(OUT)?,
-        search: SearchWords {
-            budget: words.get_one::<u64>(BUDGET)?,
-            forced: words.get_flag(FORCED),
-            open: words.get_flag(OPEN),
-            quiet: words.get_flag(QUIET),
-        },
-        form: form_of(words),
-        segment: segment_of(words),
+    };
+    let search = SearchWords {
+        budget: words.get_one::<u64>(BUDGET)?,
+        forced: words.get_flag(FORCED),
+        open: words.get_flag(OPEN),
+        quiet: words.get_flag(QUIET),
+    };
+    Some(Job::Search {
+        files,
+        search,
+        words: answer_of(words),
     })
 }
 

@@ -1,2 +1,3 @@
 mod ChainingLemmas
+mod SealingLemmas
 mod SessionLemmas

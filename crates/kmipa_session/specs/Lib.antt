@@ -1,6 +1,7 @@
 pub mod Checks
 pub mod Jobs
 pub mod Printing
+pub mod Sealing
 pub mod Searches
 pub mod Sessions
 pub mod Worlds

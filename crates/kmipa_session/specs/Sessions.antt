@@ -9,16 +9,20 @@ use Rattle.kmipa_runs.specs.declared.status.Status.TheVariants as status
 use Rattle.kmipa_session.specs.Checks.{Checks, ChecksInSegment}
 use Rattle.kmipa_session.specs.Jobs.{asked_of, IsNoMoment, IsSince}
 use Rattle.kmipa_session.specs.Printing.{trouble_text, TellsLines, TellsRest, TellsTrouble, voice_of}
+use Rattle.kmipa_session.specs.Sealing.{IsExpected, IsNoSeal, SaysOf}
 use Rattle.kmipa_session.specs.Searches.{Searches, SearchesInSegment, Shows}
 use Rattle.kmipa_session.specs.Worlds.{input_of, name_of}
 use Rattle.kmipa_session.specs.declared.did.Did.{Did}
 use Rattle.kmipa_session.specs.declared.did.Did.TheVariants as did
 use Rattle.kmipa_session.specs.declared.did.Said.{Said}
+use Rattle.kmipa_session.specs.declared.job.AnswerWords.{AnswerWords}
 use Rattle.kmipa_session.specs.declared.job.Asked.{Asked}
 use Rattle.kmipa_session.specs.declared.job.Asked.TheVariants as asked
+use Rattle.kmipa_session.specs.declared.job.CheckFiles.{CheckFiles}
 use Rattle.kmipa_session.specs.declared.job.Form.{Form}
 use Rattle.kmipa_session.specs.declared.job.Job.{Job}
 use Rattle.kmipa_session.specs.declared.job.Job.TheVariants.{Chain, Check, Search, Show, Write}
+use Rattle.kmipa_session.specs.declared.job.SearchFiles.{SearchFiles}
 use Rattle.kmipa_session.specs.declared.job.SearchWords.{SearchWords}
 use Rattle.kmipa_session.specs.declared.job.SegmentWords.{SegmentWords}
 use Rattle.kmipa_session.specs.declared.named.Named.{Named}
@@ -48,6 +52,12 @@ TellsMistake did.Nothing before after left = (after ≡ before) × (left ≡ sta
 TellsMistake (did.Refused e) before after left = (after ≡ before) × (left ≡ status.Failed)
 TellsMistake other before after left = ⊥
 
+-- What is asked for is done, where the head's word spells the seal that is expected, or there is none; or the options don't go together, or the word
+-- spells no seal, and that mistake is told.
+abbrev pub RunsAsAsked : Option Asked → Option (Bor (List ℕ)) → (Option (List ℕ) → Asked → Type 0) → Type 0 → Type 0
+RunsAsAsked None head Runs Mistake = Mistake
+RunsAsAsked (Some asked) head Runs Mistake = (IsNoSeal head × Mistake) ⊎ ((expected : Option (List ℕ)) × IsExpected head expected × Runs expected asked)
+
 -- `made` tells the name and the bytes of a file that was made, and `lacked` whether something was refused for want of memory.
 module _ {F M E : Type 0} (made : M → List ℕ × List ℕ) (lacked : E → Bool) where
   -- nothing was done, since something was refused: a file was to be read and made, or there was trouble
@@ -57,33 +67,41 @@ module _ {F M E : Type 0} (made : M → List ℕ × List ℕ) (lacked : E → Bo
 
   -- ---- what was done, with this status and these lines
 
-  -- Files with these names were read for a check, and this is what it says of them.
-  abbrev pub HasChecked : List ℕ → List ℕ → List ℕ → Form → Did F M E → Status → List ℕ → Type 0
-  HasChecked t d w form (did.Checked ft fd fw) said lines = (name_of ft ≡ t) × (name_of fd ≡ d) × (name_of fw ≡ w)
-      × Checks form (input_of ft) (input_of fd) (input_of fw) said lines
-  HasChecked t d w form other said lines = ⊥
+  -- Files with these names were read for a check, and this is what it says of them, and of the transcript's seals, where this head is
+  -- expected, if one is.
+  abbrev pub HasChecked : CheckFiles → Form → Option (List ℕ) → Did F M E → Status → List ℕ → Type 0
+  HasChecked files form expected (did.Checked ft fd fw) said lines = (name_of ft ≡ files.transcript.now) × (name_of fd ≡ files.declaration.now)
+      × (name_of fw ≡ files.witness.now)
+      × SaysOf (voice_of form) expected (input_of ft) (λ ran told. Checks form (input_of ft) (input_of fd) (input_of fw) ran told) said lines
+  HasChecked files form expected other said lines = ⊥
 
   -- for the check of a segment, and what it leaves was made, where that is asked for
-  abbrev pub HasCheckedSegment : List ℕ → List ℕ → List ℕ → SegmentWords → Did F M E → Status → List ℕ → Type 0
-  HasCheckedSegment t d w segment (did.CheckedSegment ft fd fw file) said lines = (name_of ft ≡ t) × (name_of fd ≡ d) × (name_of fw ≡ w)
-      × ((since : Option ℤ) × IsSince segment.not_before since
-      × ((bytes : List ℕ) × ChecksInSegment (is_some segment.leaves) since (input_of ft) (input_of fd) (input_of fw) said lines bytes
+  abbrev pub HasCheckedSegment : CheckFiles → SegmentWords → Option (List ℕ) → Did F M E → Status → List ℕ → Type 0
+  HasCheckedSegment files segment expected (did.CheckedSegment ft fd fw file) said lines = (name_of ft ≡ files.transcript.now)
+      × (name_of fd ≡ files.declaration.now) × (name_of fw ≡ files.witness.now)
+      × ((since : Option ℤ) × IsSince segment.not_before since × ((bytes : List ℕ)
+      × SaysOf voice.Lines expected (input_of ft)
+      (λ ran told. ChecksInSegment (is_some segment.leaves) since (input_of ft) (input_of fd) (input_of fw) ran told bytes) said lines
       × IsMadeAsAsked made segment.leaves bytes said file))
-  HasCheckedSegment t d w segment other said lines = ⊥
+  HasCheckedSegment files segment expected other said lines = ⊥
 
   -- for a search, and the witness that it found was made, if it found one
-  abbrev pub HasSearched : List ℕ → List ℕ → List ℕ → Form → SearchWords → Did F M E → Status → List ℕ → Type 0
-  HasSearched t d out form words (did.Searched ft fd file) said lines = (name_of ft ≡ t) × (name_of fd ≡ d)
-      × ((bytes : List ℕ) × Searches form words (input_of ft) (input_of fd) said lines bytes × IsMade made out bytes said file)
-  HasSearched t d out form words other said lines = ⊥
+  abbrev pub HasSearched : SearchFiles → Form → SearchWords → Option (List ℕ) → Did F M E → Status → List ℕ → Type 0
+  HasSearched files form words expected (did.Searched ft fd file) said lines = (name_of ft ≡ files.transcript.now) × (name_of fd ≡ files.declaration.now)
+      × ((bytes : List ℕ)
+      × SaysOf (voice_of form) expected (input_of ft) (λ ran told. Searches form words (input_of ft) (input_of fd) ran told bytes) said lines
+      × IsMade made files.out.now bytes said file)
+  HasSearched files form words expected other said lines = ⊥
 
   -- for the search of a segment, and what the witness leaves was made too, where that is asked for
-  abbrev pub HasSearchedSegment : List ℕ → List ℕ → List ℕ → SearchWords → SegmentWords → Did F M E → Status → List ℕ → Type 0
-  HasSearchedSegment t d out words segment (did.SearchedSegment ft fd file left) said lines = (name_of ft ≡ t) × (name_of fd ≡ d)
-      × ((since : Option ℤ) × IsSince segment.not_before since
-      × ((bytes more : List ℕ) × SearchesInSegment words (is_some segment.leaves) since (input_of ft) (input_of fd) said lines bytes more
-      × IsMade made out bytes said file × IsMadeAsAsked made segment.leaves more said left))
-  HasSearchedSegment t d out words segment other said lines = ⊥
+  abbrev pub HasSearchedSegment : SearchFiles → SearchWords → SegmentWords → Option (List ℕ) → Did F M E → Status → List ℕ → Type 0
+  HasSearchedSegment files words segment expected (did.SearchedSegment ft fd file left) said lines = (name_of ft ≡ files.transcript.now)
+      × (name_of fd ≡ files.declaration.now)
+      × ((since : Option ℤ) × IsSince segment.not_before since × ((bytes more : List ℕ)
+      × SaysOf voice.Lines expected (input_of ft)
+      (λ ran told. SearchesInSegment words (is_some segment.leaves) since (input_of ft) (input_of fd) ran told bytes more) said lines
+      × IsMade made files.out.now bytes said file × IsMadeAsAsked made segment.leaves more said left))
+  HasSearchedSegment files words segment expected other said lines = ⊥
 
   -- A file with this name was read for its digits, and the items were made that they spell, if they do.
   abbrev pub HasWritten : List ℕ → List ℕ → Did F M E → Status → List ℕ → Type 0
@@ -103,19 +121,26 @@ module _ {F M E : Type 0} (made : M → List ℕ × List ℕ) (lacked : E → Bo
   TellsDone voice (Ok it) done before after failed left = (done ≡ it.1) × TellsLines voice it.0.lines.items it.0.status before after failed left
   TellsDone voice (Err e) done before after failed left = (done ≡ did.Refused e) × TellsTrouble voice (lacked e) before after failed left
 
-  abbrev pub RunsCheck : List ℕ → List ℕ → List ℕ → Option Asked → SegmentWords → Did F M E → List ℕ → List ℕ → Bool → Status → Type 0
-  RunsCheck t d w None segment done before after failed left = TellsMistake done before after left
-  RunsCheck t d w (Some (asked.Files form)) segment done before after failed left =
-      TellsWhat (voice_of form) (HasChecked t d w form) done before after failed left
-  RunsCheck t d w (Some asked.Segment) segment done before after failed left =
-      TellsWhat voice.Lines (λ what said lines. HasCheckedSegment t d w segment what said lines ⊎ IsUntold segment what said lines) done before after failed left
+  -- a check of these files, where this head is expected, if one is
+  abbrev pub RunsAskedCheck : CheckFiles → SegmentWords → Option (List ℕ) → Asked → Did F M E → List ℕ → List ℕ → Bool → Status → Type 0
+  RunsAskedCheck files segment expected (asked.Files form) done before after failed left =
+      TellsWhat (voice_of form) (HasChecked files form expected) done before after failed left
+  RunsAskedCheck files segment expected asked.Segment done before after failed left =
+      TellsWhat voice.Lines (λ what said lines. HasCheckedSegment files segment expected what said lines ⊎ IsUntold segment what said lines) done before after failed left
 
-  abbrev pub RunsSearch : List ℕ → List ℕ → List ℕ → SearchWords → Option Asked → SegmentWords → Did F M E → List ℕ → List ℕ → Bool → Status → Type 0
-  RunsSearch t d out words None segment done before after failed left = TellsMistake done before after left
-  RunsSearch t d out words (Some (asked.Files form)) segment done before after failed left =
-      TellsWhat (voice_of form) (HasSearched t d out form words) done before after failed left
-  RunsSearch t d out words (Some asked.Segment) segment done before after failed left =
-      TellsWhat voice.Lines (λ what said lines. HasSearchedSegment t d out words segment what said lines ⊎ IsUntold segment what said lines) done before after failed left
+  abbrev pub RunsCheck : CheckFiles → AnswerWords → Did F M E → List ℕ → List ℕ → Bool → Status → Type 0
+  RunsCheck files words done before after failed left = RunsAsAsked (asked_of words.form words.segment) words.seals.head
+      (λ expected asked. RunsAskedCheck files words.segment expected asked done before after failed left) (TellsMistake done before after left)
+
+  abbrev pub RunsAskedSearch : SearchFiles → SearchWords → SegmentWords → Option (List ℕ) → Asked → Did F M E → List ℕ → List ℕ → Bool → Status → Type 0
+  RunsAskedSearch files words segment expected (asked.Files form) done before after failed left =
+      TellsWhat (voice_of form) (HasSearched files form words expected) done before after failed left
+  RunsAskedSearch files words segment expected asked.Segment done before after failed left =
+      TellsWhat voice.Lines (λ what said lines. HasSearchedSegment files words segment expected what said lines ⊎ IsUntold segment what said lines) done before after failed left
+
+  abbrev pub RunsSearch : SearchFiles → SearchWords → AnswerWords → Did F M E → List ℕ → List ℕ → Bool → Status → Type 0
+  RunsSearch files search words done before after failed left = RunsAsAsked (asked_of words.form words.segment) words.seals.head
+      (λ expected asked. RunsAskedSearch files search words.segment expected asked done before after failed left) (TellsMistake done before after left)
 
   -- The items of a file with this name are shown, and printed as far as they could be; or it is refused.
   abbrev pub RunsShow : List ℕ → ShowOptions → Did F M E → List ℕ → List ℕ → Bool → Status → Type 0
@@ -130,9 +155,8 @@ module _ {F M E : Type 0} (made : M → List ℕ × List ℕ) (lacked : E → Bo
 
   -- A job is done. Of a chain nothing is claimed here.
   abbrev pub RunsJob : Job → Did F M E → List ℕ → List ℕ → Bool → Status → Type 0
-  RunsJob (Check t d w form segment) done before after failed left = RunsCheck t.now d.now w.now (asked_of form segment) segment done before after failed left
-  RunsJob (Search t d out words form segment) done before after failed left =
-      RunsSearch t.now d.now out.now words (asked_of form segment) segment done before after failed left
+  RunsJob (Check files words) done before after failed left = RunsCheck files words done before after failed left
+  RunsJob (Search files search words) done before after failed left = RunsSearch files search words done before after failed left
   RunsJob (Chain folder budget quiet leaves) done before after failed left = Unit {0}
   RunsJob (Show file options) done before after failed left = RunsShow file.now options done before after failed left
   RunsJob (Write hex out) done before after failed left = RunsWrite hex.now out.now done before after failed left

@@ -12,8 +12,9 @@ use crate::printing::tell;
 use crate::telling::refuse;
 use crate::voice::Voice;
 use crate::world::{Content, Out, World};
+use kmipa_links::Links;
 use kmipa_runs::Status;
-use kmipa_segments::{Chain, chain_end};
+use kmipa_segments::{Chain, Link, chain_end, sealed_line};
 use std::alloc::Global;
 
 /// What is asked of a chain.
@@ -64,20 +65,86 @@ fn chain_folder<W: World, O: Out>(
     let read = declaration.begin(alloc, &mut lines);
     drop(declaration);
     match read {
-        Ok(mut chain) => judge_all(
-            alloc,
-            world,
-            out,
-            &folder.segments,
-            &folder.asked,
-            &mut chain,
-            words,
-        ),
+        Ok(chain) => judge_linked(alloc, world, out, &folder, chain, words),
         Err(status) => {
             let paths = ["", folder.declaration.as_str()];
             world.hint_kind(&paths, &lines);
             Ok(tell(out, Voice::Lines, &lines, status))
         }
+    }
+}
+
+/// Links all segments of a folder ahead of any verdict, judges them, and tells the seals of the whole.
+fn judge_linked<W: World, O: Out>(
+    alloc: Global,
+    world: &W,
+    out: &mut O,
+    folder: &Folder,
+    mut chain: Chain,
+    words: ChainWords<'_>,
+) -> Result<Status, W::Refusal>
+    requires { AreDeclared (declaration_of chain.held.declaration) }
+{
+    let mut links = Links::new(alloc);
+    match link_all(alloc, world, out, &folder.segments, &mut links) {
+        Status::Done => {}
+        status => return Ok(status),
+    }
+    let segments = &folder.segments;
+    match judge_all(
+        alloc,
+        world,
+        out,
+        segments,
+        &folder.asked,
+        &mut chain,
+        words,
+    )? {
+        Status::Done => Ok(tell_seals(alloc, out, &links)),
+        status => Ok(status),
+    }
+}
+
+/// Links segments, up to one that can't be read, which is told in its turn; prints the line of the first gap.
+fn link_all<W: World, O: Out>(
+    alloc: Global,
+    world: &W,
+    out: &mut O,
+    segments: &[FolderSegment],
+    links: &mut Links,
+) -> Status {
+    'segments: for segment in segments {
+        match link(alloc, world, out, segment, links) {
+            Link::Linked => {}
+            Link::Unread => return Status::Done,
+            Link::Told(status) => return status,
+        }
+    }
+    Status::Done
+}
+
+fn link<W: World, O: Out>(
+    alloc: Global,
+    world: &W,
+    out: &mut O,
+    segment: &FolderSegment,
+    links: &mut Links,
+) -> Link {
+    let Some(mut transcript) = world.peek(segment.transcript.as_str()) else {
+        return Link::Unread;
+    };
+    let mut lines = Vec::new(alloc);
+    match transcript.link(alloc, links, segment.name.as_str(), &mut lines) {
+        Link::Told(status) => Link::Told(tell(out, Voice::Lines, &lines, status)),
+        link => link,
+    }
+}
+
+/// Prints the line of the seals of segments that were linked, if they bear any.
+fn tell_seals<O: Out>(alloc: Global, out: &mut O, links: &Links) -> Status {
+    match sealed_line(alloc, links) {
+        Ok(line) => tell(out, Voice::Lines, line.as_bytes(), Status::Done),
+        Err(_) => tell(out, Voice::Lines, b"", Status::Failed),
     }
 }
 

@@ -1,50 +1,56 @@
 //! Checks of files: of whole ones, in each form, or of a segment.
 
-ghost use Rattle.std.specs.Prelude.{◌≡◌, ◌⊎◌, [], IfOk, MatchResult, Some};
+ghost use Rattle.std.specs.Prelude.{◌≡◌, ◌⊎◌, [], IfOk, MatchResult};
 ghost use Rattle.kmipa_runs.specs.declared.status.Status.{Status};
-ghost use Rattle.kmipa_session.specs.Jobs.{asked_of, IsNoMoment, IsSince};
-ghost use Rattle.kmipa_session.specs.Sessions.{HasChecked, HasCheckedSegment, IsMadeAsAsked, IsRefused, IsUntold, RunsCheck, TellsWhat};
+ghost use Rattle.kmipa_session.specs.Jobs.{IsNoMoment, IsSince};
+ghost use Rattle.kmipa_session.specs.Sessions.{HasChecked, HasCheckedSegment, IsMadeAsAsked, IsRefused, IsUntold, RunsAskedCheck, RunsCheck, TellsWhat};
 ghost use Rattle.kmipa_session.specs.Printing.{voice_of};
 ghost use Rattle.kmipa_session.specs.declared.job.Asked.TheVariants.{Segment};
 ghost use Rattle.kmipa_session.specs.declared.voice.Voice.TheVariants.{Lines};
 
 use crate::did::{Did, Said, Session};
-use crate::job::{Asked, Form, FormWords, SegmentWords, asked_of};
+use crate::job::{AnswerWords, Asked, CheckFiles, Form, SegmentWords, asked_of};
 use crate::named::Named;
-use crate::telling::{tell_done, tell_mixed};
+use crate::sealing::{NoSeal, expected_of, say_seals};
+use crate::telling::{tell_done, tell_mixed, tell_no_seal};
 use crate::voice::{Voice, voice_of};
 use crate::world::{Content, Out, World};
 use kmipa_runs::Status;
 use kmipa_segments::read_moment;
 use std::alloc::Global;
 
+/// What a check is asked for, and the head that it has to have, if one is expected.
+#[derive(Clone, Copy, PartialEq, Eq)]
+struct CheckWords<'a> {
+    files: CheckFiles<'a>,
+    segment: SegmentWords<'a>,
+    expected: Option<[u8; 32]>,
+}
+
 /// Checks three files as the options ask for it, and prints what is said of them.
 pub fn run_check<'n, W: World, O: Out>(
     alloc: Global,
     world: &W,
     out: O,
-    transcript: &'n str,
-    declaration: &'n str,
-    witness: &'n str,
-    form: FormWords,
-    segment: SegmentWords<'_>,
+    files: CheckFiles<'n>,
+    words: AnswerWords<'n>,
 ) -> Session<'n, O, W::File, W::Made, W::Refusal>
-    ensures { RunsCheck W.made W.lacked transcript.entry.now declaration.entry.now witness.entry.now (asked_of form
-        segment.entry) segment.entry
-        result.did (O.printed out) (O.printed result.out) (O.has_failed result.out) result.status }
+    ensures { RunsCheck W.made W.lacked files.entry words.entry result.did (O.printed out) (O.printed result.out)
+        (O.has_failed result.out) result.status }
 {
-    match asked_of(form, segment) {
-        Some(asked) => run_asked_check(
-            alloc,
-            world,
-            out,
-            transcript,
-            declaration,
-            witness,
-            asked,
-            segment,
-        ),
-        None => tell_mixed(world, out),
+    let Some(asked) = asked_of(words.form, words.segment) else {
+        return tell_mixed(world, out);
+    };
+    match expected_of(words.seals.head) {
+        Ok(expected) => {
+            let words = CheckWords {
+                files,
+                segment: words.segment,
+                expected,
+            };
+            run_asked_check(alloc, world, out, asked, words)
+        }
+        Err(NoSeal) => tell_no_seal(world, out),
     }
 }
 
@@ -52,23 +58,15 @@ fn run_asked_check<'n, W: World, O: Out>(
     alloc: Global,
     world: &W,
     out: O,
-    transcript: &'n str,
-    declaration: &'n str,
-    witness: &'n str,
     asked: Asked,
-    segment: SegmentWords<'_>,
+    words: CheckWords<'n>,
 ) -> Session<'n, O, W::File, W::Made, W::Refusal>
-    ensures { RunsCheck W.made W.lacked transcript.entry.now declaration.entry.now witness.entry.now (Some asked)
-        segment.entry
+    ensures { RunsAskedCheck W.made W.lacked words.entry.files words.entry.segment words.entry.expected asked
         result.did (O.printed out) (O.printed result.out) (O.has_failed result.out) result.status }
 {
     match asked {
-        Asked::Files(form) => {
-            run_whole_check(alloc, world, out, transcript, declaration, witness, form)
-        }
-        Asked::Segment => {
-            run_segment_check(alloc, world, out, transcript, declaration, witness, segment)
-        }
+        Asked::Files(form) => run_whole_check(alloc, world, out, form, words),
+        Asked::Segment => run_segment_check(alloc, world, out, words),
     }
 }
 
@@ -77,16 +75,14 @@ fn run_whole_check<'n, W: World, O: Out>(
     alloc: Global,
     world: &W,
     out: O,
-    transcript: &'n str,
-    declaration: &'n str,
-    witness: &'n str,
     form: Form,
+    words: CheckWords<'n>,
 ) -> Session<'n, O, W::File, W::Made, W::Refusal>
-    ensures { TellsWhat W.made W.lacked (voice_of form) (HasChecked W.made W.lacked transcript.entry.now
-        declaration.entry.now witness.entry.now form)
+    ensures { TellsWhat W.made W.lacked (voice_of form) (HasChecked W.made W.lacked words.entry.files form
+        words.entry.expected)
         result.did (O.printed out) (O.printed result.out) (O.has_failed result.out) result.status }
 {
-    let done = check_files(alloc, world, transcript, declaration, witness, form);
+    let done = check_files(alloc, world, form, words);
     tell_done(world, out, voice_of(form), done)
 }
 
@@ -95,16 +91,12 @@ fn run_segment_check<'n, W: World, O: Out>(
     alloc: Global,
     world: &W,
     out: O,
-    transcript: &'n str,
-    declaration: &'n str,
-    witness: &'n str,
-    segment: SegmentWords<'_>,
+    words: CheckWords<'n>,
 ) -> Session<'n, O, W::File, W::Made, W::Refusal>
-    ensures { RunsCheck W.made W.lacked transcript.entry.now declaration.entry.now witness.entry.now (Some Segment)
-        segment.entry
+    ensures { RunsAskedCheck W.made W.lacked words.entry.files words.entry.segment words.entry.expected Segment
         result.did (O.printed out) (O.printed result.out) (O.has_failed result.out) result.status }
 {
-    let done = check_segment(alloc, world, transcript, declaration, witness, segment);
+    let done = check_segment(alloc, world, words);
     tell_done(world, out, Voice::Lines, done)
 }
 
@@ -112,23 +104,22 @@ fn run_segment_check<'n, W: World, O: Out>(
 fn check_files<'n, W: World>(
     alloc: Global,
     world: &W,
-    transcript: &'n str,
-    declaration: &'n str,
-    witness: &'n str,
     form: Form,
+    words: CheckWords<'n>,
 ) -> Result<(Said, Did<'n, W::File, W::Made, W::Refusal>), W::Refusal>
-    ensures { IfOk result (λ done. HasChecked W.made W.lacked transcript.entry.now declaration.entry.now
-        witness.entry.now form
+    ensures { IfOk result (λ done. HasChecked W.made W.lacked words.entry.files form words.entry.expected
         done.1 done.0.status done.0.lines.items) }
 {
-    let names = [transcript, declaration, witness];
-    let mut transcript = world.open(transcript)?;
-    let mut declaration = world.open(declaration)?;
-    let mut witness = world.open(witness)?;
-    let said = Named::check(alloc, form, &mut transcript, &mut declaration, &mut witness);
-    if said.status == Status::Refused {
-        world.hint_kind(&names, &said.lines);
+    let files = words.files;
+    let names = [files.transcript, files.declaration, files.witness];
+    let mut transcript = world.open(files.transcript)?;
+    let mut declaration = world.open(files.declaration)?;
+    let mut witness = world.open(files.witness)?;
+    let ran = Named::check(alloc, form, &mut transcript, &mut declaration, &mut witness);
+    if ran.status == Status::Refused {
+        world.hint_kind(&names, &ran.lines);
     }
+    let said = say_seals(alloc, voice_of(form), words.expected, ran);
     Ok((said, Did::Checked(transcript, declaration, witness)))
 }
 
@@ -137,41 +128,41 @@ fn check_files<'n, W: World>(
 fn check_segment<'n, W: World>(
     alloc: Global,
     world: &W,
-    transcript: &'n str,
-    declaration: &'n str,
-    witness: &'n str,
-    segment: SegmentWords<'_>,
+    words: CheckWords<'n>,
 ) -> Result<(Said, Did<'n, W::File, W::Made, W::Refusal>), W::Refusal>
     ensures { IfOk result (λ done.
-        (HasCheckedSegment W.made W.lacked transcript.entry.now declaration.entry.now witness.entry.now segment.entry
+        (HasCheckedSegment W.made W.lacked words.entry.files words.entry.segment words.entry.expected
         done.1 done.0.status done.0.lines.items
-        ⊎ IsUntold segment.entry done.1 done.0.status done.0.lines.items)
+        ⊎ IsUntold words.entry.segment done.1 done.0.status done.0.lines.items)
         ⊎ IsRefused W.made W.lacked Lines done.1 done.0.status done.0.lines.items) }
 {
-    let since = match moment_of(world, segment.not_before) {
+    let files = words.files;
+    let leaves = words.segment.leaves;
+    let since = match moment_of(world, words.segment.not_before) {
         Ok(since) => since,
         Err(NoMoment) => return Ok((mistaken(alloc), Did::Nothing)),
     };
-    let inputs = [transcript, declaration, witness];
-    if let Err(refusal) = test_left(world, segment.leaves, &inputs) {
+    let inputs = [files.transcript, files.declaration, files.witness];
+    if let Err(refusal) = test_left(world, leaves, &inputs) {
         return Ok((mistaken(alloc), Did::Refused(refusal)));
     }
-    let mut transcript = world.open(transcript)?;
-    let mut declaration = world.open(declaration)?;
-    let mut order = world.open(witness)?;
-    test_leaves(world, segment.leaves)?;
-    let (said, left) = Named::check_segment(
+    let mut transcript = world.open(files.transcript)?;
+    let mut declaration = world.open(files.declaration)?;
+    let mut order = world.open(files.witness)?;
+    test_leaves(world, leaves)?;
+    let (ran, left) = Named::check_segment(
         alloc,
         &mut transcript,
         &mut declaration,
         &mut order,
         since,
-        segment.leaves.is_some(),
+        leaves.is_some(),
     );
-    if said.status == Status::Refused {
-        world.hint_kind(&inputs, &said.lines);
+    if ran.status == Status::Refused {
+        world.hint_kind(&inputs, &ran.lines);
     }
-    let file = make_left(world, segment.leaves, &left, said.status)?;
+    let said = say_seals(alloc, Voice::Lines, words.expected, ran);
+    let file = make_left(world, leaves, &left, said.status)?;
     Ok((
         said,
         Did::CheckedSegment(transcript, declaration, order, file),

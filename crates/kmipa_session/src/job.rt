@@ -45,26 +45,51 @@ pub struct SearchWords {
     pub quiet: bool,
 }
 
+/// What is asked of the seals of a transcript.
+#[derive(Clone, Copy, PartialEq, Eq)]
+pub struct SealWords<'a> {
+    /// The head that the transcript has to have, as it is written in the words.
+    pub head: Option<&'a str>,
+}
+
+/// What the options of a check or a search ask for of its answer.
+#[derive(Clone, Copy, PartialEq, Eq)]
+pub struct AnswerWords<'a> {
+    pub form: FormWords,
+    pub segment: SegmentWords<'a>,
+    pub seals: SealWords<'a>,
+}
+
+/// The names of the files of a check.
+#[derive(Clone, Copy, PartialEq, Eq)]
+pub struct CheckFiles<'a> {
+    pub transcript: &'a str,
+    pub declaration: &'a str,
+    pub witness: &'a str,
+}
+
+/// The names of the files of a search.
+#[derive(Clone, Copy, PartialEq, Eq)]
+pub struct SearchFiles<'a> {
+    pub transcript: &'a str,
+    pub declaration: &'a str,
+    /// The witness that is written.
+    pub out: &'a str,
+}
+
 /// What the words ask for, with the names of the files that it reads.
 #[derive(Clone, Copy, PartialEq, Eq)]
 pub enum Job<'a> {
     /// Whether the calls of a transcript are possible in the order of a witness.
     Check {
-        transcript: &'a str,
-        declaration: &'a str,
-        witness: &'a str,
-        form: FormWords,
-        segment: SegmentWords<'a>,
+        files: CheckFiles<'a>,
+        words: AnswerWords<'a>,
     },
     /// An order in which the calls of a transcript are possible.
     Search {
-        transcript: &'a str,
-        declaration: &'a str,
-        /// The witness that is written.
-        out: &'a str,
+        files: SearchFiles<'a>,
         search: SearchWords,
-        form: FormWords,
-        segment: SegmentWords<'a>,
+        words: AnswerWords<'a>,
     },
     /// The segments of a folder, one after the other.
     Chain {

@@ -6,9 +6,12 @@ mod checking;
 mod did;
 mod folder;
 mod job;
+mod laws;
 mod named;
 mod printing;
+mod ran;
 mod runs;
+mod sealing;
 mod searching;
 mod session;
 mod showing;
@@ -18,9 +21,14 @@ mod world;
 
 pub use did::{Did, Said, Session};
 pub use folder::{AskedFor, Folder, FolderSegment};
-pub use job::{Asked, Form, FormWords, Job, SearchWords, SegmentWords};
+pub use job::{
+    AnswerWords, Asked, CheckFiles, Form, FormWords, Job, SealWords, SearchFiles, SearchWords,
+    SegmentWords,
+};
+pub use laws::done_tells_its_head;
 pub use named::Named;
 pub use printing::{tell, tell_refusal};
+pub use ran::Ran;
 pub use session::run_job;
 pub use voice::Voice;
 pub use world::{Content, Out, World};

@@ -2,13 +2,17 @@
 
 use crate::did::Said;
 use crate::job::{Form, SearchWords};
+use crate::ran::Ran;
 use crate::runs::{
     check_explained, check_explained_object, check_left, check_lines, check_object,
     search_explained, search_left, search_lines, search_object, write_items,
 };
+use kmipa_links::Links;
 use kmipa_runs::{Printer, ShowOptions, Status, Unprinted, show_run};
 use kmipa_search::Watch;
-use kmipa_segments::{Chain, chain_begin, chain_check, chain_compare, chain_search};
+use kmipa_segments::{
+    Chain, Link, chain_begin, chain_check, chain_compare, chain_link, chain_search,
+};
 use kmipa_ttlv::Input;
 use std::alloc::Global;
 use std::io::Read;
@@ -25,6 +29,7 @@ impl<'n, R: Read> Named<'n, R> {
     ghost use Rattle.std.specs.Io.{StartsWith, appended_bytes};
     ghost use Rattle.kmipa_ttlv.specs.Input.{came_of, is_ended, is_failed, IsFileOf};
     ghost use Rattle.kmipa_runs.specs.Inputs.{Writes};
+    ghost use Rattle.kmipa_runs.specs.Knowing.{KnowsSeals};
     ghost use Rattle.kmipa_record.specs.Declarations.{AreDeclared, DeclarationFault, DeclarationOf, IsDeclaration, IsDeclarationUpTo, declaration_of};
     ghost use Rattle.kmipa_record.specs.Files.{Tells};
     ghost use Rattle.kmipa_record.specs.declared.fault.RecordFault.{RecordFault};
@@ -35,6 +40,7 @@ impl<'n, R: Read> Named<'n, R> {
     ghost use Rattle.kmipa_segments.specs.Chaining.{IsChain, IsNamed, IsNextOf};
     ghost use Rattle.kmipa_segments.specs.Chains.{ChecksNext, PrintsNext, PrintsNextFound, SearchesNext};
     ghost use Rattle.kmipa_segments.specs.Comparing.{ComparesFile, Fits, PrintsCompared};
+    ghost use Rattle.kmipa_segments.specs.Linking.{LinksSo};
     ghost use Rattle.kmipa_segments.specs.declared.comparing.Compared.{Compared};
     ghost use Rattle.kmipa_segments.specs.declared.next.NextSegment.{NextSegment};
     ghost use Rattle.kmipa_segments.specs.declared.segment_search.FoundSegment.{FoundSegment};
@@ -60,12 +66,13 @@ impl<'n, R: Read> Named<'n, R> {
         transcript: &mut Named<'_, R>,
         declaration: &mut Named<'_, R>,
         witness: &mut Named<'_, R>,
-    ) -> Said
+    ) -> Ran
         requires transcript { came_of (input_of transcript.old) ≡ [] }
         requires declaration { came_of (input_of declaration.old) ≡ [] }
         requires witness { came_of (input_of witness.old) ≡ [] }
         ensures checks { Checks form (input_of transcript.new) (input_of declaration.new) (input_of witness.new)
             result.status result.lines.items }
+        ensures known { KnowsSeals (came_of (input_of transcript.new)) result.status result.head }
         ensures transcript { name_of transcript.new ≡ name_of transcript.old }
         ensures declaration { name_of declaration.new ≡ name_of declaration.old }
         ensures witness { name_of witness.new ≡ name_of witness.old }
@@ -90,13 +97,14 @@ impl<'n, R: Read> Named<'n, R> {
         witness: &mut Named<'_, R>,
         since: Option<i64>,
         leaves: bool,
-    ) -> (Said, Vec<u8>)
+    ) -> (Ran, Vec<u8>)
         requires transcript { came_of (input_of transcript.old) ≡ [] }
         requires declaration { came_of (input_of declaration.old) ≡ [] }
         requires witness { came_of (input_of witness.old) ≡ [] }
         ensures checks { ChecksInSegment leaves since (input_of transcript.new) (input_of declaration.new) (input_of
             witness.new)
             result.0.status result.0.lines.items result.1.items }
+        ensures known { KnowsSeals (came_of (input_of transcript.new)) result.0.status result.0.head }
         ensures transcript { name_of transcript.new ≡ name_of transcript.old }
         ensures declaration { name_of declaration.new ≡ name_of declaration.old }
         ensures witness { name_of witness.new ≡ name_of witness.old }
@@ -119,11 +127,12 @@ impl<'n, R: Read> Named<'n, R> {
         transcript: &mut Named<'_, R>,
         declaration: &mut Named<'_, R>,
         watch: &mut W,
-    ) -> (Said, Vec<u8>)
+    ) -> (Ran, Vec<u8>)
         requires transcript { came_of (input_of transcript.old) ≡ [] }
         requires declaration { came_of (input_of declaration.old) ≡ [] }
         ensures searches { Searches form words (input_of transcript.new) (input_of declaration.new)
             result.0.status result.0.lines.items result.1.items }
+        ensures known { KnowsSeals (came_of (input_of transcript.new)) result.0.status result.0.head }
         ensures transcript { name_of transcript.new ≡ name_of transcript.old }
         ensures declaration { name_of declaration.new ≡ name_of declaration.old }
     {
@@ -146,11 +155,12 @@ impl<'n, R: Read> Named<'n, R> {
         since: Option<i64>,
         leaves: bool,
         watch: &mut W,
-    ) -> (Said, Vec<u8>, Vec<u8>)
+    ) -> (Ran, Vec<u8>, Vec<u8>)
         requires transcript { came_of (input_of transcript.old) ≡ [] }
         requires declaration { came_of (input_of declaration.old) ≡ [] }
         ensures searches { SearchesInSegment words leaves since (input_of transcript.new) (input_of declaration.new)
             result.0.status result.0.lines.items result.1.items result.2.items }
+        ensures known { KnowsSeals (came_of (input_of transcript.new)) result.0.status result.0.head }
         ensures transcript { name_of transcript.new ≡ name_of transcript.old }
         ensures declaration { name_of declaration.new ≡ name_of declaration.old }
     {
@@ -209,6 +219,22 @@ impl<'n, R: Read> Named<'n, R> {
         ensures appends { StartsWith lines.new.items lines.old.items }
     {
         chain_begin(alloc, &mut self.input, lines)
+    }
+
+    /// Links the next segment of a chain, of which this is the transcript, behind those before it, and appends the line of its gap, if it has one.
+    pub fn link(
+        &mut self,
+        alloc: Global,
+        links: &mut Links,
+        name: &str,
+        lines: &mut Vec<u8>,
+    ) -> Link
+        requires { came_of (input_of self.old) ≡ [] }
+        ensures links { LinksSo links.old links.new name.now (input_of self.new)
+            (appended_bytes lines.old.items lines.new.items) result }
+        ensures appends { StartsWith lines.new.items lines.old.items }
+    {
+        chain_link(alloc, links, name, &mut self.input, lines)
     }
 
     /// Judges the next segment of a chain by its witness, and appends its name and its lines.

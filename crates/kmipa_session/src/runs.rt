@@ -3,11 +3,13 @@
 ghost use Rattle.std.specs.Prelude.{◌≡◌, []};
 ghost use Rattle.kmipa_ttlv.specs.Input.{came_of, is_failed};
 ghost use Rattle.kmipa_runs.specs.Inputs.{Writes};
+ghost use Rattle.kmipa_runs.specs.Knowing.{KnowsSeals};
 ghost use Rattle.kmipa_session.specs.Checks.{ChecksExplained, ChecksExplainedInJson, ChecksInJson, ChecksInLines, ChecksInSegment};
 ghost use Rattle.kmipa_session.specs.Searches.{SearchesExplained, SearchesInJson, SearchesInLines, SearchesInSegment};
 
 use crate::did::Said;
 use crate::job::SearchWords;
+use crate::ran::Ran;
 use kmipa_runs::{check_run, search_run, write_run};
 use kmipa_search::Watch;
 use kmipa_segments::{search_segment_run, segment_run};
@@ -22,15 +24,20 @@ pub fn check_lines<R: Read>(
     transcript: &mut Input<R>,
     declaration: &mut Input<R>,
     witness: &mut Input<R>,
-) -> Said
+) -> Ran
     requires transcript { came_of transcript.old ≡ [] }
     requires declaration { came_of declaration.old ≡ [] }
     requires witness { came_of witness.old ≡ [] }
-    ensures { ChecksInLines transcript.new declaration.new witness.new result.status result.lines.items }
+    ensures told { ChecksInLines transcript.new declaration.new witness.new result.status result.lines.items }
+    ensures known { KnowsSeals (came_of transcript.new) result.status result.head }
 {
     let mut lines = Vec::new(alloc);
-    let status = check_run(alloc, transcript, declaration, witness, &mut lines);
-    Said { status, lines }
+    let answered = check_run(alloc, transcript, declaration, witness, &mut lines);
+    Ran {
+        status: answered.status,
+        lines,
+        head: answered.head,
+    }
 }
 
 /// And what a no means.
@@ -39,15 +46,20 @@ pub fn check_explained<R: Read>(
     transcript: &mut Input<R>,
     declaration: &mut Input<R>,
     witness: &mut Input<R>,
-) -> Said
+) -> Ran
     requires transcript { came_of transcript.old ≡ [] }
     requires declaration { came_of declaration.old ≡ [] }
     requires witness { came_of witness.old ≡ [] }
-    ensures { ChecksExplained transcript.new declaration.new witness.new result.status result.lines.items }
+    ensures told { ChecksExplained transcript.new declaration.new witness.new result.status result.lines.items }
+    ensures known { KnowsSeals (came_of transcript.new) result.status result.head }
 {
     let mut lines = Vec::new(alloc);
-    let status = explain_run(alloc, transcript, declaration, witness, &mut lines);
-    Said { status, lines }
+    let answered = explain_run(alloc, transcript, declaration, witness, &mut lines);
+    Ran {
+        status: answered.status,
+        lines,
+        head: answered.head,
+    }
 }
 
 /// Checks three inputs, and tells it in one object.
@@ -56,15 +68,20 @@ pub fn check_object<R: Read>(
     transcript: &mut Input<R>,
     declaration: &mut Input<R>,
     witness: &mut Input<R>,
-) -> Said
+) -> Ran
     requires transcript { came_of transcript.old ≡ [] }
     requires declaration { came_of declaration.old ≡ [] }
     requires witness { came_of witness.old ≡ [] }
-    ensures { ChecksInJson transcript.new declaration.new witness.new result.status result.lines.items }
+    ensures told { ChecksInJson transcript.new declaration.new witness.new result.status result.lines.items }
+    ensures known { KnowsSeals (came_of transcript.new) result.status result.head }
 {
     let mut lines = Vec::new(alloc);
-    let status = check_json(alloc, transcript, declaration, witness, &mut lines);
-    Said { status, lines }
+    let answered = check_json(alloc, transcript, declaration, witness, &mut lines);
+    Ran {
+        status: answered.status,
+        lines,
+        head: answered.head,
+    }
 }
 
 /// And with it what a no means.
@@ -73,15 +90,20 @@ pub fn check_explained_object<R: Read>(
     transcript: &mut Input<R>,
     declaration: &mut Input<R>,
     witness: &mut Input<R>,
-) -> Said
+) -> Ran
     requires transcript { came_of transcript.old ≡ [] }
     requires declaration { came_of declaration.old ≡ [] }
     requires witness { came_of witness.old ≡ [] }
-    ensures { ChecksExplainedInJson transcript.new declaration.new witness.new result.status result.lines.items }
+    ensures told { ChecksExplainedInJson transcript.new declaration.new witness.new result.status result.lines.items }
+    ensures known { KnowsSeals (came_of transcript.new) result.status result.head }
 {
     let mut lines = Vec::new(alloc);
-    let status = explain_json(alloc, transcript, declaration, witness, &mut lines);
-    Said { status, lines }
+    let answered = explain_json(alloc, transcript, declaration, witness, &mut lines);
+    Ran {
+        status: answered.status,
+        lines,
+        head: answered.head,
+    }
 }
 
 /// Checks three inputs of a segment, from a moment on where one is given. Behind what is said stand, where they are asked for, the bytes of the
@@ -93,16 +115,17 @@ pub fn check_left<R: Read>(
     witness: &mut Input<R>,
     since: Option<i64>,
     leaves: bool,
-) -> (Said, Vec<u8>)
+) -> (Ran, Vec<u8>)
     requires transcript { came_of transcript.old ≡ [] }
     requires declaration { came_of declaration.old ≡ [] }
     requires witness { came_of witness.old ≡ [] }
-    ensures { ChecksInSegment leaves since transcript.new declaration.new witness.new result.0.status
+    ensures told { ChecksInSegment leaves since transcript.new declaration.new witness.new result.0.status
         result.0.lines.items result.1.items }
+    ensures known { KnowsSeals (came_of transcript.new) result.0.status result.0.head }
 {
     let mut lines = Vec::new(alloc);
     let mut left = Vec::new(alloc);
-    let status = segment_run(
+    let answered = segment_run(
         alloc,
         transcript,
         declaration,
@@ -112,7 +135,12 @@ pub fn check_left<R: Read>(
         &mut lines,
         &mut left,
     );
-    (Said { status, lines }, left)
+    let ran = Ran {
+        status: answered.status,
+        lines,
+        head: answered.head,
+    };
+    (ran, left)
 }
 
 /// Looks for a witness of two inputs, and tells it in lines. Behind what is said stand the bytes of the witness.
@@ -122,14 +150,15 @@ pub fn search_lines<R: Read, W: Watch>(
     transcript: &mut Input<R>,
     declaration: &mut Input<R>,
     watch: &mut W,
-) -> (Said, Vec<u8>)
+) -> (Ran, Vec<u8>)
     requires transcript { came_of transcript.old ≡ [] }
     requires declaration { came_of declaration.old ≡ [] }
-    ensures { SearchesInLines words transcript.new declaration.new result.0.status result.0.lines.items result.1.items }
+    ensures told { SearchesInLines words transcript.new declaration.new result.0.status result.0.lines.items result.1.items }
+    ensures known { KnowsSeals (came_of transcript.new) result.0.status result.0.head }
 {
     let mut lines = Vec::new(alloc);
     let mut made = Vec::new(alloc);
-    let status = search_run(
+    let answered = search_run(
         alloc,
         transcript,
         declaration,
@@ -140,7 +169,12 @@ pub fn search_lines<R: Read, W: Watch>(
         &mut lines,
         &mut made,
     );
-    (Said { status, lines }, made)
+    let ran = Ran {
+        status: answered.status,
+        lines,
+        head: answered.head,
+    };
+    (ran, made)
 }
 
 /// And what a giving up means.
@@ -150,15 +184,16 @@ pub fn search_explained<R: Read, W: Watch>(
     transcript: &mut Input<R>,
     declaration: &mut Input<R>,
     watch: &mut W,
-) -> (Said, Vec<u8>)
+) -> (Ran, Vec<u8>)
     requires transcript { came_of transcript.old ≡ [] }
     requires declaration { came_of declaration.old ≡ [] }
-    ensures { SearchesExplained words transcript.new declaration.new result.0.status result.0.lines.items
+    ensures told { SearchesExplained words transcript.new declaration.new result.0.status result.0.lines.items
         result.1.items }
+    ensures known { KnowsSeals (came_of transcript.new) result.0.status result.0.head }
 {
     let mut lines = Vec::new(alloc);
     let mut made = Vec::new(alloc);
-    let status = explain_search_run(
+    let answered = explain_search_run(
         alloc,
         transcript,
         declaration,
@@ -169,7 +204,12 @@ pub fn search_explained<R: Read, W: Watch>(
         &mut lines,
         &mut made,
     );
-    (Said { status, lines }, made)
+    let ran = Ran {
+        status: answered.status,
+        lines,
+        head: answered.head,
+    };
+    (ran, made)
 }
 
 /// Looks for a witness of two inputs, and tells it in one object, with what a giving up means.
@@ -179,14 +219,15 @@ pub fn search_object<R: Read, W: Watch>(
     transcript: &mut Input<R>,
     declaration: &mut Input<R>,
     watch: &mut W,
-) -> (Said, Vec<u8>)
+) -> (Ran, Vec<u8>)
     requires transcript { came_of transcript.old ≡ [] }
     requires declaration { came_of declaration.old ≡ [] }
-    ensures { SearchesInJson words transcript.new declaration.new result.0.status result.0.lines.items result.1.items }
+    ensures told { SearchesInJson words transcript.new declaration.new result.0.status result.0.lines.items result.1.items }
+    ensures known { KnowsSeals (came_of transcript.new) result.0.status result.0.head }
 {
     let mut lines = Vec::new(alloc);
     let mut made = Vec::new(alloc);
-    let status = search_json(
+    let answered = search_json(
         alloc,
         transcript,
         declaration,
@@ -197,7 +238,12 @@ pub fn search_object<R: Read, W: Watch>(
         &mut lines,
         &mut made,
     );
-    (Said { status, lines }, made)
+    let ran = Ran {
+        status: answered.status,
+        lines,
+        head: answered.head,
+    };
+    (ran, made)
 }
 
 /// Looks for a witness of two inputs of a segment, from a moment on where one is given. Behind what is said stand the bytes of the witness, and,
@@ -210,16 +256,17 @@ pub fn search_left<R: Read, W: Watch>(
     since: Option<i64>,
     leaves: bool,
     watch: &mut W,
-) -> (Said, Vec<u8>, Vec<u8>)
+) -> (Ran, Vec<u8>, Vec<u8>)
     requires transcript { came_of transcript.old ≡ [] }
     requires declaration { came_of declaration.old ≡ [] }
-    ensures { SearchesInSegment words leaves since transcript.new declaration.new
+    ensures told { SearchesInSegment words leaves since transcript.new declaration.new
         result.0.status result.0.lines.items result.1.items result.2.items }
+    ensures known { KnowsSeals (came_of transcript.new) result.0.status result.0.head }
 {
     let mut lines = Vec::new(alloc);
     let mut made = Vec::new(alloc);
     let mut left = Vec::new(alloc);
-    let status = search_segment_run(
+    let answered = search_segment_run(
         alloc,
         transcript,
         declaration,
@@ -233,7 +280,12 @@ pub fn search_left<R: Read, W: Watch>(
         &mut made,
         &mut left,
     );
-    (Said { status, lines }, made, left)
+    let ran = Ran {
+        status: answered.status,
+        lines,
+        head: answered.head,
+    };
+    (ran, made, left)
 }
 
 /// Makes items of the digits of an input. Behind what is said stand their bytes.

@@ -1,54 +1,59 @@
 //! Searches of files: of whole ones, in each form, or of a segment.
 
-ghost use Rattle.std.specs.Prelude.{◌≡◌, ◌⊎◌, IfOk, Some};
-ghost use Rattle.kmipa_session.specs.Jobs.{asked_of};
-ghost use Rattle.kmipa_session.specs.Sessions.{HasSearched, HasSearchedSegment, IsMade, IsMadeAsAsked, IsRefused, IsUntold, RunsSearch, TellsWhat};
+ghost use Rattle.std.specs.Prelude.{◌≡◌, ◌⊎◌, IfOk};
+ghost use Rattle.kmipa_session.specs.Sessions.{HasSearched, HasSearchedSegment, IsMade, IsMadeAsAsked, IsRefused, IsUntold, RunsAskedSearch, RunsSearch, TellsWhat};
 ghost use Rattle.kmipa_session.specs.Printing.{voice_of};
 ghost use Rattle.kmipa_session.specs.declared.job.Asked.TheVariants.{Segment};
 ghost use Rattle.kmipa_session.specs.declared.voice.Voice.TheVariants.{Lines};
 
 use crate::checking::{NoMoment, mistaken, moment_of, test_leaves, test_left};
 use crate::did::{Did, Said, Session};
-use crate::job::{Asked, Form, FormWords, SearchWords, SegmentWords, asked_of};
+use crate::job::{AnswerWords, Asked, Form, SearchFiles, SearchWords, SegmentWords, asked_of};
 use crate::named::Named;
-use crate::telling::{tell_done, tell_mixed};
+use crate::sealing::{NoSeal, expected_of, say_seals};
+use crate::telling::{tell_done, tell_mixed, tell_no_seal};
 use crate::voice::{Voice, voice_of};
 use crate::world::{Content, Out, World};
 use kmipa_runs::Status;
 use std::alloc::Global;
+
+/// What a search is asked for, and the head that the transcript has to have, if one is expected.
+#[derive(Clone, Copy, PartialEq, Eq)]
+struct FindWords<'a> {
+    files: SearchFiles<'a>,
+    search: SearchWords,
+    segment: SegmentWords<'a>,
+    expected: Option<[u8; 32]>,
+}
 
 /// Looks for a witness of two files as the options ask for it, makes the third file of it, and prints what is said.
 pub fn run_search<'n, W: World, O: Out>(
     alloc: Global,
     world: &W,
     out: O,
-    transcript: &'n str,
-    declaration: &'n str,
-    witness: &str,
-    words: SearchWords,
-    form: FormWords,
-    segment: SegmentWords<'_>,
+    files: SearchFiles<'n>,
+    search: SearchWords,
+    words: AnswerWords<'n>,
     watched: bool,
 ) -> Session<'n, O, W::File, W::Made, W::Refusal>
-    ensures { RunsSearch W.made W.lacked transcript.entry.now declaration.entry.now witness.now words (asked_of form
-        segment.entry) segment.entry
+    ensures { RunsSearch W.made W.lacked files.entry search words.entry
         result.did (O.printed out) (O.printed result.out) (O.has_failed result.out) result.status }
 {
-    let mut watch = world.watch(words.budget, watched && !words.quiet);
-    match asked_of(form, segment) {
-        Some(asked) => run_asked_search(
-            alloc,
-            world,
-            out,
-            transcript,
-            declaration,
-            witness,
-            words,
-            asked,
-            segment,
-            &mut watch,
-        ),
-        None => tell_mixed(world, out),
+    let Some(asked) = asked_of(words.form, words.segment) else {
+        return tell_mixed(world, out);
+    };
+    match expected_of(words.seals.head) {
+        Ok(expected) => {
+            let mut watch = world.watch(search.budget, watched && !search.quiet);
+            let words = FindWords {
+                files,
+                search,
+                segment: words.segment,
+                expected,
+            };
+            run_asked_search(alloc, world, out, asked, words, &mut watch)
+        }
+        Err(NoSeal) => tell_no_seal(world, out),
     }
 }
 
@@ -56,41 +61,17 @@ fn run_asked_search<'n, W: World, O: Out>(
     alloc: Global,
     world: &W,
     out: O,
-    transcript: &'n str,
-    declaration: &'n str,
-    witness: &str,
-    words: SearchWords,
     asked: Asked,
-    segment: SegmentWords<'_>,
+    words: FindWords<'n>,
     watch: &mut W::Watcher,
 ) -> Session<'n, O, W::File, W::Made, W::Refusal>
-    ensures { RunsSearch W.made W.lacked transcript.entry.now declaration.entry.now witness.now words (Some asked)
-        segment.entry
+    ensures { RunsAskedSearch W.made W.lacked words.entry.files words.entry.search words.entry.segment
+        words.entry.expected asked
         result.did (O.printed out) (O.printed result.out) (O.has_failed result.out) result.status }
 {
     match asked {
-        Asked::Files(form) => run_whole_search(
-            alloc,
-            world,
-            out,
-            transcript,
-            declaration,
-            witness,
-            words,
-            form,
-            watch,
-        ),
-        Asked::Segment => run_segment_search(
-            alloc,
-            world,
-            out,
-            transcript,
-            declaration,
-            witness,
-            words,
-            segment,
-            watch,
-        ),
+        Asked::Files(form) => run_whole_search(alloc, world, out, form, words, watch),
+        Asked::Segment => run_segment_search(alloc, world, out, words, watch),
     }
 }
 
@@ -99,27 +80,15 @@ fn run_whole_search<'n, W: World, O: Out>(
     alloc: Global,
     world: &W,
     out: O,
-    transcript: &'n str,
-    declaration: &'n str,
-    witness: &str,
-    words: SearchWords,
     form: Form,
+    words: FindWords<'n>,
     watch: &mut W::Watcher,
 ) -> Session<'n, O, W::File, W::Made, W::Refusal>
-    ensures { TellsWhat W.made W.lacked (voice_of form) (HasSearched W.made W.lacked transcript.entry.now
-        declaration.entry.now witness.now form words)
+    ensures { TellsWhat W.made W.lacked (voice_of form) (HasSearched W.made W.lacked words.entry.files form
+        words.entry.search words.entry.expected)
         result.did (O.printed out) (O.printed result.out) (O.has_failed result.out) result.status }
 {
-    let done = search_files(
-        alloc,
-        world,
-        transcript,
-        declaration,
-        witness,
-        form,
-        words,
-        watch,
-    );
+    let done = search_files(alloc, world, form, words, watch);
     tell_done(world, out, voice_of(form), done)
 }
 
@@ -128,27 +97,14 @@ fn run_segment_search<'n, W: World, O: Out>(
     alloc: Global,
     world: &W,
     out: O,
-    transcript: &'n str,
-    declaration: &'n str,
-    witness: &str,
-    words: SearchWords,
-    segment: SegmentWords<'_>,
+    words: FindWords<'n>,
     watch: &mut W::Watcher,
 ) -> Session<'n, O, W::File, W::Made, W::Refusal>
-    ensures { RunsSearch W.made W.lacked transcript.entry.now declaration.entry.now witness.now words (Some Segment)
-        segment.entry
+    ensures { RunsAskedSearch W.made W.lacked words.entry.files words.entry.search words.entry.segment
+        words.entry.expected Segment
         result.did (O.printed out) (O.printed result.out) (O.has_failed result.out) result.status }
 {
-    let done = search_segment(
-        alloc,
-        world,
-        transcript,
-        declaration,
-        witness,
-        words,
-        segment,
-        watch,
-    );
+    let done = search_segment(alloc, world, words, watch);
     tell_done(world, out, Voice::Lines, done)
 }
 
@@ -156,29 +112,36 @@ fn run_segment_search<'n, W: World, O: Out>(
 fn search_files<'n, W: World>(
     alloc: Global,
     world: &W,
-    transcript: &'n str,
-    declaration: &'n str,
-    witness: &str,
     form: Form,
-    words: SearchWords,
+    words: FindWords<'n>,
     watch: &mut W::Watcher,
 ) -> Result<(Said, Did<'n, W::File, W::Made, W::Refusal>), W::Refusal>
     ensures { IfOk result (λ done.
-        HasSearched W.made W.lacked transcript.entry.now declaration.entry.now witness.now form words done.1
+        HasSearched W.made W.lacked words.entry.files form words.entry.search words.entry.expected done.1
         done.0.status done.0.lines.items
         ⊎ IsRefused W.made W.lacked (voice_of form) done.1 done.0.status done.0.lines.items) }
 {
-    let names = [transcript, declaration];
+    let files = words.files;
+    let witness = files.out;
+    let names = [files.transcript, files.declaration];
     if let Err(refusal) = world.test_distinct(witness, &names) {
         return Ok((mistaken(alloc), Did::Refused(refusal)));
     }
-    let mut transcript = world.open(transcript)?;
-    let mut declaration = world.open(declaration)?;
+    let mut transcript = world.open(files.transcript)?;
+    let mut declaration = world.open(files.declaration)?;
     world.test_output(witness)?;
-    let (said, made) = Named::search(alloc, form, words, &mut transcript, &mut declaration, watch);
-    if said.status == Status::Refused {
-        world.hint_kind(&names, &said.lines);
+    let (ran, made) = Named::search(
+        alloc,
+        form,
+        words.search,
+        &mut transcript,
+        &mut declaration,
+        watch,
+    );
+    if ran.status == Status::Refused {
+        world.hint_kind(&names, &ran.lines);
     }
+    let said = say_seals(alloc, voice_of(form), words.expected, ran);
     let file = make_when_done(world, witness, &made, said.status)?;
     Ok((said, Did::Searched(transcript, declaration, file)))
 }
@@ -202,44 +165,45 @@ pub fn make_when_done<W: World>(
 fn search_segment<'n, W: World>(
     alloc: Global,
     world: &W,
-    transcript: &'n str,
-    declaration: &'n str,
-    witness: &str,
-    words: SearchWords,
-    segment: SegmentWords<'_>,
+    words: FindWords<'n>,
     watch: &mut W::Watcher,
 ) -> Result<(Said, Did<'n, W::File, W::Made, W::Refusal>), W::Refusal>
     ensures { IfOk result (λ done.
-        (HasSearchedSegment W.made W.lacked transcript.entry.now declaration.entry.now witness.now words segment.entry
+        (HasSearchedSegment W.made W.lacked words.entry.files words.entry.search words.entry.segment
+        words.entry.expected
         done.1 done.0.status done.0.lines.items
-        ⊎ IsUntold segment.entry done.1 done.0.status done.0.lines.items)
+        ⊎ IsUntold words.entry.segment done.1 done.0.status done.0.lines.items)
         ⊎ IsRefused W.made W.lacked Lines done.1 done.0.status done.0.lines.items) }
 {
-    let since = match moment_of(world, segment.not_before) {
+    let files = words.files;
+    let witness = files.out;
+    let leaves = words.segment.leaves;
+    let since = match moment_of(world, words.segment.not_before) {
         Ok(since) => since,
         Err(NoMoment) => return Ok((mistaken(alloc), Did::Nothing)),
     };
-    let names = [transcript, declaration];
-    if let Err(refusal) = test_outputs(world, witness, segment.leaves, &names) {
+    let names = [files.transcript, files.declaration];
+    if let Err(refusal) = test_outputs(world, witness, leaves, &names) {
         return Ok((mistaken(alloc), Did::Refused(refusal)));
     }
-    let mut transcript = world.open(transcript)?;
-    let mut declaration = world.open(declaration)?;
+    let mut transcript = world.open(files.transcript)?;
+    let mut declaration = world.open(files.declaration)?;
     world.test_output(witness)?;
-    test_leaves(world, segment.leaves)?;
-    let (said, made, left) = Named::search_segment(
+    test_leaves(world, leaves)?;
+    let (ran, made, left) = Named::search_segment(
         alloc,
-        words,
+        words.search,
         &mut transcript,
         &mut declaration,
         since,
-        segment.leaves.is_some(),
+        leaves.is_some(),
         watch,
     );
-    if said.status == Status::Refused {
-        world.hint_kind(&names, &said.lines);
+    if ran.status == Status::Refused {
+        world.hint_kind(&names, &ran.lines);
     }
-    let (file, more) = make_files(world, witness, &made, segment.leaves, &left, said.status)?;
+    let said = say_seals(alloc, Voice::Lines, words.expected, ran);
+    let (file, more) = make_files(world, witness, &made, leaves, &left, said.status)?;
     Ok((
         said,
         Did::SearchedSegment(transcript, declaration, file, more),

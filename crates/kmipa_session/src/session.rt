@@ -25,41 +25,12 @@ pub fn run_job<'n, W: World, O: Out>(
         result.out) result.status }
 {
     match *job {
-        Job::Check {
-            transcript,
-            declaration,
-            witness,
-            form,
-            segment,
-        } => run_check(
-            alloc,
-            world,
-            out,
-            transcript,
-            declaration,
-            witness,
-            form,
-            segment,
-        ),
+        Job::Check { files, words } => run_check(alloc, world, out, files, words),
         Job::Search {
-            transcript,
-            declaration,
-            out: witness,
+            files,
             search,
-            form,
-            segment,
-        } => run_search(
-            alloc,
-            world,
-            out,
-            transcript,
-            declaration,
-            witness,
-            search,
-            form,
-            segment,
-            watched,
-        ),
+            words,
+        } => run_search(alloc, world, out, files, search, words, watched),
         Job::Chain {
             folder,
             budget,

@@ -56,9 +56,36 @@ pub fn tell_mixed<'n, W: World, O: Out>(
 ) -> Session<'n, O, W::File, W::Made, W::Refusal>
     ensures { TellsMistake result.did (O.printed out) (O.printed result.out) result.status }
 {
-    match world.tell_mistake(
+    tell_mistaken(
+        world,
+        out,
         "error: --json and --explain don't go together with --leaves or --not-before\n",
-    ) {
+    )
+}
+
+/// Tells that a word is no head.
+pub fn tell_no_seal<'n, W: World, O: Out>(
+    world: &W,
+    out: O,
+) -> Session<'n, O, W::File, W::Made, W::Refusal>
+    ensures { TellsMistake result.did (O.printed out) (O.printed result.out) result.status }
+{
+    tell_mistaken(
+        world,
+        out,
+        "error: --head: a head is 64 hexadecimal digits\n",
+    )
+}
+
+/// Tells what is wrong with the words.
+fn tell_mistaken<'n, W: World, O: Out>(
+    world: &W,
+    out: O,
+    text: &str,
+) -> Session<'n, O, W::File, W::Made, W::Refusal>
+    ensures { TellsMistake result.did (O.printed out) (O.printed result.out) result.status }
+{
+    match world.tell_mistake(text) {
         Ok(()) => Session {
             out,
             status: Status::Usage,

@@ -1,6 +1,6 @@
 //! What a session needs of the world.
 
-ghost use Rattle.std.specs.Prelude.{◌≡◌, ◌≤◌, [], ℕ, List, Bool, IsTrue, IfOk, length};
+ghost use Rattle.std.specs.Prelude.{◌≡◌, ◌≤◌, [], ℕ, List, Bool, IsTrue, IfOk, IfSome, length};
 ghost use Rattle.kmipa_ttlv.specs.Input.{came_of};
 ghost use Rattle.kmipa_session.specs.Worlds.{input_of, name_of};
 
@@ -46,6 +46,11 @@ pub trait World {
     fn open<'n>(&self, name: &'n str) -> Result<Named<'n, Self::File>, Self::Refusal>
         ensures name { IfOk result (λ file. name_of file ≡ name.now) }
         ensures fresh { IfOk result (λ file. came_of (input_of file) ≡ []) };
+
+    /// Opens a file to be read where it can be, and tells nothing where it can't.
+    fn peek<'n>(&self, name: &'n str) -> Option<Named<'n, Self::File>>
+        ensures name { IfSome result (λ file. name_of file ≡ name.now) }
+        ensures fresh { IfSome result (λ file. came_of (input_of file) ≡ []) };
 
     /// Tests that a file that is to be made is none of these that are to be read. Where it is one, that is told on standard error.
     fn test_distinct(&self, output: &str, inputs: &[&str]) -> Result<(), Self::Refusal>;

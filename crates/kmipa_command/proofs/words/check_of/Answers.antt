@@ -9,6 +9,5 @@ returns c =
       at_row f (codes "TRANSCRIPT") c.in_ok-get_str.field-0.now c.in_ok-get_str.ensures,
       at_row f (codes "DECLARATION") c.in_ok-get_str-2.field-0.now c.in_ok-get_str-2.ensures,
       at_row f (codes "WITNESS") c.in_ok-get_str-3.field-0.now c.in_ok-get_str-3.ensures,
-      c.form_of.ensures,
-      c.segment_of.ensures,
+      c.answer_of.ensures,
     )

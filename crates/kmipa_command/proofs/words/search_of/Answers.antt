@@ -13,6 +13,5 @@ returns c =
       flag_found f (codes "forced") c.get_flag.result c.get_flag.ensures.none c.get_flag.ensures.value c.get_flag.ensures.other,
       flag_found f (codes "open") c.get_flag-2.result c.get_flag-2.ensures.none c.get_flag-2.ensures.value c.get_flag-2.ensures.other,
       flag_found f (codes "quiet") c.get_flag-3.result c.get_flag-3.ensures.none c.get_flag-3.ensures.value c.get_flag-3.ensures.other,
-      c.form_of.ensures,
-      c.segment_of.ensures,
+      c.answer_of.ensures,
     )

@@ -8,7 +8,7 @@ pub returns : goal.returns
 returns g c =
     let made = g.W.World.made in
     let lacked = g.W.World.lacked in
-    let segment = c.args.segment in
-    told_what made lacked Lines (λ what said lines. HasCheckedSegment made lacked c.args.transcript.now c.args.declaration.now c.args.witness.now segment
+    let segment = c.args.words.segment in
+    told_what made lacked Lines (λ what said lines. HasCheckedSegment made lacked c.args.words.files segment c.args.words.expected
     what said lines ⊎ IsUntold segment what said lines) c.check_segment-done.result c.tell_done.result.did _ _ _ _ c.check_segment-done.ensures
     c.tell_done.ensures

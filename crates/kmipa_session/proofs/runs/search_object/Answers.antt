@@ -3,10 +3,10 @@ use Rattle.kmipa_session.specs.Searches.{SearchesInJson}
 use Rattle.kmipa_session.proofs.SessionLemmas.{both_behind_nothing}
 use Rattle.kmipa_session.proofs.runs.search_object.Goals as goal
 
-pub returns : goal.returns
-returns g c =
-    let run = c.search_json-status in
-    let P : List ℕ → List ℕ → Type 0 = λ l m. SearchesInJson c.args.words run.new.transcript run.new.declaration run.result l m in
+pub returns-clause-told : goal.returns-clause-told
+returns-clause-told g c =
+    let run = c.search_json-answered in
+    let P : List ℕ → List ℕ → Type 0 = λ l m. SearchesInJson c.args.words run.new.transcript run.new.declaration run.result.status l m in
     both_behind_nothing P c.new-lines.result.items run.new.out.items c.new-made.result.items run.new.made.items c.new-lines.ensures.items
     c.new-made.ensures.items (record {
       prints = run.ensures.prints;

@@ -1,0 +1,15 @@
+use Rattle.std.proofs.Common.{◌∙◌, subst}
+use Rattle.kmipa_session.specs.Sealing.{SaysSeals}
+use Rattle.kmipa_session.specs.declared.voice.Voice.{Voice}
+use Rattle.kmipa_session.proofs.checking.check_files.Goals as goal
+
+pub returns : goal.returns
+returns g c =
+    let ran = c.check-ran.result in
+    let said = c.say_seals-said.result in
+    let P : Voice → Type 0 = λ v. SaysSeals v c.args.words.expected ran.head ran.status ran.lines.items said.status said.lines.items in (
+      c.check-ran.ensures.transcript ∙ c.in_ok-transcript.ensures.name,
+      c.check-ran.ensures.declaration ∙ c.in_ok-declaration.ensures.name,
+      c.check-ran.ensures.witness ∙ c.in_ok-witness.ensures.name,
+      (ran, c.check-ran.ensures.checks, c.check-ran.ensures.known, subst P c.voice_of.ensures c.say_seals-said.ensures),
+    )

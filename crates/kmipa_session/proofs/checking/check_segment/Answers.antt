@@ -1,0 +1,26 @@
+use Rattle.std.proofs.Common.{◌≡◌, ◌∙◌, inl, List, ℕ, rules, subst}
+use Rattle.std.proofs.Common.{Bool}
+use Rattle.std.specs.Prelude.{is_some}
+use Rattle.kmipa_session.specs.Checks.{ChecksInSegment}
+use Rattle.kmipa_session.specs.Sessions.{IsMadeAsAsked}
+use Rattle.kmipa_session.specs.Worlds.{input_of}
+use Rattle.kmipa_session.proofs.checking.check_segment.Goals as goal
+
+pub returns : goal.returns
+returns g c =
+    let made = g.W.World.made in
+    let run = c.check_segment-ran in
+    let ran = run.result.0 in
+    let bytes = run.result.1.items in
+    let said = c.say_seals-said.result in
+    let leaves = c.args.words.segment.leaves in
+    let asked : c.is_some.result ≡ is_some leaves = search rules in
+    let P : Bool → Type 0 = λ b. ChecksInSegment b c.in-Ok.since (input_of run.new.transcript) (input_of run.new.declaration) (input_of run.new.witness) ran.status ran.lines.items bytes in
+    let Q : List ℕ → Type 0 = λ b. IsMadeAsAsked made leaves b said.status c.in_ok-file.file in
+    let same : c.deref-2.result.now ≡ bytes = search rules in
+    inl (inl (
+      run.ensures.transcript ∙ c.in_ok-transcript.ensures.name,
+      run.ensures.declaration ∙ c.in_ok-declaration.ensures.name,
+      run.ensures.witness ∙ c.in_ok-order.ensures.name,
+      (c.in-Ok.since, c.in-Ok.ensures, (bytes, (ran, subst P asked run.ensures.checks, run.ensures.known, c.say_seals-said.ensures), subst Q same c.in_ok-file.ensures)),
+    ))

@@ -1,0 +1,21 @@
+use Rattle.std.proofs.Common.{◌≡◌, ◌∙◌, inl, List, ℕ, rules, subst}
+use Rattle.kmipa_session.specs.Sealing.{SaysSeals}
+use Rattle.kmipa_session.specs.Sessions.{IsMade}
+use Rattle.kmipa_session.specs.declared.voice.Voice.{Voice}
+use Rattle.kmipa_session.proofs.searching.search_files.Goals as goal
+
+pub returns : goal.returns
+returns g c =
+    let made = g.W.World.made in
+    let run = c.search-ran in
+    let ran = run.result.0 in
+    let bytes = run.result.1.items in
+    let said = c.say_seals-said.result in
+    let P : Voice → Type 0 = λ v. SaysSeals v c.args.words.expected ran.head ran.status ran.lines.items said.status said.lines.items in
+    let Q : List ℕ → Type 0 = λ b. IsMade made c.args.words.files.out.now b said.status c.in_ok-file.file in
+    let same : c.deref-2.result.now ≡ bytes = search rules in
+    inl (
+      run.ensures.transcript ∙ c.in_ok-transcript.ensures.name,
+      run.ensures.declaration ∙ c.in_ok-declaration.ensures.name,
+      (bytes, (ran, run.ensures.searches, run.ensures.known, subst P c.voice_of.ensures c.say_seals-said.ensures), subst Q same c.in_ok-file.ensures),
+    )
