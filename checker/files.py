@@ -105,14 +105,14 @@ def take_sealed(seals: Seals, data: bytes, at: int, item: Item) -> Optional[Item
         raise Malformed(fault.kind, at) from None
 
 
-def read_transcript(data: bytes) -> List[Call]:
-    """The calls of a transcript, in the order of their begin marks."""
+def read_transcript(data: bytes) -> Tuple[List[Call], Optional[Seals]]:
+    """The calls of a transcript, in the order of their begin marks, and its seals, if it has any."""
     calls: Dict[int, Call] = {}
     seals: Optional[Seals] = None
     header = lambda it: has_form(it, 0x540001, (0x540002, INTEGER, "")) and number(it.children[0]) == 1
     for place, (at, read) in enumerate(records(data, lambda it: header(it) or is_sealed_header(it))):
         if place == 0:
-            seals = Seals(data[:head_at(data, 0)[3]]) if is_sealed_header(read) else None
+            seals = Seals(data[:head_at(data, 0)[3]], read) if is_sealed_header(read) else None
             continue
         item = read if seals is None else take_sealed(seals, data, at, read)
         if item is None:
@@ -133,7 +133,7 @@ def read_transcript(data: bytes) -> List[Call]:
             calls[call].end, calls[call].response = place, message
     if seals and not seals.is_closed:
         raise Malformed(NO_CLOSE, len(data))
-    return list(calls.values())
+    return list(calls.values()), seals
 
 
 def read_entry(item: Item, version: int) -> Optional[Tuple[str, Object]]:

@@ -37,7 +37,8 @@ def is_sealed_header(item: Item) -> bool:
 class Seals:
     """The records of a sealed transcript as far as they were taken."""
 
-    def __init__(self, header: bytes) -> None:
+    def __init__(self, header: bytes, label: Item) -> None:
+        _, self.recording, self.segment, _ = (it.value for it in label.children)
         self.seal = hashlib.sha256(header).digest()
         self.moment: Optional[int] = None
         self.records = 0
@@ -64,3 +65,9 @@ class Seals:
         self.is_closed = item.tag == CLOSE
         self.records += item.tag != CLOSE
         return None if item.tag in (NOTE, CLOSE) else Item(item.tag, item.type, children[:-2])
+
+    def line(self) -> str:
+        """What is told of the head behind a verdict."""
+        said = self.recording if isinstance(self.recording, bytes) else str(self.recording).encode()
+        told = "".join(chr(it) if 32 <= it <= 126 and it not in b'"\\' else f"\\x{it:02x}" for it in said)
+        return f"sealed: {told} segment {self.segment} head {self.seal.hex()}"
