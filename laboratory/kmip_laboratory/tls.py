@@ -38,6 +38,8 @@ def meaning(error: OSError) -> str:
     """What an error of a connection means, as the end of a sentence about the other side."""
     if isinstance(error, ssl.SSLCertVerificationError):
         return MEANINGS["CERTIFICATE_VERIFY_FAILED"].format(detail=error.verify_message)
+    if isinstance(error, ssl.SSLEOFError):
+        return "it closed the connection"
     if isinstance(error, ssl.SSLError):
         return MEANINGS.get(error.reason or "", str(error))
     return error.strerror or str(error) or "it closed the connection"

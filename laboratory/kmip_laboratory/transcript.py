@@ -6,6 +6,7 @@ reads marks gets those of both as version 1 spells them.
 
 from __future__ import annotations
 
+import io
 import os
 from typing import BinaryIO, Iterable, Iterator, NamedTuple, Optional, Union
 
@@ -101,9 +102,11 @@ class Reading:
     """A transcript that is read from its header on. `chain` is what is known of a sealed one as far as it was read, and
     None of one of version 1; `length` is where the last whole record ends."""
 
-    def __init__(self, path: str, before: Optional[Reading] = None) -> None:
-        """`before` is the segment behind which this one has to go on, once it was read."""
+    def __init__(self, path: str, before: Optional[Reading] = None, data: Optional[bytes] = None) -> None:
+        """`before` is the segment behind which this one has to go on, once it was read; `data` are the bytes of the
+        file, where that was read."""
         self.path = path
+        self._data = data
         self.chain: Optional[Chain] = None
         self.length = 0
         self.last_call = 0
@@ -127,7 +130,7 @@ class Reading:
     def records(self) -> Iterator[Optional[tuple[Mark, bytes]]]:
         """The same, with None for each record of a sealed one that is no mark."""
         try:
-            with open(self.path, "rb") as file:
+            with self._opened() as file:
                 self._read_header(file)
                 while front := file.read(ttlv.HEADER_LENGTH):
                     record = _record(file, front, self.path, self.length)
@@ -135,6 +138,9 @@ class Reading:
                     self.length += len(record)
         except OSError as error:
             raise Trouble(f"{self.path} can't be read: {error.strerror}") from None
+
+    def _opened(self) -> BinaryIO:
+        return open(self.path, "rb") if self._data is None else io.BytesIO(self._data)
 
     def _read_header(self, file: BinaryIO) -> None:
         front = file.read(len(FILE_HEADER))
@@ -210,7 +216,7 @@ def read_unsealed(path: str) -> tuple[bytes, Optional[Chain]]:
     data = read_file(path)
     if not _is_of_sealed(data[:len(FILE_HEADER)]):
         return data, None
-    reading = Reading(path)
+    reading = Reading(path, data=data)
     made = b"".join([FILE_HEADER, *(record for _, record in reading.marks())])
     return made, reading.chain
 

@@ -43,6 +43,19 @@ LINES_OF_A_NO = 2
 # Of a giving up: that it has decided, and the first call that may be next at the deepest place, and can't be.
 DECIDED = "decided: "
 NEXT = re.compile(r"next: call (?P<call>\d+) item (?P<item>\d+) why (?P<number>\d+) (?P<name>\w+)")
+# Of a sealed transcript, behind all others: which recording and segment it is, and its last seal.
+SEALED = re.compile(r"sealed: (?P<recording>.*) segment (?P<segment>\d+) head (?P<head>[0-9a-f]{64})(?P<torn> torn)?")
+
+
+class Seal(NamedTuple):
+    """What the auditor tells of a sealed transcript: its line, the recording, the segment and the head in it, and
+    whether the close was missing."""
+
+    line: str
+    recording: str
+    segment: int
+    head: str
+    is_torn: bool
 
 
 class Digest(NamedTuple):
@@ -57,7 +70,8 @@ class Digest(NamedTuple):
 class Verdict(NamedTuple):
     """An answer: the lines as they were printed, the status, and what the lines name. A number that they do not name
     is None. What is explained has the lines of that; and of a search that gave up it is known then whether that says
-    that no order explains the transcript, and `call` to `name` are those of the first call that can't be next."""
+    that no order explains the transcript, and `call` to `name` are those of the first call that can't be next. What is
+    told of a sealed transcript stands in none of these lines, but in `seal`."""
 
     outcome: Outcome
     lines: list[str]
@@ -72,6 +86,7 @@ class Verdict(NamedTuple):
     steps: Optional[int] = None
     decided: Optional[bool] = None
     explanation: tuple[str, ...] = ()
+    seal: Optional[Seal] = None
 
     def decides(self, budget: int) -> bool:
         """Whether a search with this budget has decided. Giving up with steps left is a decision, where no call is
@@ -83,23 +98,44 @@ class Verdict(NamedTuple):
         """The lines in one."""
         return ", ".join(self.lines)
 
+    @property
+    def printed(self) -> list[str]:
+        """The lines with that of a sealed transcript."""
+        return [*self.lines, *([self.seal.line] if self.seal else [])]
+
 
 def read_verdict(printed: str, status: int) -> Optional[Verdict]:
     """The verdict that these lines are; None where they are none."""
+    lines, seal = _apart(printed)
+    verdict = _verdict(lines, status)
+    return verdict and verdict._replace(seal=seal)
+
+
+def _apart(printed: str) -> tuple[list[str], Optional[Seal]]:
+    """The lines, and that of a sealed transcript behind them, where there is one."""
+    lines = printed.rstrip("\n").splitlines()
+    found = SEALED.fullmatch(lines[-1]) if len(lines) > 1 else None
+    if found is None:
+        return lines, None
+    return lines[:-1], Seal(found[0], found["recording"], int(found["segment"]), found["head"], bool(found["torn"]))
+
+
+def _verdict(lines: list[str], status: int) -> Optional[Verdict]:
     for outcome, pattern in PATTERNS.items():
-        found = pattern.fullmatch(printed.rstrip("\n"))
+        found = pattern.fullmatch("\n".join(lines))
         if found:
             told: dict[str, Any] = {name: int(value) if name in NUMBERS else value
                                     for name, value in found.groupdict().items() if name in Verdict._fields and value}
-            return Verdict(outcome, printed.splitlines(), status, **told)
+            return Verdict(outcome, lines, status, **told)
     return None
 
 
 def read_explained(printed: str, status: int) -> Optional[Verdict]:
     """The verdict that the first of these lines are, with the others, which explain it."""
-    lines = printed.splitlines()
+    lines, seal = _apart(printed)
     told = LINES_OF_A_NO if printed.startswith("no: ") else 1
-    verdict = read_verdict("\n".join(lines[:told]), status)
+    verdict = _verdict(lines[:told], status)
+    verdict = verdict and verdict._replace(seal=seal)
     if verdict is None or verdict.outcome is not Outcome.GAVE_UP or len(lines) == told:
         return verdict and verdict._replace(explanation=tuple(lines[told:]))
     following = (NEXT.fullmatch(line) for line in lines)

@@ -2,6 +2,8 @@
 
 from __future__ import annotations
 
+import contextlib
+import io
 import os
 import re
 import resource
@@ -28,21 +30,42 @@ SECONDS = 20
 
 sys.path.insert(0, str(FOLDER))
 
+from kmip_laboratory.recording.words import main as record  # noqa: E402
 from kmip_laboratory.transcript import Begin, End, read_marks  # noqa: E402
 
 
-def run(*words: object, **more: object) -> subprocess.CompletedProcess:
-    """Runs kmip_record with these words to its end."""
+def run(*words: object, cwd: Optional[Path] = None) -> subprocess.CompletedProcess:
+    """Does in this process what kmip_record does with these words, up to its end."""
+    return run_here(record, words, cwd)
+
+
+def run_here(main: Callable[[list[str]], int], words: Sequence[object], cwd: Optional[Path] = None) -> (
+        subprocess.CompletedProcess):
+    """Does in this process what a program does with these words: a process of its own takes ten times as long."""
+    spelled, out, err, folder = [str(word) for word in words], io.StringIO(), io.StringIO(), os.getcwd()
+    with contextlib.redirect_stdout(out), contextlib.redirect_stderr(err):
+        os.chdir(cwd or folder)
+        try:
+            status = main(spelled)
+        except SystemExit as ended:
+            status = int(ended.code or 0)
+        finally:
+            os.chdir(folder)
+    return subprocess.CompletedProcess(spelled, status, out.getvalue(), err.getvalue())
+
+
+def run_apart(*words: object, **more: object) -> subprocess.CompletedProcess:
+    """Runs kmip_record with these words to its end, as a process of its own."""
     return subprocess.run([sys.executable, str(RECORDER), *map(str, words)], capture_output=True, text=True,
                           timeout=SECONDS * 3, **more)
 
 
 def audit(folder: Path, transcript: str = "transcript.ttlv", declaration: str = "declaration.ttlv",
           witness: str = "witness.ttlv") -> str:
-    """What the auditor prints on these files."""
+    """What the auditor prints on these files, but for the line that it has of a sealed transcript."""
     done = subprocess.run([AUDITOR, "check", transcript, declaration, witness], cwd=folder, capture_output=True,
                           text=True, timeout=SECONDS * 3)
-    return done.stdout
+    return re.sub(r"^sealed: .*\n\Z", "", done.stdout, flags=re.MULTILINE)
 
 
 def wait_until(holds: Callable[[], object], what: str) -> None:

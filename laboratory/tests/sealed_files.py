@@ -3,12 +3,15 @@
 from __future__ import annotations
 
 import hashlib
+import re
+from pathlib import Path
 from typing import Sequence
 
 from messages import item, number, structure, text
 
 RECORDING = "7b0c"
 MOMENT = 1_700_000_000_000_000
+NOTE = re.compile(rb"\x54\x00\x16\x05\x00\x00\x00\x04\x00\x00\x00(.)\x00{4}\x54\x00\x17\x07....([^\x00]*)", re.DOTALL)
 
 
 def header(segment: int = 1, previous: bytes = bytes(32), recording: str = RECORDING) -> bytes:
@@ -49,3 +52,8 @@ def sealed(first: bytes, records: Sequence[tuple[int, bytes]], moments: Sequence
         before = hashlib.sha256(before + ahead).digest()
         made.append(ahead + before)
     return made
+
+
+def notes(path: Path) -> list[tuple[int, str]]:
+    """The kinds and texts of a file's notes."""
+    return [(found[1][0], found[2].decode()) for found in NOTE.finditer(path.read_bytes())]

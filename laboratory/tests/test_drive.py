@@ -9,13 +9,15 @@ import sys
 import unittest
 from itertools import islice
 
-from laboratory import AUDITOR, FOLDER, SECONDS, Begin, End, Laboratory, read_marks, wait_until
+from laboratory import AUDITOR, FOLDER, SECONDS, Begin, End, Laboratory, read_marks, run, run_here, wait_until
+from laboratory import audit as checked
 
 from kmip_laboratory.auditor import Auditor
 from kmip_laboratory.driving import audit, calibrate, mixes, plan, wire
 from kmip_laboratory.driving.decide import PART, decide
 from kmip_laboratory.driving.faults import FAULTS, description
 from kmip_laboratory.driving.numbers import Operation
+from kmip_laboratory.driving.words import main
 from kmip_laboratory.trouble import Trouble
 from kmip_laboratory.verdicts import Outcome
 
@@ -26,9 +28,8 @@ SAMPLE = ("flipped-bit", "reason-that-is-not-so", "lost-activate")
 
 
 def driven(*words: object, **more: object) -> subprocess.CompletedProcess:
-    """Runs kmip_drive with these words to its end."""
-    return subprocess.run([sys.executable, str(DRIVER), *map(str, words)], capture_output=True, text=True,
-                          timeout=SECONDS * 6, **more)
+    """Does what kmip_drive does with these words, up to its end."""
+    return run_here(main, words, **more)
 
 
 class Plans(unittest.TestCase):
@@ -106,6 +107,8 @@ class OnTheWire(Laboratory):
         begins = [mark for mark in marks if isinstance(mark, Begin)]
         self.assertEqual((len(begins), len(marks)), (120, 240))
         self.assertEqual({mark.client for mark in begins}, {"client-1", "client-2", "client-3"})
+        self.assertIn(f" 0 open calls, {(out / 'transcript.ttlv').stat().st_size} bytes\n", done.stdout)
+        self.assertEqual(run("verify", out / "transcript.ttlv").returncode, 0, "it is sealed, and closed")
         again = self.drive(1, "--out", out)
         self.assertEqual(again.returncode, 1)
         self.assertIn(f"{out} is there already", again.stderr)
@@ -124,8 +127,9 @@ class OnTheWire(Laboratory):
         out = self.folder / "out"
         done = self.drive(self.simulated(), "--calls", "200", "--cut-before-sending", "0.1", "--cut-in-request", "0.1",
                           "--cut-after-sending", "0.1", "--cut-in-answer", "0.1", "--slow", "0.05", "--end", "0.01",
-                          "--out", out)
+                          "--out", out, "--format", "1")
         self.assertEqual(done.returncode, 0, done.stderr)
+        self.assertIn("is not sealed: it is of version 1", run("verify", out / "transcript.ttlv").stderr)
         last = done.stdout.splitlines()[-1]
         counted = {what: int(number) for number, what in re.findall(r"(\d+) ([a-z][a-z ]+)", last)}
         marks = read_marks(str(out / "transcript.ttlv"))
@@ -151,11 +155,10 @@ class OnTheWire(Laboratory):
                           "--mix", "lifecycle", "--out", out, "--auditor", AUDITOR, word="audit")
         self.assertEqual(done.returncode, 0, done.stdout + done.stderr)
         self.assertRegex(done.stdout, r"declaration: 0 rows, 0 entries\n(.*\n)*yes: \d+ steps\n")
-        checked = subprocess.run([AUDITOR, "check", "transcript.ttlv", "declaration.ttlv", "witness.ttlv"], cwd=out,
-                                 capture_output=True, text=True, timeout=SECONDS * 3)
-        self.assertEqual(checked.stdout, "yes\n")
+        self.assertEqual(checked(out), "yes\n")
         self.assertIn(f"{out / 'report.html'} shows it\n", done.stdout)
         self.assertIn("<pre>yes</pre>", (out / "report.html").read_text("utf-8"))
+        self.assertEqual(run("verify", out / "transcript.ttlv").returncode, 0)
 
     def test_one_command_says_yes_in_every_version(self) -> None:
         port = self.simulated("--pace", "10")
@@ -181,6 +184,7 @@ class OnTheWire(Laboratory):
         self.assertEqual(done.returncode, 0, done.stdout + done.stderr)
         self.assertRegex(done.stderr, r"attributes were taken out of [1-9]\d* messages")
         self.assertEqual(len(read_marks(str(out / "recorded.ttlv"))), 120)
+        self.assertIn(f"This was drawn from {out / 'recorded.ttlv'}, ", (out / "transcript.ttlv.origin").read_text())
         self.assertEqual(driven("audit", "--forget", "Colour").returncode, 64)
 
     def test_one_command_convicts_a_server_that_is_wrong(self) -> None:
@@ -197,6 +201,7 @@ class OnTheWire(Laboratory):
         self.assertEqual(searched.returncode, 4)
         self.assertLess(int(re.search(r"gave up: (\d+) steps", searched.stdout).group(1)), 1_000_000)
         self.assertIn("why 9 BytesDiffer", (out / "report.html").read_text("utf-8"))
+        self.assertIn(f"This was drawn from {out / 'transcript.ttlv'}, ", (out / "part/transcript.ttlv.origin").read_text())
 
     def test_troubles_are_one_line(self) -> None:
         for words, told in ((("--mix", "none"), "the mix none can't be read"),

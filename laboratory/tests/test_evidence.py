@@ -8,6 +8,7 @@ import hashlib
 import os
 import random
 import re
+import subprocess
 import threading
 import time
 import unittest
@@ -18,18 +19,20 @@ from unittest import mock
 import messages
 import stub
 from laboratory import RECORDER, SECONDS, Begin, InFolder, Laboratory, Recorder, kinds, read_marks, run, wait_until
+from sealed_files import notes
 from test_segments import whole
 
 from kmip_laboratory.appending import AppendedFile
 from kmip_laboratory.recording import heads
+from kmip_laboratory.recording.resealing import new_chain
 from kmip_laboratory.recording.syncing import Sync, Syncing
+from kmip_laboratory.transcript_writer import TranscriptWriter
 
 STAMP = 1_700_000_000
 KILLS = 20
 CLIENTS = 4
-SEALED = ("--format", "2")
+OLD = ("--format", "1")
 IDENTIFIER = 0x420094
-NOTE = re.compile(rb"\x54\x00\x16\x05\x00\x00\x00\x04\x00\x00\x00(.)\x00{4}\x54\x00\x17\x07....([^\x00]*)", re.DOTALL)
 
 
 def answer(request: bytes) -> bytes:
@@ -57,16 +60,12 @@ class Evidence(Laboratory):
         client.sendall(messages.get(name))
         return stub.receive(client)
 
-    def notes(self, path: Path) -> list[tuple[int, str]]:
-        """The kinds and texts of a file's notes."""
-        return [(found[1][0], found[2].decode()) for found in NOTE.finditer(path.read_bytes())]
-
 
 class SealedRecording(Evidence):
     """A recording of version 2."""
 
     def test_it_is_whole_and_notes_its_connections(self) -> None:
-        recorder = self.start(self.stub(at_once).port, *SEALED, "--note", "of a test")
+        recorder = self.start(self.stub(at_once).port, "--note", "of a test")
         client = self.client(recorder.port)
         for name in ("a", "b"):
             self.assertEqual(self.asked(client, name), answer(messages.get(name)))
@@ -81,7 +80,7 @@ class SealedRecording(Evidence):
         self.assertEqual(kinds(recorder.marks()), whole(1, 2))
         self.verified(recorder.transcript)
         self.assertEqual(recorder.transcript.stat().st_mode & 0o777, 0o600)
-        found = self.notes(recorder.transcript)
+        found = notes(recorder.transcript)
         self.assertEqual([kind for kind, _ in found][:2] + sorted(kind for kind, _ in found[2:]), [5, 1, 1, 2, 2, 3])
         der = stub.ssl.PEM_cert_to_DER_cert((self.certificates / "client-1.pem").read_text())
         digest = hashlib.sha256(der).hexdigest()
@@ -89,8 +88,17 @@ class SealedRecording(Evidence):
         (unrecorded,) = [text for kind, text in found if kind == 3]
         self.assertTrue(unrecorded.endswith(f"; {len(wrong)} bytes, SHA-256 {hashlib.sha256(wrong).hexdigest()}"))
 
+    def test_it_is_what_a_recorder_writes_where_nothing_else_is_asked(self) -> None:
+        for words, version in (((), 2), (("--format", "2"), 2), (OLD, 1)):
+            recorder = self.start(self.stub(at_once).port, *words)
+            self.asked(self.client(recorder.port), "a")
+            recorder.end()
+            self.assertEqual(recorder.transcript.read_bytes()[8:24], messages.number(0x540002, 2, version))
+            self.assertEqual(kinds(recorder.marks()), whole(1))
+            recorder.transcript.unlink()
+
     def test_segments_go_on_behind_each_other(self) -> None:
-        recorder = self.start(self.stub(at_once).port, *SEALED, "--segment-calls", "2", "--heads",
+        recorder = self.start(self.stub(at_once).port, "--segment-calls", "2", "--heads",
                               str(self.folder / "heads"))
         client = self.client(recorder.port)
         for number in range(5):
@@ -105,11 +113,11 @@ class SealedRecording(Evidence):
         self.assertIn("does not go on where the file before it ends", run("verify", files[0], files[2]).stderr)
 
     def test_heads_on_standard_output_and_words_that_are_no_use(self) -> None:
-        recorder = self.start(self.stub(at_once).port, *SEALED, "--heads", "-")
+        recorder = self.start(self.stub(at_once).port, "--heads", "-")
         first, last = recorder.end().split("\n")
         self.assertEqual(f"{recorder.transcript}: {re.sub(' moment [^ ]*', '', first)}\n", self.verified(recorder.transcript))
         self.assertTrue(last.startswith("0 calls, 0 open calls, "))
-        for words in (("--heads", "-"), ("--note", "x"), ("--sync", "often"), ("--format", "3")):
+        for words in ((*OLD, "--heads", "-"), (*OLD, "--note", "x"), ("--sync", "often"), ("--format", "3")):
             refused = self.start(1, *words)
             wait_until(lambda: refused.status() is not None, "its end")  # pylint: disable=cell-var-from-loop
             self.assertEqual(refused.status(), 64, refused.said)
@@ -133,13 +141,13 @@ class Gone(Evidence):
         return recorder
 
     def test_one_that_was_removed(self) -> None:
-        for words in (SEALED, (), ("--sync", "always"), ("--sync", "none", *SEALED)):
+        for words in ((), OLD, ("--sync", "always"), ("--sync", "none")):
             with self.subTest(words):
                 recorder = self.lost(Path.unlink, *words)
                 self.assertTrue(recorder.heard("transcript.ttlv is gone: it was removed while it was recorded"))
 
     def test_one_that_was_cut(self) -> None:
-        for words in (SEALED, (), ("--sync", "none")):
+        for words in ((), OLD, ("--sync", "none")):
             with self.subTest(words):
                 recorder = self.lost(lambda path: os.truncate(path, 0), *words)
                 self.assertTrue(recorder.heard("were written: somebody else cut or wrote it. Nothing goes on"))
@@ -154,11 +162,69 @@ class Gone(Evidence):
         self.assertFalse((self.folder / "elsewhere").exists())
 
     def test_one_that_is_gone_at_the_end(self) -> None:
-        recorder = self.start(self.stub(at_once).port, *SEALED)
+        recorder = self.start(self.stub(at_once).port)
         recorder.transcript.unlink()
         recorder.end()
         self.assertEqual(recorder.status(), 1)
         self.assertTrue(recorder.heard("is gone"))
+
+
+class Opened(InFolder):
+    """How a recording's file is opened."""
+
+    def test_once_as_a_new_one_that_is_appended_to_and_behind_no_link(self) -> None:
+        path, opened = str(self.folder / "t"), []
+        really = os.open
+
+        def seen(name: str, flags: int, *more: int) -> int:
+            opened.append((name, flags, *more))
+            return really(name, flags, *more)
+
+        with mock.patch("os.open", seen), TranscriptWriter(path, chain=new_chain()) as writer:
+            for name in ("a", "b"):
+                writer.end(writer.begin("client", messages.get(name)), answer(messages.get(name)))
+        new = os.O_WRONLY | os.O_APPEND | os.O_CREAT | os.O_EXCL | os.O_NOFOLLOW
+        self.assertEqual([each for each in opened if each[0] == path], [(path, new, 0o600)])
+
+
+class Custody(InFolder):
+    """The commands of docs/EVIDENCE.md."""
+
+    def done(self, *words: str) -> str:
+        """What openssl says, where it ends well."""
+        done = subprocess.run(["openssl", *words], cwd=self.folder, capture_output=True, text=True, check=False)
+        self.assertEqual(done.returncode, 0, done.stderr)
+        return done.stdout + done.stderr
+
+    def test_heads_are_signed_and_stamped(self) -> None:
+        (self.folder / "heads.txt").write_text("recording 7b0c segment 1 records 2 moment x head y\n")
+        self.done("genpkey", "-algorithm", "ed25519", "-out", "custodian.key")
+        self.done("pkey", "-in", "custodian.key", "-pubout", "-out", "custodian.pem")
+        self.done("pkeyutl", "-sign", "-rawin", "-inkey", "custodian.key", "-in", "heads.txt", "-out", "heads.sig")
+        self.assertIn("Verified Successfully", self.done("pkeyutl", "-verify", "-rawin", "-pubin", "-inkey", "custodian.pem",
+                                                         "-in", "heads.txt", "-sigfile", "heads.sig"))
+        self.done("genpkey", "-algorithm", "EC", "-pkeyopt", "ec_paramgen_curve:P-256", "-out", "custodian.key")
+        self.done("pkey", "-in", "custodian.key", "-pubout", "-out", "custodian.pem")
+        self.done("dgst", "-sha256", "-sign", "custodian.key", "-out", "heads.sig", "heads.txt")
+        self.assertIn("Verified OK", self.done("dgst", "-sha256", "-verify", "custodian.pem", "-signature", "heads.sig",
+                                               "heads.txt"))
+        self.done("ts", "-query", "-data", "heads.txt", "-sha256", "-cert", "-out", "heads.tsq")
+        self.stamped()
+        verify = ("ts", "-verify", "-data", "heads.txt", "-in", "heads.tsr", "-CAfile", "authority.pem")
+        self.assertIn("Verification: OK", self.done(*verify))
+        (self.folder / "heads.txt").write_text("another\n")
+        self.assertNotEqual(subprocess.run(["openssl", *verify], cwd=self.folder, capture_output=True, check=False).returncode, 0)
+
+    def stamped(self) -> None:
+        """The answer of a stamping authority of our own to the question."""
+        (self.folder / "tsa.conf").write_text(
+            "[tsa]\ndefault_tsa=of\n[of]\nserial=serial\ndefault_policy=1.2.3\ndigests=sha256\nsigner_digest=sha256\n")
+        (self.folder / "serial").write_text("01\n")
+        self.done("req", "-x509", "-newkey", "ec", "-pkeyopt", "ec_paramgen_curve:P-256", "-nodes", "-subj", "/CN=stamps",
+                  "-days", "2", "-keyout", "tsa.key", "-out", "authority.pem", "-addext",
+                  "extendedKeyUsage=critical,timeStamping")
+        self.done("ts", "-reply", "-config", "tsa.conf", "-queryfile", "heads.tsq", "-signer", "authority.pem", "-inkey",
+                  "tsa.key", "-out", "heads.tsr")
 
 
 class Killed(Evidence):
@@ -198,7 +264,7 @@ class Killed(Evidence):
     def test_no_answer_that_a_client_got_is_lost(self) -> None:
         server, got = self.stub(at_once), {}
         for turn in range(KILLS):
-            recorder = self.start(server.port, *SEALED, *(["--resume"] if turn else []))
+            recorder = self.start(server.port, *(["--resume"] if turn else []))
             clients = self.load(recorder.port, got, threading.Event())
             before = len(got)
             wait_until(lambda: len(got) > before + CLIENTS, "answers")  # pylint: disable=cell-var-from-loop
@@ -206,11 +272,11 @@ class Killed(Evidence):
             recorder.kill()
             for client in clients:
                 client.join(SECONDS)
-        recorder = self.start(server.port, *SEALED, "--resume")
+        recorder = self.start(server.port, "--resume")
         recorder.end()
         self.see_all(got)
         self.verified(recorder.transcript)
-        self.assertEqual(sum(kind == 4 for kind, _ in self.notes(recorder.transcript)), KILLS)
+        self.assertEqual(sum(kind == 4 for kind, _ in notes(recorder.transcript)), KILLS)
 
     def killed(self, *words: str, calls: int = 1) -> Path:
         """The last file of a recorder that is killed behind so many calls."""
@@ -230,7 +296,7 @@ class Killed(Evidence):
         return recorder
 
     def test_a_torn_end_is_kept_beside_the_file_and_numbers_and_seals_go_on(self) -> None:
-        for words in (SEALED, ("--format", "1")):
+        for words in ((), OLD):
             with self.subTest(words):
                 path = self.killed(*words)
                 data = path.read_bytes()
@@ -242,16 +308,16 @@ class Killed(Evidence):
                 self.assertEqual(path.read_bytes()[:len(data) - 9 - len(kept)] + kept, data[:-9])
                 self.assertEqual(kinds(recorder.marks()), [("begin", 1), *whole(2)])
                 self.assertEqual(self.last, f"2 calls, 1 open calls, {path.stat().st_size} bytes")
-                if words == SEALED:
+                if words != OLD:
                     self.verified(path)
-                    self.assertIn((4, f"resumed after {len(kept)} torn bytes"), self.notes(path))
+                    self.assertIn((4, f"resumed after {len(kept)} torn bytes"), notes(path))
                 torn.unlink()
                 path.unlink()
 
     def test_what_can_not_be_gone_on_behind(self) -> None:
-        path = self.killed(*SEALED)
+        path = self.killed()
         for make, words, told in (
-                (lambda: None, ("--format", "1"), "is of version 2: give its --format"),
+                (lambda: None, OLD, "is of version 2: give its --format"),
                 (lambda: self.resumed(), (), "is closed, and nothing goes on behind that"),
                 (path.unlink, (), "to go on behind: leave --resume away"),
                 (lambda: path.write_bytes(b"mine"), (), "")):
@@ -261,15 +327,22 @@ class Killed(Evidence):
             self.assertEqual(recorder.status(), 1, recorder.said)
             self.assertTrue(recorder.heard(told), recorder.said)
 
+    def test_one_of_version_1_is_gone_on_behind_without_heads(self) -> None:
+        self.killed(*OLD)
+        recorder = self.start(self.stub(at_once).port, "--resume", "--heads", "-")
+        wait_until(lambda: recorder.status() is not None, "its end")
+        self.assertEqual(recorder.status(), 1, recorder.said)
+        self.assertTrue(recorder.heard("transcript.ttlv is of version 1, and has no heads: leave --heads away"))
+
     def test_a_recorder_under_way_is_not_gone_on_behind(self) -> None:
-        self.start(self.stub(at_once).port, *SEALED)
+        self.start(self.stub(at_once).port)
         second = self.start(self.stub(at_once).port, "--resume")
         wait_until(lambda: second.status() is not None, "its end")
         self.assertEqual(second.status(), 1)
         self.assertTrue(second.heard("is written by another recorder"))
 
     def test_segments(self) -> None:
-        words = (*SEALED, "--segment-calls", "2")
+        words = ("--segment-calls", "2")
         for damage in (lambda path: None, lambda path: path.unlink(), lambda path: os.truncate(path, 30)):
             last = self.killed(*words, calls=3)
             self.assertEqual(last.name, "transcript-0002.ttlv")
@@ -311,14 +384,14 @@ class Late(Evidence):
         return files, recorder
 
     def test_its_end_mark_is_a_note(self) -> None:
-        files, _ = self.late(*SEALED)
+        files, _ = self.late()
         self.verified(*files)
         came = answer(messages.get("slow"))
         self.assertIn((3, "the answer to call 1, which stays open in its file, came too late for that; "
-                       f"{len(came)} bytes, SHA-256 {hashlib.sha256(came).hexdigest()}"), self.notes(files[1]))
+                       f"{len(came)} bytes, SHA-256 {hashlib.sha256(came).hexdigest()}"), notes(files[1]))
 
     def test_in_version_1_it_is_told(self) -> None:
-        _, recorder = self.late()
+        _, recorder = self.late(*OLD)
         self.assertTrue(recorder.heard("the answer to call 1, which stays open in its file, came too late for that: "))
 
 
@@ -341,7 +414,7 @@ class Disk(Evidence):
         return waited, recorder.said.count("sync")
 
     def test_both_marks_are_waited_for(self) -> None:
-        for words in ((), ("--sync", "group"), ("--sync", "always"), SEALED):
+        for words in ((), ("--sync", "group"), ("--sync", "always"), OLD):
             with self.subTest(words):
                 waited, count = self.timed(*words)
                 self.assertGreaterEqual(waited, 0.4)

@@ -8,7 +8,9 @@ import unittest
 
 import messages
 from key_server import HERE, WithPyKmip
-from laboratory import AUDITOR, PYKMIP_PYTHON, SECONDS, Begin, run, wait_until
+from laboratory import AUDITOR, PYKMIP_PYTHON, SECONDS, Begin, read_marks, run, wait_until
+
+from kmip_laboratory.transcript import spelled
 
 MATERIAL = bytes(range(160, 192))
 CALLS_OF_A_CLIENT = 10
@@ -49,7 +51,9 @@ class OfTheField(WithPyKmip):
         self.assertTrue(recorder.heard("the auditor will stop at call 1, for version 1.2: 20 calls are so"))
         files = sorted(self.folder.glob("transcript-0*.ttlv"))
         self.assertEqual(len(files), 3)
-        (self.folder / "said.ttlv").write_bytes(messages.transcript(*(path.read_bytes()[24:] for path in files)))
+        (self.folder / "said.ttlv").write_bytes(messages.transcript(*(
+            spelled(mark) for path in files for mark in read_marks(str(path)))))
+        self.assertEqual(run("verify", *files).returncode, 0)
 
     def test_from_a_client_of_1_2_to_the_calls_that_convict(self) -> None:
         self.recorded()

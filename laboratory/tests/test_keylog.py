@@ -2,23 +2,28 @@
 
 from __future__ import annotations
 
+import hashlib
 import subprocess
 import threading
 import unittest
 from pathlib import Path
 from typing import Optional
+from unittest import mock
 
 import messages
 import stub
 from capturing import captured, need_tshark
-from laboratory import SECONDS, Laboratory, kinds, read_marks, run, wait_until
+from laboratory import SECONDS, Laboratory, kinds, read_marks, run, run_apart, wait_until
+from sealed_files import notes
 
 from kmip_laboratory import certificate
 from kmip_laboratory.address import Address
 from kmip_laboratory.recording.capture import Stream
+from kmip_laboratory.recording.capture import run as run_keylog
 from kmip_laboratory.recording.gaps import Span, have_gap
 from kmip_laboratory.recording.packets import Packet
 from kmip_laboratory.recording.recording import Recording
+from kmip_laboratory.recording.verifying import verify
 from kmip_laboratory.trouble import ConnectionTrouble
 
 STAMP = 1_700_000_000
@@ -75,6 +80,26 @@ class Streams(Laboratory):
         marks = self.take([(True, b""), (True, messages.get("key-1"))], spelled)
         self.assertEqual(marks[0].client, "client-3")
         self.assertIsNone(certificate.common_name(spelled[:-1]), "torn")
+
+
+    def test_a_sealed_one_notes_who_each_connection_is_and_what_is_left_out(self) -> None:
+        der = stub.ssl.PEM_cert_to_DER_cert((self.certificates / "client-3.pem").read_text())
+        known = f"{CLIENT}, certificate SHA-256 {hashlib.sha256(der).hexdigest()}, name client-3"
+        other = Address("192.0.2.8", 50_000)
+        packets = [Packet(0, CLIENT, True, b"", der, False, None), Packet(1, other, True, messages.get("k"), None, False, None),
+                   Packet(0, CLIENT, True, messages.get("k"), None, False, None),
+                   Packet(0, CLIENT, False, 2 * messages.not_found(STAMP), None, False, None)]
+        path, capture = self.folder / "transcript.ttlv", self.folder / "capture"
+        capture.write_bytes(b"packets")
+        with mock.patch("kmip_laboratory.recording.capture.read_packets", return_value=packets):
+            run_keylog(str(capture), "secrets", CLIENT, lambda clock, without_end: Recording(
+                str(path), clock=clock, without_end=without_end))
+        self.assertEqual(notes(path), [
+            (5, f"made from the capture {capture}, SHA-256 {hashlib.sha256(b'packets').hexdigest()}: the moments are those of "
+             "the making"), (1, f"{other}, no certificate seen"), (1, known),
+            (2, f"{known}: the server sent a response without a request; the rest of it is left out")])
+        self.assertEqual(kinds(read_marks(str(path))), [("begin", 1), ("begin", 2), ("end", 2)])
+        list(verify([str(path)], None, None))
 
 
 class Newest(Laboratory):
@@ -170,8 +195,8 @@ class Needs(Laboratory):
 
     def keylog(self, environment: Optional[dict[str, str]] = None) -> str:
         (self.folder / "keylog").touch()
-        done = run("keylog", "capture", "keylog", "--server", "127.0.0.1:5696", "--out", "transcript.ttlv",
-                   cwd=self.folder, env=environment)
+        done = run_apart("keylog", "capture", "keylog", "--server", "127.0.0.1:5696", "--out", "transcript.ttlv",
+                         cwd=self.folder, env=environment)
         self.assertEqual((done.returncode, done.stdout, done.stderr.count("\n")), (1, "", 1))
         self.assertFalse((self.folder / "transcript.ttlv").exists())
         return done.stderr

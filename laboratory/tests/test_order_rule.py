@@ -15,8 +15,9 @@ import stub
 from laboratory import FOLDER, RECORDER, Laboratory, Limit, kinds
 
 STAMP = 1_700_000_000
-HEADER_LENGTH = 24
-BEGIN_BESIDES_MESSAGE = 48
+# Of a sealed recording: its header, and the note on the client's connection.
+AHEAD_OF_CALLS = 128 + 208
+BEGIN_BESIDES_MESSAGE = 104
 A_MOMENT = 0.2
 
 SETTLE_LINE = "        await self._way.recording.files.settle()\n"
@@ -89,7 +90,7 @@ class OrderRule(Laboratory):
         faults = []
         for room, marks in ((60, []), (BEGIN_BESIDES_MESSAGE + len(request) + 60, [("begin", 1)])):
             server = self.stub(lambda peer, _: peer.sendall(messages.not_found(STAMP)))
-            recorder = self.start(server.port, program=program, limit=Limit(resource.RLIMIT_FSIZE, HEADER_LENGTH + room))
+            recorder = self.start(server.port, program=program, limit=Limit(resource.RLIMIT_FSIZE, AHEAD_OF_CALLS + room))
             client = self.client(recorder.port)
             client.sendall(request)
             faults += ["the answer went on"] if stub.receive(client) else []

@@ -23,10 +23,11 @@ from xml.etree import ElementTree
 
 import messages
 import sessions
-from laboratory import AUDITOR, FOLDER
+from laboratory import AUDITOR, FOLDER, run_here
 from test_blind import shown_key
 
 from kmip_laboratory.recording.order import witness
+from kmip_laboratory.reporting.words import main
 from kmip_laboratory.transcript_writer import TranscriptWriter
 from kmip_laboratory.verdicts import Outcome, read_account, read_explained, read_verdict
 
@@ -38,6 +39,8 @@ BUDGETS = (2_000, 20_000, 200_000)
 DARK = "--blink-settings=preferredColorScheme=0"
 # The browser makes a window of it that is as narrow as it has any: 500 pixels.
 NARROW = "--window-size=320,800"
+HEAD = "0123456789abcdef" * 4
+SEALED = f"sealed: 6d9a \\u{{1b}} segment 1 segment 3 head {HEAD}"
 STRANGE = ["<script>alert(1)</script>", "\"'></pre><b>", "</script><img src=x onerror=alert(1)>", "&lt;i&gt;", "]]>"]
 KEY = bytes(range(200, 216))
 DRIVER = """<script>
@@ -127,9 +130,8 @@ def processor_seconds(work: Callable[[], object]) -> float:
 
 
 def report(*words: object) -> subprocess.CompletedProcess[str]:
-    """Runs kmip_report with these words."""
-    return subprocess.run([sys.executable, str(FOLDER / "kmip_report"), *map(str, words)], capture_output=True,
-                          text=True, timeout=120, check=False)
+    """Does what kmip_report does with these words."""
+    return run_here(main, words)
 
 
 class Report(unittest.TestCase):
@@ -314,6 +316,52 @@ class Report(unittest.TestCase):
         for path in EXAMPLES.glob("*/line"):
             self.assertIsNotNone(read_verdict(path.read_text(), 0), path)
         self.assertIsNone(read_verdict("no: turn 1\n", 1))
+
+    def test_the_line_of_a_sealed_transcript_changes_no_verdict(self) -> None:
+        for printed in ("yes\n", "yes: 86 steps\n", "gave up: 2 steps\n", "no: turn 1 call 2 item 1 why 6 WrongState\nat none\n"):
+            for torn in ("", " torn"):
+                bare, sealed = read_verdict(printed, 0), read_verdict(f"{printed}{SEALED}{torn}\n", 0)
+                self.assertEqual(sealed, bare._replace(seal=sealed.seal))
+                self.assertEqual(sealed.seal, (SEALED + torn, "6d9a \\u{1b} segment 1", 3, HEAD, bool(torn)))
+        for printed, seal in (("yes\nsealed: x\n", None), (f"{SEALED}\nyes\n", None), (f"{SEALED}\n", None)):
+            self.assertIsNone(read_verdict(printed, 0), seal)
+
+    def test_the_line_of_a_sealed_transcript_is_no_part_of_an_explanation(self) -> None:
+        for printed in ("no: turn 1 call 2 item 1 why 6 WrongState\nat none\nfield: State\n", "yes\n",
+                        "gave up: 3 steps\ndecided: no order explains every answer\nnext: call 1 item 1 why 11 AttributeDiffers\n",
+                        "gave up: 3 steps\n"):
+            bare, sealed = read_explained(printed, 0), read_explained(f"{printed}{SEALED}\n", 0)
+            self.assertIsNotNone(bare)
+            self.assertEqual(sealed, bare._replace(seal=sealed.seal))
+            self.assertEqual(sealed.seal.head, HEAD)
+
+    def sealing(self, torn: str = "") -> dict[str, str]:
+        """The environment in which the auditor tells of a sealed transcript."""
+        program = self.folder / "kmip_audit"
+        program.write_text(f"#!{sys.executable}\nimport json, subprocess, sys\n"
+                           f"done = subprocess.run([{AUDITOR!r}, *sys.argv[1:]], stdout=subprocess.PIPE, text=True)\n"
+                           "told = done.stdout\nif '--json' in sys.argv:\n    made = json.loads(told)\n"
+                           f"    made['files'][0]['seal'] = {{'head': {HEAD!r}, 'recording': '6d9a', 'segment': 3}}\n"
+                           "    told = json.dumps(made) + '\\n'\nelif sys.argv[1] != 'show':\n"
+                           f"    told += {SEALED + torn!r} + '\\n'\nprint(told, end='')\nsys.exit(done.returncode)\n")
+        program.chmod(0o700)
+        return {"KMIP_AUDIT": str(program)}
+
+    def test_a_report_bears_what_is_told_of_a_sealed_transcript_and_shows_it(self) -> None:
+        names = ("destroy_twice", "query")
+        with unittest.mock.patch.dict(os.environ, self.sealing()):
+            page = self.page(*(EXAMPLES / name for name in names), "--junit", self.folder / "junit.xml")
+            done = report("-", *(EXAMPLES / name for name in names), "--text")
+        text = "".join(page.texts)
+        self.assertEqual(text.count(f"recording 6d9a \\u{{1b}} segment 1, segment 3, head {HEAD}."), 2)
+        self.assertIn(f"no: turn 2 call 2 item 1 why 6 WrongState\nat 2023-11-14T22:13:21Z\n{SEALED}", text)
+        self.assertEqual([each["fault"] for each in page.data["recordings"]], [2, None])
+        told = " ".join(done.stdout.split())
+        self.assertEqual((done.returncode, told.count(f"segment 3, head {HEAD}. ")), (1, 2), done.stdout)
+        self.assertNotIn("no close", text)
+        self.assertIn(SEALED, (self.folder / "junit.xml").read_text())
+        with unittest.mock.patch.dict(os.environ, self.sealing(" torn")):
+            self.assertEqual("".join(self.page(EXAMPLES / "query", "--force").texts).count("; it has no close: "), 1)
 
     def test_what_json_tells_of_the_files(self) -> None:
         account = read_account('{"auditor":"9.9","files":[{"length":5,"role":"transcript","sha256":"ab"}],"verdict":"yes"}\n')

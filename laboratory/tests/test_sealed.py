@@ -3,16 +3,18 @@
 from __future__ import annotations
 
 import hashlib
+import os
 import re
 import shutil
 import subprocess
 import sys
+import threading
 import unittest
 from pathlib import Path
 
 import messages
 import sealed_files
-from laboratory import FOLDER, InFolder, audit, run
+from laboratory import FOLDER, InFolder, audit, run, run_apart
 from sealed_files import MOMENT, RECORDING, begin, close, end, header, note, sealed
 
 from kmip_laboratory.recording.verifying import verify
@@ -239,7 +241,19 @@ class Passes(Sealed):
             done = run("order", "sealed", "--out", "order", "--force", cwd=self.folder)
             self.assertEqual(done.stdout, "2 turns\n", done.stderr)
         self.see_origin("order")
-        self.assertEqual(run("list", "sealed", cwd=self.folder).stdout, run("list", "plain", cwd=self.folder).stdout)
+        for words in (("list",), ("list", "--call", "1"), ("sift", "--list")):
+            told = [run(words[0], source, *words[1:], cwd=self.folder).stdout for source in ("sealed", "plain")]
+            self.assertEqual(told[0], told[1])
+            self.assertGreater(told[0].count("\n"), 0)
+
+    def test_a_pipe_is_read_once(self) -> None:
+        os.mkfifo(self.folder / "pipe")
+        writing = threading.Thread(target=(self.folder / "pipe").write_bytes, args=((self.folder / "sealed").read_bytes(),))
+        writing.start()
+        done = run_apart("blind", "pipe", "blinded", cwd=self.folder)
+        writing.join()
+        self.assertEqual((done.returncode, done.stderr), (0, ""))
+        self.assertEqual(len(read_marks(str(self.folder / "blinded"))), 5)
 
     def test_what_is_broken_is_refused_and_what_has_no_close_is_said_to_have_none(self) -> None:
         for word, more in (("translate", []), ("sift", []), ("blind", []), ("cut", ["--calls", "1-3"]),
@@ -262,7 +276,7 @@ class Passes(Sealed):
         self.assertEqual(run("seal", "old", "transcript.ttlv", cwd=folder).returncode, 0)
         return folder, (folder / "line").read_text()
 
-    def test_a_report_judges_the_marks_of_a_sealed_one_and_names_the_sealed_file(self) -> None:
+    def test_a_report_judges_a_sealed_one_as_it_is(self) -> None:
         folder, line = self.convicted()
         done = subprocess.run([sys.executable, FOLDER / "kmip_report", self.folder / "page.html", folder, "--text"],
                               capture_output=True, text=True, timeout=120, check=False)
@@ -270,8 +284,14 @@ class Passes(Sealed):
         told = re.sub(r" *\\\n *| +", " ", done.stdout)
         self.assertIn(line.strip(), told)
         self.assertIn(hashlib.sha256((folder / "transcript.ttlv").read_bytes()).hexdigest(), told)
-        self.assertIn(f"$ kmip_record cut {folder}/transcript.ttlv transcript.ttlv --calls 1-2147483647 && kmip_audit check "
-                      f"transcript.ttlv {folder}/declaration.ttlv {folder}/witness.ttlv", told)
+        self.assertIn(f"$ kmip_audit check {folder}/transcript.ttlv {folder}/declaration.ttlv {folder}/witness.ttlv", told)
+        data = bytearray((folder / "transcript.ttlv").read_bytes())
+        data[-100] ^= 1
+        (folder / "transcript.ttlv").write_bytes(data)
+        done = subprocess.run([sys.executable, FOLDER / "kmip_report", "-", folder, "--text"], capture_output=True, text=True,
+                              timeout=120, check=False)
+        self.assertEqual((done.returncode, done.stderr), (4, ""))
+        self.assertRegex(done.stdout, r"malformed: transcript offset \d+ kind 12 Seal")
 
     def test_a_sealed_one_is_shrunk(self) -> None:
         folder, _ = self.convicted()

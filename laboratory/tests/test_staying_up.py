@@ -6,10 +6,15 @@ import asyncio
 import os
 import resource
 import socket
+import ssl
 import subprocess
 import sys
+import threading
 import time
 import unittest
+from contextlib import contextmanager
+from pathlib import Path
+from typing import Iterator
 from unittest import mock
 
 import messages
@@ -18,37 +23,89 @@ from laboratory import RECORDER, SECONDS, Laboratory, Limit, wait_until
 from test_proxy import STAMP, at_once, never
 
 from kmip_laboratory import peer, tls
+from kmip_laboratory.recording.admission import Admission
 from kmip_laboratory.trouble import ConnectionTrouble
 
 STRANGERS = 1_100
+MANY = """
+import resource, socket, sys, time
+from test_staying_up import HELLO
+resource.setrlimit(resource.RLIMIT_NOFILE, (resource.getrlimit(resource.RLIMIT_NOFILE)[1],) * 2)
+print("begins", flush=True)
+made = []
+for _ in range(int(sys.argv[2])):
+    made.append(socket.socket())
+    made[-1].setblocking(False)
+    made[-1].connect_ex(("127.0.0.1", int(sys.argv[1])))
+for each in made if sys.argv[3] else []:
+    each.settimeout(20)
+    try:
+        each.sendall(HELLO)
+    except OSError:
+        pass
+print("all are there", flush=True)
+time.sleep(60)
+"""
 FILES = Limit(resource.RLIMIT_NOFILE, 1_024)
+
+
+def hello() -> bytes:
+    """The first bytes of a client that begins a handshake."""
+    read, written = ssl.MemoryBIO(), ssl.MemoryBIO()
+    context = ssl.SSLContext(ssl.PROTOCOL_TLS_CLIENT)
+    context.check_hostname = False
+    try:
+        context.wrap_bio(read, written).do_handshake()
+    except ssl.SSLWantReadError:
+        pass
+    return written.read()
+
+
+HELLO = hello()
 BAD = b"GET / HTTP/1.1\r\n\r\n"
 
 
 class Strangers(Laboratory):
     """Clients that show no certificate."""
 
-    def strangers(self, port: int, count: int) -> list[socket.socket]:
-        """So many connections that say nothing."""
-        _, most = resource.getrlimit(resource.RLIMIT_NOFILE)
-        resource.setrlimit(resource.RLIMIT_NOFILE, (most, most))
-        made = []
-        for _ in range(count):
-            made.append(socket.create_connection(("127.0.0.1", port), timeout=SECONDS))
-            self.addCleanup(made[-1].close)
-        return made
+    @contextmanager
+    def strangers(self, port: int, speaks: bool) -> Iterator[None]:
+        """Many of them at once, made by another process: they say nothing, or begin a handshake and go no further."""
+        words = [sys.executable, "-c", MANY, str(port), str(STRANGERS), "speaks" if speaks else ""]
+        with subprocess.Popen(words, cwd=Path(__file__).parent, text=True, stdout=subprocess.PIPE) as running:
+            try:
+                self.assertEqual(running.stdout.readline(), "begins\n")
+                yield
+                self.assertEqual(running.stdout.readline(), "all are there\n")
+            finally:
+                running.kill()
 
-    def test_many_without_a_certificate_refuse_nobody(self) -> None:
-        recorder = self.start(self.stub(at_once).port, limit=FILES)
-        self.strangers(recorder.port, STRANGERS)
+    def asked(self, client: ssl.SSLSocket) -> float:
+        """How long a call takes."""
         begun = time.monotonic()
-        for name in ("client-1", "client-2"):
-            client = self.client(recorder.port, name)
-            client.sendall(messages.get("key-1"))
-            self.assertEqual(stub.receive(client), messages.not_found(STAMP))
-        self.assertLess(time.monotonic() - begun, 5)
-        self.assertTrue(recorder.heard("connections that showed no certificate had to go for others"))
-        self.assertTrue(recorder.end().startswith("2 calls, 0 open calls, "))
+        client.sendall(messages.get("key-1"))
+        self.assertEqual(stub.receive(client), messages.not_found(STAMP))
+        return time.monotonic() - begun
+
+    def test_many_without_a_certificate_refuse_nobody_and_hold_nobody_up(self) -> None:
+        # A second, where the machine does nothing else.
+        limit = max(1.0, os.getloadavg()[0] / (os.cpu_count() or 1))
+        for speaks in (False, True):
+            with self.subTest(speaks=speaks):
+                recorder = self.start(self.stub(at_once).port, limit=None if speaks else FILES)
+                known, calls = self.client(recorder.port), 0
+                with self.strangers(recorder.port, speaks):
+                    end = time.monotonic() + 1.5
+                    while time.monotonic() < end:
+                        self.assertLess(self.asked(known), limit)
+                        begun = time.monotonic()
+                        self.asked(self.client(recorder.port, "client-2"))
+                        self.assertLess(time.monotonic() - begun, limit)
+                        calls += 2
+                    wait_until(lambda: recorder.heard("connections that showed no certificate had to go for others"), "a word")
+                    calls += self.asked(known) < limit
+                self.assertTrue(recorder.end().startswith(f"{calls} calls, 0 open calls, "))
+                recorder.transcript.unlink()
 
     def test_a_handshake_has_a_limit(self) -> None:
         context = tls.toward_clients(*(str(self.certificates / name) for name in (
@@ -58,12 +115,37 @@ class Strangers(Laboratory):
         async def accept(server: socket.socket) -> None:
             await peer.accept(server, context)
 
-        ours, theirs = socket.socketpair()
-        self.addCleanup(theirs.close)
-        ours.setblocking(False)
-        with mock.patch("kmip_laboratory.peer.SECONDS_TO_GREET", 0.2), self.assertRaisesRegex(
-                ConnectionTrouble, "no TLS with the client: it was not through in 0.2 s"):
-            asyncio.run(accept(ours))
+        for said in (b"", HELLO[:20], HELLO):
+            ours, theirs = socket.socketpair()
+            self.addCleanup(theirs.close)
+            theirs.sendall(said)
+            with self.subTest(said), mock.patch("kmip_laboratory.peer.SECONDS_TO_GREET", 0.2), self.assertRaisesRegex(
+                    ConnectionTrouble, "no TLS with the client: it was not through in 0.2 s"):
+                asyncio.run(accept(ours))
+            self.assertEqual(ours.fileno(), -1, "it is closed")
+
+    def test_who_has_said_nothing_goes_ahead_of_who_is_in_the_handshake(self) -> None:
+        async def some() -> list[str]:
+            admission, left = Admission(1), []
+
+            async def unknown(name: str, speaks: bool) -> None:
+                with admission.unknown() as spoke:
+                    if speaks:
+                        spoke()
+                    try:
+                        await asyncio.sleep(60)
+                    except asyncio.CancelledError:
+                        left.append(name)
+
+            tasks = [asyncio.ensure_future(unknown(f"{place}", place % 2 == 0)) for place in range(5)]
+            await asyncio.sleep(0.01)
+            for _ in range(6):
+                admission.drop_oldest()
+                await asyncio.sleep(0.01)
+            await asyncio.gather(*tasks)
+            return left
+
+        self.assertEqual(asyncio.run(some()), ["1", "3", "0", "2", "4"])
 
 
 class Known(Laboratory):
@@ -85,6 +167,23 @@ class Known(Laboratory):
         self.assertEqual(self.answered(recorder.port, "client-2"), messages.not_found(STAMP), "others are not meant")
         held[0].close()
         wait_until(lambda: self.answered(recorder.port, "client-1"), "room for one more")
+
+    def test_so_many_at_once_leave_others_theirs(self) -> None:
+        recorder = self.start(self.stub(at_once).port, "--connections", "10")
+        held, answers = [], []
+
+        def ask() -> None:
+            held.append(self.client(recorder.port))
+            held[-1].sendall(messages.get("key-1"))
+            answers.append(stub.receive(held[-1]))
+
+        asking = [threading.Thread(target=ask) for _ in range(40)]
+        for each in asking:
+            each.start()
+        self.assertEqual(self.answered(recorder.port, "client-2"), messages.not_found(STAMP))
+        for each in asking:
+            each.join(SECONDS)
+        self.assertEqual((answers.count(messages.not_found(STAMP)), answers.count(b"")), (10, 30))
 
     def test_a_client_that_asks_nothing_has_to_go(self) -> None:
         server = self.stub(at_once)

@@ -10,7 +10,7 @@ import unittest
 from pathlib import Path
 
 import certificates
-from laboratory import InFolder, Laboratory, run
+from laboratory import InFolder, Laboratory, run, run_apart
 from test_proxy import at_once
 
 
@@ -39,7 +39,7 @@ class Troubles(Laboratory):
     def proxy(self, server: int, listen: str = "127.0.0.1:0", certificate: str = "recorder", key: str = "recorder",
               authority: str = "authority.pem", out: str = "transcript.ttlv", more: tuple[object, ...] = ()) -> str:
         """What the recorder says with these words, on which it ends."""
-        done = run("proxy", "--listen", listen, "--server", f"127.0.0.1:{server}", "--cert", f"{certificate}.pem",
+        done = run_apart("proxy", "--listen", listen, "--server", f"127.0.0.1:{server}", "--cert", f"{certificate}.pem",
                    "--key", f"{key}.key", "--client-ca", authority, "--out", self.folder / out, *more,
                    cwd=self.certificates)
         self.assertEqual((done.returncode, done.stdout, done.stderr.count("\n")), (1, "", 1), done.stderr)
@@ -262,7 +262,7 @@ class Words(Laboratory):
 
     def test_help(self) -> None:
         for words in ([], ["--help"], ["proxy", "--help"]):
-            done = run(*words)
+            done = run_apart(*words)
             self.assertEqual((done.returncode, done.stderr), (0, ""))
             self.assertTrue(done.stdout.startswith("usage: kmip_record"))
 

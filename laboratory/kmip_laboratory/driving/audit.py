@@ -26,10 +26,11 @@ STEPS_OF_REPORT = 10_000
 
 
 class Wanted(NamedTuple):
-    """What is asked for besides the driving: the folder, what is declared of the server, the attributes that are
-    forgotten, and the steps of each search."""
+    """What is asked for besides the driving: the folder, whether the transcript is sealed, what is declared of the
+    server, the attributes that are forgotten, and the steps of each search."""
 
     folder: Path
+    is_sealed: bool
     is_empty: bool
     unique_names: bool
     rows: list[rules.Row]
@@ -41,10 +42,10 @@ def run(job: Job, wanted: Wanted, auditor: Auditor) -> int:
     """Everything. The status is the auditor's: 0 where it found a witness, 1 where it decided that there is none, 4
     where it decided nothing, else what it ended with."""
     folder = wanted.folder
-    with record.recording(folder, job.version) as transcript:
+    with record.recording(folder, job.version, wanted.is_sealed) as transcript:
         _declare(job, wanted)
         done = drive(job, transcript, progress=True)
-        print(transcript.summary())
+    print(transcript.summary())
     print("\n".join(done.lines()), flush=True)
     _forget(wanted)
     decision = decide(folder, auditor, wanted.budget)

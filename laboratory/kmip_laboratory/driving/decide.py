@@ -8,6 +8,7 @@ from typing import NamedTuple, Optional
 from ..auditor import Auditor
 from ..calls import Call, read_transcript
 from ..files import write_file
+from ..origin import origin_files
 from ..recording import order
 from ..recordings import DECLARATION, TRANSCRIPT, WITNESS
 from ..shrinking.parts import is_plain, read_declaration
@@ -61,6 +62,8 @@ def decide(folder: Path, auditor: Auditor, budget: int) -> Decision:
         if left is None:
             return Decision(found.text, found.status, [])
         _write(folder / PART, trials, left)
+        for path, data in origin_files(str(folder / PART / TRANSCRIPT), str(folder / TRANSCRIPT), transcript.chain):
+            write_file(path, data)
     numbers = [call.number for call in left]
     return Decision(found.text, 1, numbers, auditor.explained("check", *_files(folder / PART)))
 

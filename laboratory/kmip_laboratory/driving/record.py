@@ -8,6 +8,7 @@ from pathlib import Path
 from typing import Iterator
 
 from ..recording import declaration, rules
+from ..recording.resealing import new_chain
 from ..recordings import DECLARATION, TRANSCRIPT
 from ..transcript_writer import TranscriptWriter
 from ..trouble import Trouble, say
@@ -16,7 +17,7 @@ from .messages import Version
 
 
 @contextmanager
-def recording(folder: Path, version: Version) -> Iterator[TranscriptWriter]:
+def recording(folder: Path, version: Version, is_sealed: bool) -> Iterator[TranscriptWriter]:
     """A transcript in a new folder, which is not left there where no call was recorded."""
     try:
         folder.mkdir(parents=True)
@@ -27,7 +28,7 @@ def recording(folder: Path, version: Version) -> Iterator[TranscriptWriter]:
     if version != JUDGED:
         say(f"version {version[0]}.{version[1]} is written as 2.1 in the transcript: what is judged then is not quite "
             "what was said")
-    transcript = TranscriptWriter(str(folder / TRANSCRIPT))
+    transcript = TranscriptWriter(str(folder / TRANSCRIPT), chain=new_chain() if is_sealed else None)
     try:
         with transcript:
             yield transcript

@@ -101,6 +101,11 @@ def add_load(word: argparse.ArgumentParser) -> None:
         add(OPTIONS[cut], type=_share, default=0.0, metavar="P", dest=cut.name, help=HELP[cut])
 
 
+def _add_format(word: argparse.ArgumentParser) -> None:
+    word.add_argument("--format", type=int, choices=[1, 2], default=2, help="2, which is sealed (the default), or 1, "
+                      "which bears no seals")
+
+
 def job_of(words: argparse.Namespace) -> drive.Job:
     """What the options say is to be driven."""
     if words.calls is not None and words.seconds is not None:
@@ -124,6 +129,7 @@ def _see_folder_apart(words: argparse.Namespace, *more: str) -> None:
 def _add_drive(word: argparse.ArgumentParser) -> None:
     add_load(word)
     word.add_argument("--out", type=Path, metavar="FOLDER", help="record into a new folder, as transcript.ttlv")
+    _add_format(word)
     word.set_defaults(run=_drive)
 
 
@@ -133,9 +139,9 @@ def _drive(words: argparse.Namespace) -> int:
     if words.out is None:
         done = drive.drive(job, progress=True)
     else:
-        with recording(words.out, job.version) as transcript:
+        with recording(words.out, job.version, words.format == 2) as transcript:
             done = drive.drive(job, transcript, progress=True)
-            print(transcript.summary())
+        print(transcript.summary())
     print("\n".join(done.lines()), flush=True)
     return DONE
 
@@ -208,6 +214,7 @@ def _add_audit(word: argparse.ArgumentParser) -> None:
                       help="a Result Reason that is given only for NotFound, WrongState or TakenName")
     word.add_argument("--forget", type=attribute_of, action="append", default=[], metavar="NAME",
                       help="take this judged attribute out of what Get Attributes tells; may be repeated")
+    _add_format(word)
     _add_auditor(word, 1_000_000)
     word.set_defaults(run=_audit, trouble=TROUBLE_OF_AUDIT, unread=TROUBLE_OF_AUDIT)
 
@@ -219,8 +226,8 @@ def _audit(words: argparse.Namespace) -> int:
     if words.kmip is None:
         job = replace(job, version=asyncio.run(discovery.newest(job.server, job.context)))
         say(f"the server is spoken to in version {job.version[0]}.{job.version[1]}")
-    wanted = audit.Wanted(words.out, words.empty, words.unique_names, words.reason, frozenset(words.forget),
-                          words.budget)
+    wanted = audit.Wanted(words.out, words.format == 2, words.empty, words.unique_names, words.reason,
+                          frozenset(words.forget), words.budget)
     return audit.run(job, wanted, auditor)
 
 

@@ -3,14 +3,16 @@
 from __future__ import annotations
 
 import asyncio
+import resource
 from collections import Counter
 from contextlib import contextmanager
-from typing import Counter as Counted, Iterator
+from typing import Callable, Counter as Counted, Iterator
 
 from ..trouble import ConnectionTrouble, say
 
-# Whoever is in its handshake. Where one more comes the oldest has to go, so that nobody is refused for the others.
-MOST_UNKNOWN = 256
+# Whoever is in its handshake, or has not begun it. Where one more comes the oldest has to go, so that nobody is refused
+# for the others: by then so many have come since that it was not one of them who needs a while.
+MOST_UNKNOWN = 1024
 
 
 class Admission:
@@ -18,29 +20,41 @@ class Admission:
 
     def __init__(self, most_of_a_client: int) -> None:
         self._most = most_of_a_client
-        self._unknown: dict[asyncio.Task[None], None] = {}
+        self._most_unknown = min(MOST_UNKNOWN, resource.getrlimit(resource.RLIMIT_NOFILE)[0] // 2)
+        # Whoever has said nothing yet, and whoever is in the handshake, the oldest first.
+        self._silent: dict[asyncio.Task[None], None] = {}
+        self._shaking: dict[asyncio.Task[None], None] = {}
         self._of_client: Counted[str] = Counter()
         self._dropped = 0
 
     @contextmanager
-    def unknown(self) -> Iterator[None]:
-        """While the client of this task has shown no certificate. Where too many are so, the oldest one has to go."""
+    def unknown(self) -> Iterator[Callable[[], None]]:
+        """While the client of this task has shown no certificate; it gives what is to be called when the client has
+        said anything. Where too many are so, the oldest one has to go, and of those that said nothing first."""
         task = asyncio.current_task()
         assert task is not None
-        if len(self._unknown) >= MOST_UNKNOWN:
+        if len(self._silent) + len(self._shaking) >= self._most_unknown:
             self.drop_oldest()
-        self._unknown[task] = None
+        self._silent[task] = None
+        known: asyncio.Task[None] = task
         try:
-            yield
+            yield lambda: self._speaks(known)
         finally:
-            self._unknown.pop(task, None)
+            self._silent.pop(task, None)
+            self._shaking.pop(task, None)
+
+    def _speaks(self, task: asyncio.Task[None]) -> None:
+        if task in self._silent:
+            del self._silent[task]
+            self._shaking[task] = None
 
     def drop_oldest(self) -> None:
         """Ends the connection that has been without a certificate for longest."""
-        oldest = next(iter(self._unknown), None)
+        unknown = self._silent or self._shaking
+        oldest = next(iter(unknown), None)
         if oldest is None:
             return
-        del self._unknown[oldest]
+        del unknown[oldest]
         oldest.cancel()
         self._dropped += 1
         if self._dropped & (self._dropped - 1) == 0:

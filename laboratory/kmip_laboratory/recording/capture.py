@@ -7,17 +7,23 @@ capture.
 
 from __future__ import annotations
 
+import hashlib
 from collections import deque
 from typing import Callable, Deque, Optional, Protocol
 
 from .. import certificate, message
 from ..address import Address
 from ..message import Side
+from ..paths import shown
+from ..plain import plain
+from ..sealing import NoteKind
 from ..trouble import ConnectionTrouble, Trouble, say
 from ..ttlv import HEADER_LENGTH
 from .gaps import have_gap
 from .packets import Packet, read_packets
 from .recording import Recording, tell_account
+
+PIECE = 1 << 20
 
 
 class Marks(Protocol):
@@ -29,6 +35,9 @@ class Marks(Protocol):
     def end(self, call: int, response: bytes) -> None:
         """Marks the response to a call."""
 
+    def note(self, kind: NoteKind, text: str) -> None:
+        """Notes something, where that is done."""
+
 
 class Stream:
     """One connection of the capture: what of it is not yet a whole message, and which calls are unanswered."""
@@ -36,6 +45,8 @@ class Stream:
     def __init__(self, client: Address) -> None:
         self.name = str(client)
         self.broken = False
+        self._known = f"{client}, no certificate seen"
+        self._is_noted = False
         self._open: Deque[int] = deque()
         self._torn: dict[Side, bytes] = {Side.CLIENT: b"", Side.SERVER: b""}
 
@@ -43,15 +54,30 @@ class Stream:
         """Marks the messages that this packet completes."""
         side = Side.CLIENT if packet.by_client else Side.SERVER
         if packet.certificate and packet.by_client:
-            self.name = certificate.common_name(packet.certificate) or self.name
+            name = certificate.common_name(packet.certificate)
+            digest = hashlib.sha256(packet.certificate).hexdigest()
+            self._known = f"{packet.client}, certificate SHA-256 {digest}, name {plain(name or 'none')}"
+            self.name = name or self.name
         self._torn[side] += packet.sent
         while (whole := self._next_message(side)) is not None:
             if side is Side.CLIENT:
+                self._note(recording)
                 self._open.append(recording.begin(self.name, whole))
             elif self._open:
                 recording.end(self._open.popleft(), whole)
             else:
                 raise ConnectionTrouble("the server sent a response without a request")
+
+    def end(self, recording: Marks, why: ConnectionTrouble) -> None:
+        """Notes that the rest of it is left out."""
+        self.broken = True
+        recording.note(NoteKind.ENDED, f"{self._known}: {why}; the rest of it is left out")
+
+    def _note(self, recording: Marks) -> None:
+        """Notes who it is, ahead of the first request."""
+        if not self._is_noted:
+            self._is_noted = True
+            recording.note(NoteKind.CONNECTION, self._known)
 
     def _next_message(self, side: Side) -> Optional[bytes]:
         torn = self._torn[side]
@@ -82,6 +108,9 @@ class Rehearsal:
         """The answer to a call."""
         self.unanswered.remove(call)
 
+    def note(self, kind: NoteKind, text: str) -> None:
+        """Nothing is noted."""
+
 
 class Moment:
     """A clock that shows the Time Stamp of the last answer, since a capture is read faster than it was made."""
@@ -103,8 +132,22 @@ def run(capture: str, keylog: str, server: Address, record: Record) -> None:
     rehearsal, clock = Rehearsal(), Moment()
     _take_all(packets, rehearsal, lambda words: None)
     with record(clock, frozenset(rehearsal.unanswered)) as recording:
+        recording.note(NoteKind.WORDS, f"made from the capture {plain(shown(capture))}, SHA-256 {_digest(capture)}: "
+                       "the moments are those of the making")
         _take_all(packets, _Timed(recording, clock), say)
         tell_account(recording)
+
+
+def _digest(path: str) -> str:
+    """SHA-256 of a file, which may be too long to be held."""
+    made = hashlib.sha256()
+    try:
+        with open(path, "rb") as file:
+            while piece := file.read(PIECE):
+                made.update(piece)
+    except OSError as error:
+        raise Trouble(f"{shown(path)} can't be read: {error.strerror}") from None
+    return made.hexdigest()
 
 
 class _Timed:
@@ -114,6 +157,7 @@ class _Timed:
         self._recording = recording
         self._clock = clock
         self.begin = recording.begin
+        self.note = recording.note
 
     def end(self, call: int, response: bytes) -> None:
         """The answer to a call, at its moment."""
@@ -130,7 +174,7 @@ def _take_all(packets: list[Packet], marks: Marks, tell: Callable[[str], None]) 
         try:
             stream.take(packet, marks)
         except ConnectionTrouble as trouble:
-            stream.broken = True
+            stream.end(marks, trouble)
             tell(f"{stream.name}, stream {packet.stream} of the capture: {trouble}; the rest of it is left out")
 
 

@@ -93,8 +93,8 @@ class Connection:
 
     async def _greet(self) -> Peer:
         """The client, which is unknown up to its certificate."""
-        with self._way.admission.unknown():
-            return await peer.accept(self._socket, self._way.toward_clients)
+        with self._way.admission.unknown() as spoke:
+            return await peer.accept(self._socket, self._way.toward_clients, spoke)
 
     async def _serve(self, client: Peer, name: Optional[str]) -> None:
         server = await peer.connect(self._way.server, self._way.toward_server_as(name))

@@ -19,7 +19,8 @@ from .connection import Connection, Way
 from .heads import tell_each_minute
 
 SECONDS_FOR_LAST_ANSWERS = 5
-WAITING_CLIENTS = 256
+# How many connections wait to be taken, where the system lets so many.
+WAITING_CLIENTS = 4096
 SECONDS_WITHOUT_ROOM = 0.2
 
 
@@ -50,6 +51,8 @@ class Proxy:
     async def _take_connections(self, listener: socket.socket) -> None:
         loop = asyncio.get_running_loop()
         while True:
+            # Calls come first: many connections at once are taken one in a turn of the loop.
+            await asyncio.sleep(0)
             try:
                 client, where = await loop.sock_accept(listener)
             except OSError as error:

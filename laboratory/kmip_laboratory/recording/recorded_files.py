@@ -16,8 +16,8 @@ from .syncing import Sync, Syncing
 
 
 class Keeping(NamedTuple):
-    """How a recording is kept: whether it is sealed (None: as what it goes on behind, and else not), when it is brought
-    to the disk, whether it goes on behind one that is there, and where heads are written down."""
+    """How a recording is kept: whether it is sealed (None: as what it goes on behind, and else it is), when it is
+    brought to the disk, whether it goes on behind one that is there, and where heads are written down."""
 
     is_sealed: Optional[bool] = None
     sync: Sync = Sync.NONE
@@ -38,7 +38,7 @@ class RecordedFiles:
         self._syncing = Syncing(keeping.sync, self._open_files, self._are_settled)
         self._is_closed = False
         self.writer = self._resumed(resume(out, segments)) if keeping.resumes else TranscriptWriter(
-            self.path, chain=new_chain() if keeping.is_sealed else None)
+            self.path, chain=None if keeping.is_sealed is False else new_chain())
 
     @property
     def path(self) -> str:
@@ -101,6 +101,8 @@ class RecordedFiles:
         chain, self._number = found.reading.chain, found.number
         if self._keeping.is_sealed is not None and self._keeping.is_sealed != (chain is not None):
             raise Trouble(f"{found.path} is of version {2 if chain else 1}: give its --format, or leave that away")
+        if self._keeping.heads and not chain:
+            raise Trouble(f"{found.path} is of version 1, and has no heads: leave --heads away")
         next_call = found.last_call + 1
         if chain and chain.is_closed:
             if not self._segments.are_asked:

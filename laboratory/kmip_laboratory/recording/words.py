@@ -97,8 +97,8 @@ def _add_keylog(word: argparse.ArgumentParser) -> None:
 def _add_transcript_words(word: argparse.ArgumentParser) -> None:
     add_segment_words(word)
     word.add_argument("--minor", choices=["1"], help=MINOR_HELP)
-    word.add_argument("--format", type=int, choices=[1, 2], help="1, which the auditor reads (the default), or 2, "
-                      "which is sealed: `kmip_record translate` and the other passes make 1 of it")
+    word.add_argument("--format", type=int, choices=[1, 2], help="2, which is sealed (the default; with --resume that "
+                      "of what is there), or 1, which bears no seals")
     word.add_argument("--out", required=True, metavar="TRANSCRIPT", help="a new file for the transcript")
 
 
@@ -170,9 +170,9 @@ async def _record(words: argparse.Namespace, recording: Recording, toward_client
 
 
 def _see_sealed_words(words: argparse.Namespace) -> None:
-    """Refuses of a recording of version 1 what only a sealed one has, as far as the version is known."""
-    if (words.heads or words.note) and words.format != 2 and not (words.resume and words.format is None):
-        raise WrongWords("--heads and --note are those of sealed recordings: give --format 2 too")
+    """Refuses of a recording of version 1 what only a sealed one has."""
+    if (words.heads or words.note) and words.format == 1:
+        raise WrongWords("--heads and --note are those of sealed recordings: leave --format 1 away")
     if words.heads and words.heads != STANDARD_OUTPUT:
         see_apart([words.heads], paths_of(words.out, _segments(words)))
 
@@ -198,7 +198,7 @@ def _keylog(words: argparse.Namespace) -> None:
     if words.minor:
         say(MINOR_NOTE)
     capture.run(words.capture, words.keylog, words.server, lambda clock, without_end: Recording(
-        words.out, bool(words.minor), _segments(words), clock, without_end, Keeping(words.format == 2)))
+        words.out, bool(words.minor), _segments(words), clock, without_end, Keeping(words.format != 1)))
 
 
 def _read_owner(words: str) -> tuple[str, str]:

@@ -19,7 +19,6 @@ from ..recording.order import turns
 from ..recordings import DECLARATION, TRANSCRIPT, WITNESS
 from ..records import read_file
 from ..shrinking.parts import is_plain
-from ..transcript import read_unsealed
 from ..trouble import Trouble
 from ..verdicts import Account, Digest, Outcome, Verdict
 from .basis import Basis, read_basis
@@ -32,7 +31,6 @@ USUAL_BUDGET = 1_000_000
 USUAL_SECONDS = 300
 # The calls ahead of the deepest place of a search, which are no more to blame than any others.
 TAKEN = "taken: "
-EVERY_CALL = "1-2147483647"
 EPOCH = datetime(1970, 1, 1, tzinfo=timezone.utc)
 
 
@@ -159,7 +157,6 @@ def judge(folder: str, asking: Asking) -> Judged:
     started = time.monotonic()
     with tempfile.TemporaryDirectory(prefix="kmip_report-") as made:
         transcript, declaration, witness = _readable_names(folder, made)
-        transcript, is_sealed = _unsealed(transcript, made)
         is_checked = len(files) == len(paths)
         witness = witness if is_checked else os.path.join(made, WITNESS)
         more = ["--budget", str(asking.budget)] if not is_checked and asking.budget is not None else []
@@ -170,11 +167,11 @@ def judge(folder: str, asking: Asking) -> Judged:
                     if asking.others and verdict.outcome is Outcome.NO else None)
         seconds = time.monotonic() - started
         account = _account(auditor, transcript, declaration, witness)
-        _see_that_they_are_the_judged([_digest(transcript), *files[1:]], account.files)
+        _see_that_they_are_the_judged(files, account.files)
         read = _read(auditor, verdict, (transcript, declaration, witness), asking.with_keys)
     if searched:
         searched = searched._replace(decided=_decides(searched, asking.budget, read.calls))
-    return Judged(folder, verdict, _words(folder, is_checked, is_sealed, more), account, files, read, seconds, searched)
+    return Judged(folder, verdict, _words(folder, is_checked, more), account, files, read, seconds, searched)
 
 
 def _read(auditor: Auditor, verdict: Verdict, files: tuple[str, str, str], with_keys: bool) -> Read:
@@ -197,27 +194,11 @@ def _readable_names(folder: str, made: str) -> list[str]:
     return [os.path.join(folder, name) for name in (TRANSCRIPT, DECLARATION, WITNESS)]
 
 
-def _unsealed(transcript: str, made: str) -> tuple[str, bool]:
-    """The transcript as the auditor reads it, and whether it is sealed: of a sealed one the auditor gets the marks."""
-    if not os.path.exists(transcript):
-        return transcript, False
-    data, chain = read_unsealed(transcript)
-    if chain is None:
-        return transcript, False
-    judged = os.path.join(made, TRANSCRIPT)
-    write_file(judged, data)
-    return judged, True
-
-
-def _words(folder: str, is_checked: bool, is_sealed: bool, more: list[str]) -> list[str]:
-    """The words of the command that repeats the verdict, as bash takes them. Of a sealed transcript one with the same
-    marks is made ahead of it."""
+def _words(folder: str, is_checked: bool, more: list[str]) -> list[str]:
+    """The words of the command that repeats the verdict, as bash takes them."""
     ahead, within = ([], folder) if shown(folder) == folder else (["cd", quoted(folder), "&&"], "")
     names = [os.path.join(within, name) for name in (TRANSCRIPT, DECLARATION)]
     names.append(os.path.join(within, WITNESS) if is_checked else WITNESS)
-    if is_sealed:
-        ahead = [*ahead, "kmip_record", "cut", quoted(names[0]), TRANSCRIPT, "--calls", EVERY_CALL, "&&"]
-        names[0] = TRANSCRIPT
     return [*ahead, "kmip_audit", "check" if is_checked else "search", *map(quoted, names), *more]
 
 

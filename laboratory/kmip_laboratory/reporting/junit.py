@@ -32,7 +32,8 @@ def told(recordings: list[Judged]) -> str:
             kind = "failure" if judged.verdict.outcome in JUDGED else "error"
             trouble = ElementTree.SubElement(case, kind, message=plain_lines(in_words(judged.verdict)),
                                              type=in_short(judged.verdict))
-            lines = [*judged.verdict.lines, *judged.verdict.explanation, f"$ {judged.command}"]
+            seal = [judged.verdict.seal.line] if judged.verdict.seal else []
+            lines = [*judged.verdict.lines, *judged.verdict.explanation, *seal, f"$ {judged.command}"]
             trouble.text = plain_lines("\n".join(lines))
         if judged.read.basis is not None:
             printed = ElementTree.SubElement(case, "system-out")

@@ -16,7 +16,7 @@ from .figures import figures
 from .findings import findings
 from .judging import Judged, came_to, moment, operations
 from .markup import Markup, Part, data, digest, element, table, together
-from .reasons import PREMISES, in_short, in_words, of_others
+from .reasons import PREMISES, in_short, in_words, of_others, of_seal
 
 SOURCES = Path(__file__).resolve().parent / "page"
 TOOLS = [("fault", "To the verdict's call"), ("in", "Zoom in"), ("out", "Zoom out"), ("left", "Earlier"),
@@ -215,5 +215,6 @@ def _evidence(judged: Judged) -> Markup:
     read = "as the auditor judged it" if judged.has_the_auditors_digests() else "as the report read it"
     return together([
         table(["File", f"SHA-256, {read}", "Bytes"], rows, 1),
+        *([element("p", of_seal(judged.verdict.seal))] if judged.verdict.seal else []),
         element("p", f"Judged in {judged.seconds:.1f} seconds. Anybody can repeat the verdict:"),
-        element("pre", f"$ {judged.command}\n" + "\n".join(judged.verdict.lines))])
+        element("pre", f"$ {judged.command}\n" + "\n".join(judged.verdict.printed))])

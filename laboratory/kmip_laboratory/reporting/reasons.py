@@ -2,7 +2,7 @@
 
 from __future__ import annotations
 
-from ..verdicts import Outcome, Verdict
+from ..verdicts import Outcome, Seal, Verdict
 
 WHY: dict[int, str] = {
     1: "a call that ended before this one began has not been done yet in this order",
@@ -66,6 +66,14 @@ def of_others(searched: Verdict) -> str:
     if searched.decided:
         return f"No other order explains the answers either: the auditor has decided it {line}."
     return f"Whether another order explains the answers is not decided {line}."
+
+
+def of_seal(seal: Seal) -> str:
+    """What the auditor tells of a sealed transcript: what its head was, to be held against one that was written
+    down."""
+    without = ("; it has no close: its recorder was killed, or its end was cut off" if seal.is_torn else "")
+    return (f"The transcript is sealed, and the auditor tested each seal: recording {seal.recording}, segment "
+            f"{seal.segment}, head {seal.head}{without}.")
 
 
 def in_short(verdict: Verdict) -> str:

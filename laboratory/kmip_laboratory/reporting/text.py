@@ -12,7 +12,7 @@ from ..plain import plain
 from .basis_in_text import paragraphs
 from .counts import Cross, by_verdict, crosses, period
 from .judging import Judged, came_to, operations
-from .reasons import PREMISES, in_short, in_words, of_others
+from .reasons import PREMISES, in_short, in_words, of_others, of_seal
 
 COLUMNS = 80
 AROUND = 20
@@ -49,6 +49,7 @@ def _recording(judged: Judged, made: datetime) -> list[str]:
     lines += [""]
     for path, length, sha256 in judged.files:
         lines += [*_broken(f"{shown(path)}, {length:,} bytes"), f"  SHA-256 {sha256}"]
+    lines += _broken(of_seal(judged.verdict.seal)) if judged.verdict.seal else []
     lines += [f"Judged in {judged.seconds:.1f} seconds. Anybody can repeat the verdict:", *_command(judged.words)]
     if judged.calls:
         lines += ["", *_timeline(judged), "", *_counts(judged)]
