@@ -1,7 +1,8 @@
 """Spells KMIP messages and the auditor's three files, for the scripts beside it: items with zero padding, requests, answers, marks and turns."""
 from dataclasses import dataclass, field
+from hashlib import sha256
 
-STRUCTURE, INTEGER, ENUMERATION, BOOLEAN, TEXT, BYTES, DATE_TIME = 1, 2, 5, 6, 7, 8, 9
+STRUCTURE, INTEGER, ENUMERATION, BOOLEAN, TEXT, BYTES, DATE_TIME, DATE_TIME_EXTENDED = 1, 2, 5, 6, 7, 8, 9, 0x0B
 
 CREATE, REGISTER, LOCATE, GET, GET_ATTRIBUTES, ACTIVATE, REVOKE, DESTROY = 1, 3, 8, 0x0A, 0x0B, 0x12, 0x13, 0x14
 QUERY = 0x18
@@ -193,3 +194,39 @@ class Session:
 
     def witness(self) -> bytes:
         return WITNESS_HEADER + b"".join(turn(number) for number in range(1, len(self.calls) + 1))
+
+
+@dataclass
+class Sealed(Session):
+    """A session whose transcript is sealed: one segment of a recording."""
+
+    recording: str = "a recording"
+    segment: int = 1
+    previous: bytes = bytes(32)
+
+    def records(self) -> tuple[bytes, bytes]:
+        """The transcript, and its head."""
+        label = integer(0x540002, 2), text(0x540004, self.recording), integer(0x540005, self.segment), item(0x540006, BYTES, self.previous)
+        made = [structure(0x540001, *label)]
+        seal = sha256(made[0]).digest()
+        marks = [mark for number, (asked, answered) in enumerate(self.calls, 1) for mark in sealed_marks(number, asked, answered)]
+        if self.overlapping:
+            marks.sort(key=lambda mark: mark[0])
+        for second, (tag, children) in enumerate([*marks, (0x540022, [integer(0x540018, len(marks))])]):
+            moment = item(0x540014, DATE_TIME_EXTENDED, (1_700_000_000_000_000 + 1_000_000 * second).to_bytes(8, "big"))
+            ahead = structure(tag, *children, moment, item(0x540015, BYTES, bytes(32)))[:-32]
+            seal = sha256(seal + ahead).digest()
+            made.append(ahead + seal)
+        return b"".join(made), seal
+
+    def transcript(self) -> bytes:
+        return self.records()[0]
+
+    def head(self) -> str:
+        return self.records()[1].hex()
+
+
+def sealed_marks(number: int, asked: bytes, answered: bytes | None) -> list[tuple[int, list[bytes]]]:
+    """The tags of a call's marks, with their children ahead of the moment and the seal."""
+    begin = 0x540010, [integer(0x540011, number), text(0x540012, "a"), item(0x540013, BYTES, asked)]
+    return [begin] if answered is None else [begin, (0x540020, [integer(0x540011, number), item(0x540013, BYTES, answered)])]
