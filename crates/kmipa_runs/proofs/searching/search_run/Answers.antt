@@ -15,9 +15,12 @@ pub returns-in-Err-clause-prints : goal.returns-in-Err-clause-prints
 returns-in-Err-clause-prints g c =
     let lines = appended_bytes c.args.out.now.items c.append.new.out.items in
     let kept = appended_bytes c.args.made.now.items c.args.made.now.items in
-    let none : kept ≡ [] = drop_of_length-le c.args.made.now.items (omega arith) in
-    (Err c.in-Err.fault, c.in-Err.ensures.searches, fault_ends_search c.in-Err.fault c.append.result lines kept none
-    (fault_printed c.fault_lines.result c.in-Err.fault c.append.result lines c.fault_lines.ensures c.append.ensures.prints))
+    let none : kept ≡ [] = drop_of_length-le c.args.made.now.items (omega arith) in (
+      Err c.in-Err.fault,
+      c.in-Err.ensures.searches,
+      fault_ends_search c.in-Err.fault c.append.result lines kept none
+          (fault_printed c.fault_lines.result c.in-Err.fault c.append.result lines c.fault_lines.ensures c.append.ensures.prints),
+    )
 
 pub returns-in-Ok-clause-accepts : goal.returns-in-Ok-clause-accepts
 returns-in-Ok-clause-accepts g c = λ done.
