@@ -25,3 +25,4 @@ pub mod PairLemmas
 pub mod DeclarationWritingLemmas
 pub mod MarkReadingLemmas
 pub mod SealedReadingLemmas
+pub mod TornLemmas

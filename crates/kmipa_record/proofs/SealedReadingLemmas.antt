@@ -41,11 +41,11 @@ are_marks input head marks run file rest e = sealed (run_in input head marks run
 -- ---- a record that was read
 
 -- what was taken, behind what came before, is the record of these bytes
-record IsTaken {R : Type 0} (old new : Input R) (bytes : List ℕ) (r : SealedRecord) : Type 0 where
-  right : IsRecord (sealed_of bytes r)
-  takes : (after : List ℕ) → Takes (item_of (sealed_of bytes r)) (appended_bytes (came_of old) (came_of new) ++ after) after (taken_of old) (taken_of new)
+pub record IsTaken {R : Type 0} (old new : Input R) (bytes : List ℕ) (r : SealedRecord) : Type 0 where
+  pub right : IsRecord (sealed_of bytes r)
+  pub takes : (after : List ℕ) → Takes (item_of (sealed_of bytes r)) (appended_bytes (came_of old) (came_of new) ++ after) after (taken_of old) (taken_of new)
 
-is_taken : {R : Type 0} (old new : Input R) (bytes : List ℕ) (r : SealedRecord) → came_of new ≡ came_of old ++ bytes
+pub is_taken : {R : Type 0} (old new : Input R) (bytes : List ℕ) (r : SealedRecord) → came_of new ≡ came_of old ++ bytes
     → ((after : List ℕ) → TakesSaid SaysThis (appended_bytes (came_of old) (came_of new) ++ after) after (taken_of old) (taken_of new) r) → IsTaken old new bytes r
 is_taken old new bytes r came takes =
     let t = takes [] in

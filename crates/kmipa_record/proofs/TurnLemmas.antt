@@ -1,30 +1,59 @@
 -- Turns and their items.
-use Rattle.std.proofs.Common.{◌≡◌, ℕ, ℤ, List, [], ◌∷◌, ◌++◌, map, Option, None, Some, refl, sym, ap, subst, ◌∙◌, arith, ◌<◌, suc, length, take, drop, get_or, append_assoc}
-use Rattle.std.proofs.lemmas.List.Elements.{Contains-append_right, All-contains}
-use Rattle.std.proofs.lemmas.List.{take-append-drop}
+use Rattle.std.proofs.Common.{◌≡◌, ◌≢◌, ℕ, ℤ, List, [], ◌∷◌, ◌++◌, map, Option, None, Some, refl, sym, ap, subst, ◌∙◌, arith, ◌<◌, suc, length, take, drop, get_or, append_assoc}
+use Rattle.std.specs.Prelude.{All}
+use Rattle.std.proofs.lemmas.List.{take-append-drop, append-nil, map-append}
+use Rattle.std.proofs.lemmas.List.Elements.{All-push, All-nil, All-tail}
 use Rattle.std.proofs.Math.Seq.{drop-cons}
 use Rattle.kmipa_ttlv.specs.Tree.{Tree, Trees, structure, none, more, forest}
 use Rattle.kmipa_ttlv.specs.ItemTree.{tree, trees}
 use Rattle.kmipa_ttlv.specs.declared.item.Item.{Item}
 use Rattle.kmipa_attrs.specs.Fields.{tag_of}
-use Rattle.kmipa_record.specs.Tags.{turn_tag}
-use Rattle.kmipa_record.specs.Witnesses.{FillOf, TurnOf, call_item, answer_item, place_item, fill_item, listed, turn_fields, turn_item, IsPayload, ArePayloads}
-use Rattle.kmipa_record.specs.WitnessReading.{NotAhead, list_of}
-use Rattle.kmipa_record.proofs.FirstFaultLemmas.{values_once, cut_values}
+use Rattle.kmipa_record.specs.Tags.{turn_tag, answer_tag, place_tag, turn_moment_tag, fill_tag, birth_tag, aside_tag}
+use Rattle.kmipa_record.specs.Witnesses.{FillOf, BirthOf, TurnOf, call_item, answer_item, place_item, moment_item, fill_item, birth_item, aside_place_item, listed, turn_fields, turn_item, IsPayload, ArePayloads, IsAttributes, AreBirths}
+use Rattle.kmipa_record.specs.WitnessReading.{BeginsTurn, HasPayload, HasAttributes, IsAny, Leads, MayLead, NotAhead, list_of}
+use Rattle.kmipa_record.proofs.FirstFaultLemmas.{values_once}
 
 -- ---- lists that begin with the items of values
 
-module _ {X : Type 0} (item_of : X → Tree) (once : (a b : X) → item_of a ≡ item_of b → a ≡ b) where
-  pub front_once : (xs ys : List X) (rest others : List Tree) → NotAhead item_of rest → NotAhead item_of others → map item_of xs ++ rest ≡ map item_of ys ++ others → (xs ≡ ys) × (rest ≡ others)
-  front_once [] [] rest others n m e = (refl, e)
-  front_once [] (y ∷ ys) rest others n m e = absurd (n y (map item_of ys ++ others) e)
-  front_once (x ∷ xs) [] rest others n m e = absurd (m x (map item_of xs ++ rest) (sym e))
-  front_once (x ∷ xs) (y ∷ ys) rest others n m e =
+-- another item is ahead, or none
+abbrev pub NotTagged : ℕ → List Tree → Type 0
+NotTagged n [] = Unit {0}
+NotTagged n (t ∷ ts) = tag_of t ≢ n
+
+untagged : {X : Type 0} (item_of : X → Tree) (n : ℕ) (items : List Tree) → ((x : X) → tag_of (item_of x) ≡ n) → NotTagged n items → NotAhead item_of items
+untagged item_of n [] tagged not x rest e = absurd cc
+untagged item_of n (t ∷ ts) tagged not x rest e = not (let same : t ≡ item_of x = cc in ap tag_of same ∙ tagged x)
+
+-- items with another tag are ahead of such ones
+ahead : {X : Type 0} (item_of : X → Tree) (m n : ℕ) (xs : List X) (rest : List Tree) → ((x : X) → tag_of (item_of x) ≡ m) → (m ≡ n → ⊥) → NotTagged n rest → NotTagged n (map item_of xs ++ rest)
+ahead item_of m n [] rest tagged ne not = not
+ahead item_of m n (x ∷ xs) rest tagged ne not = λ e. ne (sym (tagged x) ∙ e)
+
+module _ {X : Type 0} (Is : X → Type 0) (item_of : X → Tree) (once : (a b : X) → item_of a ≡ item_of b → a ≡ b) where
+  -- the values that lead are the only ones
+  pub front_once : (xs ys : List X) (rest others : List Tree) → All Is xs → All Is ys → ((x : X) (more : List Tree) → Is x → rest ≢ item_of x ∷ more) → NotAhead item_of others
+      → map item_of xs ++ rest ≡ map item_of ys ++ others → (xs ≡ ys) × (rest ≡ others)
+  front_once [] [] rest others i j n m e = (refl, e)
+  front_once [] (y ∷ ys) rest others i j n m e = absurd (n y (map item_of ys ++ others) (j 0 y (omega arith)) e)
+  front_once (x ∷ xs) [] rest others i j n m e = absurd (m x (map item_of xs ++ rest) (sym e))
+  front_once (x ∷ xs) (y ∷ ys) rest others i j n m e =
       let head : item_of x ≡ item_of y = cc in
       let tail : map item_of xs ++ rest ≡ map item_of ys ++ others = cc in
       let one = once x y head in
-      let all = front_once xs ys rest others n m tail in
+      let all = front_once xs ys rest others (All-tail Is x xs i) (All-tail Is y ys j) n m tail in
       (ap (λ (v : X). v ∷ xs) one ∙ ap (λ (l : List X). y ∷ l) all.0, all.1)
+
+  leads_once : (items : List Tree) (xs ys : List X) (rest others : List Tree) → Leads Is item_of items xs rest → All Is ys → NotAhead item_of others → items ≡ map item_of ys ++ others → rest ≡ others
+  leads_once items xs ys rest others l all m e = (front_once xs ys rest others l.each all l.last m (sym l.are ∙ e)).1
+
+may_lead_once : {X : Type 0} (item_of : X → Tree) (items : List Tree) (o p : Option X) (rest others : List Tree) → MayLead item_of items o rest → NotAhead item_of others → items ≡ map item_of (listed p) ++ others → rest ≡ others
+may_lead_once item_of items None None rest others l m e = sym l.are ∙ e
+may_lead_once item_of items None (Some y) rest others l m e = absurd (l.first refl y others e)
+may_lead_once item_of items (Some x) None rest others l m e = absurd (m x rest (sym e ∙ l.are))
+may_lead_once item_of items (Some x) (Some y) rest others l m e = let both : item_of x ∷ rest ≡ item_of y ∷ others = sym l.are ∙ e in cc
+
+any_numbers : (xs : List ℤ) → All IsAny xs
+any_numbers xs = λ k d h. tt
 
 -- ---- the fields
 
@@ -37,18 +66,31 @@ forest_once (x ∷ xs) (y ∷ ys) e =
     let tail : forest (λ (t : Tree). t) xs ≡ forest (λ (t : Tree). t) ys = cc in
     ap (λ (t : Tree). t ∷ xs) head ∙ ap (λ (l : List Tree). y ∷ l) (forest_once xs ys tail)
 
-pub answer_once : (a b : List ℕ) → answer_item a ≡ answer_item b → a ≡ b
+answer_once : (a b : List ℕ) → answer_item a ≡ answer_item b → a ≡ b
 answer_once a b e = cc
 
-pub place_once : (a b : ℤ) → place_item a ≡ place_item b → a ≡ b
+place_once : (a b : ℤ) → place_item a ≡ place_item b → a ≡ b
 place_once a b e = cc
 
-pub fill_once : (a b : FillOf) → fill_item a ≡ fill_item b → a ≡ b
+moment_once : (a b : ℤ) → moment_item a ≡ moment_item b → a ≡ b
+moment_once a b e = cc
+
+aside_once : (a b : ℤ) → aside_place_item a ≡ aside_place_item b → a ≡ b
+aside_once a b e = cc
+
+fill_once : (a b : FillOf) → fill_item a ≡ fill_item b → a ≡ b
 fill_once a b e =
     let item : a.item ≡ b.item = cc in
     let payload : a.payload ≡ b.payload = cc in
     let of : ℤ → Tree → FillOf = λ n t. record { item = n; payload = t } in
     ap (λ (n : ℤ). of n a.payload) item ∙ ap (of b.item) payload
+
+birth_once : (a b : BirthOf) → birth_item a ≡ birth_item b → a ≡ b
+birth_once a b e =
+    let item : a.item ≡ b.item = cc in
+    let attributes : a.attributes ≡ b.attributes = cc in
+    let of : ℤ → Tree → BirthOf = λ n t. record { item = n; attributes = t } in
+    ap (λ (n : ℤ). of n a.attributes) item ∙ ap (of b.item) attributes
 
 listed_once : {A : Type 0} (o p : Option A) → listed o ≡ listed p → o ≡ p
 listed_once None None e = refl
@@ -56,36 +98,86 @@ listed_once None (Some y) e = absurd cc
 listed_once (Some x) None e = absurd cc
 listed_once (Some x) (Some y) e = let same : x ≡ y = cc in ap Some same
 
--- another item before
-other_ahead : (a b : Tree) (xs ys : List Tree) → (tag_of a ≡ tag_of b → ⊥) → a ∷ xs ≡ b ∷ ys → ⊥
-other_ahead a b xs ys ne e = ne (let same : a ≡ b = cc in ap tag_of same)
+-- what is behind each kind of a turn's children
+abbrev behind_births : TurnOf → List Tree
+behind_births t = map aside_place_item t.asides
 
-pub no_place_in_fills : (fills : List FillOf) → NotAhead place_item (map fill_item fills)
-no_place_in_fills [] x us e = absurd cc
-no_place_in_fills (f ∷ fills) x us e = other_ahead (fill_item f) (place_item x) (map fill_item fills) us (λ h. absurd (omega (arith, h))) e
+abbrev behind_fills : TurnOf → List Tree
+behind_fills t = map birth_item t.births ++ behind_births t
 
-pub no_answer_behind : (places : List ℤ) (fills : List FillOf) → NotAhead answer_item (map place_item places ++ map fill_item fills)
-no_answer_behind [] [] x us e = absurd cc
-no_answer_behind [] (f ∷ fills) x us e = other_ahead (fill_item f) (answer_item x) (map fill_item fills) us (λ h. absurd (omega (arith, h))) e
-no_answer_behind (p ∷ places) fills x us e = other_ahead (place_item p) (answer_item x) (map place_item places ++ map fill_item fills) us (λ h. absurd (omega (arith, h))) e
+abbrev behind_moment : TurnOf → List Tree
+behind_moment t = map fill_item t.fills ++ behind_fills t
 
-abbrev pub turn_with : ℤ → Option (List ℕ) → List ℤ → List FillOf → TurnOf
-turn_with call answer places fills = record { call = call; answer = answer; places = places; fills = fills }
+abbrev behind_places : TurnOf → List Tree
+behind_places t = map moment_item (listed t.moment) ++ behind_moment t
+
+abbrev behind_answer : TurnOf → List Tree
+behind_answer t = map place_item t.places ++ behind_places t
+
+-- nothing with this tag is ahead of what is behind each kind
+module _ (n : ℕ) (t : TurnOf) (no_aside : aside_tag ≡ n → ⊥) where
+  free_births : NotTagged n (behind_births t)
+  free_births = subst (NotTagged n) (append-nil (behind_births t)) (ahead aside_place_item aside_tag n t.asides [] (λ x. refl) no_aside tt)
+
+  free_fills : (birth_tag ≡ n → ⊥) → NotTagged n (behind_fills t)
+  free_fills no_birth = ahead birth_item birth_tag n t.births (behind_births t) (λ x. refl) no_birth free_births
+
+  free_moment : (birth_tag ≡ n → ⊥) → (fill_tag ≡ n → ⊥) → NotTagged n (behind_moment t)
+  free_moment no_birth no_fill = ahead fill_item fill_tag n t.fills (behind_fills t) (λ x. refl) no_fill (free_fills no_birth)
+
+  free_places : (birth_tag ≡ n → ⊥) → (fill_tag ≡ n → ⊥) → (turn_moment_tag ≡ n → ⊥) → NotTagged n (behind_places t)
+  free_places no_birth no_fill no_moment = ahead moment_item turn_moment_tag n (listed t.moment) (behind_moment t) (λ x. refl) no_moment (free_moment no_birth no_fill)
+
+  free_answer : (birth_tag ≡ n → ⊥) → (fill_tag ≡ n → ⊥) → (turn_moment_tag ≡ n → ⊥) → (place_tag ≡ n → ⊥) → NotTagged n (behind_answer t)
+  free_answer no_birth no_fill no_moment no_place = ahead place_item place_tag n t.places (behind_places t) (λ x. refl) no_place (free_places no_birth no_fill no_moment)
+
+no_birth_behind : (t : TurnOf) → NotAhead birth_item (behind_births t)
+no_birth_behind t = untagged birth_item birth_tag (behind_births t) (λ x. refl) (free_births birth_tag t (λ h. absurd (omega (arith, h))))
+
+no_fill_behind : (t : TurnOf) → NotAhead fill_item (behind_fills t)
+no_fill_behind t = untagged fill_item fill_tag (behind_fills t) (λ x. refl) (free_fills fill_tag t (λ h. absurd (omega (arith, h))) (λ h. absurd (omega (arith, h))))
+
+no_moment_behind : (t : TurnOf) → NotAhead moment_item (behind_moment t)
+no_moment_behind t = untagged moment_item turn_moment_tag (behind_moment t) (λ x. refl)
+    (free_moment turn_moment_tag t (λ h. absurd (omega (arith, h))) (λ h. absurd (omega (arith, h))) (λ h. absurd (omega (arith, h))))
+
+no_place_behind : (t : TurnOf) → NotAhead place_item (behind_places t)
+no_place_behind t = untagged place_item place_tag (behind_places t) (λ x. refl)
+    (free_places place_tag t (λ h. absurd (omega (arith, h))) (λ h. absurd (omega (arith, h))) (λ h. absurd (omega (arith, h))) (λ h. absurd (omega (arith, h))))
+
+no_answer_behind : (t : TurnOf) → NotAhead answer_item (behind_answer t)
+no_answer_behind t = untagged answer_item answer_tag (behind_answer t) (λ x. refl)
+    (free_answer answer_tag t (λ h. absurd (omega (arith, h))) (λ h. absurd (omega (arith, h))) (λ h. absurd (omega (arith, h))) (λ h. absurd (omega (arith, h))) (λ h. absurd (omega (arith, h))))
+
+-- ---- a turn has one item
+
+-- whatever the values are
+split_once : {X : Type 0} (item_of : X → Tree) → ((a b : X) → item_of a ≡ item_of b → a ≡ b) → (xs ys : List X) (rest others : List Tree) → NotAhead item_of rest → NotAhead item_of others
+    → map item_of xs ++ rest ≡ map item_of ys ++ others → (xs ≡ ys) × (rest ≡ others)
+split_once {X} item_of once xs ys rest others n m e = front_once (λ (x : X). Unit {0}) item_of once xs ys rest others (λ k d h. tt) (λ k d h. tt) (λ x more _. n x more) m e
+
+abbrev turn_with : ℤ → Option (List ℕ) → List ℤ → Option ℤ → List FillOf → List BirthOf → List ℤ → TurnOf
+turn_with call answer places moment fills births asides = record { call = call; answer = answer; places = places; moment = moment; fills = fills; births = births; asides = asides }
 
 pub turn_item_once : (a b : TurnOf) → turn_item a ≡ turn_item b → a ≡ b
 turn_item_once a b e =
     let trees : forest (λ (t : Tree). t) (turn_fields a) ≡ forest (λ (t : Tree). t) (turn_fields b) = cc in
     let fields : turn_fields a ≡ turn_fields b = forest_once (turn_fields a) (turn_fields b) trees in
     let call : a.call ≡ b.call = cc in
-    let behind : map answer_item (listed a.answer) ++ (map place_item a.places ++ map fill_item a.fills) ≡ map answer_item (listed b.answer) ++ (map place_item b.places ++ map fill_item b.fills) = cc in
-    let answers = front_once answer_item answer_once (listed a.answer) (listed b.answer) _ _ (no_answer_behind a.places a.fills) (no_answer_behind b.places b.fills) behind in
-    let places = front_once place_item place_once a.places b.places _ _ (no_place_in_fills a.fills) (no_place_in_fills b.fills) answers.1 in
-    let fills = values_once fill_item fill_once a.fills b.fills places.1 in
-    let answer = listed_once a.answer b.answer answers.0 in
-    ap (λ (n : ℤ). turn_with n a.answer a.places a.fills) call
-    ∙ ap (λ (o : Option (List ℕ)). turn_with b.call o a.places a.fills) answer
-    ∙ ap (λ (l : List ℤ). turn_with b.call b.answer l a.fills) places.0
-    ∙ ap (λ (l : List FillOf). turn_with b.call b.answer b.places l) fills
+    let behind : map answer_item (listed a.answer) ++ behind_answer a ≡ map answer_item (listed b.answer) ++ behind_answer b = cc in
+    let answers = split_once answer_item answer_once (listed a.answer) (listed b.answer) (behind_answer a) (behind_answer b) (no_answer_behind a) (no_answer_behind b) behind in
+    let places = split_once place_item place_once a.places b.places (behind_places a) (behind_places b) (no_place_behind a) (no_place_behind b) answers.1 in
+    let moments = split_once moment_item moment_once (listed a.moment) (listed b.moment) (behind_moment a) (behind_moment b) (no_moment_behind a) (no_moment_behind b) places.1 in
+    let fills = split_once fill_item fill_once a.fills b.fills (behind_fills a) (behind_fills b) (no_fill_behind a) (no_fill_behind b) moments.1 in
+    let births = split_once birth_item birth_once a.births b.births (behind_births a) (behind_births b) (no_birth_behind a) (no_birth_behind b) fills.1 in
+    let asides = values_once aside_place_item aside_once a.asides b.asides births.1 in
+    ap (λ (n : ℤ). turn_with n a.answer a.places a.moment a.fills a.births a.asides) call
+    ∙ ap (λ (o : Option (List ℕ)). turn_with b.call o a.places a.moment a.fills a.births a.asides) (listed_once a.answer b.answer answers.0)
+    ∙ ap (λ (l : List ℤ). turn_with b.call b.answer l a.moment a.fills a.births a.asides) places.0
+    ∙ ap (λ (o : Option ℤ). turn_with b.call b.answer b.places o a.fills a.births a.asides) (listed_once a.moment b.moment moments.0)
+    ∙ ap (λ (l : List FillOf). turn_with b.call b.answer b.places b.moment l a.births a.asides) fills.0
+    ∙ ap (λ (l : List BirthOf). turn_with b.call b.answer b.places b.moment b.fills l a.asides) births.0
+    ∙ ap (λ (l : List ℤ). turn_with b.call b.answer b.places b.moment b.fills b.births l) asides
 
 -- ---- a turn that is read child by child
 
@@ -102,72 +194,50 @@ children_are item children t e f =
 
 pub no_call : (item : Tree) (children : Trees) → item ≡ structure turn_tag children → ((call : ℤ) (rest : List Tree) → list_of children ≡ call_item call ∷ rest → ⊥)
     → (t : TurnOf) → item ≡ turn_item t → ⊥
-no_call item children e isnt t f = isnt t.call (map answer_item (listed t.answer) ++ (map place_item t.places ++ map fill_item t.fills)) (children_are item children t e f)
+no_call item children e isnt t f = isnt t.call (map answer_item (listed t.answer) ++ behind_answer t) (children_are item children t e f)
 
-not_behind : (answer : Option (List ℕ)) (given : List Tree) (rest : List Tree) → given ≡ map answer_item (listed answer) ++ rest → (answer ≡ None → NotAhead answer_item given)
-    → (o : Option (List ℕ)) (places : List ℤ) (fills : List FillOf) → given ≡ map answer_item (listed o) ++ (map place_item places ++ map fill_item fills)
-    → rest ≡ map place_item places ++ map fill_item fills
-not_behind None given rest e first None places fills f = sym e ∙ f
-not_behind None given rest e first (Some x) places fills f = absurd (first refl x (map place_item places ++ map fill_item fills) f)
-not_behind (Some a) given rest e first None places fills f = absurd (no_answer_behind places fills a rest (sym f ∙ e))
-not_behind (Some a) given rest e first (Some x) places fills f = let both : answer_item a ∷ rest ≡ answer_item x ∷ (map place_item places ++ map fill_item fills) = sym e ∙ f in cc
+-- where the children are those of a turn, nothing is behind the turn that they begin with
+all_taken : (fields : List Tree) (t u : TurnOf) (rest : List Tree) → BeginsTurn fields t rest → ArePayloads u.fills → AreBirths u.births → fields ≡ turn_fields u → rest ≡ []
+all_taken fields t u rest b payloads attributes e =
+    let both : call_item t.call ∷ b.behind_call ≡ turn_fields u = sym b.call ∙ e in
+    let called : b.behind_call ≡ map answer_item (listed u.answer) ++ behind_answer u = cc in
+    let answered = may_lead_once answer_item b.behind_call t.answer u.answer b.behind_answer (behind_answer u) b.answer (no_answer_behind u) called in
+    let placed = leads_once IsAny place_item place_once b.behind_answer t.places u.places b.behind_places (behind_places u) b.places (any_numbers u.places) (no_place_behind u) answered in
+    let timed = may_lead_once moment_item b.behind_places t.moment u.moment b.behind_moment (behind_moment u) b.moment (no_moment_behind u) placed in
+    let filled = leads_once HasPayload fill_item fill_once b.behind_moment t.fills u.fills b.behind_fills (behind_fills u) b.fills payloads (no_fill_behind u) timed in
+    let born = leads_once HasAttributes birth_item birth_once b.behind_fills t.births u.births b.behind_births (behind_births u) b.births attributes (no_birth_behind u) filled in
+    leads_once IsAny aside_place_item aside_once b.behind_births t.asides u.asides rest [] b.asides (any_numbers u.asides) (λ x more h. absurd cc) (born ∙ sym (append-nil (behind_births u)))
 
--- what is read in turn: a call, an answer, places, and what is after them
-pub record IsSplitTurn (fields : List Tree) (call : ℤ) (answer : Option (List ℕ)) (places : List ℤ) (rest : List Tree) : Type 0 where
-  pub behind_call : List Tree
-  pub behind_answer : List Tree
-  pub call_is : fields ≡ call_item call ∷ behind_call
-  pub answer_is : behind_call ≡ map answer_item (listed answer) ++ behind_answer
-  pub first : answer ≡ None → NotAhead answer_item behind_call
-  pub places_are : behind_answer ≡ map place_item places ++ rest
-  pub all : NotAhead place_item rest
+pub something_behind : (item : Tree) (children : Trees) (t u : TurnOf) (rest left : Trees) (next : Tree) → item ≡ structure turn_tag children → BeginsTurn (list_of children) t (list_of rest) → rest ≡ more next left
+    → item ≡ turn_item u → ArePayloads u.fills → AreBirths u.births → ⊥
+something_behind item children t u rest left next e b some f payloads attributes =
+    let taken = all_taken (list_of children) t u (list_of rest) b payloads attributes (children_are item children u e f) in
+    absurd (let clash : next ∷ list_of left ≡ [] = sym (ap list_of some) ∙ taken in cc)
 
--- after them are the fills
-fills_behind : (fields : List Tree) (call : ℤ) (answer : Option (List ℕ)) (places : List ℤ) (rest : List Tree) → IsSplitTurn fields call answer places rest
-    → (t : TurnOf) → fields ≡ turn_fields t → rest ≡ map fill_item t.fills
-fills_behind fields call answer places rest s t e =
-    let both : call_item call ∷ s.behind_call ≡ turn_fields t = sym s.call_is ∙ e in
-    let behind : s.behind_call ≡ map answer_item (listed t.answer) ++ (map place_item t.places ++ map fill_item t.fills) = cc in
-    let unanswered = not_behind answer s.behind_call s.behind_answer s.answer_is s.first t.answer t.places t.fills behind in
-    (front_once place_item place_once places t.places rest (map fill_item t.fills) s.all (no_place_in_fills t.fills) (sym s.places_are ∙ unanswered)).1
+fields_read : (fields : List Tree) (t : TurnOf) → BeginsTurn fields t [] → fields ≡ turn_fields t
+fields_read fields t b =
+    let born : b.behind_fills ≡ behind_fills t = b.births.are ∙ ap (λ (l : List Tree). map birth_item t.births ++ l) (b.asides.are ∙ append-nil (behind_births t)) in
+    let timed : b.behind_places ≡ behind_places t = b.moment.are ∙ ap (λ (l : List Tree). map moment_item (listed t.moment) ++ l) (b.fills.are ∙ ap (λ (l : List Tree). map fill_item t.fills ++ l) born) in
+    let answered : b.behind_call ≡ map answer_item (listed t.answer) ++ behind_answer t
+    = b.answer.are ∙ ap (λ (l : List Tree). map answer_item (listed t.answer) ++ l) (b.places.are ∙ ap (λ (l : List Tree). map place_item t.places ++ l) timed) in
+    b.call ∙ ap (λ (l : List Tree). call_item t.call ∷ l) answered
 
-pub no_fills : (item : Tree) (children : Trees) (call : ℤ) (answer : Option (List ℕ)) (places : List ℤ) (rest : List Tree) → item ≡ structure turn_tag children
-    → IsSplitTurn (list_of children) call answer places rest → ((fills : List FillOf) → ArePayloads fills → rest ≡ map fill_item fills → ⊥)
-    → (t : TurnOf) → ArePayloads t.fills → item ≡ turn_item t → ⊥
-no_fills item children call answer places rest e s isnt t payloads f = isnt t.fills payloads (fills_behind (list_of children) call answer places rest s t (children_are item children t e f))
+pub turn_read : (item : Tree) (children : Trees) (t : TurnOf) (rest : Trees) → item ≡ structure turn_tag children → BeginsTurn (list_of children) t (list_of rest) → rest ≡ none
+    → (item ≡ turn_item t) × ArePayloads t.fills × AreBirths t.births
+turn_read item children t rest e b end =
+    let whole : BeginsTurn (list_of children) t [] = subst (λ (ts : Trees). BeginsTurn (list_of children) t (list_of ts)) end b in
+    (e ∙ ap (structure turn_tag) (forest_list children ∙ ap (forest (λ (u : Tree). u)) (fields_read (list_of children) t whole)), whole.fills.each, whole.births.each)
 
-pub turn_read : (item : Tree) (children : Trees) (call : ℤ) (answer : Option (List ℕ)) (places : List ℤ) (fills : List FillOf) (rest : List Tree) → item ≡ structure turn_tag children
-    → IsSplitTurn (list_of children) call answer places rest → rest ≡ map fill_item fills → item ≡ turn_item (turn_with call answer places fills)
-turn_read item children call answer places fills rest e s f =
-    let behind : s.behind_call ≡ map answer_item (listed answer) ++ (map place_item places ++ map fill_item fills)
-    = s.answer_is ∙ ap (λ (l : List Tree). map answer_item (listed answer) ++ l) (s.places_are ∙ ap (λ (l : List Tree). map place_item places ++ l) f) in
-    let fields : list_of children ≡ turn_fields (turn_with call answer places fills) = s.call_is ∙ ap (λ (l : List Tree). call_item call ∷ l) behind in
-    e ∙ ap (structure turn_tag) (forest_list children ∙ ap (forest (λ (t : Tree). t)) fields)
-
--- ---- fills
-
--- an item that is no fill
-pub other_item : (before after : List Tree) (item : Tree) (fills : List FillOf) → ((fill : FillOf) → IsPayload fill.payload → item ≡ fill_item fill → ⊥) → ArePayloads fills
-    → before ++ item ∷ after ≡ map fill_item fills → ⊥
-other_item before after item fills isnt payloads e =
-    let cut = cut_values fill_item fills before after item e in
-    let all : ArePayloads (cut.before ++ cut.value ∷ cut.after) = subst ArePayloads cut.are payloads in
-    isnt cut.value (All-contains (λ (f : FillOf). IsPayload f.payload) (cut.before ++ cut.value ∷ cut.after) cut.value all (Contains-append_right cut.before (cut.value ∷ cut.after) cut.value (0, omega arith, refl))) cut.item_is
+-- one more value leads
+pub leads_more : {X : Type 0} (Is : X → Type 0) (item_of : X → Tree) (items left rest : List Tree) (xs : List X) (x : X) → items ≡ map item_of xs ++ left → left ≡ item_of x ∷ rest
+    → items ≡ map item_of (xs ++ x ∷ []) ++ rest
+leads_more Is item_of items left rest xs x e next =
+    e ∙ ap (λ (l : List Tree). map item_of xs ++ l) next ∙ sym (append_assoc (map item_of xs) (item_of x ∷ []) rest) ∙ ap (λ (l : List Tree). l ++ rest) (sym (map-append item_of xs (x ∷ [])))
 
 -- a list at one of its elements
 pub cut_here : {X : Type 0} (xs : List X) (i : ℕ) (x : X) → i < length xs → x ≡ get_or xs i x → xs ≡ take i xs ++ x ∷ drop (suc i) xs
 cut_here xs i x h is =
     sym (take-append-drop i xs) ∙ ap (λ (l : List _). take i xs ++ l) (drop-cons xs i x h ∙ ap (λ (y : _). y ∷ drop (suc i) xs) (sym is))
-
--- the fills that were taken of some items, and the items that are left
-pub record AreTaken (items left : Trees) (fills : List FillOf) : Type 0 where
-  pub are : list_of items ≡ map fill_item fills ++ list_of left
-  pub payloads : ArePayloads fills
-
-pub fills_stopped : (items left rest : Trees) (t : Tree) (taken : List FillOf) → AreTaken items left taken → left ≡ more t rest
-    → ((fill : FillOf) → IsPayload fill.payload → t ≡ fill_item fill → ⊥) → (fills : List FillOf) → ArePayloads fills → list_of items ≡ map fill_item fills → ⊥
-fills_stopped items left rest t taken before next isnt fills payloads e =
-    other_item (map fill_item taken) (list_of rest) t fills isnt payloads (ap (λ (l : List Tree). map fill_item taken ++ l) (sym (ap list_of next)) ∙ sym before.are ∙ e)
 
 -- ---- a turn that is written child by child
 
@@ -175,14 +245,22 @@ forest_items : (items : List Item) → trees items ≡ forest (λ (t : Tree). t)
 forest_items [] = refl
 forest_items (i ∷ items) = ap (more (tree i)) (forest_items items)
 
-pub turn_written : (item : Tree) (t : TurnOf) (first second third children : List Item) → item ≡ structure turn_tag (trees children) → map tree first ≡ call_item t.call ∷ []
-    → map tree second ≡ map tree first ++ map answer_item (listed t.answer) → map tree third ≡ map tree second ++ map place_item t.places → map tree children ≡ map tree third ++ map fill_item t.fills
-    → item ≡ turn_item t
-turn_written item t first second third children e a b c d =
-    let answers = map answer_item (listed t.answer) in
-    let places = map place_item t.places in
-    let fills = map fill_item t.fills in
+-- the items of a kind were put after the others
+abbrev pub Pushes : {X : Type 0} → (X → Tree) → List X → List Item → List Item → Type 0
+Pushes item_of xs old new = map tree new ≡ map tree old ++ map item_of xs
+
+step : (old new xs rest : List Tree) → new ≡ old ++ xs → new ++ rest ≡ old ++ (xs ++ rest)
+step old new xs rest e = ap (λ (l : List Tree). l ++ rest) e ∙ append_assoc old xs rest
+
+pub turn_written : (item : Tree) (t : TurnOf) (called answered placed timed filled born children : List Item) → item ≡ structure turn_tag (trees children) → map tree called ≡ call_item t.call ∷ []
+    → Pushes answer_item (listed t.answer) called answered → Pushes place_item t.places answered placed → Pushes moment_item (listed t.moment) placed timed → Pushes fill_item t.fills timed filled
+    → Pushes birth_item t.births filled born → Pushes aside_place_item t.asides born children → item ≡ turn_item t
+turn_written item t called answered placed timed filled born children e call answers places moments fills births asides =
     let fields : map tree children ≡ turn_fields t
-    = d ∙ ap (λ (l : List Tree). l ++ fills) (c ∙ ap (λ (l : List Tree). l ++ places) (b ∙ ap (λ (l : List Tree). l ++ answers) a))
-    ∙ ap (λ (l : List Tree). call_item t.call ∷ l) (append_assoc answers places fills) in
+    = asides ∙ step (map tree filled) (map tree born) (map birth_item t.births) (behind_births t) births
+    ∙ step (map tree timed) (map tree filled) (map fill_item t.fills) (behind_fills t) fills
+    ∙ step (map tree placed) (map tree timed) (map moment_item (listed t.moment)) (behind_moment t) moments
+    ∙ step (map tree answered) (map tree placed) (map place_item t.places) (behind_places t) places
+    ∙ step (map tree called) (map tree answered) (map answer_item (listed t.answer)) (behind_answer t) answers
+    ∙ ap (λ (l : List Tree). l ++ (map answer_item (listed t.answer) ++ behind_answer t)) call in
     e ∙ ap (structure turn_tag) (forest_items children ∙ ap (forest (λ (u : Tree). u)) fields)

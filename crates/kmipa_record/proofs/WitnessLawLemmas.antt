@@ -4,9 +4,9 @@ use Rattle.std.specs.Prelude.{All}
 use Rattle.std.proofs.lemmas.List.Elements.{Contains-append_right, All-contains}
 use Rattle.kmipa_ttlv.specs.Tree.{Tree}
 use Rattle.kmipa_record.specs.Marks.{IsCallNumber}
-use Rattle.kmipa_record.specs.Witnesses.{TurnOf, turn_item, witness_header, Admits, IsWitness, AreTurns, AreRightInWitness, WitnessItemFault, WitnessEndFault, TurnItemFault, no_turn, below_one, WitnessFault}
+use Rattle.kmipa_record.specs.Witnesses.{TurnOf, turn_item, witness_header, version_number, Admits, IsWitness, AreTurns, AreRightInWitness, WitnessItemFault, WitnessEndFault, TurnItemFault, no_turn, below_one, WitnessFault}
 use Rattle.kmipa_record.specs.declared.version.Version.{Version}
-use Rattle.kmipa_record.specs.declared.version.Version.TheVariants.{First, Second, Third}
+use Rattle.kmipa_record.specs.declared.version.Version.TheVariants.{First, Second, Third, Fourth}
 use Rattle.kmipa_record.specs.declared.fault.RecordKind.{RecordKind}
 use Rattle.kmipa_record.proofs.FirstFaultLemmas.{no_fault, one_fault, nothing_more, cut_values, values_once, compare, same, shorter, longer}
 use Rattle.kmipa_record.proofs.TranscriptLawLemmas.{not_below}
@@ -30,16 +30,16 @@ no_turn_fault version records more item kind right (below_one turn admitted e lo
     let number = value_at (λ t. IsCallNumber t.call) right.turns cut.before cut.after cut.value cut.are right.numbered in
     not_below cut.value.call number.least (subst (λ (t : TurnOf). t.call <ℤ pos 1) (sym one) low)
 
+-- a number has one version
+numbered_once : (a b : Version) → version_number a ≡ version_number b → a ≡ b
+numbered_once First First e = refl
+numbered_once Second Second e = refl
+numbered_once Third Third e = refl
+numbered_once Fourth Fourth e = refl
+numbered_once _ _ e = absurd cc
+
 version_once : (a b : Version) → witness_header a ≡ witness_header b → a ≡ b
-version_once First First e = refl
-version_once First Second e = absurd cc
-version_once First Third e = absurd cc
-version_once Second First e = absurd cc
-version_once Second Second e = refl
-version_once Second Third e = absurd cc
-version_once Third First e = absurd cc
-version_once Third Second e = absurd cc
-version_once Third Third e = refl
+version_once a b e = numbered_once a b (let same : version_number a ≡ version_number b = cc in same)
 
 no_faulty : (items more : List Tree) (item : Tree) (kind : RecordKind) → AreRightInWitness (items ++ item ∷ more) → WitnessItemFault items item kind → ⊥
 no_faulty [] more item kind right f = f.0 right.0 right.1

@@ -6,7 +6,7 @@ use Rattle.kmipa_ttlv.specs.Tree.{Tree}
 use Rattle.kmipa_record.specs.Files.{Tells}
 use Rattle.kmipa_record.specs.Marks.{IsCallNumber}
 use Rattle.kmipa_record.specs.Reading.{IsReading, Takes, ReadFails, HeaderFails}
-use Rattle.kmipa_record.specs.Witnesses.{TurnOf, turn_of, turn_item, witness_header, ArePayloads, Admits, AreRightInWitness, WitnessItemFault, WitnessEndFault, TurnItemFault, no_turn, below_one, WitnessFault, IsWitnessUpTo, IsWitness}
+use Rattle.kmipa_record.specs.Witnesses.{TurnOf, turn_of, turn_item, witness_header, ArePayloads, AreBirths, Admits, AreRightInWitness, WitnessItemFault, WitnessEndFault, TurnItemFault, no_turn, below_one, WitnessFault, IsWitnessUpTo, IsWitness}
 use Rattle.kmipa_record.specs.WitnessReading.{IsReadSoFar, RefusesTurn, no_memory, foreign, low}
 use Rattle.kmipa_record.specs.declared.fault.RecordFault.{RecordFault}
 use Rattle.kmipa_record.specs.declared.fault.RecordKind.{RecordKind}
@@ -54,10 +54,10 @@ item_fault file version turns item left after place place' kind s t wrong =
     (version, refl, wrong)
 
 pub no_turn_reported : (file : List ℕ) (version : Version) (turns : List TurnOf) (item : Tree) (left after : List ℕ) (place place' : ℕ) (failed : Bool)
-    → IsReadSoFar file version turns left place → Takes item left after place place' → ¬ ((turn : TurnOf) × (item ≡ turn_item turn) × ArePayloads turn.fills)
+    → IsReadSoFar file version turns left place → Takes item left after place place' → ¬ ((turn : TurnOf) × (item ≡ turn_item turn) × ArePayloads turn.fills × AreBirths turn.births)
     → Tells WitnessFault IsWitnessUpTo file failed (record { offset = place; kind = Entry })
 no_turn_reported file version turns item left after place place' failed s t none =
-    item_fault file version turns item left after place place' Entry s t (no_turn (λ turn a e. none (turn, e, a.payloads)) refl)
+    item_fault file version turns item left after place place' Entry s t (no_turn (λ turn a e. none (turn, e, a.payloads, a.attributes)) refl)
 
 pub refused_reported : (file : List ℕ) (version : Version) (turns : List TurnOf) (turn : TurnOf) (left after : List ℕ) (place place' : ℕ) (failed : Bool) (f : RecordFault)
     → IsReadSoFar file version turns left place → Takes (turn_item turn) left after place place' → f.offset ≡ place → RefusesTurn version turn f.kind

@@ -17,8 +17,7 @@ use Rattle.kmipa_ttlv.proofs.SpellLemmas.{spells_legal}
 use Rattle.kmipa_ttlv.specs.declared.item.Item.{Item}
 use Rattle.kmipa_ttlv.specs.declared.item.Value.{Value, Structure'}
 use Rattle.kmipa_attrs.specs.Fields.{tag_of}
-use Rattle.kmipa_attrs.specs.Tags.{response_payload}
-use Rattle.kmipa_record.specs.Witnesses.{IsPayload}
+use Rattle.kmipa_record.specs.WitnessReading.{IsStructure}
 use Rattle.kmipa_record.specs.Writing.{Adds, AddsAll, Refused, starved, refused}
 use Rattle.kmipa_record.specs.declared.fault.RecordKind.{RecordKind}
 use Rattle.kmipa_record.proofs.TurnLemmas.{cut_here}
@@ -91,14 +90,14 @@ pub legal_in : (before after : List Tree) (item : Tree) (bytes rest : List ℕ) 
 legal_in [] after item bytes rest b = spells_legal item b.0 b.3
 legal_in (t ∷ before) after item bytes rest b = legal_in before after item b.1 rest b.4
 
--- ---- payloads
+-- ---- structures
 
 tag_of-item : (n : ℕ) (v : Value) → tag_of (value_tree n v) ≡ n
 tag_of-item n (Structure' shape row) = refl
 tag_of-item n _ = refl
 
-pub other_payload : (item : Item) → (item.tag.number ≡ response_payload → ⊥) → IsPayload (tree item) → ⊥
-other_payload item ne p = ne (sym (tag_of-item item.tag.number item.value) ∙ ap tag_of p.is)
+pub other_structure : (item : Item) (tag : ℕ) → (item.tag.number ≡ tag → ⊥) → IsStructure tag (tree item) → ⊥
+other_structure item tag ne s = ne (sym (tag_of-item item.tag.number item.value) ∙ ap tag_of s.is)
 
 -- ---- refusals
 

@@ -8,25 +8,41 @@ use Rattle.std.proofs.Math.ListN.{get_or-append}
 use Rattle.kmipa_ttlv.specs.Tree.{Tree}
 use Rattle.kmipa_ttlv.specs.Stream.{Begins}
 use Rattle.kmipa_ttlv.specs.Written.{spelling, Legal}
-use Rattle.kmipa_record.specs.Witnesses.{TurnOf, turn_item, witness_header, version_number, IsWitness}
+use Rattle.kmipa_record.specs.Witnesses.{TurnOf, turn_item, witness_header, version_number, ArePayloads, AreBirths, Admits, IsWitness}
 use Rattle.kmipa_record.specs.Writing.{Appends, IsWrittenWitness, Unwritten, no_memory, no_file, AddsAll, Refused, starved, refused, IsWritable, Serves, IsLowest}
 use Rattle.kmipa_record.specs.declared.fault.RecordKind.{RecordKind}
 use Rattle.kmipa_record.specs.declared.version.Version.{Version}
-use Rattle.kmipa_record.specs.declared.version.Version.TheVariants.{First, Second, Third}
+use Rattle.kmipa_record.specs.declared.version.Version.TheVariants.{First, Second, Third, Fourth}
 use Rattle.kmipa_record.proofs.WritingLemmas.{mapped_here, one_of, begins_spelled, legal_in}
 
 -- ---- versions
 
-serves_up : (v w : Version) (t : TurnOf) → version_number v ≤ version_number w → Serves v t → Serves w t
-serves_up First First t le s = s
-serves_up First Second t le s = record { answered = λ h e. absurd cc; ordered = λ h. absurd (let n = s.ordered h in cc) }
-serves_up First Third t le s = record { answered = λ h e. absurd cc; ordered = λ h. refl }
-serves_up Second First t le s = absurd (omega (arith, le))
-serves_up Second Second t le s = s
-serves_up Second Third t le s = record { answered = λ h e. absurd cc; ordered = λ h. refl }
-serves_up Third First t le s = absurd (omega (arith, le))
-serves_up Third Second t le s = absurd (omega (arith, le))
-serves_up Third Third t le s = s
+-- the versions from the fourth on are the fourth
+fourth : (w : Version) → 4 ≤ version_number w → w ≡ Fourth
+fourth First le = absurd (omega (arith, le))
+fourth Second le = absurd (omega (arith, le))
+fourth Third le = absurd (omega (arith, le))
+fourth Fourth le = refl
+
+still_fourth : (v w : Version) → version_number v ≤ version_number w → v ≡ Fourth → w ≡ Fourth
+still_fourth v w le e = fourth w (subst (λ (x : Version). version_number x ≤ version_number w) e le)
+
+pub serves_up : (v w : Version) (t : TurnOf) → version_number v ≤ version_number w → Serves v t → Serves w t
+serves_up v w t le s = record {
+  answered = λ h. omega (arith, le, s.answered h);
+  ordered = λ h. omega (arith, le, s.ordered h);
+  timed = λ h. still_fourth v w le (s.timed h);
+  born = λ h. still_fourth v w le (s.born h);
+  aside = λ h. still_fourth v w le (s.aside h);
+}
+
+-- what a version admits, and what it serves
+pub admits_served : (v : Version) (t : TurnOf) → ArePayloads t.fills → AreBirths t.births → Serves v t → Admits v t
+admits_served v t payloads attributes s =
+    record { answered = s.answered; ordered = s.ordered; timed = s.timed; born = s.born; aside = s.aside; payloads = payloads; attributes = attributes }
+
+pub served : (v : Version) (t : TurnOf) → Admits v t → Serves v t
+served v t a = record { answered = a.answered; ordered = a.ordered; timed = a.timed; born = a.born; aside = a.aside }
 
 front_all : (P : TurnOf → Type 0) (turns : List TurnOf) (turn : TurnOf) → All P (turns ++ turn ∷ []) → All P turns
 front_all P turns turn all = λ k d h. subst P (get_or-append turns (turn ∷ []) d k h) (all k d (omega (arith, h, length-append turns (turn ∷ []))))
@@ -55,6 +71,7 @@ writable bytes turns w = λ k d h.
     record {
       number = w.numbered k d h;
       payloads = (w.admitted k d h).payloads;
+      attributes = (w.admitted k d h).attributes;
       legal = legal_in (witness_header w.version ∷ map turn_item (take k turns)) (map turn_item (drop (suc k) turns)) (turn_item t) bytes []
           (subst (λ (l : List Tree). Begins (witness_header w.version ∷ l) bytes []) (mapped_here turn_item turns k t h (get_or_default turns k d t h)) w.spelled);
     }
@@ -73,9 +90,9 @@ written turns version old new all low able = record {
     is = record {
       version = version;
       spelled = begins_spelled (witness_header version ∷ map turn_item turns) all.spelled;
-      admitted = λ k d h. record { answered = (low.serves k d h).answered; ordered = (low.serves k d h).ordered; payloads = (able k d h).payloads };
+      admitted = λ k d h. admits_served version (get_or turns k d) (able k d h).payloads (able k d h).attributes (low.serves k d h);
       numbered = λ k d h. (able k d h).number;
     };
-    lowest = λ other a. low.least other (λ k d h. record { answered = (a k d h).answered; ordered = (a k d h).ordered });
+    lowest = λ other a. low.least other (λ k d h. served other (get_or turns k d) (a k d h));
   };
 }

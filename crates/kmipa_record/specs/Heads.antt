@@ -14,7 +14,7 @@ abbrev pub label_of : Label → LabelOf
 label_of label = record { recording = string_bytes label.recording; segment = label.segment; previous = label.previous }
 
 abbrev pub head_of : Head → HeadOf
-head_of head = record { seal = head.seal; moment = head.moment; records = head.records; closed = head.closed }
+head_of head = record { seal = head.seal; ahead = head.ahead; moment = head.moment; records = head.records; closed = head.closed }
 
 abbrev pub content_of : Content → ContentOf
 content_of (Mark mark) = marked (mark_of mark)

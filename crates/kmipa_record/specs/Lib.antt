@@ -23,3 +23,4 @@ pub mod WitnessReading
 pub mod Writing
 pub mod DeclarationWriting
 pub mod MarkReading
+pub mod Torn

@@ -90,16 +90,18 @@ pub record IsRecord (r : SealedOf) : Type 0 where
 
 -- ---- records behind each other
 
--- what is known behind some records: the last seal and moment, how many there are beside a close, and whether one was the close
+-- what is known behind some records: the last seal, the one that its record stands behind, the last moment, how many there are beside a
+-- close, and whether one was the close
 pub record HeadOf : Type 0 where
   pub seal : List ℕ
+  pub ahead : List ℕ
   pub moment : Option ℤ
   pub records : ℕ
   pub closed : Bool
 
 -- behind a header of these bytes, which stands for its seal
 abbrev pub head_at : List ℕ → HeadOf
-head_at header = record { seal = sha256 header; moment = None; records = 0; closed = false }
+head_at header = record { seal = sha256 header; ahead = sha256 header; moment = None; records = 0; closed = false }
 
 abbrev pub is_close : ContentOf → Bool
 is_close (marked mark) = false
@@ -113,7 +115,7 @@ counted (closed records) = 0
 
 -- a count stops at the greatest u64
 abbrev pub behind : HeadOf → SealedOf → HeadOf
-behind head r = record { seal = seal_in r.bytes; moment = Some r.moment; records = min (head.records + counted r.content) (2 ^ 64 - 1); closed = is_close r.content }
+behind head r = record { seal = seal_in r.bytes; ahead = head.seal; moment = Some r.moment; records = min (head.records + counted r.content) (2 ^ 64 - 1); closed = is_close r.content }
 
 -- a close tells how many records are ahead of it
 abbrev pub TellsRecords : ℕ → ContentOf → Type 0

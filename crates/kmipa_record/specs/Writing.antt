@@ -10,7 +10,7 @@ use Rattle.kmipa_record.specs.Entries.{EntryOf}
 use Rattle.kmipa_record.specs.Settings.{plain_settings}
 use Rattle.kmipa_record.specs.Marks.{IsCallNumber, MarkOf, mark_item, AreRecorded}
 use Rattle.kmipa_record.specs.Transcripts.{IsPlainTranscript}
-use Rattle.kmipa_record.specs.Witnesses.{TurnOf, turn_item, version_number, Admits, IsWitness, ArePayloads}
+use Rattle.kmipa_record.specs.Witnesses.{TurnOf, turn_item, version_number, Admits, IsWitness, ArePayloads, AreBirths}
 use Rattle.kmipa_record.specs.declared.fault.RecordFault.{RecordFault}
 use Rattle.kmipa_record.specs.declared.fault.RecordKind.{RecordKind}
 use Rattle.kmipa_record.specs.declared.fault.RecordKind.TheVariants.{Entry, Memory}
@@ -18,7 +18,7 @@ use Rattle.kmipa_record.specs.declared.declaration_version.DeclarationVersion.Th
 use Rattle.kmipa_record.specs.declared.reach.Reach.{Reach}
 use Rattle.kmipa_record.specs.declared.reach.Reach.TheVariants.{Judged}
 use Rattle.kmipa_record.specs.declared.version.Version.{Version}
-use Rattle.kmipa_record.specs.declared.version.Version.TheVariants.{First, Third}
+use Rattle.kmipa_record.specs.declared.version.Version.TheVariants.{Fourth}
 
 -- these bytes were appended, and they are as the word says
 pub record Appends (Is : List ℕ → Type 0) (old new : List ℕ) : Type 0 where
@@ -94,12 +94,16 @@ pub record AreWritable (marks : List MarkOf) : Type 0 where
 pub record IsWritable (turn : TurnOf) : Type 0 where
   pub number : IsCallNumber turn.call
   pub payloads : ArePayloads turn.fills
+  pub attributes : AreBirths turn.births
   pub legal : Legal 16 (turn_item turn)
 
--- a version that has such turns, whatever their fills are
+-- a version that has such turns, whatever their fills and births are
 pub record Serves (version : Version) (turn : TurnOf) : Type 0 where
-  pub answered : IsSome turn.answer → version ≢ First
-  pub ordered : turn.places ≢ [] → version ≡ Third
+  pub answered : IsSome turn.answer → 2 ≤ version_number version
+  pub ordered : turn.places ≢ [] → 3 ≤ version_number version
+  pub timed : IsSome turn.moment → version ≡ Fourth
+  pub born : turn.births ≢ [] → version ≡ Fourth
+  pub aside : turn.asides ≢ [] → version ≡ Fourth
 
 -- the lowest such version
 pub record IsLowest (version : Version) (turns : List TurnOf) : Type 0 where

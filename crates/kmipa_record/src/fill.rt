@@ -1,15 +1,16 @@
 //! Fills: the payloads that a witness puts in where a response leaves them out.
 
-ghost use Rattle.std.specs.Prelude.{◌≡◌, ◌≢◌, ◌↔◌, ◌++◌, List, map, IsTrue, IfOk, OnOk, MatchOption};
+ghost use Rattle.std.specs.Prelude.{◌≡◌, ◌≢◌, ◌↔◌, ◌∷◌, ◌++◌, List, map, IsTrue, IfOk, OnOk, MatchOption};
+ghost use Rattle.kmipa_ttlv.specs.Tree.{Tree};
 ghost use Rattle.kmipa_ttlv.specs.ItemTree.{tree};
 ghost use Rattle.kmipa_ttlv.specs.ViewTree.{view_tree, view_trees};
 ghost use Rattle.kmipa_record.specs.Witnesses.{FillOf, fill_of, fill_item, IsPayload, ArePayloads};
-ghost use Rattle.kmipa_record.specs.WitnessReading.{list_of};
+ghost use Rattle.kmipa_record.specs.WitnessReading.{HasPayload, Leads, list_of};
 
-use crate::shape::{children_of, integer_of};
-use crate::tags::{FILL, FILLED_ITEM};
+use crate::placed::{is_structure, placed_in, write_placed};
+use crate::tags::FILL;
 use kmipa_attrs::tags::RESPONSE_PAYLOAD;
-use kmipa_ttlv::{Children, Item, Tag, Value, View, copy_item, lend};
+use kmipa_ttlv::{Children, Item, View, copy_item};
 use std::alloc::{AllocError, Global};
 
 /// A payload that a response leaves out.
@@ -21,54 +22,50 @@ pub struct Fill {
     pub payload: Item,
 }
 
-/// The fills that items are, each of them one.
-pub fn fills_in(alloc: Global, items: Children) -> Result<Option<Vec<Fill>>, AllocError>
+/// The fills that the children begin with, and the children after them.
+pub fn fills_before<'a>(
+    alloc: Global,
+    children: Children<'a>,
+) -> Result<(Vec<Fill>, Children<'a>), AllocError>
     ensures { IfOk result
-        (λ o. MatchOption o
-        ((fills : List FillOf) → ArePayloads fills → list_of (view_trees items.entry) ≢ map fill_item fills)
-        (λ fills. (list_of (view_trees items.entry) ≡ map fill_item (map fill_of fills.items))
-        × ArePayloads (map fill_of fills.items))) }
+        (λ r. Leads HasPayload fill_item (list_of (view_trees children.entry)) (map fill_of r.0.items)
+        (list_of (view_trees r.1))) }
 {
     let mut fills = Vec::new(alloc);
-    let mut left = items;
-    'items: while let Some(item) = left.next() {
-        match fill_in(alloc, &item)? {
-            Some(fill) => fills.push(fill)?,
-            None => return Ok(None),
-        }
+    let mut left = children;
+    'fills: while let Some((fill, rest)) = fill_before(alloc, left)? {
+        fills.push(fill)?;
+        left = rest;
     }
-    Ok(Some(fills))
+    Ok((fills, left))
 }
 
-/// The fill that an item is.
-fn fill_in(alloc: Global, item: &View) -> Result<Option<Fill>, AllocError>
+/// The fill that the children begin with, and the children after it.
+fn fill_before<'a>(
+    alloc: Global,
+    children: Children<'a>,
+) -> Result<Option<(Fill, Children<'a>)>, AllocError>
     ensures { IfOk result
-        (λ o. MatchOption o ((fill : FillOf) → IsPayload fill.payload → view_tree item.now ≢ fill_item fill)
-        (λ fill. (view_tree item.now ≡ fill_item (fill_of fill)) × IsPayload (fill_of fill).payload)) }
+        (λ o. MatchOption o
+        ((fill : FillOf) (more : List Tree) → IsPayload fill.payload
+        → list_of (view_trees children.entry) ≢ fill_item fill ∷ more)
+        (λ r. (list_of (view_trees children.entry) ≡ fill_item (fill_of r.0) ∷ list_of (view_trees r.1))
+        × IsPayload (fill_of r.0).payload)) }
 {
-    match parts_in(item) {
-        Some((number, payload)) => Ok(Some(Fill {
-            item: number,
-            payload: copy_item(alloc, &payload)?,
-        })),
+    let mut rest = children;
+    let Some(item) = rest.next() else {
+        return Ok(None);
+    };
+    match placed_in(&item, FILL, RESPONSE_PAYLOAD) {
+        Some((place, payload)) => Ok(Some((
+            Fill {
+                item: place,
+                payload: copy_item(alloc, &payload)?,
+            },
+            rest,
+        ))),
         None => Ok(None),
     }
-}
-
-/// The item and the payload of a fill.
-fn parts_in<'a>(item: &View<'a>) -> Option<(i32, View<'a>)>
-    ensures { MatchOption result ((fill : FillOf) → IsPayload fill.payload → view_tree item.now ≢ fill_item fill)
-        (λ parts. (view_tree item.now ≡ fill_item (record { item = parts.0; payload = view_tree parts.1 }))
-        × IsPayload (view_tree parts.1)) }
-{
-    let mut children = children_of(item, FILL)?;
-    let number = integer_of(&children.next()?, FILLED_ITEM)?;
-    let payload = children.next()?;
-    children_of(&payload, RESPONSE_PAYLOAD)?;
-    if children.next().is_some() {
-        return None;
-    }
-    Some((number, payload))
 }
 
 /// Puts the items that say the fills after the others.
@@ -77,25 +74,9 @@ pub fn push_fills(alloc: Global, children: &mut Vec<Item>, fills: &[Fill]) -> Re
         (map tree children.new.items ≡ map tree children.old.items ++ map fill_item (map fill_of fills.now)) }
 {
     for fill in fills {
-        children.push(write_fill(alloc, fill)?)?;
+        children.push(write_placed(alloc, FILL, fill.item, &fill.payload)?)?;
     }
     Ok(())
-}
-
-fn write_fill(alloc: Global, fill: &Fill) -> Result<Item, AllocError>
-    ensures { IfOk result (λ item. tree item ≡ fill_item (fill_of fill.now)) }
-{
-    let number = Item::integer(
-        Tag {
-            number: FILLED_ITEM,
-        },
-        fill.item,
-    );
-    let payload = copy_item(alloc, &lend(&fill.payload))?;
-    let mut parts = Vec::with_capacity(alloc, 2)?;
-    parts.push(number)?;
-    parts.push(payload)?;
-    Ok(Item::structure(Tag { number: FILL }, parts))
 }
 
 /// Whether each payload is a Response Payload.
@@ -113,11 +94,5 @@ pub fn are_payloads(fills: &[Fill]) -> bool
 fn is_payload(item: &Item) -> bool
     ensures { IsTrue result ↔ IsPayload (tree item.now) }
 {
-    if item.tag.number != RESPONSE_PAYLOAD {
-        return false;
-    }
-    match &item.value {
-        Value::Structure(_) => true,
-        _ => false,
-    }
+    is_structure(item, RESPONSE_PAYLOAD)
 }

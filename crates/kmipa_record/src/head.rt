@@ -1,6 +1,7 @@
 //! Heads: what is known of a sealed transcript, as far as it was read.
 
-ghost use Rattle.std.specs.Prelude.{◌≡◌, ◌↔◌, ◌≤ℤ◌, IsTrue, IfSome, MatchOption, MatchResult};
+ghost use Rattle.std.specs.Prelude.{◌≡◌, ◌↔◌, ◌++◌, ◌≤ℤ◌, false, IsTrue, IfSome, MatchOption, MatchResult};
+ghost use Rattle.sha2.specs.Sha256.{sha256};
 ghost use Rattle.kmipa_record.specs.Heads.{content_of, head_of, sealed_of};
 ghost use Rattle.kmipa_record.specs.Seals.{IsSealed, seal_in, head_at, behind, is_close, TellsRecords, MayStand, StandFault};
 
@@ -10,7 +11,7 @@ use crate::sealed_record::{Content, SealedRecord};
 use sha2::{Digest, Sha256};
 
 /// How long a seal is, in bytes.
-const SEAL_LENGTH: usize = 32;
+pub(crate) const SEAL_LENGTH: usize = 32;
 
 /// The end of a sealed transcript, as far as it was read, and by its seal all that stands ahead.
 #[derive(Drop)]
@@ -18,6 +19,8 @@ pub struct Head {
     pub label: Label,
     /// The last seal.
     pub seal: [u8; 32],
+    /// The seal that the last record stands behind.
+    pub ahead: [u8; 32],
     /// The last moment, in microseconds since 1970-01-01T00:00:00Z, if there is a record.
     pub moment: Option<i64>,
     /// How many records there are beside a close.
@@ -32,11 +35,38 @@ impl Head {
         ensures behind_header { head_of result ≡ head_at header.now }
         ensures label { result.label ≡ label }
     {
+        let seal = Sha256::digest(header);
+        let ahead = seal;
         Head {
             label,
-            seal: Sha256::digest(header),
+            seal,
+            ahead,
             moment: None,
             records: 0,
+            closed: false,
+        }
+    }
+
+    /// The same without the close that is its last record.
+    pub fn without_close(self) -> Head
+        ensures label { result.label ≡ self.label }
+        ensures seal { result.seal ≡ self.ahead }
+        ensures unclosed { result.closed ≡ false }
+    {
+        let Head {
+            label,
+            ahead,
+            moment,
+            records,
+            ..
+        } = self;
+        let seal = ahead;
+        Head {
+            label,
+            seal,
+            ahead,
+            moment,
+            records,
             closed: false,
         }
     }
@@ -61,6 +91,8 @@ impl Head {
         if is_earlier(taken.moment, self.moment) {
             return Err(RecordKind::Order);
         }
+        let ahead = self.seal;
+        self.ahead = ahead;
         self.seal = seal;
         self.moment = Some(taken.moment);
         match taken.content {
@@ -69,6 +101,16 @@ impl Head {
         }
         Ok(())
     }
+}
+
+/// The seal of a record that has these bytes ahead of it, behind the seal before.
+pub(crate) fn seal_of(before: &[u8; 32], ahead: &[u8]) -> [u8; 32]
+    ensures { result ≡ sha256 (before.now ++ ahead.now) }
+{
+    let mut hasher = Sha256::new();
+    hasher.update(before.as_slice());
+    hasher.update(ahead);
+    hasher.finalize()
 }
 
 /// The seal of a record, where it is that behind the seal before.
@@ -80,10 +122,7 @@ fn seal_behind(before: &[u8; 32], bytes: &[u8]) -> Option<[u8; 32]>
         return None;
     }
     let (ahead, told) = bytes.split_at(bytes.len() - SEAL_LENGTH);
-    let mut hasher = Sha256::new();
-    hasher.update(before.as_slice());
-    hasher.update(ahead);
-    let seal = hasher.finalize();
+    let seal = seal_of(before, ahead);
     if seal.as_slice() != told {
         return None;
     }

@@ -1,8 +1,10 @@
 //! Laws of the three files: bytes are one file, or have one first fault.
 
-ghost use Rattle.std.specs.Prelude.{◌≡◌, ℕ, List};
+ghost use Rattle.std.specs.Prelude.{◌≡◌, ℕ, List, true};
 ghost use Rattle.kmipa_record.specs.Declarations.{DeclarationOf, IsDeclarationWithin, DeclarationFaultWithin};
 ghost use Rattle.kmipa_record.specs.Marks.{MarkOf};
+ghost use Rattle.kmipa_record.specs.Seals.{HeadOf, LabelOf, Sealed, SealedOf};
+ghost use Rattle.kmipa_record.specs.Torn.{SealedAhead};
 ghost use Rattle.kmipa_record.specs.Transcripts.{IsTranscript, TranscriptFault};
 ghost use Rattle.kmipa_record.specs.Witnesses.{TurnOf, IsWitness, WitnessFault};
 ghost use Rattle.kmipa_record.specs.declared.fault.RecordKind.{RecordKind};
@@ -60,4 +62,10 @@ pub fn no_fault_of_witness()
 pub fn one_witness_fault()
     ensures { (bytes : List ℕ) (o p : ℕ) (j k : RecordKind) → WitnessFault bytes o j → WitnessFault bytes p k → (o ≡ p)
         × (j ≡ k) }
+{}
+
+/// Where an unbroken run of records has its close, it is one up to the seal ahead of the close, too.
+pub fn sealed_ahead_of_close()
+    ensures { (bytes : List ℕ) (label : LabelOf) (records : List SealedOf) (head : HeadOf)
+        → Sealed bytes label records head → head.closed ≡ true → SealedAhead bytes label head.ahead }
 {}

@@ -10,6 +10,7 @@ mod admitting;
 mod allow_line;
 mod append;
 mod aside;
+mod birth;
 mod calls;
 mod declaration;
 mod declaration_header;
@@ -30,6 +31,7 @@ mod marks;
 mod number_map;
 mod own_attribute;
 mod own_line;
+mod placed;
 mod reach;
 mod record;
 mod recorded_marks;
@@ -41,6 +43,7 @@ mod settings;
 mod shape;
 mod tags;
 mod taking;
+mod torn;
 mod transcript;
 mod transcript_writing;
 mod turn;
@@ -49,6 +52,7 @@ mod witness;
 mod witness_writing;
 
 pub use allow_line::is_new_cell;
+pub use birth::Birth;
 pub use declaration::{
     Declaration, read_declaration, read_declaration_into, read_declaration_within,
 };
@@ -62,6 +66,7 @@ pub use label::Label;
 pub use laws::{
     no_fault_of_declaration, no_fault_of_transcript, no_fault_of_witness, one_declaration,
     one_declaration_fault, one_transcript, one_transcript_fault, one_witness, one_witness_fault,
+    sealed_ahead_of_close,
 };
 pub use marks::Marks;
 pub use number_map::NumberMap;
@@ -70,6 +75,7 @@ pub use reach::Reach;
 pub use recorded_marks::RecordedMarks;
 pub use settings::Settings;
 pub use taking::TakesRecords;
+pub use torn::{Torn, complete};
 pub use transcript::{Begin, End, Mark, Transcript, read_transcript};
 pub use transcript_writing::write_transcript;
 pub use turn::Turn;

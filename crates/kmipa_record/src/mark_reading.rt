@@ -85,7 +85,7 @@ fn read_start<R: Read>(
 }
 
 /// What a transcript is known by behind a header of these bytes, if it is sealed.
-fn head_behind(header: TranscriptHeader, bytes: &[u8]) -> Option<Head>
+pub(crate) fn head_behind(header: TranscriptHeader, bytes: &[u8]) -> Option<Head>
     ensures { MatchOption header.label (result ≡ None)
         (λ label. MatchOption result ⊥ (λ head. (head_of head ≡ head_at bytes.now) × (head.label ≡ label))) }
 {

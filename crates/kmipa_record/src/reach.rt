@@ -27,7 +27,7 @@ impl Reach {
         match self {
             Reach::Whole => true,
             Reach::Judged => match (settings.unjudged, settings.visibility) {
-                (Unjudged::Refused, Visibility::Everyone) => settings.tolerance == 0,
+                (Unjudged::Refused, Visibility::Everyone) => true,
                 _ => false,
             },
         }

@@ -5,14 +5,14 @@ ghost use Rattle.std.specs.Io.{StartsWith, appended_bytes};
 ghost use Rattle.kmipa_ttlv.specs.Input.{came_of, taken_of, is_ended, is_failed, LeavesBelow, EndsWith, IsFileOf, StaysOver};
 ghost use Rattle.kmipa_record.specs.Files.{Tells, TellsItem};
 ghost use Rattle.kmipa_record.specs.Marks.{IsCallNumber};
-ghost use Rattle.kmipa_record.specs.Witnesses.{turn_of, witness_of, ArePayloads, Admits, IsWitness, WitnessFault, IsWitnessUpTo};
+ghost use Rattle.kmipa_record.specs.Witnesses.{turn_of, witness_of, ArePayloads, AreBirths, Admits, IsWitness, WitnessFault, IsWitnessUpTo};
 ghost use Rattle.kmipa_record.specs.WitnessReading.{IsReadSoFar, RefusesTurn};
 
 use crate::fault::{RecordFault, RecordKind};
 use crate::header::WitnessHeader;
 use crate::record::{Next, read_header, read_next};
 use crate::turn::Turn;
-use crate::version::Version;
+use crate::version::{Version, needed};
 use kmipa_ttlv::Input;
 use std::alloc::Global;
 use std::io::Read;
@@ -93,7 +93,7 @@ fn keep_turn(
     turn: Turn,
     offset: u64,
 ) -> Result<(), RecordFault>
-    requires { ArePayloads (turn_of turn).fills }
+    requires { ArePayloads (turn_of turn).fills × AreBirths (turn_of turn).births }
     ensures { MatchResult result
         (λ _. Admits version (turn_of turn) × IsCallNumber turn.call × (turns.new.items ≡ turns.old.items ++ turn ∷ []))
         (λ f. (f.offset ≡ offset) × RefusesTurn version (turn_of turn) f.kind) }
@@ -121,12 +121,8 @@ fn keep_turn(
 
 /// Whether a witness of this version may have the turn.
 fn admits(version: Version, turn: &Turn) -> bool
-    requires { ArePayloads (turn_of turn.now).fills }
+    requires { ArePayloads (turn_of turn.now).fills × AreBirths (turn_of turn.now).births }
     ensures { IsTrue result ↔ Admits version (turn_of turn.now) }
 {
-    match version {
-        Version::First => turn.answer.is_none() && turn.places.is_empty(),
-        Version::Second => turn.places.is_empty(),
-        Version::Third => true,
-    }
+    needed(turn).number() <= version.number()
 }

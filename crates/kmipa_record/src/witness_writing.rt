@@ -1,24 +1,25 @@
 //! Witnesses that are written, in the lowest version that serves.
 
-ghost use Rattle.std.specs.Prelude.{◌≡◌, ◌≤◌, ◌∷◌, [], None, true, map, All, OnOk, IfErr};
+ghost use Rattle.std.specs.Prelude.{◌≡◌, ◌∷◌, true, map, All, OnOk, IfErr};
 ghost use Rattle.std.specs.Io.{StartsWith};
 ghost use Rattle.kmipa_ttlv.specs.Written.{Legal};
-ghost use Rattle.kmipa_record.specs.Witnesses.{TurnOf, turn_of, turn_item, witness_of, witness_header, version_number, IsWitness};
-ghost use Rattle.kmipa_record.specs.Writing.{Appends, IsWrittenWitness, Unwritten, Adds, AddsAll, Refused, IsWritable, Serves, IsLowest};
+ghost use Rattle.kmipa_record.specs.Witnesses.{bare_turn, turn_of, turn_item, witness_of, witness_header, IsWitness};
+ghost use Rattle.kmipa_record.specs.Writing.{Appends, IsWrittenWitness, Unwritten, Adds, AddsAll, Refused, IsWritable, IsLowest};
 ghost use Rattle.kmipa_record.specs.declared.version.Version.{Version};
 
 use crate::append::append;
+use crate::birth::are_births;
 use crate::fault::{RecordFault, RecordKind};
 use crate::fill::are_payloads;
 use crate::header::write_witness_header;
 use crate::turn::{Turn, write_turn};
-use crate::version::{Version, newer};
+use crate::version::{Version, needed, newer};
 use crate::witness::Witness;
 use std::alloc::Global;
 
 /// Appends a witness of these turns, in the lowest version that serves.
 ///
-/// `Entry` at 0 where no bytes are one: a call number below 1, a payload that is none, a turn too long for one item.
+/// `Entry` at 0 where no bytes are one: a call number below 1, a payload or attributes that are none, a turn too long for one item.
 /// An `Err` changes nothing.
 pub fn write_witness(alloc: Global, witness: &Witness, out: &mut Vec<u8>) -> Result<(), RecordFault>
     // What is appended is a witness of these turns, padded with zeros.
@@ -75,6 +76,9 @@ fn append_turn(alloc: Global, turn: &Turn, out: &mut Vec<u8>) -> Result<(), Reco
     if !are_payloads(&turn.fills) {
         return Err(RecordKind::Entry);
     }
+    if !are_births(&turn.births) {
+        return Err(RecordKind::Entry);
+    }
     if is_bare(turn) {
         return append_bare(turn.call, out);
     }
@@ -83,18 +87,20 @@ fn append_turn(alloc: Global, turn: &Turn, out: &mut Vec<u8>) -> Result<(), Reco
 
 /// Whether a turn gives nothing besides the number of its call.
 fn is_bare(turn: &Turn) -> bool
-    ensures { result ≡ true → turn_of turn.now ≡ record
-        { call = turn.now.call; answer = None; places = []; fills = [] } }
+    ensures { result ≡ true → turn_of turn.now ≡ bare_turn turn.now.call }
 {
-    turn.answer.is_none() && turn.places.is_empty() && turn.fills.is_empty()
+    turn.answer.is_none()
+        && turn.places.is_empty()
+        && turn.moment.is_none()
+        && turn.fills.is_empty()
+        && turn.births.is_empty()
+        && turn.asides.is_empty()
 }
 
 /// Appends the item of a turn that gives only this number: the header of 16 bytes, and in them the number's own, the number, and its padding.
 fn append_bare(call: i32, out: &mut Vec<u8>) -> Result<(), RecordKind>
-    ensures ok { OnOk result (Adds (turn_item
-        (record { call = call; answer = None; places = []; fills = [] })) out.old.items out.new.items) }
-    ensures legal { OnOk result (Legal 16
-        (turn_item (record { call = call; answer = None; places = []; fills = [] }))) }
+    ensures ok { OnOk result (Adds (turn_item (bare_turn call)) out.old.items out.new.items) }
+    ensures legal { OnOk result (Legal 16 (turn_item (bare_turn call))) }
     ensures memory { IfErr result (λ kind. kind ≡ RecordKind.Memory) }
     ensures same { IfErr result (λ _. out.new.items ≡ out.old.items) }
 {
@@ -115,18 +121,4 @@ fn lowest(turns: &[Turn]) -> Version
         version = newer(version, needed(turn));
     }
     version
-}
-
-/// The lowest version that has such a turn.
-fn needed(turn: &Turn) -> Version
-    ensures serves { Serves result (turn_of turn.now) }
-    ensures least { (other : Version) → Serves other (turn_of turn.now) → version_number result ≤ version_number other }
-{
-    if !turn.places.is_empty() {
-        return Version::Third;
-    }
-    match &turn.answer {
-        Some(_) => Version::Second,
-        None => Version::First,
-    }
 }

@@ -54,7 +54,7 @@ returns-in_ok-keep_turn-in-Record-clause-nearer g c = λ _.
     omega (arith, x.1.taken, x.1.spelled.all)
 
 pub keep_turn-requires : goal.keep_turn-requires
-keep_turn-requires g c = (rw c.in-Record.is at (c.in_ok-next.ensures.ok _ [] refl)).2.1
+keep_turn-requires g c = let s = (rw c.in-Record.is at (c.in_ok-next.ensures.ok _ [] refl)).2 in (s.1, s.2)
 
 pub returns-in_err-keep_turn-in-Record-clause-place : goal.returns-in_err-keep_turn-in-Record-clause-place
 returns-in_err-keep_turn-in-Record-clause-place g c =
